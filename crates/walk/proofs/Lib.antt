@@ -1,0 +1,5 @@
+pub mod Paths
+pub mod Ending
+pub mod Unique
+pub mod Members
+pub mod FoundMembers

@@ -1,0 +1,29 @@
+-- What a walk makes of the next word
+-- (privileged manual, "Sv32", Virtual Address Translation Process, step 4: a pointer goes on one level below).
+use Rattle.std.specs.Prelude.{ℕ, ◌-◌, ◌==◌, ◌||◌, if◌then◌else◌, Option, Some, None, Result, Ok, Err}
+use Rattle.pte.specs.declared.entry.Kind.{Kind}
+use Rattle.pte.specs.declared.entry.Kind.TheVariants as kinds
+use Rattle.pte.specs.Entry.{kind_of, is_global}
+use Rattle.walk.specs.declared.found_or_trap.Found.{Found}
+use Rattle.walk.specs.declared.found_or_trap.Trap.{Trap}
+use Rattle.walk.specs.declared.walking.Progress.{Progress}
+use Rattle.walk.specs.declared.walking.Progress.TheVariants as progress
+use Rattle.walk.specs.Stage.{Stage}
+use Rattle.walk.specs.Answer.{kind_answer, outside_trap}
+
+abbrev pub ended : Result Found Trap → Progress
+ended (Ok found) = progress.Found found
+ended (Err trap) = progress.Trap trap
+
+-- a pointer above level 0 is gone to; anything else ends the walk with the answer for it
+abbrev pub step_of : Stage → Kind → Progress
+step_of s kinds.Invalid = ended (kind_answer s.va s.access s.ctx s.level s.global kinds.Invalid)
+step_of s kinds.Reserved = ended (kind_answer s.va s.access s.ctx s.level s.global kinds.Reserved)
+step_of s (kinds.Leaf ppn flags) = ended (kind_answer s.va s.access s.ctx s.level (s.global || is_global flags.0) (kinds.Leaf ppn flags))
+step_of s (kinds.Table ppn global) =
+    if s.level == 0 then ended (kind_answer s.va s.access s.ctx s.level s.global (kinds.Table ppn global))
+    else progress.More (record s { level = s.level - 1; table = ppn; global = s.global || global })
+
+abbrev pub load_of : Stage → Option ℕ → Progress
+load_of s None = ended (Err (outside_trap s.access))
+load_of s (Some word) = step_of s (kind_of word)

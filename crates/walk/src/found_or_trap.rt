@@ -1,0 +1,74 @@
+//! What a walk ends with.
+
+use pte::{Access, Page, PteFlags, access_cause, page_cause};
+
+/// What a leaf gives for an address.
+#[derive(Clone, Copy, PartialEq, Eq, Debug)]
+pub struct Found {
+    /// The physical address, of 56 bits.
+    pub pa: u64,
+    /// The page of the leaf's size that the virtual address lies in.
+    pub page: Page,
+    /// The leaf's PPN, a multiple of the page's size in pages of 4 KiB.
+    pub ppn: u64,
+    /// The leaf's flags.
+    pub flags: PteFlags,
+    /// Whether G is set in the leaf or in a pointer above it, so that the mapping belongs to all address spaces.
+    pub global: bool,
+}
+
+/// Why there is no translation. Of several reasons at one word the first in this order is given.
+#[derive(Clone, Copy, PartialEq, Eq, Debug)]
+pub enum Why {
+    /// The address is not canonical. No word was read.
+    NotCanonical,
+    /// The table's word lies outside memory. This alone is an access fault.
+    Outside,
+    /// V is clear.
+    Invalid,
+    /// The word is one that the manual reserves.
+    Reserved,
+    /// There is a pointer at level 0.
+    TooDeep,
+    /// The leaf's flags do not permit the access.
+    Denied,
+    /// The leaf is a superpage whose PPN is no multiple of its size.
+    Misaligned,
+    /// A is clear.
+    NotAccessed,
+    /// The access is a store and D is clear.
+    NotDirty,
+}
+
+/// The exception that an access raises.
+#[derive(Clone, Copy, PartialEq, Eq, Debug)]
+pub struct Trap {
+    /// The cause, as in scause: of the access fault of the access (1, 5 or 7) for `Outside`, else of its page fault (12,
+    /// 13 or 15).
+    pub cause: u8,
+    /// What was wrong.
+    pub why: Why,
+}
+
+impl Trap {
+    ghost use Rattle.std.specs.Prelude.{◌≡◌};
+    ghost use Rattle.walk.specs.Answer.{outside_trap, page_trap};
+
+    pub(crate) fn page(access: Access, why: Why) -> Trap
+        ensures { result ≡ page_trap access why }
+    {
+        Trap {
+            cause: page_cause(access),
+            why,
+        }
+    }
+
+    pub(crate) fn outside(access: Access) -> Trap
+        ensures { result ≡ outside_trap access }
+    {
+        Trap {
+            cause: access_cause(access),
+            why: Why::Outside,
+        }
+    }
+}

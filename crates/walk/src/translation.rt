@@ -1,0 +1,34 @@
+//! A whole walk over one memory.
+
+ghost use Rattle.std.specs.Prelude.{◌<◌, ◌^◌};
+ghost use Rattle.pte.specs.Entry.{ppn_bits};
+ghost use Rattle.walk.specs.Outcome.{Outcome};
+
+use crate::found_or_trap::{Found, Trap};
+use crate::memory::Words;
+use crate::walking::{Progress, Walk};
+use pte::{Access, Ctx};
+
+/// Where an access of a virtual address leads from the root table at a PPN, which the caller keeps below 2^44, or the
+/// exception that it raises. The accessed and dirty bits are never set: a leaf that lacks one faults. At most one word a
+/// level is read.
+pub fn translate<W: Words>(
+    words: &W,
+    root: u64,
+    va: u64,
+    access: Access,
+    ctx: Ctx,
+) -> Result<Found, Trap>
+    requires { root < 2 ^ ppn_bits }
+    ensures { Outcome (W.words words.now) root va access ctx result }
+{
+    let mut walk = Walk::begin(root, va, access, ctx)?;
+    loop {
+        let (ppn, index) = walk.wants();
+        match walk.load(words.word(ppn, index)) {
+            Progress::More(next) => walk = next,
+            Progress::Found(found) => return Ok(found),
+            Progress::Trap(trap) => return Err(trap),
+        }
+    }
+}

@@ -1,0 +1,149 @@
+//! A walk, one word at a time.
+
+ghost use Rattle.std.specs.Prelude.{◌≡◌, ◌<◌, ◌^◌};
+
+use crate::found_or_trap::{Found, Trap, Why};
+use pte::{
+    Access, Ctx, Kind, PAGE_BYTES, Page, PageSize, Pte, PteFlags, TOP_LEVEL, VirtAddr, allowed,
+};
+use std::marker::Model;
+
+/// A walk between two loads. It holds no memory: `wants` tells the word that comes next, and `load` takes it.
+#[derive(Clone, Copy, PartialEq, Eq, Debug)]
+pub struct Walk {
+    va: VirtAddr,
+    access: Access,
+    ctx: Ctx,
+    // the level of the table that is read next
+    level: u8,
+    // the PPN of that table
+    table: u64,
+    // whether a pointer so far has G
+    global: bool,
+}
+
+impl Model for Walk {
+    ghost use Rattle.walk.specs.Stage.{IsInLimits, Stage};
+
+    ghost Value = { Stage };
+
+    ghost view = { λ w. record { va = w.va; access = w.access; ctx = w.ctx; level = w.level; table = w.table; global = w.global } };
+
+    ghost invariant = { λ w. IsInLimits (record { va = w.va; access = w.access; ctx = w.ctx; level = w.level; table = w.table; global = w.global }) };
+
+    ghost inverse = { λ s. record { va = s.va; access = s.access; ctx = s.ctx; level = s.level; table = s.table; global = s.global } };
+}
+
+/// What comes of a load.
+#[derive(Clone, Copy, PartialEq, Eq, Debug)]
+pub enum Progress {
+    /// The word was a pointer: the walk goes on one level below.
+    More(Walk),
+    /// The word was a leaf that the access may use.
+    Found(Found),
+    /// The access raises an exception.
+    Trap(Trap),
+}
+
+impl Walk {
+    ghost use Rattle.std.specs.Prelude.{◌||◌, Err, OnErr};
+    ghost use Rattle.std.specs.Result.{OkIff};
+    ghost use Rattle.pte.specs.Address.{IsCanonical, vpn_of};
+    ghost use Rattle.pte.specs.Entry.{is_global, ppn_bits};
+    ghost use Rattle.walk.specs.Answer.{leaf_answer, leaf_fault, page_trap};
+    ghost use Rattle.walk.specs.Step.{load_of};
+    ghost use Rattle.walk.specs.Stage.{IsInLimits, start_of};
+    ghost use Rattle.walk.specs.declared.found_or_trap.Why.TheVariants as why;
+
+    /// The walk for an access of a virtual address from the root table at a PPN, which the caller keeps below 2^44. It
+    /// waits for a word of the root. Refused with `NotCanonical` exactly if the address is not canonical.
+    pub fn begin(root: u64, va: u64, access: Access, ctx: Ctx) -> Result<Walk, Trap>
+        requires { root < 2 ^ ppn_bits }
+        ensures ok { OkIff result (IsCanonical va) (start_of root va access ctx) }
+        ensures err { OnErr result (result ≡ Err (page_trap access Why.NotCanonical)) }
+    {
+        let Some(va) = VirtAddr::new(va) else {
+            return Err(Trap::page(access, Why::NotCanonical));
+        };
+        Ok(Walk {
+            va,
+            access,
+            ctx,
+            level: TOP_LEVEL,
+            table: root,
+            global: false,
+        })
+    }
+
+    /// The word that the walk waits for: the PPN of its table, below 2^44, and the index there, below 512.
+    pub fn wants(&self) -> (u64, u16)
+        ensures table { result.0 ≡ self.now.table }
+        ensures index { result.1 ≡ vpn_of self.now.va self.now.level }
+        ensures limits { IsInLimits self.now }
+    {
+        (self.table, self.va.vpn(self.level))
+    }
+
+    /// Goes on with the word that the walk waited for, `None` if it lies outside memory.
+    pub fn load(self, word: Option<u64>) -> Progress
+        ensures { result ≡ load_of self word }
+    {
+        let Some(word) = word else {
+            return Progress::Trap(Trap::outside(self.access));
+        };
+        match Pte(word).kind() {
+            Kind::Invalid => Progress::Trap(Trap::page(self.access, Why::Invalid)),
+            Kind::Reserved => Progress::Trap(Trap::page(self.access, Why::Reserved)),
+            Kind::Table { ppn, global } => {
+                if self.level == 0 {
+                    return Progress::Trap(Trap::page(self.access, Why::TooDeep));
+                }
+                Progress::More(Walk {
+                    level: self.level - 1,
+                    table: ppn,
+                    global: self.global || global,
+                    ..self
+                })
+            }
+            Kind::Leaf { ppn, flags } => match self.leaf(ppn, flags) {
+                Ok(found) => Progress::Found(found),
+                Err(trap) => Progress::Trap(trap),
+            },
+        }
+    }
+
+    /// What is wrong with a leaf at the walk's level, the first that applies.
+    fn fault(self, ppn: u64, flags: PteFlags) -> Option<Why>
+        ensures { result ≡ leaf_fault self.access self.ctx self.level ppn flags }
+    {
+        if !allowed(flags, self.access, self.ctx) {
+            Some(Why::Denied)
+        } else if ppn % PageSize::at_level(self.level).pages() != 0 {
+            Some(Why::Misaligned)
+        } else if !flags.is_accessed() {
+            Some(Why::NotAccessed)
+        } else if self.access == Access::Store && !flags.is_dirty() {
+            Some(Why::NotDirty)
+        } else {
+            None
+        }
+    }
+
+    /// What a leaf at the walk's level gives.
+    fn leaf(self, ppn: u64, flags: PteFlags) -> Result<Found, Trap>
+        requires { ppn < 2 ^ ppn_bits }
+        ensures { result ≡ leaf_answer self.va self.access self.ctx self.level (self.global || is_global flags.0) ppn flags }
+    {
+        if let Some(why) = self.fault(ppn, flags) {
+            return Err(Trap::page(self.access, why));
+        }
+        let size = PageSize::at_level(self.level);
+        Ok(Found {
+            pa: ppn * PAGE_BYTES + self.va.get() % size.bytes(),
+            page: Page::around(self.va, size),
+            ppn,
+            flags,
+            global: self.global || flags.is_global(),
+        })
+    }
+}
