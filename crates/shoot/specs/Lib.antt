@@ -1,0 +1,4 @@
+pub mod HartSet
+pub mod Mailbox
+pub mod Request
+pub mod Tickets

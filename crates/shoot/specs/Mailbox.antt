@@ -1,0 +1,69 @@
+-- What a mailbox holds, what it answers to a post, and what each call leaves of it.
+use Rattle.std.specs.Prelude.{ℕ, ◌+◌, ◌-◌, Bool, true, false, List, [], ◌∷◌, ◌++◌, drop, Option, Some, None, is_none, Result, Ok, Err, nat_le, if◌then◌else◌}
+use Rattle.shoot.specs.Request.{Message}
+use Rattle.shoot.specs.declared.mailbox.PostFault.{PostFault}
+use Rattle.shoot.specs.declared.mailbox.PostFault.TheVariants.{Closed, Full}
+
+-- The requests that wait, oldest first; how many were accepted whose acknowledgement
+-- is not collected yet; whether later posts are refused; and the bound on the second.
+pub record MailboxState : Type 0 where
+  pub waiting : List Message
+  pub outstanding : ℕ
+  pub closed : Bool
+  pub capacity : ℕ
+
+abbrev pub empty_mailbox : ℕ → MailboxState
+empty_mailbox capacity = record { waiting = []; outstanding = 0; closed = false; capacity = capacity }
+
+-- why a post is refused: the first that applies
+abbrev pub post_fault : MailboxState → Option PostFault
+post_fault mailbox =
+    if mailbox.closed then Some Closed
+    else if nat_le mailbox.capacity mailbox.outstanding then Some Full
+    else None
+
+-- a refused request comes back
+abbrev pub answer_with : Option PostFault → Message → Result (Unit {0}) (PostFault × Message)
+answer_with None message = Ok tt
+answer_with (Some fault) message = Err (fault, message)
+
+abbrev pub post_answer : MailboxState → Message → Result (Unit {0}) (PostFault × Message)
+post_answer mailbox message = answer_with (post_fault mailbox) message
+
+-- the mailbox with one more request, which is outstanding
+abbrev pub with_message : MailboxState → Message → MailboxState
+with_message mailbox message = record {
+  waiting = mailbox.waiting ++ message ∷ [];
+  outstanding = mailbox.outstanding + 1;
+  closed = mailbox.closed;
+  capacity = mailbox.capacity;
+}
+
+abbrev pub after_post : MailboxState → Message → MailboxState
+after_post mailbox message = if is_none (post_fault mailbox) then with_message mailbox message else mailbox
+
+-- the oldest request is out, and stays outstanding
+abbrev pub after_take : MailboxState → MailboxState
+after_take mailbox = record {
+  waiting = drop 1 mailbox.waiting;
+  outstanding = mailbox.outstanding;
+  closed = mailbox.closed;
+  capacity = mailbox.capacity;
+}
+
+-- one acknowledgement was collected
+abbrev pub after_release : MailboxState → MailboxState
+after_release mailbox = record {
+  waiting = mailbox.waiting;
+  outstanding = mailbox.outstanding - 1;
+  closed = mailbox.closed;
+  capacity = mailbox.capacity;
+}
+
+abbrev pub after_close : MailboxState → MailboxState
+after_close mailbox = record {
+  waiting = mailbox.waiting;
+  outstanding = mailbox.outstanding;
+  closed = true;
+  capacity = mailbox.capacity;
+}

@@ -1,0 +1,36 @@
+//! Requests.
+
+use pte::What;
+use std::marker::Model;
+
+/// What one hart asks another to drop, under the number of the ticket that
+/// keeps count of the answers. The number is below 64.
+#[derive(Clone, Copy, PartialEq, Eq, Debug)]
+pub struct Request {
+    pub ticket: u32,
+    pub what: What,
+}
+
+impl Model for Request {
+    ghost use Rattle.std.specs.Prelude.{◌<◌};
+    ghost use Rattle.shoot.specs.Request.{Message};
+    ghost use Rattle.shoot.specs.declared.TheConstants.{TICKETS};
+
+    ghost Value = { Message };
+
+    ghost view = { λ r. record { ticket = r.ticket; what = r.what } };
+
+    ghost invariant = { λ r. r.ticket < TICKETS };
+
+    ghost inverse = { λ m. record { ticket = m.ticket; what = m.what } };
+}
+
+impl Default for Request {
+    /// Ticket 0 asks for everything.
+    fn default() -> Request {
+        Request {
+            ticket: 0,
+            what: What::All,
+        }
+    }
+}

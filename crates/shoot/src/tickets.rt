@@ -1,0 +1,288 @@
+//! Tickets.
+
+ghost use Rattle.std.specs.Prelude.{◌≡◌, ◌<◌, IsTrue, IfSome};
+ghost use Rattle.std.specs.Option.{option_copied};
+
+use crate::hart_set::HartSet;
+use crate::{HARTS, TICKETS};
+use pte::What;
+use std::marker::Model;
+
+/// Why no ticket is opened.
+#[derive(Clone, Copy, PartialEq, Eq, Debug)]
+pub enum TicketFault {
+    /// The hart that opens is not among those that it names.
+    HomeNotNamed,
+    /// All tickets are open.
+    NoTicket,
+}
+
+/// Some named hart is not collected yet.
+#[derive(Clone, Copy, PartialEq, Eq, Debug)]
+pub struct NotDone;
+
+/// How far a ticket is.
+#[derive(Clone, Copy, PartialEq, Eq, Debug)]
+pub enum Collected {
+    /// Each named hart is collected.
+    Done,
+    /// These named harts are not: bit h stands for hart h.
+    Waiting(u8),
+}
+
+/// An open ticket: what was asked of which harts, and who of them was posted
+/// to, has acknowledged, and is collected.
+#[derive(Clone, Copy, PartialEq, Eq, Debug)]
+pub struct Ticket {
+    pub what: What,
+    pub named: HartSet,
+    pub posted: HartSet,
+    pub acked: HartSet,
+    pub collected: HartSet,
+}
+
+/// The tickets of one hart, with numbers from 0 to 63.
+///
+/// A ticket is opened for what the named harts are to drop, posted to each of
+/// the others, and done once each named hart is collected.
+#[derive(Drop)]
+pub struct Tickets {
+    hart: u8,
+    tickets: [Option<Ticket>; TICKETS],
+}
+
+impl Model for Tickets {
+    ghost use Rattle.std.specs.Prelude.{◌<◌};
+    ghost use Rattle.shoot.specs.Tickets.{TicketTable};
+    ghost use Rattle.shoot.specs.declared.TheConstants.{HARTS};
+
+    ghost Value = { TicketTable };
+
+    ghost view = { λ t. record { hart = t.hart; tickets = t.tickets } };
+
+    ghost invariant = { λ t. t.hart < HARTS };
+}
+
+impl Ticket {
+    ghost use Rattle.shoot.specs.Tickets.{is_done, progress, new_ticket, with_posted, with_acked, with_collected};
+
+    /// A ticket that names the harts whose bits are set.
+    fn new(what: What, named: u8) -> Ticket
+        ensures { result ≡ new_ticket what named }
+    {
+        Ticket {
+            what,
+            named: HartSet::from(named),
+            posted: HartSet::new(),
+            acked: HartSet::new(),
+            collected: HartSet::new(),
+        }
+    }
+
+    fn mark_posted(&mut self, to: u8)
+        ensures { self.new ≡ with_posted to self.old }
+    {
+        self.posted.insert(to);
+    }
+
+    fn mark_acked(&mut self, home: u8, from: u8)
+        ensures { self.new ≡ with_acked home from self.old }
+    {
+        self.acked.insert(from);
+        if from == home {
+            self.collected.insert(from);
+        }
+    }
+
+    fn mark_collected(&mut self, from: u8)
+        ensures { self.new ≡ with_collected from self.old }
+    {
+        if self.acked.contains(from) {
+            self.collected.insert(from);
+        }
+    }
+
+    /// Whether each named hart is collected.
+    pub fn is_done(&self) -> bool
+        ensures { result ≡ is_done self.now }
+    {
+        self.named.difference(&self.collected).is_empty()
+    }
+
+    /// How far the ticket is.
+    pub fn progress(&self) -> Collected
+        ensures { result ≡ progress self.now }
+    {
+        let uncollected = self.named.difference(&self.collected);
+        if uncollected.is_empty() {
+            Collected::Done
+        } else {
+            Collected::Waiting(uncollected.byte())
+        }
+    }
+}
+
+impl Tickets {
+    ghost use Rattle.shoot.specs.Tickets.{no_tickets, ticket_at, is_open, names, is_posted, is_acked, is_collected, open_answer, after_open, progress_at, after_posted, after_acked, after_collect, finish_answer, after_finish, lowest_free};
+
+    /// The tickets of a hart whose number is below 8, all of them free.
+    pub fn new(hart: u8) -> Tickets
+        requires { hart < HARTS }
+        ensures { result ≡ no_tickets hart }
+    {
+        Tickets {
+            hart,
+            tickets: [None; TICKETS],
+        }
+    }
+
+    /// The hart whose tickets these are.
+    pub fn hart(&self) -> u8
+        ensures { result ≡ self.now.hart }
+    {
+        self.hart
+    }
+
+    fn get(&self, ticket: u32) -> Option<&Ticket>
+        ensures { option_copied result ≡ ticket_at self.now ticket }
+    {
+        self.tickets.get(ticket as usize)?.as_ref()
+    }
+
+    fn lowest_free(&self) -> Option<usize>
+        ensures { result ≡ lowest_free self.now }
+    {
+        self.tickets.iter().position(Option::is_none)
+    }
+
+    /// Opens the lowest free ticket. Bit h of `named` stands for hart h.
+    pub fn open(&mut self, what: What, named: u8) -> Result<u32, TicketFault>
+        ensures answer { result ≡ open_answer self.old named }
+        ensures after { self.new ≡ after_open self.old what named }
+    {
+        let open = Ticket::new(what, named);
+        if !open.named.contains(self.hart) {
+            return Err(TicketFault::HomeNotNamed);
+        }
+        let Some(free) = self.lowest_free() else {
+            return Err(TicketFault::NoTicket);
+        };
+        self.tickets[free] = Some(open);
+        Ok(free as u32)
+    }
+
+    /// The ticket was posted to a named hart.
+    pub fn posted(&mut self, ticket: u32, to: u8)
+        requires open { IsTrue (is_open self.old ticket) }
+        requires named { IsTrue (names self.old ticket to) }
+        ensures { self.new ≡ after_posted self.old ticket to }
+    {
+        if let Some(open) = &mut self.tickets[ticket as usize] {
+            open.mark_posted(to);
+        }
+    }
+
+    /// A named hart acknowledged the ticket. The acknowledgement of the hart
+    /// whose ticket it is counts as collected.
+    pub fn acked(&mut self, ticket: u32, from: u8)
+        requires open { IsTrue (is_open self.old ticket) }
+        requires named { IsTrue (names self.old ticket from) }
+        ensures { self.new ≡ after_acked self.old ticket from }
+    {
+        let home = self.hart;
+        if let Some(open) = &mut self.tickets[ticket as usize] {
+            open.mark_acked(home, from);
+        }
+    }
+
+    /// Collects the acknowledgement of a named hart, if it is there, and tells
+    /// how far the ticket is.
+    pub fn collect(&mut self, ticket: u32, from: u8) -> Collected
+        requires open { IsTrue (is_open self.old ticket) }
+        requires named { IsTrue (names self.old ticket from) }
+        ensures answer { result ≡ progress_at self.new ticket }
+        ensures after { self.new ≡ after_collect self.old ticket from }
+    {
+        if let Some(open) = &mut self.tickets[ticket as usize] {
+            open.mark_collected(from);
+        }
+        self.progress(ticket)
+    }
+
+    /// How far an open ticket is.
+    pub fn progress(&self, ticket: u32) -> Collected
+        requires { IsTrue (is_open self.now ticket) }
+        ensures { result ≡ progress_at self.now ticket }
+    {
+        match self.get(ticket) {
+            Some(open) => open.progress(),
+            None => Collected::Done,
+        }
+    }
+
+    /// Frees an open ticket that is done.
+    pub fn finish(&mut self, ticket: u32) -> Result<(), NotDone>
+        requires { IsTrue (is_open self.old ticket) }
+        ensures answer { result ≡ finish_answer self.old ticket }
+        ensures after { self.new ≡ after_finish self.old ticket }
+    {
+        if !self.get(ticket).is_some_and(|open| open.is_done()) {
+            return Err(NotDone);
+        }
+        self.tickets[ticket as usize] = None;
+        Ok(())
+    }
+
+    /// Whether the ticket is open.
+    pub fn is_open(&self, ticket: u32) -> bool
+        ensures { result ≡ is_open self.now ticket }
+    {
+        self.get(ticket).is_some()
+    }
+
+    /// Whether the ticket is open and names the hart.
+    pub fn names(&self, ticket: u32, hart: u8) -> bool
+        ensures { result ≡ names self.now ticket hart }
+    {
+        self.get(ticket)
+            .is_some_and(|open| open.named.contains(hart))
+    }
+
+    /// Whether an open ticket was posted to the hart.
+    pub fn is_posted(&self, ticket: u32, hart: u8) -> bool
+        requires { IsTrue (is_open self.now ticket) }
+        ensures { result ≡ is_posted self.now ticket hart }
+    {
+        self.get(ticket)
+            .is_some_and(|open| open.posted.contains(hart))
+    }
+
+    /// Whether the hart acknowledged an open ticket.
+    pub fn is_acked(&self, ticket: u32, hart: u8) -> bool
+        requires { IsTrue (is_open self.now ticket) }
+        ensures { result ≡ is_acked self.now ticket hart }
+    {
+        self.get(ticket)
+            .is_some_and(|open| open.acked.contains(hart))
+    }
+
+    /// Whether the hart's acknowledgement of an open ticket is collected.
+    pub fn is_collected(&self, ticket: u32, hart: u8) -> bool
+        requires { IsTrue (is_open self.now ticket) }
+        ensures { result ≡ is_collected self.now ticket hart }
+    {
+        self.get(ticket)
+            .is_some_and(|open| open.collected.contains(hart))
+    }
+
+    /// What an open ticket asks the named harts to drop.
+    pub fn what(&self, ticket: u32) -> What
+        requires { IsTrue (is_open self.now ticket) }
+        ensures { IfSome (ticket_at self.now ticket) (λ ticket. result ≡ ticket.what) }
+    {
+        match self.get(ticket) {
+            Some(open) => open.what,
+            None => What::All,
+        }
+    }
+}
