@@ -1,0 +1,4 @@
+pub mod Overlapping
+pub mod Serving
+pub mod Keeping
+pub mod Translating

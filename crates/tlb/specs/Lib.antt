@@ -1,0 +1,4 @@
+pub mod Entries
+pub mod Fence
+pub mod Service
+pub mod Mappings

@@ -1,0 +1,179 @@
+//! The entries of a TLB, oldest first.
+
+ghost use Rattle.std.specs.Prelude.{◌≡◌, ◌↔◌, [], IsSome, IsTrue, Option, filter, find, not};
+ghost use Rattle.pte.specs.Address.{Overlap};
+ghost use Rattle.tlb.specs.Entries.{filled, first_match, is_match};
+ghost use Rattle.tlb.specs.Fence.{fenced, is_fenced, is_of_space};
+ghost use Rattle.tlb.specs.Mappings.{IsMappedBy, Translates};
+ghost use Rattle.tlb.specs.Service.{is_served, overlaps, served, Served};
+
+use arrayvec::ArrayVec;
+use pte::{Page, PteFlags, VirtAddr, What};
+use std::marker::Model;
+
+/// How many entries a TLB holds.
+pub const TLB_SIZE: usize = 16;
+
+/// How many ASIDs there are: an ASID has 16 bits.
+const ASIDS: u64 = 1 << 16;
+
+/// A successful leaf translation, as a walk found it in the address space of an ASID.
+#[derive(Clone, Copy, PartialEq, Eq, Debug, Default)]
+pub struct Entry {
+    /// The address space of the walk.
+    pub asid: u16,
+    /// Whether the mapping belongs to all address spaces.
+    pub global: bool,
+    /// The page that the leaf maps.
+    pub page: Page,
+    /// The leaf's PPN.
+    pub ppn: u64,
+    /// The leaf's flags.
+    pub flags: PteFlags,
+}
+
+/// The TLB of one hart: at most `TLB_SIZE` entries in the order of their fills. Nothing but `fence`, `serve` and the fill of a
+/// full TLB takes an entry out, whatever becomes of the page tables meanwhile.
+#[derive(Drop)]
+pub struct Tlb {
+    entries: ArrayVec<Entry, TLB_SIZE>,
+}
+
+impl Model for Tlb {
+    ghost use Rattle.std.specs.Prelude.{List};
+    ghost use Rattle.tlb.specs.declared.store.Entry.{Entry};
+    ghost use Rattle.tlb.specs.Entries.{IsTlb};
+
+    ghost Value = { List Entry };
+
+    ghost view = { λ t. t.entries.items };
+
+    ghost invariant = { λ t. IsTlb t.entries.items };
+}
+
+fn is_match(entry: &Entry, asid: u16, va: VirtAddr) -> bool
+    ensures { result ≡ is_match asid va entry.now }
+{
+    entry.page.contains(va) && (entry.global || entry.asid == asid)
+}
+
+fn is_of_space(entry: &Entry, rs2: u64) -> bool
+    ensures { result ≡ is_of_space rs2 entry.now }
+{
+    !entry.global && u64::from(entry.asid) == rs2 % ASIDS
+}
+
+fn is_fenced(entry: &Entry, rs1: Option<u64>, rs2: Option<u64>) -> bool
+    ensures { result ≡ is_fenced rs1 rs2 entry.now }
+{
+    let by_address = match rs1 {
+        None => true,
+        Some(va) => match VirtAddr::new(va) {
+            None => return false,
+            Some(va) => entry.page.contains(va),
+        },
+    };
+    let by_space = match rs2 {
+        None => true,
+        Some(rs2) => is_of_space(entry, rs2),
+    };
+    by_address && by_space
+}
+
+fn overlaps(page: &Page, other: &Page) -> bool
+    ensures { result ≡ overlaps page.now other.now }
+{
+    page.overlaps(other)
+}
+
+fn is_served(entry: &Entry, page: &Page, asid: Option<u16>) -> bool
+    ensures { result ≡ is_served (What.PageOf page.now asid) entry.now }
+{
+    overlaps(page, &entry.page)
+        && match asid {
+            None => true,
+            Some(asid) => is_of_space(entry, u64::from(asid)),
+        }
+}
+
+fn first_match(entries: &[Entry], asid: u16, va: VirtAddr) -> Option<Entry>
+    ensures { result ≡ first_match entries.now asid va }
+{
+    entries.iter().copied().find(|e| is_match(e, asid, va))
+}
+
+fn drop_fenced(entries: &mut ArrayVec<Entry, TLB_SIZE>, rs1: Option<u64>, rs2: Option<u64>)
+    ensures { entries.new.items ≡ fenced entries.old.items rs1 rs2 }
+{
+    entries.retain(|e| !is_fenced(e, rs1, rs2));
+}
+
+fn drop_served(entries: &mut ArrayVec<Entry, TLB_SIZE>, page: &Page, asid: Option<u16>)
+    ensures { entries.new.items ≡ served entries.old.items (What.PageOf page.now asid) }
+{
+    entries.retain(|e| !is_served(e, page, asid));
+}
+
+fn push_youngest(entries: &mut ArrayVec<Entry, TLB_SIZE>, entry: Entry)
+    ensures { entries.new.items ≡ filled entries.old.items entry }
+{
+    if entries.is_full() {
+        entries.remove(0);
+    }
+    entries.push(entry);
+}
+
+impl Tlb {
+    /// A TLB without entries.
+    pub fn new() -> Tlb
+        ensures { result ≡ [] }
+    {
+        Tlb {
+            entries: ArrayVec::new(),
+        }
+    }
+
+    /// The oldest entry whose page has the address and that is global or of the ASID.
+    pub fn lookup(&self, asid: u16, va: VirtAddr) -> Option<Entry>
+        ensures oldest { result ≡ first_match self.now asid va }
+        ensures translates { IsSome result ↔ Translates (IsMappedBy self.now) asid va }
+    {
+        first_match(&self.entries, asid, va)
+    }
+
+    /// Adds an entry as the youngest. A full TLB drops its oldest entry; no other entry goes, be it of the same page.
+    pub fn fill(&mut self, entry: Entry)
+        ensures { self.new ≡ filled self.old entry }
+    {
+        let _base = entry.page.base();
+        push_youngest(&mut self.entries, entry);
+    }
+
+    /// SFENCE.VMA with the registers rs1, for an address, and rs2, for an ASID, each `None` for x0 (privileged manual 4.2.1).
+    /// Of rs2 the low 16 bits count. Where rs1 is not canonical nothing is dropped.
+    pub fn fence(&mut self, rs1: Option<u64>, rs2: Option<u64>)
+        ensures { self.new ≡ fenced self.old rs1 rs2 }
+    {
+        drop_fenced(&mut self.entries, rs1, rs2);
+    }
+
+    /// Serves a request: drops each entry that a fence for some address of its page would drop, or for its space, or for all.
+    pub fn serve(&mut self, what: &What)
+        ensures list { self.new ≡ served self.old what.now }
+        ensures meaning { Served self.old what.now self.new }
+    {
+        match what {
+            What::PageOf(page, asid) => self.serve_page(page, *asid),
+            What::SpaceOf(asid) => self.fence(None, Some(u64::from(*asid))),
+            What::All => self.fence(None, None),
+        }
+    }
+
+    fn serve_page(&mut self, page: &Page, asid: Option<u16>)
+        ensures list { self.new ≡ served self.old (What.PageOf page.now asid) }
+        ensures meaning { Served self.old (What.PageOf page.now asid) self.new }
+    {
+        let _base = page.base();
+        drop_served(&mut self.entries, page, asid);
+    }
+}
