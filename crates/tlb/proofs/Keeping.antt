@@ -1,11 +1,15 @@
 -- What a fence, a service and a fill keep of what holds of each entry.
-use Rattle.std.proofs.Common.{◌-◌, ◌≤◌, Bool, List, [], ◌∷◌, ◌++◌, length, filter, arith, length-drop}
-use Rattle.std.specs.Prelude.{All}
-use Rattle.std.proofs.lemmas.List.Elements.{All-nil, All-push, All-drop, All-filter}
+use Rattle.std.proofs.Common.{◌≡◌, ℕ, ◌-◌, ◌≤◌, Bool, true, Option, List, [], ◌∷◌, ◌++◌, length, drop, filter, arith, length-drop}
+use Rattle.std.specs.Prelude.{◌⊎◌, not, All, Contains, IsTrue}
+use Rattle.std.specs.List.{AllPass}
+use Rattle.std.proofs.lemmas.List.Elements.{All-nil, All-push, All-drop, All-filter, All-contains, All-contains_itself, filter_passes, Contains-push_cases}
 use Rattle.std.proofs.lemmas.List.Sums.{length-filter, count_by-le-length}
 use Rattle.pte.specs.Address.{IsPage}
+use Rattle.pte.specs.declared.address.What.{What}
 use Rattle.tlb.specs.declared.store.Entry.{Entry}
 use Rattle.tlb.specs.Entries.{tlb_size, filled, IsTlb}
+use Rattle.tlb.specs.Fence.{fenced, is_fenced}
+use Rattle.tlb.specs.Service.{is_served, served}
 
 length-filter-le : (p : Entry → Bool) (entries : List Entry) → length (filter p entries) ≤ length entries
 length-filter-le p entries = omega (arith, length-filter p entries, count_by-le-length p entries)
@@ -24,3 +28,28 @@ IsTlb-filled entries e tlb page = record {
   size = omega (arith, length-drop (length (entries ++ e ∷ []) - tlb_size) (entries ++ e ∷ []));
   pages = All-filled (λ x. IsPage x.page) entries e tlb.pages page;
 }
+
+pub AllPass-fenced : (p : Entry → Bool) (entries : List Entry) (rs1 rs2 : Option ℕ) → AllPass p entries → AllPass p (fenced entries rs1 rs2)
+AllPass-fenced p entries rs1 rs2 all = All-filter (λ e. not (is_fenced rs1 rs2 e)) (λ e. p e ≡ true) entries all
+
+pub AllPass-served : (p : Entry → Bool) (entries : List Entry) (what : What) → AllPass p entries → AllPass p (served entries what)
+AllPass-served p entries what all = All-filter (λ e. not (is_served what e)) (λ e. p e ≡ true) entries all
+
+pub AllPass-filled : (p : Entry → Bool) (entries : List Entry) (e : Entry) → AllPass p entries → IsTrue (p e) → AllPass p (filled entries e)
+AllPass-filled p entries e all new = All-filled (λ x. p x ≡ true) entries e all new
+
+pub fenced_are_gone : (entries : List Entry) (rs1 rs2 : Option ℕ) → AllPass (λ e. not (is_fenced rs1 rs2 e)) (fenced entries rs1 rs2)
+fenced_are_gone entries rs1 rs2 = filter_passes (λ e. not (is_fenced rs1 rs2 e)) entries
+
+pub served_are_gone : (entries : List Entry) (what : What) → AllPass (λ e. not (is_served what e)) (served entries what)
+served_are_gone entries what = filter_passes (λ e. not (is_served what e)) entries
+
+-- what is left or filled was there or is new
+pub Contains-filter : (p : Entry → Bool) (entries : List Entry) (e : Entry) → Contains (filter p entries) e → Contains entries e
+Contains-filter p entries e at = All-contains (Contains entries) (filter p entries) e (All-filter p (Contains entries) entries (All-contains_itself entries)) at
+
+pub Contains-filled : (entries : List Entry) (new e : Entry) → Contains (filled entries new) e → Contains entries e ⊎ (new ≡ e)
+Contains-filled entries new e at =
+    let all = entries ++ new ∷ [] in
+    let gone = length all - tlb_size in
+    Contains-push_cases entries new e (All-contains (Contains all) (drop gone all) e (All-drop (Contains all) gone all (All-contains_itself all)) at)

@@ -2,3 +2,4 @@ pub mod Overlapping
 pub mod Serving
 pub mod Keeping
 pub mod Translating
+pub mod Mapped

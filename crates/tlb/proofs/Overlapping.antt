@@ -1,11 +1,11 @@
 -- Pages that overlap, and the addresses that they hold.
-use Rattle.std.proofs.Common.{◌≡◌, ℕ, ◌+◌, ◌*◌, ◌%◌, ◌<◌, ◌≤◌, Bool, true, false, IsTrue, sym, refl, inl, inr, arith}
-use Rattle.std.specs.Prelude.{◌↔◌, nat_lt, nat_le}
-use Rattle.std.proofs.lemmas.Bool.{cases_lt, and_parts, and_from, or_left, or_right, lt-ltb, le-leb, ltb-true, leb-true, cases_Bool, true≢false}
+use Rattle.std.proofs.Common.{◌≡◌, ℕ, ◌+◌, ◌*◌, ◌-◌, ◌%◌, ◌^◌, ◌<◌, ◌≤◌, Bool, true, false, IsTrue, sym, refl, inl, inr, arith}
+use Rattle.std.specs.Prelude.{◌↔◌, ◌&&◌, nat_lt, nat_le}
+use Rattle.std.proofs.lemmas.Bool.{cases_lt, and_parts, and_from, or_left, or_right, or_cases, lt-ltb, le-leb, ltb-true, leb-true, cases_Bool, true≢false}
 use Rattle.std.proofs.lemmas.Nat.{pow_pos}
 use Rattle.pte.specs.declared.address.PageSize.{PageSize}
 use Rattle.pte.specs.declared.address.PageSize.TheVariants.{Kib4, Mib2, Gib1}
-use Rattle.pte.specs.Address.{Span, IsPage, Holds, Overlap, IsCanonical, bytes_of, level_of}
+use Rattle.pte.specs.Address.{Span, IsPage, Holds, Overlap, IsCanonical, address_bits, bytes_of, level_of}
 use Rattle.tlb.specs.Entries.{holds}
 use Rattle.tlb.specs.Fence.{is_canonical}
 use Rattle.tlb.specs.Service.{overlaps}
@@ -22,9 +22,18 @@ holds-Holds p va = (
   (λ h. and_from _ _ (le-leb p.base va h.from) (lt-ltb va (p.base + bytes_of p.size) h.below)),
 )
 
-pub canonical_test : (va : ℕ) → IsCanonical va → IsTrue (is_canonical va)
-canonical_test va (inl low) = or_left _ _ (lt-ltb _ _ low)
-canonical_test va (inr high) = or_right _ _ (and_from _ _ (le-leb _ _ high.0) (lt-ltb _ _ high.1))
+pub is_canonical-IsCanonical : (va : ℕ) → IsTrue (is_canonical va) ↔ IsCanonical va
+is_canonical-IsCanonical va = (
+  (λ on.
+      elim (or_cases (nat_lt va (2 ^ (address_bits - 1))) (nat_le (2 ^ 64 - 2 ^ (address_bits - 1)) va && nat_lt va (2 ^ 64)) on) [
+        | inl low ↦ inl (ltb-true _ _ low)
+        | inr high ↦ let both = and_parts (nat_le (2 ^ 64 - 2 ^ (address_bits - 1)) va) (nat_lt va (2 ^ 64)) high in inr (leb-true _ _ both.0, ltb-true _ _ both.1)
+      ]),
+  (λ is. elim is [
+    | inl low ↦ or_left _ _ (lt-ltb _ _ low)
+    | inr high ↦ or_right _ _ (and_from _ _ (le-leb _ _ high.0) (lt-ltb _ _ high.1))
+  ]),
+)
 
 pub overlaps-Overlap : (p q : Span) → IsTrue (overlaps p q) ↔ Overlap p q
 overlaps-Overlap p q = (

@@ -10,13 +10,13 @@ use Rattle.tlb.specs.declared.store.Entry.{Entry}
 use Rattle.tlb.specs.Entries.{holds}
 use Rattle.tlb.specs.Fence.{is_canonical, is_of_address, is_of_space}
 use Rattle.tlb.specs.Service.{overlaps, is_served, served, Goes, IsRequest, Served, Stays}
-use Rattle.tlb.proofs.Overlapping.{holds-Holds, canonical_test, overlaps-Overlap, Holds-canonical}
+use Rattle.tlb.proofs.Overlapping.{holds-Holds, is_canonical-IsCanonical, overlaps-Overlap, Holds-canonical}
 
 -- an entry whose page overlaps a page is of some address of it
 of_some_address : (p : Span) (e : Entry) → IsPage p → IsTrue (overlaps p e.page) → (va : ℕ) × Holds p va × IsTrue (is_of_address va e)
 of_some_address p e page on =
     let o = (overlaps-Overlap p e.page).0 on in
-    (o.0, o.1, and_from _ _ (canonical_test o.0 (Holds-canonical p o.0 page o.1)) ((holds-Holds e.page o.0).1 o.2))
+    (o.0, o.1, and_from _ _ ((is_canonical-IsCanonical o.0).1 (Holds-canonical p o.0 page o.1)) ((holds-Holds e.page o.0).1 o.2))
 
 overlaps_from_address : (p : Span) (e : Entry) (va : ℕ) → Holds p va → IsTrue (is_of_address va e) → IsTrue (overlaps p e.page)
 overlaps_from_address p e va h on =
@@ -70,3 +70,6 @@ same_test P false false f g = refl
 pub Served-unique : (old : List Entry) (what : What) (a b : List Entry) → Served old what a → Served old what b → a ≡ b
 Served-unique old what a b p q =
     p.left ∙ filter_agree p.stays q.stays (λ e. same_test (Stays what e) (p.stays e) (q.stays e) (p.each e) (q.each e)) old ∙ sym q.left
+
+pub served-Served : (entries : List Entry) (what : What) → IsRequest what → Served entries what (served entries what)
+served-Served entries what asked = served_is_meant entries (served entries what) what asked refl
