@@ -1,6 +1,6 @@
 -- The mappings that are left after a fence, a service or a fill, and the pages that they reach.
 use Rattle.std.proofs.Common.{◌≡◌, ℕ, ◌%◌, ◌^◌, ◌<◌, Bool, true, false, Some, None, Option, IsTrue, List, sym, ◌∙◌, ap, subst, refl, inl, inr, arith}
-use Rattle.std.specs.Prelude.{◌⊎◌, ◌==◌, ◌&&◌, ◌||◌, not, All, Contains, slice_index_or}
+use Rattle.std.specs.Prelude.{◌⊎◌, ◌==◌, ◌&&◌, ◌||◌, not, Contains, slice_index_or}
 use Rattle.std.specs.List.{AllPass}
 use Rattle.std.proofs.lemmas.Bool.{and_parts, and_from, not-true, true≢false}
 use Rattle.std.proofs.lemmas.List.Elements.{All-contains}
@@ -9,7 +9,7 @@ use Rattle.pte.specs.declared.address.What.TheVariants.{PageOf}
 use Rattle.pte.specs.Address.{Span, Holds}
 use Rattle.tlb.specs.declared.store.Entry.{Entry}
 use Rattle.tlb.specs.Entries.{filled, holds, is_match}
-use Rattle.tlb.specs.Fence.{asid_bits, fenced, is_fenced, is_of_space}
+use Rattle.tlb.specs.Fence.{asid_bits, fenced, is_fenced}
 use Rattle.tlb.specs.Mappings.{Mapping, IsMappingOf, IsMappedBy, Translates, maps_into}
 use Rattle.tlb.specs.Service.{is_served, overlaps, served}
 use Rattle.tlb.proofs.Keeping.{Contains-filter, Contains-filled, served_are_gone, AllPass-served}
@@ -63,5 +63,5 @@ pub served_space_page : (entries : List Entry) (page : Span) (asid : ℕ) → as
 served_space_page entries page asid small all k d below =
     let e : Entry = slice_index_or (served entries (PageOf page (Some asid))) k d in
     not_mapped (overlaps page e.page) e.global e.asid asid small
-      (AllPass-served (λ x. not (x.global && overlaps page x.page)) entries (PageOf page (Some asid)) all k d below)
-      (served_are_gone entries (PageOf page (Some asid)) k d below)
+    (AllPass-served (λ x. not (x.global && overlaps page x.page)) entries (PageOf page (Some asid)) all k d below)
+    (served_are_gone entries (PageOf page (Some asid)) k d below)

@@ -2,3 +2,4 @@ pub mod Entries
 pub mod Fence
 pub mod Service
 pub mod Mappings
+pub mod Answer

@@ -1,8 +1,9 @@
 -- A TLB as a set of mappings of 4 KiB pages, and which addresses it translates.
-use Rattle.std.specs.Prelude.{ℕ, Bool, ◌≡◌, ◌+◌, ◌*◌, ◌/◌, ◌%◌, ◌≤◌, ◌⊎◌, ◌==◌, ◌&&◌, ◌||◌, if◌then◌else◌, Option, Some, None, List, Contains}
+use Rattle.std.specs.Prelude.{ℕ, Bool, ◌≡◌, ◌+◌, ◌*◌, ◌%◌, ◌≤◌, ◌⊎◌, ◌==◌, ◌&&◌, ◌||◌, if◌then◌else◌, Option, Some, None, List, Contains}
 use Rattle.pte.specs.declared.flags.PteFlags.{PteFlags}
 use Rattle.pte.specs.declared.address.PageSize.TheVariants.{Kib4}
 use Rattle.pte.specs.Address.{Span, bytes_of, pages_of}
+use Rattle.walk.specs.Maps.{page_number}
 use Rattle.tlb.specs.declared.store.Entry.{Entry}
 use Rattle.tlb.specs.Service.{overlaps}
 
@@ -34,7 +35,7 @@ pub record Translates (set : Mapping → Type 0) (asid va : ℕ) : Type 0 where
   pub mapping : Mapping
   pub member : set mapping
   pub space : (mapping.asid ≡ None) ⊎ (mapping.asid ≡ Some asid)
-  pub page : mapping.page ≡ va / bytes_of Kib4
+  pub page : mapping.page ≡ page_number va
 
 -- the entry's page overlaps the page, and the entry is global or of the ASID; with None, whatever its ASID
 abbrev pub maps_into : Span → Option ℕ → Entry → Bool

@@ -16,8 +16,7 @@ pub fn tests_are_facts()
     ensures canonical { (va : ℕ) → IsTrue (is_canonical va) ↔ IsCanonical va }
     ensures holds { (page : Span) (va : ℕ) → IsTrue (holds page va) ↔ Holds page va }
     ensures overlaps { (p q : Span) → IsTrue (overlaps p q) ↔ Overlap p q }
-{
-}
+{}
 
 /// A request drops an entry exactly if some fence that it stands for does; what it leaves is what stays under all of them,
 /// and only that.
@@ -25,49 +24,42 @@ pub fn service_is_its_fences()
     ensures goes { (what : What) (e : Entry) → IsRequest what → IsTrue (is_served what e) ↔ Goes what e }
     ensures leaves { (entries : List Entry) (what : What) → IsRequest what → Served entries what (served entries what) }
     ensures alone { (entries : List Entry) (what : What) (a b : List Entry) → Served entries what a → Served entries what b → a ≡ b }
-{
-}
+{}
 
 /// What holds of each entry still does after a fence, after a service, and after the fill of an entry of which it holds.
 pub fn each_entry_is_kept_or_dropped()
     ensures fence { (p : Entry → Bool) (entries : List Entry) (rs1 rs2 : Option ℕ) → AllPass p entries → AllPass p (fenced entries rs1 rs2) }
     ensures serve { (p : Entry → Bool) (entries : List Entry) (what : What) → AllPass p entries → AllPass p (served entries what) }
     ensures fill { (p : Entry → Bool) (entries : List Entry) (e : Entry) → AllPass p entries → IsTrue (p e) → AllPass p (filled entries e) }
-{
-}
+{}
 
 /// No entry is left that the fence, or the service, takes out.
 pub fn what_goes_is_gone()
     ensures fence { (entries : List Entry) (rs1 rs2 : Option ℕ) → AllPass (λ e. not (is_fenced rs1 rs2 e)) (fenced entries rs1 rs2) }
     ensures serve { (entries : List Entry) (what : What) → AllPass (λ e. not (is_served what e)) (served entries what) }
-{
-}
+{}
 
 /// Fences and services only take mappings away, and a fill adds only those of its entry.
 pub fn mappings_come_by_fills()
     ensures fence { (entries : List Entry) (rs1 rs2 : Option ℕ) (m : Mapping) → IsMappedBy (fenced entries rs1 rs2) m → IsMappedBy entries m }
     ensures serve { (entries : List Entry) (what : What) (m : Mapping) → IsMappedBy (served entries what) m → IsMappedBy entries m }
     ensures fill { (entries : List Entry) (e : Entry) (m : Mapping) → IsMappedBy (filled entries e) m → IsMappedBy entries m ⊎ IsMappingOf e m }
-{
-}
+{}
 
 /// A look-up answers an entry exactly if the mappings translate the address.
 pub fn look_up_translates()
     ensures { (entries : List Entry) (asid va : ℕ) → All (λ e. IsPage e.page) entries → IsSome (first_match entries asid va) ↔ Translates (IsMappedBy entries) asid va }
-{
-}
+{}
 
 /// Where no entry maps into a page, for an ASID or for any, no address of the page is translated for that ASID, or for any.
 pub fn unmapped_page_is_not_translated()
     ensures space { (entries : List Entry) (page : Span) (asid va : ℕ) → AllPass (λ e. not (maps_into page (Some asid) e)) entries → Holds page va → ¬ Translates (IsMappedBy entries) asid va }
     ensures global { (entries : List Entry) (page : Span) (asid va : ℕ) → AllPass (λ e. not (maps_into page None e)) entries → Holds page va → ¬ Translates (IsMappedBy entries) asid va }
-{
-}
+{}
 
 /// After the service of a global page no entry maps into it. After the service of a page of an ASID no entry does for that
 /// ASID, if no global entry did.
 pub fn served_page_is_not_mapped()
     ensures global { (entries : List Entry) (page : Span) → AllPass (λ e. not (maps_into page None e)) (served entries (PageOf page None)) }
     ensures space { (entries : List Entry) (page : Span) (asid : ℕ) → asid < 2 ^ asid_bits → AllPass (λ e. not (e.global && overlaps page e.page)) entries → AllPass (λ e. not (maps_into page (Some asid) e)) (served entries (PageOf page (Some asid))) }
-{
-}
+{}

@@ -1,0 +1,276 @@
+ghost use Rattle.std.specs.Prelude.{◌<◌, ◌^◌};
+
+use super::*;
+use pte::{Access, Ctx, Mode, Page, PageSize, PteFlags, VirtAddr, What};
+use std::process::Abort;
+use walk::{Found, Trap, Why};
+
+/// An entry, with an ASID and an address at which it is the oldest match in the TLBs below where it is there at all.
+#[derive(Clone, Copy)]
+struct Probe {
+    entry: Entry,
+    asid: u16,
+    va: u64,
+}
+
+fn address(rt: &impl Abort, va: u64) -> VirtAddr {
+    VirtAddr::new(va).expect(rt, "a canonical address")
+}
+
+fn page(rt: &impl Abort, size: PageSize, base: u64) -> Page {
+    Page::new(address(rt, base), size).expect(rt, "an aligned base")
+}
+
+fn seen_at(asid: u16, global: bool, page: Page, at: (u16, u64)) -> Probe {
+    let entry = Entry {
+        asid,
+        global,
+        page,
+        ppn: 0x40000,
+        flags: PteFlags::R,
+    };
+    Probe {
+        entry,
+        asid: at.0,
+        va: at.1,
+    }
+}
+
+fn lookup(rt: &impl Abort, tlb: &Tlb, asid: u16, va: u64) -> Option<Entry> {
+    tlb.lookup(asid, address(rt, va))
+}
+
+fn filled(probes: &[Probe]) -> Tlb {
+    let mut tlb = Tlb::new();
+    for probe in probes {
+        tlb.fill(probe.entry);
+    }
+    tlb
+}
+
+fn is_there(rt: &impl Abort, tlb: &Tlb, probe: &Probe) -> bool {
+    lookup(rt, tlb, probe.asid, probe.va) == Some(probe.entry)
+}
+
+#[test]
+fn fences(rt: HostRuntime) {
+    let zero = page(&rt, PageSize::Kib4, 0);
+    let next = page(&rt, PageSize::Kib4, 0x1000);
+    let probes = [
+        seen_at(0, false, zero, (0, 0)),
+        seen_at(0, false, next, (0, 0x1000)),
+        seen_at(1, false, zero, (1, 0)),
+        seen_at(0, true, zero, (2, 0)),
+    ];
+    let rows = [
+        (Some(0), None, [false, true, false, false]),
+        (None, Some(0), [false, false, true, true]),
+        (None, Some(0x10000), [false, false, true, true]),
+        (Some(0), Some(0), [false, true, true, true]),
+        (Some(0xFFF), Some(1), [true, true, false, true]),
+        (Some(0x40_0000_0000), None, [true, true, true, true]),
+        (None, None, [false, false, false, false]),
+    ];
+    for (rs1, rs2, stays) in &rows {
+        let mut tlb = filled(&probes);
+        tlb.fence(*rs1, *rs2);
+        for (i, probe) in probes.iter().enumerate() {
+            assert_eq!(rt;
+                is_there(&rt, &tlb, probe),
+                stays[i],
+                "entry {i} after {rs1:?}, {rs2:?}"
+            );
+        }
+    }
+}
+
+/// The entries A to F of the row on services.
+fn six(rt: &impl Abort) -> [Probe; 6] {
+    let superpage = page(rt, PageSize::Mib2, 0x40_0000);
+    [
+        seen_at(1, false, superpage, (1, 0x40_2000)),
+        seen_at(
+            1,
+            false,
+            page(rt, PageSize::Kib4, 0x5F_F000),
+            (1, 0x5F_F000),
+        ),
+        seen_at(1, true, page(rt, PageSize::Kib4, 0x40_1000), (3, 0x40_1000)),
+        seen_at(2, false, superpage, (2, 0x40_2000)),
+        seen_at(1, false, page(rt, PageSize::Gib1, 0), (1, 0)),
+        seen_at(
+            1,
+            false,
+            page(rt, PageSize::Kib4, 0x60_0000),
+            (1, 0x60_0000),
+        ),
+    ]
+}
+
+#[test]
+fn the_oldest_match_answers(rt: HostRuntime) {
+    let probes = six(&rt);
+    let tlb = filled(&probes);
+    assert_eq!(rt; lookup(&rt, &tlb, 1, 0x40_1000), Some(probes[0].entry));
+    assert_eq!(rt; lookup(&rt, &tlb, 2, 0x40_1000), Some(probes[2].entry));
+    assert_eq!(rt; lookup(&rt, &tlb, 2, 0x5F_F000), Some(probes[3].entry));
+    assert_eq!(rt; lookup(&rt, &tlb, 3, 0x60_0000), None);
+}
+
+#[test]
+fn services(rt: HostRuntime) {
+    let probes = six(&rt);
+    let superpage = page(&rt, PageSize::Mib2, 0x40_0000);
+    let small = page(&rt, PageSize::Kib4, 0x40_1000);
+    let rows = [
+        (
+            What::PageOf(superpage, Some(1)),
+            [false, false, true, true, false, true],
+        ),
+        (
+            What::PageOf(small, Some(1)),
+            [false, true, true, true, false, true],
+        ),
+        (
+            What::PageOf(small, None),
+            [false, true, false, false, false, true],
+        ),
+        (What::SpaceOf(1), [false, false, true, true, false, false]),
+        (What::All, [false; 6]),
+    ];
+    for (what, stays) in &rows {
+        let mut tlb = filled(&probes);
+        tlb.serve(what);
+        for (i, probe) in probes.iter().enumerate() {
+            assert_eq!(rt;
+                is_there(&rt, &tlb, probe),
+                stays[i],
+                "entry {i} after {what:?}"
+            );
+        }
+    }
+}
+
+const USER: Ctx = Ctx {
+    mode: Mode::User,
+    sum: false,
+    mxr: false,
+};
+
+/// The k-th page of 4 KiB, mapped to PPN 0x100 + k for loads and stores by U-mode.
+fn numbered(rt: &impl Abort, k: u64, ppn: u64) -> Entry
+    requires { k < 2 ^ 20 }
+{
+    Entry {
+        asid: 1,
+        global: false,
+        page: page(rt, PageSize::Kib4, k * 0x1000),
+        ppn,
+        flags: PteFlags::R | PteFlags::U | PteFlags::A | PteFlags::D,
+    }
+}
+
+#[test]
+fn the_seventeenth_fill_drops_the_oldest(rt: HostRuntime) {
+    let mut tlb = Tlb::new();
+    for k in 1..18_u64 {
+        tlb.fill(numbered(&rt, k, 0x100 + k));
+    }
+    let va = address(&rt, 0x2000);
+    let answer = tlb
+        .lookup(1, va)
+        .map(|entry| entry.translate(va, Access::Load, USER));
+    assert_eq!(rt; answer, Some(Ok(0x10_2000)));
+    assert_eq!(rt; lookup(&rt, &tlb, 1, 0x1000), None);
+}
+
+/// The PPN of the entry that answers for an address of the address space 1.
+fn ppn_at(rt: &impl Abort, tlb: &Tlb, va: u64) -> Option<u64> {
+    lookup(rt, tlb, 1, va).map(|entry| entry.ppn)
+}
+
+#[test]
+fn a_page_filled_twice_is_there_twice(rt: HostRuntime) {
+    let mut tlb = Tlb::new();
+    tlb.fill(numbered(&rt, 1, 0x100));
+    tlb.fill(numbered(&rt, 1, 0x200));
+    assert_eq!(rt; ppn_at(&rt, &tlb, 0x1000), Some(0x100));
+    for k in 2..16_u64 {
+        tlb.fill(numbered(&rt, k, 0x300));
+    }
+    assert_eq!(rt; ppn_at(&rt, &tlb, 0x1000), Some(0x100));
+    tlb.fill(numbered(&rt, 16, 0x300));
+    assert_eq!(rt; ppn_at(&rt, &tlb, 0x1000), Some(0x200));
+    tlb.fill(numbered(&rt, 17, 0x300));
+    assert_eq!(rt; ppn_at(&rt, &tlb, 0x1000), None);
+}
+
+#[test]
+fn what_a_walk_found_answers(rt: HostRuntime) {
+    let found = Found {
+        pa: 0x3F_FFFF,
+        page: page(&rt, PageSize::Mib2, 0x40_0000),
+        ppn: 0x200,
+        flags: PteFlags::R | PteFlags::W | PteFlags::U | PteFlags::A | PteFlags::D,
+        global: false,
+    };
+    let mut tlb = Tlb::new();
+    tlb.fill(Entry::found(1, &found));
+    let va = address(&rt, 0x5F_FFFF);
+    let answer = tlb
+        .lookup(1, va)
+        .map(|entry| entry.translate(va, Access::Store, USER));
+    assert_eq!(rt; answer, Some(Ok(0x3F_FFFF)));
+    assert_eq!(rt; tlb.lookup(2, va), None);
+}
+
+#[test]
+fn a_match_tests_permission_then_accessed_then_dirty(rt: HostRuntime) {
+    let user = PteFlags::R | PteFlags::W | PteFlags::U;
+    let rows = [
+        (
+            user,
+            Access::Fetch,
+            Err(Trap {
+                cause: 12,
+                why: Why::Denied,
+            }),
+        ),
+        (
+            user,
+            Access::Load,
+            Err(Trap {
+                cause: 13,
+                why: Why::NotAccessed,
+            }),
+        ),
+        (
+            user,
+            Access::Store,
+            Err(Trap {
+                cause: 15,
+                why: Why::NotAccessed,
+            }),
+        ),
+        (user | PteFlags::A, Access::Load, Ok(0x1234_5ABC)),
+        (
+            user | PteFlags::A,
+            Access::Store,
+            Err(Trap {
+                cause: 15,
+                why: Why::NotDirty,
+            }),
+        ),
+    ];
+    let va = address(&rt, 0x8040_3ABC);
+    for (flags, access, answer) in &rows {
+        let entry = Entry {
+            asid: 1,
+            global: false,
+            page: Page::around(va, PageSize::Kib4),
+            ppn: 0x12345,
+            flags: *flags,
+        };
+        assert_eq!(rt; entry.translate(va, *access, USER), *answer);
+    }
+}
