@@ -1,5 +1,5 @@
 -- Paths of tables from a root: they begin at the root, go on below a pointer, and there is one.
-use Rattle.std.proofs.Common.{◌≡◌, ℕ, zero, suc, ◌+◌, ◌-◌, ◌<◌, ◌≤◌, ◌⊎◌, Bool, Option, Some, None, cond, ltb, ap, sym, ◌∙◌, subst, refl, inl, inr, arith, IsTrue}
+use Rattle.std.proofs.Common.{◌≡◌, ℕ, zero, suc, ◌+◌, ◌-◌, ◌<◌, ◌≤◌, ◌⊎◌, Bool, false, Option, Some, None, cond, ltb, ap, sym, ◌∙◌, subst, refl, inl, inr, arith, IsTrue}
 use Rattle.std.specs.Prelude.{◌||◌, ◌↔◌}
 use Rattle.std.proofs.lemmas.Bool.{cases_lt, lt-ltb, le-ltb, cond-true, cond-false, or_cases, or_left, or_right}
 use Rattle.pte.specs.declared.entry.Kind.TheVariants.{Table}
@@ -56,6 +56,17 @@ module _ (words : Tables) (root va : ℕ) where
         here = refl;
       }
 
+  -- the path down to a level passes a word at each level above
+  abbrev pub leads-above : (i k t : ℕ) (w : Option ℕ) → i ≤ k → k ≤ top_level → (path : Leads words root va i t w) → Leads words root va k (path.tables k) (word_at words va k (path.tables k))
+  leads-above i k t w from level path = record {
+    tables = path.tables;
+    level = level;
+    first = path.first;
+    last = refl;
+    pointers = λ j above below. path.pointers j (omega arith) below;
+    here = refl;
+  }
+
   -- two paths have one table at each level that both reach
   pub same_tables : (d k i j t u : ℕ) (v w : Option ℕ) → k + d ≡ top_level → i ≤ k → j ≤ k → (p : Leads words root va i t v) → (q : Leads words root va j u w) → p.tables k ≡ q.tables k
   same_tables zero k i j t u v w at from also p q =
@@ -68,11 +79,13 @@ module _ (words : Tables) (root va : ℕ) where
       ∙ one_table _ _ _ _ (ap (word_at words va (k + 1)) above) (p.pointers (k + 1) (omega arith) (omega arith)) (q.pointers (k + 1) (omega arith) (omega arith))
       ∙ ap q.tables back
 
-  -- so one word leads at a level
+  -- so one table and one word lead at a level
+  pub same_table : (i t u : ℕ) (v w : Option ℕ) → Leads words root va i t v → Leads words root va i u w → t ≡ u
+  same_table i t u v w p q =
+      sym p.last ∙ same_tables (top_level - i) i i i t u v w (omega (arith, p.level)) (omega arith) (omega arith) p q ∙ q.last
+
   pub same_word : (i t u : ℕ) (v w : Option ℕ) → Leads words root va i t v → Leads words root va i u w → v ≡ w
-  same_word i t u v w p q =
-      let tables : p.tables i ≡ q.tables i = same_tables (top_level - i) i i i t u v w (omega (arith, p.level)) (omega arith) (omega arith) p q in
-      p.here ∙ ap (word_at words va i) (sym p.last ∙ tables ∙ q.last) ∙ sym q.here
+  same_word i t u v w p q = p.here ∙ ap (word_at words va i) (same_table i t u v w p q) ∙ sym q.here
 
   -- what leads below a level goes through a pointer there
   pub through : (i j t u : ℕ) (v w : Option ℕ) → j < i → Leads words root va i t v → Leads words root va j u w → (next : ℕ) × PointsTo v next
@@ -118,3 +131,19 @@ module _ (words : Tables) (root va : ℕ) where
       | inr on ↦ cc
     ]),
   )
+
+  -- whether G stands on a path, at level k or above, is known
+  known-step : (t : ℕ) (w : Option ℕ) (k : ℕ) (above : Bool) → Leads words root va k t w → (IsTrue above ↔ IsGlobalAt words root va (k + 1)) → (global : Bool) × (IsTrue global ↔ IsGlobalAt words root va k)
+  known-step t None k above path known = (above, global-none k t above path known)
+  known-step t (Some entry) k above path known = (above || is_global entry, global-here k t entry above path known)
+
+  known-from : (d i k t : ℕ) (w : Option ℕ) → k + d ≡ top_level + 1 → i ≤ k → Leads words root va i t w → (global : Bool) × (IsTrue global ↔ IsGlobalAt words root va k)
+  known-from zero i k t w at from path =
+      let top : top_level + 1 ≡ k = omega arith in
+      (false, ((λ h. cc), (λ g. absurd (none_above (subst (IsGlobalAt words root va) (sym top) g)))))
+  known-from (suc d) i k t w at from path =
+      let above = known-from d i (k + 1) t w (omega arith) (omega arith) path in
+      known-step (path.tables k) _ k above.0 (leads-above i k t w from (omega arith) path) above.1
+
+  pub global_known : (i t : ℕ) (w : Option ℕ) → Leads words root va i t w → (global : Bool) × (IsTrue global ↔ IsGlobalAt words root va i)
+  global_known i t w path = known-from (top_level + 1 - i) i i t w (omega (arith, path.level)) (omega arith) path

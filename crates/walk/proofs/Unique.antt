@@ -37,11 +37,11 @@ module _ (words : Tables) (root va : ℕ) (access : Access) (ctx : Ctx) where
       p.is ∙ ap (λ k. answer_at va access ctx k p.global p.word) levels ∙ ap (λ g. answer_at va access ctx q.level g p.word) global
       ∙ ap (λ w. answer_at va access ctx q.level q.global w) word ∙ sym q.is
 
-  pub Outcome-unique : (a b : Result Found Trap) → Outcome words root va access ctx a → Outcome words root va access ctx b → a ≡ b
-  Outcome-unique a b (inl p) (inl q) = p.1 ∙ sym q.1
-  Outcome-unique a b (inl p) (inr q) = absurd (p.0 q.0)
-  Outcome-unique a b (inr p) (inl q) = absurd (q.0 p.0)
-  Outcome-unique a b (inr p) (inr q) = ends-unique a b p.1 q.1
+  pub outcome_unique : (a b : Result Found Trap) → Outcome words root va access ctx a → Outcome words root va access ctx b → a ≡ b
+  outcome_unique a b (inl p) (inl q) = p.1 ∙ sym q.1
+  outcome_unique a b (inl p) (inr q) = absurd (p.0 q.0)
+  outcome_unique a b (inr p) (inl q) = absurd (q.0 p.0)
+  outcome_unique a b (inr p) (inr q) = ends-unique a b p.1 q.1
 
 module _ (words : Tables) (root : ℕ) where
   finish-outcome : (s : Stage) (go : Stage → Result Found Trap) (made : Progress) → GoesOn words root s made
@@ -57,7 +57,13 @@ module _ (words : Tables) (root : ℕ) where
       finish-outcome s (answer_after n words) (load_of s (word_at words s.va s.level s.table)) (goes-on words root s _ on refl)
       (λ next further below. computes n next further (omega arith))
 
-  -- three loads give the outcome, and there is no other
-  pub three-loads : (va : ℕ) (access : Access) (ctx : Ctx) (answer : Result Found Trap) → IsCanonical va → Outcome words root va access ctx answer → answer ≡ answer_after level_count words (start_of root va access ctx)
-  three-loads va access ctx answer canonical is =
-      Outcome-unique words root va access ctx answer _ is (computes level_count (start_of root va access ctx) (on_path-start words root va access ctx canonical) (omega arith))
+  -- so a walk on its path gives the outcome, and there is no other
+  pub outcome_computed : (n : ℕ) (s : Stage) (answer : Result Found Trap) → OnPath words root s → s.level < n → Outcome words root s.va s.access s.ctx answer ↔ (answer ≡ answer_after n words s)
+  outcome_computed n s answer on lt = (
+    (λ is. outcome_unique words root s.va s.access s.ctx answer _ is (computes n s on lt)),
+    (λ e. subst (Outcome words root s.va s.access s.ctx) (sym e) (computes n s on lt)),
+  )
+
+  -- as many loads as there are levels
+  pub level_count_loads : (va : ℕ) (access : Access) (ctx : Ctx) (answer : Result Found Trap) → IsCanonical va → Outcome words root va access ctx answer ↔ (answer ≡ answer_after level_count words (start_of root va access ctx))
+  level_count_loads va access ctx answer canonical = outcome_computed level_count (start_of root va access ctx) answer (on_path-start words root va access ctx canonical) (omega arith)

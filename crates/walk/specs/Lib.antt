@@ -5,4 +5,6 @@ pub mod Maps
 pub mod Stage
 pub mod Step
 pub mod Loads
+pub mod Pointers
+pub mod Stores
 pub mod Rows

@@ -3,6 +3,7 @@
 #![tactic(auto)]
 
 mod found_or_trap;
+pub mod laws;
 mod memory;
 mod translation;
 mod walking;

@@ -1,0 +1,190 @@
+-- What leads in two memories that differ little.
+use Rattle.std.proofs.Common.{◌≡◌, ℕ, zero, suc, ◌+◌, ◌-◌, ◌≤◌, ◌⊎◌, Bool, Option, Some, ap, sym, ◌∙◌, subst, refl, inl, inr, arith}
+use Rattle.std.specs.Prelude.{◌↔◌, ◌==◌, ◌&&◌}
+use Rattle.std.proofs.lemmas.Bool.{cases_lt, cases_eq, cond-true, cond-false, false_from_ne_true, and_parts, and_from, eqb-true, eq-eqb}
+use Rattle.pte.specs.declared.flags.PteFlags.{PteFlags}
+use Rattle.pte.specs.Address.{top_level, vpn_of}
+use Rattle.walk.specs.Leads.{Tables, word_at, Leads, IsGlobalAt}
+use Rattle.walk.specs.Maps.{Maps}
+use Rattle.walk.specs.Stage.{Stage, OnPath}
+use Rattle.walk.specs.Stores.{AgreeBut, KeepsPointers, PassesThrough, stored}
+use Rattle.walk.proofs.Paths.{leads-above, same_word}
+
+module _ (old new : Tables) (root va : ℕ) where
+  -- both memories have one word on a path, at level k and above
+  abbrev pub Agree : (ℕ → ℕ) → ℕ → Type 0
+  Agree tables k = (j : ℕ) → k ≤ j → j ≤ top_level → word_at new va j (tables j) ≡ word_at old va j (tables j)
+
+  -- so the path leads there in the other memory too
+  pub leads-carried : (i k t : ℕ) (w : Option ℕ) → i ≤ k → k ≤ top_level → (path : Leads old root va i t w) → Agree path.tables (k + 1) → Leads new root va k (path.tables k) (word_at new va k (path.tables k))
+  leads-carried i k t w from level path agree = record {
+    tables = path.tables;
+    level = level;
+    first = path.first;
+    last = refl;
+    pointers = λ j above below.
+        let point = path.pointers j (omega arith) below in
+        record { entry = point.entry; global = point.global; is = agree j (omega arith) below ∙ point.is; kind = point.kind };
+    here = refl;
+  }
+
+  -- and G stands on it there too
+  pub leads-same : (i t : ℕ) (w : Option ℕ) → (path : Leads old root va i t w) → Agree path.tables i → Leads new root va i t w
+  leads-same i t w path agree =
+      let moved = leads-carried i i t w (omega arith) path.level path (λ j above below. agree j (omega arith) below) in
+      let word : word_at new va i (path.tables i) ≡ w = agree i (omega arith) path.level ∙ ap (word_at old va i) path.last ∙ sym path.here in
+      subst (λ n. Leads new root va i n w) path.last (subst (Leads new root va i (path.tables i)) word moved)
+
+  pub global-carried : (i k t : ℕ) (w : Option ℕ) → i ≤ k → (path : Leads old root va i t w) → Agree path.tables k → IsGlobalAt old root va k → IsGlobalAt new root va k
+  global-carried i k t w from path agree g =
+      let reach : k ≤ g.level = g.from in
+      let level : g.level ≤ top_level = g.leads.level in
+      let there = leads-above old root va i g.level t w (omega arith) level path in
+      let word : Some g.entry ≡ word_at old va g.level (path.tables g.level) = same_word old root va g.level g.table (path.tables g.level) (Some g.entry) _ g.leads there in
+      let moved = leads-carried i g.level t w (omega arith) level path (λ j above below. agree j (omega arith) below) in
+      record {
+        level = g.level;
+        table = path.tables g.level;
+        entry = g.entry;
+        from = reach;
+        leads = subst (Leads new root va g.level (path.tables g.level)) (agree g.level reach level ∙ sym word) moved;
+        global = g.global;
+      }
+
+module _ (old new : Tables) (root va table index : ℕ) (but : AgreeBut old new table index) where
+  at_place : (t n : ℕ) → ((t ≡ table) × (n ≡ index)) ⊎ (new t n ≡ old t n)
+  at_place t n =
+      elim (cases_eq t table) [
+        | inl a ↦
+            elim (cases_eq n index) [
+              | inl b ↦ inl (a, b)
+              | inr b ↦ inr (but.elsewhere t n (λ h. b h.1))
+            ]
+        | inr a ↦ inr (but.elsewhere t n (λ h. a h.0))
+      ]
+
+  place : (words : Tables) (k t : ℕ) → (t ≡ table) × (vpn_of va k ≡ index) → Leads words root va k t (word_at words va k t) → Leads words root va k table (words table index)
+  place words k t here path = subst (λ n. Leads words root va k table (words table n)) here.1 (subst (λ m. Leads words root va k m (word_at words va k m)) here.0 path)
+
+  -- from the top down to level k the words on a path are the same, or it passes through the word that differs
+  agree_or_pass : (d i k t : ℕ) (w : Option ℕ) → k + d ≡ top_level + 1 → i ≤ k → (path : Leads old root va i t w) → Agree old new root va path.tables k ⊎ PassesThrough old new root va i table index
+  agree_or_pass zero i k t w at from path = inl (λ j above below. absurd (omega arith))
+  agree_or_pass (suc d) i k t w at from path =
+      elim (agree_or_pass d i (k + 1) t w (omega arith) (omega arith) path) [
+        | inr passes ↦ inr passes
+        | inl agree ↦
+            let level : k ≤ top_level = omega arith in
+            elim (at_place (path.tables k) (vpn_of va k)) [
+              | inl here ↦
+                  inr (record {
+                    level = k;
+                    from = from;
+                    asked = here.1;
+                    before = place old k (path.tables k) here (leads-above old root va i k t w from level path);
+                    after = place new k (path.tables k) here (leads-carried old new root va i k t w from level path agree);
+                  })
+              | inr same ↦
+                  inl (λ j above below.
+                  elim (cases_lt k j) [
+                    | inl more ↦ agree j (omega arith) below
+                    | inr less ↦ let e : k ≡ j = omega arith in subst (λ l. word_at new va l (path.tables l) ≡ word_at old va l (path.tables l)) e same
+                  ])
+            ]
+      ]
+
+  all_or_pass : (i t : ℕ) (w : Option ℕ) → (path : Leads old root va i t w) → Agree old new root va path.tables i ⊎ PassesThrough old new root va i table index
+  all_or_pass i t w path = agree_or_pass (top_level + 1 - i) i i t w (omega (arith, path.level)) (omega arith) path
+
+  -- what leads in one memory leads in the other, or passes through the word that differs
+  pub leads_or_pass : (i t : ℕ) (w : Option ℕ) → Leads old root va i t w → Leads new root va i t w ⊎ PassesThrough old new root va i table index
+  leads_or_pass i t w path =
+      elim (all_or_pass i t w path) [
+        | inl agree ↦ inl (leads-same old new root va i t w path agree)
+        | inr passes ↦ inr passes
+      ]
+
+module _ (old new : Tables) (root page ppn table index : ℕ) (flags : PteFlags) (global : Bool) (but : AgreeBut old new table index) (m : Maps old root page ppn flags global) where
+  -- and so does what is mapped
+  pub maps_or_pass : Maps new root page ppn flags global ⊎ PassesThrough old new root m.va m.level table index
+  unfolding leads-same leads-carried
+  maps_or_pass =
+      elim (all_or_pass old new root m.va table index but m.level m.table (Some m.entry) m.leads) [
+        | inr passes ↦ inr passes
+        | inl agree ↦
+            let there = leads-same old new root m.va m.level m.table (Some m.entry) m.leads agree in
+            inl (record {
+              va = m.va;
+              level = m.level;
+              table = m.table;
+              entry = m.entry;
+              leaf = m.leaf;
+              canonical = m.canonical;
+              of_page = m.of_page;
+              leads = there;
+              kind = m.kind;
+              aligned = m.aligned;
+              place = m.place;
+              is_global = (
+                (λ h. global-carried old new root m.va m.level m.level m.table (Some m.entry) (omega arith) m.leads agree (m.is_global.0 h)),
+                (λ g. m.is_global.1 (global-carried new old root m.va m.level m.level m.table (Some m.entry) (omega arith) there (λ j above below. sym (agree j above below)) g)),
+              );
+            })
+      ]
+
+-- the two memories, the other way round
+pub AgreeBut-turned : (old new : Tables) (table index : ℕ) → AgreeBut old new table index → AgreeBut new old table index
+AgreeBut-turned old new table index but = record { elsewhere = λ t n apart. sym (but.elsewhere t n apart) }
+
+module _ (old new : Tables) (root va : ℕ) (keeps : KeepsPointers old new) where
+  agree-above : (i t : ℕ) (w : Option ℕ) → (path : Leads old root va i t w) → Agree old new root va path.tables (i + 1)
+  agree-above i t w path j above below = keeps.kept (path.tables j) (vpn_of va j) (path.tables (j - 1)) (path.pointers j (omega arith) below)
+
+  -- where pointers stay, the same tables lead
+  pub leads_kept : (i t : ℕ) (w : Option ℕ) → Leads old root va i t w → Leads new root va i t (word_at new va i t)
+  leads_kept i t w path = subst (λ n. Leads new root va i n (word_at new va i n)) path.last (leads-carried old new root va i i t w (omega arith) path.level path (agree-above i t w path))
+
+  pub global_kept : (i t : ℕ) (w : Option ℕ) → Leads old root va i t w → IsGlobalAt old root va (i + 1) ↔ IsGlobalAt new root va (i + 1)
+  unfolding leads-carried
+  global_kept i t w path = (
+    global-carried old new root va i (i + 1) t w (omega arith) path (agree-above i t w path),
+    global-carried new old root va i (i + 1) (path.tables i) _ (omega arith) (leads-carried old new root va i i t w (omega arith) path.level path (agree-above i t w path))
+        (λ j above below. sym (agree-above i t w path j above below)),
+  )
+
+-- and a walk stays on its path
+pub on_path_kept : (old new : Tables) (root : ℕ) (s : Stage) → KeepsPointers old new → OnPath old root s → OnPath new root s
+on_path_kept old new root s keeps on =
+    let same = global_kept old new root s.va keeps s.level s.table _ on.leads in
+    record {
+      canonical = on.canonical;
+      leads = leads_kept old new root s.va keeps s.level s.table _ on.leads;
+      global = ((λ h. same.0 (on.global.0 h)), (λ g. on.global.1 (same.1 g)));
+    }
+
+-- after a store the other words are as before, and this one is what was stored
+pub stored_agrees : (words : Tables) (table index word : ℕ) → AgreeBut words (stored words table index word) table index
+stored_agrees words table index word = record {
+  elsewhere = λ t n apart.
+      cond-false ((t == table) && (n == index)) _ _
+      (false_from_ne_true _ (λ both. let parts = and_parts (t == table) (n == index) both in apart (eqb-true t table parts.0, eqb-true n index parts.1)));
+}
+
+pub stored-here : (words : Tables) (table index word : ℕ) → stored words table index word table index ≡ Some word
+stored-here words table index word = cond-true ((table == table) && (index == index)) _ _ (and_from (table == table) (index == index) (eq-eqb table table refl) (eq-eqb index index refl))
+
+-- and back, from the new memory to the old
+passes-turned : (old new : Tables) (root va i table index : ℕ) → PassesThrough new old root va i table index → PassesThrough old new root va i table index
+passes-turned old new root va i table index p = record { level = p.level; from = p.from; asked = p.asked; before = p.after; after = p.before }
+
+either_turned : (A : Type 0) (old new : Tables) (root va i table index : ℕ) → A ⊎ PassesThrough new old root va i table index → A ⊎ PassesThrough old new root va i table index
+either_turned A old new root va i table index (inl a) = inl a
+either_turned A old new root va i table index (inr p) = inr (passes-turned old new root va i table index p)
+
+pub leads_or_pass-back : (old new : Tables) (root va table index i t : ℕ) (w : Option ℕ) → AgreeBut old new table index → Leads new root va i t w → Leads old root va i t w ⊎ PassesThrough old new root va i table index
+leads_or_pass-back old new root va table index i t w but path =
+    either_turned _ old new root va i table index (leads_or_pass new old root va table index (AgreeBut-turned old new table index but) i t w path)
+
+pub maps_or_pass-back : (old new : Tables) (root page ppn table index : ℕ) (flags : PteFlags) (global : Bool) → AgreeBut old new table index
+    → (m : Maps new root page ppn flags global) → Maps old root page ppn flags global ⊎ PassesThrough old new root m.va m.level table index
+maps_or_pass-back old new root page ppn table index flags global but m =
+    either_turned _ old new root m.va m.level table index (maps_or_pass new old root page ppn table index flags global (AgreeBut-turned old new table index but) m)

@@ -1,0 +1,5 @@
+use Rattle.walk.proofs.Paths.{same_table, same_word}
+use Rattle.walk.proofs.laws.one_word_leads_at_a_level.Goals as goal
+
+pub returns : goal.returns
+returns c = λ words root va i t u v w p q. (same_table words root va i t u v w p q, same_word words root va i t u v w p q)

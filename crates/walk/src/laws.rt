@@ -1,0 +1,145 @@
+//! Laws of the definitions: each function does nothing, and its contract is the law.
+
+ghost use Rattle.std.specs.Prelude.{ℕ, Bool, ◌≡◌, ◌+◌, ◌-◌, ◌*◌, ◌/◌, ◌%◌, ◌^◌, ◌<◌, ◌≤◌, ◌⊎◌, ◌↔◌, Option, Some, Ok, Result, IsTrue};
+ghost use Rattle.pte.specs.declared.address.PageSize.TheVariants.{Kib4};
+ghost use Rattle.pte.specs.declared.permission.Access.{Access};
+ghost use Rattle.pte.specs.declared.permission.Ctx.{Ctx};
+ghost use Rattle.pte.specs.declared.flags.PteFlags.{PteFlags};
+ghost use Rattle.pte.specs.declared.entry.Kind.TheVariants as kinds;
+ghost use Rattle.pte.specs.Address.{Holds, IsCanonical, bytes_of, level_bytes, level_count, level_pages, pages_of, top_level};
+ghost use Rattle.pte.specs.Entry.{kind_of, ppn_bits};
+ghost use Rattle.walk.specs.declared.found_or_trap.Found.{Found};
+ghost use Rattle.walk.specs.declared.found_or_trap.Trap.{Trap};
+ghost use Rattle.walk.specs.Leads.{IsGlobalAt, Leads, PointsTo, Tables, word_at};
+ghost use Rattle.walk.specs.Loads.{GoesOn, answer_after};
+ghost use Rattle.walk.specs.Maps.{Maps, page_number};
+ghost use Rattle.walk.specs.Outcome.{Outcome};
+ghost use Rattle.walk.specs.Pointers.{table_after};
+ghost use Rattle.walk.specs.Stage.{OnPath, Stage, start_of};
+ghost use Rattle.walk.specs.Step.{load_of};
+ghost use Rattle.walk.specs.Stores.{AgreeBut, KeepsPointers, PassesThrough, stored};
+
+/// There is one outcome of an access.
+pub fn outcome_is_unique()
+    ensures { (words : Tables) (root va : ℕ) (access : Access) (ctx : Ctx) (a b : Result Found Trap)
+        → Outcome words root va access ctx a → Outcome words root va access ctx b → a ≡ b }
+{}
+
+/// The outcome of an access of a canonical address is what a walk from the root computes within as many loads as there
+/// are levels.
+pub fn outcome_takes_one_load_a_level()
+    ensures { (words : Tables) (root va : ℕ) (access : Access) (ctx : Ctx) (answer : Result Found Trap) → IsCanonical va
+        → Outcome words root va access ctx answer ↔ (answer ≡ answer_after level_count words (start_of root va access ctx)) }
+{}
+
+/// A walk that begins stands on its path, over any memory.
+pub fn walk_begins_on_its_path()
+    ensures { (words : Tables) (root va : ℕ) (access : Access) (ctx : Ctx) → IsCanonical va → OnPath words root (start_of root va access ctx) }
+{}
+
+/// A walk on its path that is fed the word that the memory has goes on along the path, one level below, or ends with the
+/// outcome.
+pub fn walk_goes_on_along_its_path()
+    ensures { (words : Tables) (root : ℕ) (s : Stage) → OnPath words root s → GoesOn words root s (load_of s (word_at words s.va s.level s.table)) }
+{}
+
+/// A walk on its path computes the outcome within one load for each level from its own down to 0.
+pub fn walk_on_its_path_computes_the_outcome()
+    ensures { (words : Tables) (root loads : ℕ) (s : Stage) (answer : Result Found Trap) → OnPath words root s → s.level < loads
+        → Outcome words root s.va s.access s.ctx answer ↔ (answer ≡ answer_after loads words s) }
+{}
+
+/// Where the pointers stay, a walk stays on its path, whatever else is stored meanwhile.
+pub fn walk_stays_on_its_path()
+    ensures { (old new : Tables) (root : ℕ) (s : Stage) → KeepsPointers old new → OnPath old root s → OnPath new root s }
+{}
+
+/// One table and one word lead at a level.
+pub fn one_word_leads_at_a_level()
+    ensures { (words : Tables) (root va i t u : ℕ) (v w : Option ℕ) → Leads words root va i t v → Leads words root va i u w → (t ≡ u) × (v ≡ w) }
+{}
+
+/// Below a word that is no pointer nothing leads.
+pub fn nothing_leads_below_the_end_of_a_path()
+    ensures { (words : Tables) (root va i j t u : ℕ) (v w : Option ℕ) → Leads words root va i t v → ((next : ℕ) → ¬ PointsTo v next)
+        → Leads words root va j u w → i ≤ j }
+{}
+
+/// What leads at level i is the word of the table that is reached from the root over as many pointers as i lies below the
+/// top level.
+pub fn leads_is_the_pointers_followed()
+    ensures { (words : Tables) (root va i t : ℕ) (w : Option ℕ)
+        → Leads words root va i t w ↔ ((i ≤ top_level) × (table_after words root va (top_level - i) ≡ Some t) × (w ≡ word_at words va i t)) }
+{}
+
+/// Addresses of one page of level i have the same words leading at level i and above.
+pub fn addresses_of_a_page_share_their_path()
+    ensures { (words : Tables) (root a b i j t : ℕ) (w : Option ℕ) → a / level_bytes i ≡ b / level_bytes i → i ≤ j → Leads words root a j t w → Leads words root b j t w }
+{}
+
+/// Whether G stands on a word that leads or above it is known.
+pub fn global_is_known()
+    ensures { (words : Tables) (root va i t : ℕ) (w : Option ℕ) → Leads words root va i t w → (global : Bool) × (IsTrue global ↔ IsGlobalAt words root va i) }
+{}
+
+/// What is found for an address is the one member of its page in Maps.
+pub fn found_is_mapped()
+    ensures { (words : Tables) (root va : ℕ) (access : Access) (ctx : Ctx) (found : Found) → Outcome words root va access ctx (Ok found)
+        → Maps words root (page_number va) (page_number found.pa) found.flags found.global }
+{}
+
+/// So is each page of 4 KiB of the page that is found: its PPN is the leaf's and its place in the page.
+pub fn found_page_is_mapped()
+    ensures { (words : Tables) (root va : ℕ) (access : Access) (ctx : Ctx) (found : Found) → Outcome words root va access ctx (Ok found)
+        → (at : ℕ) → Holds found.page at → Maps words root (page_number at) (found.ppn + page_number at % pages_of found.page.size) found.flags found.global }
+{}
+
+/// A PPN that is found fits its bits, and so does the physical address.
+pub fn found_is_in_range()
+    ensures { (words : Tables) (root va : ℕ) (access : Access) (ctx : Ctx) (found : Found) → Outcome words root va access ctx (Ok found)
+        → (found.ppn < 2 ^ ppn_bits) × (found.pa < 2 ^ ppn_bits * bytes_of Kib4) }
+{}
+
+/// Maps has at most one member a page.
+pub fn page_is_mapped_once()
+    ensures { (words : Tables) (root page p q : ℕ) (f g : PteFlags) (a b : Bool) → Maps words root page p f a → Maps words root page q g b
+        → (p ≡ q) × (f ≡ g) × (a ≡ b) }
+{}
+
+/// An aligned leaf that leads maps each page of 4 KiB of its page.
+pub fn leaf_maps_its_page()
+    ensures { (words : Tables) (root va i table entry leaf at : ℕ) (flags : PteFlags) (global : Bool) → Leads words root va i table (Some entry)
+        → kind_of entry ≡ kinds.Leaf leaf flags → leaf % level_pages i ≡ 0 → (IsTrue global ↔ IsGlobalAt words root va i)
+        → IsCanonical at → at / level_bytes i ≡ va / level_bytes i
+        → Maps words root (page_number at) (leaf + page_number at % level_pages i) flags global }
+{}
+
+/// Where a path ends at a word that is no aligned leaf, no page under that word is mapped.
+pub fn path_without_leaf_maps_nothing()
+    ensures { (words : Tables) (root va i table : ℕ) (word : Option ℕ) (page ppn : ℕ) (flags : PteFlags) (global : Bool)
+        → Leads words root va i table word → ((next : ℕ) → ¬ PointsTo word next)
+        → ((entry leaf : ℕ) (given : PteFlags) → word ≡ Some entry → kind_of entry ≡ kinds.Leaf leaf given → ¬ (leaf % level_pages i ≡ 0))
+        → page / level_pages i ≡ va / level_bytes i → ¬ Maps words root page ppn flags global }
+{}
+
+/// A store leaves every other word.
+pub fn store_agrees_elsewhere()
+    ensures elsewhere { (words : Tables) (table index word : ℕ) → AgreeBut words (stored words table index word) table index }
+    ensures here { (words : Tables) (table index word : ℕ) → stored words table index word table index ≡ Some word }
+{}
+
+/// If two memories differ in one word, what leads in the one leads in the other, or its path passes through that word.
+pub fn what_leads_passes_through_a_change()
+    ensures after { (old new : Tables) (root va table index i t : ℕ) (w : Option ℕ) → AgreeBut old new table index → Leads old root va i t w
+        → Leads new root va i t w ⊎ PassesThrough old new root va i table index }
+    ensures before { (old new : Tables) (root va table index i t : ℕ) (w : Option ℕ) → AgreeBut old new table index → Leads new root va i t w
+        → Leads old root va i t w ⊎ PassesThrough old new root va i table index }
+{}
+
+/// So does what is mapped.
+pub fn what_is_mapped_passes_through_a_change()
+    ensures after { (old new : Tables) (root page ppn table index : ℕ) (flags : PteFlags) (global : Bool) → AgreeBut old new table index
+        → (m : Maps old root page ppn flags global) → Maps new root page ppn flags global ⊎ PassesThrough old new root m.va m.level table index }
+    ensures before { (old new : Tables) (root page ppn table index : ℕ) (flags : PteFlags) (global : Bool) → AgreeBut old new table index
+        → (m : Maps new root page ppn flags global) → Maps old root page ppn flags global ⊎ PassesThrough old new root m.va m.level table index }
+{}
