@@ -16,7 +16,7 @@ use Rattle.pte.specs.Permission.{is_permitted}
 use Rattle.walk.specs.declared.found_or_trap.Found.{Found}
 use Rattle.walk.specs.declared.found_or_trap.Why.{Why}
 use Rattle.walk.specs.declared.found_or_trap.Why.TheVariants.{Denied, Misaligned}
-use Rattle.walk.specs.Answer.{answer_at, kind_answer, leaf_fault, unless, found_at, is_aligned, size_at}
+use Rattle.walk.specs.Answer.{answer_at, kind_answer, leaf_fault, found_unless, found_at, is_aligned, size_at}
 use Rattle.walk.specs.Leads.{Tables, Leads, IsGlobalAt}
 use Rattle.walk.specs.Outcome.{Ends, Outcome}
 use Rattle.walk.specs.Maps.{Maps, page_number}
@@ -28,7 +28,7 @@ past : (b : Bool) (why : Why) (rest : Option Why) → None ≡ cond b (Some why)
 past true why rest e = cc
 past false why rest e = (refl, e)
 
-no_fault : (o : Option Why) (access : Access) (at found : Found) → Ok found ≡ unless o access at → (None ≡ o) × (found ≡ at)
+no_fault : (o : Option Why) (access : Access) (at found : Found) → Ok found ≡ found_unless o access at → (None ≡ o) × (found ≡ at)
 no_fault None access at found e = (refl, cc)
 no_fault (Some why) access at found e = cc
 

@@ -4,5 +4,6 @@ pub mod Ending
 pub mod Unique
 pub mod Members
 pub mod FoundMembers
+pub mod MappedAnswers
 pub mod Stored
 pub mod Downward

@@ -42,21 +42,30 @@ is_store Store = true
 abbrev pub is_aligned : ℕ → ℕ → Bool
 is_aligned i ppn = ppn % level_pages i == 0
 
+-- A, and for a store D, must be set: the walk faults rather than set them
+abbrev pub accessed_fault : Access → PteFlags → Option Why
+accessed_fault access flags =
+    if not (is_accessed flags.0) then Some NotAccessed
+    else if is_store access && not (is_dirty flags.0) then Some NotDirty
+    else None
+
 -- what is wrong with a leaf at level i: the first that applies
 abbrev pub leaf_fault : Access → Ctx → ℕ → ℕ → PteFlags → Option Why
 leaf_fault access ctx i ppn flags =
     if not (is_permitted flags.0 access ctx) then Some Denied
     else if not (is_aligned i ppn) then Some Misaligned
-    else if not (is_accessed flags.0) then Some NotAccessed
-    else if is_store access && not (is_dirty flags.0) then Some NotDirty
-    else None
+    else accessed_fault access flags
 
-abbrev pub unless : Option Why → Access → Found → Result Found Trap
-unless None access found = Ok found
-unless (Some why) access found = Err (page_trap access why)
+-- what is wrong with the flags of an aligned leaf
+abbrev pub flags_fault : Access → Ctx → PteFlags → Option Why
+flags_fault access ctx flags = if not (is_permitted flags.0 access ctx) then Some Denied else accessed_fault access flags
+
+abbrev pub found_unless : Option Why → Access → Found → Result Found Trap
+found_unless None access found = Ok found
+found_unless (Some why) access found = Err (page_trap access why)
 
 abbrev pub leaf_answer : ℕ → Access → Ctx → ℕ → Bool → ℕ → PteFlags → Result Found Trap
-leaf_answer va access ctx i global ppn flags = unless (leaf_fault access ctx i ppn flags) access (found_at va i global ppn flags)
+leaf_answer va access ctx i global ppn flags = found_unless (leaf_fault access ctx i ppn flags) access (found_at va i global ppn flags)
 
 abbrev pub kind_answer : ℕ → Access → Ctx → ℕ → Bool → Kind → Result Found Trap
 kind_answer va access ctx i global kinds.Invalid = Err (page_trap access Invalid)

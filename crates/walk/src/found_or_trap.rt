@@ -1,6 +1,6 @@
 //! What a walk ends with.
 
-use pte::{Access, Page, PteFlags, access_cause, page_cause};
+use pte::{Access, Ctx, Page, PteFlags, access_cause, allowed, page_cause};
 
 /// What a leaf gives for an address.
 #[derive(Clone, Copy, PartialEq, Eq, Debug)]
@@ -54,7 +54,8 @@ impl Trap {
     ghost use Rattle.std.specs.Prelude.{◌≡◌};
     ghost use Rattle.walk.specs.Answer.{outside_trap, page_trap};
 
-    pub(crate) fn page(access: Access, why: Why) -> Trap
+    /// The page fault of an access.
+    pub fn page(access: Access, why: Why) -> Trap
         ensures { result ≡ page_trap access why }
     {
         Trap {
@@ -63,12 +64,41 @@ impl Trap {
         }
     }
 
-    pub(crate) fn outside(access: Access) -> Trap
+    /// The access fault of an access whose table word lies outside memory.
+    pub fn outside(access: Access) -> Trap
         ensures { result ≡ outside_trap access }
     {
         Trap {
             cause: access_cause(access),
             why: Why::Outside,
         }
+    }
+}
+
+ghost use Rattle.std.specs.Prelude.{◌≡◌};
+ghost use Rattle.walk.specs.Answer.{accessed_fault, flags_fault};
+
+/// What in the flags of an aligned leaf refuses an access, the first of `Denied`, `NotAccessed` and `NotDirty` that
+/// applies, or `None`. A TLB entry answers by it without the tables.
+pub fn flags_fault(flags: PteFlags, access: Access, ctx: Ctx) -> Option<Why>
+    ensures { result ≡ flags_fault access ctx flags }
+{
+    if allowed(flags, access, ctx) {
+        accessed_fault(flags, access)
+    } else {
+        Some(Why::Denied)
+    }
+}
+
+/// What is wrong with A and D for an access.
+pub(crate) fn accessed_fault(flags: PteFlags, access: Access) -> Option<Why>
+    ensures { result ≡ accessed_fault access flags }
+{
+    if !flags.is_accessed() {
+        Some(Why::NotAccessed)
+    } else if access == Access::Store && !flags.is_dirty() {
+        Some(Why::NotDirty)
+    } else {
+        None
     }
 }

@@ -10,6 +10,7 @@ ghost use Rattle.pte.specs.Address.{Holds, IsCanonical, bytes_of, level_bytes, l
 ghost use Rattle.pte.specs.Entry.{kind_of, ppn_bits};
 ghost use Rattle.walk.specs.declared.found_or_trap.Found.{Found};
 ghost use Rattle.walk.specs.declared.found_or_trap.Trap.{Trap};
+ghost use Rattle.walk.specs.Answer.{flags_fault, found_unless};
 ghost use Rattle.walk.specs.Leads.{IsGlobalAt, Leads, PointsTo, Tables, word_at};
 ghost use Rattle.walk.specs.Loads.{GoesOn, answer_after};
 ghost use Rattle.walk.specs.Maps.{Maps, page_number};
@@ -92,6 +93,14 @@ pub fn found_is_mapped()
 pub fn found_page_is_mapped()
     ensures { (words : Tables) (root va : ℕ) (access : Access) (ctx : Ctx) (found : Found) → Outcome words root va access ctx (Ok found)
         → (at : ℕ) → Holds found.page at → Maps words root (page_number at) (found.ppn + page_number at % pages_of found.page.size) found.flags found.global }
+{}
+
+/// An access of a page that is mapped is answered by the member alone: it is found at its place in the page, unless the
+/// flags refuse it.
+pub fn mapped_page_answers_by_its_flags()
+    ensures { (words : Tables) (root va ppn : ℕ) (access : Access) (ctx : Ctx) (flags : PteFlags) (global : Bool) → Maps words root (page_number va) ppn flags global
+        → (found : Found) × Outcome words root va access ctx (found_unless (flags_fault access ctx flags) access found)
+        × (found.pa ≡ ppn * bytes_of Kib4 + va % bytes_of Kib4) × (found.flags ≡ flags) × (found.global ≡ global) }
 {}
 
 /// A PPN that is found fits its bits, and so does the physical address.

@@ -8,7 +8,7 @@ mod memory;
 mod translation;
 mod walking;
 
-pub use found_or_trap::{Found, Trap, Why};
+pub use found_or_trap::{Found, Trap, Why, flags_fault};
 pub use memory::Words;
 pub use translation::translate;
 pub use walking::{Progress, Walk};

@@ -2,7 +2,7 @@
 
 ghost use Rattle.std.specs.Prelude.{◌≡◌, ◌<◌, ◌^◌};
 
-use crate::found_or_trap::{Found, Trap, Why};
+use crate::found_or_trap::{Found, Trap, Why, accessed_fault};
 use pte::{
     Access, Ctx, Kind, PAGE_BYTES, Page, PageSize, Pte, PteFlags, TOP_LEVEL, VirtAddr, allowed,
 };
@@ -120,12 +120,8 @@ impl Walk {
             Some(Why::Denied)
         } else if ppn % PageSize::at_level(self.level).pages() != 0 {
             Some(Why::Misaligned)
-        } else if !flags.is_accessed() {
-            Some(Why::NotAccessed)
-        } else if self.access == Access::Store && !flags.is_dirty() {
-            Some(Why::NotDirty)
         } else {
-            None
+            accessed_fault(flags, self.access)
         }
     }
 
