@@ -1,7 +1,12 @@
--- Sets of harts: a test for each hart, by its number.
-use Rattle.std.specs.Prelude.{ℕ, ◌+◌, ◌^◌, Bool, false, List, [], ◌∷◌, ◌==◌, ◌&&◌, not, slice_get, unwrap_or, if◌then◌else◌}
+-- Sets of harts, as a test for each hart in the order of their numbers.
+use Rattle.std.specs.Prelude.{ℕ, ◌+◌, ◌^◌, Bool, false, List, ◌==◌, ◌&&◌, not, map, slice_get, unwrap_or, if◌then◌else◌}
 use Rattle.std.specs.Int.{bit_at}
-use Rattle.std.specs.List.{list_all}
+use Rattle.std.specs.List.{list_all, range_with_len, sum_by}
+use Rattle.shoot.specs.declared.TheConstants.{MAX_HARTS}
+
+-- the numbers that a hart can have
+abbrev pub all_harts : List ℕ
+all_harts = range_with_len 0 MAX_HARTS
 
 -- the hart is in the set
 abbrev pub contains : List Bool → ℕ → Bool
@@ -9,7 +14,7 @@ contains set hart = unwrap_or (slice_get set hart) false
 
 -- the set of the harts that pass a test
 abbrev pub harts_where : (ℕ → Bool) → List Bool
-harts_where test = test 0 ∷ test 1 ∷ test 2 ∷ test 3 ∷ test 4 ∷ test 5 ∷ test 6 ∷ test 7 ∷ []
+harts_where test = map test all_harts
 
 abbrev pub no_harts : List Bool
 no_harts = harts_where (λ _. false)
@@ -23,7 +28,7 @@ abbrev pub bit_of : List Bool → ℕ → ℕ
 bit_of set hart = if contains set hart then 2 ^ hart else 0
 
 unfoldable pub byte_of : List Bool → ℕ
-byte_of set = bit_of set 0 + bit_of set 1 + bit_of set 2 + bit_of set 3 + bit_of set 4 + bit_of set 5 + bit_of set 6 + bit_of set 7
+byte_of set = sum_by (bit_of set) all_harts
 
 -- the harts of the first set that are not in the second
 unfoldable pub difference : List Bool → List Bool → List Bool

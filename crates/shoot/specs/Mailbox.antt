@@ -1,6 +1,7 @@
 -- What a mailbox holds, what it answers to a post, and what each call leaves of it.
-use Rattle.std.specs.Prelude.{ℕ, ◌+◌, ◌-◌, Bool, true, false, List, [], ◌∷◌, ◌++◌, drop, Option, Some, None, is_none, Result, Ok, Err, nat_le, if◌then◌else◌}
+use Rattle.std.specs.Prelude.{ℕ, ◌+◌, ◌-◌, Bool, true, false, List, [], ◌∷◌, ◌++◌, drop, Option, Some, None, is_none, Result, Ok, Err, nat_le, nat_lt, length, slice_get, ◌≤◌, if◌then◌else◌}
 use Rattle.shoot.specs.Request.{Message}
+use Rattle.shoot.specs.declared.TheConstants.{MAX_CAPACITY}
 use Rattle.shoot.specs.declared.mailbox.PostFault.{PostFault}
 use Rattle.shoot.specs.declared.mailbox.PostFault.TheVariants.{Closed, Full}
 
@@ -11,6 +12,12 @@ pub record MailboxState : Type 0 where
   pub outstanding : ℕ
   pub closed : Bool
   pub capacity : ℕ
+
+-- what every mailbox keeps: what waits is outstanding, and that has a bound
+pub record IsMailbox (mailbox : MailboxState) : Type 0 where
+  pub waiting_counts : length mailbox.waiting ≤ mailbox.outstanding
+  pub bounded : mailbox.outstanding ≤ mailbox.capacity
+  pub capacity_bounded : mailbox.capacity ≤ MAX_CAPACITY
 
 abbrev pub empty_mailbox : ℕ → MailboxState
 empty_mailbox capacity = record { waiting = []; outstanding = 0; closed = false; capacity = capacity }
@@ -29,6 +36,10 @@ answer_with (Some fault) message = Err (fault, message)
 
 abbrev pub post_answer : MailboxState → Message → Result (Unit {0}) (PostFault × Message)
 post_answer mailbox message = answer_with (post_fault mailbox) message
+
+-- the oldest request
+abbrev pub first_waiting : MailboxState → Option Message
+first_waiting mailbox = slice_get mailbox.waiting 0
 
 -- the mailbox with one more request, which is outstanding
 abbrev pub with_message : MailboxState → Message → MailboxState
@@ -51,7 +62,11 @@ after_take mailbox = record {
   capacity = mailbox.capacity;
 }
 
--- one acknowledgement was collected
+-- some request was taken whose acknowledgement is not collected yet
+abbrev pub can_release : MailboxState → Bool
+can_release mailbox = nat_lt (length mailbox.waiting) mailbox.outstanding
+
+-- such an acknowledgement was collected
 abbrev pub after_release : MailboxState → MailboxState
 after_release mailbox = record {
   waiting = mailbox.waiting;

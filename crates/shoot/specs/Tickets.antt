@@ -2,7 +2,7 @@
 use Rattle.std.specs.Prelude.{ℕ, Bool, true, false, List, Option, Some, None, is_some, is_none, Result, Ok, Err, ◌==◌, slice_get, slice_set, position, replicate, if◌then◌else◌}
 use Rattle.pte.specs.declared.address.What.{What}
 use Rattle.shoot.specs.HartSet.{contains, difference, is_empty, byte_of, harts_in, no_harts}
-use Rattle.shoot.specs.declared.TheConstants.{TICKETS}
+use Rattle.shoot.specs.declared.TheConstants.{MAX_TICKETS}
 use Rattle.shoot.specs.declared.tickets.Ticket.{Ticket}
 use Rattle.shoot.specs.declared.tickets.Collected.{Collected}
 use Rattle.shoot.specs.declared.tickets.Collected.TheVariants.{Done, Waiting}
@@ -16,7 +16,7 @@ pub record TicketTable : Type 0 where
   pub tickets : List (Option Ticket)
 
 abbrev pub no_tickets : ℕ → TicketTable
-no_tickets hart = record { hart = hart; tickets = replicate TICKETS None }
+no_tickets hart = record { hart = hart; tickets = replicate MAX_TICKETS None }
 
 -- the open ticket of a number
 abbrev pub if_open : Option (Option Ticket) → Option Ticket
@@ -45,6 +45,13 @@ is_acked table number hart = tells (λ ticket. ticket.acked) (ticket_at table nu
 
 abbrev pub is_collected : TicketTable → ℕ → ℕ → Bool
 is_collected table number hart = tells (λ ticket. ticket.collected) (ticket_at table number) hart
+
+abbrev pub asked : Option Ticket → Option What
+asked None = None
+asked (Some ticket) = Some ticket.what
+
+abbrev pub what_at : TicketTable → ℕ → Option What
+what_at table number = asked (ticket_at table number)
 
 -- the named harts that are not collected, and how far the ticket is
 abbrev pub uncollected : Ticket → List Bool

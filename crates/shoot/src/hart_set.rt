@@ -2,13 +2,13 @@
 
 ghost use Rattle.std.specs.Prelude.{◌≡◌, ◌<◌, ◌≤◌, ◌^◌, ◌&&◌, not, slice_set, true};
 
-use crate::HARTS;
+use crate::MAX_HARTS;
 use std::marker::Model;
 
 /// A set of harts, by their numbers.
 #[derive(Clone, Copy, PartialEq, Eq, Debug)]
 pub struct HartSet {
-    members: [bool; HARTS],
+    members: [bool; MAX_HARTS],
 }
 
 impl Model for HartSet {
@@ -44,14 +44,14 @@ impl From<u8> for HartSet {
 }
 
 impl HartSet {
-    ghost use Rattle.shoot.specs.HartSet.{no_harts, contains, difference, is_empty, bit_of, byte_of};
+    ghost use Rattle.shoot.specs.HartSet.{no_harts, contains, difference, is_empty, bit_of};
 
     /// No hart.
     pub fn new() -> HartSet
         ensures { result ≡ no_harts }
     {
         HartSet {
-            members: [false; HARTS],
+            members: [false; MAX_HARTS],
         }
     }
 
@@ -66,7 +66,7 @@ impl HartSet {
     pub fn insert(&mut self, hart: u8)
         ensures { self.new ≡ slice_set self.old hart true }
     {
-        if (hart as usize) < HARTS {
+        if (hart as usize) < MAX_HARTS {
             self.members[hart as usize] = true;
         }
     }
@@ -103,27 +103,42 @@ impl HartSet {
         self.members.iter().all(|member| !member)
     }
 
-    /// Bit h of the byte is set where hart h is in the set.
-    #[tactic(auto, unfolding(crate::specs::HartSet::byte_of))]
-    pub fn byte(&self) -> u8
-        ensures { result ≡ byte_of self.now }
-    {
-        self.bit(0)
-            + self.bit(1)
-            + self.bit(2)
-            + self.bit(3)
-            + self.bit(4)
-            + self.bit(5)
-            + self.bit(6)
-            + self.bit(7)
-    }
-
     /// The bit of a hart, where it is in the set.
     fn bit(&self, hart: u8) -> u8
-        requires { hart < HARTS }
+        requires { hart < MAX_HARTS }
         ensures bit { result ≡ bit_of self.now hart }
         ensures bounded { result ≤ 2 ^ hart }
     {
         if self.contains(hart) { 1 << hart } else { 0 }
+    }
+}
+
+impl From<HartSet> for u8 {
+    ghost use Rattle.shoot.specs.HartSet.{byte_of};
+
+    ghost from_gives = { λ set byte. byte ≡ byte_of set };
+
+    /// Bit h of the byte is set where hart h is in the set.
+    #[tactic(auto, unfolding(crate::specs::HartSet::byte_of))]
+    fn from(set: HartSet) -> u8 {
+        set.bit(0)
+            + set.bit(1)
+            + set.bit(2)
+            + set.bit(3)
+            + set.bit(4)
+            + set.bit(5)
+            + set.bit(6)
+            + set.bit(7)
+    }
+}
+
+impl Default for HartSet {
+    ghost use Rattle.shoot.specs.HartSet.{no_harts};
+
+    ghost is_default = { λ set. set ≡ no_harts };
+
+    /// No hart.
+    fn default() -> HartSet {
+        HartSet::new()
     }
 }

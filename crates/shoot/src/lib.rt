@@ -13,9 +13,12 @@ pub use mailbox::{Mailbox, PostFault};
 pub use request::Request;
 pub use tickets::{Collected, NotDone, Ticket, TicketFault, Tickets};
 
-/// The harts of a machine have numbers below this.
-pub const HARTS: usize = 8;
+/// A machine has at most this many harts, with numbers from 0 on.
+pub const MAX_HARTS: usize = 8;
 
-/// How many tickets a hart has, and the largest capacity of a mailbox: a hart
-/// posts a ticket to another hart at most once.
-pub const TICKETS: usize = 64;
+/// How many tickets a hart has, with numbers from 0 on.
+pub const MAX_TICKETS: usize = 64;
+
+/// The largest capacity of a mailbox: a hart posts each of its tickets to
+/// another hart at most once.
+pub const MAX_CAPACITY: usize = MAX_TICKETS;

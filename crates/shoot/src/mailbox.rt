@@ -1,8 +1,8 @@
 //! Mailboxes.
 
-ghost use Rattle.std.specs.Prelude.{◌≡◌, ◌<◌, ◌≤◌, length, slice_get};
+ghost use Rattle.std.specs.Prelude.{◌≡◌, ◌≤◌, IsTrue};
 
-use crate::TICKETS;
+use crate::MAX_CAPACITY;
 use crate::request::Request;
 use arrayvec::ArrayVec;
 use std::marker::Model;
@@ -23,31 +23,29 @@ pub enum PostFault {
 /// request makes no room, collecting its acknowledgement does.
 #[derive(Drop)]
 pub struct Mailbox {
-    waiting: ArrayVec<Request, TICKETS>,
+    waiting: ArrayVec<Request, MAX_CAPACITY>,
     outstanding: usize,
     closed: bool,
     capacity: usize,
 }
 
 impl Model for Mailbox {
-    ghost use Rattle.std.specs.Prelude.{◌≤◌, length};
-    ghost use Rattle.shoot.specs.Mailbox.{MailboxState};
-    ghost use Rattle.shoot.specs.declared.TheConstants.{TICKETS};
+    ghost use Rattle.shoot.specs.Mailbox.{MailboxState, IsMailbox};
 
     ghost Value = { MailboxState };
 
     ghost view = { λ m. record { waiting = m.waiting.items; outstanding = m.outstanding; closed = m.closed; capacity = m.capacity } };
 
-    ghost invariant = { λ m. (length m.waiting.items ≤ m.outstanding) × (m.outstanding ≤ m.capacity) × (m.capacity ≤ TICKETS) };
+    ghost invariant = { λ m. IsMailbox (record { waiting = m.waiting.items; outstanding = m.outstanding; closed = m.closed; capacity = m.capacity }) };
 }
 
 impl Mailbox {
-    ghost use Rattle.shoot.specs.Mailbox.{empty_mailbox, post_fault, post_answer, after_post, after_take, after_release, after_close};
+    ghost use Rattle.shoot.specs.Mailbox.{IsMailbox, empty_mailbox, post_fault, post_answer, first_waiting, can_release, after_post, after_take, after_release, after_close};
 
     /// An empty mailbox that is open. The capacity is from 1 to 64.
     pub fn new(capacity: usize) -> Mailbox
         requires some { 1 ≤ capacity }
-        requires bounded { capacity ≤ TICKETS }
+        requires bounded { capacity ≤ MAX_CAPACITY }
         ensures { result ≡ empty_mailbox capacity }
     {
         Mailbox {
@@ -86,50 +84,46 @@ impl Mailbox {
     }
 
     /// The oldest request that waits.
-    pub fn first(&self) -> Option<Request>
-        ensures { result ≡ slice_get self.now.waiting 0 }
+    pub fn first_waiting(&self) -> Option<Request>
+        ensures { result ≡ first_waiting self.now }
     {
         self.waiting.first().copied()
     }
 
     /// Takes the oldest request that waits. It stays outstanding.
     pub fn take(&mut self) -> Option<Request>
-        ensures answer { result ≡ slice_get self.old.waiting 0 }
+        ensures answer { result ≡ first_waiting self.old }
         ensures after { self.new ≡ after_take self.old }
     {
-        let first = self.first()?;
+        let first = self.first_waiting()?;
         self.waiting.remove(0);
         Some(first)
     }
 
-    /// An acknowledgement was collected: there is room for one more request.
+    /// Whether more requests are outstanding than wait: some were taken whose
+    /// acknowledgement was not collected yet.
+    pub fn can_release(&self) -> bool
+        ensures { result ≡ can_release self.now }
+    {
+        self.waiting.len() < self.outstanding
+    }
+
+    /// Such an acknowledgement was collected: there is room for one more
+    /// request.
     pub fn release(&mut self)
-        requires { length self.old.waiting < self.old.outstanding }
+        requires { IsTrue (can_release self.old) }
         ensures { self.new ≡ after_release self.old }
     {
         self.outstanding -= 1;
     }
 
-    /// How many requests wait.
-    pub fn waiting(&self) -> usize
-        ensures { result ≡ length self.now.waiting }
-    {
-        self.waiting.len()
-    }
-
     /// How many requests were accepted whose acknowledgement was not collected
-    /// yet. These that wait are among them.
+    /// yet. Those that wait are among them.
     pub fn outstanding(&self) -> usize
-        ensures { result ≡ self.now.outstanding }
+        ensures count { result ≡ self.now.outstanding }
+        ensures bounds { IsMailbox self.now }
     {
         self.outstanding
-    }
-
-    /// How many requests may be outstanding.
-    pub fn capacity(&self) -> usize
-        ensures { result ≡ self.now.capacity }
-    {
-        self.capacity
     }
 
     /// Later posts are refused. What waits stays.

@@ -14,19 +14,25 @@ pub struct Request {
 impl Model for Request {
     ghost use Rattle.std.specs.Prelude.{◌<◌};
     ghost use Rattle.shoot.specs.Request.{Message};
-    ghost use Rattle.shoot.specs.declared.TheConstants.{TICKETS};
+    ghost use Rattle.shoot.specs.declared.TheConstants.{MAX_TICKETS};
 
     ghost Value = { Message };
 
     ghost view = { λ r. record { ticket = r.ticket; what = r.what } };
 
-    ghost invariant = { λ r. r.ticket < TICKETS };
+    ghost invariant = { λ r. r.ticket < MAX_TICKETS };
 
     ghost inverse = { λ m. record { ticket = m.ticket; what = m.what } };
 }
 
 impl Default for Request {
-    /// Ticket 0 asks for everything.
+    ghost use Rattle.std.specs.Prelude.{◌≡◌};
+    ghost use Rattle.shoot.specs.Request.{Message};
+    ghost use Rattle.pte.specs.declared.address.What.TheVariants.{All};
+
+    ghost is_default = { λ r. r ≡ record { ticket = 0; what = All } };
+
+    /// The request of ticket 0 for everything.
     fn default() -> Request {
         Request {
             ticket: 0,

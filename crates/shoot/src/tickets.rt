@@ -1,10 +1,10 @@
 //! Tickets.
 
-ghost use Rattle.std.specs.Prelude.{◌≡◌, ◌<◌, IsTrue, IfSome};
+ghost use Rattle.std.specs.Prelude.{◌≡◌, ◌<◌, IsTrue, IsSome, IfSome, IfOk};
 ghost use Rattle.std.specs.Option.{option_copied};
 
 use crate::hart_set::HartSet;
-use crate::{HARTS, TICKETS};
+use crate::{MAX_HARTS, MAX_TICKETS};
 use pte::What;
 use std::marker::Model;
 
@@ -48,19 +48,19 @@ pub struct Ticket {
 #[derive(Drop)]
 pub struct Tickets {
     hart: u8,
-    tickets: [Option<Ticket>; TICKETS],
+    tickets: [Option<Ticket>; MAX_TICKETS],
 }
 
 impl Model for Tickets {
     ghost use Rattle.std.specs.Prelude.{◌<◌};
     ghost use Rattle.shoot.specs.Tickets.{TicketTable};
-    ghost use Rattle.shoot.specs.declared.TheConstants.{HARTS};
+    ghost use Rattle.shoot.specs.declared.TheConstants.{MAX_HARTS};
 
     ghost Value = { TicketTable };
 
     ghost view = { λ t. record { hart = t.hart; tickets = t.tickets } };
 
-    ghost invariant = { λ t. t.hart < HARTS };
+    ghost invariant = { λ t. t.hart < MAX_HARTS };
 }
 
 impl Ticket {
@@ -103,72 +103,77 @@ impl Ticket {
     }
 
     /// Whether each named hart is collected.
-    pub fn is_done(&self) -> bool
+    fn is_done(&self) -> bool
         ensures { result ≡ is_done self.now }
     {
         self.named.difference(&self.collected).is_empty()
     }
 
     /// How far the ticket is.
-    pub fn progress(&self) -> Collected
+    fn progress(&self) -> Collected
         ensures { result ≡ progress self.now }
     {
         let uncollected = self.named.difference(&self.collected);
         if uncollected.is_empty() {
             Collected::Done
         } else {
-            Collected::Waiting(uncollected.byte())
+            Collected::Waiting(u8::from(uncollected))
         }
     }
 }
 
 impl Tickets {
-    ghost use Rattle.shoot.specs.Tickets.{no_tickets, ticket_at, is_open, names, is_posted, is_acked, is_collected, open_answer, after_open, progress_at, after_posted, after_acked, after_collect, finish_answer, after_finish, lowest_free};
+    ghost use Rattle.shoot.specs.Tickets.{no_tickets, ticket_at, is_open, names, is_posted, is_acked, is_collected, open_answer, after_open, progress_at, after_posted, after_acked, after_collect, is_done_at, finish_answer, after_finish, lowest_free, what_at};
 
     /// The tickets of a hart whose number is below 8, all of them free.
     pub fn new(hart: u8) -> Tickets
-        requires { hart < HARTS }
+        requires { hart < MAX_HARTS }
         ensures { result ≡ no_tickets hart }
     {
         Tickets {
             hart,
-            tickets: [None; TICKETS],
+            tickets: [None; MAX_TICKETS],
         }
     }
 
-    /// The hart whose tickets these are.
-    pub fn hart(&self) -> u8
-        ensures { result ≡ self.now.hart }
-    {
-        self.hart
-    }
-
     fn get(&self, ticket: u32) -> Option<&Ticket>
-        ensures { option_copied result ≡ ticket_at self.now ticket }
+        ensures ticket { option_copied result ≡ ticket_at self.now ticket }
+        ensures below { IsSome result → ticket < MAX_TICKETS }
     {
         self.tickets.get(ticket as usize)?.as_ref()
     }
 
     fn lowest_free(&self) -> Option<usize>
-        ensures { result ≡ lowest_free self.now }
+        ensures lowest { result ≡ lowest_free self.now }
+        ensures below { IfSome result (λ number. number < MAX_TICKETS) }
     {
         self.tickets.iter().position(Option::is_none)
     }
 
-    /// Opens the lowest free ticket. Bit h of `named` stands for hart h.
-    pub fn open(&mut self, what: What, named: u8) -> Result<u32, TicketFault>
-        ensures answer { result ≡ open_answer self.old named }
-        ensures after { self.new ≡ after_open self.old what named }
+    /// What opening a ticket for these harts would be answered now.
+    pub fn would_open(&self, named: u8) -> Result<u32, TicketFault>
+        ensures answer { result ≡ open_answer self.now named }
+        ensures below { IfOk result (λ number. number < MAX_TICKETS) }
     {
-        let open = Ticket::new(what, named);
-        if !open.named.contains(self.hart) {
+        if !HartSet::from(named).contains(self.hart) {
             return Err(TicketFault::HomeNotNamed);
         }
-        let Some(free) = self.lowest_free() else {
-            return Err(TicketFault::NoTicket);
-        };
-        self.tickets[free] = Some(open);
-        Ok(free as u32)
+        match self.lowest_free() {
+            Some(number) => Ok(number as u32),
+            None => Err(TicketFault::NoTicket),
+        }
+    }
+
+    /// Opens the lowest free ticket. Bit h of `named` stands for hart h. At a
+    /// refusal nothing changes.
+    pub fn open(&mut self, what: What, named: u8) -> Result<u32, TicketFault>
+        ensures answer { result ≡ open_answer self.old named }
+        ensures below { IfOk result (λ number. number < MAX_TICKETS) }
+        ensures after { self.new ≡ after_open self.old what named }
+    {
+        let number = self.would_open(named)?;
+        self.tickets[number as usize] = Some(Ticket::new(what, named));
+        Ok(number)
     }
 
     /// The ticket was posted to a named hart.
@@ -220,13 +225,21 @@ impl Tickets {
         }
     }
 
-    /// Frees an open ticket that is done.
+    /// Whether each hart that an open ticket names is collected.
+    pub fn is_done(&self, ticket: u32) -> bool
+        requires { IsTrue (is_open self.now ticket) }
+        ensures { result ≡ is_done_at self.now ticket }
+    {
+        self.get(ticket).is_some_and(|open| open.is_done())
+    }
+
+    /// Frees an open ticket that is done. At a refusal nothing changes.
     pub fn finish(&mut self, ticket: u32) -> Result<(), NotDone>
         requires { IsTrue (is_open self.old ticket) }
         ensures answer { result ≡ finish_answer self.old ticket }
         ensures after { self.new ≡ after_finish self.old ticket }
     {
-        if !self.get(ticket).is_some_and(|open| open.is_done()) {
+        if !self.is_done(ticket) {
             return Err(NotDone);
         }
         self.tickets[ticket as usize] = None;
@@ -235,7 +248,8 @@ impl Tickets {
 
     /// Whether the ticket is open.
     pub fn is_open(&self, ticket: u32) -> bool
-        ensures { result ≡ is_open self.now ticket }
+        ensures open { result ≡ is_open self.now ticket }
+        ensures below { IsTrue result → ticket < MAX_TICKETS }
     {
         self.get(ticket).is_some()
     }
@@ -278,7 +292,7 @@ impl Tickets {
     /// What an open ticket asks the named harts to drop.
     pub fn what(&self, ticket: u32) -> What
         requires { IsTrue (is_open self.now ticket) }
-        ensures { IfSome (ticket_at self.now ticket) (λ ticket. result ≡ ticket.what) }
+        ensures { what_at self.now ticket ≡ Some result }
     {
         match self.get(ticket) {
             Some(open) => open.what,
