@@ -4,11 +4,15 @@
 #![tactic(auto)]
 
 mod hart_set;
+mod laws;
 mod mailbox;
 mod request;
 mod tickets;
 
 pub use hart_set::HartSet;
+pub use laws::{
+    mailbox_accepts_nothing_after_close, mailbox_keeps_order, mailbox_refuses_when_closed_or_full,
+};
 pub use mailbox::{Mailbox, PostFault};
 pub use request::Request;
 pub use tickets::{Collected, NotDone, Ticket, TicketFault, Tickets};

@@ -1,0 +1,68 @@
+-- Histories of one mailbox: the calls on it with their answers, newest first, and what can be
+-- read out of them.
+use Rattle.std.specs.Prelude.{◌≡◌, ℕ, ◌+◌, Bool, true, false, List, [], ◌∷◌, ◌++◌, Option, Some, Result, Ok, IsTrue}
+use Rattle.std.specs.List.{list_any}
+use Rattle.shoot.specs.Request.{Message}
+use Rattle.shoot.specs.Mailbox.{MailboxState, empty_mailbox, post_answer, first_waiting, can_release, after_post, after_take, after_release, after_close}
+use Rattle.shoot.specs.declared.mailbox.PostFault.{PostFault}
+
+-- a call, with its answer where it has one
+pub data Turn : Type 0 where
+  Post : Message → Result (Unit {0}) (PostFault × Message) → Turn
+  Take : Option Message → Turn
+  Release : Turn
+  Close : Turn
+
+-- the requests that were accepted, in the order of their posts
+abbrev pub accepted_by : Turn → List Message
+accepted_by (Post message (Ok done)) = message ∷ []
+accepted_by turn = []
+
+abbrev pub accepted : List Turn → List Message
+accepted [] = []
+accepted (turn ∷ earlier) = accepted earlier ++ accepted_by turn
+
+-- the requests that were taken, in that order
+abbrev pub taken_by : Turn → List Message
+taken_by (Take (Some message)) = message ∷ []
+taken_by turn = []
+
+abbrev pub taken : List Turn → List Message
+taken [] = []
+taken (turn ∷ earlier) = taken earlier ++ taken_by turn
+
+-- how many acknowledgements were collected
+abbrev pub released : List Turn → ℕ
+released [] = 0
+released (Release ∷ earlier) = released earlier + 1
+released (turn ∷ earlier) = released earlier
+
+-- the mailbox was closed
+abbrev pub is_close : Turn → Bool
+is_close Close = true
+is_close turn = false
+
+abbrev pub is_closed : List Turn → Bool
+is_closed history = list_any is_close history
+
+-- what a call leaves, and what a history leaves of a new mailbox
+abbrev pub after_turn : MailboxState → Turn → MailboxState
+after_turn mailbox (Post message answer) = after_post mailbox message
+after_turn mailbox (Take answer) = after_take mailbox
+after_turn mailbox Release = after_release mailbox
+after_turn mailbox Close = after_close mailbox
+
+abbrev pub mailbox_after : ℕ → List Turn → MailboxState
+mailbox_after capacity [] = empty_mailbox capacity
+mailbox_after capacity (turn ∷ earlier) = after_turn (mailbox_after capacity earlier) turn
+
+-- the call may be made and is answered so
+abbrev pub IsDue : MailboxState → Turn → Type 0
+IsDue mailbox (Post message answer) = answer ≡ post_answer mailbox message
+IsDue mailbox (Take answer) = answer ≡ first_waiting mailbox
+IsDue mailbox Release = IsTrue (can_release mailbox)
+IsDue mailbox Close = Unit {0}
+
+abbrev pub IsLawful : ℕ → List Turn → Type 0
+IsLawful capacity [] = Unit {0}
+IsLawful capacity (turn ∷ earlier) = IsLawful capacity earlier × IsDue (mailbox_after capacity earlier) turn
