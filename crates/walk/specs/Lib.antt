@@ -7,4 +7,4 @@ pub mod Step
 pub mod Loads
 pub mod Pointers
 pub mod Stores
-pub mod Rows
+pub mod Frames
