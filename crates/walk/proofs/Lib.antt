@@ -3,6 +3,7 @@ pub mod Pages
 pub mod Ending
 pub mod Unique
 pub mod Members
+mod WorkedRows
 pub mod FoundMembers
 pub mod MappedAnswers
 pub mod Stored
