@@ -1,1 +1,4 @@
+pub mod HartBytes
+pub mod HartSets
 pub mod MailboxLaws
+pub mod TicketLaws

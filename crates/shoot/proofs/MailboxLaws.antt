@@ -1,12 +1,12 @@
 -- What every lawful history of a mailbox keeps.
-use Rattle.std.proofs.Common.{◌≡◌, ◌∙◌, sym, ap, refl, subst, ℕ, ◌+◌, ◌-◌, ◌<◌, Bool, true, false, cond, ◌||◌, List, [], ◌∷◌, ◌++◌, length, drop, slice_get, Option, Some, None, Result, Ok, Err, IsTrue, append_assoc, length-append, arith, leb, ltb}
+use Rattle.std.proofs.Common.{◌≡◌, ◌∙◌, sym, ap, refl, ℕ, ◌+◌, ◌<◌, Bool, true, cond, List, [], ◌∷◌, ◌++◌, length, drop, slice_get, Option, Some, None, Result, Ok, Err, append_assoc, length-append, arith, leb}
 use Rattle.std.proofs.lemmas.List.{append-nil}
 use Rattle.std.proofs.lemmas.Bool.{ltb-true}
 use Rattle.std.proofs.lemmas.Bool.Decides.{nat_tests}
 use Rattle.std.specs.Option.{is_none}
 use Rattle.shoot.specs.Request.{Message}
-use Rattle.shoot.specs.Mailbox.{MailboxState, empty_mailbox, post_fault, post_answer, answer_with, with_message, first_waiting, can_release, after_post, after_take}
-use Rattle.shoot.specs.MailboxHistory.{Turn, Post, Take, Release, Close, accepted, accepted_by, taken, taken_by, released, is_closed, is_close, after_turn, mailbox_after, IsDue, IsLawful}
+use Rattle.shoot.specs.Mailbox.{MailboxState, post_fault, post_answer, answer_with, with_message}
+use Rattle.shoot.specs.MailboxHistory.{Turn, Post, Take, Release, Close, accepted, accepted_by, taken, taken_by, released, is_closed, mailbox_after, IsLawful}
 use Rattle.shoot.specs.declared.mailbox.PostFault.{PostFault}
 use Rattle.shoot.specs.declared.mailbox.PostFault.TheVariants.{Closed, Full}
 
@@ -103,11 +103,13 @@ closed_before (Take answer ∷ later) earlier = closed_before later earlier
 closed_before (Release ∷ later) earlier = closed_before later earlier
 closed_before (Close ∷ later) earlier = refl
 
+apart : (answer : Answer) (done : Unit {0}) (pair : PostFault × Message) → answer ≡ Ok done → answer ≡ Err pair → ⊥
+apart answer done pair is_ok is_err = cc
+
 refused : (mailbox : MailboxState) (message : Message) (answer : Answer) → mailbox.closed ≡ true → answer ≡ post_answer mailbox message → accepted_by (Post message answer) ≡ []
 refused mailbox message (Err pair) h e = refl
 refused mailbox message (Ok done) h e =
-    let wrong : Ok done ≡ Err (Closed, message) = e ∙ ap (λ (test : Bool). answer_with (cond test (Some Closed) (cond (leb mailbox.capacity mailbox.outstanding) (Some Full) None)) message) h in
-    absurd cc
+    absurd (apart (Ok done) done (Closed, message) refl (e ∙ ap (λ (test : Bool). answer_with (cond test (Some Closed) (cond (leb mailbox.capacity mailbox.outstanding) (Some Full) None)) message) h))
 
 pub none_after_close : (capacity : ℕ) (later earlier : List Turn) → IsLawful capacity (later ++ Close ∷ earlier) → accepted (later ++ Close ∷ earlier) ≡ accepted earlier
 none_after_close capacity [] earlier lawful = append-nil (accepted earlier)

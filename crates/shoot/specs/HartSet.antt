@@ -1,5 +1,5 @@
 -- Sets of harts, as a test for each hart in the order of their numbers.
-use Rattle.std.specs.Prelude.{ℕ, ◌+◌, ◌^◌, Bool, false, List, ◌==◌, ◌&&◌, not, map, slice_get, unwrap_or, if◌then◌else◌}
+use Rattle.std.specs.Prelude.{ℕ, ◌^◌, Bool, false, List, ◌==◌, ◌&&◌, not, map, slice_get, unwrap_or, if◌then◌else◌}
 use Rattle.std.specs.Int.{bit_at}
 use Rattle.std.specs.List.{list_all, range_with_len, sum_by}
 use Rattle.shoot.specs.declared.TheConstants.{MAX_HARTS}

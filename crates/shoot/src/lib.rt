@@ -26,3 +26,6 @@ pub const MAX_TICKETS: usize = 64;
 /// The largest capacity of a mailbox: a hart posts each of its tickets to
 /// another hart at most once.
 pub const MAX_CAPACITY: usize = MAX_TICKETS;
+
+#[cfg(test)]
+mod tests;

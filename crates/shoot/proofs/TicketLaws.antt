@@ -1,0 +1,253 @@
+-- What every lawful history of the tickets of a hart keeps: each ticket is what the calls since
+-- its opening tell.
+use Rattle.std.proofs.Common.{◌≡◌, ◌≢◌, ◌∙◌, sym, ap, refl, ℕ, zero, suc, ◌<◌, Bool, true, false, cond, ◌&&◌, ◌||◌, List, [], ◌∷◌, length, replicate, set, slice_get, Option, Some, None, Result, Ok, Err, arith, eqb, ltb}
+use Rattle.std.proofs.lemmas.Bool.{eqb-true, ltb-true}
+use Rattle.std.proofs.lemmas.Bool.Decides.{nat_tests}
+use Rattle.std.specs.Option.{is_none}
+use Rattle.std.specs.List.{position_or_len}
+use Rattle.pte.specs.declared.address.What.{What}
+use Rattle.shoot.specs.HartSet.{contains, harts_where, harts_in}
+use Rattle.shoot.specs.Tickets.{TicketTable, if_open, ticket_at, with_ticket, with_change, changed, new_ticket, with_posted, with_acked, with_collected, lowest_free, opened, open_answer, with_opened, is_done_at}
+use Rattle.shoot.specs.TicketHistory.{Turn, Open, Posted, Acked, Collect, Finish, tickets_after, IsLawful, Opening, with_turn, opening_with, opening_of, was_posted, was_acked, collected_after_ack, was_collected, ticket_told, told_with, told}
+use Rattle.shoot.specs.declared.TheConstants.{MAX_HARTS, MAX_TICKETS}
+use Rattle.shoot.specs.declared.tickets.Ticket.{Ticket}
+use Rattle.shoot.specs.declared.tickets.Collected.{Collected}
+use Rattle.shoot.specs.declared.tickets.TicketFault.{TicketFault}
+use Rattle.shoot.specs.declared.tickets.TicketFault.TheVariants.{HomeNotNamed}
+use Rattle.shoot.specs.declared.tickets.NotDone.{NotDone}
+use Rattle.shoot.proofs.HartSets.{by_test, eqb_same, where_agree, where_with, contains_where, passes}
+
+-- ---- the places of the table
+
+abbrev Places : Type 0
+Places = List (Option Ticket)
+
+none_at_first : (count number : ℕ) → if_open (slice_get (replicate count None) number) ≡ None
+none_at_first zero number = refl
+none_at_first (suc count) zero = refl
+none_at_first (suc count) (suc number) = none_at_first count number
+
+get_set_same : (places : Places) (number : ℕ) (place : Option Ticket) → number < length places → slice_get (set places number place) number ≡ Some place
+get_set_same [] number place h = absurd (omega arith)
+get_set_same (first ∷ rest) zero place h = refl
+get_set_same (first ∷ rest) (suc number) place h = get_set_same rest number place (omega arith)
+
+get_set_other : (places : Places) (number other : ℕ) (place : Option Ticket) → number ≢ other → slice_get (set places number place) other ≡ slice_get places other
+get_set_other [] number other place h = refl
+get_set_other (first ∷ rest) zero zero place h = absurd (h refl)
+get_set_other (first ∷ rest) zero (suc other) place h = refl
+get_set_other (first ∷ rest) (suc number) zero place h = refl
+get_set_other (first ∷ rest) (suc number) (suc other) place h = get_set_other rest number other place (λ e. h (ap suc e))
+
+get_freed : (places : Places) (number : ℕ) → if_open (slice_get (set places number None) number) ≡ None
+get_freed [] number = refl
+get_freed (first ∷ rest) zero = refl
+get_freed (first ∷ rest) (suc number) = get_freed rest number
+
+get_changed : (places : Places) (number : ℕ) (change : Ticket → Ticket)
+    → if_open (slice_get (set places number (changed change (if_open (slice_get places number)))) number) ≡ changed change (if_open (slice_get places number))
+get_changed [] number change = refl
+get_changed (first ∷ rest) zero change = refl
+get_changed (first ∷ rest) (suc number) change = get_changed rest number change
+
+pub at_other : (table : TicketTable) (number other : ℕ) (place : Option Ticket) → number ≢ other → ticket_at (with_ticket table number place) other ≡ ticket_at table other
+at_other table number other place h = ap if_open (get_set_other table.tickets number other place h)
+
+pub at_same : (table : TicketTable) (number : ℕ) (place : Option Ticket) → number < length table.tickets → ticket_at (with_ticket table number place) number ≡ place
+at_same table number place h = ap if_open (get_set_same table.tickets number place h)
+
+pub at_changed : (table : TicketTable) (number : ℕ) (change : Ticket → Ticket) → ticket_at (with_change table number change) number ≡ changed change (ticket_at table number)
+at_changed table number change = get_changed table.tickets number change
+
+apart : (a b : ℕ) → eqb a b ≡ false → a ≢ b
+apart a b h = grind (arith, nat_tests)
+
+pub opened_below : (table : TicketTable) (named number : ℕ) → open_answer table named ≡ Ok number → number < length table.tickets
+opened_below table named number =
+    let first = position_or_len is_none table.tickets in
+    let all = length table.tickets in
+    by_test (λ test. cond test (opened (lowest_free table)) (Err HomeNotNamed) ≡ Ok number → number < all) (contains (harts_in named) table.hart)
+    (λ _. by_test (λ test. opened (cond test (Some first) None) ≡ Ok number → number < all) (ltb first all)
+    (λ below e. let same : first ≡ number = cc in let fits : first < all = ltb-true first all below in omega arith)
+    (λ _ e. absurd cc))
+    (λ _ e. absurd cc)
+
+-- ---- a call that tells nothing of a ticket
+
+skip_posted : (home number ticket to : ℕ) (before : Option Opening) → eqb ticket number ≡ false
+    → told_with home number before ≡ told_with home number (with_turn (Posted ticket to) before)
+skip_posted home number ticket to None h = refl
+skip_posted home number ticket to (Some opening) h = rw h refl
+
+skip_acked : (home number ticket from : ℕ) (before : Option Opening) → eqb ticket number ≡ false
+    → told_with home number before ≡ told_with home number (with_turn (Acked ticket from) before)
+skip_acked home number ticket from None h = refl
+skip_acked home number ticket from (Some opening) h = rw h refl
+
+skip_collect : (home number ticket from : ℕ) (answer : Collected) (before : Option Opening) → eqb ticket number ≡ false
+    → told_with home number before ≡ told_with home number (with_turn (Collect ticket from answer) before)
+skip_collect home number ticket from answer None h = refl
+skip_collect home number ticket from answer (Some opening) h = rw h refl
+
+skip_open : (home number : ℕ) (what : What) (named : ℕ) (answer : Result ℕ TicketFault) (before : Option Opening)
+    → told_with home number before ≡ told_with home number (with_turn (Open what named answer) before)
+skip_open home number what named answer None = refl
+skip_open home number what named answer (Some opening) = refl
+
+skip_finish : (home number ticket : ℕ) (answer : Result (Unit {0}) NotDone) (before : Option Opening)
+    → told_with home number before ≡ told_with home number (with_turn (Finish ticket answer) before)
+skip_finish home number ticket answer None = refl
+skip_finish home number ticket answer (Some opening) = refl
+
+-- ---- a call that tells of a ticket
+
+posted_told : (home number to : ℕ) (before : Option Opening)
+    → changed (with_posted to) (told_with home number before) ≡ told_with home number (with_turn (Posted number to) before)
+posted_told home number to None = refl
+posted_told home number to (Some opening) =
+    let told_now = ticket_told home number opening in
+    let posted_now : set told_now.posted to true ≡ harts_where (λ hart. eqb to hart || was_posted number opening.since hart) = where_with (was_posted number opening.since) to in
+    rw (eqb_same number) (ap (λ (posted : List Bool). Some (record told_now { posted = posted })) posted_now)
+
+own_first : (home from hart : ℕ) (acked collected : Bool) → from ≡ home
+    → eqb from hart || ((eqb hart home && acked) || collected) ≡ (eqb hart home && (eqb from hart || acked)) || collected
+own_first home from hart acked collected same =
+    by_test (λ test. test || ((eqb hart home && acked) || collected) ≡ (eqb hart home && (test || acked)) || collected) (eqb from hart)
+    (λ e. let is_hart : from ≡ hart = eqb-true from hart e in let own : eqb hart home ≡ true = grind (arith, nat_tests) in rw own refl)
+    (λ _. refl)
+
+other_first : (home from hart : ℕ) (acked collected : Bool) → eqb from home ≡ false
+    → (eqb hart home && acked) || collected ≡ (eqb hart home && (eqb from hart || acked)) || collected
+other_first home from hart acked collected different =
+    by_test (λ test. (eqb hart home && acked) || collected ≡ (eqb hart home && (test || acked)) || collected) (eqb from hart)
+    (λ e. let is_hart : from ≡ hart = eqb-true from hart e in let other : eqb hart home ≡ false = ap (λ n. eqb n home) (sym is_hart) ∙ different in rw other refl)
+    (λ _. refl)
+
+with_both : (ticket : Ticket) (acked acked' collected collected' : List Bool) → acked ≡ acked' → collected ≡ collected'
+    → Some (record ticket { acked = acked; collected = collected }) ≡ Some (record ticket { acked = acked'; collected = collected' })
+with_both ticket acked acked' collected collected' a c = cc
+
+acked_told : (home number from : ℕ) (before : Option Opening)
+    → changed (with_acked home from) (told_with home number before) ≡ told_with home number (with_turn (Acked number from) before)
+acked_told home number from None = refl
+acked_told home number from (Some opening) =
+    let told_now = ticket_told home number opening in
+    let acked = was_acked number opening.since in
+    let collected = was_collected home number opening.since in
+    let later = collected_after_ack number opening.since in
+    let target : ℕ → Bool = λ hart. (eqb hart home && (eqb from hart || acked hart)) || later hart in
+    let acked_now : set told_now.acked from true ≡ harts_where (λ hart. eqb from hart || acked hart) = where_with acked from in
+    let collected_now : cond (eqb from home) (set told_now.collected from true) told_now.collected ≡ harts_where target =
+    by_test (λ test. cond test (set told_now.collected from true) told_now.collected ≡ harts_where target) (eqb from home)
+    (λ e. where_with collected from ∙ where_agree (λ hart. eqb from hart || collected hart) target (λ hart _. own_first home from hart (acked hart) (later hart) (eqb-true from home e)))
+    (λ e. where_agree collected target (λ hart _. other_first home from hart (acked hart) (later hart) e)) in
+    rw (eqb_same number) (with_both told_now _ _ _ _ acked_now collected_now)
+
+there_first : (from hart : ℕ) (acked : ℕ → Bool) (own later : Bool) → acked from ≡ true
+    → eqb from hart || (own || later) ≡ own || ((eqb from hart && acked hart) || later)
+there_first from hart acked own later there =
+    by_test (λ test. test || (own || later) ≡ own || ((test && acked hart) || later)) (eqb from hart)
+    (λ e. let is_hart : from ≡ hart = eqb-true from hart e in
+    let acked_hart : acked hart ≡ true = ap acked (sym is_hart) ∙ there in
+    rw acked_hart (by_test (λ test. true ≡ test || true) own (λ _. refl) (λ _. refl)))
+    (λ _. refl)
+
+absent_first : (from hart : ℕ) (acked : ℕ → Bool) (own later : Bool) → hart < MAX_HARTS → contains (harts_where acked) from ≡ false
+    → own || later ≡ own || ((eqb from hart && acked hart) || later)
+absent_first from hart acked own later below absent =
+    by_test (λ test. own || later ≡ own || ((test && acked hart) || later)) (eqb from hart)
+    (λ e. let is_hart : from ≡ hart = eqb-true from hart e in
+    let not_acked : acked hart ≡ false = sym (contains_where acked hart below) ∙ (ap (contains (harts_where acked)) (sym is_hart) ∙ absent) in
+    rw not_acked refl)
+    (λ _. refl)
+
+collected_told : (home number from : ℕ) (answer : Collected) (before : Option Opening)
+    → changed (with_collected from) (told_with home number before) ≡ told_with home number (with_turn (Collect number from answer) before)
+collected_told home number from answer None = refl
+collected_told home number from answer (Some opening) =
+    let told_now = ticket_told home number opening in
+    let acked = was_acked number opening.since in
+    let collected = was_collected home number opening.since in
+    let later = collected_after_ack number opening.since in
+    let target : ℕ → Bool = λ hart. (eqb hart home && acked hart) || ((eqb from hart && acked hart) || later hart) in
+    let collected_now : cond (contains told_now.acked from) (set told_now.collected from true) told_now.collected ≡ harts_where target =
+    by_test (λ test. cond test (set told_now.collected from true) told_now.collected ≡ harts_where target) (contains told_now.acked from)
+    (λ e. where_with collected from ∙ where_agree (λ hart. eqb from hart || collected hart) target (λ hart below. there_first from hart acked (eqb hart home && acked hart) (later hart) (passes acked from e)))
+    (λ e. where_agree collected target (λ hart below. absent_first from hart acked (eqb hart home && acked hart) (later hart) below e)) in
+    rw (eqb_same number) (ap (λ (collected' : List Bool). Some (record told_now { collected = collected' })) collected_now)
+
+opened_told : (home : ℕ) (table : TicketTable) (what : What) (named number : ℕ) (answer : Result ℕ TicketFault) (before : Option Opening)
+    → ((opened : ℕ) → answer ≡ Ok opened → opened < length table.tickets) → ticket_at table number ≡ told_with home number before
+    → ticket_at (with_opened table answer (new_ticket what named)) number ≡ told_with home number (opening_with (Open what named answer) number before)
+opened_told home table what named number (Err fault) before fits h = h ∙ skip_open home number what named (Err fault) before
+opened_told home table what named number (Ok free) before fits h =
+    by_test (λ test. ticket_at (with_ticket table free (Some (new_ticket what named))) number
+    ≡ told_with home number (cond test (Some (record { what = what; named = named; since = [] })) (with_turn (Open what named (Ok free)) before))) (eqb free number)
+    (λ e. let same : free ≡ number = eqb-true free number e in
+    let here : ticket_at (with_ticket table number (Some (new_ticket what named))) number ≡ Some (new_ticket what named) = at_same table number (Some (new_ticket what named)) (rw (← same) (fits free refl)) in
+    rw same (here ∙ ap (λ (collected : List Bool). Some (record (new_ticket what named) { collected = collected })) (where_agree (λ hart. false) (was_collected home number []) (λ hart _. nothing_own (eqb hart home)))))
+    (λ e. at_other table free number (Some (new_ticket what named)) (apart free number e) ∙ (h ∙ skip_open home number what named (Ok free) before))
+  where
+    nothing_own : (own : Bool) → false ≡ (own && false) || false
+    nothing_own true = refl
+    nothing_own false = refl
+
+finished_told : (home : ℕ) (table : TicketTable) (ticket number : ℕ) (done : Bool) (answer : Result (Unit {0}) NotDone) (before : Option Opening)
+    → answer ≡ cond done (Ok tt) (Err (record {})) → ticket_at table number ≡ told_with home number before
+    → ticket_at (cond done (with_ticket table ticket None) table) number ≡ told_with home number (opening_with (Finish ticket answer) number before)
+finished_told home table ticket number true (Err fault) before e h = absurd cc
+finished_told home table ticket number false (Ok done) before e h = absurd cc
+finished_told home table ticket number false (Err fault) before e h = h ∙ skip_finish home number ticket (Err fault) before
+finished_told home table ticket number true (Ok done) before e h =
+    by_test (λ test. ticket_at (with_ticket table ticket None) number ≡ told_with home number (cond test None (with_turn (Finish ticket (Ok done)) before))) (eqb ticket number)
+    (λ same. rw (eqb-true ticket number same) (get_freed table.tickets number))
+    (λ different. at_other table ticket number None (apart ticket number different) ∙ (h ∙ skip_finish home number ticket (Ok done) before))
+
+home_kept : (home : ℕ) (history : List Turn) → (tickets_after home history).hart ≡ home
+home_kept home [] = refl
+home_kept home (Open what named answer ∷ earlier) = opened_keeps (tickets_after home earlier) (open_answer (tickets_after home earlier) named) (new_ticket what named) ∙ home_kept home earlier
+  where
+    opened_keeps : (table : TicketTable) (answer : Result ℕ TicketFault) (ticket : Ticket) → (with_opened table answer ticket).hart ≡ table.hart
+    opened_keeps table (Ok number) ticket = refl
+    opened_keeps table (Err fault) ticket = refl
+home_kept home (Posted number to ∷ earlier) = home_kept home earlier
+home_kept home (Acked number from ∷ earlier) = home_kept home earlier
+home_kept home (Collect number from answer ∷ earlier) = home_kept home earlier
+home_kept home (Finish number answer ∷ earlier) =
+    by_test (λ test. (cond test (with_ticket (tickets_after home earlier) number None) (tickets_after home earlier)).hart ≡ home) (is_done_at (tickets_after home earlier) number)
+    (λ _. home_kept home earlier) (λ _. home_kept home earlier)
+
+-- a change at one number, where the call tells of that number alone
+changed_told : (home : ℕ) (table : TicketTable) (ticket number : ℕ) (change : Ticket → Ticket) (turn : Turn) (before : Option Opening)
+    → (eqb ticket number ≡ false → told_with home number before ≡ told_with home number (with_turn turn before))
+    → (ticket ≡ number → changed change (told_with home number before) ≡ told_with home number (with_turn turn before))
+    → ticket_at table number ≡ told_with home number before
+    → ticket_at (with_change table ticket change) number ≡ told_with home number (with_turn turn before)
+changed_told home table ticket number change turn before skip tell h =
+    by_test (λ test. ticket_at (with_change table ticket change) number ≡ told_with home number (with_turn turn before)) (eqb ticket number)
+    (λ e. let same : ticket ≡ number = eqb-true ticket number e in
+    rw same (at_changed table number change) ∙ (ap (changed change) h ∙ tell same))
+    (λ e. at_other table ticket number (changed change (ticket_at table ticket)) (apart ticket number e) ∙ (h ∙ skip e))
+
+pub recount : (home : ℕ) (history : List Turn) (number : ℕ) → IsLawful home history → ticket_at (tickets_after home history) number ≡ told home history number
+recount home [] number lawful = none_at_first MAX_TICKETS number
+recount home (Open what named answer ∷ earlier) number lawful =
+    let table = tickets_after home earlier in
+    let due : answer ≡ open_answer table named = lawful.1 in
+    rw (← due) (opened_told home table what named number answer (opening_of earlier number)
+    (λ free e. opened_below table named free (sym due ∙ e)) (recount home earlier number lawful.0))
+recount home (Posted ticket to ∷ earlier) number lawful =
+    let before = opening_of earlier number in
+    changed_told home (tickets_after home earlier) ticket number (with_posted to) (Posted ticket to) before
+    (skip_posted home number ticket to before) (λ same. rw same (posted_told home number to before)) (recount home earlier number lawful.0)
+recount home (Acked ticket from ∷ earlier) number lawful =
+    let before = opening_of earlier number in
+    rw (home_kept home earlier) (changed_told home (tickets_after home earlier) ticket number (with_acked home from) (Acked ticket from) before
+    (skip_acked home number ticket from before) (λ same. rw same (acked_told home number from before)) (recount home earlier number lawful.0))
+recount home (Collect ticket from answer ∷ earlier) number lawful =
+    let before = opening_of earlier number in
+    changed_told home (tickets_after home earlier) ticket number (with_collected from) (Collect ticket from answer) before
+    (skip_collect home number ticket from answer before) (λ same. rw same (collected_told home number from answer before)) (recount home earlier number lawful.0)
+recount home (Finish ticket answer ∷ earlier) number lawful =
+    let table = tickets_after home earlier in
+    finished_told home table ticket number (is_done_at table ticket) answer (opening_of earlier number) lawful.1.1 (recount home earlier number lawful.0)
