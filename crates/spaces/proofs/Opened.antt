@@ -1,0 +1,93 @@
+-- The words at the opening, and what a memory just opened keeps.
+use Rattle.std.proofs.Common.{◌≡◌, ℕ, zero, suc, ◌+◌, ◌*◌, ◌/◌, ◌%◌, ◌<◌, ◌≤◌, Bool, true, false, cond, Some, None, List, [], ◌∷◌, length, length-append, replicate, map, ◌∙◌, ap, refl, inl, inr, arith}
+use Rattle.std.specs.Prelude.{nat_le, nat_lt, slice_get, slice_index}
+use borrow.Author.Tests.{ltb-true, leb-true}
+use Rattle.std.proofs.lemmas.Bool.{and_parts, cases_lt}
+use Rattle.std.proofs.lemmas.List.{length-map, length-replicate}
+use Rattle.std.proofs.lemmas.List.Elements.{All-map}
+use Rattle.pte.specs.Address.{table_length}
+use Rattle.spaces.specs.declared.configuration.Config.{Config}
+use Rattle.spaces.specs.declared.configuration.Space.{Space}
+use Rattle.spaces.proofs.Lists.{slice_get-front, slice_get-last}
+use Rattle.spaces.specs.Layout.{Layout, layout_of, frame_count, is_frame}
+use Rattle.spaces.specs.Limits.{MeetsLimits, max_frames}
+use Rattle.spaces.specs.Opening.{first_word, first_words, is_word, opening}
+use Rattle.spaces.specs.Held.{Held, IsLayout, IsMemory, word_index, words_of}
+
+pub length-first_words : (l : Layout) (n : ℕ) → length (first_words l n) ≡ n
+length-first_words l zero = refl
+length-first_words l (suc n) =
+    let more = length-append (first_words l n) (first_word l (l.base + n / table_length) (n % table_length) ∷ []) in
+    let old = length-first_words l n in
+    omega arith
+
+pub slice_get-first_words : (l : Layout) (n k : ℕ) → k < n → slice_get (first_words l n) k ≡ Some (first_word l (l.base + k / table_length) (k % table_length))
+slice_get-first_words l zero k h = absurd (omega arith)
+slice_get-first_words l (suc n) k h =
+    let all = length-first_words l n in
+    elim (cases_lt k n) [
+      | inl less ↦ slice_get-front (first_words l n) _ k (omega arith) ∙ slice_get-first_words l n k less
+      | inr more ↦
+          let last : n ≡ k = omega arith in
+          slice_get-last (first_words l n) _ k (omega arith) ∙ ap (λ m. Some (first_word l (l.base + m / table_length) (m % table_length))) last
+    ]
+
+pub words-open : (l : Layout) (used : List ℕ) (ppn i : ℕ) → words_of (record { layout = l; words = first_words l (frame_count l * table_length); used = used }) ppn i ≡ opening l ppn i
+unfolding words_of
+words-open l used ppn i = by_test (is_word l ppn i) refl
+  where
+    there : is_word l ppn i ≡ true → slice_get (first_words l (frame_count l * table_length)) (word_index l ppn i) ≡ Some (first_word l ppn i)
+    there h =
+        let parts = and_parts (is_frame l ppn) (nat_lt i table_length) h in
+        let frame = and_parts (nat_le l.base ppn) (nat_lt ppn (l.base + frame_count l)) parts.0 in
+        let from : l.base ≤ ppn = leb-true l.base ppn frame.0 in
+        let below : ppn < l.base + frame_count l = ltb-true ppn (l.base + frame_count l) frame.1 in
+        let index : i < table_length = ltb-true i table_length parts.1 in
+        let table : l.base + word_index l ppn i / table_length ≡ ppn = omega arith in
+        let place : word_index l ppn i % table_length ≡ i = omega arith in
+        slice_get-first_words l (frame_count l * table_length) (word_index l ppn i) (omega arith)
+        ∙ ap (λ f. Some (first_word l f (word_index l ppn i % table_length))) table ∙ ap (λ n. Some (first_word l ppn n)) place
+
+    by_test : (b : Bool) → is_word l ppn i ≡ b → cond b (slice_get (first_words l (frame_count l * table_length)) (word_index l ppn i)) None ≡ cond b (Some (first_word l ppn i)) None
+    by_test true h = there h
+    by_test false h = refl
+
+pub layout-meets : (c : Config) → MeetsLimits max_frames c → IsLayout (layout_of c)
+layout-meets c h = record {
+  some_space = omega (arith, h.some_space, length-map {A = Space} {B = ℕ});
+  spaces = omega (arith, h.spaces, length-map {A = Space} {B = ℕ});
+  harts = omega (arith, h.spares, h.harts);
+  homes = All-map (λ home. home < length c.spares.items) (λ s. s.home) c.spaces.items (λ k d less. omega (arith, h.homes k d less, h.spares));
+  some_window = h.some_window;
+  window = h.window;
+  frames_fit = h.frames_fit;
+  ppns_fit = h.ppns_fit;
+}
+
+pub memory-open : (c : Config) → MeetsLimits max_frames c → IsMemory (record { layout = layout_of c; words = first_words (layout_of c) (frame_count (layout_of c) * table_length); used = replicate (length c.spares.items) 0 })
+memory-open c h = record {
+  layout = layout-meets c h;
+  words = length-first_words (layout_of c) _;
+  used = length-replicate _ 0;
+  room = λ k less. omega (arith, get_or-replicate (length c.spares.items) k);
+}
+  where
+    get_or-replicate : (n k : ℕ) → slice_index (replicate n 0) k ≡ 0
+    get_or-replicate zero k = refl
+    get_or-replicate (suc n) zero = refl
+    get_or-replicate (suc n) (suc k) = get_or-replicate n k
+
+abbrev pub made : Config → List ℕ → List ℕ → List ℕ → List ℕ → Held
+made c homes spares words used = record { layout = record { window = c.window; base = c.base; homes = homes; spares = spares }; words = words; used = used }
+
+abbrev pub opened : Config → Held
+opened c = record { layout = layout_of c; words = first_words (layout_of c) (frame_count (layout_of c) * table_length); used = replicate (length c.spares.items) 0 }
+
+-- the fields that open puts together
+pub opened-is : (c : Config) (homes spares words used : List ℕ) → homes ≡ map (λ s. s.home) c.spaces.items → spares ≡ c.spares.items
+    → words ≡ first_words (layout_of c) (frame_count (layout_of c) * table_length) → used ≡ replicate (length c.spares.items) 0
+    → made c homes spares words used ≡ opened c
+opened-is c homes spares words used h s w u =
+    ap (λ x. made c x spares words used) h ∙ ap (λ x. made c (map (λ s. s.home) c.spaces.items) x words used) s
+    ∙ ap (λ x. made c (map (λ s. s.home) c.spaces.items) c.spares.items x used) w
+    ∙ ap (λ x. made c (map (λ s. s.home) c.spaces.items) c.spares.items (first_words (layout_of c) (frame_count (layout_of c) * table_length)) x) u

@@ -1,0 +1,23 @@
+use Rattle.std.proofs.Common.{◌≡◌, sym, ◌∙◌, ap, subst, map, replicate, rules}
+use Rattle.spaces.specs.Limits.{MeetsLimits, max_frames}
+use Rattle.spaces.specs.Layout.{layout_of}
+use Rattle.spaces.specs.Held.{IsMemory, words_of}
+use Rattle.spaces.proofs.Opened.{made, memory-open, words-open, opened, opened-is}
+use Rattle.spaces.proofs.frames.Memory.open.Goals as goal
+use Rattle.spaces.proofs.frames.Memory.open.Goals.{After-zeros}
+
+is_opened : (c : After-zeros) → made c.args.config.now c.homes_of.result.items c.copy_of.result.items c.in_ok-words.words.items c.zeros.result.items ≡ opened c.args.config.now
+is_opened c =
+    opened-is c.args.config.now c.homes_of.result.items c.copy_of.result.items c.in_ok-words.words.items c.zeros.result.items
+    (c.homes_of.ensures ∙ ap (map (λ s. s.home)) c.deref.ensures.0) (c.copy_of.ensures ∙ c.deref-2.ensures.0) c.in_ok-words.ensures
+    (c.zeros.ensures ∙ ap (λ n. replicate n 0) c.len.ensures.value)
+
+limits : (c : After-zeros) → MeetsLimits max_frames c.args.config.now
+limits c = search rules
+
+pub invariant_of-result : goal.invariant_of-result
+invariant_of-result c = subst IsMemory (sym (is_opened c)) (memory-open c.args.config.now (limits c))
+
+pub returns-clause-words : goal.returns-clause-words
+returns-clause-words c ppn i =
+    ap (λ m. words_of m ppn i) (is_opened c) ∙ words-open (layout_of c.args.config.now) _ ppn i

@@ -1,0 +1,157 @@
+-- Which store is due to map, unmap or protect a page, or why it is refused.
+use Rattle.std.specs.Prelude.{ℕ, Bool, zero, suc, ◌+◌, ◌-◌, ◌%◌, ◌^◌, ◌==◌, ◌||◌, not, nat_le, nat_lt, if◌then◌else◌, true, false, Option, Some, None, Result, Ok, Err, unwrap_or}
+use Rattle.pte.specs.declared.flags.PteFlags.{PteFlags}
+use Rattle.pte.specs.declared.entry.Kind.{Kind}
+use Rattle.pte.specs.declared.entry.Kind.TheVariants as kinds
+use Rattle.pte.specs.Address.{Span, top_level, level_of, pages_of, vpn_of}
+use Rattle.pte.specs.Entry.{kind_of, ppn_bits, table_word, leaf_word, is_no_leaf, is_global}
+use Rattle.walk.specs.Leads.{Tables, word_at}
+use Rattle.spaces.specs.declared.places.Place.{Place}
+use Rattle.spaces.specs.declared.places.Place.TheVariants.{Space, Kernel}
+use Rattle.spaces.specs.declared.wishes.Wish.{Wish}
+use Rattle.spaces.specs.declared.wishes.Wish.TheVariants.{Map, Unmap, Protect}
+use Rattle.spaces.specs.declared.faults.MapFault.{MapFault}
+use Rattle.spaces.specs.declared.faults.MapFault.TheVariants.{NotHome, WrongHalf, BadFlags, PpnTooLarge, Misaligned, LeafInWay, NoFrame, AlreadyMapped, TableInWay, NotMapped, WrongSize}
+use Rattle.spaces.specs.declared.wishes.PathEnd.{PathEnd}
+use Rattle.spaces.specs.Layout.{Layout, home_of, root_ppn, user_slots, first_window_slot}
+
+-- one store, by a hart: the table, the index of the word, and the new word
+pub record Store : Type 0 where
+  pub hart : ℕ
+  pub ppn : ℕ
+  pub index : ℕ
+  pub word : ℕ
+
+abbrev pub place_of : Wish → Place
+place_of (Map place page ppn flags) = place
+place_of (Unmap place page) = place
+place_of (Protect place page flags) = place
+
+abbrev pub page_of : Wish → Span
+page_of (Map place page ppn flags) = page
+page_of (Unmap place page) = page
+page_of (Protect place page flags) = page
+
+abbrev pub is_kernel : Place → Bool
+is_kernel (Space s) = false
+is_kernel Kernel = true
+
+-- the slot of the root that the page lies in
+abbrev pub root_slot : Span → ℕ
+root_slot page = vpn_of page.base top_level
+
+-- a page of a space outside the user's half, or of the kernel outside the window
+abbrev pub is_wrong_half : Layout → Place → Span → Bool
+is_wrong_half l (Space s) page = nat_le user_slots (root_slot page)
+is_wrong_half l Kernel page = nat_lt (root_slot page) (first_window_slot l)
+
+-- flags of no leaf, or G set for a space or clear for the kernel
+abbrev pub is_wrong_global : Place → PteFlags → Bool
+is_wrong_global (Space s) flags = is_global flags.0
+is_wrong_global Kernel flags = not (is_global flags.0)
+
+abbrev pub is_bad : Place → PteFlags → Bool
+is_bad place flags = is_no_leaf flags.0 || is_wrong_global place flags
+
+-- the PPN is no multiple of the page's size in pages
+abbrev pub is_misaligned : Span → ℕ → Bool
+is_misaligned page ppn = not (ppn % pages_of page.size == 0)
+
+-- what is wrong with the flags and the PPN that are wished
+abbrev pub leaf_fault : Wish → Option MapFault
+leaf_fault (Map place page ppn flags) =
+    if is_bad place flags then Some BadFlags
+    else if nat_le (2 ^ ppn_bits) ppn then Some PpnTooLarge
+    else if is_misaligned page ppn then Some Misaligned
+    else None
+leaf_fault (Unmap place page) = None
+leaf_fault (Protect place page flags) = if is_bad place flags then Some BadFlags else None
+
+-- what is wrong before any table is read
+unfoldable pub wish_fault : Layout → ℕ → Wish → Option MapFault
+wish_fault l hart wish =
+    if not (hart == home_of l (place_of wish)) then Some NotHome
+    else if is_wrong_half l (place_of wish) (page_of wish) then Some WrongHalf
+    else leaf_fault wish
+
+-- where a path ends: a word of a table of a level, which is 0 outside memory
+abbrev pub end_at : Tables → ℕ → ℕ → ℕ → PathEnd
+end_at words va level table = record { level = level; table = table; entry = unwrap_or (word_at words va level table) 0 }
+
+-- a path goes on at a pointer
+abbrev pub go_on : Kind → (ℕ → PathEnd) → PathEnd → PathEnd
+go_on (kinds.Table ppn global) below here = below ppn
+go_on kinds.Invalid below here = here
+go_on kinds.Reserved below here = here
+go_on (kinds.Leaf ppn flags) below here = here
+
+-- the end of the path of an address from a table that is this many levels above the lowest level that is looked at
+unfoldable pub path_end : Tables → ℕ → ℕ → ℕ → ℕ → PathEnd
+path_end words va lowest zero table = end_at words va lowest table
+path_end words va lowest (suc n) table =
+    go_on (kind_of (end_at words va (lowest + suc n) table).entry) (path_end words va lowest n) (end_at words va (lowest + suc n) table)
+
+-- the root that a page's path starts at; the kernel's tables are below each root
+abbrev pub path_root : Layout → Place → ℕ
+path_root l (Space s) = root_ppn l s
+path_root l Kernel = root_ppn l 0
+
+-- the word that is due at the page's own level, by what stands there
+abbrev pub page_word : Wish → Kind → Result ℕ MapFault
+page_word (Map place page ppn flags) kinds.Invalid = Ok (leaf_word ppn flags)
+page_word (Map place page ppn flags) kinds.Reserved = Ok (leaf_word ppn flags)
+page_word (Map place page ppn flags) (kinds.Table q g) = Err TableInWay
+page_word (Map place page ppn flags) (kinds.Leaf q f) = Err AlreadyMapped
+page_word (Unmap place page) kinds.Invalid = Err NotMapped
+page_word (Unmap place page) kinds.Reserved = Err NotMapped
+page_word (Unmap place page) (kinds.Table q g) = Err WrongSize
+page_word (Unmap place page) (kinds.Leaf q f) = Ok 0
+page_word (Protect place page flags) kinds.Invalid = Err NotMapped
+page_word (Protect place page flags) kinds.Reserved = Err NotMapped
+page_word (Protect place page flags) (kinds.Table q g) = Err WrongSize
+page_word (Protect place page flags) (kinds.Leaf q f) = Ok (leaf_word q flags)
+
+-- a pointer to the lowest unused spare frame
+abbrev pub pointer_word : Place → Option ℕ → Result ℕ MapFault
+pointer_word place (Some frame) = Ok (table_word frame (is_kernel place))
+pointer_word place None = Err NoFrame
+
+-- the word that is due above the page's level, by what stands there
+abbrev pub upper_word : Wish → Option ℕ → Kind → Result ℕ MapFault
+upper_word (Map place page ppn flags) spare (kinds.Leaf q f) = Err LeafInWay
+upper_word (Map place page ppn flags) spare kinds.Invalid = pointer_word place spare
+upper_word (Map place page ppn flags) spare kinds.Reserved = pointer_word place spare
+upper_word (Map place page ppn flags) spare (kinds.Table q g) = pointer_word place spare
+upper_word (Unmap place page) spare (kinds.Leaf q f) = Err WrongSize
+upper_word (Unmap place page) spare kinds.Invalid = Err NotMapped
+upper_word (Unmap place page) spare kinds.Reserved = Err NotMapped
+upper_word (Unmap place page) spare (kinds.Table q g) = Err NotMapped
+upper_word (Protect place page flags) spare (kinds.Leaf q f) = Err WrongSize
+upper_word (Protect place page flags) spare kinds.Invalid = Err NotMapped
+upper_word (Protect place page flags) spare kinds.Reserved = Err NotMapped
+upper_word (Protect place page flags) spare (kinds.Table q g) = Err NotMapped
+
+abbrev pub due_word : Wish → Option ℕ → PathEnd → Result ℕ MapFault
+due_word wish spare end =
+    if end.level == level_of (page_of wish).size then page_word wish (kind_of end.entry) else upper_word wish spare (kind_of end.entry)
+
+abbrev pub store_at : ℕ → ℕ → PathEnd → Result ℕ MapFault → Result Store MapFault
+store_at hart va end (Ok word) = Ok (record { hart = hart; ppn = end.table; index = vpn_of va end.level; word = word })
+store_at hart va end (Err fault) = Err fault
+
+-- the store that is due at the end of the path, by the lowest unused spare frame of the home
+abbrev pub store_due : ℕ → Wish → Option ℕ → PathEnd → Result Store MapFault
+store_due hart wish spare end = store_at hart (page_of wish).base end (due_word wish spare end)
+
+abbrev pub unless : Option MapFault → Result Store MapFault → Result Store MapFault
+unless None r = r
+unless (Some fault) r = Err fault
+
+-- the end of the path of the wished page
+abbrev pub wish_end : Layout → Tables → Wish → PathEnd
+wish_end l words wish =
+    path_end words (page_of wish).base (level_of (page_of wish).size) (top_level - level_of (page_of wish).size) (path_root l (place_of wish))
+
+-- the store that is due, or the first fault
+unfoldable pub edit_of : Layout → Tables → Option ℕ → ℕ → Wish → Result Store MapFault
+edit_of l words spare hart wish = unless (wish_fault l hart wish) (store_due hart wish spare (wish_end l words wish))

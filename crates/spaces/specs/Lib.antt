@@ -1,0 +1,5 @@
+pub mod Layout
+pub mod Limits
+pub mod Opening
+pub mod Edits
+pub mod Held

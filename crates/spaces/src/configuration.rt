@@ -1,0 +1,134 @@
+//! What memory is opened with, and its limits.
+
+ghost use Rattle.std.specs.Prelude.{◌≡◌, ◌+◌, ◌≤◌, ◌<◌, ◌^◌, ◌↔◌, IsTrue, ◌==◌, All, length, sum};
+ghost use Rattle.std.specs.List.{list_any};
+ghost use Rattle.spaces.specs.Limits.{asids_differ};
+
+use arrayvec::ArrayVec;
+use pte::PPN_BITS;
+
+/// How many harts there may be.
+pub const MAX_HARTS: usize = 8;
+
+/// How many spaces there may be.
+pub const MAX_SPACES: usize = 32;
+
+/// How many slots the kernel window may have.
+pub const MAX_WINDOW: u16 = 4;
+
+/// How many table frames there may be.
+pub const MAX_FRAMES: u64 = 512;
+
+/// How many table frames there may be for harts on threads.
+pub const MAX_LIVE_FRAMES: u64 = 96;
+
+/// How many requests of a pair of harts may be accepted and not collected.
+pub const MAX_CAPACITY: u16 = 64;
+
+/// An address space: the hart that alone stores to its tables, and its ASID.
+#[derive(Clone, Copy, PartialEq, Eq, Debug, Default)]
+pub struct Space {
+    pub home: u8,
+    pub asid: u16,
+}
+
+/// What memory is opened with.
+#[derive(Drop)]
+pub struct Config {
+    /// The number of harts, from 1 to 8.
+    pub harts: u16,
+    /// The spaces, at least one, with homes below the number of harts and different ASIDs.
+    pub spaces: ArrayVec<Space, 32>,
+    /// How many of the last slots of each root are the kernel window, from 1 to 4.
+    pub window: u16,
+    /// The PPN of the first table frame.
+    pub base: u64,
+    /// How many spare frames for new tables each hart has.
+    pub spares: ArrayVec<u16, 8>,
+    /// The capacity of each mailbox, from 1 to 64.
+    pub capacity: u16,
+}
+
+pub(crate) fn total(spares: &[u16]) -> u64
+    requires { length spares.now ≤ 8 }
+    ensures value { result ≡ sum spares.now }
+    ensures bound { result < 2 ^ 32 }
+{
+    spares.iter().map(|n| u64::from(*n)).sum()
+}
+
+fn has_asid(spaces: &[Space], asid: u16) -> bool
+    ensures { result ≡ list_any (λ s. s.asid == asid) spaces.now }
+{
+    spaces.iter().any(|space| space.asid == asid)
+}
+
+/// Whether no two spaces have one ASID.
+fn asids_differ(spaces: &[Space]) -> bool
+    ensures { result ≡ asids_differ spaces.now }
+{
+    match spaces {
+        [] => true,
+        [first, rest @ ..] => !has_asid(rest, first.asid) && asids_differ(rest),
+    }
+}
+
+impl Config {
+    ghost use Rattle.pte.specs.Entry.{ppn_bits};
+    ghost use Rattle.spaces.specs.Layout.{layout_of, frame_count};
+    ghost use Rattle.spaces.specs.Limits.{max_frames, max_live_frames, MeetsLimits};
+
+    /// Whether the limits hold, with at most 512 table frames.
+    pub fn check(&self) -> bool
+        ensures { IsTrue result ↔ MeetsLimits max_frames self.now }
+    {
+        self.meets_limits(MAX_FRAMES)
+    }
+
+    /// Whether the limits hold, with at most 96 table frames.
+    pub fn check_live(&self) -> bool
+        ensures { IsTrue result ↔ MeetsLimits max_live_frames self.now }
+    {
+        self.meets_limits(MAX_LIVE_FRAMES)
+    }
+
+    /// The number of table frames.
+    pub(crate) fn frame_count(&self) -> u64
+        ensures { result ≡ frame_count (layout_of self.now) }
+    {
+        u64::from(self.window) + self.spaces.len() as u64 + total(&self.spares)
+    }
+
+    fn homes_are_there(&self) -> bool
+        ensures { IsTrue result ↔ All (λ s. s.home < self.now.harts) self.now.spaces.items }
+    {
+        self.spaces
+            .iter()
+            .all(|space| u16::from(space.home) < self.harts)
+    }
+
+    /// Whether the frames are at most so many, and their PPNs below 2^44.
+    fn frames_fit(&self, frames: u64) -> bool
+        requires { frames ≤ max_frames }
+        ensures { IsTrue result ↔ (frame_count (layout_of self.now) ≤ frames)
+            × (self.now.base + frame_count (layout_of self.now) ≤ 2 ^ ppn_bits) }
+    {
+        let count = self.frame_count();
+        count <= frames && self.base <= (1 << PPN_BITS) - count
+    }
+
+    fn meets_limits(&self, frames: u64) -> bool
+        requires { frames ≤ max_frames }
+        ensures { IsTrue result ↔ MeetsLimits frames self.now }
+    {
+        let spaces = self.spaces.len();
+        (1..=MAX_HARTS).contains(&usize::from(self.harts))
+            && 1 <= spaces
+            && (1..=MAX_WINDOW).contains(&self.window)
+            && (1..=MAX_CAPACITY).contains(&self.capacity)
+            && self.spares.len() == usize::from(self.harts)
+            && self.homes_are_there()
+            && asids_differ(&self.spaces)
+            && self.frames_fit(frames)
+    }
+}

@@ -1,0 +1,176 @@
+//! Edits: the one store that maps, unmaps or protects a page.
+
+ghost use Rattle.std.specs.Prelude.{◌≡◌, ◌<◌, ◌^◌, ◌-◌, ◌≤◌, IfNone, None};
+ghost use Rattle.pte.specs.Address.{table_length, top_level};
+ghost use Rattle.pte.specs.Entry.{ppn_bits};
+ghost use Rattle.spaces.specs.Layout.{HasPlace};
+ghost use Rattle.spaces.specs.Held.{spare_of, words_of};
+ghost use Rattle.spaces.specs.Edits.{edit_of, leaf_fault, path_end, path_root, place_of, wish_fault};
+ghost use Rattle.spaces.specs.declared.wishes.Wish.TheVariants as wish;
+
+use crate::faults::MapFault;
+use crate::frames::Memory;
+use crate::places::Place;
+use crate::wishes::{PathEnd, Wish};
+use pte::{Kind, Page, Pte, PteFlags, TOP_LEVEL, VirtAddr};
+use std::marker::Model;
+use walk::Words;
+
+/// One store of a word of a table, by a hart.
+#[derive(Clone, Copy, PartialEq, Eq, Debug)]
+pub struct Edit {
+    hart: u8,
+    ppn: u64,
+    index: u16,
+    word: u64,
+}
+
+impl Model for Edit {
+    ghost use Rattle.spaces.specs.Edits.{Store};
+
+    ghost Value = { Store };
+
+    ghost view = { λ e. record { hart = e.hart; ppn = e.ppn; index = e.index; word = e.word } };
+
+    ghost inverse = { λ s. record { hart = s.hart; ppn = s.ppn; index = s.index; word = s.word } };
+}
+
+impl Edit {
+    /// The PPN of the table.
+    pub fn ppn(&self) -> u64
+        ensures { result ≡ self.now.ppn }
+    {
+        self.ppn
+    }
+
+    /// The index of the word in its table.
+    pub fn index(&self) -> u16
+        ensures { result ≡ self.now.index }
+    {
+        self.index
+    }
+
+    /// The word that is stored.
+    pub fn word(&self) -> u64
+        ensures { result ≡ self.now.word }
+    {
+        self.word
+    }
+}
+
+/// Where the path of an address ends, which is looked at down to a level.
+fn path_end(memory: &Memory, va: VirtAddr, lowest: u8, root: u64) -> PathEnd
+    requires { lowest ≤ top_level }
+    ensures value { result ≡ path_end (words_of memory.now) va lowest (top_level - lowest) root }
+    ensures range { result.level ≤ top_level }
+{
+    let mut level = TOP_LEVEL;
+    let mut table = root;
+    loop {
+        let entry = memory.word(table, va.vpn(level)).unwrap_or(0);
+        if level == lowest {
+            return PathEnd {
+                level,
+                table,
+                entry,
+            };
+        }
+        match Pte(entry).kind() {
+            Kind::Table { ppn, .. } => {
+                table = ppn;
+                level -= 1;
+            }
+            Kind::Invalid | Kind::Reserved | Kind::Leaf { .. } => {
+                return PathEnd {
+                    level,
+                    table,
+                    entry,
+                };
+            }
+        }
+    }
+}
+
+/// What is wrong before any table is read.
+#[tactic(auto, unfolding(crate::specs::Edits::wish_fault))]
+fn wish_fault(memory: &Memory, hart: u8, wish: &Wish) -> Option<MapFault>
+    requires { HasPlace memory.now.layout (place_of wish.now) }
+    ensures value { result ≡ wish_fault memory.now.layout hart wish.now }
+    ensures leaf { IfNone result (leaf_fault wish.now ≡ None) }
+{
+    if hart != memory.home(wish.place()) {
+        return Some(MapFault::NotHome);
+    }
+    if memory.is_wrong_half(wish.place(), wish.page()) {
+        return Some(MapFault::WrongHalf);
+    }
+    wish.leaf_fault()
+}
+
+/// The store that is due, or why none is.
+#[tactic(auto, unfolding(crate::specs::Edits::edit_of))]
+fn edit_due(memory: &Memory, hart: u8, wish: &Wish) -> Result<Edit, MapFault>
+    requires { HasPlace memory.now.layout (place_of wish.now) }
+    ensures { result ≡ edit_of memory.now.layout (words_of memory.now) (spare_of memory.now hart) hart wish.now }
+{
+    if let Some(fault) = wish_fault(memory, hart, wish) {
+        return Err(fault);
+    }
+    let page = wish.page();
+    let va = page.base();
+    let end = path_end(memory, va, wish.level(), memory.path_root(wish.place()));
+    let word = wish.due_word(memory.spare(hart), &end)?;
+    Ok(Edit {
+        hart,
+        ppn: end.table,
+        index: va.vpn(end.level),
+        word,
+    })
+}
+
+/// The one store that is due next to map the page to the PPN with these flags: a pointer where a table is missing, which
+/// takes the lowest unused spare frame of the home, else the leaf. The refusals are tested in the order of `MapFault`.
+pub fn next_map_edit(
+    memory: &Memory,
+    hart: u8,
+    place: Place,
+    page: Page,
+    ppn: u64,
+    flags: PteFlags,
+) -> Result<Edit, MapFault>
+    requires { HasPlace memory.now.layout place }
+    ensures { result ≡ edit_of memory.now.layout (words_of memory.now) (spare_of memory.now hart) hart (wish.Map place page ppn flags) }
+{
+    edit_due(
+        memory,
+        hart,
+        &Wish::Map {
+            place,
+            page,
+            ppn,
+            flags,
+        },
+    )
+}
+
+/// The one store that unmaps the page: 0 in the place of its leaf.
+pub fn unmap_edit(memory: &Memory, hart: u8, place: Place, page: Page) -> Result<Edit, MapFault>
+    requires { HasPlace memory.now.layout place }
+    ensures { result ≡ edit_of memory.now.layout (words_of memory.now) (spare_of memory.now hart) hart (wish.Unmap place page) }
+{
+    edit_due(memory, hart, &Wish::Unmap { place, page })
+}
+
+/// The one store that gives the page's leaf other flags, and keeps its PPN.
+pub fn protect_edit(
+    memory: &Memory,
+    hart: u8,
+    place: Place,
+    page: Page,
+    flags: PteFlags,
+) -> Result<Edit, MapFault>
+    requires { HasPlace memory.now.layout place }
+    ensures { result ≡ edit_of memory.now.layout (words_of memory.now) (spare_of memory.now hart) hart (wish.Protect place page flags) }
+{
+    edit_due(memory, hart, &Wish::Protect { place, page, flags })
+}

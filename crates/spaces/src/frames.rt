@@ -1,0 +1,245 @@
+//! Table memory.
+
+ghost use Rattle.std.specs.Prelude.{◌≡◌, ◌+◌, ◌*◌, ◌<◌, ◌≤◌, ◌^◌, ◌↔◌, IsTrue, IfOk, IfSome, length, map, slice_index, slice_get, sum, take, Some, None, replicate, ℕ, if◌then◌else◌};
+ghost use Rattle.pte.specs.Address.{table_length};
+ghost use Rattle.pte.specs.Entry.{ppn_bits};
+ghost use Rattle.spaces.specs.Layout.{frame_count, HasPlace, home_of, layout_of, root_ppn};
+ghost use Rattle.spaces.specs.Limits.{max_frames, MeetsLimits};
+ghost use Rattle.spaces.specs.Opening.{first_word, first_words, is_word, opening};
+ghost use Rattle.spaces.specs.Edits.{is_wrong_half, path_root};
+ghost use Rattle.spaces.specs.Held.{spare_of, word_index, words_of};
+
+use crate::configuration::{Config, Space, total};
+use crate::faults::OpenFault;
+use crate::places::Place;
+use arrayvec::ArrayVec;
+use pte::{Page, Pte, TABLE_LENGTH, TOP_LEVEL};
+use std::alloc::{AllocError, Global};
+use std::marker::Model;
+use walk::Words;
+
+/// How many of a root's slots are the user's half.
+const USER_SLOTS: u16 = TABLE_LENGTH / 2;
+
+/// Table memory: the words of the tables of all spaces, which are at home on the harts.
+#[derive(Drop)]
+pub struct Memory {
+    window: u16,
+    base: u64,
+    homes: ArrayVec<u8, 32>,
+    spares: ArrayVec<u16, 8>,
+    used: ArrayVec<u16, 8>,
+    words: Vec<u64>,
+}
+
+impl Model for Memory {
+    ghost use Rattle.spaces.specs.Held.{Held, IsMemory};
+
+    ghost Value = { Held };
+
+    ghost view = { λ m. record {
+      layout = record { window = m.window; base = m.base; homes = m.homes.items; spares = m.spares.items };
+      words = m.words.items;
+      used = m.used.items;
+    } };
+
+    ghost invariant = { λ m. IsMemory (record {
+      layout = record { window = m.window; base = m.base; homes = m.homes.items; spares = m.spares.items };
+      words = m.words.items;
+      used = m.used.items;
+    }) };
+}
+
+/// The homes of the spaces.
+fn homes_of(spaces: &[Space]) -> ArrayVec<u8, 32>
+    requires { length spaces.now ≤ 32 }
+    ensures { result.items ≡ map (λ s. s.home) spaces.now }
+{
+    let mut homes = ArrayVec::new();
+    for space in spaces {
+        homes.push(space.home);
+    }
+    homes
+}
+
+/// The spare frames of each hart.
+fn copy_of(spares: &[u16]) -> ArrayVec<u16, 8>
+    requires { length spares.now ≤ 8 }
+    ensures { result.items ≡ spares.now }
+{
+    let mut copy = ArrayVec::new();
+    for spare in spares {
+        copy.push(*spare);
+    }
+    copy
+}
+
+/// As many zeros.
+fn zeros(count: usize) -> ArrayVec<u16, 8>
+    requires { count ≤ 8 }
+    ensures { result.items ≡ replicate count 0 }
+{
+    let mut zeros = ArrayVec::new();
+    for _ in 0..count {
+        zeros.push(0);
+    }
+    zeros
+}
+
+/// The words of all frames at the opening, frame by frame.
+fn first_words(alloc: Global, config: &Config) -> Result<Vec<u64>, AllocError>
+    requires { MeetsLimits max_frames config.now }
+    ensures { IfOk result (λ words. words.items ≡ first_words (layout_of config.now) (frame_count (layout_of config.now) * table_length)) }
+{
+    let count = config.frame_count() * u64::from(TABLE_LENGTH);
+    let mut words = Vec::with_capacity(alloc, count as usize)?;
+    for at in 0..count {
+        let ppn = config.base + at / u64::from(TABLE_LENGTH);
+        let index = (at % u64::from(TABLE_LENGTH)) as u16;
+        words.push(first_word(config, ppn, index))?;
+    }
+    Ok(words)
+}
+
+/// A word at the opening.
+fn first_word(config: &Config, ppn: u64, index: u16) -> u64
+    requires limits { MeetsLimits max_frames config.now }
+    requires index { index < table_length }
+    ensures { result ≡ first_word (layout_of config.now) ppn index }
+{
+    let roots = config.base + u64::from(config.window);
+    let first_slot = TABLE_LENGTH - config.window;
+    let is_root = roots <= ppn && ppn < roots + config.spaces.len() as u64;
+    if is_root && first_slot <= index {
+        Pte::table(config.base + u64::from(index - first_slot), true).0
+    } else {
+        0
+    }
+}
+
+impl Memory {
+    ghost use Rattle.std.specs.Prelude.{OnOk, Err};
+
+    /// The memory of a configuration, with all the room that it ever takes. Its words are 0 but for the window's slots of
+    /// each root. `BadLayout` exactly if `Config::check` says no, `NoMemory` if the words cannot be allocated.
+    pub fn open(alloc: Global, config: &Config) -> Result<Memory, OpenFault>
+        ensures bad_layout { (result ≡ Err OpenFault.BadLayout) ↔ (¬ MeetsLimits max_frames config.now) }
+        ensures limits { OnOk result (MeetsLimits max_frames config.now) }
+        ensures layout { IfOk result (λ memory. memory.layout ≡ layout_of config.now) }
+        ensures words { IfOk result (λ memory. (ppn i : ℕ) → words_of memory ppn i ≡ opening (layout_of config.now) ppn i) }
+        ensures used { IfOk result (λ memory. memory.used ≡ replicate (length config.now.spares.items) 0) }
+    {
+        if !config.check() {
+            return Err(OpenFault::BadLayout);
+        }
+        let words = first_words(alloc, config)?;
+        Ok(Memory {
+            window: config.window,
+            base: config.base,
+            homes: homes_of(&config.spaces),
+            spares: copy_of(&config.spares),
+            used: zeros(config.spares.len()),
+            words,
+        })
+    }
+
+    /// How many frames there are.
+    fn frame_count(&self) -> u64
+        ensures { result ≡ frame_count self.now.layout }
+    {
+        (self.words.len() / usize::from(TABLE_LENGTH)) as u64
+    }
+
+    /// Where a word stands, if it is there.
+    fn word_index(&self, ppn: u64, index: u16) -> Option<usize>
+        ensures { result ≡ (if is_word self.now.layout ppn index then Some (word_index self.now.layout ppn index) else None) }
+    {
+        let is_word = self.base <= ppn
+            && ppn < self.base + self.frame_count()
+            && index < TABLE_LENGTH;
+        if is_word {
+            Some(((ppn - self.base) * u64::from(TABLE_LENGTH) + u64::from(index)) as usize)
+        } else {
+            None
+        }
+    }
+
+    /// Whether the place is there.
+    pub fn has(&self, place: Place) -> bool
+        ensures { IsTrue result ↔ HasPlace self.now.layout place }
+    {
+        match place {
+            Place::Space(space) => usize::from(space) < self.homes.len(),
+            Place::Kernel => true,
+        }
+    }
+
+    /// The PPN of the root of a space.
+    pub fn root(&self, space: u8) -> u64
+        requires { space < length self.now.layout.homes }
+        ensures value { result ≡ root_ppn self.now.layout space }
+        ensures range { result < 2 ^ ppn_bits }
+    {
+        self.base + u64::from(self.window) + u64::from(space)
+    }
+
+    /// The home of a place.
+    pub(crate) fn home(&self, place: Place) -> u8
+        requires { HasPlace self.now.layout place }
+        ensures { result ≡ home_of self.now.layout place }
+    {
+        match place {
+            Place::Space(space) => self.homes[usize::from(space)],
+            Place::Kernel => 0,
+        }
+    }
+
+    /// Whether the page lies outside the half of the root that the place has.
+    pub(crate) fn is_wrong_half(&self, place: Place, page: Page) -> bool
+        ensures { result ≡ is_wrong_half self.now.layout place page }
+    {
+        let base = page.base();
+        let slot = base.vpn(TOP_LEVEL);
+        match place {
+            Place::Space(_) => slot >= USER_SLOTS,
+            Place::Kernel => slot < TABLE_LENGTH - self.window,
+        }
+    }
+
+    /// The root that the path of a page starts at.
+    pub(crate) fn path_root(&self, place: Place) -> u64
+        ensures { result ≡ path_root self.now.layout place }
+    {
+        let roots = self.base + u64::from(self.window);
+        match place {
+            Place::Space(space) => roots + u64::from(space),
+            Place::Kernel => roots,
+        }
+    }
+
+    /// The lowest unused spare frame of a hart.
+    pub(crate) fn spare(&self, hart: u8) -> Option<u64>
+        ensures value { result ≡ spare_of self.now hart }
+        ensures range { IfSome result (λ frame. frame < 2 ^ ppn_bits) }
+    {
+        let hart = usize::from(hart);
+        let used = *self.used.get(hart)?;
+        if used >= self.spares[hart] {
+            return None;
+        }
+        let before = u64::from(self.window) + self.homes.len() as u64 + total(&self.spares[..hart]);
+        Some(self.base + before + u64::from(used))
+    }
+}
+
+impl Words for Memory {
+    ghost use Rattle.spaces.specs.Held.{words_of};
+
+    ghost words = { words_of };
+
+    #[tactic(auto, unfolding(crate::specs::Held::words_of))]
+    fn word(&self, ppn: u64, index: u16) -> Option<u64> {
+        let at = self.word_index(ppn, index)?;
+        self.words.get(at).copied()
+    }
+}
