@@ -1,0 +1,12 @@
+pub mod Acknowledgements
+pub mod Due
+pub mod Harts
+pub mod Mailboxes
+pub mod Orders
+pub mod Refusal
+pub mod Runs
+pub mod Service
+pub mod Setup
+pub mod Staleness
+pub mod Tables
+pub mod Turns

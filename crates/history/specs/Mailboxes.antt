@@ -1,0 +1,66 @@
+-- Mailboxes: one for each ordered pair of different harts. What was accepted into it and taken out of it, and the
+-- statements that its order is kept and that nothing is accepted after its close.
+use Rattle.std.specs.Prelude.{ℕ, Bool, true, false, ◌≡◌, ◌&&◌, ◌||◌, List, [], ◌∷◌, ◌++◌, length, drop, map, Option, Some, None, if◌then◌else◌}
+use Rattle.history.specs.Setup.{Setup}
+use Rattle.shoot.specs.Request.{Message}
+use Rattle.history.specs.declared.event.Event.{Event}
+use Rattle.history.specs.declared.event.Event.TheVariants.{Post, Take, Close}
+use Rattle.history.specs.declared.reply.Reply.{Reply}
+use Rattle.history.specs.Turns.{Turn, History, is_ok, taken_request, are_same}
+use Rattle.history.specs.Orders.{open_order, what_of}
+
+-- an accepted post: who sent it, of which order, and the request
+pub record Sent : Type 0 where
+  pub sender : ℕ
+  pub order : ℕ
+  pub request : Message
+
+abbrev pub sent_of : Setup → History → ℕ → ℕ → Option ℕ → List Sent
+sent_of C H sender ticket None = []
+sent_of C H sender ticket (Some k) = record { sender = sender; order = k; request = record { ticket = ticket; what = what_of C H (Some k) } } ∷ []
+
+-- the accepted posts of a pair, the oldest first
+abbrev pub posts_after : Setup → Event → Reply → History → ℕ → ℕ → List Sent → List Sent
+posts_after C (Post hart ticket to) reply H sender receiver old =
+    if is_ok reply && are_same hart to sender receiver then old ++ sent_of C H hart ticket (open_order H hart ticket) else old
+posts_after C _ reply H sender receiver old = old
+
+abbrev pub posts : Setup → History → ℕ → ℕ → List Sent
+posts C [] sender receiver = []
+posts C (turn ∷ H) sender receiver = posts_after C turn.event turn.reply H sender receiver (posts C H sender receiver)
+
+-- the accepted requests of a pair, and those that its receiver took, the oldest first
+abbrev pub accepted : Setup → History → ℕ → ℕ → List Message
+accepted C H sender receiver = map (λ (sent : Sent). sent.request) (posts C H sender receiver)
+
+abbrev pub taken_after : Event → Reply → ℕ → ℕ → List Message → List Message
+taken_after (Take hart from) reply sender receiver old = if are_same from hart sender receiver then old ++ taken_request reply else old
+taken_after _ reply sender receiver old = old
+
+abbrev pub taken : History → ℕ → ℕ → List Message
+taken [] sender receiver = []
+taken (turn ∷ H) sender receiver = taken_after turn.event turn.reply sender receiver (taken H sender receiver)
+
+-- what waits: the accepted requests but for the first, as many as were taken
+abbrev pub waiting : Setup → History → ℕ → ℕ → List Message
+waiting C H sender receiver = drop (length (taken H sender receiver)) (accepted C H sender receiver)
+
+-- a Close of the pair was accepted
+abbrev pub closed_after : Event → Reply → ℕ → ℕ → Bool → Bool
+closed_after (Close hart to) reply sender receiver old = (is_ok reply && are_same hart to sender receiver) || old
+closed_after _ reply sender receiver old = old
+
+abbrev pub is_closed : History → ℕ → ℕ → Bool
+is_closed [] sender receiver = false
+is_closed (turn ∷ H) sender receiver = closed_after turn.event turn.reply sender receiver (is_closed H sender receiver)
+
+-- each mailbox keeps its order: what was accepted is what was taken, followed by what waits
+abbrev pub Mailboxes : Setup → History → Type 0
+Mailboxes C H = (sender receiver : ℕ) → accepted C H sender receiver ≡ taken H sender receiver ++ waiting C H sender receiver
+
+-- no turn after the pair's close adds to what was accepted
+abbrev pub NoneAfterClose : Setup → History → ℕ → ℕ → Type 0
+NoneAfterClose C [] sender receiver = Unit {0}
+NoneAfterClose C (turn ∷ H) sender receiver =
+    (is_closed H sender receiver ≡ true → accepted C (turn ∷ H) sender receiver ≡ accepted C H sender receiver)
+    × NoneAfterClose C H sender receiver

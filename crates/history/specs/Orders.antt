@@ -1,0 +1,90 @@
+-- Orders: what an accepted Unmap, Protect or Flush asks of the harts that it names. An order is known by its place in the
+-- history, the number of turns before it. Its ticket is the number by which its sender speaks of it while it is open.
+use Rattle.std.specs.Prelude.{ℕ, Bool, true, false, ◌==◌, ◌&&◌, List, [], ◌∷◌, length, map, slice_index, Option, Some, None, if◌then◌else◌}
+use Rattle.pte.specs.Address.{Span}
+use Rattle.pte.specs.declared.address.What.{What}
+use Rattle.pte.specs.declared.address.What.TheVariants.{PageOf, SpaceOf, All}
+use Rattle.history.specs.Setup.{Setup, asid_of}
+use Rattle.spaces.specs.declared.places.Place.{Place}
+use Rattle.spaces.specs.declared.places.Place.TheVariants.{Space, Kernel}
+use Rattle.shoot.specs.HartSet.{harts_in}
+use Rattle.history.specs.declared.event.Event.{Event}
+use Rattle.history.specs.declared.event.Event.TheVariants.{Unmap, Protect, Flush, Finish}
+use Rattle.history.specs.declared.event.Scope.{Scope}
+use Rattle.history.specs.declared.event.Scope.TheVariants as scope
+use Rattle.history.specs.declared.reply.Reply.{Reply}
+use Rattle.history.specs.Turns.{Turn, History, is_ok, opened_ticket, are_same}
+
+-- what an order followed: a page was unmapped, or its flags were changed, or nothing was stored
+pub data Cause : Type 0 where
+  Unmapped : Place → Span → Cause
+  Protected : Place → Span → Cause
+  Flushed : Cause
+
+-- who opened it under which ticket, which harts it names, what these are to drop, and what it followed
+pub record Order : Type 0 where
+  pub sender : ℕ
+  pub ticket : ℕ
+  pub named : List Bool
+  pub what : What
+  pub cause : Cause
+
+-- what the harts drop for a page: in a space that of its ASID, of the kernel that of every one
+abbrev pub page_request : Setup → Place → Span → What
+page_request C (Space space) page = PageOf page (Some (asid_of C space))
+page_request C Kernel page = PageOf page None
+
+abbrev pub scope_request : Setup → Scope → What
+scope_request C (scope.Space space) = SpaceOf (asid_of C space)
+scope_request C scope.All = All
+
+-- the order that an event opened, if its reply gives a ticket
+abbrev pub order_with : ℕ → ℕ → What → Cause → Option ℕ → Option Order
+order_with sender named what cause None = None
+order_with sender named what cause (Some ticket) =
+    Some (record { sender = sender; ticket = ticket; named = harts_in named; what = what; cause = cause })
+
+abbrev pub opened_order : Setup → Event → Reply → Option Order
+opened_order C (Unmap hart place page named) reply = order_with hart named (page_request C place page) (Unmapped place page) (opened_ticket reply)
+opened_order C (Protect hart place page flags named) reply = order_with hart named (page_request C place page) (Protected place page) (opened_ticket reply)
+opened_order C (Flush hart scope named) reply = order_with hart named (scope_request C scope) Flushed (opened_ticket reply)
+opened_order C _ reply = None
+
+-- the order at a place of the history
+abbrev pub order_or : Option Order → ℕ → ℕ → Option Order → Option Order
+order_or None place k old = old
+order_or (Some order) place k old = if place == k then Some order else old
+
+abbrev pub order_at : Setup → History → ℕ → Option Order
+order_at C [] k = None
+order_at C (turn ∷ H) k = order_or (opened_order C turn.event turn.reply) (length H) k (order_at C H k)
+
+-- the open order of a sender under a ticket: the last one opened, until an accepted Finish
+abbrev pub held_after : Option ℕ → ℕ → ℕ → ℕ → ℕ → Option ℕ → Option ℕ
+held_after None hart sender ticket place old = old
+held_after (Some number) hart sender ticket place old = if are_same hart number sender ticket then Some place else old
+
+abbrev pub open_after : Event → Reply → ℕ → ℕ → ℕ → Option ℕ → Option ℕ
+open_after (Unmap hart place page named) reply k sender ticket old = held_after (opened_ticket reply) hart sender ticket k old
+open_after (Protect hart place page flags named) reply k sender ticket old = held_after (opened_ticket reply) hart sender ticket k old
+open_after (Flush hart scope named) reply k sender ticket old = held_after (opened_ticket reply) hart sender ticket k old
+open_after (Finish hart number) reply k sender ticket old = if is_ok reply && are_same hart number sender ticket then None else old
+open_after _ reply k sender ticket old = old
+
+abbrev pub open_order : History → ℕ → ℕ → Option ℕ
+open_order [] sender ticket = None
+open_order (turn ∷ H) sender ticket = open_after turn.event turn.reply (length H) sender ticket (open_order H sender ticket)
+
+-- the open order is k
+abbrev pub is_order : Option ℕ → ℕ → Bool
+is_order None k = false
+is_order (Some place) k = place == k
+
+-- what the order at a place asks
+abbrev pub what_asked : Option Order → What
+what_asked None = All
+what_asked (Some order) = order.what
+
+abbrev pub what_of : Setup → History → Option ℕ → What
+what_of C H None = All
+what_of C H (Some k) = what_asked (order_at C H k)

@@ -1,0 +1,10 @@
+//! What a run of the harts leaves, and which reply is due to an event after it: definitions, with no machine.
+#![tactic(auto)]
+
+mod event;
+mod refusal;
+mod reply;
+
+pub use event::{Event, Scope};
+pub use refusal::Refusal;
+pub use reply::Reply;

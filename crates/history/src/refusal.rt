@@ -1,0 +1,100 @@
+//! Why a step is refused.
+
+ghost use Rattle.std.specs.Prelude.{◌≡◌};
+ghost use Rattle.history.specs.Refusal.{code_of};
+
+/// Why an event changed nothing.
+#[derive(Clone, Copy, PartialEq, Eq, Debug)]
+pub enum Refusal {
+    /// A hart is named that is not there, or the two harts of a pair are the same.
+    NoHart,
+    /// The space is not there.
+    NoSpace,
+    /// Only the home of a space stores to its tables; hart 0 to those of the kernel.
+    NotHome,
+    /// A space's page outside the user half, or a kernel page outside the window.
+    WrongHalf,
+    /// No leaf has these flags, or G is set for a space, or clear for the kernel.
+    BadFlags,
+    /// The PPN is 2^44 or more.
+    PpnTooLarge,
+    /// The PPN is no multiple of the page's size.
+    Misaligned,
+    /// A leaf of the page's size is there.
+    AlreadyMapped,
+    /// A leaf of a larger page is there.
+    LeafInWay,
+    /// A table of smaller pages is there.
+    TableInWay,
+    /// Every spare frame of the home is in use.
+    NoFrame,
+    /// Nothing is mapped there.
+    NotMapped,
+    /// A page of another size is mapped there.
+    WrongSize,
+    /// The hart that opens a ticket is not among the named.
+    HomeNotNamed,
+    /// All 64 tickets of the hart are open.
+    NoTicket,
+    /// No such ticket of the hart is open.
+    NotOpen,
+    /// The ticket does not name the hart.
+    NotNamed,
+    /// The ticket was posted to the hart before.
+    AlreadyPosted,
+    /// The mailbox is closed.
+    Closed,
+    /// As many requests as the mailbox may hold are not collected yet.
+    Full,
+    /// Nothing waits in the mailbox.
+    Empty,
+    /// The hart is in the middle of a walk.
+    Walking,
+    /// The hart is not in the middle of a walk.
+    NotWalking,
+    /// The hart serves a request that it has not acknowledged.
+    Serving,
+    /// The hart serves no request.
+    NotServing,
+    /// The hart has not fenced since it took the request.
+    NotFenced,
+    /// Some named hart of the ticket is not collected.
+    NotDone,
+}
+
+impl Refusal {
+    /// The number of the refusal, from 1 to 27.
+    pub fn code(self) -> u8
+        ensures { result ≡ code_of self }
+    {
+        match self {
+            Refusal::NoHart => 1,
+            Refusal::NoSpace => 2,
+            Refusal::NotHome => 3,
+            Refusal::WrongHalf => 4,
+            Refusal::BadFlags => 5,
+            Refusal::PpnTooLarge => 6,
+            Refusal::Misaligned => 7,
+            Refusal::AlreadyMapped => 8,
+            Refusal::LeafInWay => 9,
+            Refusal::TableInWay => 10,
+            Refusal::NoFrame => 11,
+            Refusal::NotMapped => 12,
+            Refusal::WrongSize => 13,
+            Refusal::HomeNotNamed => 14,
+            Refusal::NoTicket => 15,
+            Refusal::NotOpen => 16,
+            Refusal::NotNamed => 17,
+            Refusal::AlreadyPosted => 18,
+            Refusal::Closed => 19,
+            Refusal::Full => 20,
+            Refusal::Empty => 21,
+            Refusal::Walking => 22,
+            Refusal::NotWalking => 23,
+            Refusal::Serving => 24,
+            Refusal::NotServing => 25,
+            Refusal::NotFenced => 26,
+            Refusal::NotDone => 27,
+        }
+    }
+}
