@@ -3,3 +3,4 @@ pub mod Serving
 pub mod Keeping
 pub mod Translating
 pub mod Mapped
+pub mod Walked

@@ -1,12 +1,21 @@
 //! Laws of the definitions that the contracts of a TLB cite. Each function does nothing, and its clause is the law.
 
-ghost use Rattle.std.specs.Prelude.{ℕ, Bool, Option, None, Some, List, ◌≡◌, ◌≢◌, ◌⊎◌, ◌↔◌, ◌<◌, ◌^◌, ◌&&◌, IsSome, IsTrue, not};
+ghost use Rattle.std.specs.Prelude.{ℕ, Bool, Option, None, Some, Ok, Result, List, ◌≡◌, ◌≢◌, ◌⊎◌, ◌↔◌, ◌<◌, ◌^◌, ◌&&◌, IsSome, IsTrue, not};
 ghost use Rattle.std.specs.List.{All, AllPass};
 ghost use Rattle.pte.specs.Address.{Holds, IsCanonical, IsPage, Overlap, Span};
 ghost use Rattle.pte.specs.declared.address.What.{What};
 ghost use Rattle.pte.specs.declared.address.What.TheVariants.{PageOf, SpaceOf};
+ghost use Rattle.pte.specs.declared.permission.Access.{Access};
+ghost use Rattle.pte.specs.declared.permission.Ctx.{Ctx};
+ghost use Rattle.pte.specs.Entry.{ppn_bits};
 ghost use Rattle.tlb.specs.declared.store.Entry.{Entry};
-ghost use Rattle.tlb.specs.Entries.{filled, first_match, holds};
+ghost use Rattle.walk.specs.declared.found_or_trap.Found.{Found};
+ghost use Rattle.walk.specs.declared.found_or_trap.Trap.{Trap};
+ghost use Rattle.walk.specs.Leads.{Tables};
+ghost use Rattle.walk.specs.Maps.{Maps, page_number};
+ghost use Rattle.walk.specs.Outcome.{Outcome};
+ghost use Rattle.tlb.specs.Answer.{address_found, answer_of, entry_of};
+ghost use Rattle.tlb.specs.Entries.{filled, first_match, holds, is_match};
 ghost use Rattle.tlb.specs.Fence.{asid_bits, fenced, is_canonical, is_fenced, is_of_space};
 ghost use Rattle.tlb.specs.Mappings.{IsMappedBy, IsMappingOf, Mapping, Translates, maps_into};
 ghost use Rattle.tlb.specs.Service.{Goes, IsRequest, is_served, overlaps, served, Served};
@@ -63,3 +72,21 @@ pub fn served_page_is_not_mapped()
     ensures global { (entries : List Entry) (page : Span) → AllPass (λ e. not (maps_into page None e)) (served entries (PageOf page None)) }
     ensures space { (entries : List Entry) (page : Span) (asid : ℕ) → asid < 2 ^ asid_bits → AllPass (λ e. not (e.global && overlaps page e.page)) entries → AllPass (λ e. not (maps_into page (Some asid) e)) (served entries (PageOf page (Some asid))) }
 {}
+
+/// What a walk found gives an entry that matches the address for the walk's ASID, and whose mappings are all among those of
+/// the tables.
+pub fn found_entry_is_mapped()
+    ensures matches { (words : Tables) (root va : ℕ) (access : Access) (ctx : Ctx) (found : Found) (asid : ℕ) → Outcome words root va access ctx (Ok found)
+        → IsPage (entry_of asid found).page × IsTrue (is_match asid va (entry_of asid found)) }
+    ensures mapped { (words : Tables) (root va : ℕ) (access : Access) (ctx : Ctx) (found : Found) (asid : ℕ) → Outcome words root va access ctx (Ok found)
+        → (m : Mapping) → IsMappingOf (entry_of asid found) m → Maps words root m.page m.ppn m.flags found.global }
+{
+}
+
+/// As long as the tables map the page of an address as an entry does, the entry answers each access as a walk would.
+pub fn mapped_entry_answers_as_a_walk()
+    ensures { (words : Tables) (root va : ℕ) (access : Access) (ctx : Ctx) (answer : Result Found Trap) (e : Entry) (m : Mapping) (global : Bool)
+        → e.ppn < 2 ^ ppn_bits → IsMappingOf e m → m.page ≡ page_number va → Maps words root m.page m.ppn m.flags global → Outcome words root va access ctx answer
+        → answer_of e va access ctx ≡ address_found answer }
+{
+}

@@ -2,16 +2,16 @@
 
 ghost use Rattle.std.specs.Prelude.{◌≡◌, ◌↔◌, [], IsSome, IsTrue, Option, filter, find, not};
 ghost use Rattle.pte.specs.Address.{Overlap};
-ghost use Rattle.tlb.specs.Answer.{answer_of, entry_of, flags_fault};
+ghost use Rattle.tlb.specs.Answer.{answer_of, entry_of};
 ghost use Rattle.tlb.specs.Entries.{filled, first_match, is_match};
 ghost use Rattle.tlb.specs.Fence.{fenced, is_fenced, is_of_space};
 ghost use Rattle.tlb.specs.Mappings.{IsMappedBy, Translates};
 ghost use Rattle.tlb.specs.Service.{is_served, overlaps, served, Served};
 
 use arrayvec::ArrayVec;
-use pte::{Access, Ctx, PAGE_BYTES, PPN_BITS, Page, PteFlags, VirtAddr, What, allowed, page_cause};
+use pte::{Access, Ctx, PAGE_BYTES, PPN_BITS, Page, PteFlags, VirtAddr, What, page_cause};
 use std::marker::Model;
-use walk::{Found, Trap, Why};
+use walk::{Found, Trap, flags_fault};
 
 /// How many entries a TLB holds.
 pub const TLB_SIZE: usize = 16;
@@ -48,32 +48,18 @@ impl Entry {
         }
     }
 
-    /// The physical address of an address of the page, or the page fault of the access, with the first of `Denied`,
-    /// `NotAccessed` and `NotDirty` that applies. Of a PPN the low 44 bits count.
+    /// What the entry answers to an access of an address of its page, without the tables: the physical address, or a page
+    /// fault with the first of `Denied`, `NotAccessed` and `NotDirty` that applies. Of the PPN the low 44 bits count.
     pub fn translate(&self, va: VirtAddr, access: Access, ctx: Ctx) -> Result<u64, Trap>
         ensures { result ≡ answer_of self.now va access ctx }
     {
-        if let Some(why) = self.fault(access, ctx) {
+        if let Some(why) = flags_fault(self.flags, access, ctx) {
             return Err(Trap {
                 cause: page_cause(access),
                 why,
             });
         }
         Ok(self.ppn % (1 << PPN_BITS) * PAGE_BYTES + va.get() % self.page.size().bytes())
-    }
-
-    fn fault(&self, access: Access, ctx: Ctx) -> Option<Why>
-        ensures { result ≡ flags_fault self.now.flags access ctx }
-    {
-        if !allowed(self.flags, access, ctx) {
-            Some(Why::Denied)
-        } else if !self.flags.is_accessed() {
-            Some(Why::NotAccessed)
-        } else if access == Access::Store && !self.flags.is_dirty() {
-            Some(Why::NotDirty)
-        } else {
-            None
-        }
     }
 }
 

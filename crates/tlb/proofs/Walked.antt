@@ -1,0 +1,80 @@
+-- Entries that a walk gave, and what an entry answers while its page stays mapped.
+use Rattle.std.proofs.Common.{◌≡◌, ℕ, ◌+◌, ◌*◌, ◌/◌, ◌%◌, ◌^◌, ◌<◌, ◌≤◌, Bool, true, Option, Some, None, Result, Ok, Err, IsTrue, sym, ◌∙◌, ap, subst, refl, inl, inr, arith}
+use Rattle.std.specs.Prelude.{◌==◌, ◌||◌}
+use Rattle.std.proofs.lemmas.Bool.{and_from, or_right, eq-eqb}
+use Rattle.pte.specs.declared.address.PageSize.{PageSize}
+use Rattle.pte.specs.declared.address.PageSize.TheVariants.{Kib4, Mib2, Gib1}
+use Rattle.pte.specs.declared.permission.Access.{Access}
+use Rattle.pte.specs.declared.permission.Ctx.{Ctx}
+use Rattle.pte.specs.Address.{IsCanonical, IsPage, Holds, Span, bytes_of, pages_of, page_around}
+use Rattle.pte.specs.Entry.{ppn_bits}
+use Rattle.pte.specs.declared.flags.PteFlags.{PteFlags}
+use Rattle.walk.specs.declared.found_or_trap.Found.{Found}
+use Rattle.walk.specs.declared.found_or_trap.Trap.{Trap}
+use Rattle.walk.specs.declared.found_or_trap.Why.{Why}
+use Rattle.walk.specs.Answer.{flags_fault, found_unless, size_at}
+use Rattle.walk.specs.Leads.{Tables}
+use Rattle.walk.specs.Maps.{Maps, page_number}
+use Rattle.walk.specs.Outcome.{Outcome}
+use Rattle.walk.proofs.FoundMembers.{found_at-outcome, found_page_member}
+use Rattle.walk.proofs.MappedAnswers.{mapped_answer}
+use Rattle.walk.proofs.Unique.{outcome_unique}
+use Rattle.tlb.specs.declared.store.Entry.{Entry}
+use Rattle.tlb.specs.Answer.{address_found, address_of, answer_of, entry_of, unless}
+use Rattle.tlb.specs.Entries.{holds, is_match}
+use Rattle.tlb.specs.Mappings.{IsMappingOf, Mapping}
+use Rattle.tlb.proofs.Overlapping.{holds-Holds}
+
+-- the page of a size around a canonical address is a page, and has the address
+around : (size : PageSize) (va : ℕ) → IsCanonical va → IsPage (page_around va size) × Holds (page_around va size) va
+around Kib4 va (inl low) = (record { canonical = inl (omega arith); aligned = omega arith }, record { from = omega arith; below = omega arith })
+around Kib4 va (inr high) = let a = high.0 in let b = high.1 in (record { canonical = inr (omega arith, omega arith); aligned = omega arith }, record { from = omega arith; below = omega arith })
+around Mib2 va (inl low) = (record { canonical = inl (omega arith); aligned = omega arith }, record { from = omega arith; below = omega arith })
+around Mib2 va (inr high) = let a = high.0 in let b = high.1 in (record { canonical = inr (omega arith, omega arith); aligned = omega arith }, record { from = omega arith; below = omega arith })
+around Gib1 va (inl low) = (record { canonical = inl (omega arith); aligned = omega arith }, record { from = omega arith; below = omega arith })
+around Gib1 va (inr high) = let a = high.0 in let b = high.1 in (record { canonical = inr (omega arith, omega arith); aligned = omega arith }, record { from = omega arith; below = omega arith })
+
+module _ (words : Tables) (root va : ℕ) (access : Access) (ctx : Ctx) (found : Found) (asid : ℕ) (is : Outcome words root va access ctx (Ok found)) where
+  found_page : IsPage found.page × Holds found.page va
+  found_page =
+      let at = found_at-outcome words root va access ctx found is in
+      subst (λ (p : Span). IsPage p × Holds p va) (sym at.page) (around (size_at at.level) va at.canonical)
+
+  pub entry_matches : IsPage (entry_of asid found).page × IsTrue (is_match asid va (entry_of asid found))
+  entry_matches = (found_page.0, and_from _ _ ((holds-Holds found.page va).1 found_page.1) (or_right found.global (asid == asid) (eq-eqb asid asid refl)))
+
+  pub entry_is_mapped : (m : Mapping) → IsMappingOf (entry_of asid found) m → Maps words root m.page m.ppn m.flags found.global
+  entry_is_mapped m of =
+      let at : ℕ = m.page * bytes_of Kib4 in
+      let number : page_number at ≡ m.page = omega arith in
+      let holds : Holds found.page at = record { from = of.page.from; below = omega (arith, of.page.to) } in
+      let there = found_page_member words root va access ctx found is at holds in
+      let moved : Maps words root m.page (found.ppn + m.page % pages_of found.page.size) found.flags found.global =
+      subst (λ n. Maps words root n (found.ppn + n % pages_of found.page.size) found.flags found.global) number there in
+      subst (λ (f : PteFlags). Maps words root m.page m.ppn f found.global) (sym of.flags) (subst (λ n. Maps words root m.page n found.flags found.global) (sym of.ppn) moved)
+
+-- the place in the entry's page, by the page of 4 KiB
+place : (size : PageSize) (ppn va : ℕ) → ppn * bytes_of Kib4 + va % bytes_of size ≡ (ppn + page_number va % pages_of size) * bytes_of Kib4 + va % bytes_of Kib4
+place Kib4 ppn va = omega arith
+place Mib2 ppn va = omega arith
+place Gib1 ppn va = omega arith
+
+found_or_fault : (o : Option Why) (access : Access) (found : Found) → address_found (found_unless o access found) ≡ unless o access found.pa
+found_or_fault None access found = refl
+found_or_fault (Some why) access found = refl
+
+pub hit_is_outcome : (words : Tables) (root va : ℕ) (access : Access) (ctx : Ctx) (answer : Result Found Trap) (e : Entry) (m : Mapping) → (global : Bool)
+    → e.ppn < 2 ^ ppn_bits → IsMappingOf e m → m.page ≡ page_number va → Maps words root m.page m.ppn m.flags global → Outcome words root va access ctx answer
+    → answer_of e va access ctx ≡ address_found answer
+hit_is_outcome words root va access ctx answer e m global ppn of page maps out =
+    let here : Maps words root (page_number va) m.ppn m.flags global = subst (λ n. Maps words root n m.ppn m.flags global) page maps in
+    let found = mapped_answer words root va m.ppn access ctx m.flags global here in
+    let same : answer ≡ found_unless (flags_fault access ctx m.flags) access found.0 = outcome_unique words root va access ctx answer _ out found.1 in
+    let cut : e.ppn % 2 ^ ppn_bits ≡ e.ppn = omega arith in
+    let pa : address_of e va ≡ found.0.pa =
+    ap (λ n. n * bytes_of Kib4 + va % bytes_of e.page.size) cut ∙ place e.page.size e.ppn va
+    ∙ ap (λ n. (e.ppn + n % pages_of e.page.size) * bytes_of Kib4 + va % bytes_of Kib4) (sym page)
+    ∙ ap (λ n. n * bytes_of Kib4 + va % bytes_of Kib4) (sym of.ppn) ∙ sym found.2 in
+    ap (λ (f : PteFlags). unless (flags_fault access ctx f) access (address_of e va)) (sym of.flags)
+    ∙ ap (unless (flags_fault access ctx m.flags) access) pa
+    ∙ sym (found_or_fault (flags_fault access ctx m.flags) access found.0) ∙ ap address_found (sym same)
