@@ -1,20 +1,21 @@
 -- What every lawful history of the tickets of a hart keeps: each ticket is what the calls since
 -- its opening tell.
-use Rattle.std.proofs.Common.{◌≡◌, ◌≢◌, ◌∙◌, sym, ap, refl, ℕ, zero, suc, ◌<◌, Bool, true, false, cond, ◌&&◌, ◌||◌, List, [], ◌∷◌, length, replicate, set, slice_get, Option, Some, None, Result, Ok, Err, arith, eqb, ltb}
+use Rattle.std.proofs.Common.{◌≡◌, ◌≢◌, ◌∙◌, sym, ap, refl, subst, ℕ, zero, suc, ◌<◌, Bool, true, false, cond, ◌&&◌, ◌||◌, List, [], ◌∷◌, length, replicate, set, slice_get, Option, Some, None, Result, Ok, Err, IsTrue, arith, eqb, ltb}
 use Rattle.std.proofs.lemmas.Bool.{eqb-true, ltb-true}
 use Rattle.std.proofs.lemmas.Bool.Decides.{nat_tests}
 use Rattle.std.specs.Option.{is_none}
 use Rattle.std.specs.List.{position_or_len}
 use Rattle.pte.specs.declared.address.What.{What}
 use Rattle.shoot.specs.HartSet.{contains, harts_where, harts_in}
-use Rattle.shoot.specs.Tickets.{TicketTable, if_open, ticket_at, with_ticket, with_change, changed, new_ticket, with_posted, with_acked, with_collected, lowest_free, opened, open_answer, with_opened, is_done_at}
-use Rattle.shoot.specs.TicketHistory.{Turn, Open, Posted, Acked, Collect, Finish, tickets_after, IsLawful, Opening, with_turn, opening_with, opening_of, was_posted, was_acked, collected_after_ack, was_collected, ticket_told, told_with, told}
+use Rattle.shoot.specs.Tickets.{TicketTable, if_open, ticket_at, with_ticket, with_change, changed, new_ticket, with_posted, with_acked, with_collected, lowest_free, opened, open_answer, with_opened, is_done_at, done_with, tells, names, is_acked}
+use Rattle.shoot.specs.TicketHistory.{Turn, Open, Posted, Acked, Collect, Finish, tickets_after, IsLawful, Opening, with_turn, opening_with, opening_of, acks, collects, was_posted, was_acked, collected_after_ack, was_collected, ticket_told, told_with, told}
 use Rattle.shoot.specs.declared.TheConstants.{MAX_HARTS, MAX_TICKETS}
 use Rattle.shoot.specs.declared.tickets.Ticket.{Ticket}
 use Rattle.shoot.specs.declared.tickets.Collected.{Collected}
 use Rattle.shoot.specs.declared.tickets.TicketFault.{TicketFault}
 use Rattle.shoot.specs.declared.tickets.TicketFault.TheVariants.{HomeNotNamed}
 use Rattle.shoot.specs.declared.tickets.NotDone.{NotDone}
+use Rattle.shoot.proofs.HartBytes.{done}
 use Rattle.shoot.proofs.HartSets.{by_test, eqb_same, where_agree, where_with, contains_where, passes}
 
 -- ---- the places of the table
@@ -251,3 +252,46 @@ recount home (Collect ticket from answer ∷ earlier) number lawful =
 recount home (Finish ticket answer ∷ earlier) number lawful =
     let table = tickets_after home earlier in
     finished_told home table ticket number (is_done_at table ticket) answer (opening_of earlier number) lawful.1.1 (recount home earlier number lawful.0)
+
+-- ---- a ticket that is done was acknowledged by each hart that it names
+
+ack_before : (number : ℕ) (since : List Turn) (hart : ℕ) → collected_after_ack number since hart ≡ true → was_acked number since hart ≡ true
+ack_before number [] hart e = absurd cc
+ack_before number (turn ∷ earlier) hart e =
+    or_right (acks number hart turn) (was_acked number earlier hart)
+    (either (collects number hart turn) (was_acked number earlier hart) (collected_after_ack number earlier hart) e (ack_before number earlier hart))
+  where
+    or_right : (a b : Bool) → b ≡ true → a || b ≡ true
+    or_right true b e = refl
+    or_right false b e = e
+
+    either : (a b c : Bool) → (a && b) || c ≡ true → (c ≡ true → b ≡ true) → b ≡ true
+    either true true c e h = refl
+    either true false c e h = h e
+    either false b c e h = h e
+
+collected_acked : (home number : ℕ) (opening : Opening) (hart : ℕ) → hart < MAX_HARTS
+    → contains (ticket_told home number opening).collected hart ≡ true → contains (ticket_told home number opening).acked hart ≡ true
+collected_acked home number opening hart below e =
+    let since = opening.since in
+    contains_where (was_acked number since) hart below
+    ∙ own_or_later (eqb hart home) (was_acked number since hart) (collected_after_ack number since hart) (passes (was_collected home number since) hart e) (ack_before number since hart)
+  where
+    own_or_later : (own acked later : Bool) → (own && acked) || later ≡ true → (later ≡ true → acked ≡ true) → acked ≡ true
+    own_or_later true true later e h = refl
+    own_or_later true false later e h = h e
+    own_or_later false acked later e h = h e
+
+told_acked : (home number : ℕ) (before : Option Opening) (hart : ℕ) → hart < MAX_HARTS
+    → done_with (told_with home number before) ≡ true
+    → tells (λ ticket. ticket.named) (told_with home number before) hart ≡ true
+    → tells (λ ticket. ticket.acked) (told_with home number before) hart ≡ true
+told_acked home number None hart below is_done is_named = absurd cc
+told_acked home number (Some opening) hart below is_done is_named =
+    collected_acked home number opening hart below ((done (ticket_told home number opening)).0 is_done hart below is_named)
+
+pub done_acked : (home : ℕ) (history : List Turn) (number hart : ℕ) → IsLawful home history → hart < MAX_HARTS
+    → IsTrue (is_done_at (tickets_after home history) number) → IsTrue (names (tickets_after home history) number hart) → IsTrue (is_acked (tickets_after home history) number hart)
+done_acked home history number hart lawful below =
+    let P : Option Ticket → Type 0 = λ place. done_with place ≡ true → tells (λ ticket. ticket.named) place hart ≡ true → tells (λ ticket. ticket.acked) place hart ≡ true in
+    subst P (sym (recount home history number lawful)) (told_acked home number (opening_of history number) hart below)

@@ -8,7 +8,7 @@ ghost use Rattle.shoot.specs.HartSet.{byte_of, contains, difference, harts_in, h
 ghost use Rattle.shoot.specs.Mailbox.{post_fault};
 ghost use Rattle.shoot.specs.MailboxHistory.{Turn as MailboxTurn, Close, accepted, is_closed, mailbox_after, released, taken, IsLawful as IsLawfulMailbox};
 ghost use Rattle.shoot.specs.TicketHistory.{Turn as TicketTurn, told, tickets_after, IsLawful as IsLawfulTickets};
-ghost use Rattle.shoot.specs.Tickets.{TicketTable, is_done, ticket_at, with_ticket};
+ghost use Rattle.shoot.specs.Tickets.{TicketTable, is_acked, is_done, is_done_at, names, ticket_at, with_ticket};
 
 use crate::MAX_HARTS;
 use crate::mailbox::PostFault;
@@ -48,6 +48,14 @@ pub fn tickets_tell_their_calls()
 #[tactic(auto, using(crate::proofs::HartBytes::done))]
 pub fn ticket_is_done_once_all_are_collected()
     ensures { (ticket : Ticket) → IsTrue (is_done ticket) ↔ ((hart : ℕ) → hart < MAX_HARTS → IsTrue (contains ticket.named hart) → IsTrue (contains ticket.collected hart)) }
+{}
+
+/// Of every list of calls on the tickets of a hart: each hart that a ticket
+/// names has acknowledged it by the time that it is done.
+#[tactic(auto, using(crate::proofs::TicketLaws::done_acked))]
+pub fn done_tickets_were_acknowledged()
+    ensures { (home : ℕ) (history : List TicketTurn) (number hart : ℕ) → IsLawfulTickets home history → hart < MAX_HARTS
+        → IsTrue (is_done_at (tickets_after home history) number) → IsTrue (names (tickets_after home history) number hart) → IsTrue (is_acked (tickets_after home history) number hart) }
 {}
 
 /// A change of one ticket leaves all others.

@@ -11,7 +11,9 @@ mod tickets;
 
 pub use hart_set::HartSet;
 pub use laws::{
-    mailbox_accepts_nothing_after_close, mailbox_keeps_order, mailbox_refuses_when_closed_or_full,
+    bytes_are_sets_of_harts, done_tickets_were_acknowledged, mailbox_accepts_nothing_after_close,
+    mailbox_keeps_order, mailbox_refuses_when_closed_or_full, one_ticket_changes,
+    sets_of_harts_are_tests, ticket_is_done_once_all_are_collected, tickets_tell_their_calls,
 };
 pub use mailbox::{Mailbox, PostFault};
 pub use request::Request;

@@ -133,6 +133,7 @@ impl Mailbox {
         self.closed = true;
     }
 
+    /// Whether later posts are refused.
     pub fn is_closed(&self) -> bool
         ensures { result ≡ self.now.closed }
     {

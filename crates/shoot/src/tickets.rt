@@ -176,10 +176,9 @@ impl Tickets {
         Ok(number)
     }
 
-    /// The ticket was posted to a named hart.
+    /// An open ticket was posted to a hart that it names.
     pub fn posted(&mut self, ticket: u32, to: u8)
-        requires open { IsTrue (is_open self.old ticket) }
-        requires named { IsTrue (names self.old ticket to) }
+        requires { IsTrue (names self.old ticket to) }
         ensures { self.new ≡ after_posted self.old ticket to }
     {
         if let Some(open) = &mut self.tickets[ticket as usize] {
@@ -187,11 +186,10 @@ impl Tickets {
         }
     }
 
-    /// A named hart acknowledged the ticket. The acknowledgement of the hart
-    /// whose ticket it is counts as collected.
+    /// A hart that an open ticket names acknowledged it. The acknowledgement of
+    /// the hart whose ticket it is counts as collected at once.
     pub fn acked(&mut self, ticket: u32, from: u8)
-        requires open { IsTrue (is_open self.old ticket) }
-        requires named { IsTrue (names self.old ticket from) }
+        requires { IsTrue (names self.old ticket from) }
         ensures { self.new ≡ after_acked self.old ticket from }
     {
         let home = self.hart;
@@ -200,11 +198,10 @@ impl Tickets {
         }
     }
 
-    /// Collects the acknowledgement of a named hart, if it is there, and tells
-    /// how far the ticket is.
+    /// Collects the acknowledgement of a hart that an open ticket names, if it
+    /// is there, and tells how far the ticket is then.
     pub fn collect(&mut self, ticket: u32, from: u8) -> Collected
-        requires open { IsTrue (is_open self.old ticket) }
-        requires named { IsTrue (names self.old ticket from) }
+        requires { IsTrue (names self.old ticket from) }
         ensures answer { result ≡ progress_at self.new ticket }
         ensures after { self.new ≡ after_collect self.old ticket from }
     {
