@@ -1,0 +1,5 @@
+use Rattle.scenario.proofs.EachLemmas.{StepsSoFar}
+use Rattle.scenario.proofs.scenario.steps.Given as goal
+
+abbrev pub invariant-loop-index : goal.invariant-loop-index
+invariant-loop-index l = StepsSoFar l.texts l.index l.steps.items

@@ -1,0 +1,113 @@
+-- How a command ends, by its status.
+use Rattle.std.specs.Prelude.{◌≡◌, ℕ, ◌<◌, ◌≤◌, ◌⊎◌, ◌++◌, List, [], length, codes, Option, Some, None}
+use Rattle.std.specs.Io.KnownBytes.{Keeps}
+use Rattle.scenario.specs.declared.program.Which.{Which}
+use Rattle.scenario.specs.declared.program.Which.TheVariants.{Walk}
+use Rattle.scenario.specs.declared.program.Trouble.{Trouble}
+use Rattle.scenario.specs.declared.program.Trouble.TheVariants as troubles
+use Rattle.scenario.specs.declared.fault.Fault.{Fault}
+use Rattle.scenario.specs.declared.fault.Fault.TheVariants as faults
+use Rattle.std.specs.Prelude.{string_bytes}
+use Rattle.scenario.specs.Faults.{Failure, not_toml, wrong_key, too_many, wrong_step, failure_text, fault_in}
+use Rattle.scenario.specs.Lines.{LinesOf, Prints}
+use Rattle.scenario.specs.Output.{AppendsFront, WritesAll, WritesFront}
+use Rattle.scenario.specs.Limits.{most_bytes}
+use Rattle.scenario.specs.WalkFile.{walk_file}
+
+-- the first fault of a file's bytes, if they have one
+abbrev pub file_fault : Which → List ℕ → Option Failure
+file_fault Walk bytes = fault_in (walk_file bytes)
+
+-- what is printed of a file
+abbrev pub FileLines : Which → List ℕ → List ℕ → Type 0
+FileLines Walk bytes = LinesOf Prints (walk_file bytes)
+
+pub data Ending : Type 0 where
+  done : Ending
+  unreadable : Ending
+  too_large : Ending
+  refused : Failure → Ending
+  output_failed : Ending
+  no_memory : Ending
+
+abbrev pub failure_status : Failure → ℕ
+failure_status not_toml = 2
+failure_status _ = 3
+
+abbrev pub status_of : Ending → ℕ
+status_of done = 0
+status_of unreadable = 2
+status_of too_large = 2
+status_of (refused failure) = failure_status failure
+status_of output_failed = 4
+status_of no_memory = 5
+
+abbrev pub reason : List ℕ → Ending → List ℕ
+reason file done = []
+reason file unreadable = codes "cannot read " ++ file
+reason file too_large = codes "file too large"
+reason file (refused failure) = failure_text failure
+reason file output_failed = codes "output failed"
+reason file no_memory = codes "no memory"
+
+-- the line on standard error
+abbrev pub error_line : List ℕ → Ending → List ℕ
+error_line file done = []
+error_line file ending = codes "svsim: " ++ reason file ending ++ codes "\n"
+
+-- when a file of these bytes may end so; each may be unreadable, or want memory
+abbrev pub Suits : Which → List ℕ → Ending → Type 0
+Suits which bytes done = (length bytes ≤ most_bytes) × (file_fault which bytes ≡ None)
+Suits which bytes unreadable = Unit {0}
+Suits which bytes too_large = most_bytes < length bytes
+Suits which bytes (refused failure) = (length bytes ≤ most_bytes) × (file_fault which bytes ≡ Some failure)
+Suits which bytes output_failed = (length bytes ≤ most_bytes) × (file_fault which bytes ≡ None)
+Suits which bytes no_memory = Unit {0}
+
+-- what was written of the lines: all, a beginning, or nothing
+abbrev pub Leaves : (List ℕ → Type 0) → Ending → Option (List ℕ) → Option (List ℕ) → Type 0
+Leaves Lines done old new = WritesAll Lines old new
+Leaves Lines output_failed old new = WritesFront Lines old new
+Leaves Lines no_memory old new = Keeps old new ⊎ WritesFront Lines old new
+Leaves Lines _ old new = Keeps old new
+
+-- the file may end so, and this is what it leaves
+pub record EndsAs (which : Which) (bytes : List ℕ) (ending : Ending) (old new : Option (List ℕ)) : Type 0 where
+  pub suits : Suits which bytes ending
+  pub leaves : Leaves (FileLines which bytes) ending old new
+
+-- how a command ends on a file of these bytes: one ending gives the status, the output and the line on standard error
+pub record Ends (which : Which) (file bytes : List ℕ) (status : ℕ) (out_old out_new err_old err_new : Option (List ℕ)) : Type 0 where
+  pub ending : Ending
+  pub status_is : status ≡ status_of ending
+  pub ends_as : EndsAs which bytes ending out_old out_new
+  pub tells : AppendsFront err_old err_new (error_line file ending)
+
+-- ---- how the code's troubles stand for endings
+
+abbrev pub ending_of_fault : Fault → Ending
+ending_of_fault faults.NotToml = refused not_toml
+ending_of_fault (faults.Key name) = refused (wrong_key (string_bytes name))
+ending_of_fault faults.TooMany = refused too_many
+ending_of_fault (faults.Step n fault) = refused (wrong_step n fault)
+ending_of_fault faults.Output = output_failed
+ending_of_fault faults.NoMemory = no_memory
+
+abbrev pub ending_of : Trouble → Ending
+ending_of troubles.Unreadable = unreadable
+ending_of troubles.TooLarge = too_large
+ending_of (troubles.Refused fault) = ending_of_fault fault
+
+-- at a file that was not read or that was refused, nothing is written, whatever is known of the reader
+abbrev pub IsSilent : Ending → Option (List ℕ) → Option (List ℕ) → Type 0
+IsSilent done old new = Unit {0}
+IsSilent output_failed old new = Unit {0}
+IsSilent no_memory old new = Unit {0}
+IsSilent _ old new = Keeps old new
+
+-- the line of an ending was written as far as it goes, that of the trouble or of want of memory
+pub record Reports (file : List ℕ) (trouble : Ending) (status : ℕ) (old new : Option (List ℕ)) : Type 0 where
+  pub ending : Ending
+  pub is : (ending ≡ trouble) ⊎ (ending ≡ no_memory)
+  pub status_is : status ≡ status_of ending
+  pub tells : AppendsFront old new (error_line file ending)

@@ -1,0 +1,13 @@
+pub mod Num
+pub mod Words
+pub mod Step
+pub mod Grammar
+pub mod Faults
+pub mod Keys
+pub mod Limits
+pub mod Memory
+pub mod WalkFile
+pub mod Lines
+pub mod Output
+pub mod Input
+pub mod Command

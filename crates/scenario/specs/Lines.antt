@@ -1,0 +1,60 @@
+-- The lines that are printed.
+use Rattle.std.specs.Prelude.{◌≡◌, ℕ, ◌+◌, Bool, Result, Ok, Err, codes, List, [], ◌∷◌, ◌++◌, if◌then◌else◌, false}
+use Rattle.std.specs.Fmt.{decimal, digits}
+use Rattle.pte.specs.declared.address.PageSize.{PageSize}
+use Rattle.pte.specs.declared.address.PageSize.TheVariants.{Kib4, Mib2, Gib1}
+use Rattle.walk.specs.Leads.{Tables}
+use Rattle.walk.specs.Outcome.{Outcome}
+use Rattle.walk.specs.declared.found_or_trap.Found.{Found}
+use Rattle.walk.specs.declared.found_or_trap.Trap.{Trap}
+use Rattle.walk.specs.declared.found_or_trap.Why.{Why}
+use Rattle.walk.specs.declared.found_or_trap.Why.TheVariants.{NotCanonical, Outside, Invalid, Reserved, TooDeep, Denied, Misaligned, NotAccessed, NotDirty}
+use Rattle.scenario.specs.declared.step.WalkStep.{WalkStep}
+use Rattle.scenario.specs.Faults.{Failure}
+use Rattle.scenario.specs.WalkFile.{WalkPlan}
+
+abbrev pub size_text : PageSize → List ℕ
+size_text Kib4 = codes "4K"
+size_text Mib2 = codes "2M"
+size_text Gib1 = codes "1G"
+
+abbrev pub why_text : Why → List ℕ
+why_text NotCanonical = codes "NotCanonical"
+why_text Outside = codes "Outside"
+why_text Invalid = codes "Invalid"
+why_text Reserved = codes "Reserved"
+why_text TooDeep = codes "TooDeep"
+why_text Denied = codes "Denied"
+why_text Misaligned = codes "Misaligned"
+why_text NotAccessed = codes "NotAccessed"
+why_text NotDirty = codes "NotDirty"
+
+-- lower case after `0x`, without leading zeros
+abbrev pub hex : ℕ → List ℕ
+hex n = codes "0x" ++ digits 16 false n
+
+abbrev pub global_text : Bool → List ℕ
+global_text global = if global then codes " global" else []
+
+abbrev pub answer_text : Result Found Trap → List ℕ
+answer_text (Ok found) = codes "pa " ++ hex found.pa ++ codes " " ++ size_text found.page.size ++ global_text found.global
+answer_text (Err trap) = codes "trap " ++ decimal trap.cause ++ codes " " ++ why_text trap.why
+
+abbrev pub line_of : ℕ → Result Found Trap → List ℕ
+line_of number answer = decimal number ++ codes " " ++ answer_text answer ++ codes "\n"
+
+-- the lines of the steps, the first of which has this number: that of its outcome, and then the lines of the rest
+abbrev pub WritesLines : Tables → ℕ → ℕ → List WalkStep → List ℕ → Type 0
+WritesLines words root n [] lines = lines ≡ []
+WritesLines words root n (step ∷ steps) lines =
+    (answer : Result Found Trap) × (rest : List ℕ) × Outcome words root step.va step.access step.ctx answer
+    × (lines ≡ line_of n answer ++ rest) × WritesLines words root (n + 1) steps rest
+
+-- what `walk` prints of a scenario
+abbrev pub Prints : WalkPlan → List ℕ → Type 0
+Prints plan lines = WritesLines plan.tables plan.root 1 plan.steps lines
+
+-- what a text prints, by what it was read as; of a faulty one, nothing
+abbrev pub LinesOf : {P : Type 0} → (P → List ℕ → Type 0) → Result P Failure → List ℕ → Type 0
+LinesOf prints (Ok plan) lines = prints plan lines
+LinesOf prints (Err e) lines = lines ≡ []

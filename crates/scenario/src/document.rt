@@ -1,0 +1,105 @@
+//! What the keys of a document hold.
+ghost use Rattle.std.specs.Prelude.{◌≡◌, IfOk, map, option_map, option_and_then, string_bytes, Ok, Err};
+ghost use Rattle.toml.specs.Data.{get_member, as_str};
+ghost use Rattle.toml.specs.View.{table_view, view};
+ghost use Rattle.scenario.specs.Faults.{Fails, Gives, wrong_key};
+ghost use Rattle.scenario.specs.Keys.{each, is_known, known_only, least_unknown, one_number, one_word, text_views, texts_at, texts_of};
+ghost use Rattle.scenario.specs.Num.{num_of};
+ghost use Rattle.scenario.specs.WalkFile.{walk_keys};
+
+use crate::fault::Fault;
+use crate::num::num;
+use crate::words::words;
+use std::alloc::{AllocError, Global};
+use toml::{Table, Value};
+
+fn is_walk_key(key: &str) -> bool
+    ensures { result ≡ is_known walk_keys key.now }
+{
+    key == "root" || key == "frames" || key == "words" || key == "steps"
+}
+
+fn unknown_key(table: &Table) -> Option<&String>
+    ensures { option_map (λ key. string_bytes key.now) result ≡ least_unknown walk_keys (table_view table.now) }
+{
+    table.keys().find(|key| !is_walk_key(key.as_str()))
+}
+
+pub fn key_fault(alloc: Global, key: &str) -> Fault
+    ensures { Fails {Y = Unit {0}} result (Err (wrong_key key.now)) }
+{
+    match String::from_str(alloc, key) {
+        Ok(name) => Fault::Key(name),
+        Err(_) => Fault::NoMemory,
+    }
+}
+
+/// Refuses a key that `walk` does not know: the least by bytes.
+pub fn check_keys(alloc: Global, table: &Table) -> Result<(), Fault>
+    ensures { Gives (λ done. done) result (known_only walk_keys (table_view table.now)) }
+{
+    match unknown_key(table) {
+        Some(key) => Err(key_fault(alloc, key.as_str())),
+        None => Ok(()),
+    }
+}
+
+pub fn value_at<'a>(table: &'a Table, key: &str) -> Option<&'a Value>
+    ensures { option_map (λ value. view value.now) result ≡ get_member key.now (table_view table.now) }
+{
+    table.get(key)
+}
+
+/// The number that a text of one word writes.
+pub fn number(alloc: Global, text: &str) -> Result<Option<u64>, AllocError>
+    ensures { IfOk result (λ n. n ≡ one_number text.now) }
+{
+    let words = words(alloc, text)?;
+    Ok(number_in(words.as_slice()))
+}
+
+fn number_in(words: &[&[u8]]) -> Option<u64>
+    ensures { result ≡ option_and_then num_of (one_word (map (λ word. word.now) words.now)) }
+{
+    if words.len() != 1 {
+        return None;
+    }
+    num(words[0])
+}
+
+/// The texts of an array, each of which is a text.
+fn texts<'a>(alloc: Global, values: &'a [Value]) -> Result<Option<Vec<&'a str>>, AllocError>
+    ensures { IfOk result (λ found. option_map text_views found ≡ each (λ value. as_str (view value)) values.now) }
+{
+    let mut texts = Vec::new(alloc);
+    for value in values {
+        match value.as_str() {
+            Some(text) => texts.push(text)?,
+            None => return Ok(None),
+        }
+    }
+    Ok(Some(texts))
+}
+
+/// The texts of an array that has nothing else.
+fn texts_in<'a>(alloc: Global, value: &'a Value) -> Result<Option<Vec<&'a str>>, AllocError>
+    ensures { IfOk result (λ found. option_map text_views found ≡ texts_of (view value.now)) }
+{
+    match value.as_array() {
+        Some(values) => texts(alloc, values),
+        None => Ok(None),
+    }
+}
+
+/// The texts at a key, none where it is absent.
+pub fn texts_of_key<'a>(alloc: Global, table: &'a Table, key: &str) -> Result<Vec<&'a str>, Fault>
+    ensures { Gives text_views result (texts_at key.now (table_view table.now)) }
+{
+    match value_at(table, key) {
+        Some(value) => match texts_in(alloc, value)? {
+            Some(texts) => Ok(texts),
+            None => Err(key_fault(alloc, key)),
+        },
+        None => Ok(Vec::new(alloc)),
+    }
+}

@@ -1,0 +1,28 @@
+//! Scenario files: from a file's bytes to the lines that `svsim` prints.
+//!
+//! `walk_text` answers a text, and `command` does the whole of a command over any reader and writers. A text is read and
+//! checked whole before its first line is written.
+#![tactic(auto)]
+
+mod document;
+mod fault;
+mod frames;
+mod input;
+mod laws;
+mod lines;
+mod num;
+mod output;
+mod plan;
+mod program;
+mod scenario;
+mod step;
+mod texts;
+mod words;
+
+pub use fault::{Fault, StepFault};
+pub use laws::{least_unknown_key, num_is_written, one_text, walk_step_is_written};
+pub use program::{Which, command};
+pub use texts::walk_text;
+
+#[cfg(test)]
+mod tests;

@@ -1,0 +1,145 @@
+//! What the program does, over any reader and writers.
+ghost use Rattle.std.specs.Prelude.{◌≡◌, ◌⊎◌, ◌+◌, ◌≤◌, length, None, OnOk, IfErr, IfOk, IfSome, string_bytes};
+ghost use Rattle.std.specs.Io.KnownBytes.{Keeps};
+ghost use Rattle.scenario.specs.declared.program.Trouble.TheVariants.{Refused};
+ghost use Rattle.scenario.specs.declared.fault.Fault.TheVariants.{NoMemory};
+ghost use Rattle.scenario.specs.Output.{AppendsFront, EndsBy, WritesAll};
+ghost use Rattle.scenario.specs.Input.{ReadsUpTo};
+ghost use Rattle.scenario.specs.Limits.{most_bytes};
+ghost use Rattle.scenario.specs.Command.{ending_of, done, Ends, EndsAs, error_line, file_fault, FileLines, IsSilent, Reports, status_of};
+
+use crate::fault::Fault;
+use crate::input::read_file;
+use crate::output::write_whole;
+use crate::texts::walk_text;
+use std::alloc::{AllocError, Global};
+use std::io::{Read, Write};
+
+/// The commands of the program.
+#[derive(Clone, Copy, Debug, PartialEq, Eq)]
+pub enum Which {
+    /// Answers accesses by walks from one root.
+    Walk,
+}
+
+/// Why a command was not done.
+#[derive(Debug, Drop)]
+pub enum Trouble {
+    Unreadable,
+    TooLarge,
+    Refused(Fault),
+}
+
+impl From<AllocError> for Trouble {
+    ghost from_gives = { λ _ e. e ≡ Refused NoMemory };
+
+    fn from(_e: AllocError) -> Trouble {
+        Trouble::Refused(Fault::NoMemory)
+    }
+}
+
+const DONE: u8 = 0;
+
+const NOT_READ: u8 = 2;
+
+const REFUSED: u8 = 3;
+
+const OUTPUT_FAILED: u8 = 4;
+
+const NO_MEMORY: u8 = 5;
+
+fn status(trouble: &Trouble) -> u8
+    ensures { result ≡ status_of (ending_of trouble.now) }
+{
+    match trouble {
+        Trouble::Unreadable | Trouble::TooLarge | Trouble::Refused(Fault::NotToml) => NOT_READ,
+        Trouble::Refused(Fault::Output) => OUTPUT_FAILED,
+        Trouble::Refused(Fault::NoMemory) => NO_MEMORY,
+        Trouble::Refused(_) => REFUSED,
+    }
+}
+
+/// The line on standard error.
+fn error_text(alloc: Global, file: &str, trouble: &Trouble) -> Result<String, AllocError>
+    ensures { IfOk result (λ text. string_bytes text ≡ error_line file.now (ending_of trouble.now)) }
+{
+    let mut text = String::new(alloc);
+    match trouble {
+        Trouble::Unreadable => writeln!(text, "svsim: cannot read {file}")?,
+        Trouble::TooLarge => writeln!(text, "svsim: file too large")?,
+        Trouble::Refused(fault) => writeln!(text, "svsim: {fault}")?,
+    }
+    Ok(text)
+}
+
+/// Does a command on the bytes of a file.
+fn run_file<W: Write>(alloc: Global, which: Which, bytes: &[u8], out: &mut W) -> Result<(), Fault>
+    ensures faultless { OnOk result (file_fault which bytes.now ≡ None) }
+    ensures written { OnOk result (WritesAll (FileLines which bytes.now) (W.contents out.old) (W.contents out.new)) }
+    ensures err { IfErr result (λ fault. EndsBy fault (file_fault which bytes.now) (FileLines which bytes.now) (W.contents out.old) (W.contents out.new)) }
+{
+    let Ok(text) = str::from_utf8(bytes) else {
+        return Err(Fault::NotToml);
+    };
+    match which {
+        Which::Walk => walk_text(alloc, text, out),
+    }
+}
+
+/// Reads a file and does a command on it.
+fn run<R: Read, W: Write>(
+    alloc: Global,
+    which: Which,
+    input: &mut R,
+    out: &mut W,
+) -> Result<(), Trouble>
+    ensures ok { OnOk result (IfSome (R.remaining input.old) (λ bytes. EndsAs which bytes done (W.contents out.old) (W.contents out.new))) }
+    ensures err { IfErr result (λ trouble. IfSome (R.remaining input.old) (λ bytes. EndsAs which bytes (ending_of trouble) (W.contents out.old) (W.contents out.new))) }
+    ensures silent { IfErr result (λ trouble. IsSilent (ending_of trouble) (W.contents out.old) (W.contents out.new)) }
+    ensures read { ReadsUpTo (most_bytes + 1) (R.remaining input.old) (R.remaining input.new) }
+{
+    let bytes = read_file(alloc, input)?;
+    match run_file(alloc, which, bytes.as_slice(), out) {
+        Ok(()) => Ok(()),
+        Err(fault) => Err(Trouble::Refused(fault)),
+    }
+}
+
+/// Writes the line of a trouble, as far as it goes, and answers the status.
+fn report<E: Write>(alloc: Global, file: &str, trouble: &Trouble, err: &mut E) -> u8
+    ensures { Reports file.now (ending_of trouble.now) result (E.contents err.old) (E.contents err.new) }
+{
+    match error_text(alloc, file, trouble) {
+        Ok(text) => {
+            let _ = write_whole(err, text.as_bytes());
+            status(trouble)
+        }
+        Err(_) => {
+            let _ = write_whole(err, b"svsim: no memory\n");
+            NO_MEMORY
+        }
+    }
+}
+
+/// Does a command on the file that `input` reads, and answers the status of the program: 0 done, 2 not read, too large, or
+/// not TOML, 3 a refused scenario, 4 the output failed, 5 want of memory. At all but 0 one line goes to `err`, whose own
+/// faults count for nothing; `file` is the file's name in it. No more than 1,048,577 bytes are read, and any error of
+/// the reader is `cannot read`.
+pub fn command<R: Read, W: Write, E: Write>(
+    alloc: Global,
+    which: Which,
+    file: &str,
+    input: &mut R,
+    out: &mut W,
+    err: &mut E,
+) -> u8
+    ensures ends { IfSome (R.remaining input.old) (λ bytes. Ends which file.now bytes result (W.contents out.old) (W.contents out.new)
+        (E.contents err.old) (E.contents err.new)) }
+    ensures silent { (result ≡ 2) ⊎ (result ≡ 3) → Keeps (W.contents out.old) (W.contents out.new) }
+    ensures read { ReadsUpTo (most_bytes + 1) (R.remaining input.old) (R.remaining input.new) }
+{
+    match run(alloc, which, input, out) {
+        Ok(()) => DONE,
+        Err(trouble) => report(alloc, file, &trouble, err),
+    }
+}
