@@ -80,13 +80,11 @@ pub fn found_entry_is_mapped()
         → IsPage (entry_of asid found).page × IsTrue (is_match asid va (entry_of asid found)) }
     ensures mapped { (words : Tables) (root va : ℕ) (access : Access) (ctx : Ctx) (found : Found) (asid : ℕ) → Outcome words root va access ctx (Ok found)
         → (m : Mapping) → IsMappingOf (entry_of asid found) m → Maps words root m.page m.ppn m.flags found.global }
-{
-}
+{}
 
 /// As long as the tables map the page of an address as an entry does, the entry answers each access as a walk would.
 pub fn mapped_entry_answers_as_a_walk()
     ensures { (words : Tables) (root va : ℕ) (access : Access) (ctx : Ctx) (answer : Result Found Trap) (e : Entry) (m : Mapping) (global : Bool)
         → e.ppn < 2 ^ ppn_bits → IsMappingOf e m → m.page ≡ page_number va → Maps words root m.page m.ppn m.flags global → Outcome words root va access ctx answer
         → answer_of e va access ctx ≡ address_found answer }
-{
-}
+{}
