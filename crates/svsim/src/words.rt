@@ -1,0 +1,64 @@
+//! The words of the command line.
+
+use clap::error::ErrorKind;
+use clap::{Arg, Command, Error};
+use scenario::Which;
+use std::alloc::{AllocError, Global};
+use std::io;
+
+/// Why the words are refused.
+#[derive(Clone, Copy, Debug, PartialEq, Eq)]
+pub enum Refusal {
+    /// They are not one known command and one FILE.
+    Usage,
+    NoMemory,
+}
+
+impl From<AllocError> for Refusal {
+    fn from(_e: AllocError) -> Refusal {
+        Refusal::NoMemory
+    }
+}
+
+impl From<io::Error> for Refusal {
+    fn from(error: io::Error) -> Refusal {
+        if error.kind() == io::ErrorKind::OutOfMemory {
+            Refusal::NoMemory
+        } else {
+            Refusal::Usage
+        }
+    }
+}
+
+impl From<Error> for Refusal {
+    fn from(error: Error) -> Refusal {
+        if error.kind() == ErrorKind::OutOfMemory {
+            Refusal::NoMemory
+        } else {
+            Refusal::Usage
+        }
+    }
+}
+
+/// What the words ask for.
+#[derive(Clone, Copy, Debug)]
+pub struct Ask<'a> {
+    pub which: Which,
+    pub file: &'a str,
+}
+
+/// Reads the words, of which the first is the program's name.
+pub fn read_words<'a>(alloc: Global, words: &'a [String]) -> Result<Ask<'a>, Refusal> {
+    let command = Command::new(alloc, "svsim")
+        .arg(Arg::new(alloc, "COMMAND").required(true))?
+        .arg(Arg::new(alloc, "FILE").required(true))?;
+    let matches = command.try_get_matches_from(words)?;
+    let (Some(word), Some(file)) = (matches.get_str("COMMAND"), matches.get_str("FILE")) else {
+        return Err(Refusal::Usage);
+    };
+    let which = match word {
+        "walk" => Which::Walk,
+        _ => return Err(Refusal::Usage),
+    };
+    Ok(Ask { which, file })
+}
