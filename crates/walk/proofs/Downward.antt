@@ -6,13 +6,13 @@ use Rattle.pte.specs.declared.entry.Kind.TheVariants as kinds
 use Rattle.pte.specs.Address.{top_level}
 use Rattle.pte.specs.Entry.{kind_of}
 use Rattle.walk.specs.Leads.{Tables, word_at, PointsTo, Leads}
-use Rattle.walk.specs.Pointers.{kind_points, points, next_table, table_after}
+use Rattle.walk.specs.Pointers.{pointed_kind, pointed, next_table, table_after}
 use Rattle.walk.proofs.Paths.{leads-start, leads-below, leads-above}
 
-points-to : (word : Option ℕ) (table : ℕ) → PointsTo word table → points word ≡ Some table
-points-to word table p = ap points p.is ∙ ap kind_points p.kind
+points-to : (word : Option ℕ) (table : ℕ) → PointsTo word table → pointed word ≡ Some table
+points-to word table p = ap pointed p.is ∙ ap pointed_kind p.kind
 
-kind-points : (entry : ℕ) (kind : Kind) (table : ℕ) → kind_of entry ≡ kind → kind_points kind ≡ Some table → PointsTo (Some entry) table
+kind-points : (entry : ℕ) (kind : Kind) (table : ℕ) → kind_of entry ≡ kind → pointed_kind kind ≡ Some table → PointsTo (Some entry) table
 kind-points entry kinds.Invalid table of is = cc
 kind-points entry kinds.Reserved table of is = cc
 kind-points entry (kinds.Leaf ppn flags) table of is = cc
@@ -20,20 +20,20 @@ kind-points entry (kinds.Table ppn global) table of is =
     let same : ppn ≡ table = cc in
     record { entry = entry; global = global; is = refl; kind = of ∙ ap (λ n. kinds.Table n global) same }
 
-points-from : (word : Option ℕ) (table : ℕ) → points word ≡ Some table → PointsTo word table
+points-from : (word : Option ℕ) (table : ℕ) → pointed word ≡ Some table → PointsTo word table
 points-from None table is = cc
 points-from (Some entry) table is = kind-points entry (kind_of entry) table refl is
 
 module _ (words : Tables) (root va : ℕ) where
   -- n levels below the root
-  after-leads : (n i t : ℕ) (w : Option ℕ) → i + n ≡ top_level → (path : Leads words root va i t w) → table_after words root va n ≡ Some (path.tables i)
+  pub after-leads : (n i t : ℕ) (w : Option ℕ) → i + n ≡ top_level → (path : Leads words root va i t w) → table_after words root va n ≡ Some (path.tables i)
   after-leads zero i t w at path = let top : i ≡ top_level = omega arith in ap Some (sym path.first ∙ ap path.tables (sym top))
   after-leads (suc n) i t w at path =
       let above = leads-above words root va i (i + 1) t w (omega arith) (omega arith) path in
       let known : table_after words root va n ≡ Some (path.tables (i + 1)) = after-leads n (i + 1) (path.tables (i + 1)) _ (omega arith) above in
       let level : top_level - n ≡ i + 1 = omega arith in
       let back : i + 1 - 1 ≡ i = omega arith in
-      ap (next_table words va (top_level - n)) known ∙ ap (λ k. points (word_at words va k (path.tables (i + 1)))) level
+      ap (next_table words va (top_level - n)) known ∙ ap (λ k. pointed (word_at words va k (path.tables (i + 1)))) level
       ∙ points-to _ _ (path.pointers (i + 1) (omega arith) (omega arith)) ∙ ap (λ k. Some (path.tables k)) back
 
   next-from : (level : ℕ) (o : Option ℕ) (t : ℕ) → next_table words va level o ≡ Some t → (table : ℕ) × (o ≡ Some table) × PointsTo (word_at words va level table) t

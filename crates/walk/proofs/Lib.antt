@@ -8,3 +8,4 @@ pub mod FoundMembers
 pub mod MappedAnswers
 pub mod Stored
 pub mod Downward
+pub mod Loads

@@ -147,3 +147,17 @@ module _ (words : Tables) (root va : ℕ) where
 
   pub global_known : (i t : ℕ) (w : Option ℕ) → Leads words root va i t w → (global : Bool) × (IsTrue global ↔ IsGlobalAt words root va i)
   global_known i t w path = known-from (top_level + 1 - i) i i t w (omega (arith, path.level)) (omega arith) path
+
+  -- one level down at a pointer, and one level up from the table that it points to
+  pub leads_down : (i t u : ℕ) (v : Option ℕ) → Leads words root va (i + 1) t v → PointsTo v u → Leads words root va i u (word_at words va i u)
+  leads_down i t u v path point = leads-below i t point.entry u point.global (subst (Leads words root va (i + 1) t) point.is path) point.kind
+
+  pub leads_up : (i u : ℕ) (w : Option ℕ) → i < top_level → Leads words root va i u w → (t : ℕ) × (v : Option ℕ) × Leads words root va (i + 1) t v × PointsTo v u
+  leads_up i u w below path =
+      let back : i + 1 - 1 ≡ i = omega arith in
+      let point = path.pointers (i + 1) (omega arith) (omega arith) in (
+        path.tables (i + 1),
+        word_at words va (i + 1) (path.tables (i + 1)),
+        leads-above i (i + 1) u w (omega arith) (omega arith) path,
+        subst (PointsTo (word_at words va (i + 1) (path.tables (i + 1)))) (ap path.tables back ∙ path.last) point,
+      )

@@ -4,11 +4,12 @@ use Rattle.std.specs.Prelude.{◌↔◌, ◌==◌, ◌&&◌}
 use Rattle.std.proofs.lemmas.Bool.{cases_lt, cases_eq, cond-true, cond-false, false_from_ne_true, and_parts, and_from, eqb-true, eq-eqb}
 use Rattle.pte.specs.declared.flags.PteFlags.{PteFlags}
 use Rattle.pte.specs.Address.{top_level, vpn_of}
-use Rattle.walk.specs.Leads.{Tables, word_at, Leads, IsGlobalAt}
+use Rattle.walk.specs.Leads.{Tables, word_at, PointsTo, Leads, IsGlobalAt}
 use Rattle.walk.specs.Maps.{Maps}
 use Rattle.walk.specs.Stage.{Stage, OnPath}
 use Rattle.walk.specs.Stores.{AgreeBut, KeepsPointers, PassesThrough, stored}
-use Rattle.walk.proofs.Paths.{leads-above, same_word}
+use Rattle.walk.proofs.Paths.{leads-above, same_table, same_word}
+use Rattle.walk.proofs.Members.{nothing_below}
 
 module _ (old new : Tables) (root va : ℕ) where
   -- both memories have one word on a path, at level k and above
@@ -51,18 +52,19 @@ module _ (old new : Tables) (root va : ℕ) where
         global = g.global;
       }
 
-module _ (old new : Tables) (root va table index : ℕ) (but : AgreeBut old new table index) where
-  at_place : (t n : ℕ) → ((t ≡ table) × (n ≡ index)) ⊎ (new t n ≡ old t n)
-  at_place t n =
-      elim (cases_eq t table) [
-        | inl a ↦
-            elim (cases_eq n index) [
-              | inl b ↦ inl (a, b)
-              | inr b ↦ inr (but.elsewhere t n (λ h. b h.1))
-            ]
-        | inr a ↦ inr (but.elsewhere t n (λ h. a h.0))
-      ]
+-- the word that differs, or another
+at_place : (old new : Tables) (table index : ℕ) → AgreeBut old new table index → (t n : ℕ) → ((t ≡ table) × (n ≡ index)) ⊎ (new t n ≡ old t n)
+at_place old new table index but t n =
+    elim (cases_eq t table) [
+      | inl a ↦
+          elim (cases_eq n index) [
+            | inl b ↦ inl (a, b)
+            | inr b ↦ inr (but.elsewhere t n (λ h. b h.1))
+          ]
+      | inr a ↦ inr (but.elsewhere t n (λ h. a h.0))
+    ]
 
+module _ (old new : Tables) (root va table index : ℕ) (but : AgreeBut old new table index) where
   place : (words : Tables) (k t : ℕ) → (t ≡ table) × (vpn_of va k ≡ index) → Leads words root va k t (word_at words va k t) → Leads words root va k table (words table index)
   place words k t here path = subst (λ n. Leads words root va k table (words table n)) here.1 (subst (λ m. Leads words root va k m (word_at words va k m)) here.0 path)
 
@@ -74,7 +76,7 @@ module _ (old new : Tables) (root va table index : ℕ) (but : AgreeBut old new 
         | inr passes ↦ inr passes
         | inl agree ↦
             let level : k ≤ top_level = omega arith in
-            elim (at_place (path.tables k) (vpn_of va k)) [
+            elim (at_place old new table index but (path.tables k) (vpn_of va k)) [
               | inl here ↦
                   inr (record {
                     level = k;
@@ -188,3 +190,29 @@ pub maps_or_pass-back : (old new : Tables) (root page ppn table index : ℕ) (fl
     → (m : Maps new root page ppn flags global) → Maps old root page ppn flags global ⊎ PassesThrough old new root m.va m.level table index
 maps_or_pass-back old new root page ppn table index flags global but m =
     either_turned _ old new root m.va m.level table index (maps_or_pass new old root page ppn table index flags global (AgreeBut-turned old new table index but) m)
+
+-- a store over a word that is no pointer keeps the pointers
+pub pointers-kept : (old new : Tables) (table index : ℕ) → AgreeBut old new table index → ((next : ℕ) → PointsTo (old table index) next → ⊥) → KeepsPointers old new
+pointers-kept old new table index but none = record {
+  kept = λ t n next point.
+      elim (at_place old new table index but t n) [
+        | inl here ↦
+            let there : PointsTo (old table n) next = subst (λ m. PointsTo (old m n) next) here.0 point in
+            absurd (none next (subst (λ m. PointsTo (old table m) next) here.1 there))
+        | inr same ↦ same
+      ];
+}
+
+-- and a path that passes through that word ends there
+pub passes_at_end : (old new : Tables) (root va table index i t : ℕ) (w : Option ℕ) → Leads old root va i t w → ((next : ℕ) → PointsTo (old table index) next → ⊥)
+    → PassesThrough old new root va i table index → (t ≡ table) × (vpn_of va i ≡ index) × (w ≡ old table index) × Leads new root va i table (new table index)
+passes_at_end old new root va table index i t w path none p =
+    let from : i ≤ p.level = p.from in
+    let up = nothing_below old root va p.level i table t (old table index) w p.before none path in
+    let level : p.level ≡ i = omega arith in
+    let here : Leads old root va i table (old table index) = subst (λ k. Leads old root va k table (old table index)) level p.before in (
+      same_table old root va i t table w (old table index) path here,
+      ap (vpn_of va) (sym level) ∙ p.asked,
+      same_word old root va i t table w (old table index) path here,
+      subst (λ k. Leads new root va k table (new table index)) level p.after,
+    )

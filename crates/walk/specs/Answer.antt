@@ -1,5 +1,5 @@
 -- What a walk answers for the word at which it ends
--- (privileged manual, "Sv32", Virtual Address Translation Process, steps 2 to 8; "Supervisor Cause Register").
+-- (privileged manual 4.3.2, steps 2 to 8; 4.1.8, the exception codes of scause).
 use Rattle.std.specs.Prelude.{ℕ, Bool, ◌+◌, ◌*◌, ◌%◌, ◌==◌, ◌&&◌, not, if◌then◌else◌, Option, Some, None, Result, Ok, Err, true, false}
 use Rattle.pte.specs.declared.permission.Access.{Access}
 use Rattle.pte.specs.declared.permission.Access.TheVariants.{Fetch, Load, Store}
@@ -9,7 +9,7 @@ use Rattle.pte.specs.declared.address.PageSize.{PageSize}
 use Rattle.pte.specs.declared.address.PageSize.TheVariants.{Kib4, Mib2, Gib1}
 use Rattle.pte.specs.declared.entry.Kind.{Kind}
 use Rattle.pte.specs.declared.entry.Kind.TheVariants as kinds
-use Rattle.pte.specs.Address.{bytes_of, level_bytes, level_pages, page_around}
+use Rattle.pte.specs.Address.{bytes_of, level_bytes, level_of, level_pages, page_around}
 use Rattle.pte.specs.Entry.{kind_of, is_accessed, is_dirty}
 use Rattle.pte.specs.Permission.{is_permitted, page_cause_of, access_cause_of}
 use Rattle.walk.specs.declared.found_or_trap.Found.{Found}
@@ -26,7 +26,7 @@ outside_trap access = record { cause = access_cause_of access; why = Outside }
 
 -- the size of the page of a leaf at level i
 abbrev pub size_at : ℕ → PageSize
-size_at i = if i == 0 then Kib4 else if i == 1 then Mib2 else Gib1
+size_at i = if i == level_of Kib4 then Kib4 else if i == level_of Mib2 then Mib2 else Gib1
 
 -- what a leaf at level i gives for an address: the low bits of the physical address are those of the virtual one
 abbrev pub found_at : ℕ → ℕ → Bool → ℕ → PteFlags → Found

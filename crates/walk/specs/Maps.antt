@@ -1,4 +1,4 @@
--- The pages of 4 KiB that the tables of a root map.
+-- The pages of 4 KiB that the tables of a root map (privileged manual 4.3.2, step 8; 4.3.1, G).
 use Rattle.std.specs.Prelude.{ℕ, Bool, ◌≡◌, ◌+◌, ◌/◌, ◌%◌, ◌↔◌, Some, IsTrue}
 use Rattle.pte.specs.declared.address.PageSize.TheVariants.{Kib4}
 use Rattle.pte.specs.declared.flags.PteFlags.{PteFlags}

@@ -1,5 +1,5 @@
 -- What the translation of an address answers
--- (privileged manual, "Sv32", Virtual Address Translation Process; "Sv39", Addressing and Memory Protection).
+-- (privileged manual 4.3.2, virtual address translation process; 4.4.1, canonical addresses).
 use Rattle.std.specs.Prelude.{ℕ, Bool, ◌≡◌, ◌≤◌, ◌⊎◌, ◌↔◌, Option, Result, Err, IsTrue}
 use Rattle.pte.specs.declared.permission.Access.{Access}
 use Rattle.pte.specs.declared.permission.Ctx.{Ctx}

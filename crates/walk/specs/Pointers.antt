@@ -1,27 +1,35 @@
--- The path of an address, computed from the root down.
-use Rattle.std.specs.Prelude.{ℕ, zero, suc, ◌-◌, Option, Some, None}
+-- The tables of an address, computed pointer by pointer.
+use Rattle.std.specs.Prelude.{ℕ, Bool, zero, suc, ◌-◌, ◌&&◌, nat_lt, is_some, Option, Some, None}
 use Rattle.pte.specs.declared.entry.Kind.{Kind}
 use Rattle.pte.specs.declared.entry.Kind.TheVariants as kinds
 use Rattle.pte.specs.Address.{top_level}
 use Rattle.pte.specs.Entry.{kind_of}
 use Rattle.walk.specs.Leads.{Tables, word_at}
 
--- the table that a kind, and a word, points to
-abbrev pub kind_points : Kind → Option ℕ
-kind_points kinds.Invalid = None
-kind_points kinds.Reserved = None
-kind_points (kinds.Table ppn global) = Some ppn
-kind_points (kinds.Leaf ppn flags) = None
+-- the table that an entry of a kind, and a word, points to
+abbrev pub pointed_kind : Kind → Option ℕ
+pointed_kind kinds.Invalid = None
+pointed_kind kinds.Reserved = None
+pointed_kind (kinds.Table ppn global) = Some ppn
+pointed_kind (kinds.Leaf ppn flags) = None
 
-abbrev pub points : Option ℕ → Option ℕ
-points None = None
-points (Some word) = kind_points (kind_of word)
+abbrev pub pointed : Option ℕ → Option ℕ
+pointed None = None
+pointed (Some word) = pointed_kind (kind_of word)
 
 abbrev pub next_table : Tables → ℕ → ℕ → Option ℕ → Option ℕ
 next_table words va level None = None
-next_table words va level (Some table) = points (word_at words va level table)
+next_table words va level (Some table) = pointed (word_at words va level table)
 
--- the table to which the first n pointers of an address lead, if there are that many
+-- the table that n pointers of an address lead to from a table of a level, if there are that many
+abbrev pub table_below : Tables → ℕ → ℕ → ℕ → ℕ → Option ℕ
+table_below words va level table zero = Some table
+table_below words va level table (suc n) = next_table words va (level - n) (table_below words va level table n)
+
+-- and from the root
 abbrev pub table_after : Tables → ℕ → ℕ → ℕ → Option ℕ
-table_after words root va zero = Some root
-table_after words root va (suc n) = next_table words va (top_level - n) (table_after words root va n)
+table_after words root va n = table_below words va top_level root n
+
+-- after this many loads of a walk a pointer above level 0 leads
+abbrev pub goes_on : Tables → ℕ → ℕ → ℕ → Bool
+goes_on words root va loads = nat_lt loads top_level && is_some (table_after words root va (suc loads))

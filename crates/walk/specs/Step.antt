@@ -1,5 +1,5 @@
 -- What a walk makes of the next word
--- (privileged manual, "Sv32", Virtual Address Translation Process, step 4: a pointer goes on one level below).
+-- (privileged manual 4.3.2, step 4: a pointer goes on one level below).
 use Rattle.std.specs.Prelude.{ℕ, ◌-◌, ◌==◌, ◌||◌, if◌then◌else◌, Option, Some, None, Result, Ok, Err}
 use Rattle.pte.specs.declared.entry.Kind.{Kind}
 use Rattle.pte.specs.declared.entry.Kind.TheVariants as kinds

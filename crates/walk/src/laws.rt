@@ -1,23 +1,24 @@
 //! Laws of the definitions: each function does nothing, and its contract is the law.
 
-ghost use Rattle.std.specs.Prelude.{ℕ, Bool, ◌≡◌, ◌+◌, ◌-◌, ◌*◌, ◌/◌, ◌%◌, ◌^◌, ◌<◌, ◌≤◌, ◌⊎◌, ◌↔◌, Option, Some, Ok, Result, IsTrue};
+ghost use Rattle.std.specs.Prelude.{ℕ, Bool, ◌≡◌, ◌+◌, ◌-◌, ◌*◌, ◌/◌, ◌%◌, ◌^◌, ◌<◌, ◌≤◌, ◌⊎◌, ◌↔◌, Option, Some, Ok, Result, IsTrue, false, true};
 ghost use Rattle.pte.specs.declared.address.PageSize.TheVariants.{Kib4};
 ghost use Rattle.pte.specs.declared.permission.Access.{Access};
 ghost use Rattle.pte.specs.declared.permission.Ctx.{Ctx};
 ghost use Rattle.pte.specs.declared.flags.PteFlags.{PteFlags};
 ghost use Rattle.pte.specs.declared.entry.Kind.TheVariants as kinds;
-ghost use Rattle.pte.specs.Address.{Holds, IsCanonical, bytes_of, level_bytes, level_count, level_pages, pages_of, top_level};
+ghost use Rattle.pte.specs.Address.{Holds, IsCanonical, bytes_of, level_bytes, level_count, level_pages, pages_of, top_level, vpn_of};
 ghost use Rattle.pte.specs.Entry.{kind_of, ppn_bits};
 ghost use Rattle.walk.specs.declared.found_or_trap.Found.{Found};
 ghost use Rattle.walk.specs.declared.found_or_trap.Trap.{Trap};
 ghost use Rattle.walk.specs.Answer.{flags_fault, found_unless};
+ghost use Rattle.walk.specs.declared.walking.Progress.TheVariants as progress;
 ghost use Rattle.walk.specs.Leads.{IsGlobalAt, Leads, PointsTo, Tables, word_at};
 ghost use Rattle.walk.specs.Loads.{GoesOn, answer_after};
 ghost use Rattle.walk.specs.Maps.{Maps, page_number};
 ghost use Rattle.walk.specs.Outcome.{Outcome};
-ghost use Rattle.walk.specs.Pointers.{table_after};
-ghost use Rattle.walk.specs.Stage.{OnPath, Stage, start_of};
-ghost use Rattle.walk.specs.Step.{load_of};
+ghost use Rattle.walk.specs.Pointers.{goes_on, table_after};
+ghost use Rattle.walk.specs.Stage.{IsFor, OnPath, Stage, start_of};
+ghost use Rattle.walk.specs.Step.{ended, load_of};
 ghost use Rattle.walk.specs.Stores.{AgreeBut, KeepsPointers, PassesThrough, stored};
 
 /// There is one outcome of an access.
@@ -55,15 +56,33 @@ pub fn walk_stays_on_its_path()
     ensures { (old new : Tables) (root : ℕ) (s : Stage) → KeepsPointers old new → OnPath old root s → OnPath new root s }
 {}
 
-/// One table and one word lead at a level.
-pub fn one_word_leads_at_a_level()
-    ensures { (words : Tables) (root va i t u : ℕ) (v w : Option ℕ) → Leads words root va i t v → Leads words root va i u w → (t ≡ u) × (v ≡ w) }
+/// A walk on its path that has made so many loads goes on exactly where a pointer above level 0 leads after them, and else
+/// ends with the outcome.
+pub fn loads_count_the_levels_of_a_walk()
+    ensures more { (words : Tables) (root loads : ℕ) (s : Stage) → OnPath words root s → s.level + loads ≡ top_level → goes_on words root s.va loads ≡ true
+        → (next : Stage) × (load_of s (word_at words s.va s.level s.table) ≡ progress.More next) × OnPath words root next
+        × (next.level + (loads + 1) ≡ top_level) × IsFor next s.va s.access s.ctx }
+    ensures end { (words : Tables) (root loads : ℕ) (s : Stage) → OnPath words root s → s.level + loads ≡ top_level → goes_on words root s.va loads ≡ false
+        → load_of s (word_at words s.va s.level s.table) ≡ ended (answer_after level_count words (start_of root s.va s.access s.ctx)) }
 {}
 
 /// Below a word that is no pointer nothing leads.
 pub fn nothing_leads_below_the_end_of_a_path()
     ensures { (words : Tables) (root va i j t u : ℕ) (v w : Option ℕ) → Leads words root va i t v → ((next : ℕ) → ¬ PointsTo v next)
         → Leads words root va j u w → i ≤ j }
+{}
+
+/// A path begins at the root, goes on one level below at a pointer, and comes from nowhere else.
+pub fn paths_go_pointer_by_pointer()
+    ensures start { (words : Tables) (root va : ℕ) → Leads words root va top_level root (word_at words va top_level root) }
+    ensures down { (words : Tables) (root va i t u : ℕ) (v : Option ℕ) → Leads words root va (i + 1) t v → PointsTo v u → Leads words root va i u (word_at words va i u) }
+    ensures up { (words : Tables) (root va i u : ℕ) (w : Option ℕ) → i < top_level → Leads words root va i u w
+        → (t : ℕ) × (v : Option ℕ) × Leads words root va (i + 1) t v × PointsTo v u }
+{}
+
+/// One table and one word lead at a level.
+pub fn one_word_leads_at_a_level()
+    ensures { (words : Tables) (root va i t u : ℕ) (v w : Option ℕ) → Leads words root va i t v → Leads words root va i u w → (t ≡ u) × (v ≡ w) }
 {}
 
 /// What leads at level i is the word of the table that is reached from the root over as many pointers as i lies below the
@@ -143,6 +162,14 @@ pub fn what_leads_passes_through_a_change()
         → Leads new root va i t w ⊎ PassesThrough old new root va i table index }
     ensures before { (old new : Tables) (root va table index i t : ℕ) (w : Option ℕ) → AgreeBut old new table index → Leads new root va i t w
         → Leads old root va i t w ⊎ PassesThrough old new root va i table index }
+{}
+
+/// A store over a word that is no pointer keeps the pointers, and a path that passes through that word ends there.
+pub fn store_over_no_pointer_is_at_an_end()
+    ensures pointers { (old new : Tables) (table index : ℕ) → AgreeBut old new table index → ((next : ℕ) → ¬ PointsTo (old table index) next) → KeepsPointers old new }
+    ensures end { (old new : Tables) (root va table index i t : ℕ) (w : Option ℕ) → Leads old root va i t w → ((next : ℕ) → ¬ PointsTo (old table index) next)
+        → PassesThrough old new root va i table index
+        → (t ≡ table) × (vpn_of va i ≡ index) × (w ≡ old table index) × Leads new root va i table (new table index) }
 {}
 
 /// So does what is mapped.

@@ -1,5 +1,5 @@
 //! The walk of Sv39 from a virtual address to its leaf, one word of a table at a time
-//! (privileged manual, "Sv39: Page-Based 39-bit Virtual-Memory System", and "Sv32", Virtual Address Translation Process).
+//! (privileged manual 4.3.2, virtual address translation process, and 4.4.1, Sv39).
 #![tactic(auto)]
 
 mod found_or_trap;
