@@ -4,3 +4,4 @@ pub mod Keeping
 pub mod Translating
 pub mod Mapped
 pub mod Walked
+mod WorkedRows

@@ -1,7 +1,7 @@
 -- Entries that a walk gave, and what an entry answers while its page stays mapped.
-use Rattle.std.proofs.Common.{◌≡◌, ℕ, ◌+◌, ◌*◌, ◌/◌, ◌%◌, ◌^◌, ◌<◌, ◌≤◌, Bool, true, Option, Some, None, Result, Ok, Err, IsTrue, sym, ◌∙◌, ap, subst, refl, inl, inr, arith}
-use Rattle.std.specs.Prelude.{◌==◌, ◌||◌}
-use Rattle.std.proofs.lemmas.Bool.{and_from, or_right, eq-eqb}
+use Rattle.std.proofs.Common.{◌≡◌, ℕ, ◌+◌, ◌*◌, ◌%◌, ◌^◌, ◌<◌, Bool, false, Option, Some, None, Result, Ok, IsTrue, sym, ◌∙◌, ap, subst, refl, inl, inr, arith}
+use Rattle.std.specs.Prelude.{◌==◌, ◌&&◌, ◌||◌, not}
+use Rattle.std.proofs.lemmas.Bool.{and_from, or_right, eq-eqb, false_from_ne_true, not_from_false}
 use Rattle.pte.specs.declared.address.PageSize.{PageSize}
 use Rattle.pte.specs.declared.address.PageSize.TheVariants.{Kib4, Mib2, Gib1}
 use Rattle.pte.specs.declared.permission.Access.{Access}
@@ -21,9 +21,10 @@ use Rattle.walk.proofs.MappedAnswers.{mapped_answer}
 use Rattle.walk.proofs.Unique.{outcome_unique}
 use Rattle.tlb.specs.declared.store.Entry.{Entry}
 use Rattle.tlb.specs.Answer.{address_found, address_of, answer_of, entry_of, unless}
-use Rattle.tlb.specs.Entries.{holds, is_match}
-use Rattle.tlb.specs.Mappings.{IsMappingOf, Mapping}
-use Rattle.tlb.proofs.Overlapping.{holds-Holds}
+use Rattle.tlb.specs.Entries.{is_match}
+use Rattle.tlb.specs.Mappings.{IsMappingOf, Mapping, maps_into}
+use Rattle.tlb.specs.Service.{overlaps}
+use Rattle.tlb.proofs.Overlapping.{holds-Holds, overlaps-Overlap}
 
 -- the page of a size around a canonical address is a page, and has the address
 around : (size : PageSize) (va : ℕ) → IsCanonical va → IsPage (page_around va size) × Holds (page_around va size) va
@@ -33,6 +34,10 @@ around Mib2 va (inl low) = (record { canonical = inl (omega arith); aligned = om
 around Mib2 va (inr high) = let a = high.0 in let b = high.1 in (record { canonical = inr (omega arith, omega arith); aligned = omega arith }, record { from = omega arith; below = omega arith })
 around Gib1 va (inl low) = (record { canonical = inl (omega arith); aligned = omega arith }, record { from = omega arith; below = omega arith })
 around Gib1 va (inr high) = let a = high.0 in let b = high.1 in (record { canonical = inr (omega arith, omega arith); aligned = omega arith }, record { from = omega arith; below = omega arith })
+
+no_overlap : (page : Span) (space : Option ℕ) (e : Entry) → overlaps page e.page ≡ false → IsTrue (not (maps_into page space e))
+no_overlap page None e apart = not_from_false _ apart
+no_overlap page (Some asid) e apart = ap (λ b. not (b && (e.global || (e.asid == asid)))) apart
 
 module _ (words : Tables) (root va : ℕ) (access : Access) (ctx : Ctx) (found : Found) (asid : ℕ) (is : Outcome words root va access ctx (Ok found)) where
   found_page : IsPage found.page × Holds found.page va
@@ -52,6 +57,15 @@ module _ (words : Tables) (root va : ℕ) (access : Access) (ctx : Ctx) (found :
       let moved : Maps words root m.page (found.ppn + m.page % pages_of found.page.size) found.flags found.global =
       subst (λ n. Maps words root n (found.ppn + n % pages_of found.page.size) found.flags found.global) number there in
       subst (λ (f : PteFlags). Maps words root m.page m.ppn f found.global) (sym of.flags) (subst (λ n. Maps words root m.page n found.flags found.global) (sym of.ppn) moved)
+
+  -- where the tables map nothing in a page, the page that is found does not overlap it
+  pub entry_is_elsewhere : (page : Span) → ((at ppn : ℕ) (flags : PteFlags) (global : Bool) → Holds page at → ¬ Maps words root (page_number at) ppn flags global) → (space : Option ℕ) → IsTrue (not (maps_into page space (entry_of asid found)))
+  entry_is_elsewhere page unmapped space =
+      let apart : overlaps page found.page ≡ false =
+      false_from_ne_true _ (λ on.
+      let o = (overlaps-Overlap page found.page).0 on in
+      unmapped o.0 _ _ _ o.1 (found_page_member words root va access ctx found is o.0 o.2)) in
+      no_overlap page space (entry_of asid found) apart
 
 -- the place in the entry's page, by the page of 4 KiB
 place : (size : PageSize) (ppn va : ℕ) → ppn * bytes_of Kib4 + va % bytes_of size ≡ (ppn + page_number va % pages_of size) * bytes_of Kib4 + va % bytes_of Kib4

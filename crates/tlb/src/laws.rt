@@ -7,6 +7,7 @@ ghost use Rattle.pte.specs.declared.address.What.{What};
 ghost use Rattle.pte.specs.declared.address.What.TheVariants.{PageOf, SpaceOf};
 ghost use Rattle.pte.specs.declared.permission.Access.{Access};
 ghost use Rattle.pte.specs.declared.permission.Ctx.{Ctx};
+ghost use Rattle.pte.specs.declared.flags.PteFlags.{PteFlags};
 ghost use Rattle.pte.specs.Entry.{ppn_bits};
 ghost use Rattle.tlb.specs.declared.store.Entry.{Entry};
 ghost use Rattle.walk.specs.declared.found_or_trap.Found.{Found};
@@ -80,6 +81,13 @@ pub fn found_entry_is_mapped()
         → IsPage (entry_of asid found).page × IsTrue (is_match asid va (entry_of asid found)) }
     ensures mapped { (words : Tables) (root va : ℕ) (access : Access) (ctx : Ctx) (found : Found) (asid : ℕ) → Outcome words root va access ctx (Ok found)
         → (m : Mapping) → IsMappingOf (entry_of asid found) m → Maps words root m.page m.ppn m.flags found.global }
+{}
+
+/// Where the tables map nothing in a page, what a walk finds does not map into it, for any ASID.
+pub fn unmapped_page_is_not_found()
+    ensures { (words : Tables) (root va : ℕ) (access : Access) (ctx : Ctx) (found : Found) (asid : ℕ) → Outcome words root va access ctx (Ok found) → (page : Span)
+        → ((at ppn : ℕ) (flags : PteFlags) (global : Bool) → Holds page at → ¬ Maps words root (page_number at) ppn flags global)
+        → (space : Option ℕ) → IsTrue (not (maps_into page space (entry_of asid found))) }
 {}
 
 /// As long as the tables map the page of an address as an entry does, the entry answers each access as a walk would.

@@ -3,7 +3,7 @@
 ghost use Rattle.std.specs.Prelude.{◌≡◌, ◌↔◌, [], IsSome, IsTrue, Option, filter, find, not};
 ghost use Rattle.pte.specs.Address.{Overlap};
 ghost use Rattle.tlb.specs.Answer.{answer_of, entry_of};
-ghost use Rattle.tlb.specs.Entries.{filled, first_match, is_match};
+ghost use Rattle.tlb.specs.Entries.{IsTlb, filled, first_match, is_match};
 ghost use Rattle.tlb.specs.Fence.{fenced, is_fenced, is_of_space};
 ghost use Rattle.tlb.specs.Mappings.{IsMappedBy, Translates};
 ghost use Rattle.tlb.specs.Service.{is_served, overlaps, served, Served};
@@ -82,18 +82,21 @@ impl Model for Tlb {
     ghost invariant = { λ t. IsTlb t.entries.items };
 }
 
+// The page has the address, and the entry is global or of the ASID.
 fn is_match(entry: &Entry, asid: u16, va: VirtAddr) -> bool
     ensures { result ≡ is_match asid va entry.now }
 {
     entry.page.contains(va) && (entry.global || entry.asid == asid)
 }
 
+// The entry is of the ASID that the low bits of rs2 name, and not global.
 fn is_of_space(entry: &Entry, rs2: u64) -> bool
     ensures { result ≡ is_of_space rs2 entry.now }
 {
     !entry.global && u64::from(entry.asid) == rs2 % ASIDS
 }
 
+// The fence takes the entry out.
 fn is_fenced(entry: &Entry, rs1: Option<u64>, rs2: Option<u64>) -> bool
     ensures { result ≡ is_fenced rs1 rs2 entry.now }
 {
@@ -111,12 +114,14 @@ fn is_fenced(entry: &Entry, rs1: Option<u64>, rs2: Option<u64>) -> bool
     by_address && by_space
 }
 
+// Some address lies in both pages.
 fn overlaps(page: &Page, other: &Page) -> bool
     ensures { result ≡ overlaps page.now other.now }
 {
     page.overlaps(other)
 }
 
+// The service of a page takes the entry out.
 fn is_served(entry: &Entry, page: &Page, asid: Option<u16>) -> bool
     ensures { result ≡ is_served (What.PageOf page.now asid) entry.now }
 {
@@ -127,24 +132,28 @@ fn is_served(entry: &Entry, page: &Page, asid: Option<u16>) -> bool
         }
 }
 
+// The oldest entry that matches.
 fn first_match(entries: &[Entry], asid: u16, va: VirtAddr) -> Option<Entry>
     ensures { result ≡ first_match entries.now asid va }
 {
     entries.iter().copied().find(|e| is_match(e, asid, va))
 }
 
+// Leaves what the fence does not take out.
 fn drop_fenced(entries: &mut ArrayVec<Entry, TLB_SIZE>, rs1: Option<u64>, rs2: Option<u64>)
     ensures { entries.new.items ≡ fenced entries.old.items rs1 rs2 }
 {
     entries.retain(|e| !is_fenced(e, rs1, rs2));
 }
 
+// Leaves what the service of a page does not take out.
 fn drop_served(entries: &mut ArrayVec<Entry, TLB_SIZE>, page: &Page, asid: Option<u16>)
     ensures { entries.new.items ≡ served entries.old.items (What.PageOf page.now asid) }
 {
     entries.retain(|e| !is_served(e, page, asid));
 }
 
+// Makes room at the old end, and adds an entry at the young end.
 fn push_youngest(entries: &mut ArrayVec<Entry, TLB_SIZE>, entry: Entry)
     ensures { entries.new.items ≡ filled entries.old.items entry }
 {
@@ -152,6 +161,14 @@ fn push_youngest(entries: &mut ArrayVec<Entry, TLB_SIZE>, entry: Entry)
         entries.remove(0);
     }
     entries.push(entry);
+}
+
+impl Default for Tlb {
+    ghost is_default = { λ t. t ≡ [] };
+
+    fn default() -> Tlb {
+        Tlb::new()
+    }
 }
 
 impl Tlb {
@@ -164,9 +181,11 @@ impl Tlb {
         }
     }
 
-    /// The oldest entry whose page has the address and that is global or of the ASID.
+    /// The oldest entry whose page has the address and that is global or of the ASID. There is one exactly if the mappings
+    /// of the entries translate the address for that ASID.
     pub fn lookup(&self, asid: u16, va: VirtAddr) -> Option<Entry>
         ensures oldest { result ≡ first_match self.now asid va }
+        ensures kept { IsTlb self.now }
         ensures translates { IsSome result ↔ Translates (IsMappedBy self.now) asid va }
     {
         first_match(&self.entries, asid, va)
@@ -176,6 +195,7 @@ impl Tlb {
     pub fn fill(&mut self, entry: Entry)
         ensures { self.new ≡ filled self.old entry }
     {
+        // A page tells here that it is aligned and canonical, which the TLB keeps of each entry.
         let _base = entry.page.base();
         push_youngest(&mut self.entries, entry);
     }
@@ -200,10 +220,12 @@ impl Tlb {
         }
     }
 
+    // The service of a page: one test an entry, in place of a fence for each address.
     fn serve_page(&mut self, page: &Page, asid: Option<u16>)
         ensures list { self.new ≡ served self.old (What.PageOf page.now asid) }
         ensures meaning { Served self.old (What.PageOf page.now asid) self.new }
     {
+        // A page tells here that it is aligned and canonical, so that a fence for each of its addresses counts.
         let _base = page.base();
         drop_served(&mut self.entries, page, asid);
     }

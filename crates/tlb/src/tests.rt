@@ -41,7 +41,7 @@ fn lookup(rt: &impl Abort, tlb: &Tlb, asid: u16, va: u64) -> Option<Entry> {
 }
 
 fn filled(probes: &[Probe]) -> Tlb {
-    let mut tlb = Tlb::new();
+    let mut tlb = Tlb::default();
     for probe in probes {
         tlb.fill(probe.entry);
     }

@@ -10,3 +10,6 @@ returns-clause-translates c =
     let pages : All (λ e. IsPage e.page) c.args.self.now = rw (← c.self.view_is) c.self.invariant.pages in
     let is : c.first_match.result ≡ first_match c.args.self.now c.args.asid c.args.va = search rules in
     rw is (first_match_translates c.args.self.now c.args.asid c.args.va pages)
+
+pub returns-clause-kept : goal.returns-clause-kept
+returns-clause-kept c = rw (← c.self.view_is) c.self.invariant
