@@ -1,1 +1,11 @@
-mod Rows
+mod Splits
+mod Occurred
+mod OpenOrders
+mod Mailboxes
+mod RunsAreLawful
+mod ShootdownRows
+mod KernelRows
+mod MailboxRows
+mod EditRows
+mod SuperpageEntries
+mod RefusalRows

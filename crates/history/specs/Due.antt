@@ -11,7 +11,7 @@ use Rattle.walk.specs.declared.found_or_trap.Found.{Found}
 use Rattle.walk.specs.declared.found_or_trap.Trap.{Trap}
 use Rattle.walk.specs.declared.found_or_trap.Why.TheVariants.{NotCanonical}
 use Rattle.walk.specs.Answer.{page_trap}
-use Rattle.walk.specs.Leads.{Tables, word_at}
+use Rattle.walk.specs.Pointers.{table_after}
 use Rattle.history.specs.Setup.{Setup, asid_of}
 use Rattle.spaces.specs.declared.places.Place.{Place}
 use Rattle.spaces.specs.declared.places.Place.TheVariants.{Space, Kernel}
@@ -83,26 +83,6 @@ abbrev pub begin_reply : Setup → History → ℕ → ℕ → Access → Ctx �
 begin_reply C H hart va access ctx =
     if is_canonical va then match_reply va access ctx (first_match (entries_of C H hart) (asid_of C (space_of H hart)) va)
     else reply.Trap (page_trap access NotCanonical)
-
--- the table that a word points to
-abbrev pub pointed_by : Kind → Option ℕ
-pointed_by (kinds.Table ppn global) = Some ppn
-pointed_by kinds.Invalid = None
-pointed_by kinds.Reserved = None
-pointed_by (kinds.Leaf ppn flags) = None
-
-abbrev pub pointed_from : Option ℕ → Option ℕ
-pointed_from None = None
-pointed_from (Some word) = pointed_by (kind_of word)
-
-abbrev pub next_table : Tables → ℕ → ℕ → Option ℕ → Option ℕ
-next_table words va level None = None
-next_table words va level (Some table) = pointed_from (word_at words va level table)
-
--- the table to which n pointers lead from the root
-abbrev pub table_after : Tables → ℕ → ℕ → ℕ → Option ℕ
-table_after words root va zero = Some root
-table_after words root va (suc n) = next_table words va (top_level - n) (table_after words root va n)
 
 -- Load: a pointer above the lowest level leads at the level that the walk has come to, or it ends with the outcome of now
 abbrev pub goes_on : Setup → History → ℕ → Walk → Bool

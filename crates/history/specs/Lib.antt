@@ -2,6 +2,7 @@ pub mod Acknowledgements
 pub mod Due
 pub mod Harts
 pub mod Mailboxes
+pub mod Occurrences
 pub mod Orders
 pub mod Refusal
 pub mod Runs
@@ -10,3 +11,9 @@ pub mod Setup
 pub mod Staleness
 pub mod Tables
 pub mod Turns
+pub mod WorkedRuns
+pub mod ShootdownRuns
+pub mod KernelRuns
+pub mod MailboxRuns
+pub mod EditRuns
+pub mod RefusalRuns

@@ -2,8 +2,10 @@
 #![tactic(auto)]
 
 mod event;
+pub mod occurrences;
 mod refusal;
 mod reply;
+pub mod worked_runs;
 
 pub use event::{Event, Scope};
 pub use refusal::Refusal;

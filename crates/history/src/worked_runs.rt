@@ -1,0 +1,123 @@
+//! Worked runs: the definitions give the replies that the manual and docs/PROTOCOL.md give by hand. Each function does nothing,
+//! and its clause is the fact.
+
+ghost use Rattle.std.specs.Prelude.{ℕ, List, ◌≡◌, ◌<◌, ◌+◌, ◌*◌};
+ghost use Rattle.pte.specs.declared.address.PageSize.TheVariants.{Kib4, Mib2};
+ghost use Rattle.pte.specs.Address.{Holds, bytes_of, pages_of};
+ghost use Rattle.tlb.specs.Mappings.{IsMappedBy, Translates};
+ghost use Rattle.history.specs.Setup.{Setup};
+ghost use Rattle.history.specs.Due.{Lawful};
+ghost use Rattle.history.specs.Harts.{entries_of};
+ghost use Rattle.history.specs.WorkedRuns.{IsEachDueAfter, IsRun, Step, history_of, large_page, one_hart, three_harts, two_harts};
+ghost use Rattle.history.specs.ShootdownRuns as shootdowns;
+ghost use Rattle.history.specs.KernelRuns as kernel;
+ghost use Rattle.history.specs.MailboxRuns as mailboxes;
+ghost use Rattle.history.specs.EditRuns as edits;
+ghost use Rattle.history.specs.RefusalRuns as refusals;
+
+/// The steps of a worked run make a lawful history.
+#[tactic(auto, using(crate::proofs::RunsAreLawful::lawful_run))]
+pub fn run_is_lawful()
+    ensures { (C : Setup) (steps : List Step) → IsRun C steps → Lawful C (history_of steps) }
+{}
+
+/// A page of 2 MiB is unmapped while another hart holds it: the hart uses it until it serves the request, and not after.
+#[tactic(auto, using(crate::proofs::ShootdownRows::superpage_shootdown))]
+pub fn superpage_shootdown()
+    ensures { IsRun two_harts shootdowns.superpage_shootdown }
+{}
+
+/// Before its service of the request the hart translates each of the 512 small pages of the page; once it has acknowledged,
+/// no address of the page, also when the number of the ticket was given to the next order.
+pub fn superpage_is_translated_until_service()
+    ensures before { (k : ℕ) → k < pages_of Mib2 → Translates (IsMappedBy (entries_of two_harts (history_of shootdowns.superpage_until_service) 1)) 1 (0x400000 + k * bytes_of Kib4) }
+    ensures acknowledged { (va : ℕ) → Holds (large_page 0x400000) va → ¬ Translates (IsMappedBy (entries_of two_harts (history_of shootdowns.superpage_until_acknowledged) 1)) 1 va }
+    ensures ticket_used_again { (va : ℕ) → Holds (large_page 0x400000) va → ¬ Translates (IsMappedBy (entries_of two_harts (history_of shootdowns.ticket_used_again) 1)) 1 va }
+{}
+
+/// The number of a finished ticket is given to the next order.
+#[tactic(auto, using(crate::proofs::ShootdownRows::ticket_used_again))]
+pub fn ticket_used_again()
+    ensures { IsRun two_harts shootdowns.ticket_used_again }
+{}
+
+/// A page is unmapped between two loads of a walk: the next load sees it, and the hart takes no request before.
+#[tactic(auto, using(crate::proofs::ShootdownRows::unmapped_in_mid_walk))]
+pub fn unmapped_in_mid_walk()
+    ensures { IsRun two_harts shootdowns.unmapped_in_mid_walk }
+{}
+
+/// A page is mapped anew before a named hart served the request of its unmapping: that hart uses the old translation until
+/// then, and the new one after.
+#[tactic(auto, using(crate::proofs::ShootdownRows::mapped_anew_before_service))]
+pub fn mapped_anew_before_service()
+    ensures { IsRun three_harts shootdowns.mapped_anew_before_service }
+{}
+
+/// A page loses W while another hart holds it: the hart stores to it until it serves the request, and not after.
+#[tactic(auto, using(crate::proofs::ShootdownRows::superpage_made_read_only))]
+pub fn superpage_made_read_only()
+    ensures { IsRun two_harts shootdowns.superpage_made_read_only }
+{}
+
+/// The request for a space drops what a hart holds of that space, and nothing of another.
+#[tactic(auto, using(crate::proofs::ShootdownRows::space_flush))]
+pub fn space_flush()
+    ensures { IsRun shootdowns.spaces_of_one_home shootdowns.space_flush }
+{}
+
+/// A kernel page is found in every space. It outlives a fence for its address and an ASID, and goes by the request for the
+/// kernel page.
+#[tactic(auto, using(crate::proofs::KernelRows::kernel_page_outlives_an_asid_fence))]
+pub fn kernel_page_outlives_an_asid_fence()
+    ensures { IsRun kernel.spaces_of_two_homes kernel.kernel_page_outlives_an_asid_fence }
+{}
+
+/// A kernel page outlives the request for a space.
+#[tactic(auto, using(crate::proofs::KernelRows::kernel_page_outlives_a_space_request))]
+pub fn kernel_page_outlives_a_space_request()
+    ensures { IsRun kernel.spaces_of_two_homes kernel.kernel_page_outlives_a_space_request }
+{}
+
+/// A full mailbox has room again only when an acknowledgement is collected, it keeps its order, and a closed one gives out
+/// what waits and accepts nothing.
+#[tactic(auto, using(crate::proofs::MailboxRows::bound_order_and_close))]
+pub fn bound_order_and_close()
+    ensures { IsRun mailboxes.mailboxes_of_two mailboxes.bound_order_and_close }
+{}
+
+/// A mailbox is closed in the middle of a shootdown: what was posted is served and finished, what was not stays open.
+#[tactic(auto, using(crate::proofs::MailboxRows::close_in_mid_shootdown))]
+pub fn close_in_mid_shootdown()
+    ensures { IsRun two_harts mailboxes.close_in_mid_shootdown }
+{}
+
+/// A hart has 64 tickets, and an opening takes the lowest number that is free.
+#[tactic(auto, using(crate::proofs::MailboxRows::tickets_run_out))]
+pub fn tickets_run_out()
+    ensures { IsRun one_hart mailboxes.tickets_run_out }
+{}
+
+/// Each refusal of an edit, right after a page of 2 MiB was mapped.
+#[tactic(auto, using(crate::proofs::EditRows::refused_edits))]
+pub fn refused_edits()
+    ensures { IsEachDueAfter two_harts shootdowns.map_superpage edits.refused_edits }
+{}
+
+/// A new table wants an unused spare frame of the home.
+#[tactic(auto, using(crate::proofs::EditRows::spare_frames_run_out))]
+pub fn spare_frames_run_out()
+    ensures { IsRun edits.one_spare_frame edits.spare_frames_run_out }
+{}
+
+/// The 17th fill drops the first entry.
+#[tactic(auto, using(crate::proofs::EditRows::seventeen_fills))]
+pub fn seventeen_fills()
+    ensures { IsRun one_hart edits.seventeen_fills }
+{}
+
+/// Of several refusals the first is answered: what is not there, and what a hart may not do while it walks or serves.
+#[tactic(auto, using(crate::proofs::RefusalRows::refusals_in_order))]
+pub fn refusals_in_order()
+    ensures { IsRun two_harts refusals.refusals_in_order }
+{}
