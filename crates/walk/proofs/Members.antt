@@ -32,32 +32,32 @@ pub record SameMember (ppn : ℕ) (flags : PteFlags) (global : Bool) (ppn' : ℕ
   pub same_flags : flags ≡ flags'
   pub same_global : global ≡ global'
 
-module _ (words : Tables) (root page ppn qpn : ℕ) (flags glags : PteFlags) (global hlobal : Bool) (p : Maps words root page ppn flags global) (q : Maps words root page qpn glags hlobal) where
+module _ (words : Tables) (root page ppn ppn' : ℕ) (flags flags' : PteFlags) (global global' : Bool) (p : Maps words root page ppn flags global) (q : Maps words root page ppn' flags' global') where
   one_address : p.va / level_bytes 0 ≡ q.va / level_bytes 0
   one_address = p.of_page ∙ sym q.of_page
 
   moved : Leads words root q.va p.level p.table (Some p.entry)
   moved = leads_page words root p.va q.va 0 one_address p.level p.table (Some p.entry) (omega arith) p.leads
 
-  one-level : p.level ≡ q.level → SameMember ppn flags global qpn glags hlobal
+  one-level : p.level ≡ q.level → SameMember ppn flags global ppn' flags' global'
   one-level level =
       let there : Leads words root q.va q.level p.table (Some p.entry) = subst (λ k. Leads words root q.va k p.table (Some p.entry)) level moved in
       let entries : p.entry ≡ q.entry = let e = same_word words root q.va q.level p.table q.table (Some p.entry) (Some q.entry) there q.leads in cc in
-      let kinds : Leaf p.leaf flags ≡ Leaf q.leaf glags = sym p.kind ∙ ap kind_of entries ∙ q.kind in
+      let kinds : Leaf p.leaf flags ≡ Leaf q.leaf flags' = sym p.kind ∙ ap kind_of entries ∙ q.kind in
       let leaves : p.leaf ≡ q.leaf = cc in
       record {
         same_ppn = p.place ∙ ap (λ n. n + page % level_pages p.level) leaves ∙ ap (λ k. q.leaf + page % level_pages k) level ∙ sym q.place;
         same_flags = cc;
-        same_global = same_bool global hlobal (
+        same_global = same_bool global global' (
           (λ h. q.is_global.1 (subst (IsGlobalAt words root q.va) level (global_page words root p.va q.va 0 one_address p.level (omega arith) (p.is_global.0 h)))),
           (λ h. p.is_global.1 (subst (IsGlobalAt words root p.va) (sym level) (global_page words root q.va p.va 0 (sym one_address) q.level (omega arith) (q.is_global.0 h)))),
         );
       }
 
-  pub one_member : SameMember ppn flags global qpn glags hlobal
+  pub one_member : SameMember ppn flags global ppn' flags' global'
   one_member =
       let up = nothing_below words root q.va p.level q.level p.table q.table (Some p.entry) (Some q.entry) moved (leaf_ends p.entry p.leaf flags p.kind) q.leads in
-      let down = nothing_below words root q.va q.level p.level q.table p.table (Some q.entry) (Some p.entry) q.leads (leaf_ends q.entry q.leaf glags q.kind) moved in
+      let down = nothing_below words root q.va q.level p.level q.table p.table (Some q.entry) (Some p.entry) q.leads (leaf_ends q.entry q.leaf flags' q.kind) moved in
       one-level (omega arith)
 
 module _ (words : Tables) (root va i table : ℕ) where

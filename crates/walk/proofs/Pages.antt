@@ -2,6 +2,7 @@
 use Rattle.std.proofs.Common.{◌≡◌, ℕ, ◌+◌, ◌-◌, ◌*◌, ◌/◌, ◌%◌, ◌^◌, ◌<◌, ◌≤◌, Option, Some, ap, sym, ◌∙◌, subst, inl, inr, refl, arith}
 use Rattle.std.proofs.lemmas.Nat.{shr-shr, div-mul-add, field_of}
 use Rattle.pte.specs.declared.address.PageSize.{PageSize}
+use Rattle.pte.specs.declared.address.PageSize.TheVariants.{Kib4}
 use Rattle.pte.specs.Address.{IsCanonical, address_bits, bytes_of, level_bytes, level_pages, page_around, table_length, top_level, vpn_of, Holds}
 use Rattle.walk.specs.Leads.{Tables, PointsTo, Leads, IsGlobalAt}
 use Rattle.walk.specs.Maps.{page_number}
@@ -53,12 +54,12 @@ pub same_page-number : (a b i : ℕ) → page_number a ≡ page_number b → a /
 same_page-number a b i e = sym (page-high a i) ∙ ap (λ n. n / level_pages i) e ∙ page-high b i
 
 -- the place in a leaf's page, in pages of 4 KiB
-pub page-number_in : (ppn va i : ℕ) → page_number (ppn * 4096 + va % level_bytes i) ≡ ppn + page_number va % level_pages i
+pub page-number_in : (ppn va i : ℕ) → page_number (ppn * bytes_of Kib4 + va % level_bytes i) ≡ ppn + page_number va % level_pages i
 page-number_in ppn va i =
-    let field : va % 2 ^ (9 * i + 12) / 4096 ≡ va / 4096 % 2 ^ (9 * i) = field_of va (9 * i) 12 in
+    let field : va % 2 ^ (9 * i + 12) / bytes_of Kib4 ≡ page_number va % level_pages i = field_of va (9 * i) 12 in
     let exponents : 12 + 9 * i ≡ 9 * i + 12 = omega arith in
-    let split : (r : ℕ) → (ppn * 4096 + r) / 4096 ≡ ppn + r / 4096 = λ r. omega arith in
-    split (va % level_bytes i) ∙ ap (λ k. ppn + va % 2 ^ k / 4096) exponents ∙ ap (λ n. ppn + n) field
+    let split : (r : ℕ) → (ppn * bytes_of Kib4 + r) / bytes_of Kib4 ≡ ppn + r / bytes_of Kib4 = λ r. omega arith in
+    split (va % level_bytes i) ∙ ap (λ k. ppn + va % 2 ^ k / bytes_of Kib4) exponents ∙ ap (λ n. ppn + n) field
 
 -- what the page around an address holds
 between : (q r w n : ℕ) → q * w ≤ n → n < q * w + w → r ≡ n - q * w → n / w ≡ q
