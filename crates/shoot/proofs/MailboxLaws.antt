@@ -1,12 +1,12 @@
 -- What every lawful history of a mailbox keeps.
-use Rattle.std.proofs.Common.{◌≡◌, ◌∙◌, sym, ap, refl, ℕ, ◌+◌, ◌<◌, Bool, true, cond, List, [], ◌∷◌, ◌++◌, length, drop, slice_get, Option, Some, None, Result, Ok, Err, append_assoc, length-append, arith, leb}
+use Rattle.std.proofs.Common.{◌≡◌, ◌∙◌, sym, ap, refl, subst, ℕ, ◌+◌, ◌<◌, Bool, true, cond, List, [], ◌∷◌, ◌++◌, length, drop, slice_get, Option, Some, None, Result, Ok, Err, append_assoc, length-append, arith, leb}
 use Rattle.std.proofs.lemmas.List.{append-nil}
 use Rattle.std.proofs.lemmas.Bool.{ltb-true}
 use Rattle.std.proofs.lemmas.Bool.Decides.{nat_tests}
 use Rattle.std.specs.Option.{is_none}
 use Rattle.shoot.specs.Request.{Message}
-use Rattle.shoot.specs.Mailbox.{MailboxState, post_fault, post_answer, answer_with, with_message}
-use Rattle.shoot.specs.MailboxHistory.{Turn, Post, Take, Release, Close, accepted, accepted_by, taken, taken_by, released, is_closed, mailbox_after, IsLawful}
+use Rattle.shoot.specs.Mailbox.{MailboxState, empty_mailbox, post_fault, post_answer, answer_with, with_message}
+use Rattle.shoot.specs.MailboxHistory.{Turn, Post, Take, Release, Close, accepted, accepted_by, taken, taken_by, released, is_closed, after_turn, mailbox_after, IsDue, IsLawful, Stands}
 use Rattle.shoot.specs.declared.mailbox.PostFault.{PostFault}
 use Rattle.shoot.specs.declared.mailbox.PostFault.TheVariants.{Closed, Full}
 
@@ -123,3 +123,28 @@ none_after_close capacity (Release ∷ later) earlier lawful =
     rw (append-nil (accepted (later ++ Close ∷ earlier))) (none_after_close capacity later earlier lawful.0)
 none_after_close capacity (Close ∷ later) earlier lawful =
     rw (append-nil (accepted (later ++ Close ∷ earlier))) (none_after_close capacity later earlier lawful.0)
+
+-- ---- each call adds its turn to the history at which the mailbox stands
+
+pub stands_new : (capacity : ℕ) → Stands (empty_mailbox capacity) []
+stands_new capacity = record { lawful = tt; left = refl }
+
+capacity_after : (mailbox : MailboxState) (turn : Turn) → (after_turn mailbox turn).capacity ≡ mailbox.capacity
+capacity_after mailbox (Post message answer) = kept_by_post (λ m. m.capacity) (post_fault mailbox) mailbox message refl
+capacity_after mailbox (Take answer) = refl
+capacity_after mailbox Release = refl
+capacity_after mailbox Close = refl
+
+pub stands_after : (mailbox : MailboxState) (turn : Turn) (history : List Turn) → Stands mailbox history → IsDue mailbox turn → Stands (after_turn mailbox turn) (turn ∷ history)
+stands_after mailbox turn history stands due =
+    let kept = capacity_after mailbox turn in
+    let P : MailboxState → Type 0 = λ m. IsDue m turn in
+    let F : ℕ → Type 0 = λ capacity. IsLawful capacity (turn ∷ history) in
+    let lawful : IsLawful mailbox.capacity (turn ∷ history) = (stands.lawful, subst P stands.left due) in
+    record {
+      lawful = subst F (sym kept) lawful;
+      left = ap (λ m. after_turn m turn) stands.left ∙ ap (λ capacity. after_turn (mailbox_after capacity history) turn) (sym kept);
+    }
+
+pub stands_order : (mailbox : MailboxState) (history : List Turn) → Stands mailbox history → accepted history ≡ taken history ++ mailbox.waiting
+stands_order mailbox history stands = order mailbox.capacity history stands.lawful ∙ ap (λ (m : MailboxState). taken history ++ m.waiting) (sym stands.left)

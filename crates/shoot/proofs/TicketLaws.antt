@@ -7,8 +7,8 @@ use Rattle.std.specs.Option.{is_none}
 use Rattle.std.specs.List.{position_or_len}
 use Rattle.pte.specs.declared.address.What.{What}
 use Rattle.shoot.specs.HartSet.{contains, harts_where, harts_in}
-use Rattle.shoot.specs.Tickets.{TicketTable, if_open, ticket_at, with_ticket, with_change, changed, new_ticket, with_posted, with_acked, with_collected, lowest_free, opened, open_answer, with_opened, is_done_at, done_with, tells, names, is_acked}
-use Rattle.shoot.specs.TicketHistory.{Turn, Open, Posted, Acked, Collect, Finish, tickets_after, IsLawful, Opening, with_turn, opening_with, opening_of, acks, collects, was_posted, was_acked, collected_after_ack, was_collected, ticket_told, told_with, told}
+use Rattle.shoot.specs.Tickets.{TicketTable, no_tickets, if_open, ticket_at, with_ticket, with_change, changed, new_ticket, with_posted, with_acked, with_collected, lowest_free, opened, open_answer, with_opened, is_done_at, done_with, tells, names, is_acked}
+use Rattle.shoot.specs.TicketHistory.{Turn, Open, Posted, Acked, Collect, Finish, after_turn, tickets_after, IsDue, IsLawful, Stands, Opening, with_turn, opening_with, opening_of, acks, collects, was_posted, was_acked, collected_after_ack, was_collected, ticket_told, told_with, told}
 use Rattle.shoot.specs.declared.TheConstants.{MAX_HARTS, MAX_TICKETS}
 use Rattle.shoot.specs.declared.tickets.Ticket.{Ticket}
 use Rattle.shoot.specs.declared.tickets.Collected.{Collected}
@@ -295,3 +295,26 @@ pub done_acked : (home : ℕ) (history : List Turn) (number hart : ℕ) → IsLa
 done_acked home history number hart lawful below =
     let P : Option Ticket → Type 0 = λ place. done_with place ≡ true → tells (λ ticket. ticket.named) place hart ≡ true → tells (λ ticket. ticket.acked) place hart ≡ true in
     subst P (sym (recount home history number lawful)) (told_acked home number (opening_of history number) hart below)
+
+-- ---- each call adds its turn to the history at which the tickets stand
+
+pub stands_new : (home : ℕ) → Stands (no_tickets home) []
+stands_new home = record { lawful = tt; left = refl }
+
+pub stands_after : (table : TicketTable) (turn : Turn) (history : List Turn) → Stands table history → IsDue table turn → Stands (after_turn table turn) (turn ∷ history)
+stands_after table turn history stands due =
+    let P : TicketTable → Type 0 = λ t. IsDue t turn in
+    let F : ℕ → Type 0 = λ home. IsLawful home (turn ∷ history) in
+    let lawful : IsLawful table.hart (turn ∷ history) = (stands.lawful, subst P stands.left due) in
+    let after : after_turn table turn ≡ tickets_after table.hart (turn ∷ history) = ap (λ t. after_turn t turn) stands.left in
+    let kept : (after_turn table turn).hart ≡ table.hart = ap (λ (t : TicketTable). t.hart) after ∙ home_kept table.hart (turn ∷ history) in
+    record { lawful = subst F (sym kept) lawful; left = after ∙ ap (λ home. tickets_after home (turn ∷ history)) (sym kept) }
+
+pub stands_told : (table : TicketTable) (history : List Turn) (number : ℕ) → Stands table history → ticket_at table number ≡ told table.hart history number
+stands_told table history number stands = ap (λ t. ticket_at t number) stands.left ∙ recount table.hart history number stands.lawful
+
+pub stands_acked : (table : TicketTable) (history : List Turn) (number hart : ℕ) → Stands table history → hart < MAX_HARTS
+    → IsTrue (is_done_at table number) → IsTrue (names table number hart) → IsTrue (is_acked table number hart)
+stands_acked table history number hart stands below =
+    let P : TicketTable → Type 0 = λ t. IsTrue (is_done_at t number) → IsTrue (names t number hart) → IsTrue (is_acked t number hart) in
+    subst P (sym stands.left) (done_acked table.hart history number hart stands.lawful below)

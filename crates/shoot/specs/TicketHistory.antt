@@ -109,3 +109,8 @@ told_with home number (Some opening) = Some (ticket_told home number opening)
 
 abbrev pub told : ℕ → List Turn → ℕ → Option Ticket
 told home history number = told_with home number (opening_of history number)
+
+-- the tickets are what the history leaves of the new ones of their hart
+pub record Stands (table : TicketTable) (history : List Turn) : Type 0 where
+  pub lawful : IsLawful table.hart history
+  pub left : table ≡ tickets_after table.hart history
