@@ -1,5 +1,5 @@
 -- What the bytes of a file are, by whether they are UTF-8, and what a fault leaves.
-use Rattle.std.proofs.Common.{◌≡◌, ℕ, ◌≤◌, List, length, Err, Option, Some, inl, inr, sym, ap}
+use Rattle.std.proofs.Common.{◌≡◌, ℕ, ◌≤◌, List, length, Err, Option, Some, inl, inr, ◌⊎◌, IfSome, sym, ap, subst, None}
 use Rattle.std.proofs.lemmas.Bool.{cases_Bool}
 use Rattle.std.specs.Str.{IsUtf8, is_utf8}
 use Rattle.std.proofs.lemmas.Str.{IsUtf8-from_is_utf8, is_utf8-from_IsUtf8}
@@ -7,11 +7,12 @@ use Rattle.scenario.specs.declared.fault.Fault.{Fault}
 use Rattle.scenario.specs.declared.fault.Fault.TheVariants as faults
 use Rattle.scenario.specs.declared.program.Which.{Which}
 use Rattle.scenario.specs.declared.program.Which.TheVariants.{Walk}
-use Rattle.scenario.specs.Command.{ending_of_fault, EndsAs, file_fault, FileLines, IsSilent}
+use Rattle.scenario.specs.Command.{done, Ending, ending_of_fault, Ends, EndsAs, file_fault, FileLines, IsSilent, Leaves, no_memory, output_failed, refused, Reports, too_large, unreadable}
 use Rattle.scenario.specs.Faults.{fault_in, not_toml}
 use Rattle.scenario.specs.Limits.{most_bytes}
 use Rattle.scenario.specs.Lines.{LinesOf, Prints}
 use Rattle.scenario.specs.Output.{EndsBy}
+use Rattle.scenario.proofs.OutputLemmas.{front_of_all}
 use Rattle.scenario.specs.WalkFile.{walk_file, walk_scenario_of}
 
 walk_file-utf8 : (bytes text : List ℕ) → (text ≡ bytes) × IsUtf8 bytes → walk_file bytes ≡ walk_scenario_of text
@@ -48,3 +49,26 @@ fault_silent which bytes faults.TooMany old new h = h.1
 fault_silent which bytes (faults.Step n fault) old new h = h.1
 fault_silent which bytes faults.Output old new h = tt
 fault_silent which bytes faults.NoMemory old new h = tt
+
+-- what any ending leaves is at most what want of memory may leave
+leaves_memory : (Lines : List ℕ → Type 0) (ending : Ending) (old new : Option (List ℕ)) → Leaves Lines ending old new → Leaves Lines no_memory old new
+leaves_memory Lines done old new h = inr (h.0, h.1, front_of_all old new h.0 h.2)
+leaves_memory Lines unreadable old new h = inl h
+leaves_memory Lines too_large old new h = inl h
+leaves_memory Lines (refused failure) old new h = inl h
+leaves_memory Lines output_failed old new h = inr h
+leaves_memory Lines no_memory old new h = h
+
+told_ending : (which : Which) (bytes : List ℕ) (trouble ending : Ending) (old new : Option (List ℕ)) → (ending ≡ trouble) ⊎ (ending ≡ no_memory)
+    → EndsAs which bytes trouble old new → EndsAs which bytes ending old new
+told_ending which bytes trouble ending old new (inl is) h = subst (λ e. EndsAs which bytes e old new) (sym is) h
+told_ending which bytes trouble ending old new (inr is) h =
+    subst (λ e. EndsAs which bytes e old new) (sym is) (record { suits = tt; leaves = leaves_memory (FileLines which bytes) trouble old new h.leaves })
+
+-- a trouble whose line was written, or want of memory for that line, is how a command ends
+pub reported : (which : Which) (file : List ℕ) (left : Option (List ℕ)) (trouble : Ending) (status : ℕ) (out_old out_new err_old err_new : Option (List ℕ))
+    → IfSome left (λ bytes. EndsAs which bytes trouble out_old out_new) → Reports file trouble status err_old err_new
+    → IfSome left (λ bytes. Ends which file bytes status out_old out_new err_old err_new)
+reported which file None trouble status out_old out_new err_old err_new h r = tt
+reported which file (Some bytes) trouble status out_old out_new err_old err_new h r =
+    record { ending = r.ending; status_is = r.status_is; ends_as = told_ending which bytes trouble r.ending out_old out_new r.is h; tells = r.tells }

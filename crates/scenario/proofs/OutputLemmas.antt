@@ -10,7 +10,11 @@ use Rattle.scenario.specs.Output.{AppendsFront}
 pub appends_more : (a b c : Option (List ℕ)) (m n : ℕ) (xs : List ℕ) → Appends a b (take m xs) → Appends b c (take n (drop m xs)) → Appends a c (take (m + n) xs)
 appends_more a b c m n xs p q = subst (Appends a c) (sym (take-add m n xs)) (Appends-trans a b c _ _ p q)
 
+-- all is a beginning
+pub front_of_all : (old new : Option (List ℕ)) (bs : List ℕ) → Appends old new bs → AppendsFront old new bs
+front_of_all old new bs h = (length bs, rw (take_all (length bs) bs (omega arith)) h)
+
 -- a write that may have failed
 pub front_written : {E : Type 0} (old new : Option (List ℕ)) (bs : List ℕ) (r : Result (Unit {0}) E) → OnOk r (Appends old new bs) → OnErr r (AppendsFront old new bs) → AppendsFront old new bs
-front_written old new bs (Ok done) ok err = (length bs, rw (take_all (length bs) bs (omega arith)) ok)
+front_written old new bs (Ok done) ok err = front_of_all old new bs ok
 front_written old new bs (Err e) ok err = err
