@@ -1,3 +1,15 @@
 pub mod Lists
 pub mod Opened
 pub mod Ends
+pub mod Homes
+pub mod Paths
+pub mod Stored
+pub mod Trees
+pub mod EntryWords
+pub mod EndPaths
+pub mod Accepting
+pub mod Keeping
+pub mod OpeningTree
+pub mod OpenedMemory
+pub mod Applying
+pub mod Dues

@@ -1,5 +1,5 @@
 -- Sums and lists.
-use Rattle.std.proofs.Common.{◌≡◌, ℕ, zero, suc, ◌+◌, ◌*◌, ◌<◌, ◌≤◌, List, [], ◌∷◌, ◌++◌, Some, length, get_or, sum, Fits, w16, refl, arith}
+use Rattle.std.proofs.Common.{◌≡◌, ℕ, zero, suc, ◌+◌, ◌*◌, ◌<◌, ◌≤◌, List, [], ◌∷◌, ◌++◌, Some, length, get_or, set, sum, Fits, w16, refl, ap, arith}
 use Rattle.std.specs.Prelude.{slice_get}
 use Rattle.std.proofs.lemmas.List.Sums.{sum_by-cons}
 
@@ -19,3 +19,15 @@ slice_get-last [] y zero h = refl
 slice_get-last [] y (suc k) h = absurd (omega arith)
 slice_get-last (x ∷ xs) y zero h = absurd (omega arith)
 slice_get-last (x ∷ xs) y (suc k) h = slice_get-last xs y k (omega arith)
+
+pub slice_get-set_same : {A : Type 0} (xs : List A) (k : ℕ) (x : A) → k < length xs → slice_get (set xs k x) k ≡ Some x
+slice_get-set_same [] k x h = absurd (omega arith)
+slice_get-set_same (y ∷ xs) zero x h = refl
+slice_get-set_same (y ∷ xs) (suc k) x h = slice_get-set_same xs k x (omega arith)
+
+pub slice_get-set_other : {A : Type 0} (xs : List A) (k j : ℕ) (x : A) → (k ≡ j → ⊥) → slice_get (set xs k x) j ≡ slice_get xs j
+slice_get-set_other [] k j x apart = refl
+slice_get-set_other (y ∷ xs) zero zero x apart = absurd (apart refl)
+slice_get-set_other (y ∷ xs) zero (suc j) x apart = refl
+slice_get-set_other (y ∷ xs) (suc k) zero x apart = refl
+slice_get-set_other (y ∷ xs) (suc k) (suc j) x apart = slice_get-set_other xs k j x (λ e. apart (ap suc e))

@@ -64,19 +64,6 @@ layout-meets c h = record {
   ppns_fit = h.ppns_fit;
 }
 
-pub memory-open : (c : Config) → MeetsLimits max_frames c → IsMemory (record { layout = layout_of c; words = first_words (layout_of c) (frame_count (layout_of c) * table_length); used = replicate (length c.spares.items) 0 })
-memory-open c h = record {
-  layout = layout-meets c h;
-  words = length-first_words (layout_of c) _;
-  used = length-replicate _ 0;
-  room = λ k less. omega (arith, get_or-replicate (length c.spares.items) k);
-}
-  where
-    get_or-replicate : (n k : ℕ) → slice_index (replicate n 0) k ≡ 0
-    get_or-replicate zero k = refl
-    get_or-replicate (suc n) zero = refl
-    get_or-replicate (suc n) (suc k) = get_or-replicate n k
-
 abbrev pub made : Config → List ℕ → List ℕ → List ℕ → List ℕ → Held
 made c homes spares words used = record { layout = record { window = c.window; base = c.base; homes = homes; spares = spares }; words = words; used = used }
 

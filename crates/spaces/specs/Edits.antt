@@ -50,8 +50,9 @@ abbrev pub is_wrong_global : Place → PteFlags → Bool
 is_wrong_global (Space s) flags = is_global flags.0
 is_wrong_global Kernel flags = not (is_global flags.0)
 
+-- (a set of flags has 8 bits)
 abbrev pub is_bad : Place → PteFlags → Bool
-is_bad place flags = is_no_leaf flags.0 || is_wrong_global place flags
+is_bad place flags = is_no_leaf flags.0 || (is_wrong_global place flags || nat_le (2 ^ 8) flags.0)
 
 -- the PPN is no multiple of the page's size in pages
 abbrev pub is_misaligned : Span → ℕ → Bool

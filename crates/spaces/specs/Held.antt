@@ -1,11 +1,14 @@
 -- What table memory holds: each word, and how many spare frames of each hart are in use.
-use Rattle.std.specs.Prelude.{ℕ, ◌≡◌, ◌+◌, ◌-◌, ◌*◌, ◌<◌, ◌≤◌, ◌^◌, List, length, slice_get, slice_index, if◌then◌else◌, nat_lt, Option, Some, None, All, EachIndex}
+use Rattle.std.specs.Prelude.{ℕ, ◌≡◌, ◌+◌, ◌-◌, ◌*◌, ◌<◌, ◌≤◌, ◌^◌, List, length, slice_get, slice_index, if◌then◌else◌, nat_lt, Option, Some, None, Ok, All, EachIndex}
 use Rattle.pte.specs.Address.{table_length}
 use Rattle.pte.specs.Entry.{ppn_bits}
 use Rattle.walk.specs.Leads.{Tables}
-use Rattle.spaces.specs.Layout.{Layout, frame_count, spare_ppn}
+use Rattle.spaces.specs.declared.wishes.Wish.{Wish}
+use Rattle.spaces.specs.Layout.{Layout, HasPlace, frame_count, spare_ppn}
 use Rattle.spaces.specs.Limits.{max_harts, max_spaces, max_window, max_frames}
 use Rattle.spaces.specs.Opening.{is_word}
+use Rattle.spaces.specs.Tree.{IsTree}
+use Rattle.spaces.specs.Edits.{Store, place_of, edit_of}
 
 -- the words frame by frame, and the used frames hart by hart
 pub record Held : Type 0 where
@@ -45,3 +48,10 @@ pub record IsMemory (m : Held) : Type 0 where
   pub words : length m.words ≡ frame_count m.layout * table_length
   pub used : length m.used ≡ length m.layout.spares
   pub room : EachIndex m.used (λ h. slice_index m.used h ≤ slice_index m.layout.spares h)
+  pub tree : IsTree m.layout (words_of m) (λ h. slice_index m.used h)
+
+-- the store is what some wish takes of this memory
+pub record IsDue (m : Held) (store : Store) : Type 0 where
+  pub wish : Wish
+  pub has : HasPlace m.layout (place_of wish)
+  pub is : edit_of m.layout (words_of m) (spare_of m store.hart) store.hart wish ≡ Ok store

@@ -1,10 +1,11 @@
 //! Edits: the one store that maps, unmaps or protects a page.
 
-ghost use Rattle.std.specs.Prelude.{◌≡◌, ◌<◌, ◌^◌, ◌-◌, ◌≤◌, IfNone, None};
+ghost use Rattle.std.specs.Prelude.{◌≡◌, ◌<◌, ◌^◌, ◌-◌, ◌≤◌, IfNone, IfOk, None, ℕ, slice_index};
 ghost use Rattle.pte.specs.Address.{table_length, top_level};
 ghost use Rattle.pte.specs.Entry.{ppn_bits};
 ghost use Rattle.spaces.specs.Layout.{HasPlace};
-ghost use Rattle.spaces.specs.Held.{spare_of, words_of};
+ghost use Rattle.spaces.specs.Held.{IsDue, spare_of, words_of};
+ghost use Rattle.spaces.specs.Applied.{used_by_all, words_after};
 ghost use Rattle.spaces.specs.Edits.{edit_of, leaf_fault, path_end, path_root, place_of, wish_fault};
 ghost use Rattle.spaces.specs.declared.wishes.Wish.TheVariants as wish;
 
@@ -111,7 +112,7 @@ fn wish_fault(memory: &Memory, hart: u8, wish: &Wish) -> Option<MapFault>
 #[tactic(auto, unfolding(crate::specs::Edits::edit_of))]
 fn edit_due(memory: &Memory, hart: u8, wish: &Wish) -> Result<Edit, MapFault>
     requires { HasPlace memory.now.layout (place_of wish.now) }
-    ensures { result ≡ edit_of memory.now.layout (words_of memory.now) (spare_of memory.now hart) hart wish.now }
+    ensures outcome { result ≡ edit_of memory.now.layout (words_of memory.now) (spare_of memory.now hart) hart wish.now }
 {
     if let Some(fault) = wish_fault(memory, hart, wish) {
         return Err(fault);
@@ -139,7 +140,8 @@ pub fn next_map_edit(
     flags: PteFlags,
 ) -> Result<Edit, MapFault>
     requires { HasPlace memory.now.layout place }
-    ensures { result ≡ edit_of memory.now.layout (words_of memory.now) (spare_of memory.now hart) hart (wish.Map place page ppn flags) }
+    ensures outcome { result ≡ edit_of memory.now.layout (words_of memory.now) (spare_of memory.now hart) hart (wish.Map place page ppn flags) }
+    ensures due { IfOk result (IsDue memory.now) }
 {
     edit_due(
         memory,
@@ -156,7 +158,8 @@ pub fn next_map_edit(
 /// The one store that unmaps the page: 0 in the place of its leaf.
 pub fn unmap_edit(memory: &Memory, hart: u8, place: Place, page: Page) -> Result<Edit, MapFault>
     requires { HasPlace memory.now.layout place }
-    ensures { result ≡ edit_of memory.now.layout (words_of memory.now) (spare_of memory.now hart) hart (wish.Unmap place page) }
+    ensures outcome { result ≡ edit_of memory.now.layout (words_of memory.now) (spare_of memory.now hart) hart (wish.Unmap place page) }
+    ensures due { IfOk result (IsDue memory.now) }
 {
     edit_due(memory, hart, &Wish::Unmap { place, page })
 }
@@ -170,7 +173,18 @@ pub fn protect_edit(
     flags: PteFlags,
 ) -> Result<Edit, MapFault>
     requires { HasPlace memory.now.layout place }
-    ensures { result ≡ edit_of memory.now.layout (words_of memory.now) (spare_of memory.now hart) hart (wish.Protect place page flags) }
+    ensures outcome { result ≡ edit_of memory.now.layout (words_of memory.now) (spare_of memory.now hart) hart (wish.Protect place page flags) }
+    ensures due { IfOk result (IsDue memory.now) }
 {
     edit_due(memory, hart, &Wish::Protect { place, page, flags })
+}
+
+/// Stores the edit's word. Asks for an edit of this memory as it is now.
+pub fn apply(memory: &mut Memory, edit: Edit)
+    requires { IsDue memory.old edit }
+    ensures layout { memory.new.layout ≡ memory.old.layout }
+    ensures words { (ppn i : ℕ) → words_of memory.new ppn i ≡ words_after (words_of memory.old) edit ppn i }
+    ensures used { (h : ℕ) → slice_index memory.new.used h ≡ used_by_all (λ k. slice_index memory.old.used k) edit h }
+{
+    memory.store(edit.hart, edit.ppn, edit.index, edit.word);
 }

@@ -1,11 +1,12 @@
 //! Table memory.
 
-ghost use Rattle.std.specs.Prelude.{◌≡◌, ◌+◌, ◌*◌, ◌<◌, ◌≤◌, ◌^◌, ◌↔◌, IsTrue, IfOk, IfSome, length, map, slice_index, slice_get, sum, take, Some, None, replicate, ℕ, if◌then◌else◌};
+ghost use Rattle.std.specs.Prelude.{◌≡◌, ◌+◌, ◌*◌, ◌<◌, ◌≤◌, ◌^◌, ◌↔◌, IsTrue, IfOk, IfSome, length, map, slice_index, slice_get, slice_set, sum, take, Some, None, replicate, ℕ, is_some, if◌then◌else◌};
 ghost use Rattle.pte.specs.Address.{table_length};
 ghost use Rattle.pte.specs.Entry.{ppn_bits};
 ghost use Rattle.spaces.specs.Layout.{frame_count, HasPlace, home_of, layout_of, root_ppn};
 ghost use Rattle.spaces.specs.Limits.{max_frames, MeetsLimits};
 ghost use Rattle.spaces.specs.Opening.{first_word, first_words, is_word, opening};
+ghost use Rattle.spaces.specs.Tree.{pointed};
 ghost use Rattle.spaces.specs.Edits.{is_wrong_half, path_root};
 ghost use Rattle.spaces.specs.Held.{spare_of, word_index, words_of};
 
@@ -13,7 +14,7 @@ use crate::configuration::{Config, Space, total};
 use crate::faults::OpenFault;
 use crate::places::Place;
 use arrayvec::ArrayVec;
-use pte::{Page, Pte, TABLE_LENGTH, TOP_LEVEL};
+use pte::{Kind, Page, Pte, TABLE_LENGTH, TOP_LEVEL};
 use std::alloc::{AllocError, Global};
 use std::marker::Model;
 use walk::Words;
@@ -229,6 +230,46 @@ impl Memory {
         }
         let before = u64::from(self.window) + self.homes.len() as u64 + total(&self.spares[..hart]);
         Some(self.base + before + u64::from(used))
+    }
+}
+
+/// Counts one more frame of a hart as used.
+fn count_frame(used: &mut ArrayVec<u16, 8>, hart: u8)
+    requires there { hart < length used.old.items }
+    requires room { slice_index used.old.items hart + 1 < 2 ^ 16 }
+    ensures { used.new.items ≡ slice_set used.old.items hart (slice_index used.old.items hart + 1) }
+{
+    let counts = used.as_mut_slice();
+    counts[usize::from(hart)] += 1;
+}
+
+/// Whether a word is a pointer.
+fn is_pointer(word: u64) -> bool
+    ensures { result ≡ is_some (pointed (Some word)) }
+{
+    match Pte(word).kind() {
+        Kind::Table { .. } => true,
+        Kind::Invalid | Kind::Reserved | Kind::Leaf { .. } => false,
+    }
+}
+
+impl Memory {
+    ghost use Rattle.spaces.specs.Edits.{Store};
+    ghost use Rattle.spaces.specs.Held.{IsDue};
+    ghost use Rattle.spaces.specs.Applied.{used_by_all, words_after};
+
+    /// Stores one word, and counts the frame that it takes if it is a pointer.
+    pub(crate) fn store(&mut self, hart: u8, ppn: u64, index: u16, word: u64)
+        requires { IsDue self.old (record { hart = hart; ppn = ppn; index = index; word = word }) }
+        ensures layout { self.new.layout ≡ self.old.layout }
+        ensures words { (f i : ℕ) → words_of self.new f i ≡ words_after (words_of self.old) (record { hart = hart; ppn = ppn; index = index; word = word }) f i }
+        ensures used { (h : ℕ) → slice_index self.new.used h ≡ used_by_all (λ k. slice_index self.old.used k) (record { hart = hart; ppn = ppn; index = index; word = word }) h }
+    {
+        let at = (ppn - self.base) * u64::from(TABLE_LENGTH) + u64::from(index);
+        self.words[at as usize] = word;
+        if is_pointer(word) {
+            count_frame(&mut self.used, hart);
+        }
     }
 }
 

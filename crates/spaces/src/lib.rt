@@ -11,7 +11,7 @@ mod wishes;
 pub use configuration::{
     Config, MAX_CAPACITY, MAX_FRAMES, MAX_HARTS, MAX_LIVE_FRAMES, MAX_SPACES, MAX_WINDOW, Space,
 };
-pub use edits::{Edit, next_map_edit, protect_edit, unmap_edit};
+pub use edits::{Edit, apply, next_map_edit, protect_edit, unmap_edit};
 pub use faults::{MapFault, OpenFault};
 pub use frames::Memory;
 pub use places::Place;

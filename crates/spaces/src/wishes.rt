@@ -5,6 +5,7 @@ ghost use Rattle.pte.specs.Entry.{is_no_leaf, leaf_word, ppn_bits};
 
 use crate::faults::MapFault;
 use crate::places::Place;
+use bitflags::Flags;
 use pte::{Kind, LeafFault, PPN_BITS, Page, Pte, PteFlags};
 
 /// A page to map, to unmap or to protect.
@@ -66,6 +67,7 @@ impl Place {
     pub(crate) fn is_bad(self, flags: PteFlags) -> bool
         ensures { result ≡ is_bad self flags }
     {
+        let flags = PteFlags::from_bits_retain(flags.bits());
         Pte::leaf(0, flags).is_err() || flags.is_global() != self.is_kernel()
     }
 }

@@ -2,7 +2,8 @@ use Rattle.std.proofs.Common.{◌≡◌, sym, ◌∙◌, ap, subst, map, replica
 use Rattle.spaces.specs.Limits.{MeetsLimits, max_frames}
 use Rattle.spaces.specs.Layout.{layout_of}
 use Rattle.spaces.specs.Held.{IsMemory, words_of}
-use Rattle.spaces.proofs.Opened.{made, memory-open, words-open, opened, opened-is}
+use Rattle.spaces.proofs.Opened.{made, words-open, opened, opened-is}
+use Rattle.spaces.proofs.OpenedMemory.{memory-open}
 use Rattle.spaces.proofs.frames.Memory.open.Goals as goal
 use Rattle.spaces.proofs.frames.Memory.open.Goals.{After-zeros}
 

@@ -1,0 +1,58 @@
+-- Each frame is at home on one hart.
+use Rattle.std.proofs.Common.{◌≡◌, ℕ, zero, suc, ◌+◌, ◌<◌, ◌≤◌, ◌⊎◌, Bool, true, false, List, [], ◌∷◌, length, sum, take, ap, sym, ◌∙◌, refl, inl, inr, arith}
+use Rattle.std.specs.Prelude.{slice_index, ◌&&◌, nat_le, nat_lt}
+use Rattle.std.proofs.lemmas.Bool.{and_parts, cases_order}
+use Rattle.std.proofs.lemmas.List.Sums.{sum_by-cons}
+use borrow.Author.Tests.{ltb-true, leb-true}
+use Rattle.spaces.specs.Layout.{Layout, is_root, root_ppn, window_ppn, spare_ppn}
+use Rattle.spaces.specs.Tree.{IsAtHome, of_root, of_window, of_spare, IsUsed, IsOwn}
+
+-- one part of a sum stands before the next
+pub sum-take-step : (xs : List ℕ) (h k : ℕ) → h < k → sum (take h xs) + slice_index xs h ≤ sum (take k xs)
+sum-take-step [] h zero less = absurd (omega arith)
+sum-take-step [] zero (suc k) less = omega arith
+sum-take-step [] (suc h) (suc k) less = omega arith
+sum-take-step (x ∷ xs) h zero less = absurd (omega arith)
+sum-take-step (x ∷ xs) zero (suc k) less = let step : sum (x ∷ take k xs) ≡ x + sum (take k xs) = sum_by-cons (λ n. n) x (take k xs) in omega arith
+sum-take-step (x ∷ xs) (suc h) (suc k) less =
+    let step : sum (x ∷ take k xs) ≡ x + sum (take k xs) = sum_by-cons (λ n. n) x (take k xs) in
+    let from : sum (x ∷ take h xs) ≡ x + sum (take h xs) = sum_by-cons (λ n. n) x (take h xs) in
+    let rest = sum-take-step xs h k (omega arith) in
+    omega arith
+
+module _ (l : Layout) where
+  pub root-range : (f : ℕ) → is_root l f ≡ true → (root_ppn l 0 ≤ f) × (f < root_ppn l (length l.homes))
+  root-range f h =
+      let parts = and_parts (nat_le (root_ppn l 0) f) (nat_lt f (root_ppn l (length l.homes))) h in
+      (leb-true (root_ppn l 0) f parts.0, ltb-true f (root_ppn l (length l.homes)) parts.1)
+
+  spares-apart : (h h' n n' : ℕ) → h < h' → n < slice_index l.spares h → spare_ppn l h + n ≡ spare_ppn l h' + n' → ⊥
+  spares-apart h h' n n' less below e = let step = sum-take-step l.spares h h' less in omega arith
+
+  pub home-unique : (h h' f : ℕ) → IsAtHome l h f → IsAtHome l h' f → h ≡ h'
+  home-unique h h' f (of_root s there at is) (of_root s' there' at' is') = let same : s ≡ s' = omega arith in sym at ∙ ap (slice_index l.homes) same ∙ at'
+  home-unique h h' f (of_root s there at is) (of_window k there' at' is') = absurd (omega arith)
+  home-unique h h' f (of_root s there at is) (of_spare n there' is') = absurd (omega arith)
+  home-unique h h' f (of_window k there at is) (of_root s' there' at' is') = absurd (omega arith)
+  home-unique h h' f (of_window k there at is) (of_window k' there' at' is') = at ∙ sym at'
+  home-unique h h' f (of_window k there at is) (of_spare n there' is') = absurd (omega arith)
+  home-unique h h' f (of_spare n there is) (of_root s' there' at' is') = absurd (omega arith)
+  home-unique h h' f (of_spare n there is) (of_window k there' at' is') = absurd (omega arith)
+  home-unique h h' f (of_spare n there is) (of_spare n' there' is') =
+      elim (cases_order h h') [
+        | inl same ↦ same
+        | inr apart ↦ elim apart [
+          | inl less ↦ absurd (spares-apart h h' n n' less there (sym is ∙ is'))
+          | inr more ↦ absurd (spares-apart h' h n' n more there' (sym is' ∙ is))
+        ]
+      ]
+
+  -- a spare frame is no root
+  pub spare-own : (h n i : ℕ) → IsOwn l (spare_ppn l h + n) i
+  spare-own h n i root = let range = root-range (spare_ppn l h + n) root in absurd (omega arith)
+
+  pub window-own : (k i : ℕ) → k < l.window → IsOwn l (window_ppn l k) i
+  window-own k i below root = let range = root-range (window_ppn l k) root in absurd (omega arith)
+
+  pub used-home : (h used f : ℕ) → used ≤ slice_index l.spares h → IsUsed l h used f → IsAtHome l h f
+  used-home h used f room u = of_spare u.number (omega (arith, u.below)) u.is

@@ -1,0 +1,247 @@
+-- Stores keep the tree.
+use Rattle.std.proofs.Common.{◌≡◌, ℕ, zero, suc, ◌+◌, ◌-◌, ◌<◌, ◌≤◌, ◌⊎◌, Bool, true, false, Option, Some, None, length, ap, sym, ◌∙◌, subst, refl, inl, inr, arith, IsSome}
+use Rattle.std.specs.Prelude.{slice_index, option_and_then}
+use Rattle.std.proofs.lemmas.Bool.{cases_lt}
+use Rattle.std.proofs.lemmas.Bool.Decides.{nat_tests}
+use Rattle.pte.specs.declared.entry.Kind.TheVariants as kinds
+use Rattle.pte.specs.Address.{top_level, table_length, vpn_of}
+use Rattle.pte.specs.Entry.{kind_of, is_global, table_word}
+use Rattle.walk.specs.Leads.{Tables, word_at}
+use Rattle.spaces.specs.declared.places.Place.{Place}
+use Rattle.spaces.specs.declared.places.Place.TheVariants.{Space, Kernel}
+use Rattle.spaces.specs.Layout.{Layout, HasPlace, home_of, is_root, root_ppn, window_ppn, spare_ppn, user_slots, first_window_slot}
+use Rattle.spaces.specs.Held.{IsLayout}
+use Rattle.spaces.specs.Tree.{pointed, table_below, start_level, start_table, IsIn, table_on, IsAtHome, of_root, of_window, of_spare, IsUsed, IsOwn, IsEntryOf, IsHome}
+use Rattle.spaces.specs.Applied.{stored}
+use Rattle.spaces.proofs.Paths.{above, below, on, some-same, table_below-like, vpn-below}
+use Rattle.spaces.proofs.Stored.{is-word, stored-here, stored-there, pointed-stored}
+
+pub kind-zero : kind_of 0 ≡ kinds.Invalid
+unfolding kind_of
+kind-zero = refl
+
+pub pointed-zero : pointed (Some 0) ≡ None
+pointed-zero = ap (λ k. Rattle.spaces.specs.Tree.pointed_kind k) kind-zero
+
+pub is_global-zero : is_global 0 ≡ false
+is_global-zero = refl
+
+pub root-is : (l : Layout) (s : ℕ) → s < length l.homes → is_root l (root_ppn l s) ≡ true
+root-is l s less = grind (arith, nat_tests)
+
+-- words that agree at a home keep it
+module _ (l : Layout) (fits : IsLayout l) (words words' : Tables) (h used : ℕ) (tree : IsHome l words h used) (same : (f i : ℕ) → IsAtHome l h f → words' f i ≡ words f i) where
+  back : (place : Place) (va n t : ℕ) → HasPlace l place → home_of l place ≡ h → IsIn l place va → table_on l words' place va n ≡ Some t → table_on l words place va n ≡ Some t
+  back place va zero t has home within e = e
+  back place va (suc n) t has home within e =
+      let up = above words' va (start_level place) (start_table l place va) n t e in
+      let old = back place va n up.table_above has home within up.on in
+      let there = on l fits words h used tree place va n up.table_above has home within old in
+      below words va (start_level place) (start_table l place va) n up.table_above old ∙ ap pointed (sym (same _ _ there.home)) ∙ up.points
+
+  pub home-same : IsHome l words' h used
+  home-same = record {
+    room = tree.room;
+    present = λ f i home less. subst IsSome (sym (same f i home)) (tree.present f i home less);
+    entries = λ f i word home e. tree.entries f i word home (sym (same f i home) ∙ e);
+    window = λ s k has home less. same _ _ (of_root s has home refl) ∙ tree.window s k has home less;
+    upper = λ s i has home from to. same _ _ (of_root s has home refl) ∙ tree.upper s i has home from to;
+    closed = λ f i g home own e. tree.closed f i g home own (ap pointed (sym (same f i home)) ∙ e);
+    once = λ f i f' i' g home home' own own' e e'. tree.once f i f' i' g home home' own own' (ap pointed (sym (same f i home)) ∙ e) (ap pointed (sym (same f' i' home')) ∙ e');
+    unused = λ n i from to less. same _ _ (of_spare n to refl) ∙ tree.unused n i from to less;
+    bottom = λ place va t has home within e.
+        let old = back place va (start_level place) t has home within e in
+        let there = on l fits words h used tree place va (start_level place) t has home within old in
+        ap pointed (same _ _ there.home) ∙ tree.bottom place va t has home within old;
+    plain = λ s va n t word has home within deep e w.
+        let old = back (Space s) va n t has home within e in
+        let there = on l fits words h used tree (Space s) va n t has home within old in
+        tree.plain s va n t word has home within deep old (sym (same _ _ there.home) ∙ w);
+  }
+
+-- a slot of a root's upper half is not written
+upper-apart : (l : Layout) (f i s j : ℕ) → s < length l.homes → IsOwn l f i → user_slots ≤ j → f ≡ root_ppn l s → i ≡ j → ⊥
+upper-apart l f i s j has own from is at = let low : i < user_slots = own (ap (is_root l) is ∙ root-is l s has) in omega arith
+
+-- what both kinds of store know of the word that is written: where it stands, and that it is no empty table's
+pub record IsPlace (l : Layout) (words : Tables) (h used f i x : ℕ) : Type 0 where
+  pub at : IsAtHome l h f
+  pub own : IsOwn l f i
+  pub in_use : (n : ℕ) → used ≤ n → f ≡ spare_ppn l h + n → ⊥
+  pub old : pointed (words f i) ≡ None
+  pub entry : IsEntryOf x (kind_of x)
+  pub plain : (s va n : ℕ) → s < length l.homes → slice_index l.homes s ≡ h → IsIn l (Space s) va → n ≤ top_level
+      → table_on l words (Space s) va n ≡ Some f → vpn_of va (top_level - n) ≡ i → is_global x ≡ false
+
+module _ (l : Layout) (fits : IsLayout l) (words : Tables) (h used : ℕ) (tree : IsHome l words h used) (f i x : ℕ) (here : IsPlace l words h used f i x) where
+  present-stored : (g j : ℕ) → IsAtHome l h g → j < table_length → IsSome (stored words f i x g j)
+  present-stored g j home less = elim (is-word f i g j) [
+    | inl same ↦ subst IsSome (sym (stored-here words f i x g j same.0 same.1)) refl
+    | inr apart ↦ subst IsSome (sym (stored-there words f i x g j apart)) (tree.present g j home less)
+  ]
+
+  entries-stored : (g j word : ℕ) → IsAtHome l h g → stored words f i x g j ≡ Some word → IsEntryOf word (kind_of word)
+  entries-stored g j word home e = elim (is-word f i g j) [
+    | inl same ↦ let is : x ≡ word = let e' = sym (stored-here words f i x g j same.0 same.1) ∙ e in cc in subst (λ w. IsEntryOf w (kind_of w)) is here.entry
+    | inr apart ↦ tree.entries g j word home (sym (stored-there words f i x g j apart) ∙ e)
+  ]
+
+  window-stored : (s k : ℕ) → s < length l.homes → slice_index l.homes s ≡ h → k < l.window
+      → stored words f i x (root_ppn l s) (first_window_slot l + k) ≡ Some (table_word (window_ppn l k) true)
+  window-stored s k has home less =
+      stored-there words f i x _ _ (upper-apart l f i s _ has here.own (omega (arith, fits.window))) ∙ tree.window s k has home less
+
+  upper-stored : (s j : ℕ) → s < length l.homes → slice_index l.homes s ≡ h → user_slots ≤ j → j < first_window_slot l → stored words f i x (root_ppn l s) j ≡ Some 0
+  upper-stored s j has home from to = stored-there words f i x _ _ (upper-apart l f i s _ has here.own from) ∙ tree.upper s j has home from to
+
+  unused-stored : (n j : ℕ) → used ≤ n → n < slice_index l.spares h → j < table_length → stored words f i x (spare_ppn l h + n) j ≡ Some 0
+  unused-stored n j from to less = stored-there words f i x _ _ (λ is _. here.in_use n from is) ∙ tree.unused n j from to less
+
+  -- a store of what points nowhere
+  module _ (new : pointed (Some x) ≡ None) where
+    like : (g j : ℕ) → pointed (stored words f i x g j) ≡ pointed (words g j)
+    like = pointed-stored words f i x (new ∙ sym here.old)
+
+    pub table_on-leaf : (place : Place) (va n : ℕ) → table_on l (stored words f i x) place va n ≡ table_on l words place va n
+    table_on-leaf place va n = table_below-like words (stored words f i x) va (start_level place) (start_table l place va) n like
+
+    plain-leaf : (s va n t word : ℕ) → s < length l.homes → slice_index l.homes s ≡ h → IsIn l (Space s) va → n ≤ top_level
+        → table_on l words (Space s) va n ≡ Some t → word_at (stored words f i x) va (top_level - n) t ≡ Some word → is_global word ≡ false
+    plain-leaf s va n t word has home within deep e w = elim (is-word f i t (vpn_of va (top_level - n))) [
+      | inl same ↦
+          let is : x ≡ word = let e' = sym (stored-here words f i x t _ same.0 same.1) ∙ w in cc in
+          ap is_global (sym is) ∙ here.plain s va n has home within deep (e ∙ ap Some (sym same.0)) (sym same.1)
+      | inr apart ↦ tree.plain s va n t word has home within deep e (sym (stored-there words f i x t _ apart) ∙ w)
+    ]
+
+    pub home-leaf : IsHome l (stored words f i x) h used
+    home-leaf = record {
+      room = tree.room;
+      present = present-stored;
+      entries = entries-stored;
+      window = window-stored;
+      upper = upper-stored;
+      closed = λ g j p home own e. tree.closed g j p home own (sym (like g j) ∙ e);
+      once = λ g j g' j' p home home' own own' e e'. tree.once g j g' j' p home home' own own' (sym (like g j) ∙ e) (sym (like g' j') ∙ e');
+      unused = unused-stored;
+      bottom = λ place va t has home within e. like t _ ∙ tree.bottom place va t has home within (sym (table_on-leaf place va (start_level place)) ∙ e);
+      plain = λ s va n t word has home within deep e w. plain-leaf s va n t word has home within deep (sym (table_on-leaf (Space s) va n) ∙ e) w;
+    }
+
+  -- a store of a pointer to the lowest unused spare frame, above the lowest level
+  module _ (room : used < slice_index l.spares h) (new : pointed (Some x) ≡ Some (spare_ppn l h + used))
+      (high : (place : Place) (va n : ℕ) → HasPlace l place → home_of l place ≡ h → IsIn l place va → table_on l words place va n ≡ Some f
+          → vpn_of va (start_level place - n) ≡ i → n < start_level place) where
+    fresh : ℕ
+    fresh = spare_ppn l h + used
+
+    fresh-empty : (j : ℕ) → j < table_length → stored words f i x (spare_ppn l h + used) j ≡ Some 0
+    fresh-empty j less = unused-stored used j (omega arith) room less
+
+    fresh-points : (j g : ℕ) → j < table_length → pointed (stored words f i x (spare_ppn l h + used) j) ≡ Some g → ⊥
+    fresh-points j g less e = let no-table : None ≡ Some g = sym pointed-zero ∙ ap pointed (sym (fresh-empty j less)) ∙ e in cc
+
+    -- what a path reaches it reached before, or it is the new table
+    pub table_on-pointer : (place : Place) (va n t : ℕ) → HasPlace l place → home_of l place ≡ h → IsIn l place va
+        → table_on l (stored words f i x) place va n ≡ Some t → (table_on l words place va n ≡ Some t) ⊎ (t ≡ spare_ppn l h + used)
+    table_on-pointer place va zero t has home within e = inl e
+    table_on-pointer place va (suc n) t has home within e =
+        let up = above (stored words f i x) va (start_level place) (start_table l place va) n t e in
+        elim (table_on-pointer place va n up.table_above has home within up.on) [
+          | inr new-table ↦
+              absurd (fresh-points (vpn_of va (start_level place - n)) t (vpn-below va (start_level place - n))
+                (subst (λ g. pointed (stored words f i x g (vpn_of va (start_level place - n))) ≡ Some t) new-table up.points))
+          | inl old ↦ elim (is-word f i up.table_above (vpn_of va (start_level place - n))) [
+            | inl same ↦
+                inr (let is : Some (spare_ppn l h + used) ≡ Some t = sym new ∙ ap pointed (sym (stored-here words f i x _ _ same.0 same.1)) ∙ up.points in sym (some-same _ _ is))
+            | inr apart ↦
+                inl (below words va (start_level place) (start_table l place va) n up.table_above old ∙ ap pointed (sym (stored-there words f i x _ _ apart)) ∙ up.points)
+          ]
+        ]
+
+    -- what a path reached it still reaches
+    pub table_on-kept : (place : Place) (va n t : ℕ) → table_on l words place va n ≡ Some t → table_on l (stored words f i x) place va n ≡ Some t
+    table_on-kept place va zero t e = e
+    table_on-kept place va (suc n) t e =
+        let up = above words va (start_level place) (start_table l place va) n t e in
+        let now = table_on-kept place va n up.table_above up.on in
+        elim (is-word f i up.table_above (vpn_of va (start_level place - n))) [
+          | inl same ↦
+              let no-table : None ≡ Some t = sym here.old ∙ ap (λ g. pointed (words g i)) same.0 ∙ ap (λ j. pointed (words up.table_above j)) same.1 ∙ up.points in absurd cc
+          | inr apart ↦
+              below (stored words f i x) va (start_level place) (start_table l place va) n up.table_above now ∙ ap pointed (stored-there words f i x _ _ apart) ∙ up.points
+        ]
+
+    bottom-pointer : (place : Place) (va t : ℕ) → HasPlace l place → home_of l place ≡ h → IsIn l place va
+        → table_on l (stored words f i x) place va (start_level place) ≡ Some t → pointed (word_at (stored words f i x) va 0 t) ≡ None
+    bottom-pointer place va t has home within e =
+        elim (table_on-pointer place va (start_level place) t has home within e) [
+          | inr new-table ↦ ap (λ g. pointed (stored words f i x g (vpn_of va 0))) new-table ∙ ap pointed (fresh-empty (vpn_of va 0) (vpn-below va 0)) ∙ pointed-zero
+          | inl old ↦ elim (is-word f i t (vpn_of va 0)) [
+            | inl same ↦
+                let zero-level : start_level place - start_level place ≡ 0 = omega arith in
+                absurd (omega (arith, high place va (start_level place) has home within (old ∙ ap Some (sym same.0)) (ap (vpn_of va) zero-level ∙ sym same.1)))
+            | inr apart ↦ ap pointed (stored-there words f i x _ _ apart) ∙ tree.bottom place va t has home within old
+          ]
+        ]
+
+    plain-pointer : (s va n t word : ℕ) → s < length l.homes → slice_index l.homes s ≡ h → IsIn l (Space s) va → n ≤ top_level
+        → table_on l (stored words f i x) (Space s) va n ≡ Some t → word_at (stored words f i x) va (top_level - n) t ≡ Some word → is_global word ≡ false
+    plain-pointer s va n t word has home within deep e w =
+        elim (table_on-pointer (Space s) va n t has home within e) [
+          | inr new-table ↦
+              let empty : Some 0 ≡ Some word = sym (fresh-empty (vpn_of va (top_level - n)) (vpn-below va (top_level - n))) ∙ ap (λ g. stored words f i x g (vpn_of va (top_level - n))) (sym new-table) ∙ w in
+              ap is_global (sym (some-same _ _ empty)) ∙ is_global-zero
+          | inl old ↦ elim (is-word f i t (vpn_of va (top_level - n))) [
+            | inl same ↦
+                let is : x ≡ word = some-same _ _ (sym (stored-here words f i x t _ same.0 same.1) ∙ w) in
+                ap is_global (sym is) ∙ here.plain s va n has home within deep (old ∙ ap Some (sym same.0)) (sym same.1)
+            | inr apart ↦ tree.plain s va n t word has home within deep old (sym (stored-there words f i x t _ apart) ∙ w)
+          ]
+        ]
+
+    closed-pointer : (g j p : ℕ) → IsAtHome l h g → IsOwn l g j → pointed (stored words f i x g j) ≡ Some p → IsUsed l h (used + 1) p
+    closed-pointer g j p home own e = elim (is-word f i g j) [
+      | inl same ↦
+          let is : Some (spare_ppn l h + used) ≡ Some p = sym new ∙ ap pointed (sym (stored-here words f i x g j same.0 same.1)) ∙ e in
+          record { number = used; below = omega arith; is = sym (some-same _ _ is) }
+      | inr apart ↦
+          let u = tree.closed g j p home own (ap pointed (sym (stored-there words f i x g j apart)) ∙ e) in
+          record { number = u.number; below = omega (arith, u.below); is = u.is }
+    ]
+
+    -- no old pointer leads to the new table
+    fresh-old : (g j : ℕ) → IsAtHome l h g → IsOwn l g j → pointed (words g j) ≡ Some (spare_ppn l h + used) → ⊥
+    fresh-old g j home own e = let u = tree.closed g j _ home own e in omega (arith, u.below, u.is)
+
+    once-pointer : (g j g' j' p : ℕ) → IsAtHome l h g → IsAtHome l h g' → IsOwn l g j → IsOwn l g' j'
+        → pointed (stored words f i x g j) ≡ Some p → pointed (stored words f i x g' j') ≡ Some p → (g ≡ g') × (j ≡ j')
+    once-pointer g j g' j' p home home' own own' e e' = elim (is-word f i g j) [
+      | inl same ↦ elim (is-word f i g' j') [
+        | inl same' ↦ (sym same.0 ∙ same'.0, sym same.1 ∙ same'.1)
+        | inr apart' ↦
+            let is : Some (spare_ppn l h + used) ≡ Some p = sym new ∙ ap pointed (sym (stored-here words f i x g j same.0 same.1)) ∙ e in
+            absurd (fresh-old g' j' home' own' (ap pointed (sym (stored-there words f i x g' j' apart')) ∙ e' ∙ sym is))
+      ]
+      | inr apart ↦ elim (is-word f i g' j') [
+        | inl same' ↦
+            let is : Some (spare_ppn l h + used) ≡ Some p = sym new ∙ ap pointed (sym (stored-here words f i x g' j' same'.0 same'.1)) ∙ e' in
+            absurd (fresh-old g j home own (ap pointed (sym (stored-there words f i x g j apart)) ∙ e ∙ sym is))
+        | inr apart' ↦
+            tree.once g j g' j' p home home' own own' (ap pointed (sym (stored-there words f i x g j apart)) ∙ e) (ap pointed (sym (stored-there words f i x g' j' apart')) ∙ e')
+      ]
+    ]
+
+    pub home-pointer : IsHome l (stored words f i x) h (used + 1)
+    home-pointer = record {
+      room = omega (arith, room);
+      present = present-stored;
+      entries = entries-stored;
+      window = window-stored;
+      upper = upper-stored;
+      closed = closed-pointer;
+      once = once-pointer;
+      unused = λ n j from to less. unused-stored n j (omega arith) to less;
+      bottom = bottom-pointer;
+      plain = plain-pointer;
+    }

@@ -1,0 +1,93 @@
+-- The tables as a tree: what the words at the home of one hart keep, whatever the words of the others are.
+use Rattle.std.specs.Prelude.{ℕ, Bool, zero, suc, true, false, ◌≡◌, ◌+◌, ◌-◌, ◌<◌, ◌≤◌, Option, Some, None, IsSome, option_and_then, length, slice_index}
+use Rattle.pte.specs.declared.entry.Kind.{Kind}
+use Rattle.pte.specs.declared.entry.Kind.TheVariants as kinds
+use Rattle.pte.specs.Address.{top_level, table_length, vpn_of}
+use Rattle.pte.specs.Entry.{kind_of, is_global, table_word}
+use Rattle.walk.specs.Leads.{Tables, word_at}
+use Rattle.spaces.specs.declared.places.Place.{Place}
+use Rattle.spaces.specs.declared.places.Place.TheVariants.{Space, Kernel}
+use Rattle.spaces.specs.Layout.{Layout, HasPlace, home_of, is_root, root_ppn, window_ppn, spare_ppn, user_slots, first_window_slot}
+
+-- the table that a word points to
+abbrev pub pointed_kind : Kind → Option ℕ
+pointed_kind (kinds.Table ppn global) = Some ppn
+pointed_kind kinds.Invalid = None
+pointed_kind kinds.Reserved = None
+pointed_kind (kinds.Leaf ppn flags) = None
+
+abbrev pub pointed : Option ℕ → Option ℕ
+pointed None = None
+pointed (Some word) = pointed_kind (kind_of word)
+
+-- the table so many levels below a table of a level, on the path of an address
+abbrev pub table_below : Tables → ℕ → ℕ → ℕ → ℕ → Option ℕ
+table_below words va level table zero = Some table
+table_below words va level table (suc n) = option_and_then (λ t. pointed (word_at words va (level - n) t)) (table_below words va level table n)
+
+-- the topmost table of a place on the path of an address, and its level: a space's root, or a table of the window
+abbrev pub start_level : Place → ℕ
+start_level (Space s) = top_level
+start_level Kernel = top_level - 1
+
+abbrev pub start_table : Layout → Place → ℕ → ℕ
+start_table l (Space s) va = root_ppn l s
+start_table l Kernel va = window_ppn l (vpn_of va top_level - first_window_slot l)
+
+-- the address lies in the place's part of a root
+abbrev pub IsIn : Layout → Place → ℕ → Type 0
+IsIn l (Space s) va = vpn_of va top_level < user_slots
+IsIn l Kernel va = first_window_slot l ≤ vpn_of va top_level
+
+-- the table so many levels below the topmost, on the path of an address in a place
+abbrev pub table_on : Layout → Tables → Place → ℕ → ℕ → Option ℕ
+table_on l words place va n = table_below words va (start_level place) (start_table l place va) n
+
+-- the frame is at home on the hart: a root of its spaces, a table of the window, or a spare frame
+pub data IsAtHome (l : Layout) (h f : ℕ) : Type 0 where
+  of_root : (s : ℕ) → s < length l.homes → slice_index l.homes s ≡ h → f ≡ root_ppn l s → IsAtHome l h f
+  of_window : (k : ℕ) → k < l.window → h ≡ 0 → f ≡ window_ppn l k → IsAtHome l h f
+  of_spare : (n : ℕ) → n < slice_index l.spares h → f ≡ spare_ppn l h + n → IsAtHome l h f
+
+-- a spare frame in use, where this many of the hart's are
+pub record IsUsed (l : Layout) (h used f : ℕ) : Type 0 where
+  pub number : ℕ
+  pub below : number < used
+  pub is : f ≡ spare_ppn l h + number
+
+-- a slot that edits may write: any but those of a root's upper half
+abbrev pub IsOwn : Layout → ℕ → ℕ → Type 0
+IsOwn l f i = is_root l f ≡ true → i < user_slots
+
+-- an entry is 0, a pointer or a leaf
+abbrev pub IsEntryOf : ℕ → Kind → Type 0
+IsEntryOf word kinds.Invalid = word ≡ 0
+IsEntryOf word kinds.Reserved = ⊥
+IsEntryOf word (kinds.Table ppn global) = Unit {0}
+IsEntryOf word (kinds.Leaf ppn flags) = Unit {0}
+
+-- the frames of one home, of whose spare frames this many are in use
+pub record IsHome (l : Layout) (words : Tables) (h used : ℕ) : Type 0 where
+  pub room : used ≤ slice_index l.spares h
+  pub present : (f i : ℕ) → IsAtHome l h f → i < table_length → IsSome (words f i)
+  pub entries : (f i word : ℕ) → IsAtHome l h f → words f i ≡ Some word → IsEntryOf word (kind_of word)
+  -- every root points to the window's tables, and its other upper slots are empty
+  pub window : (s k : ℕ) → s < length l.homes → slice_index l.homes s ≡ h → k < l.window
+      → words (root_ppn l s) (first_window_slot l + k) ≡ Some (table_word (window_ppn l k) true)
+  pub upper : (s i : ℕ) → s < length l.homes → slice_index l.homes s ≡ h → user_slots ≤ i → i < first_window_slot l
+      → words (root_ppn l s) i ≡ Some 0
+  -- any other pointer leads to a spare frame in use, to which no other leads
+  pub closed : (f i g : ℕ) → IsAtHome l h f → IsOwn l f i → pointed (words f i) ≡ Some g → IsUsed l h used g
+  pub once : (f i f' i' g : ℕ) → IsAtHome l h f → IsAtHome l h f' → IsOwn l f i → IsOwn l f' i'
+      → pointed (words f i) ≡ Some g → pointed (words f' i') ≡ Some g → (f ≡ f') × (i ≡ i')
+  pub unused : (n i : ℕ) → used ≤ n → n < slice_index l.spares h → i < table_length → words (spare_ppn l h + n) i ≡ Some 0
+  -- pointers lead down level by level: at the lowest there is none
+  pub bottom : (place : Place) (va t : ℕ) → HasPlace l place → home_of l place ≡ h → IsIn l place va
+      → table_on l words place va (start_level place) ≡ Some t → pointed (word_at words va 0 t) ≡ None
+  -- no word of a space has G
+  pub plain : (s va n t word : ℕ) → s < length l.homes → slice_index l.homes s ≡ h → IsIn l (Space s) va → n ≤ top_level
+      → table_on l words (Space s) va n ≡ Some t → word_at words va (top_level - n) t ≡ Some word → is_global word ≡ false
+
+-- the frames of all homes
+abbrev pub IsTree : Layout → Tables → (ℕ → ℕ) → Type 0
+IsTree l words used = (h : ℕ) → h < length l.spares → IsHome l words h (used h)
