@@ -1,10 +1,10 @@
 //! Laws of the definitions that the contracts of a TLB cite. Each function does nothing, and its clause is the law.
 
-ghost use Rattle.std.specs.Prelude.{ℕ, Bool, Option, None, Some, Ok, Result, List, ◌≡◌, ◌≢◌, ◌⊎◌, ◌↔◌, ◌<◌, ◌^◌, ◌&&◌, IsSome, IsTrue, not};
+ghost use Rattle.std.specs.Prelude.{ℕ, Bool, Option, None, Some, Ok, Result, List, ◌≡◌, ◌⊎◌, ◌↔◌, ◌<◌, ◌^◌, ◌&&◌, IsSome, IsTrue, not};
 ghost use Rattle.std.specs.List.{All, AllPass};
 ghost use Rattle.pte.specs.Address.{Holds, IsCanonical, IsPage, Overlap, Span};
 ghost use Rattle.pte.specs.declared.address.What.{What};
-ghost use Rattle.pte.specs.declared.address.What.TheVariants.{PageOf, SpaceOf};
+ghost use Rattle.pte.specs.declared.address.What.TheVariants.{PageOf};
 ghost use Rattle.pte.specs.declared.permission.Access.{Access};
 ghost use Rattle.pte.specs.declared.permission.Ctx.{Ctx};
 ghost use Rattle.pte.specs.declared.flags.PteFlags.{PteFlags};
@@ -17,7 +17,7 @@ ghost use Rattle.walk.specs.Maps.{Maps, page_number};
 ghost use Rattle.walk.specs.Outcome.{Outcome};
 ghost use Rattle.tlb.specs.Answer.{address_found, answer_of, entry_of};
 ghost use Rattle.tlb.specs.Entries.{filled, first_match, holds, is_match};
-ghost use Rattle.tlb.specs.Fence.{asid_bits, fenced, is_canonical, is_fenced, is_of_space};
+ghost use Rattle.tlb.specs.Fence.{asid_bits, fenced, is_canonical, is_fenced};
 ghost use Rattle.tlb.specs.Mappings.{IsMappedBy, IsMappingOf, Mapping, Translates, maps_into};
 ghost use Rattle.tlb.specs.Service.{Goes, IsRequest, is_served, overlaps, served, Served};
 

@@ -1,7 +1,6 @@
 //! The entries of a TLB, oldest first.
 
-ghost use Rattle.std.specs.Prelude.{◌≡◌, ◌↔◌, [], IsSome, IsTrue, Option, filter, find, not};
-ghost use Rattle.pte.specs.Address.{Overlap};
+ghost use Rattle.std.specs.Prelude.{◌≡◌, ◌↔◌, [], IsSome};
 ghost use Rattle.tlb.specs.Answer.{answer_of, entry_of};
 ghost use Rattle.tlb.specs.Entries.{IsTlb, filled, first_match, is_match};
 ghost use Rattle.tlb.specs.Fence.{fenced, is_fenced, is_of_space};
