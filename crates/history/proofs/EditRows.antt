@@ -8,13 +8,13 @@ use Rattle.history.specs.ShootdownRuns.{map_superpage}
 use Rattle.history.specs.EditRuns as run
 
 pub refused_edits : IsEachDueAfter two_harts map_superpage run.refused_edits
-unfolding kind_of wish_fault path_end edit_of byte_of difference
+unfolding IsEachDueAfter kind_of wish_fault path_end edit_of byte_of difference
 refused_edits = refl
 
 pub spare_frames_run_out : IsRun run.one_spare_frame run.spare_frames_run_out
-unfolding kind_of wish_fault path_end edit_of byte_of difference
+unfolding IsRun kind_of wish_fault path_end edit_of byte_of difference
 spare_frames_run_out = refl
 
 pub seventeen_fills : IsRun one_hart run.seventeen_fills
-unfolding kind_of wish_fault path_end edit_of byte_of difference
+unfolding IsRun kind_of wish_fault path_end edit_of byte_of difference
 seventeen_fills = refl

@@ -5,13 +5,13 @@ use Rattle.history.specs.WorkedRuns.{IsRun, one_hart, two_harts}
 use Rattle.history.specs.MailboxRuns as run
 
 pub bound_order_and_close : IsRun run.mailboxes_of_two run.bound_order_and_close
-unfolding byte_of difference
+unfolding IsRun byte_of difference
 bound_order_and_close = refl
 
 pub close_in_mid_shootdown : IsRun two_harts run.close_in_mid_shootdown
-unfolding byte_of difference
+unfolding IsRun byte_of difference
 close_in_mid_shootdown = refl
 
 pub tickets_run_out : IsRun one_hart run.tickets_run_out
-unfolding byte_of difference
+unfolding IsRun byte_of difference
 tickets_run_out = refl

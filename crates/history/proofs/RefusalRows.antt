@@ -7,5 +7,5 @@ use Rattle.history.specs.WorkedRuns.{IsRun, two_harts}
 use Rattle.history.specs.RefusalRuns as run
 
 pub refusals_in_order : IsRun two_harts run.refusals_in_order
-unfolding kind_of wish_fault path_end edit_of byte_of difference
+unfolding IsRun kind_of wish_fault path_end edit_of byte_of difference
 refusals_in_order = refl

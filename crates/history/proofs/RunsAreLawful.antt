@@ -16,4 +16,5 @@ lawful_after C H (step ∷ steps) lawful run =
     lawful_after C (with_turn step.0 step.1 H) steps (lawful, sym head) (subst P head tail)
 
 pub lawful_run : (C : Setup) (steps : List Step) → IsRun C steps → Lawful C (history_of steps)
+unfolding IsRun
 lawful_run C steps run = lawful_after C [] steps tt run

@@ -1,12 +1,12 @@
 -- Worked runs of refusals: where several apply, the first in the order of docs/PROTOCOL.md is answered, and nothing changes.
-use Rattle.std.specs.Prelude.{ℕ, ◌+◌, List, [], ◌∷◌, ◌++◌, None}
+use Rattle.std.specs.Prelude.{◌+◌, List, [], ◌∷◌, ◌++◌, None}
 use Rattle.pte.specs.declared.address.What.TheVariants.{All}
 use Rattle.pte.specs.declared.permission.Access.TheVariants as access
 use Rattle.walk.specs.declared.found_or_trap.Why.TheVariants.{NotCanonical, Invalid}
 use Rattle.spaces.specs.declared.places.Place.TheVariants.{Space}
 use Rattle.history.specs.declared.event.Event.TheVariants.{Begin, Load, Map, Unmap, Protect, Flush, Switch, Fence, Post, Take, ServeFence, Ack, AckSelf, Collect, Finish, Close}
 use Rattle.history.specs.declared.event.Scope.TheVariants as scope
-use Rattle.history.specs.declared.refusal.Refusal.TheVariants.{NoHart, NoSpace, NotHome, BadFlags, NotMapped, HomeNotNamed, NotOpen, NotNamed, AlreadyPosted, Closed, Empty, Walking, NotWalking, Serving, NotServing, NotFenced, NotDone}
+use Rattle.history.specs.declared.refusal.Refusal.TheVariants.{NoHart, NoSpace, NotHome, BadFlags, NotMapped, HomeNotNamed, NotOpen, NotNamed, AlreadyPosted, Empty, Walking, NotWalking, Serving, NotServing, NotFenced, NotDone}
 use Rattle.history.specs.declared.reply.Reply.TheVariants.{More, Opened, Ok, Done, Waiting}
 use Rattle.history.specs.WorkedRuns.{Step, small_page, flags, R, W, U, A, D, user, hart_0, hart_1, hart_2, refused, trap, taken}
 

@@ -105,7 +105,7 @@ mapped_anew_before_service =
     ∷ (Load 2, Filled 0x101004)
     ∷ []
 
--- the superpage is mapped again without W while hart 1 holds it with W
+-- the superpage loses W while hart 1 holds it with W
 abbrev pub superpage_made_read_only : List Step
 superpage_made_read_only =
     map_superpage

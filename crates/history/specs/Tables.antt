@@ -1,5 +1,5 @@
 -- The table words that a history leaves: each is what the last accepted edit stored there, else the opening's.
-use Rattle.std.specs.Prelude.{ℕ, ◌+◌, Bool, ◌==◌, ◌&&◌, ◌||◌, List, [], ◌∷◌, Option, Some, None, Result, Ok, Err, map, slice_index, if◌then◌else◌}
+use Rattle.std.specs.Prelude.{ℕ, ◌+◌, ◌==◌, ◌&&◌, ◌||◌, [], ◌∷◌, Some, Result, Ok, Err, if◌then◌else◌}
 use Rattle.walk.specs.Leads.{Tables}
 use Rattle.history.specs.Setup.{Setup}
 use Rattle.spaces.specs.declared.wishes.Wish.{Wish}
@@ -11,7 +11,7 @@ use Rattle.spaces.specs.Held.{spare_after}
 use Rattle.history.specs.declared.event.Event.{Event}
 use Rattle.history.specs.declared.event.Event.TheVariants.{Map, Unmap, Protect}
 use Rattle.history.specs.declared.reply.Reply.{Reply}
-use Rattle.history.specs.Turns.{Turn, History, is_leaf, is_table, is_opened, are_same}
+use Rattle.history.specs.Turns.{History, is_leaf, is_table, is_opened, are_same}
 
 -- how many spare frames of a hart are in use: as many as its Maps answered with a new table
 abbrev pub used_after : Event → Reply → ℕ → ℕ → ℕ
@@ -21,13 +21,6 @@ used_after _ reply h old = old
 abbrev pub used_spares : History → ℕ → ℕ
 used_spares [] h = 0
 used_spares (turn ∷ H) h = used_after turn.event turn.reply h (used_spares H h)
-
--- the edit that an event asks for, if it asks for one
-abbrev pub wish_of : Event → Option Wish
-wish_of (Map hart place page ppn flags) = Some (wish.Map place page ppn flags)
-wish_of (Unmap hart place page named) = Some (wish.Unmap place page)
-wish_of (Protect hart place page flags named) = Some (wish.Protect place page flags)
-wish_of _ = None
 
 -- the store that is due for a wish of a hart, or why it is refused, by the words and the hart's number of used spare frames
 abbrev pub edit_due : Setup → Tables → ℕ → ℕ → Wish → Result Store MapFault

@@ -10,7 +10,6 @@ use Rattle.pte.specs.declared.permission.Ctx.{Ctx}
 use Rattle.walk.specs.declared.found_or_trap.Why.{Why}
 use Rattle.spaces.specs.Layout.{Layout}
 use Rattle.history.specs.declared.event.Event.{Event}
-use Rattle.history.specs.declared.event.Event.TheVariants.{Load}
 use Rattle.history.specs.declared.refusal.Refusal.{Refusal}
 use Rattle.history.specs.declared.reply.Reply.{Reply}
 use Rattle.history.specs.declared.reply.Reply.TheVariants as reply
@@ -30,7 +29,7 @@ abbrev pub replies : List Step → List Reply
 replies steps = map (λ (step : Step). step.1) steps
 
 -- from the opening on, each reply is due after the steps before it
-abbrev pub IsRun : Setup → List Step → Type 0
+unfoldable pub IsRun : Setup → List Step → Type 0
 IsRun C steps = due_replies C [] (events steps) ≡ replies steps
 
 -- the history that the steps make of a history
@@ -42,7 +41,7 @@ abbrev pub history_of : List Step → History
 history_of steps = history_after [] steps
 
 -- each reply is due right after the same history, so none of the other steps comes before it
-abbrev pub IsEachDueAfter : Setup → List Step → List Step → Type 0
+unfoldable pub IsEachDueAfter : Setup → List Step → List Step → Type 0
 IsEachDueAfter C before steps = map (due C (history_of before)) (events steps) ≡ replies steps
 
 -- one space, of ASID 1, at home on hart 0, one slot of window, and 8 spare frames for each hart: the window's table is frame
@@ -125,7 +124,3 @@ trap cause why = reply.Trap (record { cause = cause; why = why })
 
 abbrev pub taken : ℕ → What → Reply
 taken ticket what = reply.Taken (record { ticket = ticket; what = what })
-
--- so many loads of a hart, after each of which the walk goes on
-abbrev pub load_more : ℕ → Step
-load_more hart = (Load hart, reply.More)

@@ -12,8 +12,8 @@ pub enum Scope {
     All,
 }
 
-/// One step of one hart. Harts and spaces are numbers from 0, tickets numbers below 64, `named` is a set of harts, bit h
-/// for hart h, and `va` a virtual address.
+/// One step of one hart. Harts, spaces and tickets are numbers from 0, and a step that speaks of one that is not there, or
+/// not open, is refused. `named` is a set of harts, bit h for hart h, and `va` a virtual address, canonical or not.
 #[derive(Clone, Copy, PartialEq, Eq, Debug)]
 pub enum Event {
     /// Begins an access: the hart's TLB answers it, or a walk from the root of the hart's space begins.
