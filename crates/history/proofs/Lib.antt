@@ -9,3 +9,7 @@ mod MailboxRows
 mod EditRows
 mod SuperpageEntries
 mod RefusalRows
+mod Ordered
+mod Walks
+mod Lasting
+mod InWalk

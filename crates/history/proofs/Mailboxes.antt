@@ -1,24 +1,22 @@
 -- What is accepted was taken or waits, and nothing is accepted after a close.
-use Rattle.std.proofs.Common.{◌≡◌, ℕ, zero, suc, Bool, true, false, cond, ◌&&◌, ◌||◌, List, [], ◌∷◌, ◌++◌, length, drop, map, Option, Some, None, slice_get, refl, ap, sym, ◌∙◌, eqb}
+use Rattle.std.proofs.Common.{◌≡◌, ℕ, zero, suc, Bool, true, false, cond, ◌&&◌, List, [], ◌∷◌, ◌++◌, length, drop, map, Option, Some, None, inl, inr, slice_get, refl, ap, sym, ◌∙◌, eqb}
 use Rattle.std.proofs.lemmas.List.{append-nil}
 use Rattle.std.proofs.lemmas.Bool.{and_parts, eqb-true, true≢false}
-use Rattle.std.specs.Prelude.{is_some, nat_le, not}
 use Rattle.shoot.specs.Request.{Message}
 use Rattle.history.specs.Setup.{Setup}
 use Rattle.history.specs.declared.event.Event.{Event}
 use Rattle.history.specs.declared.event.Event.TheVariants.{Post, Take}
 use Rattle.history.specs.declared.refusal.Refusal.{Refusal}
-use Rattle.history.specs.declared.refusal.Refusal.TheVariants.{NoHart, NotNamed, AlreadyPosted, Closed, Full, Walking, Serving}
+use Rattle.history.specs.declared.refusal.Refusal.TheVariants.{NoHart, NotNamed, AlreadyPosted, Closed, Walking, Serving}
 use Rattle.history.specs.declared.reply.Reply.{Reply}
 use Rattle.history.specs.declared.reply.Reply.TheVariants.{Ok, Taken, Refused}
 use Rattle.history.specs.Turns.{Turn, History, is_ok, taken_request, are_same}
-use Rattle.history.specs.Orders.{order_at, open_order}
+use Rattle.history.specs.Orders.{open_order}
 use Rattle.history.specs.Mailboxes.{Sent, sent_of, posts, posts_after, accepted, taken, taken_after, waiting, is_closed, NoneAfterClose, Mailboxes}
-use Rattle.history.specs.Service.{served}
-use Rattle.history.specs.Acknowledgements.{is_posted, outstanding}
-use Rattle.history.specs.Harts.{walk_of}
-use Rattle.history.specs.Due.{refuse, are_pair, names, next_reply, post_reply, due, Lawful}
-use Rattle.history.proofs.Occurred.{ok_is}
+use Rattle.history.specs.Due.{refuse, next_reply, post_reply, due, Lawful}
+use Rattle.history.specs.Occurrences.{Sometime, IsPostAfterClose}
+use Rattle.history.proofs.Splits.{not_sometime-empty, sometime_cases}
+use Rattle.history.proofs.Occurred.{ok_is, closed}
 use Rattle.history.proofs.OpenOrders.{by_test}
 
 abbrev IsFront : {A : Type 0} → List A → List A → Type 0
@@ -127,6 +125,20 @@ module _ (C : Setup) where
   pub none_after_close : (H : History) (s h : ℕ) → Lawful C H → NoneAfterClose C H s h
   none_after_close [] s h l = tt
   none_after_close (turn ∷ H) s h l = (none_at s h turn.event turn.reply H l.1, none_after_close H s h l.0)
+
+-- no accepted Post of a lawful history follows an accepted Close of its pair
+not_after_close : (C : Setup) (s h : ℕ) (turn : Turn) (H : History) → turn.reply ≡ due C H turn.event → IsPostAfterClose s h turn H → ⊥
+not_after_close C s h turn H d p =
+    let e : turn.reply ≡ due C H (Post s p.ticket h) = d ∙ ap (due C H) p.event in
+    let open_now = accepted_open C H s p.ticket h turn.reply e (ap is_ok p.accepted) in
+    true≢false (sym ((closed H s h).1 p.closed) ∙ open_now)
+
+pub no_post_after_close : (C : Setup) (H : History) (s h : ℕ) → Lawful C H → Sometime (IsPostAfterClose s h) H → ⊥
+no_post_after_close C [] s h l p = not_sometime-empty (IsPostAfterClose s h) p
+no_post_after_close C (turn ∷ H) s h l p = elim (sometime_cases (IsPostAfterClose s h) turn H p) [
+  | inl n ↦ not_after_close C s h turn H l.1 n
+  | inr old ↦ no_post_after_close C H s h l.0 old
+]
 
 get_front : {A : Type 0} (ts ws : List A) (n : ℕ) (x : A) → slice_get ts n ≡ Some x → slice_get (ts ++ ws) n ≡ Some x
 get_front [] ws n x e = absurd cc

@@ -1,6 +1,6 @@
 -- What is marked once something happened: posted, acknowledged, collected, mapped anew, superseded, closed.
-use Rattle.std.proofs.Common.{◌≡◌, ℕ, Bool, true, false, cond, ◌&&◌, ◌||◌, ◌⊎◌, inl, inr, [], ◌∷◌, Option, Some, None, refl, ap, sym, ◌∙◌, eqb}
-use Rattle.std.proofs.lemmas.Bool.{or_cases, or_left, or_right, and_parts, eqb-true, eq-eqb, false≢true}
+use Rattle.std.proofs.Common.{◌≡◌, ℕ, Bool, true, false, ◌&&◌, ◌||◌, ◌⊎◌, inl, inr, Option, Some, None, refl, ap, sym, ◌∙◌, eqb}
+use Rattle.std.proofs.lemmas.Bool.{or_cases, and_parts, eqb-true, eq-eqb, false≢true}
 use Rattle.std.specs.Prelude.{◌↔◌}
 use Rattle.pte.specs.Address.{Span}
 use Rattle.spaces.specs.declared.places.Place.{Place}
@@ -17,7 +17,7 @@ use Rattle.history.specs.Mailboxes.{Sent, is_closed, closed_after}
 use Rattle.history.specs.Service.{served, is_served}
 use Rattle.history.specs.Acknowledgements.{is_posted, posted_after, is_acked, acked_after, is_collected, collected_after}
 use Rattle.history.specs.Staleness.{IsChange, is_same_place, is_over, is_over_order, is_mapped_anew, anew_after, is_superseded, superseded_after}
-use Rattle.history.specs.Occurrences.{Sometime, IsPost, IsProgress, IsAck, IsAckSelf, Acknowledges, IsCollect, Collects, IsOfPage, IsMapOver, IsUnmapOver, IsProtectOver, Supersedes, IsClose}
+use Rattle.history.specs.Occurrences.{Sometime, IsPost, IsProgress, IsAckSelf, Acknowledges, Collects, IsOfPage, IsMapOver, Supersedes, IsClose}
 use Rattle.history.proofs.Splits.{read_sometime}
 
 -- what the tests of replies, options and places tell
@@ -107,8 +107,10 @@ posted_by turn H k h old p = rw (p.event, p.accepted) (all3 _ _ _ old refl (eq-e
 
 pub posted : (H : History) (k h : ℕ) → (is_posted H k h ≡ true) ↔ Sometime (IsPost k h) H
 posted H k h = read_sometime (IsPost k h) (λ H. is_posted H k h ≡ true) (λ e. false≢true e)
-    (λ turn H. (posted_to turn.event turn.reply H k h (is_posted H k h),
-    λ c. elim c [ inl p ↦ posted_by turn H k h (is_posted H k h) p | inr o ↦ posted_stays turn.event turn.reply H k h (is_posted H k h) o ])) H
+    (λ turn H. (
+      posted_to turn.event turn.reply H k h (is_posted H k h),
+      λ c. elim c [ inl p ↦ posted_by turn H k h (is_posted H k h) p | inr o ↦ posted_stays turn.event turn.reply H k h (is_posted H k h) o ],
+    )) H
 
 -- an own acknowledgement
 self_to : (hart ticket : ℕ) (r : Reply) (H : History) (k h : ℕ) → (is_progress r && ((eqb hart h) && is_order (open_order H hart ticket) k)) ≡ true → IsAckSelf k h (turn_of (AckSelf hart ticket) r) H
@@ -152,8 +154,10 @@ acked_by C turn H k h old a = elim a [
 
 pub acked : (C : Setup) (H : History) (k h : ℕ) → (is_acked C H k h ≡ true) ↔ Sometime (Acknowledges C k h) H
 acked C H k h = read_sometime (Acknowledges C k h) (λ H. is_acked C H k h ≡ true) (λ e. false≢true e)
-    (λ turn H. (acked_to C turn.event turn.reply H k h (is_acked C H k h),
-    λ c. elim c [ inl p ↦ acked_by C turn H k h (is_acked C H k h) p | inr o ↦ acked_stays C turn.event turn.reply H k h (is_acked C H k h) o ])) H
+    (λ turn H. (
+      acked_to C turn.event turn.reply H k h (is_acked C H k h),
+      λ c. elim c [ inl p ↦ acked_by C turn H k h (is_acked C H k h) p | inr o ↦ acked_stays C turn.event turn.reply H k h (is_acked C H k h) o ],
+    )) H
 
 -- collected
 collected_to : (C : Setup) (e : Event) (r : Reply) (H : History) (k h : ℕ) (old : Bool) → collected_after C e r H k h old ≡ true → Collects C k h (turn_of e r) H ⊎ (old ≡ true)
@@ -190,8 +194,10 @@ collected_by C turn H k h old a = elim a [
 
 pub collected : (C : Setup) (H : History) (k h : ℕ) → (is_collected C H k h ≡ true) ↔ Sometime (Collects C k h) H
 collected C H k h = read_sometime (Collects C k h) (λ H. is_collected C H k h ≡ true) (λ e. false≢true e)
-    (λ turn H. (collected_to C turn.event turn.reply H k h (is_collected C H k h),
-    λ c. elim c [ inl p ↦ collected_by C turn H k h (is_collected C H k h) p | inr o ↦ collected_stays C turn.event turn.reply H k h (is_collected C H k h) o ])) H
+    (λ turn H. (
+      collected_to C turn.event turn.reply H k h (is_collected C H k h),
+      λ c. elim c [ inl p ↦ collected_by C turn H k h (is_collected C H k h) p | inr o ↦ collected_stays C turn.event turn.reply H k h (is_collected C H k h) o ],
+    )) H
 
 -- closed
 closed_to : (e : Event) (r : Reply) (H : History) (s h : ℕ) (old : Bool) → closed_after e r s h old ≡ true → IsClose s h (turn_of e r) H ⊎ (old ≡ true)
@@ -214,8 +220,10 @@ closed_by turn H s h old p = rw (p.event, p.accepted, same_from s h) refl
 
 pub closed : (H : History) (sender receiver : ℕ) → (is_closed H sender receiver ≡ true) ↔ Sometime (IsClose sender receiver) H
 closed H s h = read_sometime (IsClose s h) (λ H. is_closed H s h ≡ true) (λ e. false≢true e)
-    (λ turn H. (closed_to turn.event turn.reply H s h (is_closed H s h),
-    λ c. elim c [ inl p ↦ closed_by turn H s h (is_closed H s h) p | inr o ↦ closed_stays turn.event turn.reply s h (is_closed H s h) o ])) H
+    (λ turn H. (
+      closed_to turn.event turn.reply H s h (is_closed H s h),
+      λ c. elim c [ inl p ↦ closed_by turn H s h (is_closed H s h) p | inr o ↦ closed_stays turn.event turn.reply s h (is_closed H s h) o ],
+    )) H
 
 -- the page of an order
 place_is : (a b : Place) → is_same_place a b ≡ true → a ≡ b
@@ -280,8 +288,10 @@ anew_by C turn H k old p = rw (p.event, p.stored, page_from C k p.place p.page H
 
 pub mapped_anew : (C : Setup) (H : History) (k : ℕ) → (is_mapped_anew C H k ≡ true) ↔ Sometime (IsMapOver C k) H
 mapped_anew C H k = read_sometime (IsMapOver C k) (λ H. is_mapped_anew C H k ≡ true) (λ e. false≢true e)
-    (λ turn H. (anew_to C turn.event turn.reply H k (is_mapped_anew C H k),
-    λ c. elim c [ inl p ↦ anew_by C turn H k (is_mapped_anew C H k) p | inr o ↦ anew_stays C turn.event turn.reply H k (is_mapped_anew C H k) o ])) H
+    (λ turn H. (
+      anew_to C turn.event turn.reply H k (is_mapped_anew C H k),
+      λ c. elim c [ inl p ↦ anew_by C turn H k (is_mapped_anew C H k) p | inr o ↦ anew_stays C turn.event turn.reply H k (is_mapped_anew C H k) o ],
+    )) H
 
 -- superseded
 superseded_to : (C : Setup) (e : Event) (r : Reply) (H : History) (k : ℕ) (old : Bool) → superseded_after C e r H k old ≡ true → Supersedes C k (turn_of e r) H ⊎ (old ≡ true)
@@ -333,5 +343,7 @@ superseded_by C turn H k old s = elim s [
 
 pub superseded : (C : Setup) (H : History) (k : ℕ) → (is_superseded C H k ≡ true) ↔ Sometime (Supersedes C k) H
 superseded C H k = read_sometime (Supersedes C k) (λ H. is_superseded C H k ≡ true) (λ e. false≢true e)
-    (λ turn H. (superseded_to C turn.event turn.reply H k (is_superseded C H k),
-    λ c. elim c [ inl p ↦ superseded_by C turn H k (is_superseded C H k) p | inr o ↦ superseded_stays C turn.event turn.reply H k (is_superseded C H k) o ])) H
+    (λ turn H. (
+      superseded_to C turn.event turn.reply H k (is_superseded C H k),
+      λ c. elim c [ inl p ↦ superseded_by C turn H k (is_superseded C H k) p | inr o ↦ superseded_stays C turn.event turn.reply H k (is_superseded C H k) o ],
+    )) H

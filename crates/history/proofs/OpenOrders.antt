@@ -1,5 +1,5 @@
 -- The order at a place, and the open order under a ticket.
-use Rattle.std.proofs.Common.{◌≡◌, ℕ, suc, ◌<◌, Bool, true, false, cond, ◌&&◌, ◌⊎◌, inl, inr, [], ◌∷◌, length, Option, Some, None, refl, ap, sym, ◌∙◌, eqb, arith}
+use Rattle.std.proofs.Common.{◌≡◌, ℕ, ◌<◌, Bool, true, false, cond, ◌&&◌, ◌⊎◌, inl, inr, [], ◌∷◌, length, Option, Some, None, refl, ap, sym, ◌∙◌, eqb, arith}
 use Rattle.std.proofs.lemmas.Bool.{and_parts, eqb-true, eq-eqb, cond-true, ne_eqb, false≢true, true≢false}
 use Rattle.std.specs.Prelude.{◌↔◌}
 use Rattle.history.specs.Setup.{Setup}
@@ -7,9 +7,9 @@ use Rattle.history.specs.declared.event.Event.{Event}
 use Rattle.history.specs.declared.event.Event.TheVariants.{Unmap, Protect, Flush, Finish}
 use Rattle.history.specs.declared.reply.Reply.{Reply}
 use Rattle.history.specs.declared.reply.Reply.TheVariants.{Opened, Ok}
-use Rattle.history.specs.Turns.{Turn, History, is_ok, opened_ticket, are_same}
+use Rattle.history.specs.Turns.{History, is_ok, opened_ticket, are_same}
 use Rattle.history.specs.Orders.{Order, order_or, opened_order, order_at, held_after, open_after, open_order}
-use Rattle.history.specs.Occurrences.{Sometime, Since, OpensAt, IsOrderBy, Opens, IsFinish, OpensOrder, OpensOrFinishes}
+use Rattle.history.specs.Occurrences.{Sometime, Since, OpensAt, IsOrderBy, OpensOrder, OpensOrFinishes}
 use Rattle.history.proofs.Splits.{read_sometime, read_since}
 use Rattle.history.proofs.Occurred.{turn_of, ok_is, same_from, and3}
 
@@ -42,19 +42,22 @@ order_new o place k old order at is = rw (is, at, eq-eqb k k refl) refl
 
 pub placed : (C : Setup) (H : History) (k : ℕ) (order : Order) → (order_at C H k ≡ Some order) ↔ Sometime (OpensAt C k order) H
 placed C H k order = read_sometime (OpensAt C k order) (λ H. order_at C H k ≡ Some order) (λ e. cc)
-    (λ turn H. (λ e. elim (order_cases (opened_order C turn.event turn.reply) (length H) k (order_at C H k) order e) [
-      | inl n ↦ inl (record { place = n.0; opened = n.1 })
-      | inr old ↦ inr old
-    ], λ c. elim c [
-      | inl p ↦ order_new _ (length H) k (order_at C H k) order p.place p.opened
-      | inr old ↦ order_stays _ (length H) k (order_at C H k) (order_below C H k order old) ∙ old
-    ])) H
+    (λ turn H. (
+      λ e. elim (order_cases (opened_order C turn.event turn.reply) (length H) k (order_at C H k) order e) [
+        | inl n ↦ inl (record { place = n.0; opened = n.1 })
+        | inr old ↦ inr old
+      ],
+      λ c. elim c [
+        | inl p ↦ order_new _ (length H) k (order_at C H k) order p.place p.opened
+        | inr old ↦ order_stays _ (length H) k (order_at C H k) (order_below C H k order old) ∙ old
+      ],
+    )) H
 
 -- an opening or a Finish of the ticket
-same_parts : (a b c d : ℕ) → are_same a b c d ≡ true → (a ≡ c) × (b ≡ d)
+pub same_parts : (a b c d : ℕ) → are_same a b c d ≡ true → (a ≡ c) × (b ≡ d)
 same_parts a b c d e = let p = and_parts (eqb a c) (eqb b d) e in (eqb-true a c p.0, eqb-true b d p.1)
 
-same_with : (a b c d : ℕ) → a ≡ c → b ≡ d → are_same a b c d ≡ true
+pub same_with : (a b c d : ℕ) → a ≡ c → b ≡ d → are_same a b c d ≡ true
 same_with a b c d p q = rw (p, q, same_from c d) refl
 
 abbrev is_finish : Event → Bool
@@ -102,10 +105,13 @@ order_to : (e : Event) (r : Reply) (H : History) (hart sender ticket k : ℕ) (o
     → held_after (opened_ticket r) hart sender ticket (length H) old ≡ Some k → Case e r H sender ticket k old
 order_to e r H hart sender ticket k old by back other h = elim (held_to r hart sender ticket (length H) k old h) [
   | inl n ↦ inl (record { by_sender = back n.0.0; answer = n.0.1 }, n.1)
-  | inr o ↦ inr (λ c. elim c [
+  | inr o ↦ inr (
+    λ c. elim c [
       | inl p ↦ o.0 (by p.by_sender, p.answer)
       | inr f ↦ false≢true (sym other ∙ ap is_finish f.event)
-    ], o.1)
+    ],
+    o.1,
+  )
 ]
 
 order_from : (e : Event) (r : Reply) (H : History) (hart sender ticket k : ℕ) (old : Option ℕ)
@@ -123,10 +129,13 @@ open_to (Flush hart scope named) r H sender ticket k old h = order_to (Flush har
 open_to (Finish hart number) r H sender ticket k old h =
     by_test (λ t. cond t None old ≡ Some k → Case (Finish hart number) r H sender ticket k old) (is_ok r && are_same hart number sender ticket)
     (λ _ h. absurd cc)
-    (λ t h. inr (λ c. elim c [
-      | inl p ↦ p.by_sender
-      | inr f ↦ true≢false (sym (finish_test hart number sender ticket r f.event f.accepted) ∙ t)
-    ], h)) h
+    (λ t h. inr (
+      λ c. elim c [
+        | inl p ↦ p.by_sender
+        | inr f ↦ true≢false (sym (finish_test hart number sender ticket r f.event f.accepted) ∙ t)
+      ],
+      h,
+    )) h
 open_to e r H sender ticket k old h = inr (λ c. elim c [ inl p ↦ p.by_sender | inr f ↦ false≢true (ap is_finish f.event) ], h)
 
 open_from : (e : Event) (r : Reply) (H : History) (sender ticket k : ℕ) (old : Option ℕ) → Case e r H sender ticket k old → open_after e r (length H) sender ticket old ≡ Some k
@@ -147,5 +156,7 @@ open_from e r H sender ticket k old c = elim c [ inl p ↦ absurd p.0.by_sender 
 
 pub opened : (H : History) (sender ticket k : ℕ) → (open_order H sender ticket ≡ Some k) ↔ Since (OpensOrder sender ticket k) (OpensOrFinishes sender ticket) H
 opened H sender ticket k = read_since (OpensOrder sender ticket k) (OpensOrFinishes sender ticket) (λ H. open_order H sender ticket ≡ Some k) (λ e. cc)
-    (λ turn H. (open_to turn.event turn.reply H sender ticket k (open_order H sender ticket),
-    open_from turn.event turn.reply H sender ticket k (open_order H sender ticket))) H
+    (λ turn H. (
+      open_to turn.event turn.reply H sender ticket k (open_order H sender ticket),
+      open_from turn.event turn.reply H sender ticket k (open_order H sender ticket),
+    )) H

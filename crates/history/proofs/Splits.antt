@@ -1,10 +1,10 @@
 -- Something happened at the newest turn, or at an earlier one.
-use Rattle.std.proofs.Common.{◌≡◌, ◌⊎◌, inl, inr, List, [], ◌∷◌, ◌++◌, refl, ap, sym, ◌∙◌, subst}
+use Rattle.std.proofs.Common.{◌≡◌, ◌⊎◌, inl, inr, [], ◌∷◌, ◌++◌, refl, ap, sym, subst}
 use Rattle.std.specs.Prelude.{◌↔◌}
 use Rattle.history.specs.Turns.{Turn, History}
 use Rattle.history.specs.Occurrences.{Sometime, Since}
 
-not_split : (newer : History) (turn : Turn) (earlier : History) → [] ≡ newer ++ turn ∷ earlier → ⊥
+pub not_split : (newer : History) (turn : Turn) (earlier : History) → [] ≡ newer ++ turn ∷ earlier → ⊥
 not_split [] turn earlier e = absurd cc
 not_split (x ∷ newer) turn earlier e = absurd cc
 
@@ -35,15 +35,16 @@ pub read_sometime : (P : Turn → History → Type 0) (R : History → Type 0) �
     → ((turn : Turn) (H : History) → R (turn ∷ H) ↔ (P turn H ⊎ R H)) → (H : History) → R H ↔ Sometime P H
 read_sometime P R empty step [] = (λ r. absurd (empty r), λ s. absurd (not_sometime-empty P s))
 read_sometime P R empty step (turn ∷ H) =
-    let before = read_sometime P R empty step H in
-    (λ r. elim ((step turn H).0 r) [ inl p ↦ sometime-here P turn H p | inr old ↦ sometime-later P turn H (before.0 old) ],
-    λ s. (step turn H).1 (elim (sometime_cases P turn H s) [ inl p ↦ inl p | inr old ↦ inr (before.1 old) ]))
+    let before = read_sometime P R empty step H in (
+      λ r. elim ((step turn H).0 r) [ inl p ↦ sometime-here P turn H p | inr old ↦ sometime-later P turn H (before.0 old) ],
+      λ s. (step turn H).1 (elim (sometime_cases P turn H s) [ inl p ↦ inl p | inr old ↦ inr (before.1 old) ]),
+    )
 
 module _ (P Q : Turn → History → Type 0) where
-  pub since-here : (turn : Turn) (H : History) → P turn H → Since P Q (turn ∷ H)
+  abbrev pub since-here : (turn : Turn) (H : History) → P turn H → Since P Q (turn ∷ H)
   since-here turn H p = record { later = []; turn = turn; earlier = H; split = refl; so = p; none_since = λ newer next between e q. not_split newer next between e }
 
-  none_later : (turn : Turn) (H : History) (s : Since P Q H) → (Q turn H → ⊥) → (newer : History) (next : Turn) (between : History)
+  pub none_later : (turn : Turn) (H : History) (s : Since P Q H) → (Q turn H → ⊥) → (newer : History) (next : Turn) (between : History)
       → turn ∷ s.later ≡ newer ++ next ∷ between → Q next (between ++ s.turn ∷ s.earlier) → ⊥
   none_later turn H s none [] next between e q =
       let same : next ≡ turn = cc in
@@ -51,7 +52,7 @@ module _ (P Q : Turn → History → Type 0) where
       none (subst (λ t. Q t H) same (subst (Q next) (sym s.split) (subst (λ xs. Q next (xs ++ s.turn ∷ s.earlier)) rest q)))
   none_later turn H s none (x ∷ newer) next between e q = let rest : s.later ≡ newer ++ next ∷ between = cc in s.none_since newer next between rest q
 
-  pub since-later : (turn : Turn) (H : History) → (Q turn H → ⊥) → Since P Q H → Since P Q (turn ∷ H)
+  abbrev pub since-later : (turn : Turn) (H : History) → (Q turn H → ⊥) → Since P Q H → Since P Q (turn ∷ H)
   since-later turn H none s = record {
     later = turn ∷ s.later;
     turn = s.turn;
@@ -74,15 +75,17 @@ module _ (P Q : Turn → History → Type 0) where
   since_at (x ∷ later) turn other H earlier e p none =
       let first : x ≡ turn = cc in
       let rest : H ≡ later ++ other ∷ earlier = cc in
-      inr (λ q. none [] x later refl (subst (λ t. Q t (later ++ other ∷ earlier)) (sym first) (subst (Q turn) rest q)),
-      record {
-        later = later;
-        turn = other;
-        earlier = earlier;
-        split = rest;
-        so = p;
-        none_since = λ newer next between e q. none (x ∷ newer) next between (ap (λ xs. x ∷ xs) e) q;
-      })
+      inr (
+        λ q. none [] x later refl (subst (λ t. Q t (later ++ other ∷ earlier)) (sym first) (subst (Q turn) rest q)),
+        record {
+          later = later;
+          turn = other;
+          earlier = earlier;
+          split = rest;
+          so = p;
+          none_since = λ newer next between e q. none (x ∷ newer) next between (ap (λ xs. x ∷ xs) e) q;
+        },
+      )
 
   pub since_cases : (turn : Turn) (H : History) → Since P Q (turn ∷ H) → P turn H ⊎ ((Q turn H → ⊥) × Since P Q H)
   since_cases turn H s = since_at s.later turn s.turn H s.earlier s.split s.so s.none_since
@@ -92,6 +95,7 @@ pub read_since : (P Q : Turn → History → Type 0) (R : History → Type 0) �
     → ((turn : Turn) (H : History) → R (turn ∷ H) ↔ (P turn H ⊎ ((Q turn H → ⊥) × R H))) → (H : History) → R H ↔ Since P Q H
 read_since P Q R empty step [] = (λ r. absurd (empty r), λ s. absurd (not_since-empty P Q s))
 read_since P Q R empty step (turn ∷ H) =
-    let before = read_since P Q R empty step H in
-    (λ r. elim ((step turn H).0 r) [ inl p ↦ since-here P Q turn H p | inr old ↦ since-later P Q turn H old.0 (before.0 old.1) ],
-    λ s. (step turn H).1 (elim (since_cases P Q turn H s) [ inl p ↦ inl p | inr old ↦ inr (old.0, before.1 old.1) ]))
+    let before = read_since P Q R empty step H in (
+      λ r. elim ((step turn H).0 r) [ inl p ↦ since-here P Q turn H p | inr old ↦ since-later P Q turn H old.0 (before.0 old.1) ],
+      λ s. (step turn H).1 (elim (since_cases P Q turn H s) [ inl p ↦ inl p | inr old ↦ inr (old.0, before.1 old.1) ]),
+    )

@@ -1,11 +1,10 @@
 -- How far an order is with each hart: posted to it, acknowledged by it, and the acknowledgement collected.
-use Rattle.std.specs.Prelude.{ℕ, ◌+◌, Bool, true, false, ◌==◌, ◌&&◌, ◌||◌, not, List, [], ◌∷◌, if◌then◌else◌}
+use Rattle.std.specs.Prelude.{ℕ, ◌+◌, Bool, false, ◌==◌, ◌&&◌, ◌||◌, not, List, [], ◌∷◌, if◌then◌else◌}
 use Rattle.history.specs.Setup.{Setup}
-use Rattle.shoot.specs.HartSet.{contains, difference, harts_where}
 use Rattle.history.specs.declared.event.Event.{Event}
 use Rattle.history.specs.declared.event.Event.TheVariants.{Post, Ack, AckSelf, Collect}
 use Rattle.history.specs.declared.reply.Reply.{Reply}
-use Rattle.history.specs.Turns.{Turn, History, is_ok, is_progress}
+use Rattle.history.specs.Turns.{History, is_ok, is_progress}
 use Rattle.history.specs.Orders.{open_order, is_order}
 use Rattle.history.specs.Mailboxes.{Sent, posts}
 use Rattle.history.specs.Service.{served, is_served}

@@ -1,6 +1,6 @@
 -- The reply that is due to an event after a history: the first refusal that applies, else what the event does. A history is
 -- lawful if each of its replies was due.
-use Rattle.std.specs.Prelude.{ℕ, zero, suc, ◌+◌, ◌-◌, ◌^◌, ◌≡◌, Bool, true, false, ◌==◌, ◌&&◌, not, nat_le, nat_lt, List, [], ◌∷◌, length, drop, Option, Some, None, is_some, is_none, Result, Ok, Err, if◌then◌else◌}
+use Rattle.std.specs.Prelude.{ℕ, zero, suc, ◌+◌, ◌^◌, ◌≡◌, Bool, true, false, ◌==◌, ◌&&◌, not, nat_le, nat_lt, List, [], ◌∷◌, length, Option, Some, None, is_some, is_none, Result, Ok, Err, if◌then◌else◌}
 use Rattle.pte.specs.declared.permission.Access.{Access}
 use Rattle.pte.specs.declared.permission.Ctx.{Ctx}
 use Rattle.pte.specs.declared.entry.Kind.{Kind}
@@ -36,7 +36,7 @@ use Rattle.history.specs.declared.refusal.Refusal.TheVariants.{NoHart, NoSpace, 
 use Rattle.history.specs.declared.reply.Reply.{Reply}
 use Rattle.history.specs.declared.reply.Reply.TheVariants as reply
 use Rattle.history.specs.Refusal.{refusal_of}
-use Rattle.history.specs.Turns.{Turn, History}
+use Rattle.history.specs.Turns.{History}
 use Rattle.history.specs.Orders.{Order, order_at, open_order}
 use Rattle.history.specs.Mailboxes.{waiting, is_closed}
 use Rattle.history.specs.Service.{served, has_fenced}

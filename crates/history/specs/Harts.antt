@@ -1,9 +1,9 @@
 -- What a history leaves of a hart: its space, its walk, and the entries of its TLB
 -- (privileged manual 4.1.11, satp; 4.3.2, the walk; 4.2.1, SFENCE.VMA).
-use Rattle.std.specs.Prelude.{ℕ, ◌+◌, zero, suc, ◌-◌, Bool, ◌==◌, ◌&&◌, List, [], ◌∷◌, Option, Some, None, Result, Ok, Err, map, slice_index, if◌then◌else◌}
+use Rattle.std.specs.Prelude.{ℕ, ◌+◌, ◌==◌, ◌&&◌, List, [], ◌∷◌, Option, Some, None, Result, Ok, Err, if◌then◌else◌}
 use Rattle.pte.specs.declared.permission.Access.{Access}
 use Rattle.pte.specs.declared.permission.Ctx.{Ctx}
-use Rattle.pte.specs.Address.{top_level, level_count}
+use Rattle.pte.specs.Address.{level_count}
 use Rattle.walk.specs.declared.found_or_trap.Found.{Found}
 use Rattle.walk.specs.declared.found_or_trap.Trap.{Trap}
 use Rattle.walk.specs.Stage.{start_of}
@@ -19,7 +19,7 @@ use Rattle.history.specs.declared.event.Event.{Event}
 use Rattle.history.specs.declared.event.Event.TheVariants.{Begin, Load, Switch, Fence, ServeFence, AckSelf}
 use Rattle.history.specs.declared.reply.Reply.{Reply}
 use Rattle.history.specs.declared.reply.Reply.TheVariants as reply
-use Rattle.history.specs.Turns.{Turn, History, is_ok, is_filled, is_progress}
+use Rattle.history.specs.Turns.{History, is_ok, is_filled, is_progress}
 use Rattle.history.specs.Orders.{open_order, what_of}
 use Rattle.history.specs.Service.{served, what_served}
 use Rattle.history.specs.Tables.{words_of}

@@ -6,7 +6,7 @@ use Rattle.shoot.specs.Request.{Message}
 use Rattle.history.specs.declared.event.Event.{Event}
 use Rattle.history.specs.declared.event.Event.TheVariants.{Post, Take, Close}
 use Rattle.history.specs.declared.reply.Reply.{Reply}
-use Rattle.history.specs.Turns.{Turn, History, is_ok, taken_request, are_same}
+use Rattle.history.specs.Turns.{History, is_ok, taken_request, are_same}
 use Rattle.history.specs.Orders.{open_order, what_of}
 
 -- an accepted post: who sent it, of which order, and the request

@@ -1,20 +1,28 @@
 -- When something happened: facts about one turn of a history and the turns before it, in plain words. The laws of
 -- src/occurrences.rt say that what a history leaves is read off such turns.
-use Rattle.std.specs.Prelude.{ℕ, ◌≡◌, ◌⊎◌, true, List, [], ◌∷◌, ◌++◌, length, Option, Some}
-use Rattle.pte.specs.Address.{Span}
+use Rattle.std.specs.Prelude.{ℕ, suc, ◌-◌, ◌<◌, ◌≡◌, ◌⊎◌, Bool, true, false, ◌==◌, ◌&&◌, ◌∷◌, ◌++◌, length, slice_get, Some, Ok}
+use Rattle.pte.specs.Address.{Span, top_level}
 use Rattle.pte.specs.declared.flags.PteFlags.{PteFlags}
+use Rattle.walk.specs.declared.found_or_trap.Trap.{Trap}
+use Rattle.walk.specs.Leads.{Tables, Leads, word_at}
 use Rattle.spaces.specs.declared.places.Place.{Place}
+use Rattle.spaces.specs.declared.wishes.Wish.{Wish}
+use Rattle.spaces.specs.declared.wishes.Wish.TheVariants as wish
+use Rattle.spaces.specs.Edits.{Store}
+use Rattle.shoot.specs.Request.{Message}
 use Rattle.tlb.specs.Service.{overlaps}
 use Rattle.history.specs.Setup.{Setup}
 use Rattle.history.specs.declared.event.Event.{Event}
-use Rattle.history.specs.declared.event.Event.TheVariants.{Map, Unmap, Protect, Flush, Post, Ack, AckSelf, Collect, Finish, Close}
+use Rattle.history.specs.declared.event.Event.TheVariants.{Begin, Load, Map, Unmap, Protect, Flush, Switch, Post, Take, ServeFence, Ack, AckSelf, Collect, Finish, Close}
 use Rattle.history.specs.declared.reply.Reply.{Reply}
-use Rattle.history.specs.declared.reply.Reply.TheVariants.{Leaf, Opened, Ok, Done, Waiting}
-use Rattle.history.specs.Turns.{Turn, History}
-use Rattle.history.specs.Orders.{Order, open_order, opened_order, order_at}
-use Rattle.history.specs.Mailboxes.{Sent}
+use Rattle.history.specs.declared.reply.Reply.TheVariants as reply
+use Rattle.history.specs.Turns.{Turn, History, is_more, is_table}
+use Rattle.history.specs.Orders.{Order, open_order, opened_order, order_at, what_of}
+use Rattle.history.specs.Mailboxes.{Sent, posts, taken}
 use Rattle.history.specs.Service.{served}
-use Rattle.history.specs.Acknowledgements.{is_acked}
+use Rattle.history.specs.Tables.{words_of, used_spares, edit_due}
+use Rattle.history.specs.Harts.{Walking}
+use Rattle.history.specs.Acknowledgements.{is_acked, count_where}
 use Rattle.history.specs.Staleness.{IsChange}
 
 -- at some turn of the history P held, of that turn and the turns before it
@@ -39,18 +47,18 @@ pub record IsPost (k h : ℕ) (turn : Turn) (before : History) : Type 0 where
   pub sender : ℕ
   pub ticket : ℕ
   pub event : turn.event ≡ Post sender ticket h
-  pub accepted : turn.reply ≡ Ok
+  pub accepted : turn.reply ≡ reply.Ok
   pub order : open_order before sender ticket ≡ Some k
 
 -- a reply that tells a ticket's progress: the event was accepted
 abbrev pub IsProgress : Reply → Type 0
-IsProgress reply = (reply ≡ Done) ⊎ ((left : ℕ) × (reply ≡ Waiting left))
+IsProgress answer = (answer ≡ reply.Done) ⊎ ((left : ℕ) × (answer ≡ reply.Waiting left))
 
 -- an Ack by h was accepted while h served order k
 pub record IsAck (C : Setup) (k h : ℕ) (turn : Turn) (before : History) : Type 0 where
   pub sent : Sent
   pub event : turn.event ≡ Ack h
-  pub accepted : turn.reply ≡ Ok
+  pub accepted : turn.reply ≡ reply.Ok
   pub serving : served C before h ≡ Some sent
   pub order : sent.order ≡ k
 
@@ -92,7 +100,7 @@ pub record IsMapOver (C : Setup) (k : ℕ) (turn : Turn) (before : History) : Ty
   pub ppn : ℕ
   pub flags : PteFlags
   pub event : turn.event ≡ Map hart place page ppn flags
-  pub stored : turn.reply ≡ Leaf
+  pub stored : turn.reply ≡ reply.Leaf
   pub of_page : IsOfPage C k place page before
 
 -- after order k an Unmap, or a Protect, over its page was accepted
@@ -103,7 +111,7 @@ pub record IsUnmapOver (C : Setup) (k : ℕ) (turn : Turn) (before : History) : 
   pub named : ℕ
   pub ticket : ℕ
   pub event : turn.event ≡ Unmap hart place page named
-  pub accepted : turn.reply ≡ Opened ticket
+  pub accepted : turn.reply ≡ reply.Opened ticket
   pub of_page : IsOfPage C k place page before
 
 pub record IsProtectOver (C : Setup) (k : ℕ) (turn : Turn) (before : History) : Type 0 where
@@ -114,7 +122,7 @@ pub record IsProtectOver (C : Setup) (k : ℕ) (turn : Turn) (before : History) 
   pub named : ℕ
   pub ticket : ℕ
   pub event : turn.event ≡ Protect hart place page flags named
-  pub accepted : turn.reply ≡ Opened ticket
+  pub accepted : turn.reply ≡ reply.Opened ticket
   pub of_page : IsOfPage C k place page before
 
 abbrev pub Supersedes : Setup → ℕ → Turn → History → Type 0
@@ -123,7 +131,14 @@ Supersedes C k turn before = IsUnmapOver C k turn before ⊎ IsProtectOver C k t
 -- a Close of the pair was accepted
 pub record IsClose (sender receiver : ℕ) (turn : Turn) (before : History) : Type 0 where
   pub event : turn.event ≡ Close sender receiver
-  pub accepted : turn.reply ≡ Ok
+  pub accepted : turn.reply ≡ reply.Ok
+
+-- a Post of the pair was accepted though a Close of it had been
+pub record IsPostAfterClose (sender receiver : ℕ) (turn : Turn) (before : History) : Type 0 where
+  pub ticket : ℕ
+  pub event : turn.event ≡ Post sender ticket receiver
+  pub accepted : turn.reply ≡ reply.Ok
+  pub closed : Sometime (IsClose sender receiver) before
 
 -- the turn with k turns before it opened this order
 pub record OpensAt (C : Setup) (k : ℕ) (order : Order) (turn : Turn) (before : History) : Type 0 where
@@ -140,11 +155,11 @@ IsOrderBy sender _ = ⊥
 -- the turn opened the sender's ticket, or freed its number
 pub record Opens (sender ticket : ℕ) (turn : Turn) (before : History) : Type 0 where
   pub by_sender : IsOrderBy sender turn.event
-  pub answer : turn.reply ≡ Opened ticket
+  pub answer : turn.reply ≡ reply.Opened ticket
 
 pub record IsFinish (sender ticket : ℕ) (turn : Turn) (before : History) : Type 0 where
   pub event : turn.event ≡ Finish sender ticket
-  pub accepted : turn.reply ≡ Ok
+  pub accepted : turn.reply ≡ reply.Ok
 
 -- the turn with k turns before it opened the sender's ticket
 abbrev pub OpensOrder : ℕ → ℕ → ℕ → Turn → History → Type 0
@@ -152,3 +167,123 @@ OpensOrder sender ticket k turn before = Opens sender ticket turn before × (len
 
 abbrev pub OpensOrFinishes : ℕ → ℕ → Turn → History → Type 0
 OpensOrFinishes sender ticket turn before = Opens sender ticket turn before ⊎ IsFinish sender ticket turn before
+
+-- a Post of the pair was accepted as the one after n others, of this order and with this request
+pub record IsNthPost (C : Setup) (sender receiver n : ℕ) (sent : Sent) (turn : Turn) (before : History) : Type 0 where
+  pub ticket : ℕ
+  pub order : ℕ
+  pub event : turn.event ≡ Post sender ticket receiver
+  pub accepted : turn.reply ≡ reply.Ok
+  pub is_open : open_order before sender ticket ≡ Some order
+  pub count : length (posts C before sender receiver) ≡ n
+  pub is : sent ≡ record { sender = sender; order = order; request = record { ticket = ticket; what = what_of C before (Some order) } }
+
+-- a Take of the pair answered this request, after n others
+pub record IsNthTake (sender receiver n : ℕ) (request : Message) (turn : Turn) (before : History) : Type 0 where
+  pub event : turn.event ≡ Take receiver sender
+  pub answer : turn.reply ≡ reply.Taken request
+  pub count : length (taken before sender receiver) ≡ n
+
+-- at the level that the walk has come to, which is not the lowest, the address leads to a pointer: the next table leads
+-- one level below
+abbrev pub LeadsOn : Tables → ℕ → Walking → Type 0
+LeadsOn words root walk =
+    (walk.loads < top_level)
+    × ((table : ℕ) × Leads words root walk.va (top_level - suc walk.loads) table (word_at words walk.va (top_level - suc walk.loads) table))
+
+-- P held at the last turn at which Q held; or Q never held, and it is as at the opening
+abbrev pub SinceOr : (Turn → History → Type 0) → (Turn → History → Type 0) → Type 0 → History → Type 0
+SinceOr P Q opening H = Since P Q H ⊎ ((¬ Sometime Q H) × opening)
+
+-- a Switch of the hart to the space was accepted
+pub record IsSwitch (hart space : ℕ) (turn : Turn) (before : History) : Type 0 where
+  pub event : turn.event ≡ Switch hart space
+  pub accepted : turn.reply ≡ reply.Ok
+
+abbrev pub Switches : ℕ → Turn → History → Type 0
+Switches hart turn before = (space : ℕ) × IsSwitch hart space turn before
+
+-- the hart took a request
+pub record IsTake (hart : ℕ) (turn : Turn) (before : History) : Type 0 where
+  pub from : ℕ
+  pub request : Message
+  pub event : turn.event ≡ Take hart from
+  pub answer : turn.reply ≡ reply.Taken request
+
+-- the hart took a request while n of the mailbox were taken, and this is the mailbox's n-th accepted post
+pub record TakesPost (C : Setup) (hart : ℕ) (sent : Sent) (turn : Turn) (before : History) : Type 0 where
+  pub from : ℕ
+  pub request : Message
+  pub event : turn.event ≡ Take hart from
+  pub answer : turn.reply ≡ reply.Taken request
+  pub is : slice_get (posts C before from hart) (length (taken before from hart)) ≡ Some sent
+
+-- an Ack by the hart was accepted
+pub record IsAckBy (hart : ℕ) (turn : Turn) (before : History) : Type 0 where
+  pub event : turn.event ≡ Ack hart
+  pub accepted : turn.reply ≡ reply.Ok
+
+abbrev pub TakesOrAcks : ℕ → Turn → History → Type 0
+TakesOrAcks hart turn before = IsTake hart turn before ⊎ IsAckBy hart turn before
+
+-- a ServeFence by the hart was accepted
+pub record IsServeFence (hart : ℕ) (turn : Turn) (before : History) : Type 0 where
+  pub event : turn.event ≡ ServeFence hart
+  pub accepted : turn.reply ≡ reply.Ok
+
+-- the event asked for this edit by the hart, and it was accepted
+abbrev pub IsEdit : ℕ → Wish → Event → Reply → Type 0
+IsEdit h w (Map hart place page ppn flags) answer =
+    (hart ≡ h) × (w ≡ wish.Map place page ppn flags) × ((answer ≡ reply.Leaf) ⊎ ((table : ℕ) × (answer ≡ reply.Table table)))
+IsEdit h w (Unmap hart place page named) answer = (hart ≡ h) × (w ≡ wish.Unmap place page) × ((ticket : ℕ) × (answer ≡ reply.Opened ticket))
+IsEdit h w (Protect hart place page flags named) answer =
+    (hart ≡ h) × (w ≡ wish.Protect place page flags) × ((ticket : ℕ) × (answer ≡ reply.Opened ticket))
+IsEdit h w _ answer = ⊥
+
+-- an accepted edit stored the word at this index of the table at this PPN
+pub record IsStore (C : Setup) (ppn index word : ℕ) (turn : Turn) (before : History) : Type 0 where
+  pub hart : ℕ
+  pub wanted : Wish
+  pub store : Store
+  pub edit : IsEdit hart wanted turn.event turn.reply
+  pub due : edit_due C (words_of C before) (used_spares before hart) hart wanted ≡ Ok store
+  pub same_table : store.ppn ≡ ppn
+  pub same_index : store.index ≡ index
+  pub same_word : store.word ≡ word
+
+abbrev pub Stores : Setup → ℕ → ℕ → Turn → History → Type 0
+Stores C ppn index turn before = (word : ℕ) × IsStore C ppn index word turn before
+
+-- a walk for this access began
+pub record IsBegin (hart : ℕ) (walk : Walking) (turn : Turn) (before : History) : Type 0 where
+  pub event : turn.event ≡ Begin hart walk.va walk.access walk.ctx
+  pub begun : turn.reply ≡ reply.More
+
+-- a Load ended a walk
+pub record IsLastLoad (hart : ℕ) (turn : Turn) (before : History) : Type 0 where
+  pub event : turn.event ≡ Load hart
+  pub ended : ((pa : ℕ) × (turn.reply ≡ reply.Filled pa)) ⊎ ((trap : Trap) × (turn.reply ≡ reply.Trap trap))
+
+abbrev pub BeginsOrEnds : ℕ → Turn → History → Type 0
+BeginsOrEnds hart turn before = ((walk : Walking) × IsBegin hart walk turn before) ⊎ IsLastLoad hart turn before
+
+-- a Load of the hart after which its walk goes on
+abbrev pub is_load_by : ℕ → Event → Bool
+is_load_by h (Load hart) = hart == h
+is_load_by h _ = false
+
+abbrev pub is_further_load : ℕ → Turn → Bool
+is_further_load hart turn = is_more turn.reply && is_load_by hart turn.event
+
+-- the walk began, and since then none began or ended; its loads are those since then after which it went on
+pub record IsInWalk (hart : ℕ) (walk : Walking) (H : History) : Type 0 where
+  pub since : Since (IsBegin hart walk) (BeginsOrEnds hart) H
+  pub loads : walk.loads ≡ count_where (is_further_load hart) since.later
+
+-- a Map of the hart stored a pointer to a new table
+abbrev pub is_map_by : ℕ → Event → Bool
+is_map_by h (Map hart place page ppn flags) = hart == h
+is_map_by h _ = false
+
+abbrev pub is_new_table : ℕ → Turn → Bool
+is_new_table hart turn = is_table turn.reply && is_map_by hart turn.event

@@ -1,6 +1,6 @@
 -- Orders: what an accepted Unmap, Protect or Flush asks of the harts that it names. An order is known by its place in the
 -- history, the number of turns before it. Its ticket is the number by which its sender speaks of it while it is open.
-use Rattle.std.specs.Prelude.{ℕ, Bool, true, false, ◌==◌, ◌&&◌, List, [], ◌∷◌, length, map, slice_index, Option, Some, None, if◌then◌else◌}
+use Rattle.std.specs.Prelude.{ℕ, Bool, false, ◌==◌, ◌&&◌, List, [], ◌∷◌, length, Option, Some, None, if◌then◌else◌}
 use Rattle.pte.specs.Address.{Span}
 use Rattle.pte.specs.declared.address.What.{What}
 use Rattle.pte.specs.declared.address.What.TheVariants.{PageOf, SpaceOf, All}
@@ -13,7 +13,7 @@ use Rattle.history.specs.declared.event.Event.TheVariants.{Unmap, Protect, Flush
 use Rattle.history.specs.declared.event.Scope.{Scope}
 use Rattle.history.specs.declared.event.Scope.TheVariants as scope
 use Rattle.history.specs.declared.reply.Reply.{Reply}
-use Rattle.history.specs.Turns.{Turn, History, is_ok, opened_ticket, are_same}
+use Rattle.history.specs.Turns.{History, is_ok, opened_ticket, are_same}
 
 -- what an order followed: a page was unmapped, or its flags were changed, or nothing was stored
 pub data Cause : Type 0 where

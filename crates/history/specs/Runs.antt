@@ -3,7 +3,7 @@ use Rattle.std.specs.Prelude.{List, [], ◌∷◌}
 use Rattle.history.specs.declared.event.Event.{Event}
 use Rattle.history.specs.declared.reply.Reply.{Reply}
 use Rattle.history.specs.Setup.{Setup}
-use Rattle.history.specs.Turns.{Turn, History}
+use Rattle.history.specs.Turns.{History}
 use Rattle.history.specs.Due.{due}
 
 abbrev pub with_turn : Event → Reply → History → History

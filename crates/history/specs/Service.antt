@@ -1,12 +1,12 @@
 -- Service: which accepted post a hart serves, from its Take to its Ack, and whether it has fenced for it.
-use Rattle.std.specs.Prelude.{ℕ, Bool, true, false, ◌==◌, ◌&&◌, List, [], ◌∷◌, length, Option, Some, None, slice_get, if◌then◌else◌}
+use Rattle.std.specs.Prelude.{ℕ, Bool, true, false, ◌==◌, ◌&&◌, [], ◌∷◌, length, Option, Some, None, slice_get, if◌then◌else◌}
 use Rattle.pte.specs.declared.address.What.{What}
 use Rattle.pte.specs.declared.address.What.TheVariants.{All}
 use Rattle.history.specs.Setup.{Setup}
 use Rattle.history.specs.declared.event.Event.{Event}
 use Rattle.history.specs.declared.event.Event.TheVariants.{Take, ServeFence, Ack}
 use Rattle.history.specs.declared.reply.Reply.{Reply}
-use Rattle.history.specs.Turns.{Turn, History, is_ok, is_taken}
+use Rattle.history.specs.Turns.{History, is_ok, is_taken}
 use Rattle.history.specs.Mailboxes.{Sent, posts, taken}
 
 -- the n-th accepted Take of a pair takes its n-th accepted post

@@ -1,8 +1,7 @@
 -- What an acknowledgement promises of a TLB: after an unmapping no translation of the page, until it is mapped anew (Clear);
 -- after an unmapping or a change of flags none but what is mapped now, until the page is changed once more (Coherent).
-use Rattle.std.specs.Prelude.{ℕ, Bool, true, false, ◌≡◌, ◌<◌, ◌⊎◌, ◌==◌, ◌&&◌, ◌||◌, List, [], ◌∷◌, length, Option, Some, None, IsTrue}
+use Rattle.std.specs.Prelude.{ℕ, Bool, true, false, ◌≡◌, ◌<◌, ◌⊎◌, ◌==◌, ◌&&◌, ◌||◌, List, [], ◌∷◌, length, Option, Some, None}
 use Rattle.pte.specs.Address.{Span, Holds}
-use Rattle.pte.specs.declared.flags.PteFlags.{PteFlags}
 use Rattle.walk.specs.Maps.{Maps}
 use Rattle.history.specs.Setup.{Setup, asid_of}
 use Rattle.spaces.specs.declared.places.Place.{Place}
@@ -15,7 +14,7 @@ use Rattle.tlb.specs.Mappings.{Mapping, LiesIn, IsMappedBy, Translates}
 use Rattle.history.specs.declared.event.Event.{Event}
 use Rattle.history.specs.declared.event.Event.TheVariants.{Map, Unmap, Protect}
 use Rattle.history.specs.declared.reply.Reply.{Reply}
-use Rattle.history.specs.Turns.{Turn, History, is_leaf, is_opened}
+use Rattle.history.specs.Turns.{History, is_leaf, is_opened}
 use Rattle.history.specs.Orders.{Order, Cause, Unmapped, Protected, Flushed, order_at}
 use Rattle.history.specs.Acknowledgements.{is_acked}
 use Rattle.history.specs.Tables.{words_of}

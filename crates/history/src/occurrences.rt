@@ -1,16 +1,25 @@
 //! Laws of the definitions: what a history leaves is read off its turns. Each function does nothing, and its contract is
 //! the law.
 
-ghost use Rattle.std.specs.Prelude.{ℕ, true, ◌≡◌, ◌↔◌, Some, slice_get};
+ghost use Rattle.std.specs.Prelude.{ℕ, true, ◌≡◌, ◌↔◌, Result, Some, slice_get};
 ghost use Rattle.history.specs.Turns.{History};
+ghost use Rattle.pte.specs.Address.{IsCanonical};
+ghost use Rattle.walk.specs.declared.found_or_trap.Found.{Found};
+ghost use Rattle.walk.specs.declared.found_or_trap.Trap.{Trap};
+ghost use Rattle.walk.specs.Outcome.{Outcome};
+ghost use Rattle.spaces.specs.Layout.{root_ppn};
+ghost use Rattle.spaces.specs.Opening.{opening};
 ghost use Rattle.shoot.specs.Request.{Message};
 ghost use Rattle.history.specs.Setup.{Setup};
-ghost use Rattle.history.specs.Due.{Lawful};
+ghost use Rattle.history.specs.Due.{Lawful, goes_on};
 ghost use Rattle.history.specs.Orders.{Order, open_order, order_at};
-ghost use Rattle.history.specs.Acknowledgements.{is_acked, is_collected, is_posted};
-ghost use Rattle.history.specs.Mailboxes.{Mailboxes, NoneAfterClose, accepted, is_closed, taken};
+ghost use Rattle.history.specs.Acknowledgements.{count_where, is_acked, is_collected, is_posted};
+ghost use Rattle.history.specs.Mailboxes.{Mailboxes, NoneAfterClose, Sent, accepted, is_closed, posts, taken};
+ghost use Rattle.history.specs.Service.{has_fenced, served};
 ghost use Rattle.history.specs.Staleness.{is_mapped_anew, is_superseded};
-ghost use Rattle.history.specs.Occurrences.{Acknowledges, Collects, IsClose, IsMapOver, IsPost, OpensAt, OpensOrder, OpensOrFinishes, Since, Sometime, Supersedes};
+ghost use Rattle.history.specs.Tables.{used_spares, words_of};
+ghost use Rattle.history.specs.Harts.{Walking, outcome_of, space_of, walk_of};
+ghost use Rattle.history.specs.Occurrences.{Acknowledges, Collects, IsClose, IsInWalk, IsMapOver, IsNthPost, IsNthTake, IsPost, IsPostAfterClose, IsServeFence, IsStore, IsSwitch, IsTake, LeadsOn, OpensAt, OpensOrder, OpensOrFinishes, Since, SinceOr, Sometime, Stores, Supersedes, Switches, TakesOrAcks, TakesPost, is_new_table};
 
 /// An order is posted to a hart exactly if at some turn a Post to it was accepted of the ticket under which the order was
 /// open.
@@ -79,4 +88,71 @@ pub fn nth_taken_is_the_nth_accepted()
 #[tactic(auto, using(crate::proofs::Mailboxes::none_after_close))]
 pub fn nothing_is_accepted_after_a_close()
     ensures { (C : Setup) (H : History) (sender receiver : ℕ) → Lawful C H → NoneAfterClose C H sender receiver }
+{}
+
+/// In a lawful history no Post of a pair is accepted after a Close of it was.
+pub fn no_post_is_accepted_after_a_close()
+    ensures { (C : Setup) (H : History) (sender receiver : ℕ) → Lawful C H → ¬ Sometime (IsPostAfterClose sender receiver) H }
+{}
+
+/// The n-th post that a mailbox accepted is the one that a Post of its pair was accepted for after n others.
+pub fn nth_post_is_an_accepted_post()
+    ensures { (C : Setup) (H : History) (sender receiver n : ℕ) (sent : Sent) → (slice_get (posts C H sender receiver) n ≡ Some sent)
+        ↔ Sometime (IsNthPost C sender receiver n sent) H }
+{}
+
+/// The n-th request taken of a mailbox is the one that a Take of its pair answered after n others.
+pub fn nth_taken_is_an_answered_take()
+    ensures { (H : History) (sender receiver n : ℕ) (request : Message) → (slice_get (taken H sender receiver) n ≡ Some request)
+        ↔ Sometime (IsNthTake sender receiver n request) H }
+{}
+
+/// A Load goes on exactly if the address leads to one more table below the level that the walk has come to.
+pub fn load_goes_on_over_a_pointer()
+    ensures { (C : Setup) (H : History) (hart : ℕ) (walk : Walking) → (goes_on C H hart walk ≡ true)
+        ↔ LeadsOn (words_of C H) (root_ppn C.layout (space_of H hart)) walk }
+{}
+
+/// A walk of a lawful history is for a canonical address.
+pub fn lawful_walk_is_canonical()
+    ensures { (C : Setup) (H : History) (hart : ℕ) (walk : Walking) → Lawful C H → walk_of H hart ≡ Some walk → IsCanonical walk.va }
+{}
+
+/// What a walk of a lawful history finds is the outcome of its access in the words of now.
+pub fn lawful_walk_finds_the_outcome()
+    ensures { (C : Setup) (H : History) (hart space : ℕ) (walk : Walking) (answer : Result Found Trap) → Lawful C H → walk_of H hart ≡ Some walk
+        → (answer ≡ outcome_of C H space walk) ↔ Outcome (words_of C H) (root_ppn C.layout space) walk.va walk.access walk.ctx answer }
+{}
+
+/// The space of a hart is that of its last accepted Switch, or space 0 if there was none.
+pub fn space_is_that_of_the_last_switch()
+    ensures { (H : History) (hart space : ℕ) → (space_of H hart ≡ space) ↔ SinceOr (IsSwitch hart space) (Switches hart) (0 ≡ space) H }
+{}
+
+/// A hart serves an accepted post exactly if it took the post's request, and since then took none and acknowledged none.
+pub fn service_is_from_take_to_ack()
+    ensures { (C : Setup) (H : History) (hart : ℕ) (sent : Sent) → (served C H hart ≡ Some sent) ↔ Since (TakesPost C hart sent) (TakesOrAcks hart) H }
+{}
+
+/// A hart has fenced exactly if a ServeFence by it was accepted and it took no request since.
+pub fn fenced_is_since_the_last_take()
+    ensures { (H : History) (hart : ℕ) → (has_fenced H hart ≡ true) ↔ Since (IsServeFence hart) (IsTake hart) H }
+{}
+
+/// Each word of table memory is what the last accepted edit stored there, or that of the opening if none did.
+pub fn word_is_the_last_stored()
+    ensures { (C : Setup) (H : History) (ppn index word : ℕ) → (words_of C H ppn index ≡ Some word)
+        ↔ SinceOr (IsStore C ppn index word) (Stores C ppn index) (opening C.layout ppn index ≡ Some word) H }
+{}
+
+/// A hart is in a walk exactly if a Begin of its access was answered More, and since then no walk of the hart began or
+/// ended; the walk has made as many loads as Loads of the hart were answered More since.
+pub fn walk_is_since_its_begin()
+    ensures { (H : History) (hart : ℕ) (walk : Walking) → (walk_of H hart ≡ Some walk) ↔ IsInWalk hart walk H }
+{}
+
+/// As many spare frames of a hart are in use as its Maps stored pointers to new tables.
+#[tactic(auto, using(crate::proofs::Lasting::used))]
+pub fn used_spares_are_its_new_tables()
+    ensures { (H : History) (hart : ℕ) → used_spares H hart ≡ count_where (is_new_table hart) H }
 {}

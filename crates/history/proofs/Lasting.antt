@@ -1,0 +1,280 @@
+-- What lasts from a turn on: the space, the service, the fence, and each word.
+use Rattle.std.proofs.Common.{◌≡◌, ℕ, ◌+◌, Bool, true, false, cond, ◌&&◌, ◌||◌, ◌⊎◌, inl, inr, [], ◌∷◌, length, Option, Some, None, Ok as Good, Err, slice_get, refl, ap, sym, ◌∙◌, eqb, arith}
+use Rattle.std.proofs.lemmas.Bool.{and_parts, eqb-true, eq-eqb, false≢true}
+use Rattle.std.specs.Prelude.{◌↔◌, Result}
+use Rattle.spaces.specs.declared.wishes.Wish.{Wish}
+use Rattle.spaces.specs.declared.wishes.Wish.TheVariants as wish
+use Rattle.spaces.specs.declared.faults.MapFault.{MapFault}
+use Rattle.spaces.specs.Edits.{Store}
+use Rattle.spaces.specs.Opening.{opening}
+use Rattle.walk.specs.Leads.{Tables}
+use Rattle.shoot.specs.Request.{Message}
+use Rattle.history.specs.Setup.{Setup}
+use Rattle.history.specs.declared.event.Event.{Event}
+use Rattle.history.specs.declared.event.Event.TheVariants.{Map, Unmap, Protect, Switch, Take, ServeFence, Ack}
+use Rattle.history.specs.declared.reply.Reply.{Reply}
+use Rattle.history.specs.declared.reply.Reply.TheVariants.{Leaf, Table, Ok, Taken}
+use Rattle.history.specs.Turns.{Turn, History, is_ok, is_taken, is_leaf, is_table, is_opened, are_same}
+use Rattle.history.specs.Mailboxes.{Sent, posts, taken}
+use Rattle.history.specs.Acknowledgements.{count_where}
+use Rattle.history.specs.Service.{served, served_after, has_fenced, fenced_after}
+use Rattle.history.specs.Harts.{space_of, space_after}
+use Rattle.history.specs.Tables.{words_of, words_after, with_store, used_spares, used_after, edit_due}
+use Rattle.history.specs.Occurrences.{Since, SinceOr, IsSwitch, Switches, IsTake, TakesPost, TakesOrAcks, IsServeFence, IsEdit, IsStore, Stores, is_new_table}
+use Rattle.history.proofs.Splits.{not_sometime-empty, not_since-empty, sometime-here, sometime-later, sometime_cases, since-here, since-later, since_cases, read_since}
+use Rattle.history.proofs.Occurred.{turn_of, ok_is, opened_is}
+use Rattle.history.proofs.OpenOrders.{by_test, same_parts, same_with}
+
+-- what is so at the opening, and then as the last turn that matters made it
+pub read_since_or : (P Q : Turn → History → Type 0) (R : History → Type 0) (opening : Type 0) → R [] ↔ opening
+    → ((turn : Turn) (H : History) → R (turn ∷ H) ↔ (P turn H ⊎ ((Q turn H → ⊥) × R H))) → (H : History) → R H ↔ SinceOr P Q opening H
+read_since_or P Q R opening start step [] =
+    (λ r. inr (not_sometime-empty Q, start.0 r), λ s. elim s [ inl x ↦ absurd (not_since-empty P Q x) | inr n ↦ start.1 n.1 ])
+read_since_or P Q R opening start step (turn ∷ H) =
+    let before = read_since_or P Q R opening start step H in (
+      λ r. elim ((step turn H).0 r) [
+        | inl p ↦ inl (since-here P Q turn H p)
+        | inr old ↦ elim (before.0 old.1) [
+          | inl s ↦ inl (since-later P Q turn H old.0 s)
+          | inr n ↦ inr (λ t. elim (sometime_cases Q turn H t) [ inl q ↦ old.0 q | inr o ↦ n.0 o ], n.1)
+        ]
+      ],
+      λ s. (step turn H).1 (elim s [
+        | inl x ↦ elim (since_cases P Q turn H x) [ inl p ↦ inl p | inr old ↦ inr (old.0, before.1 (inl old.1)) ]
+        | inr n ↦ inr (λ q. n.0 (sometime-here Q turn H q), before.1 (inr (λ t. n.0 (sometime-later Q turn H t), n.1)))
+      ]),
+    )
+
+-- a value that a test replaces
+by_cond : {A : Type 0} (t : Bool) (v old x : A) (P Q : Type 0) → (t ≡ true → v ≡ x → P) → (P → (t ≡ true) × (v ≡ x)) → (t ≡ true → (v ≡ x) ⊎ Q) → (Q → t ≡ true)
+    → (cond t v old ≡ x) ↔ (P ⊎ ((Q → ⊥) × (old ≡ x)))
+by_cond true v old x P Q new back is must =
+    (λ e. inl (new refl e), λ c. elim c [ inl p ↦ (back p).1 | inr o ↦ elim (is refl) [ inl e ↦ e | inr q ↦ absurd (o.0 q) ] ])
+by_cond false v old x P Q new back is must =
+    (λ e. inr (λ q. false≢true (must q), e), λ c. elim c [ inl p ↦ absurd (false≢true (back p).0) | inr o ↦ o.1 ])
+
+by_old : {A : Type 0} (old x : A) (P Q : Type 0) → (P → ⊥) → (Q → ⊥) → (old ≡ x) ↔ (P ⊎ ((Q → ⊥) × (old ≡ x)))
+by_old old x P Q none_p none_q = (λ e. inr (none_q, e), λ c. elim c [ inl p ↦ absurd (none_p p) | inr o ↦ o.1 ])
+
+ok_and : (r : Reply) (a b : ℕ) → r ≡ Ok → a ≡ b → (is_ok r && eqb a b) ≡ true
+ok_and r a b e f = rw (e, f, eq-eqb b b refl) refl
+
+taken_is : (r : Reply) → is_taken r ≡ true → (request : Message) × (r ≡ Taken request)
+taken_is (Taken request) e = (request, refl)
+taken_is _ e = absurd (false≢true e)
+
+pub and_false : (b : Bool) → (b && false) ≡ false
+and_false true = refl
+and_false false = refl
+
+-- the space
+abbrev is_switch : Event → Bool
+is_switch (Switch hart space) = true
+is_switch _ = false
+
+space_step : (e : Event) (r : Reply) (H : History) (h s old : ℕ) → (space_after e r h old ≡ s) ↔ (IsSwitch h s (turn_of e r) H ⊎ ((Switches h (turn_of e r) H → ⊥) × (old ≡ s)))
+space_step (Switch hart space) r H h s old =
+    by_cond (is_ok r && eqb hart h) space old s (IsSwitch h s (turn_of (Switch hart space) r) H) (Switches h (turn_of (Switch hart space) r) H)
+    (λ t e. let p = and_parts (is_ok r) (eqb hart h) t in
+    record { event = ap (λ a. Switch a space) (eqb-true hart h p.1) ∙ ap (Switch h) e; accepted = ok_is r p.0 })
+    (λ p. let same : Switch hart space ≡ Switch h s = p.event in
+    let a : hart ≡ h = cc in
+    let b : space ≡ s = cc in
+    (ok_and r hart h p.accepted a, b))
+    (λ t. let p = and_parts (is_ok r) (eqb hart h) t in
+    inr (space, record { event = ap (λ a. Switch a space) (eqb-true hart h p.1); accepted = ok_is r p.0 }))
+    (λ q. let same : Switch hart space ≡ Switch h q.0 = q.1.event in
+    let a : hart ≡ h = cc in
+    ok_and r hart h q.1.accepted a)
+space_step e r H h s old =
+    by_old old s (IsSwitch h s (turn_of e r) H) (Switches h (turn_of e r) H)
+    (λ p. false≢true (ap is_switch p.event)) (λ q. false≢true (ap is_switch q.1.event))
+
+pub space : (H : History) (h s : ℕ) → (space_of H h ≡ s) ↔ SinceOr (IsSwitch h s) (Switches h) (0 ≡ s) H
+space H h s = read_since_or (IsSwitch h s) (Switches h) (λ H. space_of H h ≡ s) (0 ≡ s) (λ e. e, λ e. e) (λ turn H. space_step turn.event turn.reply H h s (space_of H h)) H
+
+-- the service
+abbrev is_take : Event → Bool
+is_take (Take hart from) = true
+is_take _ = false
+
+abbrev is_ack : Event → Bool
+is_ack (Ack hart) = true
+is_ack _ = false
+
+taken_and : (r : Reply) (request : Message) (a b : ℕ) → r ≡ Taken request → a ≡ b → (is_taken r && eqb a b) ≡ true
+taken_and r request a b e f = rw (e, f, eq-eqb b b refl) refl
+
+served_step : (C : Setup) (e : Event) (r : Reply) (H : History) (h : ℕ) (sent : Sent) (old : Option Sent)
+    → (served_after C e r H h old ≡ Some sent) ↔ (TakesPost C h sent (turn_of e r) H ⊎ ((TakesOrAcks h (turn_of e r) H → ⊥) × (old ≡ Some sent)))
+served_step C (Take hart from) r H h sent old =
+    by_cond (is_taken r && eqb hart h) (slice_get (posts C H from hart) (length (taken H from hart))) old (Some sent)
+    (TakesPost C h sent (turn_of (Take hart from) r) H) (TakesOrAcks h (turn_of (Take hart from) r) H)
+    (λ t e. let p = and_parts (is_taken r) (eqb hart h) t in
+    let same : hart ≡ h = eqb-true hart h p.1 in
+    let answer = taken_is r p.0 in
+    record {
+      from = from;
+      request = answer.0;
+      event = ap (λ a. Take a from) same;
+      answer = answer.1;
+      is = ap (λ a. slice_get (posts C H from a) (length (taken H from a))) (sym same) ∙ e;
+    })
+    (λ p. let same : Take hart from ≡ Take h p.from = p.event in
+    let a : hart ≡ h = cc in
+    let b : from ≡ p.from = cc in (
+      taken_and r p.request hart h p.answer a,
+      ap (λ x. slice_get (posts C H x hart) (length (taken H x hart))) b ∙ ap (λ x. slice_get (posts C H p.from x) (length (taken H p.from x))) a ∙ p.is,
+    ))
+    (λ t. let p = and_parts (is_taken r) (eqb hart h) t in
+    let answer = taken_is r p.0 in
+    inr (inl (record { from = from; request = answer.0; event = ap (λ a. Take a from) (eqb-true hart h p.1); answer = answer.1 })))
+    (λ q. elim q [
+      | inl n ↦ let same : Take hart from ≡ Take h n.from = n.event in
+          let a : hart ≡ h = cc in
+          taken_and r n.request hart h n.answer a
+      | inr n ↦ absurd (false≢true (ap is_ack n.event))
+    ])
+served_step C (Ack hart) r H h sent old =
+    by_cond (is_ok r && eqb hart h) None old (Some sent) (TakesPost C h sent (turn_of (Ack hart) r) H) (TakesOrAcks h (turn_of (Ack hart) r) H)
+    (λ t e. absurd cc)
+    (λ p. absurd (false≢true (ap is_take p.event)))
+    (λ t. let p = and_parts (is_ok r) (eqb hart h) t in inr (inr (record { event = ap Ack (eqb-true hart h p.1); accepted = ok_is r p.0 })))
+    (λ q. elim q [
+      | inl n ↦ absurd (false≢true (ap is_take n.event))
+      | inr n ↦ let same : Ack hart ≡ Ack h = n.event in
+          let a : hart ≡ h = cc in
+          ok_and r hart h n.accepted a
+    ])
+served_step C e r H h sent old =
+    by_old old (Some sent) (TakesPost C h sent (turn_of e r) H) (TakesOrAcks h (turn_of e r) H) (λ p. false≢true (ap is_take p.event))
+    (λ q. elim q [ inl n ↦ false≢true (ap is_take n.event) | inr n ↦ false≢true (ap is_ack n.event) ])
+
+pub serves : (C : Setup) (H : History) (h : ℕ) (sent : Sent) → (served C H h ≡ Some sent) ↔ Since (TakesPost C h sent) (TakesOrAcks h) H
+serves C H h sent = read_since (TakesPost C h sent) (TakesOrAcks h) (λ H. served C H h ≡ Some sent) (λ e. cc)
+    (λ turn H. served_step C turn.event turn.reply H h sent (served C H h)) H
+
+-- the fence
+abbrev is_serve_fence : Event → Bool
+is_serve_fence (ServeFence hart) = true
+is_serve_fence _ = false
+
+fenced_step : (e : Event) (r : Reply) (H : History) (h : ℕ) (old : Bool) → (fenced_after e r h old ≡ true) ↔ (IsServeFence h (turn_of e r) H ⊎ ((IsTake h (turn_of e r) H → ⊥) × (old ≡ true)))
+fenced_step (Take hart from) r H h old =
+    by_cond (is_taken r && eqb hart h) false old true (IsServeFence h (turn_of (Take hart from) r) H) (IsTake h (turn_of (Take hart from) r) H)
+    (λ t e. absurd (false≢true e))
+    (λ p. absurd (false≢true (ap is_serve_fence p.event)))
+    (λ t. let p = and_parts (is_taken r) (eqb hart h) t in
+    let answer = taken_is r p.0 in
+    inr (record { from = from; request = answer.0; event = ap (λ a. Take a from) (eqb-true hart h p.1); answer = answer.1 }))
+    (λ n. let same : Take hart from ≡ Take h n.from = n.event in
+    let a : hart ≡ h = cc in
+    taken_and r n.request hart h n.answer a)
+fenced_step (ServeFence hart) r H h old =
+    by_cond (is_ok r && eqb hart h) true old true (IsServeFence h (turn_of (ServeFence hart) r) H) (IsTake h (turn_of (ServeFence hart) r) H)
+    (λ t e. let p = and_parts (is_ok r) (eqb hart h) t in record { event = ap ServeFence (eqb-true hart h p.1); accepted = ok_is r p.0 })
+    (λ p. let same : ServeFence hart ≡ ServeFence h = p.event in
+    let a : hart ≡ h = cc in
+    (ok_and r hart h p.accepted a, refl))
+    (λ t. inl refl)
+    (λ n. absurd (false≢true (ap is_take n.event)))
+fenced_step e r H h old =
+    by_old old true (IsServeFence h (turn_of e r) H) (IsTake h (turn_of e r) H) (λ p. false≢true (ap is_serve_fence p.event)) (λ n. false≢true (ap is_take n.event))
+
+pub fences : (H : History) (h : ℕ) → (has_fenced H h ≡ true) ↔ Since (IsServeFence h) (IsTake h) H
+fences H h = read_since (IsServeFence h) (IsTake h) (λ H. has_fenced H h ≡ true) false≢true (λ turn H. fenced_step turn.event turn.reply H h (has_fenced H h)) H
+
+-- the words
+stored_or : (words : Tables) (o : Result Store MapFault) (ppn index word : ℕ) (P Q : Type 0)
+    → ((store : Store) → o ≡ Good store → store.ppn ≡ ppn → store.index ≡ index → store.word ≡ word → P)
+    → (P → (store : Store) × (o ≡ Good store) × (store.ppn ≡ ppn) × (store.index ≡ index) × (store.word ≡ word))
+    → ((store : Store) → o ≡ Good store → store.ppn ≡ ppn → store.index ≡ index → Q)
+    → (Q → (store : Store) × (o ≡ Good store) × (store.ppn ≡ ppn) × (store.index ≡ index))
+    → (with_store words o ppn index ≡ Some word) ↔ (P ⊎ ((Q → ⊥) × (words ppn index ≡ Some word)))
+stored_or words (Err fault) ppn index word P Q new back is must = by_old (words ppn index) (Some word) P Q (λ p. let b = (back p).1 in cc (b)) (λ q. let b = (must q).1 in cc (b))
+stored_or words (Good store) ppn index word P Q new back is must =
+    by_cond (are_same store.ppn store.index ppn index) (Some store.word) (words ppn index) (Some word) P Q
+    (λ t e. let p = same_parts store.ppn store.index ppn index t in
+    let w : store.word ≡ word = cc in
+    new store refl p.0 p.1 w)
+    (λ p. let b = back p in
+    let same : store ≡ b.0 = let e = b.1 in cc in
+    (same_with store.ppn store.index ppn index (ap (λ (x : Store). x.ppn) same ∙ b.2) (ap (λ (x : Store). x.index) same ∙ b.3), ap (λ (x : Store). Some x.word) same ∙ ap Some b.4))
+    (λ t. let p = same_parts store.ppn store.index ppn index t in inr (is store refl p.0 p.1))
+    (λ q. let b = must q in
+    let same : store ≡ b.0 = let e = b.1 in cc in
+    same_with store.ppn store.index ppn index (ap (λ (x : Store). x.ppn) same ∙ b.2) (ap (λ (x : Store). x.index) same ∙ b.3))
+
+module _ (C : Setup) (ppn index word : ℕ) where
+  abbrev Stays : Event → Reply → History → Type 0 → Type 0
+  Stays e r H now = now ↔ (IsStore C ppn index word (turn_of e r) H ⊎ ((Stores C ppn index (turn_of e r) H → ⊥) × (words_of C H ppn index ≡ Some word)))
+
+  same_edit : (H : History) (hart : ℕ) (w : Wish) (h : ℕ) (v : Wish) (o : Result Store MapFault) → hart ≡ h → v ≡ w → edit_due C (words_of C H) (used_spares H h) h v ≡ o
+      → edit_due C (words_of C H) (used_spares H hart) hart w ≡ o
+  same_edit H hart w h v o a b d = ap (λ x. edit_due C (words_of C H) (used_spares H x) x w) a ∙ ap (edit_due C (words_of C H) (used_spares H h) h) (sym b) ∙ d
+
+  edit_step : (e : Event) (r : Reply) (H : History) (hart : ℕ) (w : Wish) (t : Bool) → (t ≡ true → IsEdit hart w e r)
+      → ((h : ℕ) (v : Wish) → IsEdit h v e r → (hart ≡ h) × (v ≡ w) × (t ≡ true))
+      → Stays e r H (cond t (with_store (words_of C H) (edit_due C (words_of C H) (used_spares H hart) hart w)) (words_of C H) ppn index ≡ Some word)
+  edit_step e r H hart w true edit back =
+      stored_or (words_of C H) (edit_due C (words_of C H) (used_spares H hart) hart w) ppn index word (IsStore C ppn index word (turn_of e r) H) (Stores C ppn index (turn_of e r) H)
+      (λ store due a b c. record {
+        hart = hart;
+        wanted = w;
+        store = store;
+        edit = edit refl;
+        due = due;
+        same_table = a;
+        same_index = b;
+        same_word = c;
+      })
+      (λ p. let b = back p.hart p.wanted p.edit in (p.store, same_edit H hart w p.hart p.wanted _ b.0 b.1 p.due, p.same_table, p.same_index, p.same_word))
+      (λ store due a b. (
+        store.word,
+        record {
+          hart = hart;
+          wanted = w;
+          store = store;
+          edit = edit refl;
+          due = due;
+          same_table = a;
+          same_index = b;
+          same_word = refl;
+        },
+      ))
+      (λ q. let p = q.1 in let b = back p.hart p.wanted p.edit in (p.store, same_edit H hart w p.hart p.wanted _ b.0 b.1 p.due, p.same_table, p.same_index))
+  edit_step e r H hart w false edit back =
+      by_old (words_of C H ppn index) (Some word) (IsStore C ppn index word (turn_of e r) H) (Stores C ppn index (turn_of e r) H)
+      (λ p. false≢true (back p.hart p.wanted p.edit).2) (λ q. false≢true (back q.1.hart q.1.wanted q.1.edit).2)
+
+  mapped_is : (r : Reply) → (is_table r || is_leaf r) ≡ true → (r ≡ Leaf) ⊎ ((table : ℕ) × (r ≡ Table table))
+  mapped_is Leaf e = inl refl
+  mapped_is (Table table) e = inr (table, refl)
+  mapped_is _ e = absurd (false≢true e)
+
+  mapped_from : (r : Reply) → (r ≡ Leaf) ⊎ ((table : ℕ) × (r ≡ Table table)) → (is_table r || is_leaf r) ≡ true
+  mapped_from r m = elim m [ inl l ↦ ap (λ r. is_table r || is_leaf r) l | inr t ↦ ap (λ r. is_table r || is_leaf r) t.1 ]
+
+  word_step : (e : Event) (r : Reply) (H : History) → Stays e r H (words_after C e r (words_of C H) (used_spares H) ppn index ≡ Some word)
+  word_step (Map hart place page ppn' flags) r H =
+      edit_step (Map hart place page ppn' flags) r H hart (wish.Map place page ppn' flags) (is_table r || is_leaf r) (λ t. (refl, refl, mapped_is r t)) (λ h v p. (p.0, p.1, mapped_from r p.2))
+  word_step (Unmap hart place page named) r H =
+      edit_step (Unmap hart place page named) r H hart (wish.Unmap place page) (is_opened r) (λ t. (refl, refl, opened_is r t)) (λ h v p. (p.0, p.1, ap is_opened p.2.1))
+  word_step (Protect hart place page flags named) r H =
+      edit_step (Protect hart place page flags named) r H hart (wish.Protect place page flags) (is_opened r) (λ t. (refl, refl, opened_is r t)) (λ h v p. (p.0, p.1, ap is_opened p.2.1))
+  word_step e r H =
+      by_old (words_of C H ppn index) (Some word) (IsStore C ppn index word (turn_of e r) H) (Stores C ppn index (turn_of e r) H) (λ p. p.edit) (λ q. q.1.edit)
+
+  pub word_of : (H : History) → (words_of C H ppn index ≡ Some word) ↔ SinceOr (IsStore C ppn index word) (Stores C ppn index) (opening C.layout ppn index ≡ Some word) H
+  word_of H = read_since_or (IsStore C ppn index word) (Stores C ppn index) (λ H. words_of C H ppn index ≡ Some word) (opening C.layout ppn index ≡ Some word)
+      (λ e. e, λ e. e) (λ turn H. word_step turn.event turn.reply H) H
+
+-- the spare frames in use
+used_step : (e : Event) (r : Reply) (h old : ℕ) → used_after e r h old ≡ cond (is_new_table h (turn_of e r)) 1 0 + old
+used_step (Map hart place page ppn flags) r h old =
+    by_test (λ t. cond t (old + 1) old ≡ cond t 1 0 + old) (is_table r && eqb hart h) (λ _. omega arith) (λ _. omega arith)
+used_step e r h old = rw (and_false (is_table r)) (omega arith)
+
+pub used : (H : History) (h : ℕ) → used_spares H h ≡ count_where (is_new_table h) H
+used [] h = refl
+used (turn ∷ H) h = used_step turn.event turn.reply h (used_spares H h) ∙ ap (λ n. cond (is_new_table h turn) 1 0 + n) (used H h)
