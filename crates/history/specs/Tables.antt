@@ -1,5 +1,5 @@
 -- The table words that a history leaves: each is what the last accepted edit stored there, else the opening's.
-use Rattle.std.specs.Prelude.{ℕ, ◌+◌, ◌==◌, ◌&&◌, ◌||◌, [], ◌∷◌, Option, Some, None, Result, Ok, Err, if◌then◌else◌}
+use Rattle.std.specs.Prelude.{ℕ, ◌+◌, ◌==◌, ◌&&◌, ◌||◌, [], ◌∷◌, Some, Result, Ok, Err, if◌then◌else◌}
 use Rattle.walk.specs.Leads.{Tables}
 use Rattle.history.specs.Setup.{Setup}
 use Rattle.spaces.specs.declared.wishes.Wish.{Wish}
