@@ -2,3 +2,4 @@ pub mod HartBytes
 pub mod HartSets
 pub mod MailboxLaws
 pub mod TicketLaws
+mod WorkedRows
