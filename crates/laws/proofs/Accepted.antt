@@ -1,0 +1,236 @@
+-- What an event that was accepted found.
+use Rattle.std.proofs.Common.{◌≡◌, ℕ, zero, suc, ◌+◌, ◌<◌, Bool, true, false, cond, ◌&&◌, not, List, [], ◌∷◌, Option, Some, None, refl, ap, sym, ◌∙◌, arith, eqb}
+use Rattle.std.specs.Prelude.{is_none, Result, Ok, Err}
+use Rattle.std.proofs.lemmas.Bool.{not-false, not-true, false≢true, ltb-true, leb-false, eq-eqb}
+use Rattle.pte.specs.Address.{Span}
+use Rattle.pte.specs.declared.flags.PteFlags.{PteFlags}
+use Rattle.pte.specs.declared.permission.Access.{Access}
+use Rattle.pte.specs.declared.permission.Ctx.{Ctx}
+use Rattle.spaces.specs.declared.places.Place.{Place}
+use Rattle.spaces.specs.declared.faults.MapFault.{MapFault}
+use Rattle.spaces.specs.Edits.{Store}
+use Rattle.shoot.specs.Request.{Message}
+use Rattle.shoot.specs.HartSet.{contains, harts_in}
+use Rattle.shoot.specs.declared.TheConstants.{MAX_HARTS, MAX_TICKETS}
+use Rattle.history.specs.Setup.{Setup}
+use Rattle.history.specs.declared.event.Event.{Event}
+use Rattle.history.specs.declared.event.Event.TheVariants.{Begin, Unmap, Protect, Flush, Post, Take, Ack, Collect, Finish}
+use Rattle.history.specs.declared.event.Scope.{Scope}
+use Rattle.history.specs.declared.refusal.Refusal.{Refusal}
+use Rattle.history.specs.declared.refusal.Refusal.TheVariants.{NoHart, NoSpace, HomeNotNamed, NotNamed, AlreadyPosted, Closed, Full, Walking, Serving, NotServing, NotFenced, NotDone}
+use Rattle.history.specs.declared.reply.Reply.{Reply}
+use Rattle.history.specs.declared.reply.Reply.TheVariants as reply
+use Rattle.history.specs.Turns.{Turn, History, is_ok, is_more, is_taken, is_progress, opened_ticket}
+use Rattle.history.specs.Orders.{order_at, open_order}
+use Rattle.history.specs.Mailboxes.{waiting, is_closed}
+use Rattle.history.specs.Service.{served, has_fenced}
+use Rattle.history.specs.Acknowledgements.{is_posted, is_collected, outstanding}
+use Rattle.history.specs.Harts.{walk_of}
+use Rattle.history.specs.Due.{refuse, is_hart, are_pair, due, least_free, open_reply, opened_reply, edit_reply, post_reply, names, next_reply, collect_reply, finish_reply, is_done}
+use Rattle.laws.proofs.Tools.{none_since, none_by, by_test, and3, none_where}
+
+-- the turn of an event
+abbrev pub turn_of : Event → Reply → Turn
+turn_of event reply = record { event = event; reply = reply }
+
+abbrev pub is_accepted : Reply → Bool
+is_accepted (reply.Refused why) = false
+is_accepted _ = true
+
+pub ok_accepted : (r : Reply) → is_ok r ≡ true → is_accepted r ≡ true
+ok_accepted reply.Ok e = refl
+ok_accepted _ e = absurd (false≢true e)
+
+pub progress_accepted : (r : Reply) → is_progress r ≡ true → is_accepted r ≡ true
+progress_accepted reply.Done e = refl
+progress_accepted (reply.Waiting harts) e = refl
+progress_accepted _ e = absurd (false≢true e)
+
+pub taken_accepted : (r : Reply) → is_taken r ≡ true → is_accepted r ≡ true
+taken_accepted (reply.Taken request) e = refl
+taken_accepted _ e = absurd (false≢true e)
+
+opened_is : (r : Reply) (t : ℕ) → opened_ticket r ≡ Some t → r ≡ reply.Opened t
+opened_is (reply.Opened n) t e = let q : n ≡ t = cc in ap reply.Opened q
+opened_is _ t e = absurd (cc (e))
+
+pub opened_accepted : (r : Reply) (t : ℕ) → opened_ticket r ≡ Some t → is_accepted r ≡ true
+opened_accepted (reply.Opened n) t e = refl
+opened_accepted _ t e = absurd (cc (e))
+
+-- the test of a refusal did not apply
+pub passed : (test : Bool) (why : Refusal) (rest r : Reply) → refuse test why rest ≡ r → is_accepted r ≡ true → (test ≡ false) × (rest ≡ r)
+passed true why rest r e a = absurd (false≢true (ap is_accepted e ∙ a))
+passed false why rest r e a = (refl, e)
+
+pair_parts : (C : Setup) (a b : ℕ) → not (are_pair C a b) ≡ false → (a < C.harts) × (b < C.harts) × (a ≡ b → ⊥)
+pair_parts C a b e =
+    let p = and3 (is_hart C a) (is_hart C b) (not (eqb a b)) (not-false (are_pair C a b) e) in
+    (ltb-true a C.harts p.0, ltb-true b C.harts p.1, λ q. false≢true (sym (not-true (eqb a b) p.2) ∙ eq-eqb a b q))
+
+-- an opening: the ticket is free, and the set names its sender
+pub record OpeningFound (H : History) (hart named ticket : ℕ) : Type 0 where
+  pub bound : ticket < MAX_TICKETS
+  pub free : open_order H hart ticket ≡ None
+  pub names_sender : contains (harts_in named) hart ≡ true
+
+free_from : (H : History) (hart n from ticket : ℕ) → least_free H hart n from ≡ Some ticket → (ticket < from + n) × (open_order H hart ticket ≡ None)
+free_from H hart zero from ticket e = absurd cc
+free_from H hart (suc n) from ticket e =
+    by_test (λ v. cond v (Some from) (least_free H hart n (from + 1)) ≡ Some ticket → (ticket < from + suc n) × (open_order H hart ticket ≡ None)) (is_none (open_order H hart from))
+    (λ t q. let same : from ≡ ticket = cc in (omega arith, rw (← same) (none_by (open_order H hart from) t)))
+    (λ _ q. let r = free_from H hart n (from + 1) ticket q in let l = r.0 in (omega arith, r.1)) e
+
+opened_is_some : (o : Option ℕ) (t : ℕ) (r : Reply) → opened_reply o ≡ r → opened_ticket r ≡ Some t → o ≡ Some t
+opened_is_some None t r e q = let z : None ≡ Some t = ap opened_ticket e ∙ q in absurd (cc (z))
+opened_is_some (Some n) t r e q = ap opened_ticket e ∙ q
+
+open_found : (H : History) (hart named ticket : ℕ) (r : Reply) → open_reply H hart named ≡ r → opened_ticket r ≡ Some ticket → OpeningFound H hart named ticket
+open_found H hart named ticket r e t =
+    let p = passed (not (contains (harts_in named) hart)) HomeNotNamed (opened_reply (least_free H hart MAX_TICKETS 0)) r e (opened_accepted r ticket t) in
+    let f = free_from H hart MAX_TICKETS 0 ticket (opened_is_some (least_free H hart MAX_TICKETS 0) ticket r p.1 t) in
+    record { bound = f.0; free = f.1; names_sender = not-false (contains (harts_in named) hart) p.0 }
+
+edit_opens : (store : Result Store MapFault) (opening r : Reply) (ticket : ℕ) → edit_reply store opening ≡ r → opened_ticket r ≡ Some ticket → opening ≡ r
+edit_opens (Ok store) opening r ticket e t = e
+edit_opens (Err fault) opening r ticket e t = let z : None ≡ Some ticket = ap opened_ticket e ∙ t in absurd (cc (z))
+
+pub unmap_found : (C : Setup) (H : History) (hart : ℕ) (place : Place) (page : Span) (named ticket : ℕ) (r : Reply)
+    → r ≡ due C H (Unmap hart place page named) → opened_ticket r ≡ Some ticket → OpeningFound H hart named ticket
+unmap_found C H hart place page named ticket r d t =
+    let a = opened_accepted r ticket t in
+    let p = passed _ NoHart _ r (sym d) a in
+    let q = passed _ NoSpace _ r p.1 a in
+    open_found H hart named ticket r (edit_opens _ _ r ticket q.1 t) t
+
+pub protect_found : (C : Setup) (H : History) (hart : ℕ) (place : Place) (page : Span) (flags : PteFlags) (named ticket : ℕ) (r : Reply)
+    → r ≡ due C H (Protect hart place page flags named) → opened_ticket r ≡ Some ticket → OpeningFound H hart named ticket
+protect_found C H hart place page flags named ticket r d t =
+    let a = opened_accepted r ticket t in
+    let p = passed _ NoHart _ r (sym d) a in
+    let q = passed _ NoSpace _ r p.1 a in
+    open_found H hart named ticket r (edit_opens _ _ r ticket q.1 t) t
+
+pub flush_found : (C : Setup) (H : History) (hart : ℕ) (scope : Scope) (named ticket : ℕ) (r : Reply)
+    → r ≡ due C H (Flush hart scope named) → opened_ticket r ≡ Some ticket → OpeningFound H hart named ticket
+flush_found C H hart scope named ticket r d t =
+    let a = opened_accepted r ticket t in
+    let p = passed _ NoHart _ r (sym d) a in
+    let q = passed _ NoSpace _ r p.1 a in
+    open_found H hart named ticket r q.1 t
+
+-- a Post
+pub record PostFound (C : Setup) (H : History) (s t h : ℕ) : Type 0 where
+  pub order : ℕ
+  pub is : open_order H s t ≡ Some order
+  pub apart : s ≡ h → ⊥
+  pub named : names (order_at C H order) h ≡ true
+  pub fresh : is_posted H order h ≡ false
+  pub unclosed : is_closed H s h ≡ false
+  pub room : outstanding C H s h < C.capacity
+
+post_with : (C : Setup) (H : History) (s t h : ℕ) (o : Option ℕ) (r : Reply) → o ≡ open_order H s t → (s ≡ h → ⊥) → post_reply C H s h o ≡ r → is_accepted r ≡ true → PostFound C H s t h
+post_with C H s t h None r q apart e a = absurd (false≢true (ap is_accepted e ∙ a))
+post_with C H s t h (Some k) r q apart e a =
+    let n = passed _ NotNamed _ r e a in
+    let p = passed _ AlreadyPosted _ r n.1 a in
+    let c = passed _ Closed _ r p.1 a in
+    let f = passed _ Full _ r c.1 a in
+    record {
+      order = k;
+      is = sym q;
+      apart = apart;
+      named = not-false (names (order_at C H k) h) n.0;
+      fresh = p.0;
+      unclosed = c.0;
+      room = leb-false C.capacity (outstanding C H s h) f.0;
+    }
+
+pub post_found : (C : Setup) (H : History) (s t h : ℕ) (r : Reply) → r ≡ due C H (Post s t h) → is_ok r ≡ true → PostFound C H s t h
+post_found C H s t h r d z =
+    let a = ok_accepted r z in
+    let p = passed _ NoHart _ r (sym d) a in
+    post_with C H s t h (open_order H s t) r refl (pair_parts C s h p.0).2 p.1 a
+
+-- a Take
+pub record TakeFound (C : Setup) (H : History) (h s : ℕ) : Type 0 where
+  pub apart : h ≡ s → ⊥
+  pub unwalking : walk_of H h ≡ None
+  pub unserving : served C H h ≡ None
+  pub first : Message
+  pub rest : List Message
+  pub waits : waiting C H s h ≡ first ∷ rest
+
+next_with : (ws : List Message) (r : Reply) → next_reply ws ≡ r → is_accepted r ≡ true → (first : Message) × (rest : List Message) × (ws ≡ first ∷ rest)
+next_with [] r e a = absurd (false≢true (ap is_accepted e ∙ a))
+next_with (first ∷ rest) r e a = (first, rest, refl)
+
+pub take_found : (C : Setup) (H : History) (h s : ℕ) (r : Reply) → r ≡ due C H (Take h s) → is_taken r ≡ true → TakeFound C H h s
+take_found C H h s r d z =
+    let a = taken_accepted r z in
+    let p = passed _ NoHart _ r (sym d) a in
+    let w = passed _ Walking _ r p.1 a in
+    let v = passed _ Serving _ r w.1 a in
+    let n = next_with (waiting C H s h) r v.1 a in
+    record {
+      apart = (pair_parts C h s p.0).2;
+      unwalking = none_since (walk_of H h) w.0;
+      unserving = none_since (served C H h) v.0;
+      first = n.0;
+      rest = n.1;
+      waits = n.2;
+    }
+
+-- a Begin that began a walk
+more_accepted : (r : Reply) → is_more r ≡ true → is_accepted r ≡ true
+more_accepted reply.More e = refl
+more_accepted _ e = absurd (false≢true e)
+
+pub begin_found : (C : Setup) (H : History) (h va : ℕ) (access : Access) (ctx : Ctx) (r : Reply) → r ≡ due C H (Begin h va access ctx) → is_more r ≡ true → served C H h ≡ None
+begin_found C H h va access ctx r d z =
+    let a = more_accepted r z in
+    let p = passed _ NoHart _ r (sym d) a in
+    let w = passed _ Walking _ r p.1 a in
+    none_since (served C H h) (passed _ Serving _ r w.1 a).0
+
+-- an Ack
+pub ack_found : (C : Setup) (H : History) (h : ℕ) (r : Reply) → r ≡ due C H (Ack h) → is_ok r ≡ true → has_fenced H h ≡ true
+ack_found C H h r d z =
+    let a = ok_accepted r z in
+    let p = passed _ NoHart _ r (sym d) a in
+    let s = passed _ NotServing _ r p.1 a in
+    not-false (has_fenced H h) (passed _ NotFenced _ r s.1 a).0
+
+-- a Finish
+finish_with : (C : Setup) (H : History) (o : Option ℕ) (k h : ℕ) (r : Reply) → o ≡ Some k → finish_reply C H o ≡ r → is_accepted r ≡ true
+    → names (order_at C H k) h ≡ true → h < MAX_HARTS → is_collected C H k h ≡ true
+finish_with C H None k h r q e a n l = absurd cc
+finish_with C H (Some j) k h r q e a n l =
+    let same : j ≡ k = cc in
+    let done = not-false (is_done C H j) (passed _ NotDone _ r e a).0 in
+    let out : (names (order_at C H k) h && not (is_collected C H k h)) ≡ false = rw (← same) (none_where (λ i. names (order_at C H j) i && not (is_collected C H j i)) h done l) in
+    not-false (is_collected C H k h) (rw n at out)
+
+pub finish_found : (C : Setup) (H : History) (s t k h : ℕ) (r : Reply) → r ≡ due C H (Finish s t) → is_ok r ≡ true → open_order H s t ≡ Some k
+    → names (order_at C H k) h ≡ true → h < MAX_HARTS → is_collected C H k h ≡ true
+finish_found C H s t k h r d z o n l =
+    let a = ok_accepted r z in
+    finish_with C H (open_order H s t) k h r o (passed _ NoHart _ r (sym d) a).1 a n l
+
+-- a Collect and an AckSelf, of an open ticket
+pub record CollectFound (C : Setup) (H : History) (s t h : ℕ) : Type 0 where
+  pub order : ℕ
+  pub is : open_order H s t ≡ Some order
+  pub apart : s ≡ h → ⊥
+  pub named : names (order_at C H order) h ≡ true
+
+collect_with : (C : Setup) (H : History) (s t h : ℕ) (o : Option ℕ) (r : Reply) → o ≡ open_order H s t → (s ≡ h → ⊥) → collect_reply C H s t h o ≡ r → is_accepted r ≡ true → CollectFound C H s t h
+collect_with C H s t h None r q apart e a = absurd (false≢true (ap is_accepted e ∙ a))
+collect_with C H s t h (Some k) r q apart e a =
+    record { order = k; is = sym q; apart = apart; named = not-false (names (order_at C H k) h) (passed _ NotNamed _ r e a).0 }
+
+pub collect_found : (C : Setup) (H : History) (s t h : ℕ) (r : Reply) → r ≡ due C H (Collect s t h) → is_progress r ≡ true → CollectFound C H s t h
+collect_found C H s t h r d z =
+    let a = progress_accepted r z in
+    let p = passed _ NoHart _ r (sym d) a in
+    collect_with C H s t h (open_order H s t) r refl (pair_parts C s h p.0).2 p.1 a

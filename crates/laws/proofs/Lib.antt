@@ -1,0 +1,16 @@
+pub mod Tools
+pub mod Accepted
+pub mod Orders
+pub mod Posts
+pub mod Waiting
+pub mod Acknowledged
+pub mod Live
+pub mod Serving
+pub mod Counting
+pub mod Outstanding
+pub mod Filling
+pub mod Fresh
+pub mod Causes
+pub mod Holding
+pub mod Clearing
+pub mod Cohering

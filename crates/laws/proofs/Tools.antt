@@ -1,0 +1,80 @@
+-- Tests, options and lists.
+use Rattle.std.proofs.Common.{◌≡◌, ℕ, zero, suc, ◌+◌, ◌<◌, ◌≤◌, Bool, true, false, ◌&&◌, ◌||◌, not, List, [], ◌∷◌, drop, map, Option, Some, None, slice_get, refl, ap, subst, arith, ◌⊎◌, inl, inr, eqb, ltb}
+use Rattle.std.specs.Prelude.{All, is_some, is_none}
+use Rattle.std.proofs.lemmas.Bool.{and_parts, or_cases, eqb-true, false≢true, ltb-true, ltb-false}
+use Rattle.std.proofs.lemmas.Option.{slice_get_past}
+use Rattle.std.proofs.lemmas.List.Elements.{All-head, All-tail}
+use Rattle.std.proofs.lemmas.Bool.Decides.{nat_tests}
+use Rattle.std.specs.List.{list_all, range_with_len}
+use Rattle.history.specs.Turns.{Turn, History}
+use Rattle.history.specs.Occurrences.{Sometime}
+use Rattle.shoot.specs.HartSet.{contains, harts_where, is_empty}
+use Rattle.shoot.specs.declared.TheConstants.{MAX_HARTS}
+
+-- a test with the equation that it meets
+pub by_test : (P : Bool → Type 0) (b : Bool) → (b ≡ true → P true) → (b ≡ false → P false) → P b
+by_test P true f g = f refl
+by_test P false f g = g refl
+
+pub and3 : (a b c : Bool) → (a && (b && c)) ≡ true → (a ≡ true) × (b ≡ true) × (c ≡ true)
+and3 a b c e = let p = and_parts a (b && c) e in let q = and_parts b c p.1 in (p.0, q.0, q.1)
+
+pub or3 : (a b c old : Bool) → ((a && (b && c)) || old) ≡ true → ((a ≡ true) × (b ≡ true) × (c ≡ true)) ⊎ (old ≡ true)
+or3 a b c old e = elim (or_cases (a && (b && c)) old e) [ inl n ↦ inl (and3 a b c n) | inr y ↦ inr y ]
+
+pub none_since : {A : Type 0} (o : Option A) → is_some o ≡ false → o ≡ None
+none_since None e = refl
+none_since (Some x) e = absurd cc
+
+pub none_by : {A : Type 0} (o : Option A) → is_none o ≡ true → o ≡ None
+none_by None e = refl
+none_by (Some x) e = absurd cc
+
+pub some_since : {A : Type 0} (o : Option A) → is_none o ≡ false → (x : A) × (o ≡ Some x)
+some_since None e = absurd cc
+some_since (Some x) e = (x, refl)
+
+-- lists
+pub All-slice_get : {A : Type 0} (P : A → Type 0) (xs : List A) (i : ℕ) (x : A) → All P xs → slice_get xs i ≡ Some x → P x
+All-slice_get P [] i x h e = absurd cc
+All-slice_get P (y ∷ ys) zero x h e = let s : y ≡ x = cc in subst P s (All-head P y ys h)
+All-slice_get P (y ∷ ys) (suc i) x h e = All-slice_get P ys i x (All-tail P y ys h) e
+
+pub drop_slice_get : {A : Type 0} (n : ℕ) (xs : List A) (x : A) → slice_get xs n ≡ Some x → drop n xs ≡ x ∷ drop (suc n) xs
+drop_slice_get n [] x e = absurd cc
+drop_slice_get zero (y ∷ ys) x e = let q : y ≡ x = cc in ap (λ z. z ∷ ys) q
+drop_slice_get (suc n) (y ∷ ys) x e = drop_slice_get n ys x e
+
+-- a set of harts where none passes
+none_in_range : (f : ℕ → Bool) (from n h : ℕ) → list_all (λ member. not member) (map f (range_with_len from n)) ≡ true → from ≤ h → h < from + n → f h ≡ false
+none_in_range f from zero h e low high = absurd (omega arith)
+none_in_range f from (suc n) h e low high =
+    let p = and_parts (not (f from)) (list_all (λ member. not member) (map f (range_with_len (from + 1) n))) e in
+    by_test (λ v. f h ≡ false) (eqb from h)
+    (λ t. let q : from ≡ h = eqb-true from h t in rw (← q) (not_true (f from) p.0))
+    (λ t. none_in_range f (from + 1) n h p.1 (below_more from h low t) (omega arith))
+  where
+    not_true : (b : Bool) → not b ≡ true → b ≡ false
+    not_true true e = absurd (false≢true e)
+    not_true false e = refl
+
+    below_more : (from h : ℕ) → from ≤ h → eqb from h ≡ false → from + 1 ≤ h
+    below_more from h low t = grind (arith, nat_tests)
+
+pub none_where : (f : ℕ → Bool) (h : ℕ) → is_empty (harts_where f) ≡ true → h < MAX_HARTS → f h ≡ false
+none_where f h e l = none_in_range f 0 MAX_HARTS h e (omega arith) (omega arith)
+
+-- only harts that can be there are in a set
+pub contains_below : (f : ℕ → Bool) (h : ℕ) → contains (harts_where f) h ≡ true → h < MAX_HARTS
+contains_below f h e =
+    by_test (λ v. h < MAX_HARTS) (ltb h MAX_HARTS) (λ t. ltb-true h MAX_HARTS t)
+    (λ t. let past = slice_get_past (harts_where f) h (ltb-false h MAX_HARTS t) in
+    let none : false ≡ true = rw past at e in absurd (false≢true none))
+
+-- something happened at the newest turn, or at an earlier one
+module _ (P : Turn → History → Type 0) where
+  pub sometime-here : (turn : Turn) (H : History) → P turn H → Sometime P (turn ∷ H)
+  sometime-here turn H p = record { later = []; turn = turn; earlier = H; split = refl; so = p }
+
+  pub sometime-later : (turn : Turn) (H : History) → Sometime P H → Sometime P (turn ∷ H)
+  sometime-later turn H s = record { later = turn ∷ s.later; turn = s.turn; earlier = s.earlier; split = ap (λ xs. turn ∷ xs) s.split; so = s.so }

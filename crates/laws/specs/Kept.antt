@@ -1,0 +1,61 @@
+-- What Clear rests on besides tickets and fences: events speak of pages, ASIDs are distinct, and what the tables keep.
+use Rattle.std.specs.Prelude.{ℕ, ◌≡◌, ◌<◌, ◌^◌, Bool, true, false, [], ◌∷◌, length, Some}
+use Rattle.pte.specs.Address.{Span, IsPage}
+use Rattle.pte.specs.declared.flags.PteFlags.{PteFlags}
+use Rattle.walk.specs.Maps.{Maps}
+use Rattle.spaces.specs.declared.places.Place.{Place}
+use Rattle.spaces.specs.declared.places.Place.TheVariants.{Space, Kernel}
+use Rattle.spaces.specs.Layout.{root_ppn}
+use Rattle.spaces.specs.Edits.{is_wrong_half}
+use Rattle.tlb.specs.Fence.{asid_bits}
+use Rattle.tlb.specs.Mappings.{LiesIn}
+use Rattle.history.specs.Setup.{Setup, asid_of}
+use Rattle.history.specs.declared.event.Event.{Event}
+use Rattle.history.specs.declared.event.Event.TheVariants.{Map, Unmap, Protect}
+use Rattle.history.specs.Turns.{Turn, History}
+use Rattle.history.specs.Orders.{Order, Unmapped, order_at}
+use Rattle.history.specs.Tables.{words_of}
+use Rattle.history.specs.Staleness.{is_mapped_anew, is_superseded, IsChange, IsRootOf}
+
+-- the page of an event is one: its base is canonical and a multiple of its size
+abbrev pub HasPage : Event → Type 0
+HasPage (Map hart place page ppn flags) = IsPage page
+HasPage (Unmap hart place page named) = IsPage page
+HasPage (Protect hart place page flags named) = IsPage page
+HasPage _ = Unit {0}
+
+abbrev pub HavePages : History → Type 0
+HavePages [] = Unit {0}
+HavePages (turn ∷ H) = HavePages H × HasPage turn.event
+
+-- there is a space, and each has an ASID of its own
+pub record HasAsids (C : Setup) : Type 0 where
+  pub some_space : 0 < length C.asids
+  pub bound : (s : ℕ) → s < length C.asids → asid_of C s < 2 ^ asid_bits
+  pub distinct : (s t : ℕ) → s < length C.asids → t < length C.asids → asid_of C s ≡ asid_of C t → s ≡ t
+
+-- nothing is mapped in the page of an unmapping, from any root of its place, until it is mapped anew
+abbrev pub StaysUnmapped : Setup → History → Type 0
+StaysUnmapped C H =
+    (k : ℕ) (order : Order) (place : Place) (page : Span) → order_at C H k ≡ Some order → order.cause ≡ Unmapped place page → is_mapped_anew C H k ≡ false
+    → (root n ppn : ℕ) (flags : PteFlags) (global : Bool) → IsRootOf C place root → LiesIn page n → ¬ Maps (words_of C H) root n ppn flags global
+
+-- no page of the user's half is mapped global, from the root of any space
+abbrev pub UserPagesAreNotGlobal : Setup → History → Type 0
+UserPagesAreNotGlobal C H =
+    (s space : ℕ) (page : Span) (n ppn : ℕ) (flags : PteFlags) → IsPage page → is_wrong_half C.layout (Space s) page ≡ false → space < length C.asids → LiesIn page n
+    → ¬ Maps (words_of C H) (root_ppn C.layout space) n ppn flags true
+
+-- what is mapped in the page of an unmapping or a change of flags stays mapped, over one more turn, until the page is unmapped
+-- or changed once more
+abbrev pub StaysMapped : Setup → Turn → History → Type 0
+StaysMapped C turn H =
+    (k : ℕ) (order : Order) (place : Place) (page : Span) → order_at C H k ≡ Some order → IsChange order.cause place page → is_superseded C (turn ∷ H) k ≡ false
+    → (root n ppn : ℕ) (flags : PteFlags) (global : Bool) → IsRootOf C place root → LiesIn page n
+    → Maps (words_of C H) root n ppn flags global → Maps (words_of C (turn ∷ H)) root n ppn flags global
+
+-- what is mapped in the window from one root is mapped from each
+abbrev pub WindowIsShared : Setup → History → Type 0
+WindowIsShared C H =
+    (page : Span) (s t n ppn : ℕ) (flags : PteFlags) (global : Bool) → IsPage page → is_wrong_half C.layout Kernel page ≡ false → s < length C.asids → t < length C.asids
+    → LiesIn page n → Maps (words_of C H) (root_ppn C.layout s) n ppn flags global → Maps (words_of C H) (root_ppn C.layout t) n ppn flags global

@@ -1,0 +1,5 @@
+pub mod Fills
+pub mod Kept
+pub mod Orders
+pub mod Outstanding
+pub mod Posts

@@ -1,0 +1,27 @@
+-- What is known of an order, and of the number under which it is open.
+use Rattle.std.specs.Prelude.{ℕ, ◌≡◌, ◌<◌, true, length, Some}
+use Rattle.shoot.specs.HartSet.{contains}
+use Rattle.shoot.specs.declared.TheConstants.{MAX_HARTS, MAX_TICKETS}
+use Rattle.history.specs.Setup.{Setup}
+use Rattle.history.specs.Turns.{Turn, History, is_ok}
+use Rattle.history.specs.declared.event.Event.TheVariants.{Finish}
+use Rattle.history.specs.Orders.{Order, order_at}
+
+-- an order at a place of a history: it is one of its turns, and names its own sender and harts that can be there
+pub record IsOrder (H : History) (k : ℕ) (order : Order) : Type 0 where
+  pub below : k < length H
+  pub ticket_bound : order.ticket < MAX_TICKETS
+  pub names_sender : contains order.named order.sender ≡ true
+  pub names_harts : (h : ℕ) → contains order.named h ≡ true → h < MAX_HARTS
+
+-- the order k was opened by this sender under this ticket
+pub record IsOpenedBy (C : Setup) (H : History) (s t k : ℕ) : Type 0 where
+  pub order : Order
+  pub is : order_at C H k ≡ Some order
+  pub sender : order.sender ≡ s
+  pub ticket : order.ticket ≡ t
+
+-- the turn is an accepted Finish of the ticket
+pub record Finishes (turn : Turn) (s t : ℕ) : Type 0 where
+  pub event : turn.event ≡ Finish s t
+  pub accepted : is_ok turn.reply ≡ true

@@ -1,0 +1,47 @@
+-- What is known of an accepted post, and of one that waits or is served.
+use Rattle.std.specs.Prelude.{ℕ, ◌≡◌, ◌≢◌, true, false, List, length, drop, Some, Contains}
+use Rattle.history.specs.Setup.{Setup}
+use Rattle.history.specs.Turns.{History}
+use Rattle.history.specs.Orders.{Order, open_order, order_at, what_asked}
+use Rattle.history.specs.Mailboxes.{Sent, posts, taken}
+use Rattle.history.specs.Acknowledgements.{is_posted, is_acked}
+use Rattle.history.specs.Due.{names}
+use Rattle.laws.specs.Orders.{IsOpenedBy}
+
+-- a post from s to h: it is of an order of s, under its ticket, that asks what the request asks, names h, and is posted to it
+pub record IsAcceptedPost (C : Setup) (H : History) (s h : ℕ) (post : Sent) : Type 0 where
+  pub sender : post.sender ≡ s
+  pub apart : s ≢ h
+  pub opened : IsOpenedBy C H s post.request.ticket post.order
+  pub what : post.request.what ≡ what_asked (order_at C H post.order)
+  pub named : names (order_at C H post.order) h ≡ true
+  pub posted : is_posted H post.order h ≡ true
+
+-- the order of the post is open under its ticket, and h has not acknowledged it
+pub record IsLive (C : Setup) (H : History) (h : ℕ) (post : Sent) : Type 0 where
+  pub is_open : open_order H post.sender post.request.ticket ≡ Some post.order
+  pub unacked : is_acked C H post.order h ≡ false
+
+-- the accepted posts that wait
+abbrev pub waiting_posts : Setup → History → ℕ → ℕ → List Sent
+waiting_posts C H s h = drop (length (taken H s h)) (posts C H s h)
+
+-- the post is of another order
+abbrev pub IsOfOther : ℕ → Sent → Type 0
+IsOfOther k post = k ≢ post.order
+
+-- two posts are of different orders
+abbrev pub AreOfDifferent : Sent → Sent → Type 0
+AreOfDifferent a b = IsOfOther a.order b
+
+-- h opened the order k
+pub record IsOwn (C : Setup) (H : History) (k h : ℕ) : Type 0 where
+  pub order : Order
+  pub is : order_at C H k ≡ Some order
+  pub sender : order.sender ≡ h
+
+-- a post of the order k stands in the list
+pub record StandsIn (posts : List Sent) (k : ℕ) : Type 0 where
+  pub post : Sent
+  pub member : Contains posts post
+  pub is : post.order ≡ k
