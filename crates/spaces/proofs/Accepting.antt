@@ -74,7 +74,7 @@ within l (Space s) page e = grind (arith, nat_tests)
 within l Kernel page e = grind (arith, nat_tests)
 
 flags-of : (place : Place) (flags : PteFlags) → is_bad place flags ≡ false → IsFlags place flags
-flags-of place flags e = 
+flags-of place flags e =
     let both = or-false (is_no_leaf flags.0) (is_wrong_global place flags || nat_le (2 ^ 8) flags.0) e in
     let more = or-false (is_wrong_global place flags) (nat_le (2 ^ 8) flags.0) both.1 in
     record { leaf = both.0; global = more.0; byte = let t = more.1 in grind (arith, nat_tests) }
@@ -218,7 +218,7 @@ module _ (l : Layout) (fits : IsLayout l) (words : Tables) (used : ℕ → ℕ) 
             let root : Some (root_ppn l 0) ≡ Some end.table = ap (table_below words va top_level (root_ppn l 0)) (sym steps) ∙ ends.on in
             let is : end.table ≡ root_ppn l 0 = cc in
             let points : pointed (word_at words va end.level end.table) ≡ Some (start_table l Kernel va) =
-                ap (λ k. pointed (word_at words va k end.table)) at ∙ ap (λ t. pointed (word_at words va top_level t)) is ∙ window-points 0 va fits.some_space in-window
+            ap (λ k. pointed (word_at words va k end.table)) at ∙ ap (λ t. pointed (word_at words va top_level t)) is ∙ window-points 0 va fits.some_space in-window
             in
             absurd (pointed-no (word_at words va end.level end.table) (start_table l Kernel va) points (λ q g k. no-pointer q g (ap kind_of ends.entry ∙ k)))
       ]
@@ -228,6 +228,7 @@ module _ (l : Layout) (fits : IsLayout l) (words : Tables) (used : ℕ → ℕ) 
       pointed-kind-no kinds.Reserved t e not-table = cc
       pointed-kind-no (kinds.Table q g) t e not-table = not-table q g refl
       pointed-kind-no (kinds.Leaf q f) t e not-table = cc
+
       pointed-no : (o : Option ℕ) (t : ℕ) → pointed o ≡ Some t → ((q : ℕ) (g : Bool) → kind_of (unwrap_or o 0) ≡ kinds.Table q g → ⊥) → ⊥
       pointed-no None t e not-table = cc
       pointed-no (Some w) t e not-table = pointed-kind-no (kind_of w) t e not-table
@@ -238,7 +239,7 @@ module _ (l : Layout) (fits : IsLayout l) (words : Tables) (used : ℕ → ℕ) 
       let end : PathEnd = wish_end l words wish in
       let lowest = level-top (page_of wish).size in
       let ends : EndsOn words (page_of wish).base (level_of (page_of wish).size) top_level (path_root l (place_of wish)) (wish_end l words wish) =
-          ends-on words (page_of wish).base (level_of (page_of wish).size) (top_level - level_of (page_of wish).size) top_level (path_root l (place_of wish)) (omega arith)
+      ends-on words (page_of wish).base (level_of (page_of wish).size) (top_level - level_of (page_of wish).size) top_level (path_root l (place_of wish)) (omega arith)
       in
       let in-half = within l (place_of wish) (page_of wish) unf.half in
       let free = no-table wish spare (wish_end l words wish) stored.new stored.due ends.stops ends.from in
@@ -246,7 +247,7 @@ module _ (l : Layout) (fits : IsLayout l) (words : Tables) (used : ℕ → ℕ) 
       let h = home-there (place_of wish) has in
       let there = on l fits words (home_of l (place_of wish)) (used (home_of l (place_of wish))) (tree (home_of l (place_of wish)) h) (place_of wish) (page_of wish).base at.depth (wish_end l words wish).table has refl in-half at.on in
       let old = some-of (word_at words (page_of wish).base (wish_end l words wish).level (wish_end l words wish).table)
-          ((tree (home_of l (place_of wish)) h).present (wish_end l words wish).table (vpn_of (page_of wish).base (wish_end l words wish).level) there.home (vpn-below (page_of wish).base (wish_end l words wish).level))
+      ((tree (home_of l (place_of wish)) h).present (wish_end l words wish).table (vpn_of (page_of wish).base (wish_end l words wish).level) there.home (vpn-below (page_of wish).base (wish_end l words wish).level))
       in
       let entry = (tree (home_of l (place_of wish)) h).entries _ _ old.0 there.home old.1 in
       let same : (wish_end l words wish).entry ≡ old.0 = ends.entry ∙ ap (λ o. unwrap_or o 0) old.1 in

@@ -98,9 +98,11 @@ module _ (m : Held) (held : IsMemory m) (store : Store) (due : IsDue m store) wh
           ap (λ k. slice_index (slice_set m.used store.hart (slice_index m.used store.hart + 1)) k) same ∙ get_or-set_same m.used store.hart (slice_index m.used store.hart + 1) 0 hart-there
           ∙ ap (λ k. slice_index m.used k + 1) (sym same)
       by_hart false t = get_or-set_other m.used store.hart h (slice_index m.used store.hart + 1) 0 (λ e. let apart = t in absurd (grind (arith, nat_tests, e)))
+
       same-cond : (b : Bool) (n : ℕ) → n ≡ cond b n n
       same-cond true n = refl
       same-cond false n = refl
+
       by_pointer : (p : Bool) → slice_index (cond p (slice_set m.used store.hart (slice_index m.used store.hart + 1)) m.used) h ≡ cond (h == store.hart) (cond p (slice_index m.used h + 1) (slice_index m.used h)) (slice_index m.used h)
       by_pointer true = by_hart (h == store.hart) refl
       by_pointer false = same-cond (h == store.hart) (slice_index m.used h)
@@ -131,8 +133,8 @@ module _ (m : Held) (held : IsMemory m) (store : Store) (due : IsDue m store) wh
   room-held e =
       let after = (home-held store.hart (omega (arith, hart-there, held.used))).room in
       let same : slice_index (used_list m.used store.hart store.word) store.hart ≡ slice_index m.used store.hart + 1 =
-          ap (λ b. slice_index (cond b (slice_set m.used store.hart (slice_index m.used store.hart + 1)) m.used) store.hart) e
-          ∙ get_or-set_same m.used store.hart (slice_index m.used store.hart + 1) 0 hart-there
+      ap (λ b. slice_index (cond b (slice_set m.used store.hart (slice_index m.used store.hart + 1)) m.used) store.hart) e
+      ∙ get_or-set_same m.used store.hart (slice_index m.used store.hart + 1) 0 hart-there
       in
       omega arith
 

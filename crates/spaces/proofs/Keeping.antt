@@ -183,6 +183,7 @@ module _ (l : Layout) (fits : IsLayout l) (words : Tables) (used : ℕ → ℕ) 
     where
       at-home : store.hart ≡ home_of l (place_of wish)
       at-home = acc.by
+
       by_test : (b : Bool) → (h == store.hart) ≡ b → IsHome l (words_after words store) h (cond b (used_after (used h) store) (used h))
       by_test true t =
           let same : home_of l (place_of wish) ≡ h = sym (eqb-true h store.hart t ∙ at-home) in
@@ -190,6 +191,6 @@ module _ (l : Layout) (fits : IsLayout l) (words : Tables) (used : ℕ → ℕ) 
       by_test false t =
           home-same l fits words (words_after words store) h (used h) (tree h less)
           (λ f i home'. stored-there words store.ppn store.index store.word f i
-            (λ is _.
-                let same : h ≡ home_of l (place_of wish) = home-unique l h _ f home' (subst (IsAtHome l (home_of l (place_of wish))) is there.home) in
-                let apart = t in let e = same ∙ sym at-home in absurd (grind (arith, nat_tests))))
+          (λ is _.
+          let same : h ≡ home_of l (place_of wish) = home-unique l h _ f home' (subst (IsAtHome l (home_of l (place_of wish))) is there.home) in
+          let apart = t in let e = same ∙ sym at-home in absurd (grind (arith, nat_tests))))

@@ -23,11 +23,10 @@ memory-open c h = record {
       let fits = layout-meets c h in
       subst (IsHome (layout_of c) (words_of (opened c)) hart) (sym (get_or-replicate (length c.spares.items) hart))
       (home-same (layout_of c) fits (opening (layout_of c)) (words_of (opened c)) hart 0 (opening-tree (layout_of c) fits hart there)
-        (λ f i _. words-open (layout_of c) (replicate (length c.spares.items) 0) f i));
+      (λ f i _. words-open (layout_of c) (replicate (length c.spares.items) 0) f i));
 }
   where
     get_or-replicate : (n k : ℕ) → slice_index (replicate n 0) k ≡ 0
     get_or-replicate zero k = refl
     get_or-replicate (suc n) zero = refl
     get_or-replicate (suc n) (suc k) = get_or-replicate n k
-

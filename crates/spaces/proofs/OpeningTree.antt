@@ -41,6 +41,7 @@ module _ (l : Layout) (fits : IsLayout l) where
     where
       lower : i < user_slots → root_word l i ≡ 0
       lower less = let slots : i < first_window_slot l = omega (arith, fits.window) in grind (arith, nat_tests)
+
       by_test : (b : Bool) → is_root l f ≡ b → cond b (root_word l i) 0 ≡ 0
       by_test true t = lower (own t)
       by_test false t = refl
@@ -60,12 +61,14 @@ module _ (l : Layout) (fits : IsLayout l) where
     where
       zero-entry : IsEntryOf 0 (kind_of 0)
       zero-entry = subst (IsEntryOf 0) (sym kind-zero) refl
+
       by_slot : (b : Bool) → nat_le (first_window_slot l) i ≡ b → IsEntryOf (cond b (table_word (window_ppn l (i - first_window_slot l)) true) 0) (kind_of (cond b (table_word (window_ppn l (i - first_window_slot l)) true) 0))
       by_slot true t =
           let from : first_window_slot l ≤ i = let less' = t in grind (arith, nat_tests) in
           subst (IsEntryOf (table_word (window_ppn l (i - first_window_slot l)) true))
           (sym (kind-table (window_ppn l (i - first_window_slot l)) true (omega (arith, fits.ppns_fit, fits.window)))) tt
       by_slot false t = zero-entry
+
       by_root : (b : Bool) → IsEntryOf (cond b (root_word l i) 0) (kind_of (cond b (root_word l i) 0))
       by_root true = by_slot (nat_le (first_window_slot l) i) refl
       by_root false = zero-entry
@@ -82,7 +85,7 @@ module _ (l : Layout) (fits : IsLayout l) where
       let first = only-start place va n up.table_above has within up.on in
       let level : start_level place - n ≡ start_level place = omega (arith, first.0) in
       let points : pointed (word_at (opening l) va (start_level place) (start_table l place va)) ≡ Some t =
-          ap (λ u. pointed (word_at (opening l) va (start_level place) u)) (sym first.1) ∙ ap (λ k. pointed (word_at (opening l) va k up.table_above)) (sym level) ∙ up.points
+      ap (λ u. pointed (word_at (opening l) va (start_level place) u)) (sym first.1) ∙ ap (λ k. pointed (word_at (opening l) va k up.table_above)) (sym level) ∙ up.points
       in
       let nothing = own-pointed (start_table l place va) (vpn_of va (start_level place)) (start-own place va has within) in
       absurd (let bad : None ≡ Some t = sym nothing ∙ points in cc)
@@ -97,10 +100,10 @@ module _ (l : Layout) (fits : IsLayout l) where
       let first = only-start (Space s) va n t has within e in
       let level : top_level - n ≡ top_level = omega (arith, first.0) in
       let at : opening l (root_ppn l s) (vpn_of va top_level) ≡ Some word =
-          ap (λ u. word_at (opening l) va top_level u) (sym first.1) ∙ ap (λ k. word_at (opening l) va k t) (sym level) ∙ w
+      ap (λ u. word_at (opening l) va top_level u) (sym first.1) ∙ ap (λ k. word_at (opening l) va k t) (sym level) ∙ w
       in
       let zero-word : Some 0 ≡ Some word =
-          ap Some (sym (own-word (root_ppn l s) (vpn_of va top_level) (λ _. within))) ∙ sym (opening-at _ (root_ppn l s) (vpn_of va top_level) (of_root s has refl refl) (vpn-below va top_level)) ∙ at
+      ap Some (sym (own-word (root_ppn l s) (vpn_of va top_level) (λ _. within))) ∙ sym (opening-at _ (root_ppn l s) (vpn_of va top_level) (of_root s has refl refl) (vpn-below va top_level)) ∙ at
       in
       ap is_global (sym (some-same _ _ zero-word)) ∙ is_global-zero
 

@@ -131,7 +131,7 @@ module _ (l : Layout) (fits : IsLayout l) (words : Tables) (h used : ℕ) (tree 
   -- a store of a pointer to the lowest unused spare frame, above the lowest level
   module _ (room : used < slice_index l.spares h) (new : pointed (Some x) ≡ Some (spare_ppn l h + used))
       (high : (place : Place) (va n : ℕ) → HasPlace l place → home_of l place ≡ h → IsIn l place va → table_on l words place va n ≡ Some f
-          → vpn_of va (start_level place - n) ≡ i → n < start_level place) where
+      → vpn_of va (start_level place - n) ≡ i → n < start_level place) where
     fresh : ℕ
     fresh = spare_ppn l h + used
 
@@ -150,7 +150,7 @@ module _ (l : Layout) (fits : IsLayout l) (words : Tables) (h used : ℕ) (tree 
         elim (table_on-pointer place va n up.table_above has home within up.on) [
           | inr new-table ↦
               absurd (fresh-points (vpn_of va (start_level place - n)) t (vpn-below va (start_level place - n))
-                (subst (λ g. pointed (stored words f i x g (vpn_of va (start_level place - n))) ≡ Some t) new-table up.points))
+              (subst (λ g. pointed (stored words f i x g (vpn_of va (start_level place - n))) ≡ Some t) new-table up.points))
           | inl old ↦ elim (is-word f i up.table_above (vpn_of va (start_level place - n))) [
             | inl same ↦
                 inr (let is : Some (spare_ppn l h + used) ≡ Some t = sym new ∙ ap pointed (sym (stored-here words f i x _ _ same.0 same.1)) ∙ up.points in sym (some-same _ _ is))

@@ -38,19 +38,19 @@ pub invariant_of-self : goal.invariant_of-self
 invariant_of-self c =
     let f = facts-of _ _ _ c.self.view_is c.self.invariant c.requires in
     subst IsMemory (sym (held-by _ _ _ _ (at-index c.self.inside.base c.args.ppn c.args.index c.from.result c.from-2.result c.from.ensures c.from-2.ensures)
-      (used-pointer _ _ _ _ _ c.is_pointer.ensures c.if-is_pointer.true c.count_frame.ensures))) f.memory
+    (used-pointer _ _ _ _ _ c.is_pointer.ensures c.if-is_pointer.true c.count_frame.ensures))) f.memory
 
 pub invariant_of-self-else-is_pointer : goal.invariant_of-self-else-is_pointer
 invariant_of-self-else-is_pointer c =
     let f = facts-of _ _ _ c.self.view_is c.self.invariant c.requires in
     subst IsMemory (sym (held-by _ _ _ _ (at-index c.self.inside.base c.args.ppn c.args.index c.from.result c.from-2.result c.from.ensures c.from-2.ensures)
-      (used-leaf _ _ _ _ c.is_pointer.ensures c.if-is_pointer.false))) f.memory
+    (used-leaf _ _ _ _ c.is_pointer.ensures c.if-is_pointer.false))) f.memory
 
 pub returns-then-is_pointer-clause-words : goal.returns-then-is_pointer-clause-words
 returns-then-is_pointer-clause-words c f i =
     let fact = facts-of _ _ _ c.self.view_is c.self.invariant c.requires in
     ap (λ h. words_of h f i) (held-by _ _ _ _ (at-index c.self.inside.base c.args.ppn c.args.index c.from.result c.from-2.result c.from.ensures c.from-2.ensures)
-      (used-pointer _ _ _ _ _ c.is_pointer.ensures c.if-is_pointer.true c.count_frame.ensures)) ∙ fact.words f i
+    (used-pointer _ _ _ _ _ c.is_pointer.ensures c.if-is_pointer.true c.count_frame.ensures)) ∙ fact.words f i
 
 pub returns-then-is_pointer-clause-used : goal.returns-then-is_pointer-clause-used
 returns-then-is_pointer-clause-used c h =
@@ -61,4 +61,4 @@ pub returns-else-is_pointer-clause-words : goal.returns-else-is_pointer-clause-w
 returns-else-is_pointer-clause-words c f i =
     let fact = facts-of _ _ _ c.self.view_is c.self.invariant c.requires in
     ap (λ h. words_of h f i) (held-by _ _ _ _ (at-index c.self.inside.base c.args.ppn c.args.index c.from.result c.from-2.result c.from.ensures c.from-2.ensures)
-      (used-leaf _ _ _ _ c.is_pointer.ensures c.if-is_pointer.false)) ∙ fact.words f i
+    (used-leaf _ _ _ _ c.is_pointer.ensures c.if-is_pointer.false)) ∙ fact.words f i
