@@ -1,6 +1,6 @@
 -- An accepted edit writes on its page's path.
-use Rattle.std.proofs.Common.{◌≡◌, ℕ, zero, suc, ◌+◌, ◌-◌, ◌<◌, ◌≤◌, ◌⊎◌, ◌%◌, ◌^◌, ◌==◌, ◌&&◌, ◌||◌, not, cond, Bool, true, false, Option, Some, None, Result, Ok, Err, length, ap, sym, ◌∙◌, subst, refl, inl, inr, arith, IsSome, eqb, leb, ltb}
-use Rattle.std.specs.Prelude.{slice_index, unwrap_or, nat_le, nat_lt}
+use Rattle.std.proofs.Common.{◌≡◌, ℕ, suc, ◌+◌, ◌-◌, ◌<◌, ◌≤◌, ◌%◌, ◌^◌, ◌==◌, ◌||◌, not, cond, Bool, true, false, Option, Some, None, Result, Ok, Err, length, ap, sym, ◌∙◌, subst, refl, inl, inr, arith, IsSome}
+use Rattle.std.specs.Prelude.{slice_index, unwrap_or, nat_le}
 use Rattle.std.proofs.lemmas.Bool.{eqb-true, cases_lt}
 use Rattle.std.proofs.lemmas.Bool.Decides.{nat_tests}
 use Rattle.pte.specs.declared.flags.PteFlags.{PteFlags}
@@ -8,7 +8,7 @@ use Rattle.pte.specs.declared.entry.Kind.{Kind}
 use Rattle.pte.specs.declared.entry.Kind.TheVariants as kinds
 use Rattle.pte.specs.declared.address.PageSize.{PageSize}
 use Rattle.pte.specs.declared.address.PageSize.TheVariants.{Kib4, Mib2, Gib1}
-use Rattle.pte.specs.Address.{Span, top_level, table_length, level_of, pages_of, vpn_of}
+use Rattle.pte.specs.Address.{Span, top_level, level_of, pages_of, vpn_of}
 use Rattle.pte.specs.Entry.{kind_of, is_no_leaf, leaf_word, ppn_bits, table_word}
 use Rattle.walk.specs.Leads.{Tables, word_at}
 use Rattle.spaces.specs.declared.places.Place.{Place}
@@ -18,13 +18,12 @@ use Rattle.spaces.specs.declared.wishes.Wish.{Wish}
 use Rattle.spaces.specs.declared.wishes.Wish.TheVariants.{Map, Unmap, Protect}
 use Rattle.spaces.specs.declared.faults.MapFault.{MapFault}
 use Rattle.spaces.specs.declared.faults.MapFault.TheVariants.{NotHome, WrongHalf, BadFlags, PpnTooLarge, Misaligned}
-use Rattle.spaces.specs.Layout.{Layout, HasPlace, home_of, frame_count, root_ppn, window_ppn, first_window_slot, user_slots}
+use Rattle.spaces.specs.Layout.{Layout, HasPlace, home_of, root_ppn, first_window_slot}
 use Rattle.spaces.specs.Held.{IsLayout}
-use Rattle.spaces.specs.Edits.{Store, place_of, page_of, is_kernel, is_wrong_half, is_bad, is_wrong_global, is_misaligned, leaf_fault, wish_fault, path_end, path_root, page_word, upper_word, pointer_word, due_word, store_at, unless, wish_end, edit_of}
-use Rattle.spaces.specs.Tree.{pointed, pointed_kind, start_level, start_table, IsIn, table_on, table_below, IsEntryOf, IsHome, IsTree}
+use Rattle.spaces.specs.Edits.{Store, place_of, page_of, is_kernel, is_wrong_half, is_bad, is_wrong_global, is_misaligned, leaf_fault, wish_fault, path_root, page_word, upper_word, pointer_word, due_word, store_at, unless, wish_end, edit_of}
+use Rattle.spaces.specs.Tree.{pointed, pointed_kind, start_level, start_table, IsIn, table_on, table_below, IsEntryOf, IsTree}
 use Rattle.spaces.specs.Accepted.{Accepted, IsFlags, Writes, adds_table, adds_leaf, removes_leaf, changes_leaf}
 use Rattle.spaces.proofs.Paths.{on, vpn-below}
-use Rattle.spaces.proofs.Trees.{kind-zero}
 use Rattle.spaces.proofs.EntryWords.{pointed-table}
 use Rattle.spaces.proofs.EndPaths.{EndsOn, ends-on, table_below-front}
 

@@ -1,18 +1,17 @@
 -- What memory is after a store that is due.
-use Rattle.std.proofs.Common.{◌≡◌, ℕ, zero, suc, ◌+◌, ◌-◌, ◌*◌, ◌^◌, ◌<◌, ◌≤◌, ◌⊎◌, ◌==◌, ◌&&◌, cond, Bool, true, false, List, [], ◌∷◌, Option, Some, None, Ok, length, set, get_or, ap, sym, ◌∙◌, subst, refl, inl, inr, arith, is_some, length-set, get_or-set_same, get_or-set_other}
+use Rattle.std.proofs.Common.{◌≡◌, ℕ, ◌+◌, ◌-◌, ◌*◌, ◌^◌, ◌<◌, ◌≤◌, ◌==◌, cond, Bool, true, false, List, Some, None, length, ap, sym, ◌∙◌, subst, refl, inl, inr, arith, is_some, length-set, get_or-set_same, get_or-set_other}
 use Rattle.std.specs.Prelude.{slice_index, slice_set, slice_get, nat_le, nat_lt}
 use Rattle.std.proofs.lemmas.Bool.{and_parts, eqb-true}
 use Rattle.std.proofs.lemmas.Bool.Decides.{nat_tests}
 use borrow.Author.Tests.{ltb-true, leb-true}
-use Rattle.pte.specs.Address.{table_length, vpn_of}
-use Rattle.walk.specs.Leads.{Tables}
-use Rattle.spaces.specs.Layout.{Layout, HasPlace, home_of, is_frame, frame_count}
+use Rattle.pte.specs.Address.{table_length}
+use Rattle.spaces.specs.Layout.{Layout, home_of, is_frame, frame_count}
 use Rattle.spaces.specs.Opening.{is_word}
-use Rattle.spaces.specs.Held.{Held, IsMemory, IsDue, IsLayout, spare_of, spare_after, word_index, words_of}
+use Rattle.spaces.specs.Held.{Held, IsMemory, IsDue, spare_of, spare_after, word_index, words_of}
 use Rattle.spaces.specs.Edits.{Store, place_of, page_of}
 use Rattle.spaces.specs.Tree.{pointed, start_level, IsHome, IsTree}
 use Rattle.spaces.specs.Accepted.{Accepted}
-use Rattle.spaces.specs.Applied.{stored, words_after, used_after, used_by_all}
+use Rattle.spaces.specs.Applied.{words_after, used_by_all}
 use Rattle.spaces.proofs.Lists.{slice_get-set_same, slice_get-set_other}
 use Rattle.spaces.proofs.Paths.{vpn-below}
 use Rattle.spaces.proofs.Stored.{is-word, stored-here, stored-there}

@@ -1,5 +1,5 @@
 -- An edit that a call answers is due.
-use Rattle.std.proofs.Common.{◌≡◌, ℕ, Option, Result, Ok, Err, ap, sym, ◌∙◌, subst, refl, IfOk}
+use Rattle.std.proofs.Common.{◌≡◌, ℕ, Option, Result, Ok, Err, ap, sym, subst, IfOk}
 use Rattle.walk.specs.Leads.{Tables}
 use Rattle.spaces.specs.declared.wishes.Wish.{Wish}
 use Rattle.spaces.specs.declared.faults.MapFault.{MapFault}

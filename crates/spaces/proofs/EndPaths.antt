@@ -1,15 +1,14 @@
 -- Where the path of an edit ends, as a table on the path of a place.
-use Rattle.std.proofs.Common.{◌≡◌, ℕ, zero, suc, ◌+◌, ◌-◌, ◌<◌, ◌≤◌, ◌⊎◌, Bool, true, false, Option, Some, None, ap, sym, ◌∙◌, subst, refl, inl, inr, arith}
+use Rattle.std.proofs.Common.{◌≡◌, ℕ, zero, suc, ◌+◌, ◌-◌, ◌<◌, ◌≤◌, Bool, Option, Some, None, ap, sym, ◌∙◌, subst, refl, arith}
 use Rattle.std.specs.Prelude.{unwrap_or, option_and_then}
 use Rattle.pte.specs.declared.entry.Kind.{Kind}
 use Rattle.pte.specs.declared.entry.Kind.TheVariants as kinds
-use Rattle.pte.specs.Address.{vpn_of}
 use Rattle.pte.specs.Entry.{kind_of}
 use Rattle.walk.specs.Leads.{Tables, word_at}
 use Rattle.spaces.specs.declared.wishes.PathEnd.{PathEnd}
 use Rattle.spaces.specs.Edits.{end_at, go_on, path_end}
 use Rattle.spaces.specs.Tree.{pointed, pointed_kind, table_below}
-use Rattle.spaces.proofs.Paths.{above, below}
+use Rattle.spaces.proofs.Paths.{below}
 use Rattle.spaces.proofs.Trees.{kind-zero}
 
 -- a path may be followed from its second table

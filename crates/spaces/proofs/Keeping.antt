@@ -1,32 +1,31 @@
 -- An accepted edit keeps the tree.
-use Rattle.std.proofs.Common.{◌≡◌, ℕ, zero, suc, ◌+◌, ◌-◌, ◌<◌, ◌≤◌, ◌⊎◌, ◌%◌, ◌^◌, ◌==◌, cond, Bool, true, false, List, [], ◌∷◌, Option, Some, None, Result, Ok, length, sum, take, ap, sym, ◌∙◌, subst, refl, inl, inr, arith, is_some}
+use Rattle.std.proofs.Common.{◌≡◌, ℕ, zero, suc, ◌+◌, ◌-◌, ◌<◌, ◌≤◌, ◌⊎◌, ◌^◌, ◌==◌, cond, Bool, true, false, List, [], ◌∷◌, Some, None, sum, take, ap, sym, ◌∙◌, subst, refl, inl, inr, arith, is_some}
 use Rattle.std.specs.Prelude.{slice_index, nat_lt, not}
-use Rattle.std.proofs.lemmas.Bool.{eqb-true, cases_order}
+use Rattle.std.proofs.lemmas.Bool.{eqb-true}
 use Rattle.std.proofs.lemmas.Bool.Decides.{nat_tests}
 use Rattle.std.proofs.lemmas.List.Sums.{sum_by-cons}
 use Rattle.pte.specs.declared.flags.PteFlags.{PteFlags}
 use Rattle.pte.specs.declared.entry.Kind.{Kind}
 use Rattle.pte.specs.declared.entry.Kind.TheVariants as kinds
-use Rattle.pte.specs.Address.{Span, top_level, table_length, level_of, vpn_of}
-use Rattle.pte.specs.Entry.{kind_of, is_global, leaf_word, ppn_of, ppn_bits, table_word}
-use Rattle.walk.specs.Leads.{Tables, word_at}
+use Rattle.pte.specs.Address.{top_level, vpn_of}
+use Rattle.pte.specs.Entry.{kind_of, is_global, ppn_of, ppn_bits}
+use Rattle.walk.specs.Leads.{Tables}
 use Rattle.spaces.specs.declared.places.Place.{Place}
 use Rattle.spaces.specs.declared.places.Place.TheVariants.{Space, Kernel}
 use Rattle.spaces.specs.declared.wishes.Wish.{Wish}
-use Rattle.spaces.specs.declared.wishes.Wish.TheVariants.{Map, Unmap, Protect}
 use Rattle.spaces.specs.Layout.{Layout, HasPlace, home_of, spare_ppn}
 use Rattle.spaces.specs.Held.{IsLayout, spare_after}
-use Rattle.spaces.specs.Edits.{Store, place_of, page_of, is_kernel, is_wrong_global, edit_of}
-use Rattle.spaces.specs.Tree.{pointed, pointed_kind, start_level, start_table, IsIn, table_on, IsAtHome, IsOwn, IsUsed, IsEntryOf, IsHome, IsTree}
-use Rattle.spaces.specs.Accepted.{Accepted, IsFlags, Writes, adds_table, adds_leaf, removes_leaf, changes_leaf}
-use Rattle.spaces.specs.Applied.{stored, words_after, used_after, used_by_all, seven}
+use Rattle.spaces.specs.Edits.{Store, place_of, page_of, is_kernel, is_wrong_global}
+use Rattle.spaces.specs.Tree.{pointed, pointed_kind, start_level, start_table, IsIn, table_on, IsAtHome, IsOwn, IsEntryOf, IsHome, IsTree}
+use Rattle.spaces.specs.Accepted.{Accepted, Writes, adds_table, adds_leaf, removes_leaf, changes_leaf}
+use Rattle.spaces.specs.Applied.{words_after, used_after, used_by_all, seven}
 use Rattle.spaces.proofs.Homes.{home-unique}
 use Rattle.spaces.proofs.Paths.{on, On, same-path, SamePath, vpn-below}
 use Rattle.spaces.proofs.Stored.{stored-there}
 use Rattle.spaces.proofs.Trees.{IsPlace, home-leaf, home-pointer, home-same, kind-zero, is_global-zero, pointed-zero}
 use Rattle.pte.proofs.EntryKinds.{kind-table}
 use Rattle.spaces.proofs.EntryWords.{kind-stored, global-stored, pointed-table, global-table}
-use Rattle.spaces.proofs.Accepting.{accepted, home-there}
+use Rattle.spaces.proofs.Accepting.{home-there}
 
 pub sum-within : (xs : List ℕ) (h : ℕ) → sum (take h xs) + slice_index xs h ≤ sum xs
 sum-within [] zero = omega arith
@@ -141,7 +140,7 @@ module _ (l : Layout) (fits : IsLayout l) (words : Tables) (used : ℕ → ℕ) 
       start-spare (Space s) va has' within e = omega arith
       start-spare Kernel va has' within e = let slot = vpn-below va top_level in omega (arith, fits.window)
 
-  is-place : pointed (Some acc.old) ≡ None → IsEntryOf store.word (kind_of store.word) → IsPlace l words (home_of l (place_of wish)) (used (home_of l (place_of wish))) store.ppn store.index store.word
+  pub is-place : pointed (Some acc.old) ≡ None → IsEntryOf store.word (kind_of store.word) → IsPlace l words (home_of l (place_of wish)) (used (home_of l (place_of wish))) store.ppn store.index store.word
   is-place was entry = record {
     at = there.home;
     own = subst (IsOwn l store.ppn) (sym acc.index) there.own;
@@ -153,7 +152,7 @@ module _ (l : Layout) (fits : IsLayout l) (words : Tables) (used : ℕ → ℕ) 
         plain-written l fits _ _ _ _ wish store.word acc.writes s (sym same.same_place);
   }
 
-  high : 0 < start_level (place_of wish) - acc.depth → (place : Place) (va n : ℕ) → HasPlace l place → home_of l place ≡ home_of l (place_of wish) → IsIn l place va
+  pub high : 0 < start_level (place_of wish) - acc.depth → (place : Place) (va n : ℕ) → HasPlace l place → home_of l place ≡ home_of l (place_of wish) → IsIn l place va
       → table_on l words place va n ≡ Some store.ppn → vpn_of va (start_level place - n) ≡ store.index → n < start_level place
   high above place va n has' at within e i =
       let same = reaches place va n has' at within e in

@@ -13,3 +13,7 @@ pub mod OpeningTree
 pub mod OpenedMemory
 pub mod Applying
 pub mod Dues
+pub mod Numbers
+pub mod Leaves
+pub mod Effecting
+pub mod EditLaws

@@ -1,9 +1,9 @@
 -- The words at the opening, and what a memory just opened keeps.
 use Rattle.std.proofs.Common.{◌≡◌, ℕ, zero, suc, ◌+◌, ◌*◌, ◌/◌, ◌%◌, ◌<◌, ◌≤◌, Bool, true, false, cond, Some, None, List, [], ◌∷◌, length, length-append, replicate, map, ◌∙◌, ap, refl, inl, inr, arith}
-use Rattle.std.specs.Prelude.{nat_le, nat_lt, slice_get, slice_index}
+use Rattle.std.specs.Prelude.{nat_le, nat_lt, slice_get}
 use borrow.Author.Tests.{ltb-true, leb-true}
 use Rattle.std.proofs.lemmas.Bool.{and_parts, cases_lt}
-use Rattle.std.proofs.lemmas.List.{length-map, length-replicate}
+use Rattle.std.proofs.lemmas.List.{length-map}
 use Rattle.std.proofs.lemmas.List.Elements.{All-map}
 use Rattle.pte.specs.Address.{table_length}
 use Rattle.spaces.specs.declared.configuration.Config.{Config}
@@ -12,7 +12,7 @@ use Rattle.spaces.proofs.Lists.{slice_get-front, slice_get-last}
 use Rattle.spaces.specs.Layout.{Layout, layout_of, frame_count, is_frame}
 use Rattle.spaces.specs.Limits.{MeetsLimits, max_frames}
 use Rattle.spaces.specs.Opening.{first_word, first_words, is_word, opening}
-use Rattle.spaces.specs.Held.{Held, IsLayout, IsMemory, word_index, words_of}
+use Rattle.spaces.specs.Held.{Held, IsLayout, word_index, words_of}
 
 pub length-first_words : (l : Layout) (n : ℕ) → length (first_words l n) ≡ n
 length-first_words l zero = refl

@@ -1,12 +1,11 @@
 -- What a memory just opened keeps.
-use Rattle.std.proofs.Common.{◌≡◌, ℕ, zero, suc, ◌*◌, length, replicate, sym, subst, refl, arith}
+use Rattle.std.proofs.Common.{◌≡◌, ℕ, zero, suc, length, replicate, sym, subst, refl, arith}
 use Rattle.std.specs.Prelude.{slice_index}
 use Rattle.std.proofs.lemmas.List.{length-replicate}
-use Rattle.pte.specs.Address.{table_length}
 use Rattle.spaces.specs.declared.configuration.Config.{Config}
-use Rattle.spaces.specs.Layout.{layout_of, frame_count}
+use Rattle.spaces.specs.Layout.{layout_of}
 use Rattle.spaces.specs.Limits.{MeetsLimits, max_frames}
-use Rattle.spaces.specs.Opening.{first_words, opening}
+use Rattle.spaces.specs.Opening.{opening}
 use Rattle.spaces.specs.Held.{IsMemory, words_of}
 use Rattle.spaces.specs.Tree.{IsHome}
 use Rattle.spaces.proofs.Opened.{length-first_words, layout-meets, words-open, opened}

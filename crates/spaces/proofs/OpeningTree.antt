@@ -1,16 +1,15 @@
 -- The words at the opening are a tree.
-use Rattle.std.proofs.Common.{◌≡◌, ℕ, zero, suc, ◌+◌, ◌-◌, ◌<◌, ◌≤◌, ◌⊎◌, cond, Bool, true, false, Option, Some, None, length, ap, sym, ◌∙◌, subst, refl, inl, inr, arith, IsSome}
-use Rattle.std.specs.Prelude.{slice_index, nat_le, nat_lt, ◌&&◌}
+use Rattle.std.proofs.Common.{◌≡◌, ℕ, zero, suc, ◌+◌, ◌-◌, ◌<◌, ◌≤◌, cond, Bool, true, false, Some, None, length, ap, sym, ◌∙◌, subst, refl, arith, IsSome}
+use Rattle.std.specs.Prelude.{slice_index, nat_le, nat_lt}
 use Rattle.std.proofs.lemmas.Bool.{and_parts}
 use Rattle.std.proofs.lemmas.Bool.Decides.{nat_tests}
-use Rattle.pte.specs.declared.entry.Kind.TheVariants as kinds
 use Rattle.pte.specs.Address.{top_level, table_length, vpn_of}
-use Rattle.pte.specs.Entry.{kind_of, is_global, table_word, ppn_bits}
+use Rattle.pte.specs.Entry.{kind_of, is_global, table_word}
 use Rattle.pte.proofs.EntryKinds.{kind-table}
-use Rattle.walk.specs.Leads.{Tables, word_at}
+use Rattle.walk.specs.Leads.{word_at}
 use Rattle.spaces.specs.declared.places.Place.{Place}
 use Rattle.spaces.specs.declared.places.Place.TheVariants.{Space, Kernel}
-use Rattle.spaces.specs.Layout.{Layout, HasPlace, home_of, is_frame, is_root, frame_count, root_ppn, window_ppn, spare_ppn, user_slots, first_window_slot}
+use Rattle.spaces.specs.Layout.{Layout, HasPlace, is_frame, is_root, frame_count, root_ppn, window_ppn, user_slots, first_window_slot}
 use Rattle.spaces.specs.Opening.{first_word, root_word, is_word, opening}
 use Rattle.spaces.specs.Held.{IsLayout}
 use Rattle.spaces.specs.Tree.{pointed, start_level, start_table, IsIn, table_on, IsAtHome, of_root, of_window, of_spare, IsOwn, IsEntryOf, IsHome, IsTree}

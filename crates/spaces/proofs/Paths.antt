@@ -1,15 +1,15 @@
 -- Paths in a tree: which tables they pass, and that a table is on one path.
-use Rattle.std.proofs.Common.{◌≡◌, ℕ, zero, suc, ◌+◌, ◌-◌, ◌<◌, ◌≤◌, ◌⊎◌, ◌%◌, Bool, true, false, Option, Some, None, length, ap, sym, ◌∙◌, subst, refl, inl, inr, arith}
-use Rattle.std.specs.Prelude.{slice_index, option_and_then}
+use Rattle.std.proofs.Common.{◌≡◌, ℕ, zero, suc, ◌+◌, ◌-◌, ◌<◌, ◌≤◌, ◌⊎◌, Option, Some, None, length, ap, sym, ◌∙◌, subst, refl, inl, inr, arith}
+use Rattle.std.specs.Prelude.{option_and_then}
 use Rattle.std.proofs.lemmas.Bool.{cases_lt}
 use Rattle.pte.specs.Address.{top_level, table_length, vpn_of}
 use Rattle.walk.specs.Leads.{Tables, word_at}
 use Rattle.spaces.specs.declared.places.Place.{Place}
 use Rattle.spaces.specs.declared.places.Place.TheVariants.{Space, Kernel}
-use Rattle.spaces.specs.Layout.{Layout, HasPlace, home_of, is_root, root_ppn, window_ppn, spare_ppn, user_slots, first_window_slot}
+use Rattle.spaces.specs.Layout.{Layout, HasPlace, home_of, root_ppn, first_window_slot}
 use Rattle.spaces.specs.Held.{IsLayout}
-use Rattle.spaces.specs.Tree.{pointed, table_below, start_level, start_table, IsIn, table_on, IsAtHome, of_root, of_window, of_spare, IsUsed, IsOwn, IsHome}
-use Rattle.spaces.proofs.Homes.{used-home, spare-own, window-own, home-unique}
+use Rattle.spaces.specs.Tree.{pointed, table_below, start_level, start_table, IsIn, table_on, IsAtHome, of_root, of_window, IsUsed, IsOwn, IsHome}
+use Rattle.spaces.proofs.Homes.{used-home, spare-own, window-own}
 
 -- the table above
 pub record Above (words : Tables) (va level table n g : ℕ) : Type 0 where

@@ -1,18 +1,10 @@
 -- One word stored, and the homes that it is not at.
-use Rattle.std.proofs.Common.{◌≡◌, ℕ, zero, suc, ◌+◌, ◌-◌, ◌<◌, ◌≤◌, ◌⊎◌, ◌==◌, ◌&&◌, Bool, true, false, cond, Option, Some, None, length, ap, sym, ◌∙◌, subst, refl, inl, inr, arith, IsSome, eqb}
-use Rattle.std.specs.Prelude.{slice_index}
+use Rattle.std.proofs.Common.{◌≡◌, ℕ, ◌⊎◌, ◌==◌, ◌&&◌, Bool, true, false, cond, Some, ap, sym, ◌∙◌, refl, inl, inr, arith}
 use Rattle.std.proofs.lemmas.Bool.{and_parts, eqb-true}
-use Rattle.pte.specs.Address.{top_level, vpn_of}
-use Rattle.pte.specs.Entry.{kind_of}
-use Rattle.walk.specs.Leads.{Tables, word_at}
-use Rattle.spaces.specs.declared.places.Place.{Place}
-use Rattle.spaces.specs.declared.places.Place.TheVariants.{Space, Kernel}
-use Rattle.spaces.specs.Layout.{Layout, HasPlace, home_of}
-use Rattle.spaces.specs.Held.{IsLayout}
-use Rattle.spaces.specs.Tree.{pointed, table_below, start_level, start_table, IsIn, table_on, IsAtHome, of_root, of_spare, IsEntryOf, IsHome}
+use Rattle.walk.specs.Leads.{Tables}
+use Rattle.spaces.specs.Tree.{pointed}
 use Rattle.spaces.specs.Applied.{stored}
 use Rattle.spaces.proofs.Homes.{}
-use Rattle.spaces.proofs.Paths.{above, below, on}
 
 -- whether a word is the one that is stored
 pub is-word : (f i g j : ℕ) → ((f ≡ g) × (i ≡ j)) ⊎ ((f ≡ g → i ≡ j → ⊥))

@@ -1,14 +1,13 @@
 -- Stores keep the tree.
-use Rattle.std.proofs.Common.{◌≡◌, ℕ, zero, suc, ◌+◌, ◌-◌, ◌<◌, ◌≤◌, ◌⊎◌, Bool, true, false, Option, Some, None, length, ap, sym, ◌∙◌, subst, refl, inl, inr, arith, IsSome}
-use Rattle.std.specs.Prelude.{slice_index, option_and_then}
-use Rattle.std.proofs.lemmas.Bool.{cases_lt}
+use Rattle.std.proofs.Common.{◌≡◌, ℕ, zero, suc, ◌+◌, ◌-◌, ◌<◌, ◌≤◌, ◌⊎◌, true, false, Some, None, length, ap, sym, ◌∙◌, subst, refl, inl, inr, arith, IsSome}
+use Rattle.std.specs.Prelude.{slice_index}
 use Rattle.std.proofs.lemmas.Bool.Decides.{nat_tests}
 use Rattle.pte.specs.declared.entry.Kind.TheVariants as kinds
 use Rattle.pte.specs.Address.{top_level, table_length, vpn_of}
 use Rattle.pte.specs.Entry.{kind_of, is_global, table_word}
 use Rattle.walk.specs.Leads.{Tables, word_at}
 use Rattle.spaces.specs.declared.places.Place.{Place}
-use Rattle.spaces.specs.declared.places.Place.TheVariants.{Space, Kernel}
+use Rattle.spaces.specs.declared.places.Place.TheVariants.{Space}
 use Rattle.spaces.specs.Layout.{Layout, HasPlace, home_of, is_root, root_ppn, window_ppn, spare_ppn, user_slots, first_window_slot}
 use Rattle.spaces.specs.Held.{IsLayout}
 use Rattle.spaces.specs.Tree.{pointed, table_below, start_level, start_table, IsIn, table_on, IsAtHome, of_root, of_window, of_spare, IsUsed, IsOwn, IsEntryOf, IsHome}
@@ -135,19 +134,18 @@ module _ (l : Layout) (fits : IsLayout l) (words : Tables) (h used : ℕ) (tree 
     fresh : ℕ
     fresh = spare_ppn l h + used
 
-    fresh-empty : (j : ℕ) → j < table_length → stored words f i x (spare_ppn l h + used) j ≡ Some 0
+    pub fresh-empty : (j : ℕ) → j < table_length → stored words f i x (spare_ppn l h + used) j ≡ Some 0
     fresh-empty j less = unused-stored used j (omega arith) room less
 
     fresh-points : (j g : ℕ) → j < table_length → pointed (stored words f i x (spare_ppn l h + used) j) ≡ Some g → ⊥
     fresh-points j g less e = let no-table : None ≡ Some g = sym pointed-zero ∙ ap pointed (sym (fresh-empty j less)) ∙ e in cc
 
     -- what a path reaches it reached before, or it is the new table
-    pub table_on-pointer : (place : Place) (va n t : ℕ) → HasPlace l place → home_of l place ≡ h → IsIn l place va
-        → table_on l (stored words f i x) place va n ≡ Some t → (table_on l words place va n ≡ Some t) ⊎ (t ≡ spare_ppn l h + used)
-    table_on-pointer place va zero t has home within e = inl e
-    table_on-pointer place va (suc n) t has home within e =
+    pub table_on-pointer : (place : Place) (va n t : ℕ) → table_on l (stored words f i x) place va n ≡ Some t → (table_on l words place va n ≡ Some t) ⊎ (t ≡ spare_ppn l h + used)
+    table_on-pointer place va zero t e = inl e
+    table_on-pointer place va (suc n) t e =
         let up = above (stored words f i x) va (start_level place) (start_table l place va) n t e in
-        elim (table_on-pointer place va n up.table_above has home within up.on) [
+        elim (table_on-pointer place va n up.table_above up.on) [
           | inr new-table ↦
               absurd (fresh-points (vpn_of va (start_level place - n)) t (vpn-below va (start_level place - n))
               (subst (λ g. pointed (stored words f i x g (vpn_of va (start_level place - n))) ≡ Some t) new-table up.points))
@@ -175,7 +173,7 @@ module _ (l : Layout) (fits : IsLayout l) (words : Tables) (h used : ℕ) (tree 
     bottom-pointer : (place : Place) (va t : ℕ) → HasPlace l place → home_of l place ≡ h → IsIn l place va
         → table_on l (stored words f i x) place va (start_level place) ≡ Some t → pointed (word_at (stored words f i x) va 0 t) ≡ None
     bottom-pointer place va t has home within e =
-        elim (table_on-pointer place va (start_level place) t has home within e) [
+        elim (table_on-pointer place va (start_level place) t e) [
           | inr new-table ↦ ap (λ g. pointed (stored words f i x g (vpn_of va 0))) new-table ∙ ap pointed (fresh-empty (vpn_of va 0) (vpn-below va 0)) ∙ pointed-zero
           | inl old ↦ elim (is-word f i t (vpn_of va 0)) [
             | inl same ↦
@@ -188,7 +186,7 @@ module _ (l : Layout) (fits : IsLayout l) (words : Tables) (h used : ℕ) (tree 
     plain-pointer : (s va n t word : ℕ) → s < length l.homes → slice_index l.homes s ≡ h → IsIn l (Space s) va → n ≤ top_level
         → table_on l (stored words f i x) (Space s) va n ≡ Some t → word_at (stored words f i x) va (top_level - n) t ≡ Some word → is_global word ≡ false
     plain-pointer s va n t word has home within deep e w =
-        elim (table_on-pointer (Space s) va n t has home within e) [
+        elim (table_on-pointer (Space s) va n t e) [
           | inr new-table ↦
               let empty : Some 0 ≡ Some word = sym (fresh-empty (vpn_of va (top_level - n)) (vpn-below va (top_level - n))) ∙ ap (λ g. stored words f i x g (vpn_of va (top_level - n))) (sym new-table) ∙ w in
               ap is_global (sym (some-same _ _ empty)) ∙ is_global-zero

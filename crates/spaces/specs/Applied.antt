@@ -1,5 +1,5 @@
 -- What an edit leaves.
-use Rattle.std.specs.Prelude.{ℕ, ◌+◌, ◌*◌, ◌/◌, ◌==◌, ◌&&◌, if◌then◌else◌, Some, is_some, List, slice_index, slice_set}
+use Rattle.std.specs.Prelude.{ℕ, ◌+◌, ◌*◌, ◌/◌, ◌==◌, ◌&&◌, if◌then◌else◌, Some, is_some}
 use Rattle.pte.specs.declared.flags.PteFlags.{PteFlags}
 use Rattle.walk.specs.Leads.{Tables}
 use Rattle.spaces.specs.Edits.{Store}

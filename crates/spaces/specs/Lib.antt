@@ -6,3 +6,4 @@ pub mod Held
 pub mod Tree
 pub mod Applied
 pub mod Accepted
+pub mod Effects

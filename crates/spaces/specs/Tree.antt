@@ -1,5 +1,5 @@
 -- The tables as a tree: what the words at the home of one hart keep, whatever the words of the others are.
-use Rattle.std.specs.Prelude.{ℕ, Bool, zero, suc, true, false, ◌≡◌, ◌+◌, ◌-◌, ◌<◌, ◌≤◌, Option, Some, None, IsSome, option_and_then, length, slice_index}
+use Rattle.std.specs.Prelude.{ℕ, zero, suc, true, false, ◌≡◌, ◌+◌, ◌-◌, ◌<◌, ◌≤◌, Option, Some, None, IsSome, option_and_then, length, slice_index}
 use Rattle.pte.specs.declared.entry.Kind.{Kind}
 use Rattle.pte.specs.declared.entry.Kind.TheVariants as kinds
 use Rattle.pte.specs.Address.{top_level, table_length, vpn_of}

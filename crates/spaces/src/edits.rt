@@ -6,6 +6,8 @@ ghost use Rattle.pte.specs.Entry.{ppn_bits};
 ghost use Rattle.spaces.specs.Layout.{HasPlace};
 ghost use Rattle.spaces.specs.Held.{IsDue, spare_of, words_of};
 ghost use Rattle.spaces.specs.Applied.{used_by_all, words_after};
+ghost use Rattle.spaces.specs.Effects.{HasEffect, IsEdit};
+ghost use Rattle.spaces.specs.declared.wishes.Wish.{Wish as WishOf};
 ghost use Rattle.spaces.specs.Edits.{edit_of, leaf_fault, path_end, path_root, place_of, wish_fault};
 ghost use Rattle.spaces.specs.declared.wishes.Wish.TheVariants as wish;
 
@@ -185,6 +187,9 @@ pub fn apply(memory: &mut Memory, edit: Edit)
     ensures layout { memory.new.layout ≡ memory.old.layout }
     ensures words { (ppn i : ℕ) → words_of memory.new ppn i ≡ words_after (words_of memory.old) edit ppn i }
     ensures used { (h : ℕ) → slice_index memory.new.used h ≡ used_by_all (λ k. slice_index memory.old.used k) edit h }
+    // what it does to the mappings of all roots, for what was wished
+    ensures maps { (w : WishOf) → IsEdit memory.old.layout (words_of memory.old) (λ h. slice_index memory.old.used h) edit.hart w edit
+        → HasEffect memory.old.layout w edit (words_of memory.old) (words_after (words_of memory.old) edit) }
 {
     memory.store(edit.hart, edit.ppn, edit.index, edit.word);
 }

@@ -8,7 +8,7 @@ ghost use Rattle.spaces.specs.Limits.{max_frames, MeetsLimits};
 ghost use Rattle.spaces.specs.Opening.{first_word, first_words, is_word, opening};
 ghost use Rattle.spaces.specs.Tree.{pointed};
 ghost use Rattle.spaces.specs.Edits.{is_wrong_half, path_root};
-ghost use Rattle.spaces.specs.Held.{spare_of, word_index, words_of};
+ghost use Rattle.spaces.specs.Held.{IsMemory, spare_of, word_index, words_of};
 
 use crate::configuration::{Config, Space, total};
 use crate::faults::OpenFault;
@@ -167,10 +167,12 @@ impl Memory {
 
     /// Whether the place is there.
     pub fn has(&self, place: Place) -> bool
-        ensures { IsTrue result ↔ HasPlace self.now.layout place }
+        ensures value { IsTrue result ↔ HasPlace self.now.layout place }
+        ensures memory { IsMemory self.now }
     {
+        let spaces = self.homes.len();
         match place {
-            Place::Space(space) => usize::from(space) < self.homes.len(),
+            Place::Space(space) => usize::from(space) < spaces,
             Place::Kernel => true,
         }
     }

@@ -5,6 +5,7 @@ mod configuration;
 mod edits;
 mod faults;
 mod frames;
+mod laws;
 mod places;
 mod wishes;
 
@@ -14,5 +15,13 @@ pub use configuration::{
 pub use edits::{Edit, apply, next_map_edit, protect_edit, unmap_edit};
 pub use faults::{MapFault, OpenFault};
 pub use frames::Memory;
+pub use laws::{
+    edit_changes_its_page, edit_is_accepted, edit_keeps_tree, edit_stays_at_home, home_is_one,
+    limits_give_layout, map_keeps_mappings, opening_is_tree, path_ends_lowest,
+    unmapped_page_is_gone,
+};
 pub use places::Place;
 pub use wishes::Wish;
+
+#[cfg(test)]
+mod tests;

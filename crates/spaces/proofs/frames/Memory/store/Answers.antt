@@ -1,6 +1,6 @@
-use Rattle.std.proofs.Common.{◌≡◌, ◌+◌, ◌<◌, ◌*◌, ◌-◌, ℕ, sym, ◌∙◌, ap, subst, refl, arith, length}
+use Rattle.std.proofs.Common.{◌<◌, ◌-◌, sym, ◌∙◌, ap, subst, arith}
 use Rattle.std.specs.Prelude.{slice_index}
-use Rattle.spaces.specs.Held.{Held, IsMemory, words_of}
+use Rattle.spaces.specs.Held.{IsMemory, words_of}
 use Rattle.spaces.proofs.Applying.{facts-of, held-by, at-index, product-bound, sum-bound, used-pointer, used-leaf}
 use Rattle.spaces.proofs.frames.Memory.store.Goals as goal
 

@@ -1,0 +1,128 @@
+-- The laws of accepted edits.
+use Rattle.std.proofs.Common.{◌≡◌, ℕ, ◌-◌, ◌<◌, ◌≤◌, ◌⊎◌, Bool, true, false, Option, Some, None, length, ap, sym, ◌∙◌, subst, refl, inl, inr, arith}
+use Rattle.std.specs.Prelude.{unwrap_or, is_some}
+use Rattle.std.proofs.lemmas.Bool.{cases_lt}
+use Rattle.pte.specs.declared.flags.PteFlags.{PteFlags}
+use Rattle.pte.specs.declared.entry.Kind.{Kind}
+use Rattle.pte.specs.declared.entry.Kind.TheVariants as kinds
+use Rattle.pte.specs.Address.{Span, top_level}
+use Rattle.pte.specs.Entry.{kind_of}
+use Rattle.walk.specs.Leads.{Tables, Leads, word_at}
+use Rattle.spaces.specs.declared.wishes.Wish.{Wish}
+use Rattle.spaces.specs.declared.wishes.Wish.TheVariants.{Map, Unmap, Protect}
+use Rattle.spaces.specs.declared.places.Place.{Place}
+use Rattle.walk.specs.Maps.{Maps}
+use Rattle.spaces.specs.Layout.{Layout, home_of, root_ppn}
+use Rattle.spaces.specs.Held.{spare_after}
+use Rattle.spaces.specs.Edits.{Store, place_of, is_kernel, path_end}
+use Rattle.spaces.specs.Tree.{pointed, pointed_kind, start_level, IsTree, IsAtHome}
+use Rattle.spaces.specs.Accepted.{Accepted, Writes, adds_table, adds_leaf, removes_leaf, changes_leaf}
+use Rattle.spaces.specs.Applied.{words_after, used_by_all}
+use Rattle.spaces.specs.Effects.{IsEdit, IsEnd, HasEffect, IsAbout, RemovesPage}
+use Rattle.spaces.proofs.Trees.{kind-zero}
+use Rattle.spaces.proofs.EntryWords.{kind-stored, pointed-table}
+use Rattle.spaces.proofs.EndPaths.{ends-on, EndsOn}
+use Rattle.spaces.proofs.Accepting.{accepted}
+use Rattle.spaces.proofs.Keeping.{keeps-tree, there, leaf-or-pointer, leaf-range, fresh-of, fresh-range, IsLeafStore, IsPointerStore}
+use Rattle.spaces.proofs.Leaves.{leads-path, path-leads}
+use Rattle.spaces.proofs.Effecting.{adds-page, removes-page, changes-flags, same-maps, ends}
+
+module _ (l : Layout) (words : Tables) (used : ℕ → ℕ) (hart : ℕ) (wish : Wish) (store : Store) (e : IsEdit l words used hart wish store) where
+  pub edit-accepted : Accepted l words (spare_after l hart (used hart)) hart wish store
+  edit-accepted = accepted l e.layout words used e.tree (spare_after l hart (used hart)) hart wish store e.has e.is
+
+  pub at-home : Accepted l words (spare_after l (home_of l (place_of wish)) (used (home_of l (place_of wish)))) (home_of l (place_of wish)) wish store
+  at-home = subst (λ h. Accepted l words (spare_after l h (used h)) h wish store) edit-accepted.home edit-accepted
+
+  pub edit-tree : IsTree l (words_after words store) (used_by_all used store)
+  edit-tree = keeps-tree l e.layout words used e.tree wish e.has store at-home
+
+  pub edit-home : IsAtHome l (home_of l (place_of wish)) store.ppn
+  edit-home = let here = there l e.layout words used e.tree wish e.has store at-home in here.home
+
+effect-by : (l : Layout) (words : Tables) (used : ℕ → ℕ) (hart : ℕ) (wish : Wish) (store : Store) → (e : IsEdit l words used hart wish store)
+    → (acc : Accepted l words (spare_after l (home_of l (place_of wish)) (used (home_of l (place_of wish)))) (home_of l (place_of wish)) wish store)
+    → (new : ℕ) → new ≡ store.word → Writes (spare_after l (home_of l (place_of wish)) (used (home_of l (place_of wish)))) (start_level (place_of wish) - acc.depth) acc.old wish new
+    → IsLeafStore acc.old store.word ⊎ IsPointerStore l (home_of l (place_of wish)) (used (home_of l (place_of wish))) (start_level (place_of wish) - acc.depth) acc.old store.word
+    → HasEffect l wish store words (words_after words store)
+effect-by l words used hart wish store e acc new is (adds_table place page ppn flags frame above zero-word spare) (inr p) = (
+  (λ some. same-maps l e.layout words used e.tree (Map place page ppn flags) e.has e.page store acc p),
+  (λ none. absurd (let bad : true ≡ false = ap is_some (sym p.now) ∙ none in cc)),
+)
+effect-by l words used hart wish store e acc new is (adds_table place page ppn flags frame above zero-word spare) (inl leaf) =
+    let fit = fresh-range l e.layout _ _ frame (fresh-of l _ _ frame spare) in
+    absurd (let bad : Some frame ≡ None = sym (pointed-table frame (is_kernel place) fit) ∙ ap (λ w. pointed (Some w)) is ∙ leaf.now in cc)
+effect-by l words used hart wish store e acc new is (adds_leaf place page ppn flags at zero-word ok fit aligned) (inl leaf) = (
+  (λ some. absurd (let bad : false ≡ true = ap is_some (sym leaf.now) ∙ some in cc)),
+  (λ none. adds-page l e.layout words used e.tree (Map place page ppn flags) e.has e.page store acc at leaf ppn flags zero-word
+      (ap kind_of (sym is) ∙ kind-stored ppn flags fit ok.byte ok.leaf) aligned),
+)
+effect-by l words used hart wish store e acc new is (adds_leaf place page ppn flags at zero-word ok fit aligned) (inr p) =
+    absurd (let bad : None ≡ Some _ = ap pointed_kind (sym (kind-stored ppn flags fit ok.byte ok.leaf)) ∙ ap (λ w. pointed (Some w)) is ∙ p.now in cc)
+effect-by l words used hart wish store e acc new is (removes_leaf place page q f at kind) (inl leaf) =
+    removes-page l e.layout words used e.tree (Unmap place page) e.has e.page store acc at leaf (sym is)
+effect-by l words used hart wish store e acc new is (removes_leaf place page q f at kind) (inr p) =
+    absurd (let bad : kinds.Leaf q f ≡ kinds.Invalid = sym kind ∙ ap kind_of p.was ∙ kind-zero in cc)
+effect-by l words used hart wish store e acc new is (changes_leaf place page flags q f at kind ok) (inl leaf) =
+    changes-flags l e.layout words used e.tree (Protect place page flags) e.has e.page store acc at leaf q f flags kind
+    (ap kind_of (sym is) ∙ kind-stored q flags (leaf-range acc.old q f kind) ok.byte ok.leaf)
+effect-by l words used hart wish store e acc new is (changes_leaf place page flags q f at kind ok) (inr p) =
+    absurd (let bad : kinds.Leaf q f ≡ kinds.Invalid = sym kind ∙ ap kind_of p.was ∙ kind-zero in cc)
+
+pub edit-effect : (l : Layout) (words : Tables) (used : ℕ → ℕ) (hart : ℕ) (wish : Wish) (store : Store) → IsEdit l words used hart wish store → HasEffect l wish store words (words_after words store)
+edit-effect l words used hart wish store e =
+    let acc = at-home l words used hart wish store e in
+    effect-by l words used hart wish store e acc store.word refl acc.writes (leaf-or-pointer l e.layout _ _ _ acc.old wish store.word acc.writes)
+
+-- the end of a path, by what leads
+pub end-leads : (words : Tables) (root va lowest : ℕ) → lowest ≤ top_level → IsEnd words root va lowest (path_end words va lowest (top_level - lowest) root)
+end-leads words root va lowest low =
+    let end : EndsOn words va lowest top_level root (path_end words va lowest (top_level - lowest) root) = ends-on words va lowest (top_level - lowest) top_level root (omega arith) in
+    let back : top_level - (top_level - (path_end words va lowest (top_level - lowest) root).level) ≡ (path_end words va lowest (top_level - lowest) root).level = omega (arith, end.to) in
+    let path = leads-path words root va (top_level - (path_end words va lowest (top_level - lowest) root).level) (path_end words va lowest (top_level - lowest) root).table (omega arith) end.on in
+    record {
+      from = end.from;
+      leads =
+          subst (λ k. Leads words root va k (path_end words va lowest (top_level - lowest) root).table (word_at words va k (path_end words va lowest (top_level - lowest) root).table)) back path;
+      entry = end.entry;
+      is_lowest = λ j table word above-lowest leads.
+          elim (cases_lt j (path_end words va lowest (top_level - lowest) root).level) [
+            | inr high ↦ high
+            | inl lower ↦
+                let deeper = path-leads words root va j table word leads in
+                let stops : pointed (word_at words va (top_level - (top_level - (path_end words va lowest (top_level - lowest) root).level)) (path_end words va lowest (top_level - lowest) root).table) ≡ None =
+                ap (λ k. pointed (word_at words va k (path_end words va lowest (top_level - lowest) root).table)) back
+                ∙ pointed-none (word_at words va (path_end words va lowest (top_level - lowest) root).level (path_end words va lowest (top_level - lowest) root).table)
+                (λ q g k. end.stops q g (omega arith) (ap kind_of end.entry ∙ k))
+                in
+                absurd (ends words va top_level root (top_level - j) (top_level - (path_end words va lowest (top_level - lowest) root).level)
+                (path_end words va lowest (top_level - lowest) root).table table (omega (arith, end.to)) end.on stops deeper)
+          ];
+    }
+  where
+    kind-none : (kind : Kind) → ((q : ℕ) (g : Bool) → kind ≡ kinds.Table q g → ⊥) → pointed_kind kind ≡ None
+    kind-none kinds.Invalid not-table = refl
+    kind-none kinds.Reserved not-table = refl
+    kind-none (kinds.Table q g) not-table = absurd (not-table q g refl)
+    kind-none (kinds.Leaf q f) not-table = refl
+
+    pointed-none : (o : Option ℕ) → ((q : ℕ) (g : Bool) → kind_of (unwrap_or o 0) ≡ kinds.Table q g → ⊥) → pointed o ≡ None
+    pointed-none None not-table = refl
+    pointed-none (Some w) not-table = kind-none (kind_of w) not-table
+
+pub unmapped-gone : (l : Layout) (words : Tables) (used : ℕ → ℕ) (hart : ℕ) (place : Place) (page : Span) (store : Store) → IsEdit l words used hart (Unmap place page) store
+    → (s number ppn : ℕ) (flags : PteFlags) (global : Bool) → s < length l.homes → IsAbout place page s number → Maps (words_after words store) (root_ppn l s) number ppn flags global → ⊥
+unmapped-gone l words used hart place page store e s number ppn flags global has is-about mapped =
+    let gone : RemovesPage l place page words (words_after words store) = edit-effect l words used hart (Unmap place page) store e in
+    ((gone s number ppn flags global has).0 mapped).1 is-about
+
+pub map-keeps : (l : Layout) (words : Tables) (used : ℕ → ℕ) (hart : ℕ) (place : Place) (page : Span) (first : ℕ) (f : PteFlags) (store : Store) → IsEdit l words used hart (Map place page first f) store
+    → (s number ppn : ℕ) (flags : PteFlags) (global : Bool) → s < length l.homes → Maps words (root_ppn l s) number ppn flags global → Maps (words_after words store) (root_ppn l s) number ppn flags global
+map-keeps l words used hart place page first f store e s number ppn flags global has mapped = by_pointer (pointed (Some store.word)) refl
+  where
+    effect : HasEffect l (Map place page first f) store words (words_after words store)
+    effect = edit-effect l words used hart (Map place page first f) store e
+
+    by_pointer : (o : Option ℕ) → pointed (Some store.word) ≡ o → Maps (words_after words store) (root_ppn l s) number ppn flags global
+    by_pointer (Some t) is = (effect.0 (ap is_some is) s number ppn flags global has).1 mapped
+    by_pointer None is = (effect.1 (ap is_some is) s number ppn flags global has).1 (inl mapped)

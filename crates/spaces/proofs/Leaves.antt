@@ -1,0 +1,247 @@
+-- The leaves that lead from a root, as leaves on the paths of places, and the pages that they map.
+use Rattle.std.proofs.Common.{◌≡◌, ℕ, zero, suc, ◌+◌, ◌-◌, ◌<◌, ◌≤◌, ◌%◌, ◌^◌, Bool, true, false, Option, Some, None, length, ap, sym, ◌∙◌, subst, refl, inl, inr, arith, IsTrue}
+use Rattle.std.specs.Prelude.{slice_index, ◌↔◌}
+use Rattle.std.proofs.lemmas.Bool.{cases_lt}
+use Rattle.pte.specs.declared.flags.PteFlags.{PteFlags}
+use Rattle.pte.specs.declared.entry.Kind.{Kind}
+use Rattle.pte.specs.declared.entry.Kind.TheVariants as kinds
+use Rattle.pte.specs.Address.{IsCanonical, top_level, level_pages, vpn_of}
+use Rattle.pte.specs.Entry.{kind_of, table_word, ppn_bits}
+use Rattle.pte.proofs.EntryKinds.{kind-table}
+use Rattle.walk.specs.Leads.{Tables, word_at, PointsTo, Leads, IsGlobalAt}
+use Rattle.walk.specs.Maps.{Maps, page_number}
+use Rattle.walk.proofs.Paths.{leads-start, leads-below}
+use Rattle.walk.proofs.Unique.{same_bool}
+use Rattle.spaces.specs.declared.places.Place.{Place}
+use Rattle.spaces.specs.declared.places.Place.TheVariants.{Space, Kernel}
+use Rattle.spaces.specs.Layout.{Layout, HasPlace, root_ppn, user_slots, first_window_slot}
+use Rattle.spaces.specs.Held.{IsLayout}
+use Rattle.spaces.specs.Edits.{is_kernel}
+use Rattle.spaces.specs.Tree.{pointed, pointed_kind, table_below, start_level, start_table, IsIn, table_on, IsHome, IsTree}
+use Rattle.spaces.specs.Effects.{HangsBelow}
+use Rattle.spaces.proofs.Paths.{above, below, some-same, vpn-below}
+use Rattle.spaces.proofs.Trees.{kind-zero, pointed-zero}
+use Rattle.spaces.proofs.EntryWords.{global-table}
+use Rattle.spaces.proofs.EndPaths.{table_below-front}
+use Rattle.spaces.proofs.Accepting.{window-points}
+
+-- a word that points is a pointer
+pointer-kind : (word t : ℕ) (kind : Kind) → kind_of word ≡ kind → pointed_kind kind ≡ Some t → PointsTo (Some word) t
+pointer-kind word t (kinds.Table q g) is e = record { entry = word; global = g; is = refl; kind = is ∙ ap (λ n. kinds.Table n g) (some-same _ _ e) }
+pointer-kind word t kinds.Invalid is e = absurd (let bad : None ≡ Some t = e in cc)
+pointer-kind word t kinds.Reserved is e = absurd (let bad : None ≡ Some t = e in cc)
+pointer-kind word t (kinds.Leaf q f) is e = absurd (let bad : None ≡ Some t = e in cc)
+
+pub points-to : (o : Option ℕ) (t : ℕ) → pointed o ≡ Some t → PointsTo o t
+points-to (Some word) t e = pointer-kind word t (kind_of word) refl e
+points-to None t e = absurd (let bad : None ≡ Some t = e in cc)
+
+pub pointed-to : (o : Option ℕ) (t : ℕ) → PointsTo o t → pointed o ≡ Some t
+pointed-to o t p = ap pointed p.is ∙ ap pointed_kind p.kind
+
+module _ (words : Tables) (root va : ℕ) where
+  -- a path of tables leads
+  pub leads-path : (n t : ℕ) → n ≤ top_level → table_below words va top_level root n ≡ Some t → Leads words root va (top_level - n) t (word_at words va (top_level - n) t)
+  leads-path zero t deep e = subst (λ u. Leads words root va top_level u (word_at words va top_level u)) (some-same _ _ e) (leads-start words root va)
+  leads-path (suc n) t deep e =
+      let up = above words va top_level root n t e in
+      let path = leads-path n up.table_above (omega arith) up.on in
+      let point = points-to (word_at words va (top_level - n) up.table_above) t up.points in
+      let level : top_level - n ≡ top_level - suc n + 1 = omega arith in
+      leads-below words root va (top_level - suc n) up.table_above point.entry t point.global
+      (subst (λ k. Leads words root va k up.table_above (Some point.entry)) level
+      (subst (λ o. Leads words root va (top_level - n) up.table_above o) point.is path))
+      point.kind
+
+  -- and what leads has a path of tables
+  tables-path : (i t : ℕ) (w : Option ℕ) → (p : Leads words root va i t w) → (n : ℕ) → n + i ≤ top_level → table_below words va top_level root n ≡ Some (p.tables (top_level - n))
+  tables-path i t w p zero deep = ap Some (sym p.first)
+  tables-path i t w p (suc n) deep =
+      let rest = tables-path i t w p n (omega arith) in
+      let level : top_level - n - 1 ≡ top_level - suc n = omega arith in
+      below words va top_level root n (p.tables (top_level - n)) rest
+      ∙ pointed-to (word_at words va (top_level - n) (p.tables (top_level - n))) (p.tables (top_level - n - 1)) (p.pointers (top_level - n) (omega arith) (omega arith))
+      ∙ ap (λ k. Some (p.tables k)) level
+
+  pub path-leads : (i t : ℕ) (w : Option ℕ) → Leads words root va i t w → table_below words va top_level root (top_level - i) ≡ Some t
+  path-leads i t w p =
+      let level : top_level - (top_level - i) ≡ i = omega (arith, p.level) in
+      tables-path i t w p (top_level - i) (omega (arith, p.level)) ∙ ap (λ k. Some (p.tables k)) level ∙ ap Some p.last
+
+  -- where the first word is no pointer the path has one table
+  pub path-none : (n t : ℕ) → pointed (word_at words va top_level root) ≡ None → table_below words va top_level root n ≡ Some t → n ≡ 0
+  path-none zero t e path = refl
+  path-none (suc n) t e path =
+      let up = above words va top_level root n t path in
+      let first = path-none n up.table_above e up.on in
+      let at : root ≡ up.table_above = some-same _ _ (ap (λ k. table_below words va top_level root k) (sym first) ∙ up.on) in
+      let level : top_level - n ≡ top_level = omega (arith, first) in
+      absurd (let bad : None ≡ Some t = sym e ∙ ap (word-points) at ∙ ap (λ k. pointed (word_at words va k up.table_above)) (sym level) ∙ up.points in cc)
+    where
+      word-points : ℕ → Option ℕ
+      word-points u = pointed (word_at words va top_level u)
+
+-- a leaf on the path of a place
+pub record LeafOn (l : Layout) (words : Tables) (s va level t entry leaf : ℕ) (flags : PteFlags) : Type 0 where
+  pub place : Place
+  pub hangs : HangsBelow place s
+  pub has : HasPlace l place
+  pub within : IsIn l place va
+  pub low : level ≤ start_level place
+  pub on : table_on l words place va (start_level place - level) ≡ Some t
+  pub word : word_at words va level t ≡ Some entry
+  pub kind : kind_of entry ≡ kinds.Leaf leaf flags
+
+module _ (l : Layout) (fits : IsLayout l) (words : Tables) (used : ℕ → ℕ) (tree : IsTree l words used) where
+  root-home : (s : ℕ) → s < length l.homes → IsHome l words (slice_index l.homes s) (used (slice_index l.homes s))
+  root-home s has = tree (slice_index l.homes s) (fits.homes s 0 has)
+
+  window-word : (s va : ℕ) → s < length l.homes → IsIn l Kernel va → word_at words va top_level (root_ppn l s) ≡ Some (table_word (start_table l Kernel va) true)
+  window-word s va has in-window =
+      let slot = vpn-below va top_level in
+      let k : vpn_of va top_level - first_window_slot l < l.window = omega (arith, fits.window) in
+      let same : first_window_slot l + (vpn_of va top_level - first_window_slot l) ≡ vpn_of va top_level = omega (arith, fits.window) in
+      ap (words (root_ppn l s)) (sym same) ∙ (root-home s has).window s (vpn_of va top_level - first_window_slot l) has refl k
+
+  window-fits : (va : ℕ) → IsIn l Kernel va → start_table l Kernel va < 2 ^ ppn_bits
+  window-fits va in-window = let slot = vpn-below va top_level in omega (arith, fits.ppns_fit, fits.window)
+
+  pub leaf-place : (s va level t entry leaf : ℕ) (flags : PteFlags) → s < length l.homes → Leads words (root_ppn l s) va level t (Some entry) → kind_of entry ≡ kinds.Leaf leaf flags
+      → LeafOn l words s va level t entry leaf flags
+  leaf-place s va level t entry leaf flags has leads kind =
+      let path = path-leads words (root_ppn l s) va level t (Some entry) leads in
+      elim (cases_lt (vpn_of va top_level) user_slots) [
+        | inl user ↦
+            record { place = Space s; hangs = refl; has = has; within = user; low = leads.level; on = path; word = sym leads.here; kind = kind }
+        | inr upper ↦ elim (cases_lt (vpn_of va top_level) (first_window_slot l)) [
+          | inl outside ↦
+              let zero-word : word_at words va top_level (root_ppn l s) ≡ Some 0 = (root-home s has).upper s (vpn_of va top_level) has refl upper outside in
+              let depth = path-none words (root_ppn l s) va (top_level - level) t (ap pointed zero-word ∙ pointed-zero) path in
+              let at : root_ppn l s ≡ t = some-same _ _ (ap (λ k. table_below words va top_level (root_ppn l s) k) (sym depth) ∙ path) in
+              let top : level ≡ top_level = omega (arith, leads.level) in
+              let is : Some 0 ≡ Some entry = sym zero-word ∙ ap (word_at words va top_level) at ∙ ap (λ k. word_at words va k t) (sym top) ∙ sym leads.here in
+              absurd (let bad : kinds.Invalid ≡ kinds.Leaf leaf flags = sym kind-zero ∙ ap kind_of (some-same _ _ is) ∙ kind in cc)
+          | inr inside ↦ elim (cases_lt level top_level) [
+            | inl lower ↦
+                let steps : top_level - level ≡ suc (top_level - 1 - level) = omega arith in
+                record {
+                  place = Kernel;
+                  hangs = tt;
+                  has = tt;
+                  within = inside;
+                  low = omega arith;
+                  on =
+                      sym (table_below-front words va top_level (root_ppn l s) (start_table l Kernel va) (top_level - 1 - level) (window-points l fits words used tree s va has inside))
+                      ∙ ap (table_below words va top_level (root_ppn l s)) (sym steps) ∙ path;
+                  word = sym leads.here;
+                  kind = kind;
+                }
+            | inr high ↦
+                let top : level ≡ top_level = omega (arith, leads.level) in
+                let depth : top_level - level ≡ 0 = omega arith in
+                let at : root_ppn l s ≡ t = some-same _ _ (ap (λ k. table_below words va top_level (root_ppn l s) k) (sym depth) ∙ path) in
+                let is : Some (table_word (start_table l Kernel va) true) ≡ Some entry =
+                sym (window-word s va has inside) ∙ ap (word_at words va top_level) at ∙ ap (λ k. word_at words va k t) (sym top) ∙ sym leads.here
+                in
+                absurd (let bad : kinds.Table (start_table l Kernel va) true ≡ kinds.Leaf leaf flags = sym (kind-table (start_table l Kernel va) true (window-fits va inside)) ∙ ap kind_of (some-same _ _ is) ∙ kind in cc)
+          ]
+        ]
+      ]
+
+  root-path : (s va level t : ℕ) (place : Place) → s < length l.homes → HangsBelow place s → IsIn l place va → level ≤ start_level place
+      → table_on l words place va (start_level place - level) ≡ Some t → table_below words va top_level (root_ppn l s) (top_level - level) ≡ Some t
+  root-path s va level t (Space s') has hangs within low path = ap (λ k. table_below words va top_level (root_ppn l k) (top_level - level)) (sym hangs) ∙ path
+  root-path s va level t Kernel has hangs within low path =
+      let steps : top_level - level ≡ suc (top_level - 1 - level) = omega arith in
+      ap (table_below words va top_level (root_ppn l s)) steps
+      ∙ table_below-front words va top_level (root_ppn l s) (start_table l Kernel va) (top_level - 1 - level) (window-points l fits words used tree s va has within)
+      ∙ path
+
+  start-top : (place : Place) → start_level place ≤ top_level
+  start-top (Space s) = omega arith
+  start-top Kernel = omega arith
+
+  pub place-leaf : (s va level t entry leaf : ℕ) (flags : PteFlags) → s < length l.homes → LeafOn l words s va level t entry leaf flags → Leads words (root_ppn l s) va level t (Some entry)
+  place-leaf s va level t entry leaf flags has o =
+      let deep : level ≤ top_level = let top = start-top o.place in omega (arith, o.low) in
+      let back : top_level - (top_level - level) ≡ level = omega arith in
+      let path = leads-path words (root_ppn l s) va (top_level - level) t (omega arith) (root-path s va level t o.place has o.hangs o.within o.low o.on) in
+      subst (Leads words (root_ppn l s) va level t) o.word (subst (λ k. Leads words (root_ppn l s) va k t (word_at words va k t)) back path)
+
+  -- G on a path is the kernel's
+  global-user : (s va level : ℕ) → s < length l.homes → IsIn l (Space s) va → IsGlobalAt words (root_ppn l s) va level → ⊥
+  global-user s va level has user g =
+      let path = path-leads words (root_ppn l s) va g.level g.table (Some g.entry) g.leads in
+      let back : top_level - (top_level - g.level) ≡ g.level = omega (arith, g.leads.level) in
+      let plain = (root-home s has).plain s va (top_level - g.level) g.table g.entry has refl user (omega arith) path (ap (λ k. word_at words va k g.table) back ∙ sym g.leads.here) in
+      let bad : true ≡ false = sym g.global ∙ plain in
+      cc
+
+  global-kernel : (s va level : ℕ) → s < length l.homes → IsIn l Kernel va → level ≤ top_level → IsGlobalAt words (root_ppn l s) va level
+  global-kernel s va level has inside low = record {
+    level = top_level;
+    table = root_ppn l s;
+    entry = table_word (start_table l Kernel va) true;
+    from = low;
+    leads = subst (Leads words (root_ppn l s) va top_level (root_ppn l s)) (window-word s va has inside) (leads-start words (root_ppn l s) va);
+    global = global-table (start_table l Kernel va) true (window-fits va inside);
+  }
+
+  pub global-place : (s va level : ℕ) (place : Place) → s < length l.homes → HangsBelow place s → IsIn l place va → level ≤ start_level place
+      → IsTrue (is_kernel place) ↔ IsGlobalAt words (root_ppn l s) va level
+  global-place s va level (Space s') has hangs within low = (
+    (λ e. let bad : false ≡ true = e in absurd cc),
+    (λ g. absurd (global-user s va level has within g)),
+  )
+  global-place s va level Kernel has hangs within low = ((λ e. global-kernel s va level has within (omega arith)), (λ g. refl))
+
+-- what a root maps, by a leaf on the path of a place
+pub record Member (l : Layout) (words : Tables) (s number ppn : ℕ) (flags : PteFlags) (global : Bool) : Type 0 where
+  pub va : ℕ
+  pub level : ℕ
+  pub table : ℕ
+  pub entry : ℕ
+  pub leaf : ℕ
+  pub canonical : IsCanonical va
+  pub of_page : page_number va ≡ number
+  pub on : LeafOn l words s va level table entry leaf flags
+  pub aligned : leaf % level_pages level ≡ 0
+  pub place : ppn ≡ leaf + number % level_pages level
+  pub reach : global ≡ is_kernel on.place
+
+module _ (l : Layout) (fits : IsLayout l) (words : Tables) (used : ℕ → ℕ) (tree : IsTree l words used) (s number ppn : ℕ) (flags : PteFlags) (global : Bool) (has : s < length l.homes) where
+  pub member-of : Maps words (root_ppn l s) number ppn flags global → Member l words s number ppn flags global
+  member-of m =
+      let on = leaf-place l fits words used tree s m.va m.level m.table m.entry m.leaf flags has m.leads m.kind in
+      let same = global-place l fits words used tree s m.va m.level on.place has on.hangs on.within on.low in
+      record {
+        va = m.va;
+        level = m.level;
+        table = m.table;
+        entry = m.entry;
+        leaf = m.leaf;
+        canonical = m.canonical;
+        of_page = m.of_page;
+        on = on;
+        aligned = m.aligned;
+        place = m.place;
+        reach = same_bool global (is_kernel on.place) ((λ h. same.1 (m.is_global.0 h)), (λ h. m.is_global.1 (same.0 h)));
+      }
+
+  pub maps-of : Member l words s number ppn flags global → Maps words (root_ppn l s) number ppn flags global
+  maps-of m =
+      let same = global-place l fits words used tree s m.va m.level m.on.place has m.on.hangs m.on.within m.on.low in
+      record {
+        va = m.va;
+        level = m.level;
+        table = m.table;
+        entry = m.entry;
+        leaf = m.leaf;
+        canonical = m.canonical;
+        of_page = m.of_page;
+        leads = place-leaf l fits words used tree s m.va m.level m.table m.entry m.leaf flags has m.on;
+        kind = m.on.kind;
+        aligned = m.aligned;
+        place = m.place;
+        is_global = ((λ h. same.0 (sym m.reach ∙ h)), (λ g. m.reach ∙ same.1 g));
+      }

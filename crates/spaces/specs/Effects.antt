@@ -1,0 +1,77 @@
+-- What an edit does to the pages that the roots map.
+use Rattle.std.specs.Prelude.{ℕ, Bool, ◌≡◌, ◌+◌, ◌-◌, ◌<◌, ◌≤◌, ◌⊎◌, ◌↔◌, length, Option, Some, IsSome, IsNone, Ok, unwrap_or}
+use Rattle.pte.specs.declared.flags.PteFlags.{PteFlags}
+use Rattle.pte.specs.Address.{Span, IsPage, pages_of}
+use Rattle.walk.specs.Leads.{Tables, Leads, word_at}
+use Rattle.walk.specs.Maps.{Maps, page_number}
+use Rattle.spaces.specs.declared.places.Place.{Place}
+use Rattle.spaces.specs.declared.places.Place.TheVariants.{Space, Kernel}
+use Rattle.spaces.specs.declared.wishes.PathEnd.{PathEnd}
+use Rattle.spaces.specs.declared.wishes.Wish.{Wish}
+use Rattle.spaces.specs.declared.wishes.Wish.TheVariants.{Map, Unmap, Protect}
+use Rattle.spaces.specs.Layout.{Layout, HasPlace, root_ppn}
+use Rattle.spaces.specs.Held.{IsLayout, spare_after}
+use Rattle.spaces.specs.Tree.{pointed, IsTree}
+use Rattle.spaces.specs.Edits.{Store, place_of, page_of, is_kernel, edit_of}
+use Rattle.spaces.specs.Applied.{seven}
+
+-- the roots below which a place's tables hang: a space's own, and for the kernel every space's
+abbrev pub HangsBelow : Place → ℕ → Type 0
+HangsBelow (Space s') s = s' ≡ s
+HangsBelow Kernel s = Unit {0}
+
+-- the page of 4 KiB with this number is a part of the page
+pub record IsPart (page : Span) (number : ℕ) : Type 0 where
+  pub from : page_number page.base ≤ number
+  pub below : number < page_number page.base + pages_of page.size
+
+-- the page of 4 KiB with this number, in the root of this space, is one that the edit is about
+abbrev pub IsAbout : Place → Span → ℕ → ℕ → Type 0
+IsAbout place page s number = HangsBelow place s × IsPart page number
+
+-- every root maps what it mapped
+abbrev pub SameMaps : Layout → Tables → Tables → Type 0
+SameMaps l old new = (s number ppn : ℕ) (flags : PteFlags) (global : Bool) → s < length l.homes
+    → Maps new (root_ppn l s) number ppn flags global ↔ Maps old (root_ppn l s) number ppn flags global
+
+-- the page's members are added, with PPNs from this one on, and nothing else changes in any root
+abbrev pub AddsPage : Layout → Place → Span → ℕ → PteFlags → Tables → Tables → Type 0
+AddsPage l place page first flags old new = (s number ppn : ℕ) (f : PteFlags) (global : Bool) → s < length l.homes
+    → Maps new (root_ppn l s) number ppn f global
+    ↔ (Maps old (root_ppn l s) number ppn f global
+    ⊎ (IsAbout place page s number × (ppn ≡ first + (number - page_number page.base)) × (f ≡ seven flags) × (global ≡ is_kernel place)))
+
+-- the page's members are taken away, and nothing else changes in any root
+abbrev pub RemovesPage : Layout → Place → Span → Tables → Tables → Type 0
+RemovesPage l place page old new = (s number ppn : ℕ) (f : PteFlags) (global : Bool) → s < length l.homes
+    → Maps new (root_ppn l s) number ppn f global
+    ↔ (Maps old (root_ppn l s) number ppn f global × (IsAbout place page s number → ⊥))
+
+-- the flags of the page's members change, and nothing else in any root
+abbrev pub ChangesFlags : Layout → Place → Span → PteFlags → Tables → Tables → Type 0
+ChangesFlags l place page flags old new = (s number ppn : ℕ) (f : PteFlags) (global : Bool) → s < length l.homes
+    → Maps new (root_ppn l s) number ppn f global
+    ↔ ((Maps old (root_ppn l s) number ppn f global × (IsAbout place page s number → ⊥))
+    ⊎ (IsAbout place page s number × (f ≡ seven flags) × ((was : PteFlags) × Maps old (root_ppn l s) number ppn was global)))
+
+-- an edit of a tree that is accepted
+pub record IsEdit (l : Layout) (words : Tables) (used : ℕ → ℕ) (hart : ℕ) (wish : Wish) (store : Store) : Type 0 where
+  pub layout : IsLayout l
+  pub tree : IsTree l words used
+  pub has : HasPlace l (place_of wish)
+  pub page : IsPage (page_of wish)
+  pub is : edit_of l words (spare_after l hart (used hart)) hart wish ≡ Ok store
+
+-- what it does to the mappings of all roots, by what it stores
+abbrev pub HasEffect : Layout → Wish → Store → Tables → Tables → Type 0
+HasEffect l (Map place page ppn flags) store old new =
+    (IsSome (pointed (Some store.word)) → SameMaps l old new) × (IsNone (pointed (Some store.word)) → AddsPage l place page ppn flags old new)
+HasEffect l (Unmap place page) store old new = RemovesPage l place page old new
+HasEffect l (Protect place page flags) store old new = ChangesFlags l place page flags old new
+
+-- where a path ends anything leads, and nothing leads lower, down to the lowest level that is looked at
+pub record IsEnd (words : Tables) (root va lowest : ℕ) (end : PathEnd) : Type 0 where
+  pub from : lowest ≤ end.level
+  pub leads : Leads words root va end.level end.table (word_at words va end.level end.table)
+  pub entry : end.entry ≡ unwrap_or (word_at words va end.level end.table) 0
+  pub is_lowest : (j table : ℕ) (word : Option ℕ) → lowest ≤ j → Leads words root va j table word → end.level ≤ j

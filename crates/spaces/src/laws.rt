@@ -1,0 +1,82 @@
+//! Laws of edits, over plain words: functions that do nothing, whose contracts are the laws.
+
+ghost use Rattle.std.specs.Prelude.{◌≡◌, ◌-◌, ◌<◌, ◌≤◌, ◌≢◌, ℕ, Bool, length};
+ghost use Rattle.pte.specs.declared.flags.PteFlags.{PteFlags};
+ghost use Rattle.pte.specs.Address.{top_level};
+ghost use Rattle.walk.specs.Leads.{Tables};
+ghost use Rattle.walk.specs.Maps.{Maps};
+ghost use Rattle.spaces.specs.declared.configuration.Config.{Config as Configuration};
+ghost use Rattle.spaces.specs.declared.places.Place.{Place as PlaceOf};
+ghost use Rattle.spaces.specs.declared.wishes.Wish.{Wish as WishOf};
+ghost use Rattle.spaces.specs.declared.wishes.Wish.TheVariants as wish;
+ghost use Rattle.pte.specs.Address.{Span};
+ghost use Rattle.spaces.specs.Layout.{Layout, home_of, layout_of, root_ppn};
+ghost use Rattle.spaces.specs.Limits.{max_frames, MeetsLimits};
+ghost use Rattle.spaces.specs.Opening.{opening};
+ghost use Rattle.spaces.specs.Held.{IsLayout, spare_after};
+ghost use Rattle.spaces.specs.Edits.{path_end, place_of, Store};
+ghost use Rattle.spaces.specs.Tree.{IsAtHome, IsTree};
+ghost use Rattle.spaces.specs.Accepted.{Accepted};
+ghost use Rattle.spaces.specs.Applied.{used_by_all, words_after};
+ghost use Rattle.spaces.specs.Effects.{HasEffect, IsAbout, IsEdit, IsEnd};
+
+/// A configuration within the limits has a layout within them.
+pub fn limits_give_layout()
+    ensures { (c : Configuration) → MeetsLimits max_frames c → IsLayout (layout_of c) }
+{}
+
+/// The words at the opening are a tree, of which no spare frame is in use.
+pub fn opening_is_tree()
+    ensures { (l : Layout) → IsLayout l → IsTree l (opening l) (λ _. 0) }
+{}
+
+/// Where a path ends is the lowest level, down to the one that is looked at, at which anything leads.
+pub fn path_ends_lowest()
+    ensures { (words : Tables) (root va lowest : ℕ) → lowest ≤ top_level → IsEnd words root va lowest (path_end words va lowest (top_level - lowest) root) }
+{}
+
+/// An accepted edit writes on its page's path: a pointer or a leaf in place of 0, 0 in place of a leaf, or a leaf with the
+/// same PPN in place of a leaf.
+pub fn edit_is_accepted()
+    ensures { (l : Layout) (words : Tables) (used : ℕ → ℕ) (hart : ℕ) (w : WishOf) (store : Store) → IsEdit l words used hart w store
+        → Accepted l words (spare_after l hart (used hart)) hart w store }
+{}
+
+/// It writes a frame of the home of its place.
+pub fn edit_stays_at_home()
+    ensures { (l : Layout) (words : Tables) (used : ℕ → ℕ) (hart : ℕ) (w : WishOf) (store : Store) → IsEdit l words used hart w store
+        → IsAtHome l (home_of l (place_of w)) store.ppn }
+{}
+
+/// A frame is at home on one hart.
+pub fn home_is_one()
+    ensures { (l : Layout) (h other f : ℕ) → IsAtHome l h f → IsAtHome l other f → h ≡ other }
+{}
+
+/// The words after it are a tree again.
+pub fn edit_keeps_tree()
+    ensures { (l : Layout) (words : Tables) (used : ℕ → ℕ) (hart : ℕ) (w : WishOf) (store : Store) → IsEdit l words used hart w store
+        → IsTree l (words_after words store) (used_by_all used store) }
+{}
+
+/// A pointer changes what no root maps; a leaf adds, takes away or changes its page alone, in its place's roots alone.
+pub fn edit_changes_its_page()
+    ensures { (l : Layout) (words : Tables) (used : ℕ → ℕ) (hart : ℕ) (w : WishOf) (store : Store) → IsEdit l words used hart w store
+        → HasEffect l w store words (words_after words store) }
+{}
+
+/// After an accepted unmap no root of the place maps any part of the page.
+pub fn unmapped_page_is_gone()
+    ensures { (l : Layout) (words : Tables) (used : ℕ → ℕ) (hart : ℕ) (place : PlaceOf) (page : Span) (store : Store)
+        → IsEdit l words used hart (wish.Unmap place page) store
+        → (s number ppn : ℕ) (flags : PteFlags) (global : Bool) → s < length l.homes → IsAbout place page s number
+        → Maps (words_after words store) (root_ppn l s) number ppn flags global → ⊥ }
+{}
+
+/// An accepted map keeps every mapping of every root.
+pub fn map_keeps_mappings()
+    ensures { (l : Layout) (words : Tables) (used : ℕ → ℕ) (hart : ℕ) (place : PlaceOf) (page : Span) (first : ℕ) (f : PteFlags) (store : Store)
+        → IsEdit l words used hart (wish.Map place page first f) store
+        → (s number ppn : ℕ) (flags : PteFlags) (global : Bool) → s < length l.homes
+        → Maps words (root_ppn l s) number ppn flags global → Maps (words_after words store) (root_ppn l s) number ppn flags global }
+{}
