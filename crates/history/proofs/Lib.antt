@@ -1,7 +1,7 @@
-mod Splits
-mod Occurred
-mod OpenOrders
-mod Mailboxes
+pub mod Splits
+pub mod Occurred
+pub mod OpenOrders
+pub mod Mailboxes
 mod RunsAreLawful
 mod ShootdownRows
 mod KernelRows
@@ -9,7 +9,7 @@ mod MailboxRows
 mod EditRows
 mod SuperpageEntries
 mod RefusalRows
-mod Ordered
-mod Walks
-mod Lasting
-mod InWalk
+pub mod Ordered
+pub mod Walks
+pub mod Lasting
+pub mod InWalk

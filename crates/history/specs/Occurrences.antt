@@ -103,7 +103,7 @@ pub record IsMapOver (C : Setup) (k : ℕ) (turn : Turn) (before : History) : Ty
   pub stored : turn.reply ≡ reply.Leaf
   pub of_page : IsOfPage C k place page before
 
--- after order k an Unmap, or a Protect, over its page was accepted
+-- after order k an Unmap over its page was accepted
 pub record IsUnmapOver (C : Setup) (k : ℕ) (turn : Turn) (before : History) : Type 0 where
   pub hart : ℕ
   pub place : Place
@@ -114,6 +114,7 @@ pub record IsUnmapOver (C : Setup) (k : ℕ) (turn : Turn) (before : History) : 
   pub accepted : turn.reply ≡ reply.Opened ticket
   pub of_page : IsOfPage C k place page before
 
+-- after order k a Protect over its page was accepted
 pub record IsProtectOver (C : Setup) (k : ℕ) (turn : Turn) (before : History) : Type 0 where
   pub hart : ℕ
   pub place : Place
@@ -152,11 +153,12 @@ IsOrderBy sender (Protect hart place page flags named) = hart ≡ sender
 IsOrderBy sender (Flush hart scope named) = hart ≡ sender
 IsOrderBy sender _ = ⊥
 
--- the turn opened the sender's ticket, or freed its number
+-- the turn opened the sender's ticket
 pub record Opens (sender ticket : ℕ) (turn : Turn) (before : History) : Type 0 where
   pub by_sender : IsOrderBy sender turn.event
   pub answer : turn.reply ≡ reply.Opened ticket
 
+-- a Finish of the sender's ticket was accepted
 pub record IsFinish (sender ticket : ℕ) (turn : Turn) (before : History) : Type 0 where
   pub event : turn.event ≡ Finish sender ticket
   pub accepted : turn.reply ≡ reply.Ok
@@ -191,7 +193,7 @@ LeadsOn words root walk =
     (walk.loads < top_level)
     × ((table : ℕ) × Leads words root walk.va (top_level - suc walk.loads) table (word_at words walk.va (top_level - suc walk.loads) table))
 
--- P held at the last turn at which Q held; or Q never held, and it is as at the opening
+-- at some turn P held, and at no later one Q; or Q never held, and this is so at the opening
 abbrev pub SinceOr : (Turn → History → Type 0) → (Turn → History → Type 0) → Type 0 → History → Type 0
 SinceOr P Q opening H = Since P Q H ⊎ ((¬ Sometime Q H) × opening)
 
@@ -210,7 +212,7 @@ pub record IsTake (hart : ℕ) (turn : Turn) (before : History) : Type 0 where
   pub event : turn.event ≡ Take hart from
   pub answer : turn.reply ≡ reply.Taken request
 
--- the hart took a request while n of the mailbox were taken, and this is the mailbox's n-th accepted post
+-- the hart took a request, and this is the mailbox's accepted post of that place: the n-th, if n were taken before
 pub record TakesPost (C : Setup) (hart : ℕ) (sent : Sent) (turn : Turn) (before : History) : Type 0 where
   pub from : ℕ
   pub request : Message

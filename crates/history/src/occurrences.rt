@@ -2,7 +2,6 @@
 //! the law.
 
 ghost use Rattle.std.specs.Prelude.{ℕ, true, ◌≡◌, ◌↔◌, Result, Some, slice_get};
-ghost use Rattle.history.specs.Turns.{History};
 ghost use Rattle.pte.specs.Address.{IsCanonical};
 ghost use Rattle.walk.specs.declared.found_or_trap.Found.{Found};
 ghost use Rattle.walk.specs.declared.found_or_trap.Trap.{Trap};
@@ -11,6 +10,7 @@ ghost use Rattle.spaces.specs.Layout.{root_ppn};
 ghost use Rattle.spaces.specs.Opening.{opening};
 ghost use Rattle.shoot.specs.Request.{Message};
 ghost use Rattle.history.specs.Setup.{Setup};
+ghost use Rattle.history.specs.Turns.{History};
 ghost use Rattle.history.specs.Due.{Lawful, goes_on};
 ghost use Rattle.history.specs.Orders.{Order, open_order, order_at};
 ghost use Rattle.history.specs.Acknowledgements.{count_where, is_acked, is_collected, is_posted};
