@@ -21,7 +21,8 @@ use Rattle.spaces.specs.declared.faults.MapFault.TheVariants.{NotHome, WrongHalf
 use Rattle.spaces.specs.Layout.{Layout, HasPlace, home_of, root_ppn, first_window_slot}
 use Rattle.spaces.specs.Held.{IsLayout}
 use Rattle.spaces.specs.Edits.{Store, place_of, page_of, is_kernel, is_wrong_half, is_bad, is_wrong_global, is_misaligned, leaf_fault, wish_fault, path_root, page_word, upper_word, pointer_word, due_word, store_at, unless, wish_end, edit_of}
-use Rattle.spaces.specs.Tree.{pointed, pointed_kind, start_level, start_table, IsIn, table_on, table_below, IsEntryOf, IsTree}
+use Rattle.spaces.specs.Tree.{start_level, start_table, IsIn, table_on, IsEntryOf, IsTree}
+use Rattle.walk.specs.Pointers.{pointed, pointed_kind, table_below}
 use Rattle.spaces.specs.Accepted.{Accepted, IsFlags, Writes, adds_table, adds_leaf, removes_leaf, changes_leaf}
 use Rattle.spaces.proofs.Paths.{on, vpn-below}
 use Rattle.spaces.proofs.EntryWords.{pointed-table}

@@ -9,7 +9,8 @@ use Rattle.spaces.specs.Layout.{Layout, home_of, is_frame, frame_count}
 use Rattle.spaces.specs.Opening.{is_word}
 use Rattle.spaces.specs.Held.{Held, IsMemory, IsDue, spare_of, spare_after, word_index, words_of}
 use Rattle.spaces.specs.Edits.{Store, place_of, page_of}
-use Rattle.spaces.specs.Tree.{pointed, start_level, IsHome, IsTree}
+use Rattle.spaces.specs.Tree.{start_level, IsHome, IsTree}
+use Rattle.walk.specs.Pointers.{pointed}
 use Rattle.spaces.specs.Accepted.{Accepted}
 use Rattle.spaces.specs.Applied.{words_after, used_by_all}
 use Rattle.spaces.proofs.Lists.{slice_get-set_same, slice_get-set_other}

@@ -15,7 +15,8 @@ use Rattle.walk.specs.Maps.{Maps}
 use Rattle.spaces.specs.Layout.{Layout, home_of, root_ppn}
 use Rattle.spaces.specs.Held.{spare_after}
 use Rattle.spaces.specs.Edits.{Store, place_of, is_kernel, path_end}
-use Rattle.spaces.specs.Tree.{pointed, pointed_kind, start_level, IsTree, IsAtHome}
+use Rattle.spaces.specs.Tree.{start_level, IsTree, IsAtHome}
+use Rattle.walk.specs.Pointers.{pointed, pointed_kind}
 use Rattle.spaces.specs.Accepted.{Accepted, Writes, adds_table, adds_leaf, removes_leaf, changes_leaf}
 use Rattle.spaces.specs.Applied.{words_after, used_by_all}
 use Rattle.spaces.specs.Effects.{IsEdit, IsEnd, HasEffect, IsAbout, RemovesPage}

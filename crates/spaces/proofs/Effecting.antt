@@ -15,7 +15,8 @@ use Rattle.spaces.specs.declared.wishes.Wish.{Wish}
 use Rattle.spaces.specs.Layout.{Layout, HasPlace, home_of, root_ppn, spare_ppn, first_window_slot, user_slots}
 use Rattle.spaces.specs.Held.{IsLayout, spare_after}
 use Rattle.spaces.specs.Edits.{Store, place_of, page_of, is_kernel}
-use Rattle.spaces.specs.Tree.{pointed, pointed_kind, start_level, start_table, table_below, IsIn, table_on, IsHome, IsTree}
+use Rattle.spaces.specs.Tree.{start_level, start_table, IsIn, table_on, IsHome, IsTree}
+use Rattle.walk.specs.Pointers.{pointed, pointed_kind, table_below}
 use Rattle.spaces.specs.Accepted.{Accepted}
 use Rattle.spaces.specs.Applied.{words_after, used_by_all, seven}
 use Rattle.spaces.specs.Effects.{HangsBelow, IsPart, IsAbout, SameMaps, AddsPage, RemovesPage, ChangesFlags}

@@ -1,13 +1,14 @@
 -- Where the path of an edit ends, as a table on the path of a place.
 use Rattle.std.proofs.Common.{◌≡◌, ℕ, zero, suc, ◌+◌, ◌-◌, ◌<◌, ◌≤◌, Bool, Option, Some, None, ap, sym, ◌∙◌, subst, refl, arith}
-use Rattle.std.specs.Prelude.{unwrap_or, option_and_then}
+use Rattle.std.specs.Prelude.{unwrap_or}
 use Rattle.pte.specs.declared.entry.Kind.{Kind}
 use Rattle.pte.specs.declared.entry.Kind.TheVariants as kinds
 use Rattle.pte.specs.Entry.{kind_of}
 use Rattle.walk.specs.Leads.{Tables, word_at}
+use Rattle.walk.specs.Pointers.{next_table}
 use Rattle.spaces.specs.declared.wishes.PathEnd.{PathEnd}
 use Rattle.spaces.specs.Edits.{end_at, go_on, path_end}
-use Rattle.spaces.specs.Tree.{pointed, pointed_kind, table_below}
+use Rattle.walk.specs.Pointers.{pointed, pointed_kind, table_below}
 use Rattle.spaces.proofs.Paths.{below}
 use Rattle.spaces.proofs.Trees.{kind-zero}
 
@@ -16,8 +17,8 @@ pub table_below-front : (words : Tables) (va level table t n : ℕ) → pointed 
 table_below-front words va level table t zero e = let same : level - 0 ≡ level = omega arith in ap (λ k. pointed (word_at words va k table)) same ∙ e
 table_below-front words va level table t (suc n) e =
     let at : level - suc n ≡ level - 1 - n = omega arith in
-    ap (option_and_then (λ u. pointed (word_at words va (level - suc n) u))) (table_below-front words va level table t n e)
-    ∙ ap (λ k. option_and_then (λ u. pointed (word_at words va k u)) (table_below words va (level - 1) t n)) at
+    ap (next_table words va (level - suc n)) (table_below-front words va level table t n e)
+    ∙ ap (λ k. next_table words va k (table_below words va (level - 1) t n)) at
 
 pub pointed-entry : (o : Option ℕ) (ppn : ℕ) (global : Bool) → kind_of (unwrap_or o 0) ≡ kinds.Table ppn global → pointed o ≡ Some ppn
 pointed-entry (Some w) ppn global e = ap pointed_kind e

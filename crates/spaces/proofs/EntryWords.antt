@@ -5,7 +5,7 @@ use Rattle.pte.specs.declared.flags.PteFlags.{PteFlags}
 use Rattle.pte.specs.declared.entry.Kind.TheVariants as kinds
 use Rattle.pte.specs.Entry.{kind_of, leaf_word, table_word, is_no_leaf, is_global, ppn_bits}
 use Rattle.pte.proofs.EntryKinds.{kind-table, kind-leaf, Leaf-global, Table-global}
-use Rattle.spaces.specs.Tree.{pointed, pointed_kind}
+use Rattle.walk.specs.Pointers.{pointed, pointed_kind}
 use Rattle.spaces.specs.Applied.{seven}
 
 same-word : (ppn : ℕ) (flags : PteFlags) → leaf_word ppn flags ≡ leaf_word ppn (seven flags)

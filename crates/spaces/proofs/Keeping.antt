@@ -16,7 +16,8 @@ use Rattle.spaces.specs.declared.wishes.Wish.{Wish}
 use Rattle.spaces.specs.Layout.{Layout, HasPlace, home_of, spare_ppn}
 use Rattle.spaces.specs.Held.{IsLayout, spare_after}
 use Rattle.spaces.specs.Edits.{Store, place_of, page_of, is_kernel, is_wrong_global}
-use Rattle.spaces.specs.Tree.{pointed, pointed_kind, start_level, start_table, IsIn, table_on, IsAtHome, IsOwn, IsEntryOf, IsHome, IsTree}
+use Rattle.spaces.specs.Tree.{start_level, start_table, IsIn, table_on, IsAtHome, IsOwn, IsEntryOf, IsHome, IsTree}
+use Rattle.walk.specs.Pointers.{pointed, pointed_kind}
 use Rattle.spaces.specs.Accepted.{Accepted, Writes, adds_table, adds_leaf, removes_leaf, changes_leaf}
 use Rattle.spaces.specs.Applied.{words_after, used_after, used_by_all, seven}
 use Rattle.spaces.proofs.Homes.{home-unique}

@@ -17,7 +17,8 @@ use Rattle.spaces.specs.declared.places.Place.TheVariants.{Space, Kernel}
 use Rattle.spaces.specs.Layout.{Layout, HasPlace, root_ppn, user_slots, first_window_slot}
 use Rattle.spaces.specs.Held.{IsLayout}
 use Rattle.spaces.specs.Edits.{is_kernel}
-use Rattle.spaces.specs.Tree.{pointed, pointed_kind, table_below, start_level, start_table, IsIn, table_on, IsHome, IsTree}
+use Rattle.spaces.specs.Tree.{start_level, start_table, IsIn, table_on, IsHome, IsTree}
+use Rattle.walk.specs.Pointers.{pointed, pointed_kind, table_below}
 use Rattle.spaces.specs.Effects.{HangsBelow}
 use Rattle.spaces.proofs.Paths.{above, below, some-same, vpn-below}
 use Rattle.spaces.proofs.Trees.{kind-zero, pointed-zero}

@@ -12,7 +12,8 @@ use Rattle.spaces.specs.declared.places.Place.TheVariants.{Space, Kernel}
 use Rattle.spaces.specs.Layout.{Layout, HasPlace, is_frame, is_root, frame_count, root_ppn, window_ppn, user_slots, first_window_slot}
 use Rattle.spaces.specs.Opening.{first_word, root_word, is_word, opening}
 use Rattle.spaces.specs.Held.{IsLayout}
-use Rattle.spaces.specs.Tree.{pointed, start_level, start_table, IsIn, table_on, IsAtHome, of_root, of_window, of_spare, IsOwn, IsEntryOf, IsHome, IsTree}
+use Rattle.spaces.specs.Tree.{start_level, start_table, IsIn, table_on, IsAtHome, of_root, of_window, of_spare, IsOwn, IsEntryOf, IsHome, IsTree}
+use Rattle.walk.specs.Pointers.{pointed}
 use Rattle.spaces.proofs.Homes.{spare-own, window-own}
 use Rattle.spaces.proofs.Paths.{above, vpn-below, some-same}
 use Rattle.spaces.proofs.Trees.{root-is, pointed-zero, kind-zero, is_global-zero}

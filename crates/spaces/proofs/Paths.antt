@@ -1,14 +1,15 @@
 -- Paths in a tree: which tables they pass, and that a table is on one path.
 use Rattle.std.proofs.Common.{◌≡◌, ℕ, zero, suc, ◌+◌, ◌-◌, ◌<◌, ◌≤◌, ◌⊎◌, Option, Some, None, length, ap, sym, ◌∙◌, subst, refl, inl, inr, arith}
-use Rattle.std.specs.Prelude.{option_and_then}
 use Rattle.std.proofs.lemmas.Bool.{cases_lt}
 use Rattle.pte.specs.Address.{top_level, table_length, vpn_of}
 use Rattle.walk.specs.Leads.{Tables, word_at}
+use Rattle.walk.specs.Pointers.{next_table}
 use Rattle.spaces.specs.declared.places.Place.{Place}
 use Rattle.spaces.specs.declared.places.Place.TheVariants.{Space, Kernel}
 use Rattle.spaces.specs.Layout.{Layout, HasPlace, home_of, root_ppn, first_window_slot}
 use Rattle.spaces.specs.Held.{IsLayout}
-use Rattle.spaces.specs.Tree.{pointed, table_below, start_level, start_table, IsIn, table_on, IsAtHome, of_root, of_window, IsUsed, IsOwn, IsHome}
+use Rattle.spaces.specs.Tree.{start_level, start_table, IsIn, table_on, IsAtHome, of_root, of_window, IsUsed, IsOwn, IsHome}
+use Rattle.walk.specs.Pointers.{pointed, table_below}
 use Rattle.spaces.proofs.Homes.{used-home, spare-own, window-own}
 
 -- the table above
@@ -17,27 +18,31 @@ pub record Above (words : Tables) (va level table n g : ℕ) : Type 0 where
   pub on : table_below words va level table n ≡ Some table_above
   pub points : pointed (word_at words va (level - n) table_above) ≡ Some g
 
-and_then-inverse : (o : Option ℕ) (f : ℕ → Option ℕ) (g : ℕ) → option_and_then f o ≡ Some g → (t : ℕ) × (o ≡ Some t) × (f t ≡ Some g)
-and_then-inverse (Some t) f g e = (t, refl, e)
-and_then-inverse None f g e = absurd (let x : None ≡ Some g = e in cc)
+next-inverse : (words : Tables) (va level g : ℕ) (o : Option ℕ) → next_table words va level o ≡ Some g → (t : ℕ) × (o ≡ Some t) × (pointed (word_at words va level t) ≡ Some g)
+next-inverse words va level g (Some t) e = (t, refl, e)
+next-inverse words va level g None e = absurd (let x : None ≡ Some g = e in cc)
 
 pub above : (words : Tables) (va level table n g : ℕ) → table_below words va level table (suc n) ≡ Some g → Above words va level table n g
 above words va level table n g e =
-    let u = and_then-inverse (table_below words va level table n) (λ t. pointed (word_at words va (level - n) t)) g e in
+    let u = next-inverse words va (level - n) g (table_below words va level table n) e in
     record { table_above = u.0; on = u.1; points = u.2 }
 
 pub below : (words : Tables) (va level table n t : ℕ) → table_below words va level table n ≡ Some t → table_below words va level table (suc n) ≡ pointed (word_at words va (level - n) t)
-below words va level table n t e = ap (option_and_then (λ t. pointed (word_at words va (level - n) t))) e
+below words va level table n t e = ap (next_table words va (level - n)) e
+
+next-same : (words : Tables) (va va' level : ℕ) → vpn_of va level ≡ vpn_of va' level → (o : Option ℕ) → next_table words va level o ≡ next_table words va' level o
+next-same words va va' level e None = refl
+next-same words va va' level e (Some t) = ap (λ i. pointed (words t i)) e
 
 -- words that point alike lead alike
 pub table_below-like : (words words' : Tables) (va level table n : ℕ) → ((t i : ℕ) → pointed (words' t i) ≡ pointed (words t i)) → table_below words' va level table n ≡ table_below words va level table n
 table_below-like words words' va level table zero like = refl
 table_below-like words words' va level table (suc n) like =
     let rest = table_below-like words words' va level table n like in
-    ap (option_and_then (λ t. pointed (word_at words' va (level - n) t))) rest
+    ap (next_table words' va (level - n)) rest
     ∙ by_option (table_below words va level table n)
   where
-    by_option : (o : Option ℕ) → option_and_then (λ t. pointed (word_at words' va (level - n) t)) o ≡ option_and_then (λ t. pointed (word_at words va (level - n) t)) o
+    by_option : (o : Option ℕ) → next_table words' va (level - n) o ≡ next_table words va (level - n) o
     by_option None = refl
     by_option (Some t) = like t (vpn_of va (level - n))
 
@@ -154,5 +159,4 @@ module _ (l : Layout) (fits : IsLayout l) where
   paths-agree words place va va' (suc n) deep top same start =
       let rest = paths-agree words place va va' n (omega arith) top (λ j more less. same j (omega arith) less) start in
       let at : vpn_of va (start_level place - n) ≡ vpn_of va' (start_level place - n) = same (start_level place - n) (omega arith) (omega arith) in
-      ap (option_and_then (λ t. pointed (words t (vpn_of va (start_level place - n))))) rest
-      ∙ ap (λ i. option_and_then (λ t. pointed (words t i)) (table_on l words place va' n)) at
+      ap (next_table words va (start_level place - n)) rest ∙ next-same words va va' (start_level place - n) at (table_on l words place va' n)

@@ -10,8 +10,9 @@ use Rattle.spaces.specs.declared.places.Place.{Place}
 use Rattle.spaces.specs.declared.places.Place.TheVariants.{Space}
 use Rattle.spaces.specs.Layout.{Layout, HasPlace, home_of, is_root, root_ppn, window_ppn, spare_ppn, user_slots, first_window_slot}
 use Rattle.spaces.specs.Held.{IsLayout}
-use Rattle.spaces.specs.Tree.{pointed, table_below, start_level, start_table, IsIn, table_on, IsAtHome, of_root, of_window, of_spare, IsUsed, IsOwn, IsEntryOf, IsHome}
-use Rattle.spaces.specs.Applied.{stored}
+use Rattle.spaces.specs.Tree.{start_level, start_table, IsIn, table_on, IsAtHome, of_root, of_spare, IsUsed, IsOwn, IsEntryOf, IsHome}
+use Rattle.walk.specs.Pointers.{pointed, pointed_kind}
+use Rattle.walk.specs.Stores.{stored}
 use Rattle.spaces.proofs.Paths.{above, below, on, some-same, table_below-like, vpn-below}
 use Rattle.spaces.proofs.Stored.{is-word, stored-here, stored-there, pointed-stored}
 
@@ -20,7 +21,7 @@ unfolding kind_of
 kind-zero = refl
 
 pub pointed-zero : pointed (Some 0) ≡ None
-pointed-zero = ap (λ k. Rattle.spaces.specs.Tree.pointed_kind k) kind-zero
+pointed-zero = ap pointed_kind kind-zero
 
 pub is_global-zero : is_global 0 ≡ false
 is_global-zero = refl

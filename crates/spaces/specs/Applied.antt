@@ -1,14 +1,12 @@
 -- What an edit leaves.
-use Rattle.std.specs.Prelude.{ℕ, ◌+◌, ◌*◌, ◌/◌, ◌==◌, ◌&&◌, if◌then◌else◌, Some, is_some}
+use Rattle.std.specs.Prelude.{ℕ, ◌+◌, ◌*◌, ◌/◌, ◌==◌, if◌then◌else◌, Some, is_some}
 use Rattle.pte.specs.declared.flags.PteFlags.{PteFlags}
 use Rattle.walk.specs.Leads.{Tables}
+use Rattle.walk.specs.Pointers.{pointed}
+use Rattle.walk.specs.Stores.{stored}
 use Rattle.spaces.specs.Edits.{Store}
-use Rattle.spaces.specs.Tree.{pointed}
 
 -- the words after a store
-abbrev pub stored : Tables → ℕ → ℕ → ℕ → Tables
-stored words f i x g j = if (f == g) && (i == j) then Some x else words g j
-
 abbrev pub words_after : Tables → Store → Tables
 words_after words store = stored words store.ppn store.index store.word
 

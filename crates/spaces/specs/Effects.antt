@@ -11,7 +11,8 @@ use Rattle.spaces.specs.declared.wishes.Wish.{Wish}
 use Rattle.spaces.specs.declared.wishes.Wish.TheVariants.{Map, Unmap, Protect}
 use Rattle.spaces.specs.Layout.{Layout, HasPlace, root_ppn}
 use Rattle.spaces.specs.Held.{IsLayout, spare_after}
-use Rattle.spaces.specs.Tree.{pointed, IsTree}
+use Rattle.spaces.specs.Tree.{IsTree}
+use Rattle.walk.specs.Pointers.{pointed}
 use Rattle.spaces.specs.Edits.{Store, place_of, page_of, is_kernel, edit_of}
 use Rattle.spaces.specs.Applied.{seven}
 

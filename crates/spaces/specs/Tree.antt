@@ -1,29 +1,14 @@
 -- The tables as a tree: what the words at the home of one hart keep, whatever the words of the others are.
-use Rattle.std.specs.Prelude.{ℕ, zero, suc, true, false, ◌≡◌, ◌+◌, ◌-◌, ◌<◌, ◌≤◌, Option, Some, None, IsSome, option_and_then, length, slice_index}
+use Rattle.std.specs.Prelude.{ℕ, true, false, ◌≡◌, ◌+◌, ◌-◌, ◌<◌, ◌≤◌, Option, Some, None, IsSome, length, slice_index}
 use Rattle.pte.specs.declared.entry.Kind.{Kind}
 use Rattle.pte.specs.declared.entry.Kind.TheVariants as kinds
 use Rattle.pte.specs.Address.{top_level, table_length, vpn_of}
 use Rattle.pte.specs.Entry.{kind_of, is_global, table_word}
 use Rattle.walk.specs.Leads.{Tables, word_at}
+use Rattle.walk.specs.Pointers.{pointed, table_below}
 use Rattle.spaces.specs.declared.places.Place.{Place}
 use Rattle.spaces.specs.declared.places.Place.TheVariants.{Space, Kernel}
 use Rattle.spaces.specs.Layout.{Layout, HasPlace, home_of, is_root, root_ppn, window_ppn, spare_ppn, user_slots, first_window_slot}
-
--- the table that a word points to
-abbrev pub pointed_kind : Kind → Option ℕ
-pointed_kind (kinds.Table ppn global) = Some ppn
-pointed_kind kinds.Invalid = None
-pointed_kind kinds.Reserved = None
-pointed_kind (kinds.Leaf ppn flags) = None
-
-abbrev pub pointed : Option ℕ → Option ℕ
-pointed None = None
-pointed (Some word) = pointed_kind (kind_of word)
-
--- the table so many levels below a table of a level, on the path of an address
-abbrev pub table_below : Tables → ℕ → ℕ → ℕ → ℕ → Option ℕ
-table_below words va level table zero = Some table
-table_below words va level table (suc n) = option_and_then (λ t. pointed (word_at words va (level - n) t)) (table_below words va level table n)
 
 -- the topmost table of a place on the path of an address, and its level: a space's root, or a table of the window
 abbrev pub start_level : Place → ℕ

@@ -6,7 +6,7 @@ ghost use Rattle.pte.specs.Entry.{ppn_bits};
 ghost use Rattle.spaces.specs.Layout.{frame_count, HasPlace, home_of, layout_of, root_ppn};
 ghost use Rattle.spaces.specs.Limits.{max_frames, MeetsLimits};
 ghost use Rattle.spaces.specs.Opening.{first_word, first_words, is_word, opening};
-ghost use Rattle.spaces.specs.Tree.{pointed};
+ghost use Rattle.walk.specs.Pointers.{pointed};
 ghost use Rattle.spaces.specs.Edits.{is_wrong_half, path_root};
 ghost use Rattle.spaces.specs.Held.{IsMemory, spare_of, word_index, words_of};
 
