@@ -3,4 +3,4 @@
 #![tactic(auto)]
 
 #[cfg(test)]
-mod walk;
+mod walk_files;
