@@ -51,7 +51,7 @@ halved : (C : Setup) (H : History) (hart : ℕ) (w : Wish) (store : Store) → e
 unfolding edit_of wish_fault
 halved C H hart w store e = second_of _ (is_wrong_half C.layout (place_of w) (page_of w)) _ (unless_ok (wish_fault C.layout hart w) _ store e)
 
-edit_made : (answer : Result Store MapFault) (opening r : Reply) (ticket : ℕ) → edit_reply answer opening ≡ r → opened_ticket r ≡ Some ticket → (store : Store) × (answer ≡ Ok store)
+pub edit_made : (answer : Result Store MapFault) (opening r : Reply) (ticket : ℕ) → edit_reply answer opening ≡ r → opened_ticket r ≡ Some ticket → (store : Store) × (answer ≡ Ok store)
 edit_made (Ok store) opening r ticket e t = (store, refl)
 edit_made (Err fault) opening r ticket e t = let z : None ≡ Some ticket = ap opened_ticket e ∙ t in absurd (cc (z))
 

@@ -14,3 +14,4 @@ pub mod Causes
 pub mod Holding
 pub mod Clearing
 pub mod Cohering
+pub mod TreeKept

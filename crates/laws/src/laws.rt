@@ -20,6 +20,9 @@ ghost use Rattle.history.specs.Occurrences.{Sometime};
 ghost use Rattle.history.specs.Staleness.{Clear, Coherent};
 ghost use Rattle.history.specs.Acknowledgements.{is_posted, is_acked, is_collected, outstanding};
 ghost use Rattle.history.specs.Due.{Lawful, names};
+ghost use Rattle.spaces.specs.Held.{IsLayout};
+ghost use Rattle.spaces.specs.Tree.{IsTree};
+ghost use Rattle.history.specs.Tables.{used_spares};
 ghost use Rattle.laws.specs.Fills.{Fills, FillsAcked};
 ghost use Rattle.laws.specs.Kept.{HasAsids, HavePages, StaysMapped, StaysUnmapped, UserPagesAreNotGlobal, WindowIsShared};
 ghost use Rattle.laws.specs.Orders.{IsOrder, IsOpenedBy, Finishes};
@@ -175,3 +178,10 @@ pub fn coherent_follows_from_the_tables()
 {
     lawful_walk_finds_the_outcome()
 }
+
+/// The table words are a tree after every lawful history whose events speak of pages, with as many spare frames in use as
+/// Maps answered with a new table.
+pub fn tables_stay_a_tree()
+    ensures { (C : Setup) → IsLayout C.layout → length C.asids ≡ length C.layout.homes
+        → (H : History) → Lawful C H → HavePages H → IsTree C.layout (words_of C H) (used_spares H) }
+{}

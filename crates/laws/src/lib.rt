@@ -11,5 +11,5 @@ pub use laws::{
     finished_ticket_is_collected, open_orders_are_of_their_ticket, orders_are_known, orders_stay,
     orders_stay_open_until_finished, outstanding_counts_posts_and_collects, outstanding_is_bounded,
     posted_order_stands_among_the_posts, posts_are_of_their_order, posts_of_a_pair_differ,
-    serving_hart_is_not_walking, what_is_served_is_live, what_waits_is_live,
+    serving_hart_is_not_walking, tables_stay_a_tree, what_is_served_is_live, what_waits_is_live,
 };
