@@ -13,12 +13,13 @@ use Rattle.spaces.specs.Tree.{start_level, IsHome, IsTree}
 use Rattle.walk.specs.Pointers.{pointed}
 use Rattle.spaces.specs.Accepted.{Accepted}
 use Rattle.spaces.specs.Applied.{words_after, used_by_all}
+use Rattle.spaces.proofs.Homes.{sum-within}
 use Rattle.spaces.proofs.Lists.{slice_get-set_same, slice_get-set_other}
 use Rattle.spaces.proofs.Paths.{vpn-below}
 use Rattle.spaces.proofs.Stored.{is-word, stored-here, stored-there}
 use Rattle.spaces.proofs.Trees.{home-same}
 use Rattle.spaces.proofs.Accepting.{accepted, home-there}
-use Rattle.spaces.proofs.Keeping.{keeps-tree, sum-within, there}
+use Rattle.spaces.proofs.Keeping.{keeps-tree, there}
 use Rattle.spaces.proofs.OpeningTree.{word-is}
 
 abbrev pub used_list : List ℕ → ℕ → ℕ → List ℕ

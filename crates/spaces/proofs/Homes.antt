@@ -20,6 +20,18 @@ sum-take-step (x ∷ xs) (suc h) (suc k) less =
     let rest = sum-take-step xs h k (omega arith) in
     omega arith
 
+pub sum-within : (xs : List ℕ) (h : ℕ) → sum (take h xs) + slice_index xs h ≤ sum xs
+sum-within [] zero = omega arith
+sum-within [] (suc h) = omega arith
+sum-within (x ∷ xs) zero = let step : sum (x ∷ xs) ≡ x + sum xs = sum_by-cons (λ n. n) x xs in omega arith
+sum-within (x ∷ xs) (suc h) =
+    let step : sum (x ∷ xs) ≡ x + sum xs = sum_by-cons (λ n. n) x xs in
+    let front : sum (x ∷ take h xs) ≡ x + sum (take h xs) = sum_by-cons (λ n. n) x (take h xs) in
+    let rest = sum-within xs h in
+    omega arith
+
+pub ruleset sums = (sum-within)
+
 module _ (l : Layout) where
   pub root-range : (f : ℕ) → is_root l f ≡ true → (root_ppn l 0 ≤ f) × (f < root_ppn l (length l.homes))
   root-range f h =

@@ -1,9 +1,8 @@
 -- An accepted edit keeps the tree.
-use Rattle.std.proofs.Common.{◌≡◌, ℕ, zero, suc, ◌+◌, ◌-◌, ◌<◌, ◌≤◌, ◌⊎◌, ◌^◌, ◌==◌, cond, Bool, true, false, List, [], ◌∷◌, Some, None, sum, take, ap, sym, ◌∙◌, subst, refl, inl, inr, arith, is_some}
+use Rattle.std.proofs.Common.{◌≡◌, ℕ, ◌+◌, ◌-◌, ◌<◌, ◌≤◌, ◌⊎◌, ◌^◌, ◌==◌, cond, Bool, true, false, Some, None, ap, sym, ◌∙◌, subst, refl, inl, inr, arith, is_some}
 use Rattle.std.specs.Prelude.{slice_index, nat_lt, not}
 use Rattle.std.proofs.lemmas.Bool.{eqb-true}
 use Rattle.std.proofs.lemmas.Bool.Decides.{nat_tests}
-use Rattle.std.proofs.lemmas.List.Sums.{sum_by-cons}
 use Rattle.pte.specs.declared.flags.PteFlags.{PteFlags}
 use Rattle.pte.specs.declared.entry.Kind.{Kind}
 use Rattle.pte.specs.declared.entry.Kind.TheVariants as kinds
@@ -20,23 +19,13 @@ use Rattle.spaces.specs.Tree.{start_level, start_table, IsIn, table_on, IsAtHome
 use Rattle.walk.specs.Pointers.{pointed, pointed_kind}
 use Rattle.spaces.specs.Accepted.{Accepted, Writes, adds_table, adds_leaf, removes_leaf, changes_leaf}
 use Rattle.spaces.specs.Applied.{words_after, used_after, used_by_all, seven}
-use Rattle.spaces.proofs.Homes.{home-unique}
+use Rattle.spaces.proofs.Homes.{home-unique, sum-within}
 use Rattle.spaces.proofs.Paths.{on, On, same-path, SamePath, vpn-below}
 use Rattle.spaces.proofs.Stored.{stored-there}
 use Rattle.spaces.proofs.Trees.{IsPlace, home-leaf, home-pointer, home-same, kind-zero, is_global-zero, pointed-zero}
 use Rattle.pte.proofs.EntryKinds.{kind-table}
 use Rattle.spaces.proofs.EntryWords.{kind-stored, global-stored, pointed-table, global-table}
 use Rattle.spaces.proofs.Accepting.{home-there}
-
-pub sum-within : (xs : List ℕ) (h : ℕ) → sum (take h xs) + slice_index xs h ≤ sum xs
-sum-within [] zero = omega arith
-sum-within [] (suc h) = omega arith
-sum-within (x ∷ xs) zero = let step : sum (x ∷ xs) ≡ x + sum xs = sum_by-cons (λ n. n) x xs in omega arith
-sum-within (x ∷ xs) (suc h) =
-    let step : sum (x ∷ xs) ≡ x + sum xs = sum_by-cons (λ n. n) x xs in
-    let front : sum (x ∷ take h xs) ≡ x + sum (take h xs) = sum_by-cons (λ n. n) x (take h xs) in
-    let rest = sum-within xs h in
-    omega arith
 
 pub leaf-range : (word q : ℕ) (f : PteFlags) → kind_of word ≡ kinds.Leaf q f → q < 2 ^ ppn_bits
 unfolding kind_of

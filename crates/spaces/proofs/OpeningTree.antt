@@ -14,10 +14,9 @@ use Rattle.spaces.specs.Opening.{first_word, root_word, is_word, opening}
 use Rattle.spaces.specs.Held.{IsLayout}
 use Rattle.spaces.specs.Tree.{start_level, start_table, IsIn, table_on, IsAtHome, of_root, of_window, of_spare, IsOwn, IsEntryOf, IsHome, IsTree}
 use Rattle.walk.specs.Pointers.{pointed}
-use Rattle.spaces.proofs.Homes.{spare-own, window-own}
+use Rattle.spaces.proofs.Homes.{spare-own, sum-within, window-own}
 use Rattle.spaces.proofs.Paths.{above, vpn-below, some-same}
 use Rattle.spaces.proofs.Trees.{root-is, pointed-zero, kind-zero, is_global-zero}
-use Rattle.spaces.proofs.Keeping.{sum-within}
 
 -- a frame at home is a frame
 pub frame-is : (l : Layout) (h f : ℕ) → IsAtHome l h f → is_frame l f ≡ true

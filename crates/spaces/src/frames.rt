@@ -221,6 +221,7 @@ impl Memory {
     }
 
     /// The lowest unused spare frame of a hart.
+    #[tactic(auto, using(crate::proofs::Homes::sums))]
     pub(crate) fn spare(&self, hart: u8) -> Option<u64>
         ensures value { result ≡ spare_of self.now hart }
         ensures range { IfSome result (λ frame. frame < 2 ^ ppn_bits) }
