@@ -47,7 +47,7 @@ second_of true b rest e = absurd cc
 second_of false true rest e = absurd cc
 second_of false false rest e = refl
 
-halved : (C : Setup) (H : History) (hart : ℕ) (w : Wish) (store : Store) → edit_at C H hart w ≡ Ok store → is_wrong_half C.layout (place_of w) (page_of w) ≡ false
+pub halved : (C : Setup) (H : History) (hart : ℕ) (w : Wish) (store : Store) → edit_at C H hart w ≡ Ok store → is_wrong_half C.layout (place_of w) (page_of w) ≡ false
 unfolding edit_of wish_fault
 halved C H hart w store e = second_of _ (is_wrong_half C.layout (place_of w) (page_of w)) _ (unless_ok (wish_fault C.layout hart w) _ store e)
 

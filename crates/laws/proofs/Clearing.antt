@@ -24,7 +24,7 @@ use Rattle.laws.proofs.Holding.{lies_in, held_by, MappedSince, mapped_since}
 use Rattle.laws.proofs.Causes.{IsAsked, Follows, follows}
 
 -- what was mapped anew before still is
-anew_step : (C : Setup) (event : Event) (r : Reply) (H : History) (k : ℕ) (old : Bool) → anew_after C event r H k old ≡ false → old ≡ false
+pub anew_step : (C : Setup) (event : Event) (r : Reply) (H : History) (k : ℕ) (old : Bool) → anew_after C event r H k old ≡ false → old ≡ false
 anew_step C (Map hart place page ppn flags) r H k old e = (or_parts (is_leaf r && is_over_order (order_at C H k) place page) old e).1
 anew_step C _ r H k old e = e
 

@@ -40,7 +40,7 @@ superseded_step C (Protect hart place page flags named) r H k old e = (or_parts 
 superseded_step C _ r H k old e = e
 
 -- an order that follows a change of a page asks for the page
-follows_change : (C : Setup) (cause : Cause) (place : Place) (page : Span) (what : What) → IsChange cause place page → Follows C cause what → IsAsked C place page what
+pub follows_change : (C : Setup) (cause : Cause) (place : Place) (page : Span) (what : What) → IsChange cause place page → Follows C cause what → IsAsked C place page what
 follows_change C cause place page what change f =
     elim change [
       | inl e ↦ subst (λ (c : Cause). Follows C c what) e f

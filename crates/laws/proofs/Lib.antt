@@ -15,3 +15,6 @@ pub mod Holding
 pub mod Clearing
 pub mod Cohering
 pub mod TreeKept
+pub mod Halves
+pub mod Changing
+pub mod MapsKept

@@ -6,6 +6,7 @@ use Rattle.walk.specs.Maps.{Maps}
 use Rattle.spaces.specs.declared.places.Place.{Place}
 use Rattle.spaces.specs.declared.places.Place.TheVariants.{Space, Kernel}
 use Rattle.spaces.specs.Layout.{root_ppn}
+use Rattle.spaces.specs.Held.{IsLayout}
 use Rattle.spaces.specs.Edits.{is_wrong_half}
 use Rattle.tlb.specs.Fence.{asid_bits}
 use Rattle.tlb.specs.Mappings.{LiesIn}
@@ -33,6 +34,12 @@ pub record HasAsids (C : Setup) : Type 0 where
   pub some_space : 0 < length C.asids
   pub bound : (s : ℕ) → s < length C.asids → asid_of C s < 2 ^ asid_bits
   pub distinct : (s t : ℕ) → s < length C.asids → t < length C.asids → asid_of C s ≡ asid_of C t → s ≡ t
+
+-- what the laws ask of a setup: a layout within the limits, and an ASID of its own for each of its spaces
+pub record IsSetup (C : Setup) : Type 0 where
+  pub layout : IsLayout C.layout
+  pub homes : length C.asids ≡ length C.layout.homes
+  pub asids : HasAsids C
 
 -- nothing is mapped in the page of an unmapping, from any root of its place, until it is mapped anew
 abbrev pub StaysUnmapped : Setup → History → Type 0

@@ -24,7 +24,7 @@ ghost use Rattle.spaces.specs.Held.{IsLayout};
 ghost use Rattle.spaces.specs.Tree.{IsTree};
 ghost use Rattle.history.specs.Tables.{used_spares};
 ghost use Rattle.laws.specs.Fills.{Fills, FillsAcked};
-ghost use Rattle.laws.specs.Kept.{HasAsids, HavePages, StaysMapped, StaysUnmapped, UserPagesAreNotGlobal, WindowIsShared};
+ghost use Rattle.laws.specs.Kept.{HavePages, IsSetup, StaysMapped, StaysUnmapped, UserPagesAreNotGlobal, WindowIsShared};
 ghost use Rattle.laws.specs.Orders.{IsOrder, IsOpenedBy, Finishes};
 ghost use Rattle.laws.specs.Outstanding.{is_collectable, outstanding_after};
 ghost use Rattle.laws.specs.Posts.{IsAcceptedPost, IsLive, IsOwn, IsOfOther, AreOfDifferent, StandsIn, waiting_posts};
@@ -154,27 +154,39 @@ pub fn acknowledged_hart_holds_only_what_it_filled_since()
         → All (λ e. (is_served (what_asked (order_at C H k)) e ≡ false) ⊎ Sometime (FillsAcked C k h e) H) (entries_of C H h) }
 {}
 
-/// Clear of every order and hart, after every lawful history whose events speak of pages, if each space has an ASID of its
-/// own and the tables keep two things: an unmapped page stays unmapped until it is mapped anew, and no page of the user's
-/// half is mapped global.
-pub fn clear_follows_from_the_tables()
-    ensures { (C : Setup) → HasAsids C
-        → ((H : History) → Lawful C H → HavePages H → StaysUnmapped C H)
-        → ((H : History) → Lawful C H → HavePages H → UserPagesAreNotGlobal C H)
-        → (H : History) (k h : ℕ) → Lawful C H → HavePages H → Clear C H (entries_of C H h) k h }
+/// No page of the user's half is mapped global, from the root of any space.
+pub fn user_pages_are_not_global()
+    ensures { (C : Setup) → IsSetup C → (H : History) → Lawful C H → HavePages H → UserPagesAreNotGlobal C H }
+{}
+
+/// What is mapped in the window from one root is mapped from each.
+pub fn window_is_shared()
+    ensures { (C : Setup) → IsSetup C → (H : History) → Lawful C H → HavePages H → WindowIsShared C H }
+{}
+
+/// What is mapped in the page of an unmapping or a change of flags stays mapped until the page is unmapped or changed once more.
+pub fn mapped_page_stays_mapped()
+    ensures { (C : Setup) → IsSetup C → (turn : Turn) (H : History) → Lawful C (turn ∷ H) → HavePages (turn ∷ H) → StaysMapped C turn H }
+{}
+
+/// Nothing is mapped in the page of an unmapping until it is mapped anew.
+pub fn unmapped_page_stays_unmapped()
+    ensures { (C : Setup) → IsSetup C → (H : History) → Lawful C H → HavePages H → StaysUnmapped C H }
+{}
+
+/// Clear: once a hart that an unmapping names has acknowledged it, no entry of its TLB, of any size, translates an address of
+/// the page in its address space, until the page is mapped anew. It holds after every lawful history whose events speak of pages.
+pub fn unmapped_page_stays_clear()
+    ensures { (C : Setup) → IsSetup C → (H : History) (k h : ℕ) → Lawful C H → HavePages H → Clear C H (entries_of C H h) k h }
 {
     lawful_walk_finds_the_outcome()
 }
 
-/// Coherent of every order and hart, after every lawful history whose events speak of pages, if each space has an ASID of its
-/// own and the tables keep three things: no page of the user's half is mapped global, what is mapped in a page stays mapped
-/// until the page is unmapped or changed, and the window is mapped alike from each root.
-pub fn coherent_follows_from_the_tables()
-    ensures { (C : Setup) → HasAsids C
-        → ((H : History) → Lawful C H → HavePages H → UserPagesAreNotGlobal C H)
-        → ((turn : Turn) (H : History) → Lawful C (turn ∷ H) → HavePages (turn ∷ H) → StaysMapped C turn H)
-        → ((H : History) → Lawful C H → HavePages H → WindowIsShared C H)
-        → (H : History) (k h : ℕ) → Lawful C H → HavePages H → Coherent C H (entries_of C H h) k h }
+/// Coherent: once a hart that an unmapping or a change of flags names has acknowledged it, each mapping of the page that its TLB
+/// holds for its address space is mapped now, from each root of the place, until the page is unmapped or changed once more.
+/// It holds after every lawful history whose events speak of pages.
+pub fn changed_page_stays_coherent()
+    ensures { (C : Setup) → IsSetup C → (H : History) (k h : ℕ) → Lawful C H → HavePages H → Coherent C H (entries_of C H h) k h }
 {
     lawful_walk_finds_the_outcome()
 }

@@ -1,0 +1,145 @@
+-- What a turn of a lawful history does to the pages that the roots map.
+use Rattle.std.proofs.Common.{◌≡◌, ℕ, ◌<◌, Bool, true, cond, ◌||◌, not, ◌∷◌, Some, None, refl, ap, sym, ◌∙◌, subst, arith, nat_le, ◌-◌}
+use Rattle.std.specs.Prelude.{Result, Ok}
+use Rattle.std.proofs.lemmas.Bool.{not-false, leb-true}
+use Rattle.pte.specs.declared.flags.PteFlags.{PteFlags}
+use Rattle.pte.specs.declared.entry.Kind.TheVariants as kinds
+use Rattle.pte.specs.Address.{Span, IsPage, table_length, vpn_of}
+use Rattle.pte.specs.Entry.{kind_of, table_word}
+use Rattle.walk.specs.Leads.{Tables}
+use Rattle.walk.specs.Maps.{Maps}
+use Rattle.walk.specs.Pointers.{pointed_kind}
+use Rattle.spaces.specs.declared.places.Place.{Place}
+use Rattle.spaces.specs.declared.wishes.Wish.{Wish}
+use Rattle.spaces.specs.declared.wishes.Wish.TheVariants as wish
+use Rattle.spaces.specs.declared.faults.MapFault.{MapFault}
+use Rattle.spaces.specs.Layout.{Layout, is_root, window_ppn, first_window_slot}
+use Rattle.spaces.specs.Held.{IsLayout}
+use Rattle.spaces.specs.Opening.{opening, is_word, first_word, root_word}
+use Rattle.spaces.specs.Edits.{Store, place_of, page_of}
+use Rattle.spaces.specs.Effects.{SameMaps, AddsPage, RemovesPage, ChangesFlags, HasEffect}
+use Rattle.spaces.proofs.EditLaws.{edit-effect}
+use Rattle.spaces.proofs.EntryWords.{pointed-table}
+use Rattle.spaces.proofs.Paths.{some-same, vpn-below}
+use Rattle.spaces.proofs.Trees.{kind-zero}
+use Rattle.history.specs.Setup.{Setup}
+use Rattle.history.specs.declared.event.Event.{Event}
+use Rattle.history.specs.declared.event.Event.TheVariants.{Map, Unmap, Protect}
+use Rattle.history.specs.declared.reply.Reply.{Reply}
+use Rattle.history.specs.declared.refusal.Refusal.TheVariants.{NoHart, NoSpace}
+use Rattle.history.specs.Turns.{History, is_table, is_leaf, is_opened}
+use Rattle.history.specs.Orders.{page_request}
+use Rattle.history.specs.Tables.{words_of, used_spares, with_store}
+use Rattle.history.specs.Due.{is_place, edit_at, due, Lawful}
+use Rattle.laws.specs.Kept.{HasPage, HavePages, IsSetup}
+use Rattle.laws.proofs.Tools.{by_test}
+use Rattle.laws.proofs.Accepted.{turn_of, passed, opened_accepted}
+use Rattle.laws.proofs.Causes.{IsAsked, edit_made, halved}
+use Rattle.laws.proofs.TreeKept.{tree, is_edit, same_words, map_with, stored_accepted, opened_some}
+
+-- an edit's place and page, as an order asks for them
+abbrev pub IsEdited : Setup → Place → Span → Type 0
+IsEdited C place page = IsAsked C place page (page_request C place page)
+
+-- what a turn does to what the roots map: nothing, or what its edit says
+pub data Changes (C : Setup) (r : Reply) (old new : Tables) : Event → Type 0 where
+  keeps : (event : Event) → SameMaps C.layout old new → Changes C r old new event
+  adds : (hart : ℕ) (place : Place) (page : Span) (ppn : ℕ) (flags : PteFlags) → is_leaf r ≡ true → IsEdited C place page → AddsPage C.layout place page ppn flags old new
+      → Changes C r old new (Map hart place page ppn flags)
+  removes : (hart : ℕ) (place : Place) (page : Span) (named : ℕ) → is_opened r ≡ true → IsEdited C place page → RemovesPage C.layout place page old new
+      → Changes C r old new (Unmap hart place page named)
+  changes_flags : (hart : ℕ) (place : Place) (page : Span) (flags : PteFlags) (named : ℕ) → is_opened r ≡ true → IsEdited C place page → ChangesFlags C.layout place page flags old new
+      → Changes C r old new (Protect hart place page flags named)
+
+same_maps : (l : Layout) (words : Tables) → SameMaps l words words
+same_maps l words = λ s number ppn flags global has. (λ m. m, λ m. m)
+
+-- at the opening no root maps anything
+module _ (l : Layout) (fits : IsLayout l) where
+  zero_no_leaf : (q : ℕ) (flags : PteFlags) → kind_of 0 ≡ kinds.Leaf q flags → ⊥
+  zero_no_leaf q flags k = let bad : kinds.Invalid ≡ kinds.Leaf q flags = sym kind-zero ∙ k in cc
+
+  root_no_leaf : (i q : ℕ) (flags : PteFlags) → i < table_length → kind_of (root_word l i) ≡ kinds.Leaf q flags → ⊥
+  root_no_leaf i q flags less =
+      by_test (λ v. kind_of (cond v (table_word (window_ppn l (i - first_window_slot l)) true) 0) ≡ kinds.Leaf q flags → ⊥) (nat_le (first_window_slot l) i)
+      (λ t k. let from = leb-true (first_window_slot l) i t in
+      let points = pointed-table (window_ppn l (i - first_window_slot l)) true (omega (arith, fits.ppns_fit, fits.window, from)) in
+      let bad : Some (window_ppn l (i - first_window_slot l)) ≡ None = sym points ∙ ap pointed_kind k in cc)
+      (λ _. zero_no_leaf q flags)
+
+  no_leaf : (f i entry q : ℕ) (flags : PteFlags) → i < table_length → Some entry ≡ opening l f i → kind_of entry ≡ kinds.Leaf q flags → ⊥
+  no_leaf f i entry q flags less e kind =
+      by_test (λ v. Some entry ≡ cond v (Some (first_word l f i)) None → ⊥) (is_word l f i)
+      (λ _ is. first (ap kind_of (sym (some-same entry (first_word l f i) is)) ∙ kind))
+      (λ _ is. let bad : Some entry ≡ None = is in cc) e
+    where
+      first : kind_of (first_word l f i) ≡ kinds.Leaf q flags → ⊥
+      first = by_test (λ v. kind_of (cond v (root_word l i) 0) ≡ kinds.Leaf q flags → ⊥) (is_root l f) (λ _. root_no_leaf i q flags less) (λ _. zero_no_leaf q flags)
+
+  pub opening_maps_nothing : (root n ppn : ℕ) (flags : PteFlags) (global : Bool) → Maps (opening l) root n ppn flags global → ⊥
+  opening_maps_nothing root n ppn flags global m =
+      no_leaf m.table (vpn_of m.va m.level) m.entry m.leaf flags (vpn-below m.va m.level) m.leads.here m.kind
+
+module _ (C : Setup) (setup : IsSetup C) (H : History) (l : Lawful C H) (pages : HavePages H) where
+  -- an edit that is due, and what it does
+  edited : (hart : ℕ) (w : Wish) (store : Store) → is_place C (place_of w) ≡ true → IsPage (page_of w) → edit_at C H hart w ≡ Ok store → IsEdited C (place_of w) (page_of w)
+  edited hart w store there page is = record { there = there; right_half = halved C H hart w store is; is_page = page; asks = refl }
+
+  effect : (hart : ℕ) (w : Wish) (store : Store) → is_place C (place_of w) ≡ true → IsPage (page_of w) → edit_at C H hart w ≡ Ok store
+      → HasEffect C.layout w store (words_of C H) (with_store (words_of C H) (edit_at C H hart w))
+  effect hart w store there page is =
+      subst (λ (answer : Result Store MapFault). HasEffect C.layout w store (words_of C H) (with_store (words_of C H) answer)) (sym is)
+      (subst (λ (words : Tables). HasEffect C.layout w store (words_of C H) words) (same_words (words_of C H) store)
+      (edit-effect C.layout (words_of C H) (used_spares H) hart w store
+      (is_edit C H hart w store setup.layout setup.homes (tree C setup.layout setup.homes H l pages) there page is)))
+
+  pub map_changes : (hart : ℕ) (place : Place) (page : Span) (ppn : ℕ) (flags : PteFlags) (r : Reply) → r ≡ due C H (Map hart place page ppn flags) → IsPage page
+      → (is_table r || is_leaf r) ≡ true → Changes C r (words_of C H) (with_store (words_of C H) (edit_at C H hart (wish.Map place page ppn flags))) (Map hart place page ppn flags)
+  map_changes hart place page ppn flags r d is_page z =
+      let a = stored_accepted r z in
+      let p = passed _ NoHart _ r (sym d) a in
+      let q = passed (not (is_place C place)) NoSpace _ r p.1 a in
+      let there = not-false (is_place C place) q.0 in
+      let m = map_with (edit_at C H hart (wish.Map place page ppn flags)) r q.1 a in
+      let does = effect hart (wish.Map place page ppn flags) m.0 there is_page m.1 in
+      by_test (λ _. Changes C r (words_of C H) (with_store (words_of C H) (edit_at C H hart (wish.Map place page ppn flags))) (Map hart place page ppn flags)) (is_table r)
+      (λ t. keeps (Map hart place page ppn flags) (does.0 (sym m.2 ∙ t)))
+      (λ t. adds hart place page ppn flags (sym (ap (λ v. v || is_leaf r) t) ∙ z) (edited hart (wish.Map place page ppn flags) m.0 there is_page m.1) (does.1 (sym m.2 ∙ t)))
+
+  pub unmap_removes : (hart : ℕ) (place : Place) (page : Span) (named : ℕ) (r : Reply) → r ≡ due C H (Unmap hart place page named) → IsPage page → is_opened r ≡ true
+      → IsEdited C place page × RemovesPage C.layout place page (words_of C H) (with_store (words_of C H) (edit_at C H hart (wish.Unmap place page)))
+  unmap_removes hart place page named r d is_page z =
+      let t = opened_some r z in
+      let a = opened_accepted r t.0 t.1 in
+      let p = passed _ NoHart _ r (sym d) a in
+      let q = passed (not (is_place C place)) NoSpace _ r p.1 a in
+      let there = not-false (is_place C place) q.0 in
+      let m = edit_made (edit_at C H hart (wish.Unmap place page)) _ r t.0 q.1 t.1 in
+      (edited hart (wish.Unmap place page) m.0 there is_page m.1, effect hart (wish.Unmap place page) m.0 there is_page m.1)
+
+  protect_changes : (hart : ℕ) (place : Place) (page : Span) (flags : PteFlags) (named : ℕ) (r : Reply) → r ≡ due C H (Protect hart place page flags named) → IsPage page
+      → is_opened r ≡ true
+      → IsEdited C place page × ChangesFlags C.layout place page flags (words_of C H) (with_store (words_of C H) (edit_at C H hart (wish.Protect place page flags)))
+  protect_changes hart place page flags named r d is_page z =
+      let t = opened_some r z in
+      let a = opened_accepted r t.0 t.1 in
+      let p = passed _ NoHart _ r (sym d) a in
+      let q = passed (not (is_place C place)) NoSpace _ r p.1 a in
+      let there = not-false (is_place C place) q.0 in
+      let m = edit_made (edit_at C H hart (wish.Protect place page flags)) _ r t.0 q.1 t.1 in
+      (edited hart (wish.Protect place page flags) m.0 there is_page m.1, effect hart (wish.Protect place page flags) m.0 there is_page m.1)
+
+  pub changes : (event : Event) (r : Reply) → r ≡ due C H event → HasPage event → Changes C r (words_of C H) (words_of C (turn_of event r ∷ H)) event
+  changes (Map hart place page ppn flags) r d has =
+      by_test (λ v. Changes C r (words_of C H) (cond v (with_store (words_of C H) (edit_at C H hart (wish.Map place page ppn flags))) (words_of C H)) (Map hart place page ppn flags)) (is_table r || is_leaf r)
+      (map_changes hart place page ppn flags r d has)
+      (λ _. keeps (Map hart place page ppn flags) (same_maps C.layout (words_of C H)))
+  changes (Unmap hart place page named) r d has =
+      by_test (λ v. Changes C r (words_of C H) (cond v (with_store (words_of C H) (edit_at C H hart (wish.Unmap place page))) (words_of C H)) (Unmap hart place page named)) (is_opened r)
+      (λ z. let u = unmap_removes hart place page named r d has z in removes hart place page named z u.0 u.1)
+      (λ _. keeps (Unmap hart place page named) (same_maps C.layout (words_of C H)))
+  changes (Protect hart place page flags named) r d has =
+      by_test (λ v. Changes C r (words_of C H) (cond v (with_store (words_of C H) (edit_at C H hart (wish.Protect place page flags))) (words_of C H)) (Protect hart place page flags named)) (is_opened r)
+      (λ z. let u = protect_changes hart place page flags named r d has z in changes_flags hart place page flags named z u.0 u.1)
+      (λ _. keeps (Protect hart place page flags named) (same_maps C.layout (words_of C H)))
+  changes event r d has = keeps event (same_maps C.layout (words_of C H))
