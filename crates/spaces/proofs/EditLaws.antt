@@ -11,6 +11,17 @@ use Rattle.walk.specs.Leads.{Tables, Leads, word_at}
 use Rattle.spaces.specs.declared.wishes.Wish.{Wish}
 use Rattle.spaces.specs.declared.wishes.Wish.TheVariants.{Map, Unmap, Protect}
 use Rattle.spaces.specs.declared.places.Place.{Place}
+use Rattle.spaces.specs.declared.places.Place.TheVariants.{Space, Kernel}
+use Rattle.pte.specs.declared.address.PageSize.TheVariants.{Kib4}
+use Rattle.pte.proofs.EntryKinds.{kind-table}
+use Rattle.pte.specs.Address.{bytes_of, level_bytes, vpn_of}
+use Rattle.spaces.specs.Layout.{first_window_slot, user_slots}
+use Rattle.spaces.specs.Held.{IsLayout}
+use Rattle.spaces.specs.Tree.{start_table, IsIn}
+use Rattle.spaces.proofs.Ends.{path_end-below}
+use Rattle.spaces.proofs.Leaves.{member-of, window-word, window-fits}
+use Rattle.spaces.proofs.Numbers.{number-part, same-vpns}
+use Rattle.std.proofs.Common.{◌*◌, ◌/◌, IsTrue, ◌↔◌}
 use Rattle.walk.specs.Maps.{Maps}
 use Rattle.spaces.specs.Layout.{Layout, home_of, root_ppn}
 use Rattle.spaces.specs.Held.{spare_after}
@@ -127,3 +138,34 @@ map-keeps l words used hart place page first f store e s number ppn flags global
     by_pointer : (o : Option ℕ) → pointed (Some store.word) ≡ o → Maps (words_after words store) (root_ppn l s) number ppn flags global
     by_pointer (Some t) is = (effect.0 (ap is_some is) s number ppn flags global has).1 mapped
     by_pointer None is = (effect.1 (ap is_some is) s number ppn flags global has).1 (inl mapped)
+
+-- the kernel's paths may be read from the window's table
+pub kernel-path : (l : Layout) (words : Tables) (used : ℕ → ℕ) → IsLayout l → IsTree l words used → (s va lowest : ℕ) → s < length l.homes → IsIn l Kernel va → lowest < top_level
+    → path_end words va lowest (top_level - lowest) (root_ppn l s) ≡ path_end words va lowest (top_level - 1 - lowest) (start_table l Kernel va)
+kernel-path l words used fits tree s va lowest has inside low =
+    let word = window-word l fits words used tree s va has inside in
+    let kind : kind_of (unwrap_or (word_at words va top_level (root_ppn l s)) 0) ≡ kinds.Table (start_table l Kernel va) true =
+    ap (λ o. kind_of (unwrap_or o 0)) word ∙ kind-table (start_table l Kernel va) true (window-fits l fits words used tree va inside)
+    in
+    path_end-below words va lowest top_level (root_ppn l s) (start_table l Kernel va) true low kind
+
+abbrev InPart : Layout → Place → ℕ → Type 0
+InPart l (Space s) v = v < user_slots
+InPart l Kernel v = first_window_slot l ≤ v
+
+-- mappings are global in the window and nowhere else
+pub global-window : (l : Layout) (words : Tables) (used : ℕ → ℕ) → IsLayout l → IsTree l words used → (s number ppn : ℕ) (flags : PteFlags) (global : Bool) → s < length l.homes
+    → Maps words (root_ppn l s) number ppn flags global → IsTrue global ↔ (first_window_slot l ≤ vpn_of (number * bytes_of Kib4) top_level)
+global-window l words used fits tree s number ppn flags global has mapped =
+    let m = member-of l fits words used tree s number ppn flags global has mapped in
+    let page : m.va / level_bytes 0 ≡ number * 4096 / level_bytes 0 = m.of_page ∙ sym (number-part number) in
+    let slot : vpn_of m.va top_level ≡ vpn_of (number * 4096) top_level = same-vpns m.va (number * 4096) 0 top_level (omega arith) page in
+    by_place m.on.place (vpn_of m.va top_level) (vpn_of (number * 4096) top_level) slot m.reach (in-part m.on.place m.va m.on.within)
+  where
+    in-part : (place : Place) (va : ℕ) → IsIn l place va → InPart l place (vpn_of va top_level)
+    in-part (Space s') va h = h
+    in-part Kernel va h = h
+
+    by_place : (place : Place) (v w : ℕ) → v ≡ w → global ≡ is_kernel place → InPart l place v → IsTrue global ↔ (first_window_slot l ≤ w)
+    by_place (Space s') v w e is h = ((λ g. let bad : false ≡ true = sym is ∙ g in absurd cc), (λ from. absurd (omega (arith, fits.window))))
+    by_place Kernel v w e is h = ((λ g. omega arith), (λ from. is))

@@ -97,14 +97,14 @@ module _ (l : Layout) (fits : IsLayout l) (words : Tables) (used : ℕ → ℕ) 
   root-home : (s : ℕ) → s < length l.homes → IsHome l words (slice_index l.homes s) (used (slice_index l.homes s))
   root-home s has = tree (slice_index l.homes s) (fits.homes s 0 has)
 
-  window-word : (s va : ℕ) → s < length l.homes → IsIn l Kernel va → word_at words va top_level (root_ppn l s) ≡ Some (table_word (start_table l Kernel va) true)
+  pub window-word : (s va : ℕ) → s < length l.homes → IsIn l Kernel va → word_at words va top_level (root_ppn l s) ≡ Some (table_word (start_table l Kernel va) true)
   window-word s va has in-window =
       let slot = vpn-below va top_level in
       let k : vpn_of va top_level - first_window_slot l < l.window = omega (arith, fits.window) in
       let same : first_window_slot l + (vpn_of va top_level - first_window_slot l) ≡ vpn_of va top_level = omega (arith, fits.window) in
       ap (words (root_ppn l s)) (sym same) ∙ (root-home s has).window s (vpn_of va top_level - first_window_slot l) has refl k
 
-  window-fits : (va : ℕ) → IsIn l Kernel va → start_table l Kernel va < 2 ^ ppn_bits
+  pub window-fits : (va : ℕ) → IsIn l Kernel va → start_table l Kernel va < 2 ^ ppn_bits
   window-fits va in-window = let slot = vpn-below va top_level in omega (arith, fits.ppns_fit, fits.window)
 
   pub leaf-place : (s va level t entry leaf : ℕ) (flags : PteFlags) → s < length l.homes → Leads words (root_ppn l s) va level t (Some entry) → kind_of entry ≡ kinds.Leaf leaf flags

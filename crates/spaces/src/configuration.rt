@@ -2,7 +2,7 @@
 
 ghost use Rattle.std.specs.Prelude.{◌≡◌, ◌+◌, ◌≤◌, ◌<◌, ◌^◌, ◌↔◌, IsTrue, ◌==◌, All, length, sum};
 ghost use Rattle.std.specs.List.{list_any};
-ghost use Rattle.spaces.specs.Limits.{asids_differ};
+ghost use Rattle.spaces.specs.Limits.{asids_differ, max_harts};
 
 use arrayvec::ArrayVec;
 use pte::PPN_BITS;
@@ -38,25 +38,27 @@ pub struct Config {
     /// The number of harts, from 1 to 8.
     pub harts: u16,
     /// The spaces, at least one, with homes below the number of harts and different ASIDs.
-    pub spaces: ArrayVec<Space, 32>,
+    pub spaces: ArrayVec<Space, MAX_SPACES>,
     /// How many of the last slots of each root are the kernel window, from 1 to 4.
     pub window: u16,
     /// The PPN of the first table frame.
     pub base: u64,
     /// How many spare frames for new tables each hart has.
-    pub spares: ArrayVec<u16, 8>,
+    pub spares: ArrayVec<u16, MAX_HARTS>,
     /// The capacity of each mailbox, from 1 to 64.
     pub capacity: u16,
 }
 
+/// The sum of the numbers.
 pub(crate) fn total(spares: &[u16]) -> u64
-    requires { length spares.now ≤ 8 }
+    requires { length spares.now ≤ max_harts }
     ensures value { result ≡ sum spares.now }
     ensures bound { result < 2 ^ 32 }
 {
     spares.iter().map(|n| u64::from(*n)).sum()
 }
 
+/// Whether a space has the ASID.
 fn has_asid(spaces: &[Space], asid: u16) -> bool
     ensures { result ≡ list_any (λ s. s.asid == asid) spaces.now }
 {

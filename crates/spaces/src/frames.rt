@@ -4,13 +4,13 @@ ghost use Rattle.std.specs.Prelude.{◌≡◌, ◌+◌, ◌*◌, ◌<◌, ◌≤
 ghost use Rattle.pte.specs.Address.{table_length};
 ghost use Rattle.pte.specs.Entry.{ppn_bits};
 ghost use Rattle.spaces.specs.Layout.{frame_count, HasPlace, home_of, layout_of, root_ppn};
-ghost use Rattle.spaces.specs.Limits.{max_frames, MeetsLimits};
+ghost use Rattle.spaces.specs.Limits.{max_frames, max_harts, max_spaces, MeetsLimits};
 ghost use Rattle.spaces.specs.Opening.{first_word, first_words, is_word, opening};
 ghost use Rattle.walk.specs.Pointers.{pointed};
 ghost use Rattle.spaces.specs.Edits.{is_wrong_half, path_root};
 ghost use Rattle.spaces.specs.Held.{IsMemory, spare_of, word_index, words_of};
 
-use crate::configuration::{Config, Space, total};
+use crate::configuration::{Config, MAX_HARTS, MAX_SPACES, Space, total};
 use crate::faults::OpenFault;
 use crate::places::Place;
 use arrayvec::ArrayVec;
@@ -27,9 +27,9 @@ const USER_SLOTS: u16 = TABLE_LENGTH / 2;
 pub struct Memory {
     window: u16,
     base: u64,
-    homes: ArrayVec<u8, 32>,
-    spares: ArrayVec<u16, 8>,
-    used: ArrayVec<u16, 8>,
+    homes: ArrayVec<u8, MAX_SPACES>,
+    spares: ArrayVec<u16, MAX_HARTS>,
+    used: ArrayVec<u16, MAX_HARTS>,
     words: Vec<u64>,
 }
 
@@ -52,8 +52,8 @@ impl Model for Memory {
 }
 
 /// The homes of the spaces.
-fn homes_of(spaces: &[Space]) -> ArrayVec<u8, 32>
-    requires { length spaces.now ≤ 32 }
+fn homes_of(spaces: &[Space]) -> ArrayVec<u8, MAX_SPACES>
+    requires { length spaces.now ≤ max_spaces }
     ensures { result.items ≡ map (λ s. s.home) spaces.now }
 {
     let mut homes = ArrayVec::new();
@@ -64,8 +64,8 @@ fn homes_of(spaces: &[Space]) -> ArrayVec<u8, 32>
 }
 
 /// The spare frames of each hart.
-fn copy_of(spares: &[u16]) -> ArrayVec<u16, 8>
-    requires { length spares.now ≤ 8 }
+fn copy_of(spares: &[u16]) -> ArrayVec<u16, MAX_HARTS>
+    requires { length spares.now ≤ max_harts }
     ensures { result.items ≡ spares.now }
 {
     let mut copy = ArrayVec::new();
@@ -76,8 +76,8 @@ fn copy_of(spares: &[u16]) -> ArrayVec<u16, 8>
 }
 
 /// As many zeros.
-fn zeros(count: usize) -> ArrayVec<u16, 8>
-    requires { count ≤ 8 }
+fn zeros(count: usize) -> ArrayVec<u16, MAX_HARTS>
+    requires { count ≤ max_harts }
     ensures { result.items ≡ replicate count 0 }
 {
     let mut zeros = ArrayVec::new();
@@ -237,7 +237,7 @@ impl Memory {
 }
 
 /// Counts one more frame of a hart as used.
-fn count_frame(used: &mut ArrayVec<u16, 8>, hart: u8)
+fn count_frame(used: &mut ArrayVec<u16, MAX_HARTS>, hart: u8)
     requires there { hart < length used.old.items }
     requires room { slice_index used.old.items hart + 1 < 2 ^ 16 }
     ensures { used.new.items ≡ slice_set used.old.items hart (slice_index used.old.items hart + 1) }

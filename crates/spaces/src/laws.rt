@@ -1,8 +1,8 @@
 //! Laws of edits, over plain words: functions that do nothing, whose contracts are the laws.
 
-ghost use Rattle.std.specs.Prelude.{◌≡◌, ◌-◌, ◌<◌, ◌≤◌, ◌≢◌, ℕ, Bool, length};
+ghost use Rattle.std.specs.Prelude.{◌≡◌, ◌-◌, ◌<◌, ◌≤◌, ◌↔◌, ◌*◌, ℕ, Bool, IsTrue, length};
 ghost use Rattle.pte.specs.declared.flags.PteFlags.{PteFlags};
-ghost use Rattle.pte.specs.Address.{top_level};
+ghost use Rattle.pte.specs.Address.{bytes_of, top_level, vpn_of};
 ghost use Rattle.walk.specs.Leads.{Tables};
 ghost use Rattle.walk.specs.Maps.{Maps};
 ghost use Rattle.spaces.specs.declared.configuration.Config.{Config as Configuration};
@@ -10,12 +10,14 @@ ghost use Rattle.spaces.specs.declared.places.Place.{Place as PlaceOf};
 ghost use Rattle.spaces.specs.declared.wishes.Wish.{Wish as WishOf};
 ghost use Rattle.spaces.specs.declared.wishes.Wish.TheVariants as wish;
 ghost use Rattle.pte.specs.Address.{Span};
-ghost use Rattle.spaces.specs.Layout.{Layout, home_of, layout_of, root_ppn};
+ghost use Rattle.spaces.specs.Layout.{first_window_slot, Layout, home_of, layout_of, root_ppn};
 ghost use Rattle.spaces.specs.Limits.{max_frames, MeetsLimits};
 ghost use Rattle.spaces.specs.Opening.{opening};
 ghost use Rattle.spaces.specs.Held.{IsLayout, spare_after};
 ghost use Rattle.spaces.specs.Edits.{path_end, place_of, Store};
-ghost use Rattle.spaces.specs.Tree.{IsAtHome, IsTree};
+ghost use Rattle.spaces.specs.Tree.{IsAtHome, IsIn, IsTree, start_table};
+ghost use Rattle.spaces.specs.declared.places.Place.TheVariants.{Kernel as kernel};
+ghost use Rattle.pte.specs.declared.address.PageSize.TheVariants.{Kib4};
 ghost use Rattle.spaces.specs.Accepted.{Accepted};
 ghost use Rattle.spaces.specs.Applied.{used_by_all, words_after};
 ghost use Rattle.spaces.specs.Effects.{HasEffect, IsAbout, IsEdit, IsEnd};
@@ -79,4 +81,19 @@ pub fn map_keeps_mappings()
         → IsEdit l words used hart (wish.Map place page first f) store
         → (s number ppn : ℕ) (flags : PteFlags) (global : Bool) → s < length l.homes
         → Maps words (root_ppn l s) number ppn flags global → Maps (words_after words store) (root_ppn l s) number ppn flags global }
+{}
+
+/// In a tree a path of the kernel, of a page that is no top-level one, may be read from the window's own table: it ends
+/// where the path from any root ends.
+pub fn kernel_path_starts_in_the_window()
+    ensures { (l : Layout) (words : Tables) (used : ℕ → ℕ) → IsLayout l → IsTree l words used → (s va lowest : ℕ) → s < length l.homes
+        → IsIn l kernel va → lowest < top_level
+        → path_end words va lowest (top_level - lowest) (root_ppn l s) ≡ path_end words va lowest (top_level - 1 - lowest) (start_table l kernel va) }
+{}
+
+/// In a tree what is mapped is global exactly in the window.
+pub fn window_is_global()
+    ensures { (l : Layout) (words : Tables) (used : ℕ → ℕ) → IsLayout l → IsTree l words used
+        → (s number ppn : ℕ) (flags : PteFlags) (global : Bool) → s < length l.homes → Maps words (root_ppn l s) number ppn flags global
+        → IsTrue global ↔ (first_window_slot l ≤ vpn_of (number * bytes_of Kib4) top_level) }
 {}

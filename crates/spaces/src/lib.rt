@@ -17,8 +17,8 @@ pub use faults::{MapFault, OpenFault};
 pub use frames::Memory;
 pub use laws::{
     edit_changes_its_page, edit_is_accepted, edit_keeps_tree, edit_stays_at_home, home_is_one,
-    limits_give_layout, map_keeps_mappings, opening_is_tree, path_ends_lowest,
-    unmapped_page_is_gone,
+    kernel_path_starts_in_the_window, limits_give_layout, map_keeps_mappings, opening_is_tree,
+    path_ends_lowest, unmapped_page_is_gone, window_is_global,
 };
 pub use places::Place;
 pub use wishes::Wish;
