@@ -18,3 +18,4 @@ pub mod TreeKept
 pub mod Halves
 pub mod Changing
 pub mod MapsKept
+pub mod Setups

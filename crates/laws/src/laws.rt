@@ -1,13 +1,13 @@
 //! Laws of all lawful histories. Each function does nothing, and its contract is the law.
 
-ghost use Rattle.std.specs.Prelude.{ℕ, ◌≡◌, ◌⊎◌, ◌<◌, ◌≤◌, ◌∷◌, ◌++◌, length, true, false, not, None, Some, All};
+ghost use Rattle.std.specs.Prelude.{ℕ, ◌≡◌, ◌⊎◌, ◌<◌, ◌≤◌, ◌^◌, ◌∷◌, ◌++◌, length, true, false, not, None, Some, All};
 ghost use Rattle.std.specs.List.{AllPairs, AllPass};
 ghost use Rattle.walk.specs.Maps.{Maps};
 ghost use Rattle.spaces.specs.Layout.{root_ppn};
 ghost use Rattle.tlb.specs.declared.store.Entry.{Entry};
 ghost use Rattle.tlb.specs.Mappings.{Mapping, IsMappingOf};
 ghost use Rattle.tlb.specs.Service.{is_served};
-ghost use Rattle.history.specs.Setup.{Setup};
+ghost use Rattle.history.specs.Setup.{Setup, setup_of};
 ghost use Rattle.history.specs.Turns.{Turn, History, is_progress};
 ghost use Rattle.history.specs.Orders.{Order, order_at, open_order, what_asked};
 ghost use Rattle.history.specs.declared.event.Event.TheVariants.{Collect};
@@ -21,6 +21,9 @@ ghost use Rattle.history.specs.Staleness.{Clear, Coherent};
 ghost use Rattle.history.specs.Acknowledgements.{is_posted, is_acked, is_collected, outstanding};
 ghost use Rattle.history.specs.Due.{Lawful, names};
 ghost use Rattle.spaces.specs.Held.{IsLayout};
+ghost use Rattle.spaces.specs.declared.configuration.Config.{Config as Configuration};
+ghost use Rattle.spaces.specs.Limits.{max_frames, MeetsLimits};
+ghost use Rattle.tlb.specs.Fence.{asid_bits};
 ghost use Rattle.spaces.specs.Tree.{IsTree};
 ghost use Rattle.history.specs.Tables.{used_spares};
 ghost use Rattle.laws.specs.Fills.{Fills, FillsAcked};
@@ -152,6 +155,11 @@ pub fn acknowledgement_leaves_nothing_of_the_request()
 pub fn acknowledged_hart_holds_only_what_it_filled_since()
     ensures { (C : Setup) (H : History) (k h : ℕ) → Lawful C H → is_acked C H k h ≡ true
         → All (λ e. (is_served (what_asked (order_at C H k)) e ≡ false) ⊎ Sometime (FillsAcked C k h e) H) (entries_of C H h) }
+{}
+
+/// A configuration within the limits, with ASIDs of 16 bits, makes a setup that the laws below are about.
+pub fn limits_give_setup()
+    ensures { (c : Configuration) → MeetsLimits max_frames c → All (λ s. s.asid < 2 ^ asid_bits) c.spaces.items → IsSetup (setup_of c) }
 {}
 
 /// No page of the user's half is mapped global, from the root of any space.
