@@ -23,15 +23,10 @@ use Rattle.history.specs.Due.{Lawful}
 use Rattle.history.specs.Staleness.{is_superseded, superseded_after, IsChange, IsForPlace, Coherent, is_over_order, IsAsidOf, IsRootOf}
 use Rattle.laws.specs.Kept.{StaysMapped, WindowIsShared, HavePages, HasAsids, UserPagesAreNotGlobal}
 use Rattle.laws.proofs.Orders.{orders_stay}
-use Rattle.laws.proofs.Fresh.{FindsOutcomes}
 use Rattle.laws.proofs.Holding.{held_by, MappedSince, mapped_since}
 use Rattle.laws.proofs.Causes.{IsAsked, Follows, follows}
 use Rattle.pte.specs.declared.flags.PteFlags.{PteFlags}
-use Rattle.spaces.specs.declared.places.Place.TheVariants.{Space, Kernel}
-use Rattle.spaces.specs.Layout.{root_ppn}
-use Rattle.pte.specs.Address.{bytes_of}
-use Rattle.pte.specs.declared.address.PageSize.TheVariants.{Kib4}
-use Rattle.laws.proofs.Fresh.{numbered}
+use Rattle.laws.proofs.Fresh.{FindsOutcomes, numbered}
 
 -- what was superseded before still is
 superseded_step : (C : Setup) (event : Event) (r : Reply) (H : History) (k : ℕ) (old : Bool) → superseded_after C event r H k old ≡ false → old ≡ false
