@@ -1,1 +1,2 @@
 pub mod BoxReplies
+pub mod BoxesAfter
