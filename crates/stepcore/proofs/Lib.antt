@@ -1,2 +1,3 @@
 pub mod BoxReplies
 pub mod BoxesAfter
+pub mod SetupKept
