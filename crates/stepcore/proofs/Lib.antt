@@ -1,1 +1,2 @@
 pub mod TicketsHeld
+pub mod TicketMarks
