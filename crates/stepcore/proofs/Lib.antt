@@ -1,2 +1,3 @@
 pub mod TicketsHeld
 pub mod TicketMarks
+pub mod TicketReplies
