@@ -1,3 +1,6 @@
+pub mod TicketsHeld
+pub mod TicketMarks
+pub mod TicketReplies
 pub mod BoxReplies
 pub mod BoxesAfter
 pub mod SetupKept
