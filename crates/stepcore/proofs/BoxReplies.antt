@@ -7,7 +7,7 @@ use Rattle.walk.specs.Stage.{Stage}
 use Rattle.shoot.specs.Request.{Message}
 use Rattle.shoot.specs.HartSet.{contains}
 use Rattle.shoot.specs.Mailbox.{MailboxState, post_fault}
-use Rattle.shoot.specs.Tickets.{TicketTable, ticket_at, tells}
+use Rattle.shoot.specs.Tickets.{TicketTable, tells}
 use Rattle.shoot.specs.declared.TheConstants.{MAX_HARTS}
 use Rattle.shoot.specs.declared.mailbox.PostFault.TheVariants as fault
 use Rattle.shoot.specs.declared.tickets.Ticket.{Ticket}
@@ -30,11 +30,8 @@ use Rattle.laws.proofs.Orders.{open_known}
 use Rattle.stepcore.specs.declared.serving.Serving.{Serving as Service}
 use Rattle.stepcore.specs.State.{State, IsMachine, setup_in, hart_at, mailbox_at}
 use Rattle.stepcore.specs.Answers.{reply_to, post_answer, box_answer, next_answer}
-use Rattle.stepcore.specs.Stands.{Stands, AreSameWalk, service_with, ticket_held, ticket_of, tickets_of, mailbox_of}
-
--- a table of tickets tells what the history says of each open order
-abbrev pub TicketsHeld : Setup → History → Type 0
-TicketsHeld C H = (s t : ℕ) → ticket_at (tickets_of C H s) t ≡ ticket_of C H s t
+use Rattle.stepcore.specs.Stands.{Stands, AreSameWalk, service_with, ticket_held, tickets_of, mailbox_of}
+use Rattle.stepcore.proofs.TicketsHeld.{ticket_told}
 
 -- two answers behind a test that differ only where it passes
 pub refuse_same : (test : Bool) (why : Refusal) (a b : Reply) → (test ≡ false → a ≡ b) → refuse test why a ≡ refuse test why b
@@ -102,11 +99,11 @@ module _ (C : Setup) (m : State) (H : History) (st : Stands C m H) (is : IsMachi
   pub order_of : (s t k : ℕ) → open_order H s t ≡ Some k → (order : Order) × (order_at C H k ≡ Some order)
   order_of s t k e = let o = open_known C H s t k st.lawful e in (o.order, o.is)
 
-  pub post_reply_due : TicketsHeld C H → (s t h : ℕ) → reply_to m (Post s t h) ≡ due C H (Post s t h)
-  post_reply_due held s t h = pair_same s h _ _ (λ ls lh.
+  pub post_reply_due : (s t h : ℕ) → reply_to m (Post s t h) ≡ due C H (Post s t h)
+  post_reply_due s t h = pair_same s h _ _ (λ ls lh.
       ap (λ (table : TicketTable). post_answer table (mailbox_at m s h) t h) (st.tickets s ls)
       ∙ ap (λ (box : MailboxState). post_answer (tickets_of C H s) box t h) (st.mailboxes s h ls lh)
-      ∙ ap (λ (ticket : Option Ticket). post_with ticket (mailbox_of C H s h) h) (held s t)
+      ∙ ap (λ (ticket : Option Ticket). post_with ticket (mailbox_of C H s h) h) (ticket_told C H s t st.lawful)
       ∙ post_due C H s h (open_order H s t) (hart_below h lh) (λ k e. order_of s t k e))
 
   pub take_reply_due : (h s : ℕ) → reply_to m (Take h s) ≡ due C H (Take h s)

@@ -5,11 +5,10 @@ use Rattle.std.proofs.lemmas.Bool.{and_parts, and_from, eqb-true, eq-eqb, false�
 use Rattle.std.proofs.lemmas.Bool.Decides.{nat_tests}
 use Rattle.std.proofs.lemmas.List.{append-nil, length-map, drop-append-le}
 use Rattle.pte.specs.declared.address.What.{What}
-use Rattle.pte.specs.declared.address.What.TheVariants.{All}
 use Rattle.spaces.proofs.Lists.{slice_get-set_same, slice_get-set_other}
 use Rattle.shoot.specs.Request.{Message}
 use Rattle.shoot.specs.Mailbox.{MailboxState, empty_mailbox, after_post, after_take, after_release, after_close, can_release, with_message}
-use Rattle.shoot.specs.Tickets.{TicketTable, tells, asked}
+use Rattle.shoot.specs.Tickets.{TicketTable, tells}
 use Rattle.shoot.specs.declared.TheConstants.{MAX_HARTS}
 use Rattle.shoot.specs.declared.tickets.Ticket.{Ticket}
 use Rattle.shoot.proofs.HartSets.{contains_where}
@@ -20,7 +19,7 @@ use Rattle.history.specs.declared.refusal.Refusal.TheVariants.{NoHart}
 use Rattle.history.specs.declared.reply.Reply.{Reply}
 use Rattle.history.specs.declared.reply.Reply.TheVariants as reply
 use Rattle.history.specs.Turns.{History, is_progress, are_same}
-use Rattle.history.specs.Orders.{Order, order_at, open_order, what_asked, what_of}
+use Rattle.history.specs.Orders.{Order, order_at, open_order, what_of}
 use Rattle.history.specs.Mailboxes.{Sent, sent_of, posts, accepted, taken, waiting, is_closed}
 use Rattle.history.specs.Acknowledgements.{is_acked, is_collected, outstanding}
 use Rattle.history.specs.Due.{due}
@@ -33,8 +32,9 @@ use Rattle.laws.proofs.Posts.{taken_within}
 use Rattle.laws.proofs.Outstanding.{counts, can_release as releases}
 use Rattle.stepcore.specs.State.{State, IsMachine, mailbox_index, tickets_at, mailbox_at}
 use Rattle.stepcore.specs.Changes.{what_in, is_collectable as is_collectable_in, mailboxes_after}
-use Rattle.stepcore.specs.Stands.{Stands, ticket_with, ticket_held, mailbox_of}
-use Rattle.stepcore.proofs.BoxReplies.{TicketsHeld, pair_parts, hart_below, order_of}
+use Rattle.stepcore.specs.Stands.{Stands, ticket_held, mailbox_of}
+use Rattle.stepcore.proofs.TicketsHeld.{ticket_told, what_told}
+use Rattle.stepcore.proofs.BoxReplies.{pair_parts, hart_below, order_of}
 
 abbrev boxed : List Message → ℕ → Bool → ℕ → MailboxState
 boxed waiting outstanding closed capacity = record { waiting = waiting; outstanding = outstanding; closed = closed; capacity = capacity }
@@ -66,15 +66,6 @@ box_put xs a b s h v n la lb lh =
     let q = same_place a b s h lb lh i in
     false≢true (sym e ∙ and_from (eqb a s) (eqb b h) (eq-eqb a s q.0) (eq-eqb b h q.1)))))
 
--- what a ticket asks is what its order asks
-what_with : (C : Setup) (H : History) (k : ℕ) (o : Option Order) → unwrap_or (asked (ticket_with C H k o)) All ≡ what_asked o
-what_with C H k None = refl
-what_with C H k (Some order) = refl
-
-what_held : (C : Setup) (H : History) (o : Option ℕ) → unwrap_or (asked (ticket_held C H o)) All ≡ what_of C H o
-what_held C H None = refl
-what_held C H (Some k) = what_with C H k (order_at C H k)
-
 -- the requests that wait, once one is accepted and once one is taken
 waits_more : (C : Setup) (H : History) (s t k n : ℕ) (xs : List Sent) (o : Option ℕ) → o ≡ Some k → n ≤ length xs
     → drop n (map request_of xs) ++ record { ticket = t; what = what_of C H o } ∷ [] ≡ drop n (map request_of (xs ++ sent_of C H s t o))
@@ -102,11 +93,10 @@ module _ (C : Setup) (m : State) (H : History) (st : Stands C m H) (is : IsMachi
       (λ e _. let p = and_parts (eqb a s) (eqb b h) e in f (eqb-true a s p.0) (eqb-true b h p.1))
       (λ _ _. st.mailboxes s h ls lh) refl
 
-  what_asks : TicketsHeld C H → (s t : ℕ) → s < C.harts → what_in (tickets_at m s) t ≡ what_of C H (open_order H s t)
-  what_asks held s t ls =
+  what_asks : (s t : ℕ) → s < C.harts → what_in (tickets_at m s) t ≡ what_of C H (open_order H s t)
+  what_asks s t ls =
       ap (λ (table : TicketTable). what_in table t) (st.tickets s ls)
-      ∙ ap (λ (ticket : Option Ticket). unwrap_or (asked ticket) All) (held s t)
-      ∙ what_held C H (open_order H s t)
+      ∙ what_told C H s t st.lawful
 
   close_boxes : (a b : ℕ) (r : Reply) → r ≡ due C H (Close a b) → (s h : ℕ) → s < C.harts → h < C.harts
       → box_in (mailboxes_after m (Close a b) r) s h ≡ mailbox_of C (with_turn (Close a b) r H) s h
@@ -142,16 +132,16 @@ module _ (C : Setup) (m : State) (H : History) (st : Stands C m H) (is : IsMachi
       not_full : (capacity n : ℕ) → n < capacity → leb capacity n ≡ false
       not_full capacity n l = grind (arith, nat_tests)
 
-  post_boxes : TicketsHeld C H → (a t b : ℕ) (r : Reply) → r ≡ due C H (Post a t b) → (s h : ℕ) → s < C.harts → h < C.harts
+  post_boxes : (a t b : ℕ) (r : Reply) → r ≡ due C H (Post a t b) → (s h : ℕ) → s < C.harts → h < C.harts
       → box_in (mailboxes_after m (Post a t b) r) s h ≡ mailbox_of C (with_turn (Post a t b) r H) s h
-  post_boxes held a t b reply.Ok d s h ls lh =
+  post_boxes a t b reply.Ok d s h ls lh =
       let p = pair_parts C a b (passed _ NoHart _ reply.Ok (sym d) refl).0 in
       let f = post_found C H a t b reply.Ok d refl in
       let x : Message = record { ticket = t; what = what_of C H (open_order H a t) } in
       let new = sent_of C H a t (open_order H a t) in
       put_stands a b s h (after_post (mailbox_at m a b) (record { ticket = t; what = what_in (tickets_at m a) t })) (with_message (mailbox_of C H s h) x) p.first p.second ls lh
       (λ ea eb.
-      ap (λ (w : What). after_post (mailbox_at m a b) (record { ticket = t; what = w })) (what_asks held a t p.first)
+      ap (λ (w : What). after_post (mailbox_at m a b) (record { ticket = t; what = w })) (what_asks a t p.first)
       ∙ ap (λ (box : MailboxState). after_post box x) (st.mailboxes a b p.first p.second)
       ∙ posted a t b d x
       ∙ rw (ea, eb) refl)
@@ -162,7 +152,7 @@ module _ (C : Setup) (m : State) (H : History) (st : Stands C m H) (is : IsMachi
       (λ _. refl)
       ∙ ap (λ (n : ℕ). boxed (waiting C (with_turn (Post a t b) reply.Ok H) s h) n (is_closed H s h) C.capacity)
       (sym (counts C (record { event = Post a t b; reply = reply.Ok }) H s h (st.lawful, d)))
-  post_boxes held a t b _ d s h ls lh = st.mailboxes s h ls lh
+  post_boxes a t b _ d s h ls lh = st.mailboxes s h ls lh
 
   ack_self_boxes : (b t : ℕ) (r : Reply) → r ≡ due C H (AckSelf b t) → (s h : ℕ) → s < C.harts → h < C.harts
       → mailbox_at m s h ≡ mailbox_of C (with_turn (AckSelf b t) r H) s h
@@ -176,10 +166,10 @@ module _ (C : Setup) (m : State) (H : History) (st : Stands C m H) (is : IsMachi
   collectable_with None h l f = refl
   collectable_with (Some k) h l f = rw ((f k refl).1, contains_where (is_acked C H k) h l, contains_where (is_collected C H k) h l) refl
 
-  collectable_is : TicketsHeld C H → (s t h : ℕ) → s < C.harts → h < C.harts → is_collectable_in (tickets_at m s) t h ≡ is_collectable C H (open_order H s t) h
-  collectable_is held s t h ls lh =
+  collectable_is : (s t h : ℕ) → s < C.harts → h < C.harts → is_collectable_in (tickets_at m s) t h ≡ is_collectable C H (open_order H s t) h
+  collectable_is s t h ls lh =
       ap (λ (table : TicketTable). is_collectable_in table t h) (st.tickets s ls)
-      ∙ ap (λ (x : Option Ticket). tells (λ (y : Ticket). y.acked) x h && not (tells (λ (y : Ticket). y.collected) x h)) (held s t)
+      ∙ ap (λ (x : Option Ticket). tells (λ (y : Ticket). y.acked) x h && not (tells (λ (y : Ticket). y.collected) x h)) (ticket_told C H s t st.lawful)
       ∙ collectable_with (open_order H s t) h (hart_below C m H st is h lh) (λ k e. order_of C m H st is s t k e)
 
   -- the mailbox of the history once this many are outstanding
@@ -187,14 +177,14 @@ module _ (C : Setup) (m : State) (H : History) (st : Stands C m H) (is : IsMachi
   counted s h n = boxed (waiting C H s h) n (is_closed H s h) C.capacity
 
   -- an acknowledgement is collected exactly where there is one to collect
-  collect_put : TicketsHeld C H → (a t b : ℕ) (r : Reply) → r ≡ due C H (Collect a t b) → is_progress r ≡ true → (s h : ℕ) → s < C.harts → h < C.harts
+  collect_put : (a t b : ℕ) (r : Reply) → r ≡ due C H (Collect a t b) → is_progress r ≡ true → (s h : ℕ) → s < C.harts → h < C.harts
       → box_in (cond (is_collectable_in (tickets_at m a) t b && can_release (mailbox_at m a b)) (slice_set m.mailboxes (mailbox_index a b) (after_release (mailbox_at m a b))) m.mailboxes) s h
       ≡ counted s h (cond (are_same a b s h && is_collectable C H (open_order H a t) b) (outstanding C H s h - 1) (outstanding C H s h))
-  collect_put held a t b r d z s h ls lh =
+  collect_put a t b r d z s h ls lh =
       let p = pair_parts C a b (passed _ NoHart _ r (sym d) (progress_accepted r z)).0 in
       let collectable = is_collectable C H (open_order H a t) b in
       let released = slice_set m.mailboxes (mailbox_index a b) (after_release (mailbox_at m a b)) in
-      ap (λ (v : Bool). box_in (cond (v && can_release (mailbox_at m a b)) released m.mailboxes) s h) (collectable_is held a t b p.first p.second)
+      ap (λ (v : Bool). box_in (cond (v && can_release (mailbox_at m a b)) released m.mailboxes) s h) (collectable_is a t b p.first p.second)
       ∙ by_test (λ v. box_in (cond (v && can_release (mailbox_at m a b)) released m.mailboxes) s h ≡ counted s h (cond (are_same a b s h && v) (outstanding C H s h - 1) (outstanding C H s h))) collectable
       (λ e.
       let less = releases C H a t b r (st.lawful, d) z e in
@@ -207,22 +197,22 @@ module _ (C : Setup) (m : State) (H : History) (st : Stands C m H) (is : IsMachi
       (λ _. st.mailboxes s h ls lh
       ∙ by_test (λ v. mailbox_of C H s h ≡ counted s h (cond (v && false) (outstanding C H s h - 1) (outstanding C H s h))) (are_same a b s h) (λ _. refl) (λ _. refl))
 
-  collect_boxes : TicketsHeld C H → (a t b : ℕ) (r : Reply) → r ≡ due C H (Collect a t b) → (s h : ℕ) → s < C.harts → h < C.harts
+  collect_boxes : (a t b : ℕ) (r : Reply) → r ≡ due C H (Collect a t b) → (s h : ℕ) → s < C.harts → h < C.harts
       → box_in (mailboxes_after m (Collect a t b) r) s h ≡ mailbox_of C (with_turn (Collect a t b) r H) s h
-  collect_boxes held a t b r d s h ls lh =
+  collect_boxes a t b r d s h ls lh =
       let collectable = is_collectable C H (open_order H a t) b in
       let released = slice_set m.mailboxes (mailbox_index a b) (after_release (mailbox_at m a b)) in
       by_test (λ v. v ≡ is_progress r → box_in (cond (v && (is_collectable_in (tickets_at m a) t b && can_release (mailbox_at m a b))) released m.mailboxes) s h
       ≡ counted s h (cond (v && (are_same a b s h && collectable)) (outstanding C H s h - 1) (outstanding C H s h))) (is_progress r)
-      (λ z _. collect_put held a t b r d z s h ls lh)
+      (λ z _. collect_put a t b r d z s h ls lh)
       (λ _ _. st.mailboxes s h ls lh) refl
       ∙ ap (counted s h) (sym (counts C (record { event = Collect a t b; reply = r }) H s h (st.lawful, d)))
 
-  pub mailboxes_stand : TicketsHeld C H → (event : Event) (r : Reply) → r ≡ due C H event → (s h : ℕ) → s < C.harts → h < C.harts
+  pub mailboxes_stand : (event : Event) (r : Reply) → r ≡ due C H event → (s h : ℕ) → s < C.harts → h < C.harts
       → unwrap_or (slice_get (mailboxes_after m event r) (mailbox_index s h)) (empty_mailbox 0) ≡ mailbox_of C (with_turn event r H) s h
-  mailboxes_stand held (Post a t b) r d s h ls lh = post_boxes held a t b r d s h ls lh
-  mailboxes_stand held (Take b a) r d s h ls lh = take_boxes b a r d s h ls lh
-  mailboxes_stand held (AckSelf b t) r d s h ls lh = ack_self_boxes b t r d s h ls lh
-  mailboxes_stand held (Collect a t b) r d s h ls lh = collect_boxes held a t b r d s h ls lh
-  mailboxes_stand held (Close a b) r d s h ls lh = close_boxes a b r d s h ls lh
-  mailboxes_stand held _ r d s h ls lh = st.mailboxes s h ls lh
+  mailboxes_stand (Post a t b) r d s h ls lh = post_boxes a t b r d s h ls lh
+  mailboxes_stand (Take b a) r d s h ls lh = take_boxes b a r d s h ls lh
+  mailboxes_stand (AckSelf b t) r d s h ls lh = ack_self_boxes b t r d s h ls lh
+  mailboxes_stand (Collect a t b) r d s h ls lh = collect_boxes a t b r d s h ls lh
+  mailboxes_stand (Close a b) r d s h ls lh = close_boxes a b r d s h ls lh
+  mailboxes_stand _ r d s h ls lh = st.mailboxes s h ls lh
