@@ -4,3 +4,4 @@ pub mod TicketReplies
 pub mod BoxReplies
 pub mod BoxesAfter
 pub mod SetupKept
+pub mod Running
