@@ -38,7 +38,7 @@ pub refuse_same : (test : Bool) (why : Refusal) (a b : Reply) → (test ≡ fals
 refuse_same true why a b f = refl
 refuse_same false why a b f = f refl
 
--- what a pair of harts is
+-- both harts of a pair are there
 pub record IsPair (C : Setup) (a b : ℕ) : Type 0 where
   pub first : a < C.harts
   pub second : b < C.harts
@@ -49,10 +49,10 @@ pair_parts C a b e =
     record { first = ltb-true a C.harts p.0; second = ltb-true b C.harts p.1 }
 
 -- Post
-posts_same : (closed full : Bool) → box_answer (cond closed (Some fault.Closed) (cond full (Some fault.Full) None)) ≡ refuse closed Closed (refuse full Full reply.Ok)
-posts_same true full = refl
-posts_same false true = refl
-posts_same false false = refl
+fault_same : (closed full : Bool) → box_answer (cond closed (Some fault.Closed) (cond full (Some fault.Full) None)) ≡ refuse closed Closed (refuse full Full reply.Ok)
+fault_same true full = refl
+fault_same false true = refl
+fault_same false false = refl
 
 abbrev post_with : Option Ticket → MailboxState → ℕ → Reply
 post_with ticket mailbox to =
@@ -68,7 +68,7 @@ post_due C H s h (Some k) l f =
     let o = f k refl in
     rw (o.1, contains_where (is_posted H k) h l)
     (ap (λ (r : Reply). refuse (not (contains o.0.named h)) NotNamed (refuse (is_posted H k h) AlreadyPosted r))
-    (posts_same (is_closed H s h) (leb C.capacity (outstanding C H s h))))
+    (fault_same (is_closed H s h) (leb C.capacity (outstanding C H s h))))
 
 -- Take
 walk_same : (words : Tables) (root : ℕ) (stage : Option Stage) (walk : Option Walk) → AreSameWalk words root stage walk → is_some stage ≡ is_some walk
@@ -102,7 +102,7 @@ module _ (C : Setup) (m : State) (H : History) (st : Stands C m H) (is : IsMachi
   pub post_reply_due : (s t h : ℕ) → reply_to m (Post s t h) ≡ due C H (Post s t h)
   post_reply_due s t h = pair_same s h _ _ (λ ls lh.
       ap (λ (table : TicketTable). post_answer table (mailbox_at m s h) t h) (st.tickets s ls)
-      ∙ ap (λ (box : MailboxState). post_answer (tickets_of C H s) box t h) (st.mailboxes s h ls lh)
+      ∙ ap (λ (mailbox : MailboxState). post_answer (tickets_of C H s) mailbox t h) (st.mailboxes s h ls lh)
       ∙ ap (λ (ticket : Option Ticket). post_with ticket (mailbox_of C H s h) h) (ticket_told C H s t st.lawful)
       ∙ post_due C H s h (open_order H s t) (hart_below h lh) (λ k e. order_of s t k e))
 
@@ -112,8 +112,8 @@ module _ (C : Setup) (m : State) (H : History) (st : Stands C m H) (is : IsMachi
       ap (λ (v : Bool). refuse v Walking (refuse (is_some (hart_at m h).serving) Serving (next_answer (slice_get (mailbox_at m s h).waiting 0)))) (walk_same _ _ _ _ hart.walk)
       ∙ ap (λ (v : Option Service). refuse (is_some (walk_of H h)) Walking (refuse (is_some v) Serving (next_answer (slice_get (mailbox_at m s h).waiting 0)))) hart.serving
       ∙ ap (λ (v : Bool). refuse (is_some (walk_of H h)) Walking (refuse v Serving (next_answer (slice_get (mailbox_at m s h).waiting 0)))) (service_same (has_fenced H h) (served C H h))
-      ∙ ap (λ (box : MailboxState). refuse (is_some (walk_of H h)) Walking (refuse (is_some (served C H h)) Serving (next_answer (slice_get box.waiting 0)))) (st.mailboxes s h ls lh)
+      ∙ ap (λ (mailbox : MailboxState). refuse (is_some (walk_of H h)) Walking (refuse (is_some (served C H h)) Serving (next_answer (slice_get mailbox.waiting 0)))) (st.mailboxes s h ls lh)
       ∙ ap (λ (r : Reply). refuse (is_some (walk_of H h)) Walking (refuse (is_some (served C H h)) Serving r)) (next_same (waiting C H s h)))
 
   pub close_reply_due : (s h : ℕ) → reply_to m (Close s h) ≡ due C H (Close s h)
-  close_reply_due s h = pair_same s h _ _ (λ ls lh. ap (λ (box : MailboxState). refuse box.closed Closed reply.Ok) (st.mailboxes s h ls lh))
+  close_reply_due s h = pair_same s h _ _ (λ ls lh. ap (λ (mailbox : MailboxState). refuse mailbox.closed Closed reply.Ok) (st.mailboxes s h ls lh))

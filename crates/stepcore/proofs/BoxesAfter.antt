@@ -36,15 +36,15 @@ use Rattle.stepcore.specs.Stands.{Stands, ticket_held, mailbox_of}
 use Rattle.stepcore.proofs.TicketsHeld.{ticket_told, what_told}
 use Rattle.stepcore.proofs.BoxReplies.{pair_parts, hart_below, order_of}
 
-abbrev boxed : List Message → ℕ → Bool → ℕ → MailboxState
-boxed waiting outstanding closed capacity = record { waiting = waiting; outstanding = outstanding; closed = closed; capacity = capacity }
+abbrev mailbox_with : List Message → ℕ → Bool → ℕ → MailboxState
+mailbox_with waiting outstanding closed capacity = record { waiting = waiting; outstanding = outstanding; closed = closed; capacity = capacity }
 
 abbrev request_of : Sent → Message
 request_of sent = sent.request
 
 -- the mailbox of a pair in a list of mailboxes
-abbrev pub box_in : List MailboxState → ℕ → ℕ → MailboxState
-box_in mailboxes s h = unwrap_or (slice_get mailboxes (mailbox_index s h)) (empty_mailbox 0)
+abbrev pub mailbox_in : List MailboxState → ℕ → ℕ → MailboxState
+mailbox_in mailboxes s h = unwrap_or (slice_get mailboxes (mailbox_index s h)) (empty_mailbox 0)
 
 -- two pairs of numbers below the bound have different places
 same_place : (a b s h : ℕ) → b < MAX_HARTS → h < MAX_HARTS → mailbox_index a b ≡ mailbox_index s h → (a ≡ s) × (b ≡ h)
@@ -53,14 +53,14 @@ same_place a b s h lb lh e = (omega arith, omega arith)
 place_below : (a b : ℕ) → a < MAX_HARTS → b < MAX_HARTS → mailbox_index a b < MAX_HARTS * MAX_HARTS
 place_below a b la lb = omega arith
 
-pub box_put : (xs : List MailboxState) (a b s h : ℕ) (v : MailboxState) → length xs ≡ MAX_HARTS * MAX_HARTS → a < MAX_HARTS → b < MAX_HARTS → h < MAX_HARTS
-    → box_in (slice_set xs (mailbox_index a b) v) s h ≡ cond (are_same a b s h) v (box_in xs s h)
-box_put xs a b s h v n la lb lh =
-    by_test (λ t. box_in (slice_set xs (mailbox_index a b) v) s h ≡ cond t v (box_in xs s h)) (are_same a b s h)
+pub mailbox_put : (xs : List MailboxState) (a b s h : ℕ) (v : MailboxState) → length xs ≡ MAX_HARTS * MAX_HARTS → a < MAX_HARTS → b < MAX_HARTS → h < MAX_HARTS
+    → mailbox_in (slice_set xs (mailbox_index a b) v) s h ≡ cond (are_same a b s h) v (mailbox_in xs s h)
+mailbox_put xs a b s h v n la lb lh =
+    by_test (λ t. mailbox_in (slice_set xs (mailbox_index a b) v) s h ≡ cond t v (mailbox_in xs s h)) (are_same a b s h)
     (λ e. let p = and_parts (eqb a s) (eqb b h) e in
     let below : mailbox_index a b < length xs = rw n (place_below a b la lb) in
-    subst (λ (i : ℕ). box_in (slice_set xs (mailbox_index a b) v) i h ≡ v) (eqb-true a s p.0)
-    (subst (λ (i : ℕ). box_in (slice_set xs (mailbox_index a b) v) a i ≡ v) (eqb-true b h p.1)
+    subst (λ (i : ℕ). mailbox_in (slice_set xs (mailbox_index a b) v) i h ≡ v) (eqb-true a s p.0)
+    (subst (λ (i : ℕ). mailbox_in (slice_set xs (mailbox_index a b) v) a i ≡ v) (eqb-true b h p.1)
     (ap (λ (o : Option MailboxState). unwrap_or o (empty_mailbox 0)) (slice_get-set_same xs (mailbox_index a b) v below))))
     (λ e. ap (λ (o : Option MailboxState). unwrap_or o (empty_mailbox 0)) (slice_get-set_other xs (mailbox_index a b) (mailbox_index s h) v (λ i.
     let q = same_place a b s h lb lh i in
@@ -86,9 +86,9 @@ waits_less ts x xs = drop_one (length ts) xs ∙ rw (length-append ts (x ∷ [])
 module _ (C : Setup) (m : State) (H : History) (st : Stands C m H) (is : IsMachine m) where
   -- the mailbox of a pair of harts is replaced
   put_stands : (a b s h : ℕ) (v new : MailboxState) → a < C.harts → b < C.harts → s < C.harts → h < C.harts → (a ≡ s → b ≡ h → v ≡ new)
-      → box_in (slice_set m.mailboxes (mailbox_index a b) v) s h ≡ cond (are_same a b s h) new (mailbox_of C H s h)
+      → mailbox_in (slice_set m.mailboxes (mailbox_index a b) v) s h ≡ cond (are_same a b s h) new (mailbox_of C H s h)
   put_stands a b s h v new la lb ls lh f =
-      box_put m.mailboxes a b s h v is.mailboxes (hart_below C m H st is a la) (hart_below C m H st is b lb) (hart_below C m H st is h lh)
+      mailbox_put m.mailboxes a b s h v is.mailboxes (hart_below C m H st is a la) (hart_below C m H st is b lb) (hart_below C m H st is h lh)
       ∙ by_test (λ t. t ≡ are_same a b s h → cond t v (mailbox_at m s h) ≡ cond t new (mailbox_of C H s h)) (are_same a b s h)
       (λ e _. let p = and_parts (eqb a s) (eqb b h) e in f (eqb-true a s p.0) (eqb-true b h p.1))
       (λ _ _. st.mailboxes s h ls lh) refl
@@ -98,29 +98,29 @@ module _ (C : Setup) (m : State) (H : History) (st : Stands C m H) (is : IsMachi
       ap (λ (table : TicketTable). what_in table t) (st.tickets s ls)
       ∙ what_told C H s t st.lawful
 
-  close_boxes : (a b : ℕ) (r : Reply) → r ≡ due C H (Close a b) → (s h : ℕ) → s < C.harts → h < C.harts
-      → box_in (mailboxes_after m (Close a b) r) s h ≡ mailbox_of C (with_turn (Close a b) r H) s h
-  close_boxes a b reply.Ok d s h ls lh =
+  close_mailboxes : (a b : ℕ) (r : Reply) → r ≡ due C H (Close a b) → (s h : ℕ) → s < C.harts → h < C.harts
+      → mailbox_in (mailboxes_after m (Close a b) r) s h ≡ mailbox_of C (with_turn (Close a b) r H) s h
+  close_mailboxes a b reply.Ok d s h ls lh =
       let p = pair_parts C a b (passed _ NoHart _ reply.Ok (sym d) refl).0 in
       put_stands a b s h (after_close (mailbox_at m a b)) (after_close (mailbox_of C H s h)) p.first p.second ls lh
       (λ ea eb. rw (ea, eb) (ap after_close (st.mailboxes s h ls lh)))
-      ∙ by_test (λ v. cond v (after_close (mailbox_of C H s h)) (mailbox_of C H s h) ≡ boxed (waiting C H s h) (outstanding C H s h) (v || is_closed H s h) C.capacity) (are_same a b s h)
+      ∙ by_test (λ v. cond v (after_close (mailbox_of C H s h)) (mailbox_of C H s h) ≡ mailbox_with (waiting C H s h) (outstanding C H s h) (v || is_closed H s h) C.capacity) (are_same a b s h)
       (λ _. refl) (λ _. refl)
-  close_boxes a b _ d s h ls lh = st.mailboxes s h ls lh
+  close_mailboxes a b _ d s h ls lh = st.mailboxes s h ls lh
 
-  take_boxes : (b a : ℕ) (r : Reply) → r ≡ due C H (Take b a) → (s h : ℕ) → s < C.harts → h < C.harts
-      → box_in (mailboxes_after m (Take b a) r) s h ≡ mailbox_of C (with_turn (Take b a) r H) s h
-  take_boxes b a (reply.Taken x) d s h ls lh =
+  take_mailboxes : (b a : ℕ) (r : Reply) → r ≡ due C H (Take b a) → (s h : ℕ) → s < C.harts → h < C.harts
+      → mailbox_in (mailboxes_after m (Take b a) r) s h ≡ mailbox_of C (with_turn (Take b a) r H) s h
+  take_mailboxes b a (reply.Taken x) d s h ls lh =
       let p = pair_parts C b a (passed _ NoHart _ (reply.Taken x) (sym d) refl).0 in
       put_stands a b s h (after_take (mailbox_at m a b)) (after_take (mailbox_of C H s h)) p.second p.first ls lh
       (λ ea eb. rw (ea, eb) (ap after_take (st.mailboxes s h ls lh)))
       ∙ by_test (λ v. cond v (after_take (mailbox_of C H s h)) (mailbox_of C H s h)
-      ≡ boxed (drop (length (cond v (taken H s h ++ x ∷ []) (taken H s h))) (accepted C H s h)) (outstanding C H s h) (is_closed H s h) C.capacity) (are_same a b s h)
-      (λ _. ap (λ (ws : List Message). boxed ws (outstanding C H s h) (is_closed H s h) C.capacity) (waits_less (taken H s h) x (accepted C H s h)))
+      ≡ mailbox_with (drop (length (cond v (taken H s h ++ x ∷ []) (taken H s h))) (accepted C H s h)) (outstanding C H s h) (is_closed H s h) C.capacity) (are_same a b s h)
+      (λ _. ap (λ (ws : List Message). mailbox_with ws (outstanding C H s h) (is_closed H s h) C.capacity) (waits_less (taken H s h) x (accepted C H s h)))
       (λ _. refl)
-  take_boxes b a _ d s h ls lh =
+  take_mailboxes b a _ d s h ls lh =
       st.mailboxes s h ls lh
-      ∙ by_test (λ v. mailbox_of C H s h ≡ boxed (drop (length (cond v (taken H s h ++ []) (taken H s h))) (accepted C H s h)) (outstanding C H s h) (is_closed H s h) C.capacity) (are_same a b s h)
+      ∙ by_test (λ v. mailbox_of C H s h ≡ mailbox_with (drop (length (cond v (taken H s h ++ []) (taken H s h))) (accepted C H s h)) (outstanding C H s h) (is_closed H s h) C.capacity) (are_same a b s h)
       (λ _. rw append-nil refl) (λ _. refl)
 
   -- a post that is accepted finds room
@@ -132,9 +132,9 @@ module _ (C : Setup) (m : State) (H : History) (st : Stands C m H) (is : IsMachi
       not_full : (capacity n : ℕ) → n < capacity → leb capacity n ≡ false
       not_full capacity n l = grind (arith, nat_tests)
 
-  post_boxes : (a t b : ℕ) (r : Reply) → r ≡ due C H (Post a t b) → (s h : ℕ) → s < C.harts → h < C.harts
-      → box_in (mailboxes_after m (Post a t b) r) s h ≡ mailbox_of C (with_turn (Post a t b) r H) s h
-  post_boxes a t b reply.Ok d s h ls lh =
+  post_mailboxes : (a t b : ℕ) (r : Reply) → r ≡ due C H (Post a t b) → (s h : ℕ) → s < C.harts → h < C.harts
+      → mailbox_in (mailboxes_after m (Post a t b) r) s h ≡ mailbox_of C (with_turn (Post a t b) r H) s h
+  post_mailboxes a t b reply.Ok d s h ls lh =
       let p = pair_parts C a b (passed _ NoHart _ reply.Ok (sym d) refl).0 in
       let f = post_found C H a t b reply.Ok d refl in
       let x : Message = record { ticket = t; what = what_of C H (open_order H a t) } in
@@ -142,23 +142,23 @@ module _ (C : Setup) (m : State) (H : History) (st : Stands C m H) (is : IsMachi
       put_stands a b s h (after_post (mailbox_at m a b) (record { ticket = t; what = what_in (tickets_at m a) t })) (with_message (mailbox_of C H s h) x) p.first p.second ls lh
       (λ ea eb.
       ap (λ (w : What). after_post (mailbox_at m a b) (record { ticket = t; what = w })) (what_asks a t p.first)
-      ∙ ap (λ (box : MailboxState). after_post box x) (st.mailboxes a b p.first p.second)
+      ∙ ap (λ (mailbox : MailboxState). after_post mailbox x) (st.mailboxes a b p.first p.second)
       ∙ posted a t b d x
       ∙ rw (ea, eb) refl)
       ∙ by_test (λ v. cond v (with_message (mailbox_of C H s h) x) (mailbox_of C H s h)
-      ≡ boxed (drop (length (taken H s h)) (map request_of (cond v (posts C H s h ++ new) (posts C H s h)))) (cond v (outstanding C H s h + 1) (outstanding C H s h)) (is_closed H s h) C.capacity) (are_same a b s h)
-      (λ _. ap (λ (ws : List Message). boxed ws (outstanding C H s h + 1) (is_closed H s h) C.capacity)
+      ≡ mailbox_with (drop (length (taken H s h)) (map request_of (cond v (posts C H s h ++ new) (posts C H s h)))) (cond v (outstanding C H s h + 1) (outstanding C H s h)) (is_closed H s h) C.capacity) (are_same a b s h)
+      (λ _. ap (λ (ws : List Message). mailbox_with ws (outstanding C H s h + 1) (is_closed H s h) C.capacity)
       (waits_more C H a t f.order (length (taken H s h)) (posts C H s h) (open_order H a t) f.is (taken_within C H s h st.lawful)))
       (λ _. refl)
-      ∙ ap (λ (n : ℕ). boxed (waiting C (with_turn (Post a t b) reply.Ok H) s h) n (is_closed H s h) C.capacity)
+      ∙ ap (λ (n : ℕ). mailbox_with (waiting C (with_turn (Post a t b) reply.Ok H) s h) n (is_closed H s h) C.capacity)
       (sym (counts C (record { event = Post a t b; reply = reply.Ok }) H s h (st.lawful, d)))
-  post_boxes a t b _ d s h ls lh = st.mailboxes s h ls lh
+  post_mailboxes a t b _ d s h ls lh = st.mailboxes s h ls lh
 
-  ack_self_boxes : (b t : ℕ) (r : Reply) → r ≡ due C H (AckSelf b t) → (s h : ℕ) → s < C.harts → h < C.harts
+  ack_self_mailboxes : (b t : ℕ) (r : Reply) → r ≡ due C H (AckSelf b t) → (s h : ℕ) → s < C.harts → h < C.harts
       → mailbox_at m s h ≡ mailbox_of C (with_turn (AckSelf b t) r H) s h
-  ack_self_boxes b t r d s h ls lh =
+  ack_self_mailboxes b t r d s h ls lh =
       st.mailboxes s h ls lh
-      ∙ ap (λ (n : ℕ). boxed (waiting C H s h) n (is_closed H s h) C.capacity) (sym (counts C (record { event = AckSelf b t; reply = r }) H s h (st.lawful, d)))
+      ∙ ap (λ (n : ℕ). mailbox_with (waiting C H s h) n (is_closed H s h) C.capacity) (sym (counts C (record { event = AckSelf b t; reply = r }) H s h (st.lawful, d)))
 
   -- a ticket tells whether an acknowledgement can be collected
   collectable_with : (o : Option ℕ) (h : ℕ) → h < MAX_HARTS → ((k : ℕ) → o ≡ Some k → (order : Order) × (order_at C H k ≡ Some order))
@@ -174,22 +174,22 @@ module _ (C : Setup) (m : State) (H : History) (st : Stands C m H) (is : IsMachi
 
   -- the mailbox of the history once this many are outstanding
   abbrev counted : ℕ → ℕ → ℕ → MailboxState
-  counted s h n = boxed (waiting C H s h) n (is_closed H s h) C.capacity
+  counted s h n = mailbox_with (waiting C H s h) n (is_closed H s h) C.capacity
 
   -- an acknowledgement is collected exactly where there is one to collect
   collect_put : (a t b : ℕ) (r : Reply) → r ≡ due C H (Collect a t b) → is_progress r ≡ true → (s h : ℕ) → s < C.harts → h < C.harts
-      → box_in (cond (is_collectable_in (tickets_at m a) t b && can_release (mailbox_at m a b)) (slice_set m.mailboxes (mailbox_index a b) (after_release (mailbox_at m a b))) m.mailboxes) s h
+      → mailbox_in (cond (is_collectable_in (tickets_at m a) t b && can_release (mailbox_at m a b)) (slice_set m.mailboxes (mailbox_index a b) (after_release (mailbox_at m a b))) m.mailboxes) s h
       ≡ counted s h (cond (are_same a b s h && is_collectable C H (open_order H a t) b) (outstanding C H s h - 1) (outstanding C H s h))
   collect_put a t b r d z s h ls lh =
       let p = pair_parts C a b (passed _ NoHart _ r (sym d) (progress_accepted r z)).0 in
       let collectable = is_collectable C H (open_order H a t) b in
       let released = slice_set m.mailboxes (mailbox_index a b) (after_release (mailbox_at m a b)) in
-      ap (λ (v : Bool). box_in (cond (v && can_release (mailbox_at m a b)) released m.mailboxes) s h) (collectable_is a t b p.first p.second)
-      ∙ by_test (λ v. box_in (cond (v && can_release (mailbox_at m a b)) released m.mailboxes) s h ≡ counted s h (cond (are_same a b s h && v) (outstanding C H s h - 1) (outstanding C H s h))) collectable
+      ap (λ (v : Bool). mailbox_in (cond (v && can_release (mailbox_at m a b)) released m.mailboxes) s h) (collectable_is a t b p.first p.second)
+      ∙ by_test (λ v. mailbox_in (cond (v && can_release (mailbox_at m a b)) released m.mailboxes) s h ≡ counted s h (cond (are_same a b s h && v) (outstanding C H s h - 1) (outstanding C H s h))) collectable
       (λ e.
       let less = releases C H a t b r (st.lawful, d) z e in
       let can : can_release (mailbox_at m a b) ≡ true = ap can_release (st.mailboxes a b p.first p.second) ∙ lt-ltb _ _ less in
-      ap (λ (v : Bool). box_in (cond v released m.mailboxes) s h) can
+      ap (λ (v : Bool). mailbox_in (cond v released m.mailboxes) s h) can
       ∙ put_stands a b s h (after_release (mailbox_at m a b)) (after_release (mailbox_of C H s h)) p.first p.second ls lh
       (λ ea eb. rw (ea, eb) (ap after_release (st.mailboxes s h ls lh)))
       ∙ by_test (λ v. cond v (after_release (mailbox_of C H s h)) (mailbox_of C H s h) ≡ counted s h (cond (v && true) (outstanding C H s h - 1) (outstanding C H s h))) (are_same a b s h)
@@ -197,12 +197,12 @@ module _ (C : Setup) (m : State) (H : History) (st : Stands C m H) (is : IsMachi
       (λ _. st.mailboxes s h ls lh
       ∙ by_test (λ v. mailbox_of C H s h ≡ counted s h (cond (v && false) (outstanding C H s h - 1) (outstanding C H s h))) (are_same a b s h) (λ _. refl) (λ _. refl))
 
-  collect_boxes : (a t b : ℕ) (r : Reply) → r ≡ due C H (Collect a t b) → (s h : ℕ) → s < C.harts → h < C.harts
-      → box_in (mailboxes_after m (Collect a t b) r) s h ≡ mailbox_of C (with_turn (Collect a t b) r H) s h
-  collect_boxes a t b r d s h ls lh =
+  collect_mailboxes : (a t b : ℕ) (r : Reply) → r ≡ due C H (Collect a t b) → (s h : ℕ) → s < C.harts → h < C.harts
+      → mailbox_in (mailboxes_after m (Collect a t b) r) s h ≡ mailbox_of C (with_turn (Collect a t b) r H) s h
+  collect_mailboxes a t b r d s h ls lh =
       let collectable = is_collectable C H (open_order H a t) b in
       let released = slice_set m.mailboxes (mailbox_index a b) (after_release (mailbox_at m a b)) in
-      by_test (λ v. v ≡ is_progress r → box_in (cond (v && (is_collectable_in (tickets_at m a) t b && can_release (mailbox_at m a b))) released m.mailboxes) s h
+      by_test (λ v. v ≡ is_progress r → mailbox_in (cond (v && (is_collectable_in (tickets_at m a) t b && can_release (mailbox_at m a b))) released m.mailboxes) s h
       ≡ counted s h (cond (v && (are_same a b s h && collectable)) (outstanding C H s h - 1) (outstanding C H s h))) (is_progress r)
       (λ z _. collect_put a t b r d z s h ls lh)
       (λ _ _. st.mailboxes s h ls lh) refl
@@ -210,9 +210,9 @@ module _ (C : Setup) (m : State) (H : History) (st : Stands C m H) (is : IsMachi
 
   pub mailboxes_stand : (event : Event) (r : Reply) → r ≡ due C H event → (s h : ℕ) → s < C.harts → h < C.harts
       → unwrap_or (slice_get (mailboxes_after m event r) (mailbox_index s h)) (empty_mailbox 0) ≡ mailbox_of C (with_turn event r H) s h
-  mailboxes_stand (Post a t b) r d s h ls lh = post_boxes a t b r d s h ls lh
-  mailboxes_stand (Take b a) r d s h ls lh = take_boxes b a r d s h ls lh
-  mailboxes_stand (AckSelf b t) r d s h ls lh = ack_self_boxes b t r d s h ls lh
-  mailboxes_stand (Collect a t b) r d s h ls lh = collect_boxes a t b r d s h ls lh
-  mailboxes_stand (Close a b) r d s h ls lh = close_boxes a b r d s h ls lh
+  mailboxes_stand (Post a t b) r d s h ls lh = post_mailboxes a t b r d s h ls lh
+  mailboxes_stand (Take b a) r d s h ls lh = take_mailboxes b a r d s h ls lh
+  mailboxes_stand (AckSelf b t) r d s h ls lh = ack_self_mailboxes b t r d s h ls lh
+  mailboxes_stand (Collect a t b) r d s h ls lh = collect_mailboxes a t b r d s h ls lh
+  mailboxes_stand (Close a b) r d s h ls lh = close_mailboxes a b r d s h ls lh
   mailboxes_stand _ r d s h ls lh = st.mailboxes s h ls lh

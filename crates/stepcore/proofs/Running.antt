@@ -54,7 +54,7 @@ module _ (C : Setup) (m : State) (H : History) (st : Stands C m H) where
   pub mailbox_order : (s h : ℕ) → s < C.harts → h < C.harts → accepted C H s h ≡ taken H s h ++ waiting_in m s h
   mailbox_order s h ls lh =
       mailboxes.lawful_order C H st.lawful s h
-      ∙ ap (λ (box : MailboxState). taken H s h ++ box.waiting) (sym (st.mailboxes s h ls lh))
+      ∙ ap (λ (mailbox : MailboxState). taken H s h ++ mailbox.waiting) (sym (st.mailboxes s h ls lh))
 
   pub none_after_close : (s h : ℕ) → NoneAfterClose C H s h
   none_after_close s h = mailboxes.none_after_close C H s h st.lawful
