@@ -1,3 +1,4 @@
 pub mod TicketsHeld
 pub mod TicketMarks
 pub mod TicketReplies
+pub mod TicketsAfter

@@ -1,6 +1,7 @@
 -- What a turn that posts, acknowledges or collects an order leaves of its ticket, and that it leaves the other tickets.
 use Rattle.std.proofs.Common.{◌≡◌, ℕ, ◌<◌, Bool, true, false, cond, ◌&&◌, ◌||◌, List, Option, Some, None, slice_set, refl, ap, sym, ◌∙◌, eqb}
 use Rattle.std.proofs.lemmas.Bool.{eq-eqb, eqb-true, ne_eqb}
+use Rattle.pte.specs.declared.address.What.{What}
 use Rattle.shoot.specs.HartSet.{contains, harts_where}
 use Rattle.shoot.specs.Tickets.{with_posted, with_acked, with_collected}
 use Rattle.shoot.specs.declared.TheConstants.{MAX_HARTS}
@@ -125,16 +126,16 @@ pub record SameOrder (C : Setup) (H G : History) (k : ℕ) : Type 0 where
   pub acked : (h : ℕ) → is_acked C H k h ≡ is_acked C G k h
   pub collected : (h : ℕ) → is_collected C H k h ≡ is_collected C G k h
 
-abbrev ticket_made : Order → List Bool → List Bool → List Bool → Option Ticket
-ticket_made order posted acked collected = Some (record { what = order.what; named = order.named; posted = posted; acked = acked; collected = collected })
+abbrev pub ticket_made : What → List Bool → List Bool → List Bool → List Bool → Option Ticket
+ticket_made what named posted acked collected = Some (record { what = what; named = named; posted = posted; acked = acked; collected = collected })
 
-ticket_parts : (order : Order) (p p' a a' c c' : List Bool) → p ≡ p' → a ≡ a' → c ≡ c' → ticket_made order p a c ≡ ticket_made order p' a' c'
-ticket_parts order p p' a a' c c' e f g = cc
+pub ticket_parts : (what : What) (named p p' a a' c c' : List Bool) → p ≡ p' → a ≡ a' → c ≡ c' → ticket_made what named p a c ≡ ticket_made what named p' a' c'
+ticket_parts what named p p' a a' c c' e f g = cc
 
 same_with : (C : Setup) (H G : History) (k : ℕ) (o : Option Order) → SameOrder C H G k → ticket_with C H k o ≡ ticket_with C G k o
 same_with C H G k None same = refl
 same_with C H G k (Some order) same =
-    ticket_parts order _ _ _ _ _ _
+    ticket_parts order.what order.named _ _ _ _ _ _
     (where_agree (is_posted H k) (is_posted G k) (λ n _. same.posted n))
     (where_agree (is_acked C H k) (is_acked C G k) (λ n _. same.acked n))
     (where_agree (is_collected C H k) (is_collected C G k) (λ n _. same.collected n))
