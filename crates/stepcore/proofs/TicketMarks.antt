@@ -17,6 +17,7 @@ use Rattle.history.specs.Runs.{with_turn}
 use Rattle.history.specs.declared.event.Event.TheVariants.{Post, Ack, AckSelf, Collect}
 use Rattle.history.specs.declared.reply.Reply.{Reply}
 use Rattle.laws.proofs.Orders.{open_known}
+use Rattle.laws.proofs.Posts.{order_is}
 use Rattle.stepcore.specs.Stands.{ticket_with, ticket_held, ticket_of}
 use Rattle.stepcore.proofs.TicketsHeld.{ticket_for}
 
@@ -41,10 +42,6 @@ and_first false b e = absurd cc
 pub is_order_of : (o : Option ℕ) (k : ℕ) → o ≡ Some k → is_order o k ≡ true
 is_order_of None k e = absurd cc
 is_order_of (Some n) k e = let same : n ≡ k = cc in eq-eqb n k same
-
-pub order_from : (o : Option ℕ) (k : ℕ) → is_order o k ≡ true → o ≡ Some k
-order_from None k e = absurd cc
-order_from (Some n) k e = ap Some (eqb-true n k e)
 
 -- a hart that is put into a set of harts
 marked : (f g : ℕ → Bool) (hart : ℕ) → ((n : ℕ) → n < MAX_HARTS → (eqb hart n || f n) ≡ g n) → slice_set (harts_where f) hart true ≡ harts_where g
@@ -158,7 +155,7 @@ pub post_others : (C : Setup) (H : History) (a n to : ℕ) (r : Reply) → Lawfu
     → ticket_of C H s t ≡ ticket_of C (with_turn (Post a n to) r H) s t
 post_others C H a n to r l s t other =
     ticket_same C H (with_turn (Post a n to) r H) (open_order H s t) (λ k e.
-    let quiet : is_ok r ≡ true → is_order (open_order H a n) k ≡ true → ⊥ = λ z f. let q = one_number C H a n s t k l (order_from (open_order H a n) k f) e in other z q.0 q.1 in
+    let quiet : is_ok r ≡ true → is_order (open_order H a n) k ≡ true → ⊥ = λ z f. let q = one_number C H a n s t k l (order_is (open_order H a n) k f) e in other z q.0 q.1 in
     record {
       order = refl;
       posted = λ h. mark_off (is_ok r) (eqb to h) (is_order (open_order H a n) k) (is_posted H k h) quiet;
@@ -170,7 +167,7 @@ pub own_others : (C : Setup) (H : History) (a n : ℕ) (r : Reply) → Lawful C 
     → ticket_of C H s t ≡ ticket_of C (with_turn (AckSelf a n) r H) s t
 own_others C H a n r l s t other =
     ticket_same C H (with_turn (AckSelf a n) r H) (open_order H s t) (λ k e.
-    let quiet : is_progress r ≡ true → is_order (open_order H a n) k ≡ true → ⊥ = λ z f. let q = one_number C H a n s t k l (order_from (open_order H a n) k f) e in other z q.0 q.1 in
+    let quiet : is_progress r ≡ true → is_order (open_order H a n) k ≡ true → ⊥ = λ z f. let q = one_number C H a n s t k l (order_is (open_order H a n) k f) e in other z q.0 q.1 in
     record {
       order = refl;
       posted = λ h. refl;
@@ -183,7 +180,7 @@ pub collect_others : (C : Setup) (H : History) (a n from : ℕ) (r : Reply) → 
 collect_others C H a n from r l s t other =
     ticket_same C H (with_turn (Collect a n from) r H) (open_order H s t) (λ k e.
     let quiet : (h : ℕ) → is_progress r ≡ true → (is_order (open_order H a n) k && is_acked C H k h) ≡ true → ⊥ =
-    λ h z f. let q = one_number C H a n s t k l (order_from (open_order H a n) k (and_first (is_order (open_order H a n) k) (is_acked C H k h) f)) e in other z q.0 q.1 in
+    λ h z f. let q = one_number C H a n s t k l (order_is (open_order H a n) k (and_first (is_order (open_order H a n) k) (is_acked C H k h) f)) e in other z q.0 q.1 in
     record {
       order = refl;
       posted = λ h. refl;

@@ -1,5 +1,5 @@
 -- The tickets of a machine that stands at a history, after one more event: they are those of the longer history.
-use Rattle.std.proofs.Common.{◌≡◌, ℕ, zero, suc, ◌<◌, Bool, true, false, cond, ◌&&◌, List, [], ◌∷◌, length, Option, Some, None, slice_get, slice_set, refl, ap, sym, ◌∙◌, arith, eqb}
+use Rattle.std.proofs.Common.{◌≡◌, ℕ, ◌<◌, Bool, true, false, cond, ◌&&◌, List, length, Option, Some, None, slice_get, slice_set, refl, ap, sym, ◌∙◌, arith, eqb}
 use Rattle.std.specs.Prelude.{is_none, unwrap_or, Result, Ok, Err}
 use Rattle.std.proofs.lemmas.Bool.{ltb-true, eqb-true, eq-eqb, ne_eqb, and_parts, not-false, false≢true, false_from_ne_true}
 use Rattle.pte.specs.Address.{Span}
@@ -8,6 +8,7 @@ use Rattle.pte.specs.declared.flags.PteFlags.{PteFlags}
 use Rattle.spaces.specs.declared.faults.MapFault.{MapFault}
 use Rattle.spaces.specs.declared.places.Place.{Place}
 use Rattle.spaces.specs.Edits.{Store}
+use Rattle.spaces.proofs.Lists.{slice_get-set_same, slice_get-set_other}
 use Rattle.shoot.specs.HartSet.{harts_in, no_harts}
 use Rattle.shoot.specs.Tickets.{TicketTable, no_tickets, names, open_answer, after_open, with_opened, new_ticket, after_posted, after_acked, after_collect, after_finish, is_done_at, with_ticket, with_posted, with_acked, with_collected, changed}
 use Rattle.shoot.specs.declared.tickets.Ticket.{Ticket}
@@ -46,18 +47,6 @@ use Rattle.stepcore.proofs.TicketReplies.{opening_told, own_acked}
 
 -- ---- a list with one hart's part replaced
 
-get_set_same : {A : Type 0} (xs : List A) (i : ℕ) (x : A) → i < length xs → slice_get (slice_set xs i x) i ≡ Some x
-get_set_same [] i x l = absurd (omega arith)
-get_set_same (y ∷ ys) zero x l = refl
-get_set_same (y ∷ ys) (suc i) x l = get_set_same ys i x (omega arith)
-
-get_set_other : {A : Type 0} (xs : List A) (i j : ℕ) (x : A) → (i ≡ j → ⊥) → slice_get (slice_set xs i x) j ≡ slice_get xs j
-get_set_other [] i j x f = refl
-get_set_other (y ∷ ys) zero zero x f = absurd (f refl)
-get_set_other (y ∷ ys) zero (suc j) x f = refl
-get_set_other (y ∷ ys) (suc i) zero x f = refl
-get_set_other (y ∷ ys) (suc i) (suc j) x f = get_set_other ys i j x (λ e. f (ap suc e))
-
 -- the tickets of hart h, where those of hart a are put if the test holds
 put_cases : (m : State) (a : ℕ) (test : Bool) (table target : TicketTable) (h : ℕ) → h < length m.tickets
     → (test ≡ true → a ≡ h → table ≡ target) → ((test ≡ true → a ≡ h → ⊥) → tickets_at m h ≡ target)
@@ -66,9 +55,9 @@ put_cases m a false table target h below f g = g (λ e. absurd (false≢true e))
 put_cases m a true table target h below f g =
     by_test (λ v. unwrap_or (slice_get (slice_set m.tickets a table) h) (no_tickets h) ≡ target) (eqb a h)
     (λ e. let same : a ≡ h = eqb-true a h e in
-    rw same (ap (λ (x : Option TicketTable). unwrap_or x (no_tickets h)) (get_set_same m.tickets h table below)) ∙ f refl same)
+    rw same (ap (λ (x : Option TicketTable). unwrap_or x (no_tickets h)) (slice_get-set_same m.tickets h table below)) ∙ f refl same)
     (λ e. let other : a ≡ h → ⊥ = λ same. false≢true (sym e ∙ eq-eqb a h same) in
-    ap (λ (x : Option TicketTable). unwrap_or x (no_tickets h)) (get_set_other m.tickets a h table other) ∙ g (λ _. other))
+    ap (λ (x : Option TicketTable). unwrap_or x (no_tickets h)) (slice_get-set_other m.tickets a h table other) ∙ g (λ _. other))
 
 -- ---- an opening
 
