@@ -5,3 +5,4 @@ pub mod BoxReplies
 pub mod BoxesAfter
 pub mod SetupKept
 pub mod Running
+pub mod TicketsAfter
