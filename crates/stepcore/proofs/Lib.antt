@@ -1,2 +1,4 @@
 pub mod Placed
 pub mod HartReplies
+pub mod PointersKept
+pub mod WordsAfter
