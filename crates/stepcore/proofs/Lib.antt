@@ -2,3 +2,4 @@ pub mod Placed
 pub mod HartReplies
 pub mod PointersKept
 pub mod WordsAfter
+pub mod HartsAfter
