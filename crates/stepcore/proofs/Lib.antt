@@ -1,4 +1,11 @@
 pub mod Placed
+pub mod TicketsHeld
+pub mod TicketMarks
+pub mod TicketReplies
+pub mod BoxReplies
+pub mod BoxesAfter
+pub mod SetupKept
+pub mod Running
 pub mod HartReplies
 pub mod PointersKept
 pub mod WordsAfter
