@@ -2,6 +2,7 @@ pub mod Placed
 pub mod TicketsHeld
 pub mod TicketMarks
 pub mod TicketReplies
+pub mod TicketsAfter
 pub mod BoxReplies
 pub mod BoxesAfter
 pub mod SetupKept

@@ -1,6 +1,7 @@
 -- What a turn that posts, acknowledges or collects an order leaves of its ticket, and that it leaves the other tickets.
 use Rattle.std.proofs.Common.{◌≡◌, ℕ, ◌<◌, Bool, true, false, cond, ◌&&◌, ◌||◌, List, Option, Some, None, slice_set, refl, ap, sym, ◌∙◌, eqb}
 use Rattle.std.proofs.lemmas.Bool.{eq-eqb, eqb-true, ne_eqb}
+use Rattle.pte.specs.declared.address.What.{What}
 use Rattle.shoot.specs.HartSet.{contains, harts_where}
 use Rattle.shoot.specs.Tickets.{with_posted, with_acked, with_collected}
 use Rattle.shoot.specs.declared.TheConstants.{MAX_HARTS}
@@ -16,6 +17,7 @@ use Rattle.history.specs.Runs.{with_turn}
 use Rattle.history.specs.declared.event.Event.TheVariants.{Post, Ack, AckSelf, Collect}
 use Rattle.history.specs.declared.reply.Reply.{Reply}
 use Rattle.laws.proofs.Orders.{open_known}
+use Rattle.laws.proofs.Posts.{order_is}
 use Rattle.stepcore.specs.Stands.{ticket_with, ticket_held, ticket_of}
 use Rattle.stepcore.proofs.TicketsHeld.{ticket_for}
 
@@ -40,10 +42,6 @@ and_first false b e = absurd cc
 pub is_order_of : (o : Option ℕ) (k : ℕ) → o ≡ Some k → is_order o k ≡ true
 is_order_of None k e = absurd cc
 is_order_of (Some n) k e = let same : n ≡ k = cc in eq-eqb n k same
-
-pub order_from : (o : Option ℕ) (k : ℕ) → is_order o k ≡ true → o ≡ Some k
-order_from None k e = absurd cc
-order_from (Some n) k e = ap Some (eqb-true n k e)
 
 -- a hart that is put into a set of harts
 marked : (f g : ℕ → Bool) (hart : ℕ) → ((n : ℕ) → n < MAX_HARTS → (eqb hart n || f n) ≡ g n) → slice_set (harts_where f) hart true ≡ harts_where g
@@ -125,16 +123,16 @@ pub record SameOrder (C : Setup) (H G : History) (k : ℕ) : Type 0 where
   pub acked : (h : ℕ) → is_acked C H k h ≡ is_acked C G k h
   pub collected : (h : ℕ) → is_collected C H k h ≡ is_collected C G k h
 
-abbrev ticket_made : Order → List Bool → List Bool → List Bool → Option Ticket
-ticket_made order posted acked collected = Some (record { what = order.what; named = order.named; posted = posted; acked = acked; collected = collected })
+abbrev pub ticket_made : What → List Bool → List Bool → List Bool → List Bool → Option Ticket
+ticket_made what named posted acked collected = Some (record { what = what; named = named; posted = posted; acked = acked; collected = collected })
 
-ticket_parts : (order : Order) (p p' a a' c c' : List Bool) → p ≡ p' → a ≡ a' → c ≡ c' → ticket_made order p a c ≡ ticket_made order p' a' c'
-ticket_parts order p p' a a' c c' e f g = cc
+pub ticket_parts : (what : What) (named p p' a a' c c' : List Bool) → p ≡ p' → a ≡ a' → c ≡ c' → ticket_made what named p a c ≡ ticket_made what named p' a' c'
+ticket_parts what named p p' a a' c c' e f g = cc
 
 same_with : (C : Setup) (H G : History) (k : ℕ) (o : Option Order) → SameOrder C H G k → ticket_with C H k o ≡ ticket_with C G k o
 same_with C H G k None same = refl
 same_with C H G k (Some order) same =
-    ticket_parts order _ _ _ _ _ _
+    ticket_parts order.what order.named _ _ _ _ _ _
     (where_agree (is_posted H k) (is_posted G k) (λ n _. same.posted n))
     (where_agree (is_acked C H k) (is_acked C G k) (λ n _. same.acked n))
     (where_agree (is_collected C H k) (is_collected C G k) (λ n _. same.collected n))
@@ -157,7 +155,7 @@ pub post_others : (C : Setup) (H : History) (a n to : ℕ) (r : Reply) → Lawfu
     → ticket_of C H s t ≡ ticket_of C (with_turn (Post a n to) r H) s t
 post_others C H a n to r l s t other =
     ticket_same C H (with_turn (Post a n to) r H) (open_order H s t) (λ k e.
-    let quiet : is_ok r ≡ true → is_order (open_order H a n) k ≡ true → ⊥ = λ z f. let q = one_number C H a n s t k l (order_from (open_order H a n) k f) e in other z q.0 q.1 in
+    let quiet : is_ok r ≡ true → is_order (open_order H a n) k ≡ true → ⊥ = λ z f. let q = one_number C H a n s t k l (order_is (open_order H a n) k f) e in other z q.0 q.1 in
     record {
       order = refl;
       posted = λ h. mark_off (is_ok r) (eqb to h) (is_order (open_order H a n) k) (is_posted H k h) quiet;
@@ -169,7 +167,7 @@ pub own_others : (C : Setup) (H : History) (a n : ℕ) (r : Reply) → Lawful C 
     → ticket_of C H s t ≡ ticket_of C (with_turn (AckSelf a n) r H) s t
 own_others C H a n r l s t other =
     ticket_same C H (with_turn (AckSelf a n) r H) (open_order H s t) (λ k e.
-    let quiet : is_progress r ≡ true → is_order (open_order H a n) k ≡ true → ⊥ = λ z f. let q = one_number C H a n s t k l (order_from (open_order H a n) k f) e in other z q.0 q.1 in
+    let quiet : is_progress r ≡ true → is_order (open_order H a n) k ≡ true → ⊥ = λ z f. let q = one_number C H a n s t k l (order_is (open_order H a n) k f) e in other z q.0 q.1 in
     record {
       order = refl;
       posted = λ h. refl;
@@ -182,7 +180,7 @@ pub collect_others : (C : Setup) (H : History) (a n from : ℕ) (r : Reply) → 
 collect_others C H a n from r l s t other =
     ticket_same C H (with_turn (Collect a n from) r H) (open_order H s t) (λ k e.
     let quiet : (h : ℕ) → is_progress r ≡ true → (is_order (open_order H a n) k && is_acked C H k h) ≡ true → ⊥ =
-    λ h z f. let q = one_number C H a n s t k l (order_from (open_order H a n) k (and_first (is_order (open_order H a n) k) (is_acked C H k h) f)) e in other z q.0 q.1 in
+    λ h z f. let q = one_number C H a n s t k l (order_is (open_order H a n) k (and_first (is_order (open_order H a n) k) (is_acked C H k h) f)) e in other z q.0 q.1 in
     record {
       order = refl;
       posted = λ h. refl;
