@@ -1,8 +1,13 @@
+pub mod Placed
 pub mod TicketsHeld
 pub mod TicketMarks
 pub mod TicketReplies
+pub mod TicketsAfter
 pub mod BoxReplies
 pub mod BoxesAfter
 pub mod SetupKept
 pub mod Running
-pub mod TicketsAfter
+pub mod HartReplies
+pub mod PointersKept
+pub mod WordsAfter
+pub mod HartsAfter
