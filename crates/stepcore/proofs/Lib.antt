@@ -11,3 +11,4 @@ pub mod HartReplies
 pub mod PointersKept
 pub mod WordsAfter
 pub mod HartsAfter
+pub mod Standing
