@@ -1,10 +1,8 @@
 -- The harts that an event leaves are those of the history.
-use Rattle.std.proofs.Common.{◌≡◌, ℕ, zero, suc, ◌+◌, ◌<◌, Bool, true, false, cond, ◌&&◌, List, [], ◌∷◌, length, drop, map, Option, Some, None, slice_get, refl, ap, sym, ◌∙◌, subst, eqb, arith}
+use Rattle.std.proofs.Common.{◌≡◌, ℕ, zero, suc, ◌+◌, ◌<◌, Bool, true, false, cond, ◌&&◌, List, [], ◌∷◌, length, drop, map, Option, Some, None, slice_get, refl, ap, sym, ◌∙◌, subst, eqb}
 use Rattle.std.specs.Prelude.{unwrap_or, is_none, Result, Ok, Err}
-use Rattle.std.specs.List.{range_with_len}
 use Rattle.std.proofs.lemmas.Bool.{and_parts, eqb-true, eq-eqb, false≢true}
 use Rattle.pte.specs.declared.address.What.{What}
-use Rattle.pte.specs.declared.address.What.TheVariants.{All}
 use Rattle.pte.specs.declared.permission.Access.{Access}
 use Rattle.pte.specs.declared.permission.Ctx.{Ctx}
 use Rattle.walk.specs.declared.found_or_trap.Found.{Found}
@@ -22,9 +20,7 @@ use Rattle.tlb.specs.Answer.{entry_of}
 use Rattle.tlb.specs.Fence.{fenced}
 use Rattle.tlb.specs.Service.{served as with_service}
 use Rattle.shoot.specs.Request.{Message}
-use Rattle.shoot.specs.Tickets.{TicketTable, ticket_at, if_open, asked}
-use Rattle.shoot.specs.declared.TheConstants.{MAX_TICKETS}
-use Rattle.shoot.specs.declared.tickets.Ticket.{Ticket}
+use Rattle.shoot.specs.Tickets.{TicketTable}
 use Rattle.history.specs.Setup.{Setup, asid_of}
 use Rattle.history.specs.declared.event.Event.{Event}
 use Rattle.history.specs.declared.event.Event.TheVariants.{Begin, Load, Switch, Fence, Take, ServeFence, Ack, AckSelf}
@@ -32,25 +28,25 @@ use Rattle.history.specs.declared.refusal.Refusal.TheVariants.{NoHart, NoSpace, 
 use Rattle.history.specs.declared.reply.Reply.{Reply}
 use Rattle.history.specs.declared.reply.Reply.TheVariants as reply
 use Rattle.history.specs.Turns.{History, is_ok, is_more, is_filled, is_taken, is_progress}
-use Rattle.history.specs.Orders.{Order, order_at, open_order, what_asked, what_of}
+use Rattle.history.specs.Orders.{open_order, what_of}
 use Rattle.history.specs.Mailboxes.{Sent, posts, taken}
 use Rattle.history.specs.Service.{served, has_fenced, what_served}
 use Rattle.history.specs.Tables.{words_of}
 use Rattle.history.specs.Harts.{Walking, begun, loaded, with_found, with_fill, outcome_of, space_of, walk_of, entries_of}
-use Rattle.history.specs.Due.{due, load_reply, end_reply, next_reply, ack_self_reply}
+use Rattle.history.specs.Due.{due, load_reply, end_reply, next_reply}
 use Rattle.history.specs.Runs.{with_turn}
 use Rattle.history.proofs.Walks.{canonical_walk}
 use Rattle.laws.specs.Posts.{IsAcceptedPost}
-use Rattle.laws.proofs.Accepted.{passed, ok_accepted, taken_accepted, progress_accepted, is_accepted as accepts, take_found}
-use Rattle.laws.proofs.Orders.{known, open_known}
+use Rattle.laws.proofs.Accepted.{passed, ok_accepted, taken_accepted, is_accepted as accepts, take_found}
 use Rattle.laws.proofs.Posts.{posts_known}
 use Rattle.laws.proofs.Tools.{by_test, none_since, All-slice_get}
 use Rattle.stepcore.specs.declared.serving.Serving.{Serving as Service}
 use Rattle.stepcore.specs.State.{State, HartState, words_in, hart_at, tickets_at, idle_hart}
 use Rattle.stepcore.specs.Answers.{asid_in, next_of}
 use Rattle.stepcore.specs.Changes.{what_in, with_progress, with_load, with_taken, with_served, is_accepted, put_hart, harts_after}
-use Rattle.stepcore.specs.Stands.{AreSameWalk, service_with, service_of, HartStands, ticket_with, ticket_held, ticket_of, tickets_of, Stands}
+use Rattle.stepcore.specs.Stands.{AreSameWalk, service_with, service_of, HartStands, Stands}
 use Rattle.stepcore.proofs.Placed.{hart_placed}
+use Rattle.stepcore.proofs.TicketsHeld.{what_told}
 use Rattle.stepcore.proofs.HartReplies.{load_makes, words_same, layout_same, asid_same}
 use Rattle.stepcore.proofs.PointersKept.{same_walk_kept, pointers_kept}
 
@@ -139,27 +135,6 @@ first_post [] zero first rest e = absurd cc
 first_post [] (suc n) first rest e = absurd cc
 first_post (x ∷ xs) zero first rest e = (x, refl, cc)
 first_post (x ∷ xs) (suc n) first rest e = first_post xs n first rest e
-
--- what the ticket of an open order asks
-slice_get-range : {A : Type 0} (f : ℕ → A) (from n i : ℕ) → i < n → slice_get (map f (range_with_len from n)) i ≡ Some (f (from + i))
-slice_get-range f from zero i below = absurd (omega arith)
-slice_get-range f from (suc n) zero below = let e : from ≡ from + 0 = omega arith in ap (λ k. Some (f k)) e
-slice_get-range f from (suc n) (suc i) below = let e : from + 1 + i ≡ from + suc i = omega arith in slice_get-range f (from + 1) n i (omega arith) ∙ ap (λ k. Some (f k)) e
-
-pub ticket_there : (C : Setup) (H : History) (s t : ℕ) → t < MAX_TICKETS → ticket_at (tickets_of C H s) t ≡ ticket_of C H s t
-ticket_there C H s t below = let e : 0 + t ≡ t = omega arith in ap if_open (slice_get-range (ticket_of C H s) 0 MAX_TICKETS t below) ∙ ap (λ n. ticket_of C H s n) e
-
-held_asks : (C : Setup) (H : History) (k : ℕ) (order : Option Order) → unwrap_or (asked (ticket_with C H k order)) All ≡ what_asked order
-held_asks C H k None = refl
-held_asks C H k (Some order) = refl
-
-opened_asks : (C : Setup) (H : History) (o : Option ℕ) → unwrap_or (asked (ticket_held C H o)) All ≡ what_of C H o
-opened_asks C H None = refl
-opened_asks C H (Some k) = held_asks C H k (order_at C H k)
-
-self_open : (C : Setup) (H : History) (hart ticket : ℕ) (o : Option ℕ) (r : Reply) → ack_self_reply C H hart ticket o ≡ r → accepts r ≡ true → (k : ℕ) × (o ≡ Some k)
-self_open C H hart ticket None r e a = absurd (false≢true (ap accepts e ∙ a))
-self_open C H hart ticket (Some k) r e a = (k, refl)
 
 module _ (C : Setup) (m : State) (H : History) (st : Stands C m H) where
   -- before the event
@@ -300,27 +275,19 @@ module _ (C : Setup) (m : State) (H : History) (st : Stands C m H) where
       }))
       old)
 
-  -- what an open ticket asks is what its order asks
-  pub what_same : (h t k : ℕ) → h < C.harts → open_order H h t ≡ Some k → what_in (tickets_at m h) t ≡ what_of C H (open_order H h t)
-  what_same h t k below e =
-      let by = open_known C H h t k st.lawful e in
-      let order = known C H k by.order st.lawful by.is in
-      let bound : t < MAX_TICKETS = subst (λ n. n < MAX_TICKETS) by.ticket order.ticket_bound in
-      ap (λ (tickets : TicketTable). what_in tickets t) (st.tickets h below)
-      ∙ ap (λ (o : Option Ticket). unwrap_or (asked o) All) (ticket_there C H h t bound)
-      ∙ opened_asks C H (open_order H h t)
+  -- what a ticket asks is what its open order asks
+  pub what_same : (h t : ℕ) → h < C.harts → what_in (tickets_at m h) t ≡ what_of C H (open_order H h t)
+  what_same h t below = ap (λ (tickets : TicketTable). what_in tickets t) (st.tickets h below) ∙ what_told C H h t st.lawful
 
-  ack_self_after : (hart ticket : ℕ) (r : Reply) → r ≡ due C H (AckSelf hart ticket) → (h : ℕ) → h < C.harts
+  ack_self_after : (hart ticket : ℕ) (r : Reply) (h : ℕ) → h < C.harts
       → HartStands C (with_turn (AckSelf hart ticket) r H) h (unwrap_or (slice_get (harts_after m (AckSelf hart ticket) r) h) idle_hart)
-  ack_self_after hart ticket r d h below =
+  ack_self_after hart ticket r h below =
       let old = parts h below in
       stands_of C (with_turn (AckSelf hart ticket) r H) h _
       (placed (λ v x. HartIs (words_of C H) C.layout (space_of H h) (walk_of H h) (service_of C H h) (cond v (with_service (entries_of C H h) (what_of C H (open_order H hart ticket))) (entries_of C H h)) x)
       hart h (is_progress r) (λ x. record (hart_at m x) { entries = with_service (hart_at m x).entries (what_in (tickets_at m x) ticket) }) below
-      (λ told same. let a = progress_accepted r told in
-      let opened = self_open C H hart ticket (open_order H hart ticket) r (passed _ NoHart _ r (sym d) a).1 a in
-      let what : what_in (tickets_at m h) ticket ≡ what_of C H (open_order H hart ticket) =
-      subst (λ x. what_in (tickets_at m h) ticket ≡ what_of C H (open_order H x ticket)) (sym same) (what_same h ticket opened.0 below (subst (λ x. open_order H x ticket ≡ Some opened.0) same opened.1)) in
+      (λ told same. let what : what_in (tickets_at m h) ticket ≡ what_of C H (open_order H hart ticket) =
+      subst (λ x. what_in (tickets_at m h) ticket ≡ what_of C H (open_order H x ticket)) (sym same) (what_same h ticket below) in
       record {
         space_is = old.space_is;
         walk_is = old.walk_is;
@@ -338,7 +305,7 @@ module _ (C : Setup) (m : State) (H : History) (st : Stands C m H) where
   harts_stand (Take hart from) r d h below = take_after hart from r d h below
   harts_stand (ServeFence hart) r d h below = serve_fence_after hart r d h below
   harts_stand (Ack hart) r d h below = ack_after hart r h below
-  harts_stand (AckSelf hart ticket) r d h below = ack_self_after hart ticket r d h below
+  harts_stand (AckSelf hart ticket) r d h below = ack_self_after hart ticket r h below
   harts_stand event r d h below =
       let old = st.harts h below in
       record {
