@@ -1,5 +1,5 @@
 -- What an event that was accepted found.
-use Rattle.std.proofs.Common.{◌≡◌, ℕ, zero, suc, ◌+◌, ◌<◌, Bool, true, false, cond, ◌&&◌, not, List, [], ◌∷◌, Option, Some, None, refl, ap, sym, ◌∙◌, arith, eqb}
+use Rattle.std.proofs.Common.{◌≡◌, ℕ, zero, suc, ◌+◌, ◌<◌, true, false, cond, ◌&&◌, not, List, [], ◌∷◌, Option, Some, None, refl, ap, sym, ◌∙◌, arith, eqb}
 use Rattle.std.specs.Prelude.{is_none, Result, Ok, Err}
 use Rattle.std.proofs.lemmas.Bool.{not-false, not-true, false≢true, ltb-true, leb-false, eq-eqb}
 use Rattle.pte.specs.Address.{Span}
@@ -13,29 +13,21 @@ use Rattle.shoot.specs.Request.{Message}
 use Rattle.shoot.specs.HartSet.{contains, harts_in}
 use Rattle.shoot.specs.declared.TheConstants.{MAX_HARTS, MAX_TICKETS}
 use Rattle.history.specs.Setup.{Setup}
-use Rattle.history.specs.declared.event.Event.{Event}
 use Rattle.history.specs.declared.event.Event.TheVariants.{Begin, Unmap, Protect, Flush, Post, Take, Ack, Collect, Finish}
 use Rattle.history.specs.declared.event.Scope.{Scope}
-use Rattle.history.specs.declared.refusal.Refusal.{Refusal}
 use Rattle.history.specs.declared.refusal.Refusal.TheVariants.{NoHart, NoSpace, HomeNotNamed, NotNamed, AlreadyPosted, Closed, Full, Walking, Serving, NotServing, NotFenced, NotDone}
 use Rattle.history.specs.declared.reply.Reply.{Reply}
 use Rattle.history.specs.declared.reply.Reply.TheVariants as reply
-use Rattle.history.specs.Turns.{Turn, History, is_ok, is_more, is_taken, is_progress, opened_ticket}
+use Rattle.history.specs.Turns.{History, is_ok, is_more, is_taken, is_progress, opened_ticket}
 use Rattle.history.specs.Orders.{order_at, open_order}
 use Rattle.history.specs.Mailboxes.{waiting, is_closed}
 use Rattle.history.specs.Service.{served, has_fenced}
 use Rattle.history.specs.Acknowledgements.{is_posted, is_collected, outstanding}
 use Rattle.history.specs.Harts.{walk_of}
-use Rattle.history.specs.Due.{refuse, is_hart, are_pair, due, least_free, open_reply, opened_reply, edit_reply, post_reply, names, next_reply, collect_reply, finish_reply, is_done}
+use Rattle.history.specs.Due.{is_hart, are_pair, due, least_free, open_reply, opened_reply, edit_reply, post_reply, names, next_reply, collect_reply, finish_reply, is_done}
+pub use Rattle.history.proofs.Occurred.{turn_of}
+pub use Rattle.history.proofs.Passing.{is_accepted, passed}
 use Rattle.laws.proofs.Tools.{none_since, none_by, by_test, and3, none_where}
-
--- the turn of an event
-abbrev pub turn_of : Event → Reply → Turn
-turn_of event reply = record { event = event; reply = reply }
-
-abbrev pub is_accepted : Reply → Bool
-is_accepted (reply.Refused why) = false
-is_accepted _ = true
 
 pub ok_accepted : (r : Reply) → is_ok r ≡ true → is_accepted r ≡ true
 ok_accepted reply.Ok e = refl
@@ -57,11 +49,6 @@ opened_is _ t e = absurd (cc (e))
 pub opened_accepted : (r : Reply) (t : ℕ) → opened_ticket r ≡ Some t → is_accepted r ≡ true
 opened_accepted (reply.Opened n) t e = refl
 opened_accepted _ t e = absurd (cc (e))
-
--- the test of a refusal did not apply
-pub passed : (test : Bool) (why : Refusal) (rest r : Reply) → refuse test why rest ≡ r → is_accepted r ≡ true → (test ≡ false) × (rest ≡ r)
-passed true why rest r e a = absurd (false≢true (ap is_accepted e ∙ a))
-passed false why rest r e a = (refl, e)
 
 pair_parts : (C : Setup) (a b : ℕ) → not (are_pair C a b) ≡ false → (a < C.harts) × (b < C.harts) × (a ≡ b → ⊥)
 pair_parts C a b e =

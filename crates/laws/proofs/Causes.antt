@@ -23,7 +23,7 @@ use Rattle.history.specs.Due.{due, is_place, is_space, edit_reply, edit_at, Lawf
 use Rattle.laws.specs.Kept.{HasPage, HavePages, HasAsids}
 use Rattle.laws.proofs.Tools.{by_test}
 use Rattle.laws.proofs.Accepted.{passed, ok_accepted, opened_accepted}
-use Rattle.laws.proofs.Orders.{order_cases}
+use Rattle.history.proofs.OpenOrders.{order_cases}
 
 -- a page of a place, as an order follows and asks for it
 pub record IsAsked (C : Setup) (place : Place) (page : Span) (what : What) : Type 0 where
@@ -96,7 +96,7 @@ pub follows : (C : Setup) (H : History) (k : ℕ) (order : Order) → Lawful C H
 follows C [] k order l has e = absurd cc
 follows C (turn ∷ H) k order l has e =
     elim (order_cases (opened_order C turn.event turn.reply) (length H) k (order_at C H k) order e) [
-      | inl new ↦ follows_step C turn.event turn.reply H order l.1 has.1 new.0
+      | inl new ↦ follows_step C turn.event turn.reply H order l.1 has.1 new.1
       | inr old ↦ follows C H k order l.0 has.0 old
     ]
 

@@ -26,7 +26,7 @@ use Rattle.history.specs.Staleness.{is_over, is_over_order, is_same_place, anew_
 use Rattle.laws.specs.Kept.{HasPage, HavePages, IsSetup, StaysMapped, StaysUnmapped, UserPagesAreNotGlobal, WindowIsShared}
 use Rattle.laws.proofs.Tools.{by_test}
 use Rattle.laws.proofs.Accepted.{turn_of}
-use Rattle.laws.proofs.Orders.{order_cases}
+use Rattle.history.proofs.OpenOrders.{order_cases}
 use Rattle.laws.proofs.Causes.{IsAsked, follows}
 use Rattle.laws.proofs.Clearing.{anew_step}
 use Rattle.laws.proofs.Cohering.{follows_change}
@@ -201,7 +201,7 @@ module _ (C : Setup) (setup : IsSetup C) where
   stays_unmapped [] l has = λ k order place page is. absurd (let bad : None ≡ Some order = is in cc)
   stays_unmapped (turn ∷ H) l has = λ k order place page is cause fresh root n ppn flags global of at.
       elim (order_cases (opened_order C turn.event turn.reply) (length H) k (order_at C H k) order is) [
-        | inl new ↦ gone turn.event turn.reply H order place page l.0 has.0 l.1 has.1 new.0 cause root n ppn flags global of (part page n at)
+        | inl new ↦ gone turn.event turn.reply H order place page l.0 has.0 l.1 has.1 new.1 cause root n ppn flags global of (part page n at)
         | inr old ↦
             let asked = follows_change C order.cause place page order.what (inl cause) (follows C H k order l.0 has.0 old) in
             let r = root_of C place root asked.there of in

@@ -18,15 +18,12 @@ use Rattle.history.specs.Mailboxes.{Sent, sent_of, posts_after, posts, taken}
 use Rattle.history.specs.Service.{served_after, served}
 use Rattle.history.specs.Acknowledgements.{is_posted}
 use Rattle.history.specs.Due.{due, Lawful, names}
+pub use Rattle.history.proofs.Occurred.{order_is}
 use Rattle.laws.specs.Orders.{IsOpenedBy}
 use Rattle.laws.specs.Posts.{IsAcceptedPost, waiting_posts, IsOfOther, AreOfDifferent}
 use Rattle.laws.proofs.Tools.{by_test, and3, All-slice_get}
 use Rattle.laws.proofs.Accepted.{turn_of, post_found, take_found}
 use Rattle.laws.proofs.Orders.{known, order_stays, open_known, open_below}
-
-pub order_is : (o : Option ℕ) (k : ℕ) → is_order o k ≡ true → o ≡ Some k
-order_is None k e = absurd (false≢true e)
-order_is (Some n) k e = ap Some (eqb-true n k e)
 
 -- what is known of a post stays known
 pub post_below : (C : Setup) (H : History) (s h : ℕ) (x : Sent) → Lawful C H → IsAcceptedPost C H s h x → x.order < length H
