@@ -1,3 +1,4 @@
+pub mod FreeTickets
 pub mod HartBytes
 pub mod HartSets
 pub mod MailboxLaws

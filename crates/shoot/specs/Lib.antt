@@ -1,3 +1,4 @@
+pub mod FreeTickets
 pub mod HartSet
 pub mod Mailbox
 pub mod MailboxHistory

@@ -3,6 +3,7 @@
 //! count of who has answered.
 #![tactic(auto)]
 
+mod free_tickets;
 mod hart_set;
 mod hart_set_laws;
 mod mailbox;

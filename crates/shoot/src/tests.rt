@@ -135,3 +135,39 @@ fn sets_of_harts(rt: HostRuntime) {
     assert!(&rt; set == HartSet::from(0b1000_0001));
     assert!(&rt; u8::from(set.difference(&HartSet::from(0b0000_0011))) == 0b1000_0000);
 }
+
+/// Frees a ticket of hart 0 that names that hart alone.
+fn finish_own(rt: &impl Abort, tickets: &mut Tickets, ticket: u32) {
+    assert!(rt; tickets.is_open(ticket) && tickets.names(ticket, 0));
+    tickets.acked(ticket, 0);
+    assert!(rt; tickets.is_open(ticket));
+    assert!(rt; tickets.finish(ticket) == Ok(()));
+}
+
+#[test]
+fn lowest_free_number_is_opened(rt: HostRuntime) {
+    let mut tickets = Tickets::new(0);
+    for number in 0..64 {
+        assert!(&rt; tickets.would_open(0b1) == Ok(number));
+        assert!(&rt; tickets.open(What::All, 0b1) == Ok(number));
+    }
+    for number in [40, 7, 63, 0, 32, 31] {
+        finish_own(&rt, &mut tickets, number);
+    }
+    assert!(&rt; tickets.open(What::All, 0b1) == Ok(0));
+    assert!(&rt; tickets.open(What::All, 0b1) == Ok(7));
+    finish_own(&rt, &mut tickets, 5);
+    assert!(&rt; tickets.open(What::All, 0b1) == Ok(5));
+    assert!(&rt; tickets.open(What::All, 0b1) == Ok(31));
+    finish_own(&rt, &mut tickets, 62);
+    for number in [32, 40, 62, 63] {
+        assert!(&rt; tickets.open(What::All, 0b1) == Ok(number));
+    }
+    assert!(&rt; tickets.open(What::All, 0b1) == Err(TicketFault::NoTicket));
+    for turn in 0..64 {
+        finish_own(&rt, &mut tickets, (37 * turn + 11) % 64);
+        let lowest = (0..64).find(|number| !tickets.is_open(*number));
+        assert!(&rt; tickets.would_open(0b1).ok() == lowest);
+    }
+    assert!(&rt; tickets.would_open(0b1) == Ok(0));
+}
