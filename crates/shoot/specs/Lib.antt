@@ -3,5 +3,6 @@ pub mod HartSet
 pub mod Mailbox
 pub mod MailboxHistory
 pub mod Request
+pub mod Ring
 pub mod TicketHistory
 pub mod Tickets

@@ -42,6 +42,27 @@ fn mailbox_of_two(rt: HostRuntime) {
 }
 
 #[test]
+fn mailbox_keeps_order_around_its_end(rt: HostRuntime) {
+    let mut mailbox = Mailbox::new(3);
+    assert!(&rt; mailbox.post(request(0)) == Ok(()));
+    assert!(&rt; mailbox.post(request(1)) == Ok(()));
+    for number in 0..200 {
+        let oldest = request(number % 64);
+        let newest = request((number + 2) % 64);
+        assert!(&rt; mailbox.post(newest) == Ok(()));
+        assert!(&rt; mailbox.post(newest) == Err((PostFault::Full, newest)));
+        assert!(&rt; mailbox.first_waiting() == Some(oldest));
+        assert!(&rt; mailbox.take() == Some(oldest));
+        assert!(&rt; mailbox.can_release());
+        mailbox.release();
+    }
+    assert!(&rt; mailbox.outstanding() == 2);
+    assert!(&rt; mailbox.take() == Some(request(8)));
+    assert!(&rt; mailbox.take() == Some(request(9)));
+    assert!(&rt; mailbox.take() == None);
+}
+
+#[test]
 fn own_acknowledgement_is_collected(rt: HostRuntime) {
     let mut tickets = Tickets::new(0);
     assert!(&rt; tickets.open(What::All, 0b10) == Err(TicketFault::HomeNotNamed));
