@@ -35,11 +35,10 @@ use Rattle.history.specs.declared.refusal.Refusal.TheVariants.{NoHart, NoSpace}
 use Rattle.spaces.proofs.OpeningTree.{opening-tree}
 use Rattle.laws.specs.Kept.{HasPage, HavePages}
 use Rattle.laws.proofs.Tools.{by_test}
-use Rattle.laws.proofs.Causes.{edit_made}
 use Rattle.history.specs.Turns.{History, is_table, is_leaf, is_opened, opened_ticket}
 use Rattle.history.specs.Tables.{words_of, used_spares, with_store}
 use Rattle.history.specs.Due.{is_place, edit_at, map_reply, stored_reply, due, Lawful}
-use Rattle.laws.proofs.Accepted.{is_accepted, turn_of, passed, opened_accepted}
+use Rattle.laws.proofs.Accepted.{is_accepted, turn_of, passed, EditFound, unmap_edit, protect_edit}
 
 -- the space of a place is there
 has_place : (C : Setup) → length C.asids ≡ length C.layout.homes → (place : Place) → is_place C place ≡ true → HasPlace C.layout place
@@ -117,47 +116,47 @@ pub opened_some : (r : Reply) → is_opened r ≡ true → (t : ℕ) × (opened_
 opened_some (reply.Opened t) e = (t, refl)
 opened_some _ e = absurd (false≢true e)
 
+pub map_edit : (C : Setup) (H : History) (hart : ℕ) (place : Place) (page : Span) (ppn : ℕ) (flags : PteFlags) (r : Reply) → r ≡ due C H (Map hart place page ppn flags)
+    → (is_table r || is_leaf r) ≡ true → (e : EditFound C H hart (wish.Map place page ppn flags)) × (is_table r ≡ is_some (pointed (Some e.store.word)))
+map_edit C H hart place page ppn flags r d z =
+    let a = stored_accepted r z in
+    let p = passed _ NoHart _ r (sym d) a in
+    let q = passed (not (is_place C place)) NoSpace _ r p.1 a in
+    let m = map_with (edit_at C H hart (wish.Map place page ppn flags)) r q.1 a in
+    (record { there = not-false (is_place C place) q.0; store = m.0; is = m.1 }, m.2)
+
 module _ (C : Setup) (layout : IsLayout C.layout) (same : length C.asids ≡ length C.layout.homes) where
   -- the words after a store that is due, with as many spare frames in use as the reply tells
-  stored_tree : (H : History) (hart : ℕ) (w : Wish) (store : Store) (table : Bool) (used : ℕ → ℕ) → IsTree C.layout (words_of C H) (used_spares H) → is_place C (place_of w) ≡ true
-      → IsPage (page_of w) → edit_at C H hart w ≡ Ok store
-      → (Accepted C.layout (words_of C H) (spare_after C.layout hart (used_spares H hart)) hart w store → table ≡ is_some (pointed (Some store.word)))
+  stored_tree : (H : History) (hart : ℕ) (w : Wish) (e : EditFound C H hart w) (table : Bool) (used : ℕ → ℕ) → IsTree C.layout (words_of C H) (used_spares H) → IsPage (page_of w)
+      → (Accepted C.layout (words_of C H) (spare_after C.layout hart (used_spares H hart)) hart w e.store → table ≡ is_some (pointed (Some e.store.word)))
       → ((h : ℕ) → used h ≡ cond (table && eqb hart h) (used_spares H h + 1) (used_spares H h))
       → IsTree C.layout (with_store (words_of C H) (edit_at C H hart w)) used
-  stored_tree H hart w store table used tree there page is tells counts =
-      let edit = is_edit C H hart w store layout same tree there page is in
+  stored_tree H hart w e table used tree page tells counts =
+      let store = e.store in
+      let edit = is_edit C H hart w store layout same tree e.there page e.is in
       let acc = edit-accepted C.layout (words_of C H) (used_spares H) hart w store edit in
       let new = edit_keeps C H hart w store edit in
-      λ h below. subst (λ (answer : Result Store MapFault). IsHome C.layout (with_store (words_of C H) answer) h (used h)) (sym is)
+      λ h below. subst (λ (answer : Result Store MapFault). IsHome C.layout (with_store (words_of C H) answer) h (used h)) (sym e.is)
       (subst (λ (n : ℕ). IsHome C.layout (with_store (words_of C H) (Ok store)) h n) (used_same (used_spares H) store hart h table acc.by (tells acc) ∙ sym (counts h)) (new h below))
 
   tree_step : (event : Event) (r : Reply) (H : History) → r ≡ due C H event → HasPage event → IsTree C.layout (words_of C H) (used_spares H)
       → IsTree C.layout (words_of C (turn_of event r ∷ H)) (used_spares (turn_of event r ∷ H))
   tree_step (Map hart place page ppn flags) r H d has tree =
       by_test (λ v. IsTree C.layout (cond v (with_store (words_of C H) (edit_at C H hart (wish.Map place page ppn flags))) (words_of C H)) (used_spares (turn_of (Map hart place page ppn flags) r ∷ H))) (is_table r || is_leaf r)
-      (λ z. let a = stored_accepted r z in
-      let p = passed _ NoHart _ r (sym d) a in
-      let q = passed (not (is_place C place)) NoSpace _ r p.1 a in
-      let m = map_with (edit_at C H hart (wish.Map place page ppn flags)) r q.1 a in
-      stored_tree H hart (wish.Map place page ppn flags) m.0 (is_table r) (used_spares (turn_of (Map hart place page ppn flags) r ∷ H)) tree (not-false (is_place C place) q.0) has m.1 (λ _. m.2) (λ h. refl))
+      (λ z. let m = map_edit C H hart place page ppn flags r d z in
+      stored_tree H hart (wish.Map place page ppn flags) m.0 (is_table r) (used_spares (turn_of (Map hart place page ppn flags) r ∷ H)) tree has (λ _. m.1) (λ h. refl))
       (λ z. let none = (or_parts (is_table r) (is_leaf r) z).0 in λ h below. rw none (tree h below))
   tree_step (Unmap hart place page named) r H d has tree =
       by_test (λ v. IsTree C.layout (cond v (with_store (words_of C H) (edit_at C H hart (wish.Unmap place page))) (words_of C H)) (used_spares H)) (is_opened r)
       (λ z. let t = opened_some r z in
-      let a = opened_accepted r t.0 t.1 in
-      let p = passed _ NoHart _ r (sym d) a in
-      let q = passed (not (is_place C place)) NoSpace _ r p.1 a in
-      let m = edit_made (edit_at C H hart (wish.Unmap place page)) _ r t.0 q.1 t.1 in
-      stored_tree H hart (wish.Unmap place page) m.0 false (used_spares H) tree (not-false (is_place C place) q.0) has m.1 (λ acc. sym (removed_unpointed _ _ _ _ place page acc.writes)) (λ h. refl))
+      let e = unmap_edit C H hart place page named t.0 r d t.1 in
+      stored_tree H hart (wish.Unmap place page) e false (used_spares H) tree has (λ acc. sym (removed_unpointed _ _ _ _ place page acc.writes)) (λ h. refl))
       (λ _. tree)
   tree_step (Protect hart place page flags named) r H d has tree =
       by_test (λ v. IsTree C.layout (cond v (with_store (words_of C H) (edit_at C H hart (wish.Protect place page flags))) (words_of C H)) (used_spares H)) (is_opened r)
       (λ z. let t = opened_some r z in
-      let a = opened_accepted r t.0 t.1 in
-      let p = passed _ NoHart _ r (sym d) a in
-      let q = passed (not (is_place C place)) NoSpace _ r p.1 a in
-      let m = edit_made (edit_at C H hart (wish.Protect place page flags)) _ r t.0 q.1 t.1 in
-      stored_tree H hart (wish.Protect place page flags) m.0 false (used_spares H) tree (not-false (is_place C place) q.0) has m.1 (λ acc. sym (changed_unpointed _ _ _ place page flags _ acc.writes)) (λ h. refl))
+      let e = protect_edit C H hart place page flags named t.0 r d t.1 in
+      stored_tree H hart (wish.Protect place page flags) e false (used_spares H) tree has (λ acc. sym (changed_unpointed _ _ _ place page flags _ acc.writes)) (λ h. refl))
       (λ _. tree)
   tree_step _ r H d has tree = tree
 
