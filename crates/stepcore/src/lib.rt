@@ -1,6 +1,9 @@
 //! The machine: table memory, and harts with their TLBs, walks, tickets and mailboxes, moved by one event at a time.
 #![tactic(auto)]
 
+mod hart;
+mod machine;
 mod serving;
 
+pub use machine::Machine;
 pub use serving::Serving;
