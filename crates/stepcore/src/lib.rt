@@ -1,6 +1,7 @@
 //! The machine: table memory, and harts with their TLBs, walks, tickets and mailboxes, moved by one event at a time.
 #![tactic(auto)]
 
+mod accesses;
 mod hart;
 mod machine;
 mod serving;
