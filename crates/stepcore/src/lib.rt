@@ -2,6 +2,7 @@
 #![tactic(auto)]
 
 mod accesses;
+mod editing;
 mod hart;
 mod machine;
 mod serving;

@@ -1,6 +1,7 @@
 //! The machine, and what is there.
 
 ghost use Rattle.std.specs.Prelude.{◌≡◌, ◌<◌, length};
+ghost use Rattle.spaces.specs.Held.{IsMemory};
 ghost use Rattle.stepcore.specs.State.{setup_in, hart_at, tickets_at, mailbox_at, mailbox_index};
 
 use crate::hart::Hart;
@@ -84,12 +85,10 @@ impl Machine {
 
     /// Whether the place is there.
     pub(crate) fn is_place(&self, place: Place) -> bool
-        ensures { result ≡ is_place (setup_in self.now) place }
+        ensures value { result ≡ is_place (setup_in self.now) place }
+        ensures memory { IsMemory self.now.memory }
     {
-        match place {
-            Place::Space(space) => self.is_space(space),
-            Place::Kernel => true,
-        }
+        self.memory.has(place)
     }
 
     /// Whether the space of the scope is there.
