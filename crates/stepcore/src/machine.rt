@@ -1,7 +1,8 @@
 //! The machine, and what is there.
 
-ghost use Rattle.std.specs.Prelude.{◌≡◌, ◌<◌, length};
+ghost use Rattle.std.specs.Prelude.{◌≡◌, ◌<◌, length, IsTrue};
 ghost use Rattle.spaces.specs.Held.{IsMemory};
+ghost use Rattle.spaces.specs.Layout.{HasPlace};
 ghost use Rattle.stepcore.specs.State.{setup_in, hart_at, tickets_at, mailbox_at, mailbox_index};
 
 use crate::hart::Hart;
@@ -86,6 +87,7 @@ impl Machine {
     /// Whether the place is there.
     pub(crate) fn is_place(&self, place: Place) -> bool
         ensures value { result ≡ is_place (setup_in self.now) place }
+        ensures there { IsTrue result → HasPlace self.now.memory.layout place }
         ensures memory { IsMemory self.now.memory }
     {
         self.memory.has(place)
