@@ -6,6 +6,7 @@ mod editing;
 mod hart;
 mod machine;
 mod serving;
+mod shootdown;
 
 pub use machine::Machine;
 pub use serving::Serving;

@@ -65,7 +65,9 @@ impl Machine {
 
     /// Whether both harts are there, and differ.
     pub(crate) fn are_pair(&self, hart: u8, other: u8) -> bool
-        ensures { result ≡ are_pair (setup_in self.now) hart other }
+        ensures value { result ≡ are_pair (setup_in self.now) hart other }
+        ensures hart { IsTrue result → hart < length self.now.harts }
+        ensures other { IsTrue result → other < length self.now.harts }
     {
         self.is_hart(hart) && self.is_hart(other) && hart != other
     }
