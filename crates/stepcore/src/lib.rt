@@ -3,6 +3,7 @@
 
 mod accesses;
 mod editing;
+mod events;
 mod hart;
 mod machine;
 mod serving;
