@@ -6,6 +6,7 @@ mod editing;
 mod events;
 mod hart;
 mod machine;
+mod opening;
 mod serving;
 mod shootdown;
 
