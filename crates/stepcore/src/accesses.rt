@@ -1,15 +1,17 @@
 //! Accesses: walks and loads, switches of the space, and fences.
 
-ghost use Rattle.std.specs.Prelude.{◌≡◌, ◌<◌, false, true, length, IfOk, IfErr, Some};
+ghost use Rattle.std.specs.Prelude.{◌≡◌, ◌<◌, ◌↔◌, IsTrue, false, true, length, IfOk, IfErr, Some};
 ghost use Rattle.walk.specs.Stage.{start_of};
 ghost use Rattle.spaces.specs.Layout.{root_ppn};
 ghost use Rattle.tlb.specs.Answer.{answer_of};
+ghost use Rattle.tlb.specs.Mappings.{IsMappedBy, Translates};
 ghost use Rattle.history.specs.Turns.{is_more};
 ghost use Rattle.history.specs.Due.{access_reply};
 ghost use Rattle.history.specs.declared.reply.Reply.TheVariants.{More};
 ghost use Rattle.history.specs.declared.event.Event.TheVariants.{Begin, Load, Switch, Fence};
 ghost use Rattle.stepcore.specs.State.{hart_at, words_in};
 ghost use Rattle.stepcore.specs.Answers.{reply_to, next_of, progress_answer};
+ghost use Rattle.stepcore.specs.Runs.{entries_in};
 ghost use Rattle.stepcore.specs.Changes.{Follows, is_accepted};
 
 use crate::machine::Machine;
@@ -148,5 +150,13 @@ impl Machine {
         let this = &mut self.harts[usize::from(hart)];
         this.fence(rs1, rs2);
         Reply::Ok
+    }
+
+    /// Whether the TLB of a hart that is there translates an address for an ASID.
+    pub fn translates(&self, hart: u8, asid: u16, va: VirtAddr) -> bool
+        requires { hart < length self.now.harts }
+        ensures { IsTrue result ↔ Translates (IsMappedBy (entries_in self.now hart)) asid va }
+    {
+        self.hart(hart).lookup(asid, va).is_some()
     }
 }

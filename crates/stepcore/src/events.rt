@@ -10,7 +10,7 @@ use history::{Event, Reply};
 
 impl Machine {
     /// What the event asks, done or refused.
-    fn do_event(&mut self, event: Event) -> Reply
+    pub(crate) fn do_event(&mut self, event: Event) -> Reply
         ensures reply { result ≡ reply_to self.old event }
         ensures follows { Follows self.old event result self.new }
         ensures refused { is_accepted result ≡ false → self.new ≡ self.old }

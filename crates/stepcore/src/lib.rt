@@ -7,6 +7,7 @@ mod events;
 mod hart;
 mod machine;
 mod opening;
+mod runs;
 mod serving;
 mod shootdown;
 
