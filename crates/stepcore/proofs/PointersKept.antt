@@ -30,8 +30,7 @@ use Rattle.history.specs.Harts.{Walking}
 use Rattle.history.specs.Due.{is_place, edit_at, due, Lawful}
 use Rattle.history.specs.Runs.{with_turn}
 use Rattle.laws.specs.Kept.{HavePages, IsSetup}
-use Rattle.laws.proofs.Accepted.{passed, opened_accepted}
-use Rattle.laws.proofs.Causes.{edit_made}
+use Rattle.laws.proofs.Accepted.{passed, opened_accepted, edit_made}
 use Rattle.laws.proofs.Tools.{by_test}
 use Rattle.laws.proofs.TreeKept.{tree, same_words, map_with, opened_some, stored_accepted}
 use Rattle.stepcore.specs.Stands.{AreSameWalk}
