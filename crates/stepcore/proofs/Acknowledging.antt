@@ -1,9 +1,9 @@
 -- An acknowledgement ends the service of a hart, and marks the ticket of the hart that posted.
-use Rattle.std.proofs.Common.{◌≡◌, ℕ, Option, Some, None, true, slice_set, refl, ap, sym, ◌∙◌}
+use Rattle.std.proofs.Common.{◌≡◌, ℕ, Option, Some, None, true, slice_set, ap, sym, ◌∙◌}
 use Rattle.history.specs.declared.event.Event.TheVariants.{Ack}
 use Rattle.history.specs.declared.reply.Reply.TheVariants as reply
 use Rattle.stepcore.specs.declared.serving.Serving.{Serving}
-use Rattle.stepcore.specs.State.{State, HartState, hart_at, tickets_at, words_in, used_in}
+use Rattle.stepcore.specs.State.{State, hart_at, tickets_at, words_in, used_in}
 use Rattle.stepcore.specs.Answers.{acked_by}
 use Rattle.stepcore.specs.Changes.{Follows, acked_after}
 
@@ -18,7 +18,7 @@ ack_follows m mid new hart serving serves ends marks = record {
   used = λ h. ap (λ (s : State). used_in s h) marks ∙ ap (λ (s : State). used_in s h) ends;
   harts = ap (λ (s : State). s.harts) marks ∙ ap (λ (s : State). s.harts) ends;
   tickets = ap (λ (s : State). s.tickets) marks
-    ∙ (ap (λ (s : State). slice_set s.tickets serving.from (acked_by (tickets_at s serving.from) serving.request.ticket hart)) ends
-    ∙ ap (λ (o : Option Serving). acked_after m hart true o) (sym serves));
+      ∙ (ap (λ (s : State). slice_set s.tickets serving.from (acked_by (tickets_at s serving.from) serving.request.ticket hart)) ends
+      ∙ ap (λ (o : Option Serving). acked_after m hart true o) (sym serves));
   mailboxes = ap (λ (s : State). s.mailboxes) marks ∙ ap (λ (s : State). s.mailboxes) ends;
 }

@@ -71,7 +71,7 @@ module _ (m new : State) (hart : ℕ) (others : new ≡ record m { memory = new.
     words = λ p i. rw (stored (kind_of store.word)) (words m new.memory hart (wish.Map place page ppn flags) store is p i);
     used = λ h. is.used h
         ∙ used_same (used_in m) store hart h (is_table (stored_reply (kind_of store.word)))
-          (accepted m new.memory hart (wish.Map place page ppn flags) store is).by (told (kind_of store.word));
+        (accepted m new.memory hart (wish.Map place page ppn flags) store is).by (told (kind_of store.word));
     harts = ap (λ (s : State). s.harts) others;
     tickets = ap (λ (s : State). s.tickets) others;
     mailboxes = ap (λ (s : State). s.mailboxes) others;

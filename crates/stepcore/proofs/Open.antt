@@ -1,5 +1,5 @@
 -- The opened machine stands at the empty history.
-use Rattle.std.proofs.Common.{◌≡◌, ℕ, zero, suc, ◌+◌, ◌*◌, ◌<◌, ◌≤◌, [], map, replicate, length, refl, sym, ◌∙◌, arith}
+use Rattle.std.proofs.Common.{◌≡◌, ℕ, zero, suc, ◌<◌, [], map, replicate, length, refl, sym, ◌∙◌, arith}
 use Rattle.std.specs.List.{range_with_len}
 use Rattle.std.specs.Prelude.{slice_index}
 use Rattle.std.proofs.lemmas.List.{get_or-replicate, length-replicate, length-map}
@@ -16,7 +16,7 @@ use Rattle.shoot.specs.Tickets.{no_tickets}
 use Rattle.history.specs.Setup.{setup_of}
 use Rattle.laws.specs.Kept.{IsSetup}
 use Rattle.stepcore.specs.State.{State, HartState, IsMachine, idle_hart, setup_in, hart_at, tickets_at, mailbox_at, mailbox_index}
-use Rattle.stepcore.specs.Stands.{HartStands, Stands}
+use Rattle.stepcore.specs.Stands.{Stands}
 
 -- what an opened machine has
 pub record IsOpened (c : Config) (m : State) : Type 0 where
@@ -72,7 +72,7 @@ module _ (c : Config) (m : State) (is : IsOpened c m) where
     mailboxes = rw is.mailboxes (length-replicate 64 (empty_mailbox c.capacity));
     asids = rw (is.asids, is.layout) (length-map c.spaces.items (λ s. s.asid) ∙ sym (length-map c.spaces.items (λ s. s.home)));
     spaces = rw (is.harts, is.asids) (All-replicate (λ (h : HartState). h.space < length (map (λ s. s.asid) c.spaces.items)) c.harts idle_hart
-      (omega (arith, is.meets.some_space, length-map c.spaces.items (λ s. s.asid))));
+        (omega (arith, is.meets.some_space, length-map c.spaces.items (λ s. s.asid))));
   }
     where
       count : length m.harts ≡ c.harts

@@ -54,7 +54,7 @@ module _ (C : Setup) (m : State) (H : History) (st : Stands C m H) (is : IsMachi
         used = used_stand C m new H st event r follows;
         harts = λ h below. rw follows.harts (harts_stand C m H st event r d h below);
         tickets = λ h below.
-        ap (λ (xs : List TicketTable). unwrap_or (slice_get xs h) (no_tickets h)) follows.tickets ∙ tickets_step C m H st is event r d h below;
+            ap (λ (xs : List TicketTable). unwrap_or (slice_get xs h) (no_tickets h)) follows.tickets ∙ tickets_step C m H st is event r d h below;
         mailboxes = λ s h ls lh.
-        ap (λ (xs : List MailboxState). unwrap_or (slice_get xs (mailbox_index s h)) (empty_mailbox 0)) follows.mailboxes ∙ mailboxes_stand C m H st is event r d s h ls lh;
+            ap (λ (xs : List MailboxState). unwrap_or (slice_get xs (mailbox_index s h)) (empty_mailbox 0)) follows.mailboxes ∙ mailboxes_stand C m H st is event r d s h ls lh;
       }

@@ -65,7 +65,14 @@ impl Machine {
     }
 
     /// Makes the one store that is due next to map a page.
-    pub(crate) fn map(&mut self, hart: u8, place: Place, page: Page, ppn: u64, flags: PteFlags) -> Reply
+    pub(crate) fn map(
+        &mut self,
+        hart: u8,
+        place: Place,
+        page: Page,
+        ppn: u64,
+        flags: PteFlags,
+    ) -> Reply
         ensures reply { result ≡ reply_to self.old (Map hart place page ppn flags) }
         ensures follows { Follows self.old (Map hart place page ppn flags) result self.new }
         ensures refused { is_accepted result ≡ false → self.new ≡ self.old }

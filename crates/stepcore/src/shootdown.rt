@@ -282,7 +282,8 @@ impl Machine {
         if !self.tickets(hart).names(ticket, from) {
             return Reply::Refused(Refusal::NotNamed);
         }
-        let makes_room = self.is_collectable(hart, ticket, from) && self.mailbox(hart, from).can_release();
+        let makes_room = self.is_collectable(hart, ticket, from)
+            && self.mailbox(hart, from).can_release();
         if makes_room {
             self.release(hart, from);
         }

@@ -1,4 +1,4 @@
-use Rattle.std.proofs.Common.{rules, ◌∙◌, ◌<◌, ◌^◌, arith}
+use Rattle.std.proofs.Common.{rules, ◌∙◌, ◌<◌, ◌^◌}
 use Rattle.std.proofs.lemmas.List.Elements.{All-more}
 use Rattle.std.proofs.lemmas.List.{map_more}
 use Rattle.spaces.specs.declared.configuration.Space.{Space}
