@@ -11,5 +11,11 @@ mod runs;
 mod serving;
 mod shootdown;
 
+pub use history::{Event, Refusal, Reply, Scope};
 pub use machine::Machine;
 pub use serving::Serving;
+pub use shoot::Request;
+pub use spaces::{Config, OpenFault, Place, Space};
+
+#[cfg(test)]
+mod tests;
