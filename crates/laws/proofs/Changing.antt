@@ -34,7 +34,7 @@ use Rattle.laws.specs.Kept.{HasPage, HavePages, IsSetup}
 use Rattle.laws.proofs.Tools.{by_test}
 use Rattle.laws.proofs.Accepted.{turn_of, EditFound, unmap_edit, protect_edit}
 use Rattle.laws.proofs.Causes.{IsAsked, halved}
-use Rattle.laws.proofs.TreeKept.{tree, is_edit, same_words, map_edit, opened_some}
+use Rattle.laws.proofs.TreeKept.{tree, is_edit, map_edit, opened_some}
 
 -- an edit's place and page, as an order asks for them
 abbrev pub IsEdited : Setup → Place → Span → Type 0
@@ -88,9 +88,8 @@ module _ (C : Setup) (setup : IsSetup C) (H : History) (l : Lawful C H) (pages :
   effect hart w e page =
       let store = e.store in
       subst (λ (answer : Result Store MapFault). HasEffect C.layout w store (words_of C H) (with_store (words_of C H) answer)) (sym e.is)
-      (subst (λ (words : Tables). HasEffect C.layout w store (words_of C H) words) (same_words (words_of C H) store)
       (edit-effect C.layout (words_of C H) (used_spares H) hart w store
-      (is_edit C H hart w store setup.layout setup.homes (tree C setup.layout setup.homes H l pages) e.there page e.is)))
+      (is_edit C H hart w store setup.layout setup.homes (tree C setup.layout setup.homes H l pages) e.there page e.is))
 
   pub map_changes : (hart : ℕ) (place : Place) (page : Span) (ppn : ℕ) (flags : PteFlags) (r : Reply) → r ≡ due C H (Map hart place page ppn flags) → IsPage page
       → (is_table r || is_leaf r) ≡ true → Changes C r (words_of C H) (with_store (words_of C H) (edit_at C H hart (wish.Map place page ppn flags))) (Map hart place page ppn flags)

@@ -1,5 +1,5 @@
 -- Orders: which are there, and which are open under which ticket.
-use Rattle.std.proofs.Common.{◌≡◌, ℕ, ◌<◌, true, cond, ◌&&◌, [], ◌∷◌, ◌++◌, length, Option, Some, None, refl, ◌∙◌, arith, eqb, ◌⊎◌, inl, inr, length-append}
+use Rattle.std.proofs.Common.{◌≡◌, ℕ, ◌<◌, true, cond, ◌&&◌, [], ◌∷◌, ◌++◌, length, Option, Some, None, refl, ap, ◌∙◌, arith, eqb, ◌⊎◌, inl, inr, length-append}
 use Rattle.std.proofs.lemmas.Bool.{and_parts, eqb-true, eq-eqb}
 use Rattle.pte.specs.declared.address.What.{What}
 use Rattle.shoot.specs.HartSet.{contains, harts_in}
@@ -93,6 +93,10 @@ open_known C (turn ∷ H) s t k l e =
       | inr old ↦ let o = open_known C H s t k l.0 old in
           record { order = o.order; is = order_stays C turn H k (known C H k o.order l.0 o.is).below ∙ o.is; sender = o.sender; ticket = o.ticket }
     ]
+
+-- an order has one sender
+pub one_sender : (C : Setup) (H : History) (k : ℕ) (a b : Order) → order_at C H k ≡ Some a → order_at C H k ≡ Some b → a.sender ≡ b.sender
+one_sender C H k a b p q = let same : a ≡ b = cc (p, q) in ap (λ (o : Order). o.sender) same
 
 pub open_below : (C : Setup) (H : History) (s t k : ℕ) → Lawful C H → open_order H s t ≡ Some k → k < length H
 open_below C H s t k l e = let o = open_known C H s t k l e in (known C H k o.order l o.is).below

@@ -1,7 +1,6 @@
 -- The tables of a lawful history are a tree, for its edits keep it.
 use Rattle.std.proofs.Common.{◌≡◌, ℕ, ◌+◌, ◌<◌, ◌^◌, arith, Bool, true, false, cond, ◌&&◌, ◌||◌, not, [], ◌∷◌, length, Option, Some, refl, ap, sym, ◌∙◌, subst, eqb, inl, inr}
 use Rattle.std.specs.Prelude.{Result, Ok, Err, is_some}
-use Rattle.std.proofs.Math.Path.{fun_ext}
 use Rattle.std.proofs.lemmas.Bool.{ltb-true, eq-eqb, ne_eqb, cases_eq, false≢true, not-false, or_parts}
 use Rattle.pte.specs.Address.{IsPage}
 use Rattle.spaces.specs.declared.places.Place.{Place}
@@ -10,10 +9,9 @@ use Rattle.spaces.specs.declared.wishes.Wish.{Wish}
 use Rattle.spaces.specs.Layout.{HasPlace}
 use Rattle.spaces.specs.Held.{IsLayout, spare_after}
 use Rattle.spaces.specs.Edits.{Store, place_of, page_of}
-use Rattle.walk.specs.Leads.{Tables}
 use Rattle.walk.specs.Pointers.{pointed, pointed_kind}
 use Rattle.spaces.specs.Tree.{IsTree, IsHome}
-use Rattle.spaces.specs.Applied.{used_by_all, words_after}
+use Rattle.spaces.specs.Applied.{used_by_all}
 use Rattle.spaces.specs.Effects.{IsEdit}
 use Rattle.spaces.proofs.EditLaws.{edit-tree, edit-accepted}
 use Rattle.spaces.specs.Accepted.{Accepted, Writes, removes_leaf, changes_leaf}
@@ -51,21 +49,6 @@ pub is_edit : (C : Setup) (H : History) (hart : ℕ) (w : Wish) (store : Store) 
     → IsEdit C.layout (words_of C H) (used_spares H) hart w store
 is_edit C H hart w store layout same tree there page is =
     record { layout = layout; tree = tree; has = has_place C same (place_of w) there; page = page; is = is }
-
--- the words of a history after its store are those that spaces speaks of
-same_test : (a b : ℕ) → eqb a b ≡ eqb b a
-same_test a b = elim (cases_eq a b) [ inl e ↦ rw e refl | inr n ↦ ne_eqb a b n ∙ sym (ne_eqb b a (λ q. n (sym q))) ]
-
-pub same_words : (words : Tables) (store : Store) → words_after words store ≡ with_store words (Ok store)
-same_words words store =
-    fun_ext (λ t. fun_ext (λ n. rw (same_test t store.ppn, same_test n store.index) refl))
-
--- and it keeps the tree
-pub edit_keeps : (C : Setup) (H : History) (hart : ℕ) (w : Wish) (store : Store) → IsEdit C.layout (words_of C H) (used_spares H) hart w store
-    → IsTree C.layout (with_store (words_of C H) (Ok store)) (used_by_all (used_spares H) store)
-edit_keeps C H hart w store is =
-    subst (λ (words : Tables). IsTree C.layout words (used_by_all (used_spares H) store)) (same_words (words_of C H) store)
-    (edit-tree C.layout (words_of C H) (used_spares H) hart w store is)
 
 -- a Map's reply tells whether its store is a pointer
 pub map_with : (answer : Result Store MapFault) (r : Reply) → map_reply answer ≡ r → is_accepted r ≡ true → (store : Store) × (answer ≡ Ok store) × (is_table r ≡ is_some (pointed (Some store.word)))
@@ -135,7 +118,7 @@ module _ (C : Setup) (layout : IsLayout C.layout) (same : length C.asids ≡ len
       let store = e.store in
       let edit = is_edit C H hart w store layout same tree e.there page e.is in
       let acc = edit-accepted C.layout (words_of C H) (used_spares H) hart w store edit in
-      let new = edit_keeps C H hart w store edit in
+      let new = edit-tree C.layout (words_of C H) (used_spares H) hart w store edit in
       λ h below. subst (λ (answer : Result Store MapFault). IsHome C.layout (with_store (words_of C H) answer) h (used h)) (sym e.is)
       (subst (λ (n : ℕ). IsHome C.layout (with_store (words_of C H) (Ok store)) h n) (used_same (used_spares H) store hart h table acc.by (tells acc) ∙ sym (counts h)) (new h below))
 
