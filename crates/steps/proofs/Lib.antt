@@ -1,3 +1,4 @@
+pub mod FieldLemmas
 pub mod GrammarLemmas
 pub mod HartLemmas
 pub mod NumLemmas
