@@ -1,6 +1,7 @@
 pub mod FieldLemmas
 pub mod GrammarLemmas
 pub mod HartLemmas
+pub mod NamedLemmas
 pub mod NumLemmas
 pub mod StepLemmas
 pub mod WordLemmas
