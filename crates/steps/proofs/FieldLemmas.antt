@@ -26,10 +26,10 @@ use Rattle.steps.proofs.GrammarLemmas.{num_of-writes, writes-num_of}
 
 -- ---- numbers below a limit
 
-lt_test : (a b : ℕ) → a < b → nat_lt a b ≡ true
+pub lt_test : (a b : ℕ) → a < b → nat_lt a b ≡ true
 lt_test a b h = grind (arith, nat_tests)
 
-lt_from_test : (a b : ℕ) → nat_lt a b ≡ true → a < b
+pub lt_from_test : (a b : ℕ) → nat_lt a b ≡ true → a < b
 lt_from_test a b h = grind (arith, nat_tests)
 
 pub below-writes : (limit : ℕ) (word : List ℕ) (n : ℕ) → WritesBelow limit word n → number_below limit word ≡ Some n

@@ -3,5 +3,6 @@ pub mod GrammarLemmas
 pub mod HartLemmas
 pub mod NamedLemmas
 pub mod NumLemmas
+pub mod RunLemmas
 pub mod StepLemmas
 pub mod WordLemmas
