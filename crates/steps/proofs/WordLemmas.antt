@@ -59,7 +59,7 @@ access_of-text Fetch = refl
 access_of-text Load = refl
 access_of-text Store = refl
 
-translation_of-text : (step : WalkStep) (address : List ℕ) → num_of address ≡ Some step.va → translation_of (ctx_text step.ctx) (access_text step.access) address ≡ Some step
+pub translation_of-text : (step : WalkStep) (address : List ℕ) → num_of address ≡ Some step.va → translation_of (ctx_text step.ctx) (access_text step.access) address ≡ Some step
 translation_of-text step address h = rw (ctx_of-text step.ctx.mode step.ctx.sum step.ctx.mxr, access_of-text step.access, h)
 
 -- what is written as a step is found
@@ -129,7 +129,7 @@ pub record IsStep (mode access address : List ℕ) (step : WalkStep) : Type 0 wh
   pub access_is : access ≡ access_text step.access
   pub address_is : num_of address ≡ Some step.va
 
-translation-Some : (mode access address : List ℕ) (step : WalkStep) → translation_of mode access address ≡ Some step → IsStep mode access address step
+pub translation-Some : (mode access address : List ℕ) (step : WalkStep) → translation_of mode access address ≡ Some step → IsStep mode access address step
 translation-Some mode access address step h =
     let c = option_and_then-Some {A = Ctx} (λ ctx. option_and_then (λ a. option_map (λ va. record { ctx = ctx; access = a; va = va }) (num_of address)) (access_of access)) (ctx_of mode) step h in
     let a = option_and_then-Some {A = Access} (λ a. option_map (λ va. record { ctx = c.0; access = a; va = va }) (num_of address)) (access_of access) step c.1.1 in

@@ -5,3 +5,4 @@ pub mod Grammar
 pub mod StepFaults
 pub mod Fields
 pub mod RunStep
+pub mod RunGrammar
