@@ -32,7 +32,7 @@ use Rattle.history.specs.Runs.{with_turn}
 use Rattle.laws.specs.Kept.{HavePages, IsSetup}
 use Rattle.laws.proofs.Accepted.{passed, opened_accepted, edit_made}
 use Rattle.laws.proofs.Tools.{by_test}
-use Rattle.laws.proofs.TreeKept.{tree, same_words, map_with, opened_some, stored_accepted}
+use Rattle.laws.proofs.TreeKept.{tree, map_with, opened_some, stored_accepted}
 use Rattle.stepcore.specs.Stands.{AreSameWalk}
 
 -- a walk stays what the history says where the pointers stay
@@ -66,7 +66,7 @@ module _ (C : Setup) (within : IsSetup C) where
       let bad : None ≡ Some next = sym was ∙ ap pointed (sym acc.word) ∙ pointed-to (words store.ppn store.index) next point in cc in
       let keeps = pointers-kept words (stored words store.ppn store.index store.word) store.ppn store.index (stored_agrees words store.ppn store.index store.word) none in
       subst (λ (answer : Result Store MapFault). KeepsPointers words (with_store words answer)) (sym is)
-      (subst (λ (new : Tables). KeepsPointers words new) (same_words words store) keeps)
+      keeps
 
   -- and each event with its reply
   pub pointers_kept : (event : Event) (r : Reply) (H : History) → Lawful C H → HavePages H → r ≡ due C H event → KeepsPointers (words_of C H) (words_of C (with_turn event r H))

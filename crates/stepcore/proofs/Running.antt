@@ -11,7 +11,6 @@ use Rattle.history.specs.Mailboxes.{accepted, taken, NoneAfterClose}
 use Rattle.history.specs.Runs.{with_turn}
 use Rattle.history.specs.Staleness.{Clear, Coherent}
 use Rattle.history.proofs.Mailboxes as mailboxes
-use Rattle.history.proofs.Walks.{walk_outcome}
 use Rattle.laws.proofs.Clearing.{clear}
 use Rattle.laws.proofs.Cohering.{coherent}
 use Rattle.laws.proofs.MapsKept.{stays_mapped, stays_unmapped, user_plain, window_shared}
