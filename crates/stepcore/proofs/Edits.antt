@@ -24,7 +24,7 @@ use Rattle.shoot.specs.Tickets.{after_open}
 use Rattle.history.specs.Orders.{page_request}
 use Rattle.history.specs.Tables.{with_store}
 use Rattle.history.specs.Due.{stored_reply}
-use Rattle.laws.proofs.TreeKept.{same_words, used_same, removed_unpointed, changed_unpointed}
+use Rattle.laws.proofs.TreeKept.{used_same, removed_unpointed, changed_unpointed}
 use Rattle.stepcore.specs.State.{State, setup_in, tickets_at, words_in, used_in}
 use Rattle.stepcore.specs.Answers.{edit_in}
 use Rattle.stepcore.specs.Changes.{Follows}
@@ -60,7 +60,7 @@ module _ (m : State) (now : Held) (hart : ℕ) where
 
   -- the words after it, as its event has them
   words : (w : Wish) (store : Store) → IsStored m now hart w store → (ppn i : ℕ) → words_of now ppn i ≡ with_store (words_in m) (edit_in m hart w) ppn i
-  words w store is ppn i = rw is.is (is.words ppn i ∙ ap (λ f. f ppn i) (same_words (words_of m.memory) store))
+  words w store is ppn i = rw is.is (is.words ppn i)
 
 module _ (m new : State) (hart : ℕ) (others : new ≡ record m { memory = new.memory }) where
   pub map_follows : (place : Place) (page : Span) (ppn : ℕ) (flags : PteFlags) (store : Store) → IsStored m new.memory hart (wish.Map place page ppn flags) store
