@@ -103,7 +103,7 @@ impl<C: Named> Locked<C> {
         requires all { vec_len tallies ≡ C.parts }
         requires some { 0 < C.parts }
         ensures stands { Stands (setup_of C.config) result.0 (history_of result.1.items) }
-        ensures counted { vec_len result.1 ≡ sum_by (λ tally. tally.share.amount) tallies.items }
+        ensures counted { length result.1.items ≡ sum_by (λ tally. tally.share.amount) tallies.items }
     {
         let Kept { book, mut calls } = self.lock.into_inner();
         let mut all = merged(tallies);
