@@ -1,35 +1,21 @@
 //! Accesses: walks and loads, switches of the space, and fences.
 
-ghost use Rattle.std.specs.Prelude.{◌≡◌, ◌<◌, ◌↔◌, IsTrue, false, true, length, IfOk, IfErr, Some};
+ghost use Rattle.std.specs.Prelude.{◌≡◌, ◌<◌, ◌↔◌, IsTrue, false, true, length, IfOk, IfErr, Some, slice_set};
 ghost use Rattle.walk.specs.Stage.{start_of};
 ghost use Rattle.spaces.specs.Layout.{root_ppn};
-ghost use Rattle.tlb.specs.Answer.{answer_of};
 ghost use Rattle.tlb.specs.Mappings.{IsMappedBy, Translates};
 ghost use Rattle.history.specs.Turns.{is_more};
-ghost use Rattle.history.specs.Due.{access_reply};
 ghost use Rattle.history.specs.declared.reply.Reply.TheVariants.{More};
 ghost use Rattle.history.specs.declared.event.Event.TheVariants.{Begin, Load, Switch, Fence};
 ghost use Rattle.stepcore.specs.State.{hart_at, words_in};
-ghost use Rattle.stepcore.specs.Answers.{reply_to, next_of, progress_answer};
+ghost use Rattle.stepcore.specs.Answers.{reply_to, asid_in, next_of, progress_answer};
 ghost use Rattle.stepcore.specs.Runs.{entries_in};
-ghost use Rattle.stepcore.specs.Changes.{Follows, is_accepted};
+ghost use Rattle.stepcore.specs.Changes.{Follows, is_accepted, with_progress};
 
 use crate::machine::Machine;
 use history::{Refusal, Reply};
 use pte::{Access, Ctx, VirtAddr};
-use tlb::Entry;
 use walk::{Progress, Trap, Walk, Why, Words};
-
-/// What a TLB entry answers to an access.
-fn hit(entry: &Entry, va: VirtAddr, access: Access, ctx: Ctx) -> Reply
-    ensures reply { result ≡ access_reply (answer_of entry.now va access ctx) }
-    ensures ends { is_more result ≡ false }
-{
-    match entry.translate(va, access, ctx) {
-        Ok(pa) => Reply::Hit(pa),
-        Err(trap) => Reply::Trap(trap),
-    }
-}
 
 /// What a load answers.
 fn progress_reply(progress: &Progress) -> Reply
@@ -64,8 +50,8 @@ impl Machine {
         let Some(address) = VirtAddr::new(va) else {
             return Err(Reply::Trap(Trap::page(access, Why::NotCanonical)));
         };
-        match this.lookup(self.asid(hart), address) {
-            Some(entry) => Err(hit(&entry, address, access, ctx)),
+        match this.access(self.asid(hart), address, access, ctx) {
+            Some(reply) => Err(reply),
             None => {
                 Walk::begin(self.memory.root(this.space()), va, access, ctx).map_err(Reply::Trap)
             }
@@ -96,6 +82,16 @@ impl Machine {
         walk.load(self.memory.word(table, index))
     }
 
+    /// Goes on as a load of the hart's walk says.
+    fn go_on(&mut self, hart: u8, progress: &Progress)
+        requires { hart < length self.old.harts }
+        ensures { self.new ≡ record self.old { harts = slice_set self.old.harts hart (with_progress (asid_in self.old (hart_at self.old hart)) progress.now (hart_at self.old hart)) } }
+    {
+        let asid = self.asid(hart);
+        let this = &mut self.harts[usize::from(hart)];
+        this.load(asid, progress);
+    }
+
     /// Loads the next word of the hart's walk.
     pub(crate) fn load(&mut self, hart: u8) -> Reply
         ensures reply { result ≡ reply_to self.old (Load hart) }
@@ -109,9 +105,7 @@ impl Machine {
             return Reply::Refused(Refusal::NotWalking);
         };
         let progress = self.next(walk);
-        let asid = self.asid(hart);
-        let this = &mut self.harts[usize::from(hart)];
-        this.load(asid, &progress);
+        self.go_on(hart, &progress);
         progress_reply(&progress)
     }
 

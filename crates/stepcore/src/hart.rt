@@ -1,15 +1,19 @@
 //! A hart.
 
-ghost use Rattle.std.specs.Prelude.{◌≡◌, ◌↔◌, IsSome, Some, None, false, is_some};
+ghost use Rattle.std.specs.Prelude.{◌≡◌, ◌↔◌, IsSome, IfSome, IfNone, Some, None, false, is_some};
 ghost use Rattle.tlb.specs.Entries.{first_match};
 ghost use Rattle.tlb.specs.Fence.{fenced};
 ghost use Rattle.tlb.specs.Mappings.{IsMappedBy, Translates};
 ghost use Rattle.tlb.specs.Service.{served};
+ghost use Rattle.history.specs.Due.{match_reply};
+ghost use Rattle.history.specs.Turns.{is_more};
+ghost use Rattle.history.specs.declared.reply.Reply.TheVariants.{More};
 ghost use Rattle.stepcore.specs.State.{idle_hart};
 ghost use Rattle.stepcore.specs.Changes.{with_progress, with_served};
 
 use crate::serving::Serving;
-use pte::{VirtAddr, What};
+use history::Reply;
+use pte::{Access, Ctx, VirtAddr, What};
 use shoot::Request;
 use std::marker::Model;
 use tlb::{Entry, Tlb};
@@ -81,6 +85,19 @@ impl Hart {
         ensures translates { IsSome result ↔ Translates (IsMappedBy self.now.entries) asid va }
     {
         self.tlb.lookup(asid, va)
+    }
+
+    /// What the TLB answers to an access of an address, if an entry matches.
+    pub(crate) fn access(&self, asid: u16, va: VirtAddr, access: Access, ctx: Ctx) -> Option<Reply>
+        ensures answers { IfSome result (λ reply. match_reply va access ctx (first_match self.now.entries asid va) ≡ reply) }
+        ensures ends { IfSome result (λ reply. is_more reply ≡ false) }
+        ensures misses { IfNone result (match_reply va access ctx (first_match self.now.entries asid va) ≡ More) }
+    {
+        let entry = self.lookup(asid, va)?;
+        match entry.translate(va, access, ctx) {
+            Ok(pa) => Some(Reply::Hit(pa)),
+            Err(trap) => Some(Reply::Trap(trap)),
+        }
     }
 
     pub(crate) fn switch(&mut self, space: u8)

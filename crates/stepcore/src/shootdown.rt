@@ -1,18 +1,20 @@
 //! Shootdowns: requests that go from mailbox to mailbox, and the tickets that count the answers.
 
-ghost use Rattle.std.specs.Prelude.{◌≡◌, ◌<◌, false, true, length, IsTrue, IfOk, IfErr, slice_set, None};
+ghost use Rattle.std.specs.Prelude.{◌≡◌, ◌<◌, ◌&&◌, false, true, length, IsTrue, IfOk, IfErr, slice_set, None};
 ghost use Rattle.shoot.specs.Mailbox.{can_release, after_post, after_take, after_release};
-ghost use Rattle.shoot.specs.Tickets.{is_open, names, progress_at, after_posted};
+ghost use Rattle.shoot.specs.Tickets.{is_open, names, progress_at, after_posted, after_collect};
+ghost use Rattle.tlb.specs.Service.{served};
 ghost use Rattle.history.specs.Turns.{is_progress};
 ghost use Rattle.history.specs.declared.event.Event.TheVariants.{Post, Take, ServeFence, Ack, AckSelf, Collect, Finish, Close};
 ghost use Rattle.history.specs.declared.reply.Reply.TheVariants as reply;
 ghost use Rattle.stepcore.specs.State.{hart_at, tickets_at, mailbox_at, mailbox_index};
 ghost use Rattle.stepcore.specs.Answers.{reply_to, progress_reply, acked_by};
-ghost use Rattle.stepcore.specs.Changes.{Follows, is_accepted, is_collectable, what_in};
+ghost use Rattle.stepcore.specs.Changes.{Follows, is_accepted, is_collectable, put_mailbox, what_in};
 
 use crate::machine::{Machine, mailbox_index};
 use crate::serving::Serving;
 use history::{Refusal, Reply};
+use pte::What;
 use shoot::{Collected, PostFault, Request, Tickets};
 
 /// How far a ticket is, as a reply.
@@ -34,16 +36,6 @@ fn acknowledge(tickets: &mut Tickets, ticket: u32, hart: u8)
     if tickets.names(ticket, hart) {
         tickets.acked(ticket, hart);
     }
-}
-
-/// A hart acknowledges an open ticket of its own, if the ticket names it, and is told how far the ticket is then.
-fn acknowledge_own(tickets: &mut Tickets, ticket: u32, hart: u8) -> Collected
-    requires { IsTrue (is_open tickets.old ticket) }
-    ensures answer { result ≡ progress_at tickets.new ticket }
-    ensures after { tickets.new ≡ acked_by tickets.old ticket hart }
-{
-    acknowledge(tickets, ticket, hart);
-    tickets.progress(ticket)
 }
 
 impl Machine {
@@ -235,6 +227,27 @@ impl Machine {
         Reply::Ok
     }
 
+    /// A hart drops what one of its own tickets asks to drop.
+    fn drop_own(&mut self, hart: u8, what: &What)
+        requires { hart < length self.old.harts }
+        ensures { self.new ≡ record self.old { harts = slice_set self.old.harts hart (record (hart_at self.old hart) { entries = served (hart_at self.old hart).entries what.now }) } }
+    {
+        let this = &mut self.harts[usize::from(hart)];
+        this.serve(what);
+    }
+
+    /// A hart acknowledges an open ticket of its own, if the ticket names it, and is told how far the ticket is then.
+    fn acknowledge_own(&mut self, hart: u8, ticket: u32) -> Collected
+        requires hart { hart < length self.old.harts }
+        requires open { IsTrue (is_open (tickets_at self.old hart) ticket) }
+        ensures answer { result ≡ progress_at (acked_by (tickets_at self.old hart) ticket hart) ticket }
+        ensures after { self.new ≡ record self.old { tickets = slice_set self.old.tickets hart (acked_by (tickets_at self.old hart) ticket hart) } }
+    {
+        let tickets = &mut self.tickets[usize::from(hart)];
+        acknowledge(tickets, ticket, hart);
+        tickets.progress(ticket)
+    }
+
     /// Serves an own ticket's request on the own TLB.
     pub(crate) fn ack_self(&mut self, hart: u8, ticket: u32) -> Reply
         ensures reply { result ≡ reply_to self.old (AckSelf hart ticket) }
@@ -251,9 +264,8 @@ impl Machine {
             return Reply::Refused(Refusal::Walking);
         }
         let what = self.tickets(hart).what(ticket);
-        let this = &mut self.harts[usize::from(hart)];
-        this.serve(&what);
-        let collected = acknowledge_own(&mut self.tickets[usize::from(hart)], ticket, hart);
+        self.drop_own(hart, &what);
+        let collected = self.acknowledge_own(hart, ticket);
         progress_reply(collected)
     }
 
@@ -265,6 +277,28 @@ impl Machine {
     {
         let tickets = self.tickets(hart);
         tickets.is_acked(ticket, from) && !tickets.is_collected(ticket, from)
+    }
+
+    /// Makes room in a mailbox for one more request, if the acknowledgement of one is collected now.
+    fn make_room(&mut self, sender: u8, receiver: u8, is_collected: bool)
+        requires sender { sender < length self.old.harts }
+        requires receiver { receiver < length self.old.harts }
+        ensures { self.new ≡ record self.old { mailboxes = put_mailbox self.old sender receiver (is_collected && can_release (mailbox_at self.old sender receiver)) (after_release (mailbox_at self.old sender receiver)) } }
+    {
+        if is_collected && self.mailbox(sender, receiver).can_release() {
+            self.release(sender, receiver);
+        }
+    }
+
+    /// Marks the acknowledgement of a hart that an open ticket names as collected, if it is there.
+    fn collect_named(&mut self, hart: u8, ticket: u32, from: u8) -> Collected
+        requires hart { hart < length self.old.harts }
+        requires names { IsTrue (names (tickets_at self.old hart) ticket from) }
+        ensures answer { result ≡ progress_at (after_collect (tickets_at self.old hart) ticket from) ticket }
+        ensures after { self.new ≡ record self.old { tickets = slice_set self.old.tickets hart (after_collect (tickets_at self.old hart) ticket from) } }
+    {
+        let tickets = &mut self.tickets[usize::from(hart)];
+        tickets.collect(ticket, from)
     }
 
     /// Collects the acknowledgement of another hart, if it is there.
@@ -282,13 +316,9 @@ impl Machine {
         if !self.tickets(hart).names(ticket, from) {
             return Reply::Refused(Refusal::NotNamed);
         }
-        let makes_room = self.is_collectable(hart, ticket, from)
-            && self.mailbox(hart, from).can_release();
-        if makes_room {
-            self.release(hart, from);
-        }
-        let tickets = &mut self.tickets[usize::from(hart)];
-        progress_reply(tickets.collect(ticket, from))
+        let is_collected = self.is_collectable(hart, ticket, from);
+        self.make_room(hart, from, is_collected);
+        progress_reply(self.collect_named(hart, ticket, from))
     }
 
     /// Frees the number of a ticket whose named harts are all collected.
