@@ -1,10 +1,7 @@
 pub mod EachLemmas
 pub mod FileLemmas
-pub mod GrammarLemmas
 pub mod KeyLemmas
 pub mod LineLemmas
 pub mod MemoryLemmas
-pub mod NumLemmas
 pub mod OutputLemmas
 pub mod StepLemmas
-pub mod WordLemmas
