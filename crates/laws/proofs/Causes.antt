@@ -23,6 +23,7 @@ use Rattle.history.specs.Due.{due, is_place, is_space, edit_at, Lawful}
 use Rattle.laws.specs.Kept.{HasPage, HavePages, HasAsids}
 use Rattle.laws.proofs.Tools.{by_test}
 use Rattle.laws.proofs.Accepted.{passed, ok_accepted, unmap_edit, protect_edit}
+use Rattle.laws.proofs.Orders.{order_made}
 use Rattle.history.proofs.OpenOrders.{order_cases}
 
 -- a page of a place, as an order follows and asks for it
@@ -65,11 +66,9 @@ protect_right C H hart place page flags named ticket r d t =
 
 follows_with : (C : Setup) (hart named : ℕ) (what : What) (cause : Cause) (t : Option ℕ) (order : Order) → ((ticket : ℕ) → t ≡ Some ticket → Follows C cause what)
     → order_with hart named what cause t ≡ Some order → Follows C order.cause order.what
-follows_with C hart named what cause None order f e = absurd cc
-follows_with C hart named what cause (Some ticket) order f e =
-    let same_cause : cause ≡ order.cause = cc in
-    let same_what : what ≡ order.what = cc in
-    subst (λ (c : Cause). Follows C c order.what) same_cause (subst (λ (w : What). Follows C cause w) same_what (f ticket refl))
+follows_with C hart named what cause t order f e =
+    let made = order_made hart named what cause t order e in
+    subst (λ (o : Order). Follows C o.cause o.what) made.2 (f made.0 made.1)
 
 follows_step : (C : Setup) (event : Event) (r : Reply) (H : History) (order : Order) → r ≡ due C H event → HasPage event → opened_order C event r ≡ Some order
     → Follows C order.cause order.what

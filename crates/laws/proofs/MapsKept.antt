@@ -27,6 +27,7 @@ use Rattle.history.specs.Staleness.{is_over, is_over_order, is_same_place, anew_
 use Rattle.laws.specs.Kept.{HasPage, HavePages, IsSetup, StaysMapped, StaysUnmapped, UserPagesAreNotGlobal, WindowIsShared}
 use Rattle.laws.proofs.Tools.{by_test}
 use Rattle.laws.proofs.Accepted.{turn_of}
+use Rattle.laws.proofs.Orders.{order_made}
 use Rattle.history.proofs.OpenOrders.{order_cases}
 use Rattle.laws.proofs.Causes.{IsAsked, follows}
 use Rattle.laws.proofs.TreeKept.{tree}
@@ -56,8 +57,8 @@ opened_is r t e = by_opened r e
 -- an order was opened with its cause
 with_cause : (hart named : ℕ) (what : What) (cause : Cause) (t : Option ℕ) (order : Order) → order_with hart named what cause t ≡ Some order
     → (ticket : ℕ) × (t ≡ Some ticket) × (cause ≡ order.cause)
-with_cause hart named what cause None order e = absurd cc
-with_cause hart named what cause (Some ticket) order e = (ticket, refl, cc)
+with_cause hart named what cause t order e =
+    let made = order_made hart named what cause t order e in (made.0, made.1, ap (λ (o : Order). o.cause) made.2)
 
 -- a test of a page that the order is about
 over_change : (cause : Cause) (place other : Place) (page span : Span) → IsChange cause place page → (is_same_place place other && overlaps page span) ≡ true → is_over cause other span ≡ true

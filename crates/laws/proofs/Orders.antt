@@ -24,13 +24,18 @@ pub record Opened (H : History) (order : Order) : Type 0 where
   pub names_sender : contains order.named order.sender ≡ true
   pub names_harts : (h : ℕ) → contains order.named h ≡ true → h < MAX_HARTS
 
+-- what an opening opened
+pub order_made : (hart named : ℕ) (what : What) (cause : Cause) (t : Option ℕ) (order : Order) → order_with hart named what cause t ≡ Some order
+    → (ticket : ℕ) × (t ≡ Some ticket) × (record { sender = hart; ticket = ticket; named = harts_in named; what = what; cause = cause } ≡ order)
+order_made hart named what cause None order e = absurd cc
+order_made hart named what cause (Some ticket) order e = (ticket, refl, cc)
+
 opened_with : (H : History) (hart named : ℕ) (what : What) (cause : Cause) (t : Option ℕ) (order : Order)
     → ((ticket : ℕ) → t ≡ Some ticket → OpeningFound H hart named ticket) → order_with hart named what cause t ≡ Some order → Opened H order
-opened_with H hart named what cause None order f e = absurd cc
-opened_with H hart named what cause (Some ticket) order f e =
-    let found = f ticket refl in
-    let same : record { sender = hart; ticket = ticket; named = harts_in named; what = what; cause = cause } ≡ order = cc in
-    rw (← same) (record { bound = found.bound; free = found.free; names_sender = found.names_sender; names_harts = λ h n. contains_below (λ i. eqb (bit_at named i) 1) h n })
+opened_with H hart named what cause t order f e =
+    let made = order_made hart named what cause t order e in
+    let found = f made.0 made.1 in
+    rw (← made.2) (record { bound = found.bound; free = found.free; names_sender = found.names_sender; names_harts = λ h n. contains_below (λ i. eqb (bit_at named i) 1) h n })
 
 pub opened_found : (C : Setup) (event : Event) (r : Reply) (H : History) (order : Order) → r ≡ due C H event → opened_order C event r ≡ Some order → Opened H order
 opened_found C (Unmap hart place page named) r H order d e =
