@@ -1,5 +1,5 @@
 -- The words of the steps of `run`: what the readers find is what the grammar says.
-use Rattle.std.proofs.Common.{◌≡◌, ◌⊎◌, ℕ, ◌+◌, ◌-◌, ◌<◌, ◌^◌, ◌%◌, ◌==◌, ◌||◌, ◌&&◌, ◌≤◌, Bool, true, false, nat_lt, nat_le, bit_and, bit_or, cond, codes, List, [], ◌∷◌, ◌++◌, length, take, drop, Option, Some, None, option_and_then, option_map, Result, Ok, Err, refl, sym, ap, subst, ◌∙◌, inl, inr, arith, if◌then◌else◌, eqb}
+use Rattle.std.proofs.Common.{◌≡◌, ◌⊎◌, ℕ, ◌-◌, ◌<◌, ◌^◌, ◌%◌, ◌==◌, ◌||◌, ◌&&◌, Bool, true, false, nat_lt, nat_le, bit_and, bit_or, cond, codes, List, [], ◌∷◌, ◌++◌, length, take, drop, Option, Some, None, option_and_then, option_map, Result, Ok, Err, refl, sym, ap, subst, ◌∙◌, inl, inr, arith, if◌then◌else◌, eqb}
 use Rattle.std.specs.Option.{option_or}
 use Rattle.std.specs.Str.{bytes_eq}
 use Rattle.std.proofs.lemmas.Bool.{and_parts, eqb-true}
@@ -18,10 +18,10 @@ use Rattle.history.specs.declared.event.Scope.TheVariants as scopes
 use Rattle.steps.specs.declared.fault.StepFault.{StepFault}
 use Rattle.steps.specs.declared.fault.StepFault.TheVariants.{NotPage}
 use Rattle.steps.specs.declared.fields.PageWord.{PageWord}
-use Rattle.steps.specs.Fields.{bits_of, flag_of, flags_of, is_page, number_below, page_after, page_at, page_of, place_of, register_of, scope_of, space_of, ticket_of, with_letters}
+use Rattle.steps.specs.Fields.{bits_of, flag_of, flags_of, is_page, number_below, page_after, page_at, page_of, place_of, register_of, scope_of, space_of, with_letters}
 use Rattle.steps.specs.Grammar.{WritesNumber}
 use Rattle.steps.specs.Num.{num_of}
-use Rattle.steps.specs.RunGrammar.{AddLetters, size_text, WritesBelow, WritesFlags, WritesPage, WritesPlace, WritesRegister, WritesScope, WritesSpace}
+use Rattle.steps.specs.RunGrammar.{AddLetters, size_text, WritesBelow, WritesFlags, WritesPage, WritesPlace, WritesRegister, WritesScope}
 use Rattle.steps.proofs.GrammarLemmas.{num_of-writes, writes-num_of}
 
 -- ---- numbers below a limit
@@ -60,10 +60,10 @@ named_or : {X : Type 0} (name word : List ℕ) (x y : X) (read : List ℕ → Op
     → (if b then Some x else option_map f (read word)) ≡ Some y → ((word ≡ name) × (x ≡ y)) ⊎ ((n : ℕ) × (read word ≡ Some n) × (f n ≡ y))
 named_or name word x y read f true e h = inl ((bytes_eq-Decides word name).0 e, same_Some _ _ h)
 named_or {X} name word x y read f false e h = inr (by_option (read word) refl h)
- where
-  by_option : (o : Option ℕ) → read word ≡ o → option_map f o ≡ Some y → (n : ℕ) × (read word ≡ Some n) × (f n ≡ y)
-  by_option None e h = cc
-  by_option (Some n) e h = (n, e, same_Some _ _ h)
+  where
+    by_option : (o : Option ℕ) → read word ≡ o → option_map f o ≡ Some y → (n : ℕ) × (read word ≡ Some n) × (f n ≡ y)
+    by_option None e h = cc
+    by_option (Some n) e h = (n, e, same_Some _ _ h)
 
 pub place-writes : (word : List ℕ) (place : Place) → WritesPlace word place → place_of word ≡ Some place
 place-writes word places.Kernel h = ap place_of h
@@ -71,8 +71,9 @@ place-writes word (places.Space space) h = not_named (codes "k") word places.Ker
 
 pub writes-place : (word : List ℕ) (place : Place) → place_of word ≡ Some place → WritesPlace word place
 writes-place word place h = elim (named_or (codes "k") word places.Kernel place space_of places.Space (bytes_eq word (codes "k")) refl h) [
-    inl k ↦ subst (WritesPlace word) k.1 k.0
-  | inr s ↦ subst (WritesPlace word) s.2 (writes-below (2 ^ 8) word s.0 s.1) ]
+  | inl k ↦ subst (WritesPlace word) k.1 k.0
+  | inr s ↦ subst (WritesPlace word) s.2 (writes-below (2 ^ 8) word s.0 s.1)
+]
 
 pub scope-writes : (word : List ℕ) (scope : Scope) → WritesScope word scope → scope_of word ≡ Some scope
 scope-writes word scopes.All h = ap scope_of h
@@ -80,8 +81,9 @@ scope-writes word (scopes.Space space) h = not_named (codes "all") word scopes.A
 
 pub writes-scope : (word : List ℕ) (scope : Scope) → scope_of word ≡ Some scope → WritesScope word scope
 writes-scope word scope h = elim (named_or (codes "all") word scopes.All scope space_of scopes.Space (bytes_eq word (codes "all")) refl h) [
-    inl k ↦ subst (WritesScope word) k.1 k.0
-  | inr s ↦ subst (WritesScope word) s.2 (writes-below (2 ^ 8) word s.0 s.1) ]
+  | inl k ↦ subst (WritesScope word) k.1 k.0
+  | inr s ↦ subst (WritesScope word) s.2 (writes-below (2 ^ 8) word s.0 s.1)
+]
 
 pub register-writes : (word : List ℕ) (register : Option ℕ) → WritesRegister word register → register_of word ≡ Some register
 register-writes word None h = ap register_of h
@@ -89,8 +91,9 @@ register-writes word (Some n) h = not_named (codes "x0") word None num_of Some n
 
 pub writes-register : (word : List ℕ) (register : Option ℕ) → register_of word ≡ Some register → WritesRegister word register
 writes-register word register h = elim (named_or (codes "x0") word None register num_of Some (bytes_eq word (codes "x0")) refl h) [
-    inl k ↦ subst (WritesRegister word) k.1 k.0
-  | inr s ↦ subst (WritesRegister word) s.2 (writes-num_of word s.0 s.1) ]
+  | inl k ↦ subst (WritesRegister word) k.1 k.0
+  | inr s ↦ subst (WritesRegister word) s.2 (writes-num_of word s.0 s.1)
+]
 
 -- ---- pages
 
@@ -114,9 +117,9 @@ is_page_test base size (inr high) aligned = grind (arith, nat_tests)
 
 is_page_from_test : (base : ℕ) (size : PageSize) → is_page (record { base = base; size = size }) ≡ true → IsCanonical base × (base % bytes_of size ≡ 0)
 is_page_from_test base size h = (canonical base (and_parts _ _ h).0, eqb-true _ _ (and_parts _ _ h).1)
- where
-  canonical : (va : ℕ) → (nat_lt va (2 ^ (address_bits - 1)) || (nat_le (2 ^ 64 - 2 ^ (address_bits - 1)) va && nat_lt va (2 ^ 64))) ≡ true → IsCanonical va
-  canonical va h = grind (arith, nat_tests)
+  where
+    canonical : (va : ℕ) → (nat_lt va (2 ^ (address_bits - 1)) || (nat_le (2 ^ 64 - 2 ^ (address_bits - 1)) va && nat_lt va (2 ^ 64))) ≡ true → IsCanonical va
+    canonical va h = grind (arith, nat_tests)
 
 pub page_is_there : (page : Span) → IsPage page → page_at (record { base = page.base; size = page.size }) ≡ Ok page
 page_is_there page h = rw (is_page_test page.base page.size h.canonical h.aligned) refl
@@ -147,14 +150,16 @@ IsPageWord size word page = (digits : List ℕ) × (word ≡ size_text page.size
 after_by : (size : PageSize) (word : List ℕ) (page : PageWord) (b : Bool) → bytes_eq (take (length (size_text size)) word) (size_text size) ≡ b
     → (if b then option_map (word_of size) (num_of (drop (length (size_text size)) word)) else None) ≡ Some page → IsPageWord size word page
 after_by size word page true e h = by_option (num_of (drop (length (size_text size)) word)) refl h
- where
-  by_option : (o : Option ℕ) → num_of (drop (length (size_text size)) word) ≡ o → option_map (word_of size) o ≡ Some page → IsPageWord size word page
-  by_option None is h = cc
-  by_option (Some base) is h =
-      let same : word_of size base ≡ page = same_Some _ _ h in
-      subst (IsPageWord size word) same (drop (length (size_text size)) word,
-        sym (take-append-drop (length (size_text size)) word) ∙ ap (λ front. front ++ drop (length (size_text size)) word) ((bytes_eq-Decides (take (length (size_text size)) word) (size_text size)).0 e),
-        writes-num_of _ base is)
+  where
+    by_option : (o : Option ℕ) → num_of (drop (length (size_text size)) word) ≡ o → option_map (word_of size) o ≡ Some page → IsPageWord size word page
+    by_option None is h = cc
+    by_option (Some base) is h =
+        let same : word_of size base ≡ page = same_Some _ _ h in
+        subst (IsPageWord size word) same (
+          drop (length (size_text size)) word,
+          sym (take-append-drop (length (size_text size)) word) ∙ ap (λ front. front ++ drop (length (size_text size)) word) ((bytes_eq-Decides (take (length (size_text size)) word) (size_text size)).0 e),
+          writes-num_of _ base is,
+        )
 after_by size word page false e h = cc
 
 after : (size : PageSize) (word : List ℕ) (page : PageWord) → page_after (size_text size) size word ≡ Some page → IsPageWord size word page
@@ -162,8 +167,9 @@ after size word page h = after_by size word page (bytes_eq (take (length (size_t
 
 pub writes-page_word : (word : List ℕ) (page : PageWord) → page_of word ≡ Some page → (digits : List ℕ) × (word ≡ size_text page.size ++ digits) × WritesNumber digits page.base
 writes-page_word word page h = elim (or_Some (option_or (page_after (codes "4K:") Kib4 word) (page_after (codes "2M:") Mib2 word)) (page_after (codes "1G:") Gib1 word) page h) [
-    inl small ↦ elim (or_Some (page_after (codes "4K:") Kib4 word) (page_after (codes "2M:") Mib2 word) page small) [ inl k ↦ after Kib4 word page k | inr m ↦ after Mib2 word page m ]
-  | inr g ↦ after Gib1 word page g ]
+  | inl small ↦ elim (or_Some (page_after (codes "4K:") Kib4 word) (page_after (codes "2M:") Mib2 word) page small) [ inl k ↦ after Kib4 word page k | inr m ↦ after Mib2 word page m ]
+  | inr g ↦ after Gib1 word page g
+]
 
 -- ---- flags
 
@@ -174,15 +180,16 @@ letters-add bits (letter ∷ letters) all (bit, is, unset, rest) = rw (is, unset
 add-letters : (bits : ℕ) (letters : List ℕ) (all : ℕ) → with_letters bits letters ≡ Some all → AddLetters bits letters all
 add-letters bits [] all h = same_Some _ _ h
 add-letters bits (letter ∷ letters) all h = by_option (flag_of letter) refl (λ more m. add-letters more letters all m) h
- where
-  by_test : (bit : ℕ) (b : Bool) → eqb (bit_and bits bit) 0 ≡ b → ((more : ℕ) → with_letters more letters ≡ Some all → AddLetters more letters all)
-      → (if b then with_letters (bit_or bits bit) letters else None) ≡ Some all → (bit_and bits bit ≡ 0) × AddLetters (bit_or bits bit) letters all
-  by_test bit true e ih h = (eqb-true _ _ e, ih (bit_or bits bit) h)
-  by_test bit false e ih h = cc
-  by_option : (o : Option ℕ) → flag_of letter ≡ o → ((more : ℕ) → with_letters more letters ≡ Some all → AddLetters more letters all)
-      → option_and_then (λ bit. if bit_and bits bit == 0 then with_letters (bit_or bits bit) letters else None) o ≡ Some all → AddLetters bits (letter ∷ letters) all
-  by_option None e ih h = cc
-  by_option (Some bit) e ih h = let rest = by_test bit (eqb (bit_and bits bit) 0) refl ih h in (bit, e, rest.0, rest.1)
+  where
+    by_test : (bit : ℕ) (b : Bool) → eqb (bit_and bits bit) 0 ≡ b → ((more : ℕ) → with_letters more letters ≡ Some all → AddLetters more letters all)
+        → (if b then with_letters (bit_or bits bit) letters else None) ≡ Some all → (bit_and bits bit ≡ 0) × AddLetters (bit_or bits bit) letters all
+    by_test bit true e ih h = (eqb-true _ _ e, ih (bit_or bits bit) h)
+    by_test bit false e ih h = cc
+
+    by_option : (o : Option ℕ) → flag_of letter ≡ o → ((more : ℕ) → with_letters more letters ≡ Some all → AddLetters more letters all)
+        → option_and_then (λ bit. if bit_and bits bit == 0 then with_letters (bit_or bits bit) letters else None) o ≡ Some all → AddLetters bits (letter ∷ letters) all
+    by_option None e ih h = cc
+    by_option (Some bit) e ih h = let rest = by_test bit (eqb (bit_and bits bit) 0) refl ih h in (bit, e, rest.0, rest.1)
 
 letters_dash : (all : ℕ) → with_letters 0 (codes "-") ≡ Some all → ⊥
 letters_dash all h = cc
@@ -214,7 +221,7 @@ bits-write (letter ∷ letters) all h = bits_by (letter ∷ letters) all (bytes_
 
 pub writes-flags : (word : List ℕ) (flags : PteFlags) → flags_of word ≡ Some flags → WritesFlags word flags
 writes-flags word flags h = by_bits (bits_of word) refl h
- where
-  by_bits : (o : Option ℕ) → bits_of word ≡ o → option_map flags_with o ≡ Some flags → WritesFlags word flags
-  by_bits None e h = cc
-  by_bits (Some bits) e h = subst (WritesFlags word) (same_Some _ _ h) (bits-write word bits e)
+  where
+    by_bits : (o : Option ℕ) → bits_of word ≡ o → option_map flags_with o ≡ Some flags → WritesFlags word flags
+    by_bits None e h = cc
+    by_bits (Some bits) e h = subst (WritesFlags word) (same_Some _ _ h) (bits-write word bits e)

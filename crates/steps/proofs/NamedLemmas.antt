@@ -1,6 +1,6 @@
 -- Sets of harts in the steps of `run`: what the reader finds is what the grammar says.
-use Rattle.std.proofs.Common.{◌≡◌, ◌⊎◌, ℕ, ◌<◌, ◌==◌, ◌&&◌, Bool, true, false, nat_lt, codes, List, [], ◌∷◌, ◌++◌, Option, Some, None, option_and_then, option_map, Result, Ok, Err, refl, sym, ap, subst, ◌∙◌, inl, inr, arith, if◌then◌else◌, eqb}
-use Rattle.std.specs.List.{AllByRecursion, list_all, slice_split}
+use Rattle.std.proofs.Common.{◌≡◌, ℕ, ◌<◌, ◌==◌, Bool, true, false, nat_lt, codes, List, [], ◌∷◌, ◌++◌, Option, Some, None, option_and_then, option_map, Ok, Err, refl, sym, ap, subst, ◌∙◌, inl, inr, arith, if◌then◌else◌}
+use Rattle.std.specs.List.{list_all}
 use Rattle.std.specs.Str.{bytes_eq}
 use Rattle.std.proofs.lemmas.Bool.{and_parts, eqb-true}
 use Rattle.std.proofs.lemmas.Bool.Decides.{nat_tests}
@@ -9,7 +9,6 @@ use Rattle.std.proofs.lemmas.List.Splits.{slice_split_at, slice_split_none}
 use Rattle.std.proofs.lemmas.Option.{same_Some}
 use Rattle.std.proofs.lemmas.Slice.Eq.{bytes_eq-Decides}
 use Rattle.shoot.specs.HartSet.{byte_of, no_harts}
-use Rattle.steps.specs.declared.fault.StepFault.{StepFault}
 use Rattle.steps.specs.declared.fault.StepFault.TheVariants.{NotStep, NoSuchHart}
 use Rattle.steps.specs.Fields.{named_in, nums_of, parts_of, set_among, set_in, with_harts}
 use Rattle.steps.specs.Num.{num_of}
@@ -72,9 +71,10 @@ harts-read harts [] word h = absurd h
 harts-read harts (hart ∷ []) word h =
     (ap nums_of (slice_split_none is_comma word (All-from_recursion _ word h.1)) ∙ rw (num_of-writes word hart h.0.0) refl, rw (lt_test hart harts h.0.1) refl)
 harts-read harts (hart ∷ next ∷ more) word (part, rest, is, writes, good, rests) =
-    let read = harts-read harts (next ∷ more) rest rests in
-    (ap nums_of (ap parts_of is ∙ slice_split_at is_comma part 44 rest (All-from_recursion _ part good) refl) ∙ rw (num_of-writes part hart writes.0, read.0) refl,
-     rw (lt_test hart harts writes.1) read.1)
+    let read = harts-read harts (next ∷ more) rest rests in (
+      ap nums_of (ap parts_of is ∙ slice_split_at is_comma part 44 rest (All-from_recursion _ part good) refl) ∙ rw (num_of-writes part hart writes.0, read.0) refl,
+      rw (lt_test hart harts writes.1) read.1,
+    )
 
 option_map-Some : {A B : Type 0} (f : A → B) (o : Option A) (y : B) → option_map f o ≡ Some y → (x : A) × ((o ≡ Some x) × (f x ≡ y))
 option_map-Some f None y h = cc
@@ -95,13 +95,13 @@ writes_parts harts (part ∷ []) word named has h there =
     let is : n.0 ∷ [] ≡ named = same_Some _ _ n.1.1 in
     let below = lt_from_test n.0 harts (and_parts _ _ (subst (λ ns. are_there harts ns ≡ true) (sym is) there)).0 in
     subst (WritesHarts harts word) is
-      ((subst (λ w. WritesBelow harts w n.0) (sym has.0) (writes-num_of part n.0 n.1.0, below)), subst IsPart (sym has.0) has.1)
+    ((subst (λ w. WritesBelow harts w n.0) (sym has.0) (writes-num_of part n.0 n.1.0, below)), subst IsPart (sym has.0) has.1)
 writes_parts harts (part ∷ next ∷ more) word named (rest, is, good, has) h there =
     let n = option_and_then-Some (λ n. option_map (λ ns. n ∷ ns) (nums_of (next ∷ more))) (num_of part) named h in
     let ns = option_map-Some (λ ns. n.0 ∷ ns) (nums_of (next ∷ more)) named n.1.1 in
     let tests = and_parts _ _ (subst (λ xs. are_there harts xs ≡ true) (sym ns.1.1) there) in
     subst (WritesHarts harts word) ns.1.1
-      (longer harts word part rest n.0 ns.0 is (writes-num_of part n.0 n.1.0, lt_from_test n.0 harts tests.0) good (writes_parts harts (next ∷ more) rest ns.0 has ns.1.0 tests.1))
+    (longer harts word part rest n.0 ns.0 is (writes-num_of part n.0 n.1.0, lt_from_test n.0 harts tests.0) good (writes_parts harts (next ∷ more) rest ns.0 has ns.1.0 tests.1))
 
 -- ---- the set
 

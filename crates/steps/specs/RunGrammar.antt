@@ -1,5 +1,5 @@
 -- How the steps of `run` are written, as relations between a text and what it stands for.
-use Rattle.std.specs.Prelude.{ℕ, ◌≡◌, ◌⊎◌, ◌<◌, ◌≤◌, ◌^◌, ◌==◌, Bool, true, false, bit_and, bit_or, codes, List, [], ◌∷◌, ◌++◌, length, Option, Some, None, slice_set}
+use Rattle.std.specs.Prelude.{ℕ, ◌≡◌, ◌⊎◌, ◌<◌, ◌^◌, ◌==◌, false, bit_and, bit_or, codes, List, [], ◌∷◌, ◌++◌, length, Option, Some, None}
 use Rattle.std.specs.List.{AllByRecursion}
 use Rattle.pte.specs.Address.{IsPage, Span}
 use Rattle.pte.specs.declared.address.PageSize.{PageSize}

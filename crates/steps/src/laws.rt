@@ -1,8 +1,11 @@
 //! Laws of the texts: each call makes no step, and its clauses hold of the definitions alone.
-ghost use Rattle.std.specs.Prelude.{◌≡◌, List, ℕ, Some, ◌↔◌};
+ghost use Rattle.std.specs.Prelude.{◌≡◌, List, ℕ, Ok, Some, ◌↔◌};
+ghost use Rattle.history.specs.declared.event.Event.{Event};
 ghost use Rattle.steps.specs.declared.step.WalkStep.{WalkStep};
 ghost use Rattle.steps.specs.Grammar.{WritesNumber, WritesStep};
 ghost use Rattle.steps.specs.Num.{num_of};
+ghost use Rattle.steps.specs.RunGrammar.{WritesRunStep};
+ghost use Rattle.steps.specs.RunStep.{run_step_of, step_among};
 ghost use Rattle.steps.specs.Step.{walk_step_of};
 
 /// A word writes at most one number, and the reader finds just the number that is written.
@@ -15,4 +18,11 @@ pub fn num_is_written()
 pub fn walk_step_is_written()
     ensures one { (text : List ℕ) (a b : WalkStep) → WritesStep text a → WritesStep text b → a ≡ b }
     ensures found { (text : List ℕ) (step : WalkStep) → WritesStep text step ↔ (walk_step_of text ≡ Some step) }
+{}
+
+/// For each number of harts, a text writes at most one step of `run`, and the reader finds just the step that is written.
+pub fn run_step_is_written()
+    ensures one { (harts : ℕ) (text : List ℕ) (a b : Event) → WritesRunStep harts text a → WritesRunStep harts text b → a ≡ b }
+    ensures found { (harts : ℕ) (text : List ℕ) (event : Event) → WritesRunStep harts text event ↔ (step_among harts text ≡ Ok event) }
+    ensures found_of_eight { (text : List ℕ) (event : Event) → WritesRunStep 8 text event ↔ (run_step_of text ≡ Some event) }
 {}
