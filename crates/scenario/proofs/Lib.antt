@@ -6,5 +6,6 @@ pub mod LineLemmas
 pub mod MemoryLemmas
 pub mod NumLemmas
 pub mod OutputLemmas
+pub mod ReplyLemmas
 pub mod StepLemmas
 pub mod WordLemmas

@@ -8,6 +8,7 @@ pub mod Limits
 pub mod Memory
 pub mod WalkFile
 pub mod Lines
+pub mod ReplyLines
 pub mod Output
 pub mod Input
 pub mod Command

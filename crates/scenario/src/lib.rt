@@ -14,6 +14,7 @@ mod num;
 mod output;
 mod plan;
 mod program;
+mod reply_lines;
 mod scenario;
 mod step;
 mod texts;
