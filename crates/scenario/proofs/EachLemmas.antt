@@ -5,12 +5,12 @@ use Rattle.std.proofs.Math.Seq.{drop-length}
 use Rattle.toml.specs.Data.{Data, as_str, as_array}
 use Rattle.toml.specs.View.{view, items_of, array_view}
 use Rattle.toml.specs.declared.value.Value.{Value}
-use Rattle.scenario.specs.declared.step.WalkStep.{WalkStep}
+use Rattle.steps.specs.declared.step.WalkStep.{WalkStep}
 use Rattle.scenario.specs.declared.fault.StepFault.TheVariants.{NotStep}
 use Rattle.scenario.specs.Faults.{Failure, wrong_step, ◌>>=◌}
 use Rattle.scenario.specs.Keys.{each, listed, texts_of}
 use Rattle.scenario.specs.WalkFile.{ppn_of, ppns_of, steps_from}
-use Rattle.scenario.specs.Step.{walk_step_of}
+use Rattle.steps.specs.Step.{walk_step_of}
 
 -- what is read so far, and what each of the rest gives, is what each of them all gives
 abbrev pub EachSoFar : {X Y : Type 0} → (X → Option Y) → List X → ℕ → List Y → Type 0

@@ -1,11 +1,8 @@
 pub mod EachLemmas
 pub mod FileLemmas
-pub mod GrammarLemmas
 pub mod KeyLemmas
 pub mod LineLemmas
 pub mod MemoryLemmas
-pub mod NumLemmas
 pub mod OutputLemmas
 pub mod ReplyLemmas
 pub mod StepLemmas
-pub mod WordLemmas

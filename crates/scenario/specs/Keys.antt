@@ -8,8 +8,8 @@ use Rattle.std.specs.Ordering.{nat_cmp, is_lt}
 use Rattle.std.specs.Cmp.Lexicographic.{slice_cmp}
 use Rattle.std.specs.Str.{bytes_eq}
 use Rattle.toml.specs.Data.{Data, as_str, as_array, Items, no_items, item, Members, no_members, member, get_member}
-use Rattle.scenario.specs.Num.{num_of}
-use Rattle.scenario.specs.Words.{words_of}
+use Rattle.steps.specs.Num.{num_of}
+use Rattle.steps.specs.Words.{words_of}
 use Rattle.scenario.specs.Faults.{Failure, wrong_key}
 
 -- ---- unknown keys

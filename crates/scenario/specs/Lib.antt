@@ -1,7 +1,3 @@
-pub mod Num
-pub mod Words
-pub mod Step
-pub mod Grammar
 pub mod Faults
 pub mod Keys
 pub mod Limits

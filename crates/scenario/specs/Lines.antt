@@ -9,7 +9,7 @@ use Rattle.walk.specs.declared.found_or_trap.Found.{Found}
 use Rattle.walk.specs.declared.found_or_trap.Trap.{Trap}
 use Rattle.walk.specs.declared.found_or_trap.Why.{Why}
 use Rattle.walk.specs.declared.found_or_trap.Why.TheVariants.{NotCanonical, Outside, Invalid, Reserved, TooDeep, Denied, Misaligned, NotAccessed, NotDirty}
-use Rattle.scenario.specs.declared.step.WalkStep.{WalkStep}
+use Rattle.steps.specs.declared.step.WalkStep.{WalkStep}
 use Rattle.scenario.specs.Faults.{Failure}
 use Rattle.scenario.specs.WalkFile.{WalkPlan}
 

@@ -10,10 +10,10 @@ use Rattle.walk.specs.Leads.{Tables}
 use Rattle.scenario.specs.declared.fault.StepFault.TheVariants.{NotStep}
 use Rattle.scenario.specs.declared.frames.TableWord.{TableWord}
 use Rattle.scenario.specs.declared.plan.WalkScenario.{WalkScenario}
-use Rattle.scenario.specs.declared.step.WalkStep.{WalkStep}
-use Rattle.scenario.specs.Num.{num_of}
-use Rattle.scenario.specs.Step.{walk_step_of}
-use Rattle.scenario.specs.Words.{words_of}
+use Rattle.steps.specs.declared.step.WalkStep.{WalkStep}
+use Rattle.steps.specs.Num.{num_of}
+use Rattle.steps.specs.Step.{walk_step_of}
+use Rattle.steps.specs.Words.{words_of}
 use Rattle.scenario.specs.Faults.{Failure, not_toml, wrong_key, too_many, wrong_step, ◌>>=◌}
 use Rattle.scenario.specs.Keys.{below, each, known_only, one_number, texts_at, value_or}
 use Rattle.scenario.specs.Limits.{most_frames, most_steps}

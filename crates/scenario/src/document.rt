@@ -4,13 +4,12 @@ ghost use Rattle.toml.specs.Data.{get_member, as_str};
 ghost use Rattle.toml.specs.View.{table_view, view};
 ghost use Rattle.scenario.specs.Faults.{Fails, Gives, wrong_key};
 ghost use Rattle.scenario.specs.Keys.{each, is_known, known_only, least_unknown, one_number, one_word, text_views, texts_at, texts_of};
-ghost use Rattle.scenario.specs.Num.{num_of};
+ghost use Rattle.steps.specs.Num.{num_of};
 ghost use Rattle.scenario.specs.WalkFile.{walk_keys};
 
 use crate::fault::Fault;
-use crate::num::num;
-use crate::words::words;
 use std::alloc::{AllocError, Global};
+use steps::{num, words};
 use toml::{Table, Value};
 
 fn is_walk_key(key: &str) -> bool

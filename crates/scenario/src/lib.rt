@@ -10,18 +10,15 @@ mod frames;
 mod input;
 mod laws;
 mod lines;
-mod num;
 mod output;
 mod plan;
 mod program;
 mod reply_lines;
 mod scenario;
-mod step;
 mod texts;
-mod words;
 
 pub use fault::{Fault, StepFault};
-pub use laws::{least_unknown_key, num_is_written, one_text, walk_step_is_written};
+pub use laws::{least_unknown_key, one_text};
 pub use program::{Which, command};
 pub use texts::walk_text;
 

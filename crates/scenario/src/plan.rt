@@ -3,7 +3,7 @@ ghost use Rattle.std.specs.Prelude.{◌<◌, ◌^◌};
 ghost use Rattle.pte.specs.Entry.{ppn_bits};
 
 use crate::frames::TableFrames;
-use crate::step::WalkStep;
+use steps::WalkStep;
 
 /// A scenario of `walk`, read and checked.
 #[derive(Debug, Drop)]

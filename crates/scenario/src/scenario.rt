@@ -11,12 +11,10 @@ ghost use Rattle.scenario.specs.WalkFile.{frames_at, plan_view, ppn_of, ppns_of,
 use crate::document::{check_keys, key_fault, number, texts_of_key, value_at};
 use crate::fault::{Fault, StepFault};
 use crate::frames::{Frames, MOST_FRAMES, TableFrames, TableWord};
-use crate::num::num;
 use crate::plan::WalkScenario;
-use crate::step::{WalkStep, walk_step};
-use crate::words::words;
 use pte::{PPN_BITS, TABLE_LENGTH};
 use std::alloc::{AllocError, Global};
+use steps::{WalkStep, num, walk_step, words};
 use toml::Table;
 
 /// PPNs are below this.

@@ -1,0 +1,4 @@
+pub mod GrammarLemmas
+pub mod NumLemmas
+pub mod StepLemmas
+pub mod WordLemmas

@@ -1,0 +1,4 @@
+pub mod Num
+pub mod Words
+pub mod Step
+pub mod Grammar

@@ -1,0 +1,18 @@
+//! The texts of steps: numbers, words, and the steps that `svsim` reads.
+//!
+//! A step is one text of a scenario file. Its words stand between spaces and tabs, and its numbers are hexadecimal after `0x`
+//! or decimal.
+#![tactic(auto)]
+
+mod laws;
+mod numbers;
+mod step;
+mod text;
+
+pub use laws::{num_is_written, walk_step_is_written};
+pub use numbers::num;
+pub use step::{WalkStep, walk_step};
+pub use text::words;
+
+#[cfg(test)]
+mod tests;
