@@ -17,6 +17,10 @@ use Rattle.scenario.specs.Faults.{Failure, wrong_key}
 abbrev pub is_known : List (List ℕ) → List ℕ → Bool
 is_known known key = list_any (bytes_eq key) known
 
+-- the texts of a list of keys
+abbrev pub key_texts : List (Bor (List ℕ)) → List (List ℕ)
+key_texts keys = map (λ key. key.now) keys
+
 -- the first text comes before the second by bytes
 abbrev pub is_before : List ℕ → List ℕ → Bool
 is_before a b = is_lt (slice_cmp nat_cmp a b)

@@ -17,6 +17,9 @@ use std::alloc::{AllocError, Global};
 use steps::{WalkStep, num, walk_step, words};
 use toml::Table;
 
+/// The keys that `walk` knows.
+const KEYS: [&str; 4] = ["root", "frames", "words", "steps"];
+
 /// PPNs are below this.
 const PPN_LIMIT: u64 = 1 << PPN_BITS;
 
@@ -175,7 +178,7 @@ fn steps(alloc: Global, texts: &[&str]) -> Result<Vec<WalkStep>, Fault>
 fn scenario(alloc: Global, table: &Table) -> Result<WalkScenario, Fault>
     ensures { Gives plan_view result (walk_plan_of (table_view table.now)) }
 {
-    check_keys(alloc, table)?;
+    check_keys(alloc, table, &KEYS)?;
     let root = root(alloc, table)?;
     let frames = frames(alloc, table)?;
     let tables = tables(alloc, table, frames)?;
