@@ -9,6 +9,8 @@ use Rattle.steps.specs.declared.step.WalkStep.{WalkStep}
 use Rattle.scenario.specs.declared.fault.StepFault.TheVariants.{NotStep}
 use Rattle.scenario.specs.Faults.{Failure, wrong_step, ◌>>=◌}
 use Rattle.scenario.specs.Keys.{each, listed, texts_of}
+use Rattle.spaces.specs.Limits.{max_harts, max_spaces}
+use Rattle.scenario.specs.Settings.{few_spaces, space_of, spares_of, whole_of, wholes_of}
 use Rattle.scenario.specs.WalkFile.{ppn_of, ppns_of, steps_from}
 use Rattle.steps.specs.Step.{walk_step_of}
 
@@ -88,3 +90,14 @@ steps_refused ts i front d lt is so_far = so_far ∙ rw (drop_more ts i d lt, is
 
 pub steps_end : (ts : List (Bor (List ℕ))) (front : List WalkStep) → StepsSoFar ts (length ts) front → steps_from 1 (map (λ text. text.now) ts) ≡ Ok front
 steps_end ts front so_far = so_far ∙ rw (drop-length ts) (ap Ok (append-nil front))
+
+-- ---- the configuration
+
+pub spaces_fit : (ts : List (Bor (List ℕ))) → length ts ≤ max_spaces → few_spaces (map (λ text. text.now) ts) ≡ each (λ (text : Bor (List ℕ)). space_of text.now) ts
+spaces_fit ts fits = rw (length-map ts (λ text. text.now), le-leb (length ts) max_spaces fits) (each-map space_of (λ (text : Bor (List ℕ)). text.now) ts)
+
+pub wholes_fit : (values : List Value) → length values ≤ max_harts → wholes_of (map view values) ≡ each (λ value. whole_of (view value)) values
+wholes_fit values fits = rw (length-map values view, le-leb (length values) max_harts fits) (each-map whole_of view values)
+
+pub spares_of_array : (values : Vec Value Global) (d : Data) → Some (array_view values) ≡ as_array d → wholes_of (map view values.items) ≡ spares_of d
+spares_of_array values d is = rw (sym is, listed-items (map view values.items)) refl

@@ -36,6 +36,7 @@ pub fault_ends : (which : Which) (bytes : List ℕ) (fault : Fault) (old new : O
     → EndsBy fault (file_fault which bytes) (FileLines which bytes) old new → EndsAs which bytes (ending_of_fault fault) old new
 fault_ends which bytes faults.NotToml old new short h = record { suits = (short, h.0); leaves = h.1 }
 fault_ends which bytes (faults.Key name) old new short h = record { suits = (short, h.0); leaves = h.1 }
+fault_ends which bytes faults.Layout old new short h = record { suits = (short, h.0); leaves = h.1 }
 fault_ends which bytes faults.TooMany old new short h = record { suits = (short, h.0); leaves = h.1 }
 fault_ends which bytes (faults.Step n fault) old new short h = record { suits = (short, h.0); leaves = h.1 }
 fault_ends which bytes faults.Output old new short h = record { suits = (short, h.0); leaves = h.1 }
@@ -45,6 +46,7 @@ pub fault_silent : (which : Which) (bytes : List ℕ) (fault : Fault) (old new :
     → EndsBy fault (file_fault which bytes) (FileLines which bytes) old new → IsSilent (ending_of_fault fault) old new
 fault_silent which bytes faults.NotToml old new h = h.1
 fault_silent which bytes (faults.Key name) old new h = h.1
+fault_silent which bytes faults.Layout old new h = h.1
 fault_silent which bytes faults.TooMany old new h = h.1
 fault_silent which bytes (faults.Step n fault) old new h = h.1
 fault_silent which bytes faults.Output old new h = tt

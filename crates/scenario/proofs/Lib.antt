@@ -1,6 +1,7 @@
 pub mod EachLemmas
 pub mod FileLemmas
 pub mod KeyLemmas
+pub mod LimitLemmas
 pub mod LineLemmas
 pub mod MemoryLemmas
 pub mod OutputLemmas

@@ -8,7 +8,7 @@ use Rattle.scenario.specs.declared.program.Trouble.TheVariants as troubles
 use Rattle.scenario.specs.declared.fault.Fault.{Fault}
 use Rattle.scenario.specs.declared.fault.Fault.TheVariants as faults
 use Rattle.std.specs.Prelude.{string_bytes}
-use Rattle.scenario.specs.Faults.{Failure, not_toml, wrong_key, too_many, wrong_step, failure_text, fault_in}
+use Rattle.scenario.specs.Faults.{Failure, not_toml, wrong_key, bad_layout, too_many, wrong_step, failure_text, fault_in}
 use Rattle.scenario.specs.Lines.{LinesOf, Prints}
 use Rattle.scenario.specs.Output.{AppendsFront, WritesAll, WritesFront}
 use Rattle.scenario.specs.Limits.{most_bytes}
@@ -88,6 +88,7 @@ pub record Ends (which : Which) (file bytes : List ℕ) (status : ℕ) (out_old 
 abbrev pub ending_of_fault : Fault → Ending
 ending_of_fault faults.NotToml = refused not_toml
 ending_of_fault (faults.Key name) = refused (wrong_key (string_bytes name))
+ending_of_fault faults.Layout = refused bad_layout
 ending_of_fault faults.TooMany = refused too_many
 ending_of_fault (faults.Step n fault) = refused (wrong_step n fault)
 ending_of_fault faults.Output = output_failed

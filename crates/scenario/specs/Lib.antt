@@ -2,6 +2,7 @@ pub mod Faults
 pub mod Keys
 pub mod Limits
 pub mod Memory
+pub mod Settings
 pub mod WalkFile
 pub mod Lines
 pub mod ReplyLines

@@ -88,7 +88,7 @@ fn texts<'a>(alloc: Global, values: &'a [Value]) -> Result<Option<Vec<&'a str>>,
 }
 
 /// The texts of an array that has nothing else.
-fn texts_in<'a>(alloc: Global, value: &'a Value) -> Result<Option<Vec<&'a str>>, AllocError>
+pub fn texts_in<'a>(alloc: Global, value: &'a Value) -> Result<Option<Vec<&'a str>>, AllocError>
     ensures { IfOk result (λ found. option_map text_views found ≡ texts_of (view value.now)) }
 {
     match value.as_array() {

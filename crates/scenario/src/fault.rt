@@ -20,6 +20,8 @@ pub enum Fault {
     NotToml,
     /// A key that the command does not know, or one whose value has the wrong type or content.
     Key(String),
+    /// The harts, spaces and frames are not within the limits.
+    Layout,
     /// More than 65,536 steps.
     TooMany,
     /// The step of this number, from 1.
@@ -55,6 +57,7 @@ impl fmt::Display for Fault {
         match self {
             Fault::NotToml => f.write_str("not TOML"),
             Fault::Key(name) => write!(f, "key {name}: wrong"),
+            Fault::Layout => f.write_str("layout refused"),
             Fault::TooMany => f.write_str("too many steps"),
             Fault::Step(number, fault) => write!(f, "step {number}: {fault}"),
             Fault::Output => f.write_str("output failed"),

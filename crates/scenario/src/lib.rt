@@ -15,6 +15,7 @@ mod plan;
 mod program;
 mod reply_lines;
 mod scenario;
+mod settings;
 mod texts;
 
 pub use fault::{Fault, StepFault};
