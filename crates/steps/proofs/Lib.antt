@@ -1,4 +1,5 @@
 pub mod GrammarLemmas
+pub mod HartLemmas
 pub mod NumLemmas
 pub mod StepLemmas
 pub mod WordLemmas

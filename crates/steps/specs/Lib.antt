@@ -2,3 +2,6 @@ pub mod Num
 pub mod Words
 pub mod Step
 pub mod Grammar
+pub mod StepFaults
+pub mod Fields
+pub mod RunStep

@@ -4,13 +4,18 @@
 //! or decimal.
 #![tactic(auto)]
 
+mod fault;
+mod fields;
 mod laws;
 mod numbers;
+mod run;
 mod step;
 mod text;
 
+pub use fault::StepFault;
 pub use laws::{num_is_written, walk_step_is_written};
 pub use numbers::num;
+pub use run::{run_step, run_step_among};
 pub use step::{WalkStep, walk_step};
 pub use text::words;
 

@@ -33,7 +33,7 @@ fn step_in(words: &[&[u8]]) -> Option<WalkStep>
 }
 
 /// The words `M A VA`, for any command that has them in its steps.
-fn translation(mode: &[u8], access: &[u8], address: &[u8]) -> Option<WalkStep>
+pub fn translation(mode: &[u8], access: &[u8], address: &[u8]) -> Option<WalkStep>
     ensures { result ≡ translation_of mode.now access.now address.now }
 {
     let ctx = read_ctx(mode)?;
