@@ -1,16 +1,15 @@
 -- The test of the limits is the limits.
-use Rattle.std.proofs.Common.{◌≡◌, ℕ, ◌+◌, ◌^◌, ◌<◌, ◌≤◌, ◌↔◌, ◌==◌, ◌&&◌, Bool, true, false, nat_lt, nat_le, List, [], ◌∷◌, length, refl, sym, leb, ltb, le-leb, arith}
-use Rattle.std.specs.Prelude.{All, IsTrue}
+use Rattle.std.proofs.Common.{◌≡◌, ℕ, ◌+◌, ◌^◌, ◌<◌, ◌≤◌, ◌↔◌, ◌&&◌, Bool, true, nat_lt, nat_le, List, [], ◌∷◌, length, refl, le-leb}
+use Rattle.std.specs.Prelude.{IsTrue}
 use Rattle.std.specs.List.{AllByRecursion, list_all}
 use Rattle.std.proofs.lemmas.Bool.{and_parts, eqb-true, eq-eqb, leb-true, lt-ltb, ltb-true}
-use Rattle.std.proofs.lemmas.Bool.Decides.{nat_tests}
 use Rattle.std.proofs.lemmas.List.Elements.{All-from_recursion, recursion_from_All}
 use Rattle.pte.specs.Entry.{ppn_bits}
 use Rattle.walk.proofs.Unique.{same_bool}
 use Rattle.spaces.specs.declared.configuration.Config.{Config}
 use Rattle.spaces.specs.declared.configuration.Space.{Space}
 use Rattle.spaces.specs.Layout.{frame_count, layout_of}
-use Rattle.spaces.specs.Limits.{asids_differ, max_capacity, max_frames, max_harts, max_spaces, max_window, MeetsLimits}
+use Rattle.spaces.specs.Limits.{max_capacity, max_frames, max_harts, max_spaces, max_window, MeetsLimits}
 use Rattle.scenario.specs.Settings.{is_from_one, is_within_limits}
 
 both : (a b : Bool) → a ≡ true → b ≡ true → (a && b) ≡ true
@@ -58,13 +57,19 @@ meets c e =
     let window_range = is_one_to max_window c.window window.0 in
     let capacity_range = is_one_to max_capacity c.capacity capacity.0 in
     record {
-      some_hart = hart_range.0; harts = hart_range.1; some_space = space_range.0; spaces = space_range.1;
+      some_hart = hart_range.0;
+      harts = hart_range.1;
+      some_space = space_range.0;
+      spaces = space_range.1;
       homes = All-from_recursion _ c.spaces.items (homes_told c.harts c.spaces.items homes.0);
-      asids = asids.0; some_window = window_range.0; window = window_range.1;
+      asids = asids.0;
+      some_window = window_range.0;
+      window = window_range.1;
       spares = eqb-true (length c.spares.items) c.harts spares.0;
       frames_fit = leb-true (frame_count (layout_of c)) max_frames frames.0;
       ppns_fit = leb-true (c.base + frame_count (layout_of c)) (2 ^ ppn_bits) frames.1;
-      some_capacity = capacity_range.0; capacity = capacity_range.1;
+      some_capacity = capacity_range.0;
+      capacity = capacity_range.1;
     }
 
 pub checked_is : (c : Config) (b : Bool) → (IsTrue b ↔ MeetsLimits max_frames c) → b ≡ is_within_limits c

@@ -3,8 +3,8 @@ use Rattle.std.specs.Prelude.{◌≡◌, ℕ, ◌++◌, List, Option, Some, None
 use Rattle.std.specs.Fmt.{decimal}
 use Rattle.scenario.specs.declared.fault.Fault.{Fault}
 use Rattle.scenario.specs.declared.fault.Fault.TheVariants as faults
-use Rattle.scenario.specs.declared.fault.StepFault.{StepFault}
-use Rattle.scenario.specs.declared.fault.StepFault.TheVariants.{NotStep}
+use Rattle.steps.specs.declared.fault.StepFault.{StepFault}
+use Rattle.steps.specs.StepFaults.{step_fault_text}
 
 -- what is wrong with a text: it is no TOML, a key is wrong, the layout is not within the limits, there are too many steps,
 -- or the step of a number is wrong
@@ -14,9 +14,6 @@ pub data Failure : Type 0 where
   bad_layout : Failure
   too_many : Failure
   wrong_step : ℕ → StepFault → Failure
-
-abbrev pub step_fault_text : StepFault → List ℕ
-step_fault_text NotStep = codes "not a step"
 
 abbrev pub failure_text : Failure → List ℕ
 failure_text not_toml = codes "not TOML"

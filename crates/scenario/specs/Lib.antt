@@ -1,8 +1,9 @@
 pub mod Faults
-pub mod Keys
 pub mod Limits
+pub mod Keys
 pub mod Memory
 pub mod Settings
+pub mod RunFile
 pub mod WalkFile
 pub mod Lines
 pub mod ReplyLines

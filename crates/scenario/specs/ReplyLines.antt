@@ -1,5 +1,5 @@
 -- The lines that `run` prints: that of each step has its number and its reply.
-use Rattle.std.specs.Prelude.{ℕ, ◌+◌, Bool, List, [], ◌∷◌, ◌++◌, Option, Some, None, codes, if◌then◌else◌}
+use Rattle.std.specs.Prelude.{◌≡◌, ℕ, ◌+◌, Bool, List, [], ◌∷◌, ◌++◌, Option, Some, None, codes, if◌then◌else◌}
 use Rattle.std.specs.Fmt.{decimal}
 use Rattle.std.specs.List.{filter, join_by}
 use Rattle.pte.specs.Address.{Span}
@@ -11,6 +11,9 @@ use Rattle.history.specs.declared.refusal.Refusal.{Refusal}
 use Rattle.history.specs.declared.refusal.Refusal.TheVariants.{NoHart, NoSpace, NotHome, WrongHalf, BadFlags, PpnTooLarge, Misaligned, AlreadyMapped, LeafInWay, TableInWay, NoFrame, NotMapped, WrongSize, HomeNotNamed, NoTicket, NotOpen, NotNamed, AlreadyPosted, Closed, Full, Empty, Walking, NotWalking, Serving, NotServing, NotFenced, NotDone}
 use Rattle.history.specs.declared.reply.Reply.{Reply}
 use Rattle.history.specs.declared.reply.Reply.TheVariants as reply
+use Rattle.history.specs.Runs.{due_replies}
+use Rattle.history.specs.Setup.{setup_of}
+use Rattle.scenario.specs.RunFile.{RunPlan}
 use Rattle.scenario.specs.Lines.{hex, size_text, trap_text}
 
 abbrev pub refusal_text : Refusal → List ℕ
@@ -90,3 +93,7 @@ lines_from n (reply ∷ replies) = reply_line n reply ++ lines_from (n + 1) repl
 
 abbrev pub reply_lines : List Reply → List ℕ
 reply_lines replies = lines_from 1 replies
+
+-- what `run` prints of a scenario: the lines of the replies that are due to its steps, from the opening on
+abbrev pub PrintsReplies : RunPlan → List ℕ → Type 0
+PrintsReplies plan lines = lines ≡ reply_lines (due_replies (setup_of plan.config) [] plan.events)

@@ -82,8 +82,12 @@ config_at ms = do
   spares ← spares_at harts ms
   spaces ← spaces_at ms
   Ok (record {
-    harts = harts; spaces = record { items = spaces }; window = window; base = base;
-    spares = record { items = spares }; capacity = capacity;
+    harts = harts;
+    spaces = record { items = spaces };
+    window = window;
+    base = base;
+    spares = record { items = spares };
+    capacity = capacity;
   })
 
 -- the number is from 1 to this

@@ -1,10 +1,12 @@
 //! What the keys of a document hold.
 ghost use Rattle.std.specs.Prelude.{◌≡◌, IfOk, map, option_map, option_and_then, string_bytes, Ok, Err};
 ghost use Rattle.std.specs.List.{list_any};
+ghost use Rattle.std.specs.Option.{ok_or};
 ghost use Rattle.std.specs.Str.{bytes_eq};
 ghost use Rattle.toml.specs.Data.{get_member, as_str};
+ghost use Rattle.toml.specs.Parse.{parse_document};
 ghost use Rattle.toml.specs.View.{table_view, view};
-ghost use Rattle.scenario.specs.Faults.{Fails, Gives, wrong_key};
+ghost use Rattle.scenario.specs.Faults.{Fails, Gives, not_toml, wrong_key};
 ghost use Rattle.scenario.specs.Keys.{each, is_known, key_texts, known_only, least_unknown, one_number, one_word, text_views, texts_at, texts_of};
 ghost use Rattle.steps.specs.Num.{num_of};
 
@@ -12,6 +14,17 @@ use crate::fault::Fault;
 use std::alloc::{AllocError, Global};
 use steps::{num, words};
 use toml::{Table, Value};
+
+/// The table of a document.
+pub fn document(alloc: Global, text: &str) -> Result<Table, Fault>
+    ensures { Gives table_view result (ok_or (parse_document text.now) not_toml) }
+{
+    match toml::table_from_str(alloc, text) {
+        Ok(table) => Ok(table),
+        Err(error) if error.is_memory() => Err(Fault::NoMemory),
+        Err(_) => Err(Fault::NotToml),
+    }
+}
 
 fn has_text(texts: &[&str], key: &str) -> bool
     ensures { result ≡ list_any (λ text. bytes_eq key.now text.now) texts.now }

@@ -5,13 +5,7 @@ ghost use Rattle.scenario.specs.declared.fault.Fault.TheVariants.{NoMemory};
 use std::alloc::{AllocError, AllocFailed};
 use std::error::Error;
 use std::fmt;
-
-/// What is wrong with a step.
-#[derive(Clone, Copy, Debug, PartialEq, Eq)]
-pub enum StepFault {
-    /// The text has no form of the command's steps.
-    NotStep,
-}
+use steps::StepFault;
 
 /// Why a scenario has no answer. `Display` is the text that `svsim` prints.
 #[derive(Debug, Drop)]
@@ -31,21 +25,6 @@ pub enum Fault {
     /// A growth was refused.
     NoMemory,
 }
-
-impl fmt::Display for StepFault {
-    ghost use Rattle.std.specs.Prelude.{Some};
-    ghost use Rattle.scenario.specs.Faults.{step_fault_text};
-
-    ghost output = { λ fault. Some (step_fault_text fault) };
-
-    fn fmt<W: fmt::Write>(&self, f: &mut fmt::Formatter<W>) -> fmt::Result {
-        match self {
-            StepFault::NotStep => f.write_str("not a step"),
-        }
-    }
-}
-
-impl Error for StepFault {}
 
 impl fmt::Display for Fault {
     ghost use Rattle.std.specs.Prelude.{Some};

@@ -14,13 +14,15 @@ mod output;
 mod plan;
 mod program;
 mod reply_lines;
+mod run_scenario;
 mod scenario;
 mod settings;
 mod texts;
 
-pub use fault::{Fault, StepFault};
+pub use fault::Fault;
 pub use laws::{least_unknown_key, one_text};
 pub use program::{Which, command};
+pub use steps::StepFault;
 pub use texts::walk_text;
 
 #[cfg(test)]

@@ -1,6 +1,7 @@
 //! The harts, the spaces and the table memory that the keys of a document ask for.
-ghost use Rattle.std.specs.Prelude.{◌≡◌, ◌≤◌, IfOk, [], ◌∷◌, length, map, option_map};
+ghost use Rattle.std.specs.Prelude.{◌≡◌, ◌≤◌, IfOk, OnOk, [], ◌∷◌, length, map, option_map};
 ghost use Rattle.toml.specs.View.{table_view, view};
+ghost use Rattle.spaces.specs.Limits.{max_frames, MeetsLimits};
 ghost use Rattle.scenario.specs.Faults.{Gives};
 ghost use Rattle.scenario.specs.Keys.{each};
 ghost use Rattle.scenario.specs.Settings.{base_at, checked, config_at, default_spares, few_spaces, space, space_of, space_of_words, spaces_at, spaces_of, spares_at, spares_of, whole_at, whole_of, wholes_of};
@@ -204,7 +205,8 @@ pub fn config(alloc: Global, table: &Table) -> Result<Config, Fault>
 
 /// Refuses a configuration that is not within the limits.
 pub fn check_layout(config: &Config) -> Result<(), Fault>
-    ensures { Gives (λ done. done) result (checked config.now) }
+    ensures checked { Gives (λ done. done) result (checked config.now) }
+    ensures within { OnOk result (MeetsLimits max_frames config.now) }
 {
     if config.check() {
         Ok(())

@@ -1,4 +1,4 @@
-use Rattle.std.proofs.Common.{◌≡◌, ◌∙◌, Some, rules}
+use Rattle.std.proofs.Common.{◌≡◌, Some, rules}
 use Rattle.toml.specs.Data.{as_array}
 use Rattle.toml.specs.View.{array_view, view}
 use Rattle.scenario.proofs.EachLemmas.{spares_of_array}
