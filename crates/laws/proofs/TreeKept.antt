@@ -83,16 +83,16 @@ leaf-ppn : (entry ppn : ℕ) (flags : PteFlags) → kind_of entry ≡ kinds.Leaf
 unfolding kind_of
 leaf-ppn entry ppn flags kind = grind (arith, nat_tests)
 
-removed_unpointed : (spare : Option ℕ) (level old word : ℕ) (place : Place) (page : Span) → Writes spare level old (wish.Unmap place page) word → is_some (pointed (Some word)) ≡ false
+pub removed_unpointed : (spare : Option ℕ) (level old word : ℕ) (place : Place) (page : Span) → Writes spare level old (wish.Unmap place page) word → is_some (pointed (Some word)) ≡ false
 unfolding kind_of
 removed_unpointed spare level old word place page (removes_leaf _ _ q f l k) = refl
 
-changed_unpointed : (spare : Option ℕ) (level old : ℕ) (place : Place) (page : Span) (flags : PteFlags) (word : ℕ) → Writes spare level old (wish.Protect place page flags) word → is_some (pointed (Some word)) ≡ false
+pub changed_unpointed : (spare : Option ℕ) (level old : ℕ) (place : Place) (page : Span) (flags : PteFlags) (word : ℕ) → Writes spare level old (wish.Protect place page flags) word → is_some (pointed (Some word)) ≡ false
 changed_unpointed spare level old place page flags word (changes_leaf _ _ _ q f l k given) =
     rw (kind-stored q flags (leaf-ppn old q f k) given.byte given.leaf) refl
 
 -- how many spare frames are in use
-used_same : (used : ℕ → ℕ) (store : Store) (hart h : ℕ) (table : Bool) → store.hart ≡ hart → table ≡ is_some (pointed (Some store.word))
+pub used_same : (used : ℕ → ℕ) (store : Store) (hart h : ℕ) (table : Bool) → store.hart ≡ hart → table ≡ is_some (pointed (Some store.word))
     → used_by_all used store h ≡ cond (table && eqb hart h) (used h + 1) (used h)
 used_same used store hart h table at t =
     elim (cases_eq hart h) [
