@@ -6,4 +6,5 @@ pub mod LineLemmas
 pub mod MemoryLemmas
 pub mod OutputLemmas
 pub mod ReplyLemmas
+pub mod RunLemmas
 pub mod StepLemmas
