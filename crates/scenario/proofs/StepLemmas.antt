@@ -2,6 +2,7 @@
 use Rattle.std.proofs.Common.{◌≡◌, ◌≢◌, ℕ, Bool, List, [], ◌∷◌, length, Bor, None, refl}
 use Rattle.steps.proofs.StepLemmas.{texts}
 use Rattle.scenario.specs.Keys.{one_word}
+use Rattle.scenario.specs.Settings.{space_of_words}
 use Rattle.scenario.specs.WalkFile.{word_of_words}
 
 pub not_three_numbers : (is_frame : ℕ → Bool) (ws : List (Bor (List ℕ))) → length ws ≢ 3 → None ≡ word_of_words is_frame (texts ws)
@@ -15,3 +16,9 @@ pub not_one : (ws : List (Bor (List ℕ))) → length ws ≢ 1 → None ≡ one_
 not_one [] h = refl
 not_one (a ∷ []) h = absurd (h refl)
 not_one (a ∷ b ∷ ws) h = refl
+
+pub not_two : (ws : List (Bor (List ℕ))) → length ws ≢ 2 → None ≡ space_of_words (texts ws)
+not_two [] h = refl
+not_two (a ∷ []) h = refl
+not_two (a ∷ b ∷ []) h = absurd (h refl)
+not_two (a ∷ b ∷ c ∷ ws) h = refl

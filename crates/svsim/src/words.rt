@@ -58,6 +58,7 @@ pub fn read_words<'a>(alloc: Global, words: &'a [String]) -> Result<Ask<'a>, Ref
     };
     let which = match word {
         "walk" => Which::Walk,
+        "run" => Which::Run,
         _ => return Err(Refusal::Usage),
     };
     Ok(Ask { which, file })
