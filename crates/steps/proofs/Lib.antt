@@ -1,3 +1,4 @@
+pub mod FaultLemmas
 pub mod FieldLemmas
 pub mod GrammarLemmas
 pub mod HartLemmas

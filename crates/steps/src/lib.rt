@@ -13,7 +13,9 @@ mod step;
 mod text;
 
 pub use fault::StepFault;
-pub use laws::{num_is_written, run_step_is_written, walk_step_is_written};
+pub use laws::{
+    no_number_of_harts_makes_a_step, num_is_written, run_step_is_written, walk_step_is_written,
+};
 pub use numbers::num;
 pub use run::{run_step, run_step_among};
 pub use step::{WalkStep, walk_step};
