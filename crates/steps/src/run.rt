@@ -8,6 +8,7 @@ use crate::numbers::num;
 use crate::step::translation;
 use crate::text::words;
 use history::Event;
+use shoot::MAX_HARTS;
 use std::alloc::{AllocError, Global};
 
 fn switch(harts: u8, hart: u64, word: &[u8]) -> Result<Event, StepFault>
@@ -342,11 +343,11 @@ pub fn run_step_among(
     Ok(step_in(harts, words.as_slice()))
 }
 
-/// The step of `run` that a text writes where there are 8 harts, as many as there may be; `None` where it has a fault.
+/// The step of `run` that a text writes where there are 8 harts, as many as there may be (`shoot::MAX_HARTS`); `None` where it has a fault.
 /// `AllocError`: there was no room for the words.
 pub fn run_step(alloc: Global, text: &str) -> Result<Option<Event>, AllocError>
     ensures { IfOk result (λ step. step ≡ run_step_of text.now) }
 {
-    let step = run_step_among(alloc, 8, text)?;
+    let step = run_step_among(alloc, MAX_HARTS as u8, text)?;
     Ok(step.ok())
 }
