@@ -1,8 +1,8 @@
 //! Laws of the texts: each call makes no step, and its clauses hold of the definitions alone.
-ghost use Rattle.std.specs.Prelude.{◌≡◌, List, ℕ, Ok, Err, Some, ◌↔◌};
+ghost use Rattle.std.specs.Prelude.{◌≡◌, ◌≤◌, List, ℕ, Ok, Err, Some, ◌↔◌};
 ghost use Rattle.history.specs.declared.event.Event.{Event};
 ghost use Rattle.shoot.specs.declared.TheConstants.{MAX_HARTS};
-ghost use Rattle.steps.specs.declared.fault.StepFault.TheVariants.{NotStep};
+ghost use Rattle.steps.specs.declared.fault.StepFault.TheVariants.{NoSuchHart, NotStep};
 ghost use Rattle.steps.specs.declared.step.WalkStep.{WalkStep};
 ghost use Rattle.steps.specs.Grammar.{WritesNumber, WritesStep};
 ghost use Rattle.steps.specs.Num.{num_of};
@@ -30,7 +30,9 @@ pub fn run_step_is_written()
 {}
 
 /// Whether a text is a step of `run` does not depend on how many harts there are: that it is none is told before anything
-/// else.
-pub fn no_number_of_harts_makes_a_step()
-    ensures { (m n : ℕ) (text : List ℕ) → step_among m text ≡ Err NotStep → step_among n text ≡ Err NotStep }
+/// else. With more harts it stays the same step, or has the same fault, unless it named a hart that was not there: that its
+/// page is none is told last.
+pub fn harts_are_told_between_steps_and_pages()
+    ensures not_step { (m n : ℕ) (text : List ℕ) → step_among m text ≡ Err NotStep → step_among n text ≡ Err NotStep }
+    ensures more_harts { (m n : ℕ) (text : List ℕ) → m ≤ n → ¬ (step_among m text ≡ Err NoSuchHart) → step_among n text ≡ step_among m text }
 {}

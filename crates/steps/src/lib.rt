@@ -14,7 +14,8 @@ mod text;
 
 pub use fault::StepFault;
 pub use laws::{
-    no_number_of_harts_makes_a_step, num_is_written, run_step_is_written, walk_step_is_written,
+    harts_are_told_between_steps_and_pages, num_is_written, run_step_is_written,
+    walk_step_is_written,
 };
 pub use numbers::num;
 pub use run::{run_step, run_step_among};
