@@ -1,6 +1,8 @@
+pub mod FaultLemmas
 pub mod FieldLemmas
 pub mod GrammarLemmas
 pub mod HartLemmas
+pub mod MoreHarts
 pub mod NamedLemmas
 pub mod NumLemmas
 pub mod RunLemmas

@@ -7,6 +7,7 @@ use Rattle.std.proofs.lemmas.Slice.Eq.{bytes_eq-Decides}
 use Rattle.pte.specs.Address.{IsPage, Span}
 use Rattle.history.specs.declared.event.Event.{Event}
 use Rattle.history.specs.declared.event.Event.TheVariants.{Begin, Load, Map, Unmap, Protect, Flush, Switch, Fence, Post, Take, ServeFence, Ack, AckSelf, Collect, Finish, Close}
+use Rattle.shoot.specs.declared.TheConstants.{MAX_HARTS}
 use Rattle.steps.specs.declared.fault.StepFault.{StepFault}
 use Rattle.steps.specs.declared.fault.StepFault.TheVariants.{NotStep, NoSuchHart}
 use Rattle.steps.specs.declared.fields.PageWord.{PageWord}
@@ -286,14 +287,14 @@ writes-step harts text event h = step_told harts text (words_of text) event (has
 pub one_run_step : (harts : ℕ) (text : List ℕ) (a b : Event) → WritesRunStep harts text a → WritesRunStep harts text b → a ≡ b
 one_run_step harts text a b p q = same_Ok (step_among harts text) a b (step-writes harts text a p) (step-writes harts text b q)
 
--- ---- of 8 harts, without the faults
+-- ---- of all harts that there may be, without the faults
 
 ok_Some : {X : Type 0} (r : Result X StepFault) (x : X) → result_ok r ≡ Some x → r ≡ Ok x
 ok_Some (Ok y) x h = ap Ok (same_Some _ _ h)
 ok_Some (Err e) x h = cc
 
-pub of_eight-writes : (text : List ℕ) (event : Event) → WritesRunStep 8 text event → run_step_of text ≡ Some event
-of_eight-writes text event h = ap result_ok (step-writes 8 text event h)
+pub of_all-writes : (text : List ℕ) (event : Event) → WritesRunStep MAX_HARTS text event → run_step_of text ≡ Some event
+of_all-writes text event h = ap result_ok (step-writes MAX_HARTS text event h)
 
-pub writes-of_eight : (text : List ℕ) (event : Event) → run_step_of text ≡ Some event → WritesRunStep 8 text event
-writes-of_eight text event h = writes-step 8 text event (ok_Some (step_among 8 text) event h)
+pub writes-of_all : (text : List ℕ) (event : Event) → run_step_of text ≡ Some event → WritesRunStep MAX_HARTS text event
+writes-of_all text event h = writes-step MAX_HARTS text event (ok_Some (step_among MAX_HARTS text) event h)

@@ -4,6 +4,7 @@ use Rattle.std.specs.Result.{result_ok}
 use Rattle.std.specs.Str.{bytes_eq}
 use Rattle.history.specs.declared.event.Event.{Event}
 use Rattle.history.specs.declared.event.Event.TheVariants.{Begin, Load, Map, Unmap, Protect, Flush, Switch, Fence, Post, Take, ServeFence, Ack, AckSelf, Collect, Finish, Close}
+use Rattle.shoot.specs.declared.TheConstants.{MAX_HARTS}
 use Rattle.steps.specs.declared.fault.StepFault.{StepFault}
 use Rattle.steps.specs.declared.fault.StepFault.TheVariants.{NotStep}
 use Rattle.steps.specs.Fields.{among, flags_of, named_in, page_at, page_of, place_of, register_of, scope_of, space_of, ticket_of}
@@ -175,6 +176,6 @@ step_in harts _ = Err NotStep
 abbrev pub step_among : ℕ → List ℕ → Result Event StepFault
 step_among harts text = step_in harts (words_of text)
 
--- what a text writes for 8 harts, as many as there may be
+-- what a text writes for as many harts as there may be
 abbrev pub run_step_of : List ℕ → Option Event
-run_step_of text = result_ok (step_among 8 text)
+run_step_of text = result_ok (step_among MAX_HARTS text)

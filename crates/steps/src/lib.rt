@@ -13,7 +13,10 @@ mod step;
 mod text;
 
 pub use fault::StepFault;
-pub use laws::{num_is_written, run_step_is_written, walk_step_is_written};
+pub use laws::{
+    harts_are_told_between_steps_and_pages, num_is_written, run_step_is_written,
+    walk_step_is_written,
+};
 pub use numbers::num;
 pub use run::{run_step, run_step_among};
 pub use step::{WalkStep, walk_step};

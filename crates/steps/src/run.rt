@@ -8,6 +8,7 @@ use crate::numbers::num;
 use crate::step::translation;
 use crate::text::words;
 use history::Event;
+use shoot::MAX_HARTS;
 use std::alloc::{AllocError, Global};
 
 fn switch(harts: u8, hart: u64, word: &[u8]) -> Result<Event, StepFault>
@@ -315,7 +316,22 @@ fn step_in(harts: u8, words: &[&[u8]]) -> Result<Event, StepFault>
     }
 }
 
-/// The step of `run` that a text writes, for so many harts, or what is wrong with it.
+/// The step of `run` that a text writes where there are so many harts, with numbers from 0, or the first of its faults.
+///
+/// The words are one of these lines, where H, G are harts, T a ticket below 2^32, S a space below 256, PL a space or `k`,
+/// PAGE a size and an address such as `4K:0x1000`, FLAGS letters of `rwxugad` or `-`, NAMED harts such as `0,1` or `-`, SCOPE
+/// a space or `all`, R a number or `x0`, M a mode such as `s+sum`, A an access, and VA, PPN numbers:
+///
+/// ```text
+/// H begin M A VA         H load                 H map PL PAGE PPN FLAGS    H unmap PL PAGE NAMED
+/// H flush SCOPE NAMED    H switch S             H fence R R                H protect PL PAGE FLAGS NAMED
+/// H post T G             H take G               H servefence               H ack
+/// H ackself T            H collect T G          H finish T                 H close G
+/// ```
+///
+/// `StepFault::NotStep`: the words are none of them. `NoSuchHart`: they are, and name a hart that is not there.
+/// `NotPage`: all harts are there, and the page's address is not canonical or no multiple of its size (privileged manual
+/// 4.4.1). `AllocError`: there was no room for the words.
 pub fn run_step_among(
     alloc: Global,
     harts: u8,
@@ -327,10 +343,11 @@ pub fn run_step_among(
     Ok(step_in(harts, words.as_slice()))
 }
 
-/// The step of `run` that a text writes, for 8 harts, as many as there may be.
+/// The step of `run` that a text writes where there are 8 harts, as many as there may be (`shoot::MAX_HARTS`); `None` where it has a fault.
+/// `AllocError`: there was no room for the words.
 pub fn run_step(alloc: Global, text: &str) -> Result<Option<Event>, AllocError>
     ensures { IfOk result (λ step. step ≡ run_step_of text.now) }
 {
-    let step = run_step_among(alloc, 8, text)?;
+    let step = run_step_among(alloc, MAX_HARTS as u8, text)?;
     Ok(step.ok())
 }

@@ -15,7 +15,7 @@ pub struct WalkStep {
     pub va: u64,
 }
 
-/// The step of `walk` that a text writes.
+/// The step of `walk` that a text writes, if it writes one. `AllocError`: there was no room for its words.
 pub fn walk_step(alloc: Global, text: &str) -> Result<Option<WalkStep>, AllocError>
     ensures { IfOk result (λ step. step ≡ walk_step_of text.now) }
 {

@@ -4,7 +4,7 @@ ghost use Rattle.steps.specs.Words.{words_of};
 
 use std::alloc::{AllocError, Global};
 
-/// What stands between spaces and tabs.
+/// What stands between spaces and tabs. `AllocError`: there was no room for the list.
 pub fn words(alloc: Global, text: &str) -> Result<Vec<&[u8]>, AllocError>
     ensures { IfOk result (λ words. map (λ word. word.now) words.items ≡ words_of text.now) }
 {

@@ -1,4 +1,4 @@
-use Rattle.steps.proofs.RunLemmas.{of_eight-writes, one_run_step, step-writes, writes-of_eight, writes-step}
+use Rattle.steps.proofs.RunLemmas.{of_all-writes, one_run_step, step-writes, writes-of_all, writes-step}
 use Rattle.steps.proofs.laws.run_step_is_written.Goals as goal
 
 pub returns : goal.returns
@@ -6,5 +6,5 @@ returns c =
     record {
       one = one_run_step;
       found = λ harts text event. (step-writes harts text event, writes-step harts text event);
-      found_of_eight = λ text event. (of_eight-writes text event, writes-of_eight text event);
+      found_of_all = λ text event. (of_all-writes text event, writes-of_all text event);
     }
