@@ -193,17 +193,17 @@ stored_or : (words : Tables) (o : Result Store MapFault) (ppn index word : ℕ) 
     → (with_store words o ppn index ≡ Some word) ↔ (P ⊎ ((Q → ⊥) × (words ppn index ≡ Some word)))
 stored_or words (Err fault) ppn index word P Q new back is must = by_old (words ppn index) (Some word) P Q (λ p. let b = (back p).1 in cc (b)) (λ q. let b = (must q).1 in cc (b))
 stored_or words (Good store) ppn index word P Q new back is must =
-    by_cond (are_same store.ppn store.index ppn index) (Some store.word) (words ppn index) (Some word) P Q
-    (λ t e. let p = same_parts store.ppn store.index ppn index t in
+    by_cond (are_same ppn index store.ppn store.index) (Some store.word) (words ppn index) (Some word) P Q
+    (λ t e. let p = same_parts ppn index store.ppn store.index t in
     let w : store.word ≡ word = cc in
-    new store refl p.0 p.1 w)
+    new store refl (sym p.0) (sym p.1) w)
     (λ p. let b = back p in
     let same : store ≡ b.0 = let e = b.1 in cc in
-    (same_with store.ppn store.index ppn index (ap (λ (x : Store). x.ppn) same ∙ b.2) (ap (λ (x : Store). x.index) same ∙ b.3), ap (λ (x : Store). Some x.word) same ∙ ap Some b.4))
-    (λ t. let p = same_parts store.ppn store.index ppn index t in inr (is store refl p.0 p.1))
+    (same_with ppn index store.ppn store.index (sym (ap (λ (x : Store). x.ppn) same ∙ b.2)) (sym (ap (λ (x : Store). x.index) same ∙ b.3)), ap (λ (x : Store). Some x.word) same ∙ ap Some b.4))
+    (λ t. let p = same_parts ppn index store.ppn store.index t in inr (is store refl (sym p.0) (sym p.1)))
     (λ q. let b = must q in
     let same : store ≡ b.0 = let e = b.1 in cc in
-    same_with store.ppn store.index ppn index (ap (λ (x : Store). x.ppn) same ∙ b.2) (ap (λ (x : Store). x.index) same ∙ b.3))
+    same_with ppn index store.ppn store.index (sym (ap (λ (x : Store). x.ppn) same ∙ b.2)) (sym (ap (λ (x : Store). x.index) same ∙ b.3)))
 
 module _ (C : Setup) (ppn index word : ℕ) where
   abbrev Stays : Event → Reply → History → Type 0 → Type 0

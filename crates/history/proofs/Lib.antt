@@ -1,6 +1,7 @@
 pub mod Splits
 pub mod Occurred
 pub mod OpenOrders
+pub mod Passing
 pub mod Mailboxes
 mod RunsAreLawful
 mod ShootdownRows

@@ -1,23 +1,23 @@
 -- What is accepted was taken or waits, and nothing is accepted after a close.
-use Rattle.std.proofs.Common.{◌≡◌, ℕ, zero, suc, Bool, true, false, cond, ◌&&◌, List, [], ◌∷◌, ◌++◌, length, drop, map, Option, Some, None, inl, inr, slice_get, refl, ap, sym, ◌∙◌, eqb}
+use Rattle.std.proofs.Common.{◌≡◌, ℕ, zero, suc, true, false, cond, ◌&&◌, List, [], ◌∷◌, ◌++◌, length, drop, map, Option, Some, None, inl, inr, slice_get, refl, ap, sym, ◌∙◌, eqb}
 use Rattle.std.proofs.lemmas.List.{append-nil}
 use Rattle.std.proofs.lemmas.Bool.{and_parts, eqb-true, true≢false}
 use Rattle.shoot.specs.Request.{Message}
 use Rattle.history.specs.Setup.{Setup}
 use Rattle.history.specs.declared.event.Event.{Event}
 use Rattle.history.specs.declared.event.Event.TheVariants.{Post, Take}
-use Rattle.history.specs.declared.refusal.Refusal.{Refusal}
 use Rattle.history.specs.declared.refusal.Refusal.TheVariants.{NoHart, NotNamed, AlreadyPosted, Closed, Walking, Serving}
 use Rattle.history.specs.declared.reply.Reply.{Reply}
-use Rattle.history.specs.declared.reply.Reply.TheVariants.{Ok, Taken, Refused}
+use Rattle.history.specs.declared.reply.Reply.TheVariants.{Ok, Taken}
 use Rattle.history.specs.Turns.{Turn, History, is_ok, taken_request, are_same}
 use Rattle.history.specs.Orders.{open_order}
 use Rattle.history.specs.Mailboxes.{Sent, sent_of, posts, posts_after, accepted, taken, taken_after, waiting, is_closed, NoneAfterClose, Mailboxes}
-use Rattle.history.specs.Due.{refuse, next_reply, post_reply, due, Lawful}
+use Rattle.history.specs.Due.{next_reply, post_reply, due, Lawful}
 use Rattle.history.specs.Occurrences.{Sometime, IsPostAfterClose}
 use Rattle.history.proofs.Splits.{not_sometime-empty, sometime_cases}
 use Rattle.history.proofs.Occurred.{ok_is, closed}
 use Rattle.history.proofs.OpenOrders.{by_test}
+use Rattle.history.proofs.Passing.{passed}
 
 abbrev IsFront : {A : Type 0} → List A → List A → Type 0
 IsFront ts xs = ts ++ drop (length ts) xs ≡ xs
@@ -42,17 +42,6 @@ pub map_append : {A B : Type 0} (f : A → B) (xs ys : List A) → map f (xs ++ 
 map_append f [] ys = refl
 map_append f (x ∷ xs) ys = ap (λ zs. f x ∷ zs) (map_append f xs ys)
 
--- what is no refusal passed the test
-pub passes : (test : Bool) (refusal : Refusal) (rest r : Reply) → refuse test refusal rest ≡ r → (Refused refusal ≡ r → ⊥) → (test ≡ false) × (rest ≡ r)
-passes true refusal rest r e none = absurd (none e)
-passes false refusal rest r e none = (refl, e)
-
-refused_ok : (refusal : Refusal) → Refused refusal ≡ Ok → ⊥
-refused_ok refusal e = cc (e)
-
-refused_taken : (request : Message) (refusal : Refusal) → Refused refusal ≡ Taken request → ⊥
-refused_taken request refusal e = cc (e)
-
 next_taken : (xs : List Message) (request : Message) → next_reply xs ≡ Taken request → (rest : List Message) × (xs ≡ request ∷ rest)
 next_taken [] request e = absurd cc
 next_taken (x ∷ xs) request e = (xs, let same : x ≡ request = cc in ap (λ y. y ∷ xs) same)
@@ -64,9 +53,9 @@ module _ (C : Setup) where
   -- a Take that was answered took the first that waited
   took : (H : History) (hart from : ℕ) (request : Message) → Taken request ≡ due C H (Take hart from) → (rest : List Message) × (waiting C H from hart ≡ request ∷ rest)
   took H hart from request e =
-      let pair = passes _ NoHart _ (Taken request) (sym e) (refused_taken request NoHart) in
-      let walk = passes _ Walking _ (Taken request) pair.1 (refused_taken request Walking) in
-      let serve = passes _ Serving _ (Taken request) walk.1 (refused_taken request Serving) in
+      let pair = passed _ NoHart _ (Taken request) (sym e) refl in
+      let walk = passed _ Walking _ (Taken request) pair.1 refl in
+      let serve = passed _ Serving _ (Taken request) walk.1 refl in
       next_taken (waiting C H from hart) request serve.1
 
   front_taken : (hart from : ℕ) (r : Reply) (H : History) → IsFront (taken H from hart) (accepted C H from hart) → r ≡ due C H (Take hart from)
@@ -101,13 +90,13 @@ module _ (C : Setup) where
   posted_open : (H : History) (hart to k : ℕ) (o : Option ℕ) → post_reply C H hart to o ≡ Ok → is_closed H hart to ≡ false
   posted_open H hart to k None e = absurd cc
   posted_open H hart to k (Some j) e =
-      let named = passes _ NotNamed _ Ok e (refused_ok NotNamed) in
-      let fresh = passes _ AlreadyPosted _ Ok named.1 (refused_ok AlreadyPosted) in
-      (passes (is_closed H hart to) Closed _ Ok fresh.1 (refused_ok Closed)).0
+      let named = passed _ NotNamed _ Ok e refl in
+      let fresh = passed _ AlreadyPosted _ Ok named.1 refl in
+      (passed (is_closed H hart to) Closed _ Ok fresh.1 refl).0
 
   accepted_open : (H : History) (hart ticket to : ℕ) (r : Reply) → r ≡ due C H (Post hart ticket to) → is_ok r ≡ true → is_closed H hart to ≡ false
   accepted_open H hart ticket to r e t =
-      let pair = passes _ NoHart _ Ok (sym e ∙ ok_is r t) (refused_ok NoHart) in
+      let pair = passed _ NoHart _ Ok (sym e ∙ ok_is r t) refl in
       posted_open H hart to 0 (open_order H hart ticket) pair.1
 
   none_at : (s h : ℕ) (e : Event) (r : Reply) (H : History) → r ≡ due C H e → is_closed H s h ≡ true → map of (posts_after C e r H s h (posts C H s h)) ≡ accepted C H s h

@@ -19,7 +19,7 @@ by_test P true f g = f refl
 by_test P false f g = g refl
 
 -- the order at a place is the new one, at the number of turns so far, or the old one
-order_cases : (o : Option Order) (place k : ℕ) (old : Option Order) (order : Order) → order_or o place k old ≡ Some order
+pub order_cases : (o : Option Order) (place k : ℕ) (old : Option Order) (order : Order) → order_or o place k old ≡ Some order
     → ((place ≡ k) × (o ≡ Some order)) ⊎ (old ≡ Some order)
 order_cases None place k old order e = inr e
 order_cases (Some new) place k old order e =

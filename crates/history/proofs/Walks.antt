@@ -21,17 +21,16 @@ use Rattle.tlb.proofs.Overlapping.{is_canonical-IsCanonical}
 use Rattle.history.specs.Setup.{Setup, asid_of}
 use Rattle.history.specs.declared.event.Event.{Event}
 use Rattle.history.specs.declared.event.Event.TheVariants.{Begin, Load}
-use Rattle.history.specs.declared.refusal.Refusal.{Refusal}
 use Rattle.history.specs.declared.refusal.Refusal.TheVariants.{NoHart, Walking, Serving}
 use Rattle.history.specs.declared.reply.Reply.{Reply}
-use Rattle.history.specs.declared.reply.Reply.TheVariants.{More, Filled, Trap, Refused}
+use Rattle.history.specs.declared.reply.Reply.TheVariants.{More, Filled, Trap}
 use Rattle.history.specs.Turns.{History}
 use Rattle.history.specs.Tables.{words_of}
 use Rattle.history.specs.Harts.{Walking as Walk, space_of, walk_of, walk_after, begun, loaded, with_load, entries_of, outcome_of}
 use Rattle.history.specs.Due.{goes_on, match_reply, begin_reply, due, Lawful}
 use Rattle.history.specs.Occurrences.{LeadsOn}
 use Rattle.history.proofs.OpenOrders.{by_test}
-use Rattle.history.proofs.Mailboxes.{passes}
+use Rattle.history.proofs.Passing.{passed}
 
 -- so many pointers lead from the root
 pub leads_after : (words : Tables) (root va n table : ℕ) → n ≤ top_level
@@ -72,9 +71,6 @@ abbrev va_of : Option Walk → ℕ → ℕ
 va_of None old = old
 va_of (Some walk) old = walk.va
 
-refused_more : (refusal : Refusal) → Refused refusal ≡ More → ⊥
-refused_more refusal e = cc (e)
-
 module _ (C : Setup) where
   begun_canonical : (H : History) (hart va : ℕ) (access : Access) (ctx : Ctx) → begin_reply C H hart va access ctx ≡ More → IsCanonical va
   begun_canonical H hart va access ctx e =
@@ -83,9 +79,9 @@ module _ (C : Setup) where
 
   due_canonical : (H : History) (hart va : ℕ) (access : Access) (ctx : Ctx) → More ≡ due C H (Begin hart va access ctx) → IsCanonical va
   due_canonical H hart va access ctx e =
-      let there = passes _ NoHart _ More (sym e) (refused_more NoHart) in
-      let walk = passes _ Walking _ More there.1 (refused_more Walking) in
-      let serve = passes _ Serving _ More walk.1 (refused_more Serving) in
+      let there = passed _ NoHart _ More (sym e) refl in
+      let walk = passed _ Walking _ More there.1 refl in
+      let serve = passed _ Serving _ More walk.1 refl in
       begun_canonical H hart va access ctx serve.1
 
   begun_keeps : (H : History) (hart va : ℕ) (access : Access) (ctx : Ctx) (r : Reply) (old : Option Walk) → r ≡ due C H (Begin hart va access ctx) → IsCanonicalWalk old

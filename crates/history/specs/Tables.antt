@@ -1,6 +1,7 @@
 -- The table words that a history leaves: each is what the last accepted edit stored there, else the opening's.
-use Rattle.std.specs.Prelude.{ℕ, ◌+◌, ◌==◌, ◌&&◌, ◌||◌, [], ◌∷◌, Some, Result, Ok, Err, if◌then◌else◌}
+use Rattle.std.specs.Prelude.{ℕ, ◌+◌, ◌==◌, ◌&&◌, ◌||◌, [], ◌∷◌, Result, Ok, Err, if◌then◌else◌}
 use Rattle.walk.specs.Leads.{Tables}
+use Rattle.walk.specs.Stores.{stored}
 use Rattle.history.specs.Setup.{Setup}
 use Rattle.spaces.specs.declared.wishes.Wish.{Wish}
 use Rattle.spaces.specs.declared.wishes.Wish.TheVariants as wish
@@ -11,7 +12,7 @@ use Rattle.spaces.specs.Held.{spare_after}
 use Rattle.history.specs.declared.event.Event.{Event}
 use Rattle.history.specs.declared.event.Event.TheVariants.{Map, Unmap, Protect}
 use Rattle.history.specs.declared.reply.Reply.{Reply}
-use Rattle.history.specs.Turns.{History, is_leaf, is_table, is_opened, are_same}
+use Rattle.history.specs.Turns.{History, is_leaf, is_table, is_opened}
 
 -- how many spare frames of a hart are in use: as many as its Maps answered with a new table
 abbrev pub used_after : Event → Reply → ℕ → ℕ → ℕ
@@ -28,8 +29,8 @@ edit_due C words used hart w = edit_of C.layout words (spare_after C.layout hart
 
 -- the words once a store was made
 abbrev pub with_store : Tables → Result Store MapFault → Tables
-with_store words (Ok store) ppn index = if are_same store.ppn store.index ppn index then Some store.word else words ppn index
-with_store words (Err fault) ppn index = words ppn index
+with_store words (Ok store) = stored words store.ppn store.index store.word
+with_store words (Err fault) = words
 
 abbrev pub words_after : Setup → Event → Reply → Tables → (ℕ → ℕ) → Tables
 words_after C (Map hart place page ppn flags) reply words used =

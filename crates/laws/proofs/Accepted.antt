@@ -8,34 +8,28 @@ use Rattle.pte.specs.declared.permission.Access.{Access}
 use Rattle.pte.specs.declared.permission.Ctx.{Ctx}
 use Rattle.spaces.specs.declared.places.Place.{Place}
 use Rattle.spaces.specs.declared.faults.MapFault.{MapFault}
-use Rattle.spaces.specs.Edits.{Store}
+use Rattle.spaces.specs.declared.wishes.Wish.{Wish}
+use Rattle.spaces.specs.declared.wishes.Wish.TheVariants as wish
+use Rattle.spaces.specs.Edits.{Store, place_of}
 use Rattle.shoot.specs.Request.{Message}
 use Rattle.shoot.specs.HartSet.{contains, harts_in}
 use Rattle.shoot.specs.declared.TheConstants.{MAX_HARTS, MAX_TICKETS}
 use Rattle.history.specs.Setup.{Setup}
-use Rattle.history.specs.declared.event.Event.{Event}
 use Rattle.history.specs.declared.event.Event.TheVariants.{Begin, Unmap, Protect, Flush, Post, Take, Ack, Collect, Finish}
 use Rattle.history.specs.declared.event.Scope.{Scope}
-use Rattle.history.specs.declared.refusal.Refusal.{Refusal}
 use Rattle.history.specs.declared.refusal.Refusal.TheVariants.{NoHart, NoSpace, HomeNotNamed, NotNamed, AlreadyPosted, Closed, Full, Walking, Serving, NotServing, NotFenced, NotDone}
 use Rattle.history.specs.declared.reply.Reply.{Reply}
 use Rattle.history.specs.declared.reply.Reply.TheVariants as reply
-use Rattle.history.specs.Turns.{Turn, History, is_ok, is_more, is_taken, is_progress, opened_ticket}
+use Rattle.history.specs.Turns.{History, is_ok, is_more, is_taken, is_progress, opened_ticket}
 use Rattle.history.specs.Orders.{order_at, open_order}
 use Rattle.history.specs.Mailboxes.{waiting, is_closed}
 use Rattle.history.specs.Service.{served, has_fenced}
 use Rattle.history.specs.Acknowledgements.{is_posted, is_collected, outstanding}
 use Rattle.history.specs.Harts.{walk_of}
-use Rattle.history.specs.Due.{refuse, is_hart, are_pair, due, least_free, open_reply, opened_reply, edit_reply, post_reply, names, next_reply, collect_reply, finish_reply, is_done}
+use Rattle.history.specs.Due.{refuse, is_hart, are_pair, is_place, edit_at, due, least_free, open_reply, opened_reply, edit_reply, post_reply, names, next_reply, collect_reply, finish_reply, is_done}
+pub use Rattle.history.proofs.Occurred.{turn_of}
+pub use Rattle.history.proofs.Passing.{is_accepted, passed}
 use Rattle.laws.proofs.Tools.{none_since, none_by, by_test, and3, none_where}
-
--- the turn of an event
-abbrev pub turn_of : Event → Reply → Turn
-turn_of event reply = record { event = event; reply = reply }
-
-abbrev pub is_accepted : Reply → Bool
-is_accepted (reply.Refused why) = false
-is_accepted _ = true
 
 pub ok_accepted : (r : Reply) → is_ok r ≡ true → is_accepted r ≡ true
 ok_accepted reply.Ok e = refl
@@ -57,11 +51,6 @@ opened_is _ t e = absurd (cc (e))
 pub opened_accepted : (r : Reply) (t : ℕ) → opened_ticket r ≡ Some t → is_accepted r ≡ true
 opened_accepted (reply.Opened n) t e = refl
 opened_accepted _ t e = absurd (cc (e))
-
--- the test of a refusal did not apply
-pub passed : (test : Bool) (why : Refusal) (rest r : Reply) → refuse test why rest ≡ r → is_accepted r ≡ true → (test ≡ false) × (rest ≡ r)
-passed true why rest r e a = absurd (false≢true (ap is_accepted e ∙ a))
-passed false why rest r e a = (refl, e)
 
 pair_parts : (C : Setup) (a b : ℕ) → not (are_pair C a b) ≡ false → (a < C.harts) × (b < C.harts) × (a ≡ b → ⊥)
 pair_parts C a b e =
@@ -91,25 +80,42 @@ open_found H hart named ticket r e t =
     let f = free_from H hart MAX_TICKETS 0 ticket (opened_is_some (least_free H hart MAX_TICKETS 0) ticket r p.1 t) in
     record { bound = f.0; free = f.1; names_sender = not-false (contains (harts_in named) hart) p.0 }
 
-edit_opens : (store : Result Store MapFault) (opening r : Reply) (ticket : ℕ) → edit_reply store opening ≡ r → opened_ticket r ≡ Some ticket → opening ≡ r
-edit_opens (Ok store) opening r ticket e t = e
-edit_opens (Err fault) opening r ticket e t = let z : None ≡ Some ticket = ap opened_ticket e ∙ t in absurd (cc (z))
+-- an edit: its place is there, and its store is due
+pub record EditFound (C : Setup) (H : History) (hart : ℕ) (w : Wish) : Type 0 where
+  pub there : is_place C (place_of w) ≡ true
+  pub store : Store
+  pub is : edit_at C H hart w ≡ Ok store
+
+pub edit_made : (answer : Result Store MapFault) (opening r : Reply) (ticket : ℕ) → edit_reply answer opening ≡ r → opened_ticket r ≡ Some ticket
+    → (store : Store) × (answer ≡ Ok store) × (opening ≡ r)
+edit_made (Ok store) opening r ticket e t = (store, refl, e)
+edit_made (Err fault) opening r ticket e t = let z : None ≡ Some ticket = ap opened_ticket e ∙ t in absurd (cc (z))
+
+change_found : (C : Setup) (H : History) (hart named ticket : ℕ) (w : Wish) (absent : Bool) (r : Reply)
+    → refuse absent NoHart (refuse (not (is_place C (place_of w))) NoSpace (edit_reply (edit_at C H hart w) (open_reply H hart named))) ≡ r
+    → opened_ticket r ≡ Some ticket → EditFound C H hart w × OpeningFound H hart named ticket
+change_found C H hart named ticket w absent r d t =
+    let a = opened_accepted r ticket t in
+    let p = passed absent NoHart _ r d a in
+    let q = passed (not (is_place C (place_of w))) NoSpace _ r p.1 a in
+    let m = edit_made (edit_at C H hart w) (open_reply H hart named) r ticket q.1 t in
+    (record { there = not-false (is_place C (place_of w)) q.0; store = m.0; is = m.1 }, open_found H hart named ticket r m.2 t)
+
+pub unmap_edit : (C : Setup) (H : History) (hart : ℕ) (place : Place) (page : Span) (named ticket : ℕ) (r : Reply)
+    → r ≡ due C H (Unmap hart place page named) → opened_ticket r ≡ Some ticket → EditFound C H hart (wish.Unmap place page)
+unmap_edit C H hart place page named ticket r d t = (change_found C H hart named ticket (wish.Unmap place page) _ r (sym d) t).0
+
+pub protect_edit : (C : Setup) (H : History) (hart : ℕ) (place : Place) (page : Span) (flags : PteFlags) (named ticket : ℕ) (r : Reply)
+    → r ≡ due C H (Protect hart place page flags named) → opened_ticket r ≡ Some ticket → EditFound C H hart (wish.Protect place page flags)
+protect_edit C H hart place page flags named ticket r d t = (change_found C H hart named ticket (wish.Protect place page flags) _ r (sym d) t).0
 
 pub unmap_found : (C : Setup) (H : History) (hart : ℕ) (place : Place) (page : Span) (named ticket : ℕ) (r : Reply)
     → r ≡ due C H (Unmap hart place page named) → opened_ticket r ≡ Some ticket → OpeningFound H hart named ticket
-unmap_found C H hart place page named ticket r d t =
-    let a = opened_accepted r ticket t in
-    let p = passed _ NoHart _ r (sym d) a in
-    let q = passed _ NoSpace _ r p.1 a in
-    open_found H hart named ticket r (edit_opens _ _ r ticket q.1 t) t
+unmap_found C H hart place page named ticket r d t = (change_found C H hart named ticket (wish.Unmap place page) _ r (sym d) t).1
 
 pub protect_found : (C : Setup) (H : History) (hart : ℕ) (place : Place) (page : Span) (flags : PteFlags) (named ticket : ℕ) (r : Reply)
     → r ≡ due C H (Protect hart place page flags named) → opened_ticket r ≡ Some ticket → OpeningFound H hart named ticket
-protect_found C H hart place page flags named ticket r d t =
-    let a = opened_accepted r ticket t in
-    let p = passed _ NoHart _ r (sym d) a in
-    let q = passed _ NoSpace _ r p.1 a in
-    open_found H hart named ticket r (edit_opens _ _ r ticket q.1 t) t
+protect_found C H hart place page flags named ticket r d t = (change_found C H hart named ticket (wish.Protect place page flags) _ r (sym d) t).1
 
 pub flush_found : (C : Setup) (H : History) (hart : ℕ) (scope : Scope) (named ticket : ℕ) (r : Reply)
     → r ≡ due C H (Flush hart scope named) → opened_ticket r ≡ Some ticket → OpeningFound H hart named ticket

@@ -1,28 +1,25 @@
 -- What is collected is acknowledged, and what is acknowledged was posted, or is the sender's own.
-use Rattle.std.proofs.Common.{◌≡◌, ℕ, Bool, true, ◌&&◌, ◌||◌, [], ◌∷◌, Option, Some, None, refl, ◌∙◌, eqb, ◌⊎◌, inl, inr, ◌<◌, length, subst, arith}
-use Rattle.std.proofs.lemmas.Bool.{and_parts, eqb-true, false≢true, or_left, or_right}
+use Rattle.std.proofs.Common.{◌≡◌, ℕ, Bool, true, ◌&&◌, ◌||◌, [], ◌∷◌, ◌∙◌, eqb, ◌⊎◌, inl, inr, ◌<◌, length, subst, arith}
+use Rattle.std.proofs.lemmas.Bool.{eqb-true, false≢true, or_cases, or_left, or_right}
 use Rattle.history.specs.Setup.{Setup}
 use Rattle.history.specs.declared.event.Event.{Event}
 use Rattle.history.specs.declared.event.Event.TheVariants.{Ack, AckSelf, Collect}
 use Rattle.history.specs.declared.reply.Reply.{Reply}
 use Rattle.history.specs.Turns.{Turn, History, is_ok, is_progress}
 use Rattle.history.specs.Orders.{open_order, is_order}
-use Rattle.history.specs.Mailboxes.{Sent}
 use Rattle.history.specs.Service.{served, is_served}
 use Rattle.history.specs.Acknowledgements.{is_posted, is_acked, is_collected}
 use Rattle.history.specs.Due.{Lawful}
+use Rattle.history.proofs.Occurred.{and4}
+pub use Rattle.history.proofs.Occurred.{served_is}
 use Rattle.laws.specs.Posts.{IsOwn}
 use Rattle.laws.proofs.Tools.{or3}
 use Rattle.laws.proofs.Accepted.{turn_of}
 use Rattle.laws.proofs.Orders.{known, order_stays, open_known, open_below}
 use Rattle.laws.proofs.Posts.{order_is, posted_stays, post_below, served_post}
 
-pub served_is : (o : Option Sent) (k : ℕ) → is_served o k ≡ true → (x : Sent) × (o ≡ Some x) × (x.order ≡ k)
-served_is None k e = absurd (false≢true e)
-served_is (Some x) k e = (x, refl, eqb-true x.order k e)
-
 or4 : (a b c d old : Bool) → ((a && (b && (c && d))) || old) ≡ true → ((a ≡ true) × (b ≡ true) × (c ≡ true) × (d ≡ true)) ⊎ (old ≡ true)
-or4 a b c d old e = elim (or3 a b (c && d) old e) [ inl n ↦ let p = and_parts c d n.2 in inl (n.0, n.1, p.0, p.1) | inr y ↦ inr y ]
+or4 a b c d old e = elim (or_cases (a && (b && (c && d))) old e) [ inl n ↦ inl (and4 a b c d n) | inr y ↦ inr y ]
 
 collected_step : (C : Setup) (event : Event) (r : Reply) (H : History) (k h : ℕ) → (is_collected C H k h ≡ true → is_acked C H k h ≡ true)
     → is_collected C (turn_of event r ∷ H) k h ≡ true → is_acked C (turn_of event r ∷ H) k h ≡ true

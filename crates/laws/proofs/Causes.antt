@@ -1,6 +1,6 @@
 -- What an order followed: a page of a place that is there, in its half, and the request asks just for it.
-use Rattle.std.proofs.Common.{◌≡◌, ℕ, ◌<◌, Bool, true, false, cond, ◌&&◌, not, [], ◌∷◌, length, Option, Some, None, refl, ap, sym, ◌∙◌, subst, eqb, inl, inr}
-use Rattle.std.specs.Prelude.{Result, Ok, Err}
+use Rattle.std.proofs.Common.{◌≡◌, ℕ, ◌<◌, Bool, true, false, cond, ◌&&◌, not, [], ◌∷◌, length, Option, Some, None, refl, sym, subst, eqb, inl, inr}
+use Rattle.std.specs.Prelude.{Result, Ok}
 use Rattle.std.proofs.lemmas.Bool.{not-false, and_parts, ltb-true}
 use Rattle.pte.specs.Address.{Span, IsPage}
 use Rattle.pte.specs.declared.address.What.{What}
@@ -19,11 +19,12 @@ use Rattle.history.specs.declared.reply.Reply.{Reply}
 use Rattle.history.specs.Turns.{History, is_ok, opened_ticket}
 use Rattle.history.specs.Orders.{Order, Cause, Unmapped, Protected, Flushed, page_request, scope_request, order_with, opened_order, order_at}
 use Rattle.history.specs.Harts.{space_of, space_after}
-use Rattle.history.specs.Due.{due, is_place, is_space, edit_reply, edit_at, Lawful}
+use Rattle.history.specs.Due.{due, is_place, is_space, edit_at, Lawful}
 use Rattle.laws.specs.Kept.{HasPage, HavePages, HasAsids}
 use Rattle.laws.proofs.Tools.{by_test}
-use Rattle.laws.proofs.Accepted.{passed, ok_accepted, opened_accepted}
-use Rattle.laws.proofs.Orders.{order_cases}
+use Rattle.laws.proofs.Accepted.{passed, ok_accepted, unmap_edit, protect_edit}
+use Rattle.laws.proofs.Orders.{order_made}
+use Rattle.history.proofs.OpenOrders.{order_cases}
 
 -- a page of a place, as an order follows and asks for it
 pub record IsAsked (C : Setup) (place : Place) (page : Span) (what : What) : Type 0 where
@@ -51,35 +52,23 @@ pub halved : (C : Setup) (H : History) (hart : ℕ) (w : Wish) (store : Store) �
 unfolding edit_of wish_fault
 halved C H hart w store e = second_of _ (is_wrong_half C.layout (place_of w) (page_of w)) _ (unless_ok (wish_fault C.layout hart w) _ store e)
 
-pub edit_made : (answer : Result Store MapFault) (opening r : Reply) (ticket : ℕ) → edit_reply answer opening ≡ r → opened_ticket r ≡ Some ticket → (store : Store) × (answer ≡ Ok store)
-edit_made (Ok store) opening r ticket e t = (store, refl)
-edit_made (Err fault) opening r ticket e t = let z : None ≡ Some ticket = ap opened_ticket e ∙ t in absurd (cc (z))
-
 unmap_right : (C : Setup) (H : History) (hart : ℕ) (place : Place) (page : Span) (named ticket : ℕ) (r : Reply) → r ≡ due C H (Unmap hart place page named) → opened_ticket r ≡ Some ticket
     → (is_place C place ≡ true) × (is_wrong_half C.layout place page ≡ false)
 unmap_right C H hart place page named ticket r d t =
-    let a = opened_accepted r ticket t in
-    let p = passed _ NoHart _ r (sym d) a in
-    let q = passed (not (is_place C place)) NoSpace _ r p.1 a in
-    let s = edit_made (edit_at C H hart (wish.Unmap place page)) _ r ticket q.1 t in
-    (not-false (is_place C place) q.0, halved C H hart (wish.Unmap place page) s.0 s.1)
+    let e = unmap_edit C H hart place page named ticket r d t in
+    (e.there, halved C H hart (wish.Unmap place page) e.store e.is)
 
 protect_right : (C : Setup) (H : History) (hart : ℕ) (place : Place) (page : Span) (flags : PteFlags) (named ticket : ℕ) (r : Reply)
     → r ≡ due C H (Protect hart place page flags named) → opened_ticket r ≡ Some ticket → (is_place C place ≡ true) × (is_wrong_half C.layout place page ≡ false)
 protect_right C H hart place page flags named ticket r d t =
-    let a = opened_accepted r ticket t in
-    let p = passed _ NoHart _ r (sym d) a in
-    let q = passed (not (is_place C place)) NoSpace _ r p.1 a in
-    let s = edit_made (edit_at C H hart (wish.Protect place page flags)) _ r ticket q.1 t in
-    (not-false (is_place C place) q.0, halved C H hart (wish.Protect place page flags) s.0 s.1)
+    let e = protect_edit C H hart place page flags named ticket r d t in
+    (e.there, halved C H hart (wish.Protect place page flags) e.store e.is)
 
 follows_with : (C : Setup) (hart named : ℕ) (what : What) (cause : Cause) (t : Option ℕ) (order : Order) → ((ticket : ℕ) → t ≡ Some ticket → Follows C cause what)
     → order_with hart named what cause t ≡ Some order → Follows C order.cause order.what
-follows_with C hart named what cause None order f e = absurd cc
-follows_with C hart named what cause (Some ticket) order f e =
-    let same_cause : cause ≡ order.cause = cc in
-    let same_what : what ≡ order.what = cc in
-    subst (λ (c : Cause). Follows C c order.what) same_cause (subst (λ (w : What). Follows C cause w) same_what (f ticket refl))
+follows_with C hart named what cause t order f e =
+    let made = order_made hart named what cause t order e in
+    subst (λ (o : Order). Follows C o.cause o.what) made.2 (f made.0 made.1)
 
 follows_step : (C : Setup) (event : Event) (r : Reply) (H : History) (order : Order) → r ≡ due C H event → HasPage event → opened_order C event r ≡ Some order
     → Follows C order.cause order.what
@@ -96,7 +85,7 @@ pub follows : (C : Setup) (H : History) (k : ℕ) (order : Order) → Lawful C H
 follows C [] k order l has e = absurd cc
 follows C (turn ∷ H) k order l has e =
     elim (order_cases (opened_order C turn.event turn.reply) (length H) k (order_at C H k) order e) [
-      | inl new ↦ follows_step C turn.event turn.reply H order l.1 has.1 new.0
+      | inl new ↦ follows_step C turn.event turn.reply H order l.1 has.1 new.1
       | inr old ↦ follows C H k order l.0 has.0 old
     ]
 

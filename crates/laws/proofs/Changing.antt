@@ -1,7 +1,7 @@
 -- What a turn of a lawful history does to the pages that the roots map.
-use Rattle.std.proofs.Common.{◌≡◌, ℕ, ◌<◌, Bool, true, cond, ◌||◌, not, ◌∷◌, Some, None, refl, ap, sym, ◌∙◌, subst, arith, nat_le, ◌-◌}
-use Rattle.std.specs.Prelude.{Result, Ok}
-use Rattle.std.proofs.lemmas.Bool.{not-false, leb-true}
+use Rattle.std.proofs.Common.{◌≡◌, ℕ, ◌<◌, Bool, true, cond, ◌||◌, ◌∷◌, Some, None, refl, ap, sym, ◌∙◌, subst, arith, nat_le, ◌-◌}
+use Rattle.std.specs.Prelude.{Result}
+use Rattle.std.proofs.lemmas.Bool.{leb-true}
 use Rattle.pte.specs.declared.flags.PteFlags.{PteFlags}
 use Rattle.pte.specs.declared.entry.Kind.TheVariants as kinds
 use Rattle.pte.specs.Address.{Span, IsPage, table_length, vpn_of}
@@ -26,16 +26,15 @@ use Rattle.history.specs.Setup.{Setup}
 use Rattle.history.specs.declared.event.Event.{Event}
 use Rattle.history.specs.declared.event.Event.TheVariants.{Map, Unmap, Protect}
 use Rattle.history.specs.declared.reply.Reply.{Reply}
-use Rattle.history.specs.declared.refusal.Refusal.TheVariants.{NoHart, NoSpace}
 use Rattle.history.specs.Turns.{History, is_table, is_leaf, is_opened}
 use Rattle.history.specs.Orders.{page_request}
 use Rattle.history.specs.Tables.{words_of, used_spares, with_store}
-use Rattle.history.specs.Due.{is_place, edit_at, due, Lawful}
+use Rattle.history.specs.Due.{edit_at, due, Lawful}
 use Rattle.laws.specs.Kept.{HasPage, HavePages, IsSetup}
 use Rattle.laws.proofs.Tools.{by_test}
-use Rattle.laws.proofs.Accepted.{turn_of, passed, opened_accepted}
-use Rattle.laws.proofs.Causes.{IsAsked, edit_made, halved}
-use Rattle.laws.proofs.TreeKept.{tree, is_edit, same_words, map_with, stored_accepted, opened_some}
+use Rattle.laws.proofs.Accepted.{turn_of, EditFound, unmap_edit, protect_edit}
+use Rattle.laws.proofs.Causes.{IsAsked, halved}
+use Rattle.laws.proofs.TreeKept.{tree, is_edit, map_edit, opened_some}
 
 -- an edit's place and page, as an order asks for them
 abbrev pub IsEdited : Setup → Place → Span → Type 0
@@ -82,52 +81,39 @@ module _ (l : Layout) (fits : IsLayout l) where
 
 module _ (C : Setup) (setup : IsSetup C) (H : History) (l : Lawful C H) (pages : HavePages H) where
   -- an edit that is due, and what it does
-  edited : (hart : ℕ) (w : Wish) (store : Store) → is_place C (place_of w) ≡ true → IsPage (page_of w) → edit_at C H hart w ≡ Ok store → IsEdited C (place_of w) (page_of w)
-  edited hart w store there page is = record { there = there; right_half = halved C H hart w store is; is_page = page; asks = refl }
+  edited : (hart : ℕ) (w : Wish) → EditFound C H hart w → IsPage (page_of w) → IsEdited C (place_of w) (page_of w)
+  edited hart w e page = record { there = e.there; right_half = halved C H hart w e.store e.is; is_page = page; asks = refl }
 
-  effect : (hart : ℕ) (w : Wish) (store : Store) → is_place C (place_of w) ≡ true → IsPage (page_of w) → edit_at C H hart w ≡ Ok store
-      → HasEffect C.layout w store (words_of C H) (with_store (words_of C H) (edit_at C H hart w))
-  effect hart w store there page is =
-      subst (λ (answer : Result Store MapFault). HasEffect C.layout w store (words_of C H) (with_store (words_of C H) answer)) (sym is)
-      (subst (λ (words : Tables). HasEffect C.layout w store (words_of C H) words) (same_words (words_of C H) store)
+  effect : (hart : ℕ) (w : Wish) (e : EditFound C H hart w) → IsPage (page_of w) → HasEffect C.layout w e.store (words_of C H) (with_store (words_of C H) (edit_at C H hart w))
+  effect hart w e page =
+      let store = e.store in
+      subst (λ (answer : Result Store MapFault). HasEffect C.layout w store (words_of C H) (with_store (words_of C H) answer)) (sym e.is)
       (edit-effect C.layout (words_of C H) (used_spares H) hart w store
-      (is_edit C H hart w store setup.layout setup.homes (tree C setup.layout setup.homes H l pages) there page is)))
+      (is_edit C H hart w store setup.layout setup.homes (tree C setup.layout setup.homes H l pages) e.there page e.is))
 
   pub map_changes : (hart : ℕ) (place : Place) (page : Span) (ppn : ℕ) (flags : PteFlags) (r : Reply) → r ≡ due C H (Map hart place page ppn flags) → IsPage page
       → (is_table r || is_leaf r) ≡ true → Changes C r (words_of C H) (with_store (words_of C H) (edit_at C H hart (wish.Map place page ppn flags))) (Map hart place page ppn flags)
   map_changes hart place page ppn flags r d is_page z =
-      let a = stored_accepted r z in
-      let p = passed _ NoHart _ r (sym d) a in
-      let q = passed (not (is_place C place)) NoSpace _ r p.1 a in
-      let there = not-false (is_place C place) q.0 in
-      let m = map_with (edit_at C H hart (wish.Map place page ppn flags)) r q.1 a in
-      let does = effect hart (wish.Map place page ppn flags) m.0 there is_page m.1 in
+      let m = map_edit C H hart place page ppn flags r d z in
+      let does = effect hart (wish.Map place page ppn flags) m.0 is_page in
       by_test (λ _. Changes C r (words_of C H) (with_store (words_of C H) (edit_at C H hart (wish.Map place page ppn flags))) (Map hart place page ppn flags)) (is_table r)
-      (λ t. keeps (Map hart place page ppn flags) (does.0 (sym m.2 ∙ t)))
-      (λ t. adds hart place page ppn flags (sym (ap (λ v. v || is_leaf r) t) ∙ z) (edited hart (wish.Map place page ppn flags) m.0 there is_page m.1) (does.1 (sym m.2 ∙ t)))
+      (λ t. keeps (Map hart place page ppn flags) (does.0 (sym m.1 ∙ t)))
+      (λ t. adds hart place page ppn flags (sym (ap (λ v. v || is_leaf r) t) ∙ z) (edited hart (wish.Map place page ppn flags) m.0 is_page) (does.1 (sym m.1 ∙ t)))
 
   pub unmap_removes : (hart : ℕ) (place : Place) (page : Span) (named : ℕ) (r : Reply) → r ≡ due C H (Unmap hart place page named) → IsPage page → is_opened r ≡ true
       → IsEdited C place page × RemovesPage C.layout place page (words_of C H) (with_store (words_of C H) (edit_at C H hart (wish.Unmap place page)))
   unmap_removes hart place page named r d is_page z =
       let t = opened_some r z in
-      let a = opened_accepted r t.0 t.1 in
-      let p = passed _ NoHart _ r (sym d) a in
-      let q = passed (not (is_place C place)) NoSpace _ r p.1 a in
-      let there = not-false (is_place C place) q.0 in
-      let m = edit_made (edit_at C H hart (wish.Unmap place page)) _ r t.0 q.1 t.1 in
-      (edited hart (wish.Unmap place page) m.0 there is_page m.1, effect hart (wish.Unmap place page) m.0 there is_page m.1)
+      let e = unmap_edit C H hart place page named t.0 r d t.1 in
+      (edited hart (wish.Unmap place page) e is_page, effect hart (wish.Unmap place page) e is_page)
 
   protect_changes : (hart : ℕ) (place : Place) (page : Span) (flags : PteFlags) (named : ℕ) (r : Reply) → r ≡ due C H (Protect hart place page flags named) → IsPage page
       → is_opened r ≡ true
       → IsEdited C place page × ChangesFlags C.layout place page flags (words_of C H) (with_store (words_of C H) (edit_at C H hart (wish.Protect place page flags)))
   protect_changes hart place page flags named r d is_page z =
       let t = opened_some r z in
-      let a = opened_accepted r t.0 t.1 in
-      let p = passed _ NoHart _ r (sym d) a in
-      let q = passed (not (is_place C place)) NoSpace _ r p.1 a in
-      let there = not-false (is_place C place) q.0 in
-      let m = edit_made (edit_at C H hart (wish.Protect place page flags)) _ r t.0 q.1 t.1 in
-      (edited hart (wish.Protect place page flags) m.0 there is_page m.1, effect hart (wish.Protect place page flags) m.0 there is_page m.1)
+      let e = protect_edit C H hart place page flags named t.0 r d t.1 in
+      (edited hart (wish.Protect place page flags) e is_page, effect hart (wish.Protect place page flags) e is_page)
 
   pub changes : (event : Event) (r : Reply) → r ≡ due C H event → HasPage event → Changes C r (words_of C H) (words_of C (turn_of event r ∷ H)) event
   changes (Map hart place page ppn flags) r d has =

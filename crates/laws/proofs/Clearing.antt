@@ -19,7 +19,6 @@ use Rattle.history.specs.Due.{Lawful}
 use Rattle.history.specs.Staleness.{is_over_order, is_mapped_anew, anew_after, Clear}
 use Rattle.laws.specs.Kept.{HavePages, HasAsids, StaysUnmapped, UserPagesAreNotGlobal}
 use Rattle.laws.proofs.Orders.{orders_stay}
-use Rattle.laws.proofs.Fresh.{FindsOutcomes}
 use Rattle.laws.proofs.Holding.{lies_in, held_by, MappedSince, mapped_since}
 use Rattle.laws.proofs.Causes.{IsAsked, Follows, follows}
 
@@ -33,7 +32,7 @@ anew_before C [] before k e = e
 anew_before C (turn ∷ later) before k e =
     anew_before C later before k (anew_step C turn.event turn.reply (later ++ before) k (is_mapped_anew C (later ++ before) k) e)
 
-module _ (C : Setup) (has : HasAsids C) (finds : FindsOutcomes) (unmapped : (H : History) → Lawful C H → HavePages H → StaysUnmapped C H)
+module _ (C : Setup) (has : HasAsids C) (unmapped : (H : History) → Lawful C H → HavePages H → StaysUnmapped C H)
     (user : (H : History) → Lawful C H → HavePages H → UserPagesAreNotGlobal C H) where
   -- a mapping of the page of an unmapping was mapped when the page was unmapped
   none_since : (H : History) (k : ℕ) (order : Order) (place : Place) (page : Span) (e : Entry) (m : Mapping) → order_at C H k ≡ Some order → order.cause ≡ Unmapped place page
@@ -54,4 +53,4 @@ module _ (C : Setup) (has : HasAsids C) (finds : FindsOutcomes) (unmapped : (H :
       let inner : LiesIn e.page (page_number va) = subst (LiesIn e.page) t.page is.page in
       let over = (overlaps-Overlap page e.page).1 (va, holds, held_by e.page va inner) in
       none_since H k a.order place page e t.mapping a.is a.same_cause fresh at
-      (mapped_since C has finds user H k h a.order place page asid e t.mapping l pages a.is a.acked asked of over at t.member.1 is t.space)
+      (mapped_since C has user H k h a.order place page asid e t.mapping l pages a.is a.acked asked of over at t.member.1 is t.space)

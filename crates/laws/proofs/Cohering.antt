@@ -26,7 +26,7 @@ use Rattle.laws.proofs.Orders.{orders_stay}
 use Rattle.laws.proofs.Holding.{held_by, MappedSince, mapped_since}
 use Rattle.laws.proofs.Causes.{IsAsked, Follows, follows}
 use Rattle.pte.specs.declared.flags.PteFlags.{PteFlags}
-use Rattle.laws.proofs.Fresh.{FindsOutcomes, numbered}
+use Rattle.laws.proofs.Fresh.{numbered}
 
 -- what was superseded before still is
 superseded_step : (C : Setup) (event : Event) (r : Reply) (H : History) (k : ℕ) (old : Bool) → superseded_after C event r H k old ≡ false → old ≡ false
@@ -48,7 +48,7 @@ for_some C (Space s) m (inl none) = (asid_of C s, refl, inl none)
 for_some C Kernel m (inl none) = (0, tt, inl none)
 for_some C place m (inr some) = (some.0, some.2, inr some.1)
 
-module _ (C : Setup) (has : HasAsids C) (finds : FindsOutcomes) (user : (H : History) → Lawful C H → HavePages H → UserPagesAreNotGlobal C H)
+module _ (C : Setup) (has : HasAsids C) (user : (H : History) → Lawful C H → HavePages H → UserPagesAreNotGlobal C H)
     (stays : (turn : Turn) (H : History) → Lawful C (turn ∷ H) → HavePages (turn ∷ H) → StaysMapped C turn H)
     (shared : (H : History) → Lawful C H → HavePages H → WindowIsShared C H) where
   -- what was mapped is mapped still
@@ -97,5 +97,5 @@ module _ (C : Setup) (has : HasAsids C) (finds : FindsOutcomes) (user : (H : His
       let some = for_some C place m for in (
         e.global,
         still_mapped H k a.order place page e m root l pages a.is changed asked fresh at
-            (mapped_since C has finds user H k h a.order place page some.0 e m l pages a.is a.acked asked some.1 over at by.1 is some.2) of,
+            (mapped_since C has user H k h a.order place page some.0 e m l pages a.is a.acked asked some.1 over at by.1 is some.2) of,
       )

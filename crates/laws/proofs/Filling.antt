@@ -23,7 +23,8 @@ use Rattle.history.specs.Harts.{Walking, walk_of, space_of, outcome_of, with_fou
 use Rattle.history.specs.Due.{Lawful}
 use Rattle.history.specs.Occurrences.{Sometime}
 use Rattle.laws.specs.Fills.{Fills, FillsAcked}
-use Rattle.laws.proofs.Tools.{by_test, or3, sometime-here, sometime-later}
+use Rattle.history.proofs.Splits.{sometime-here, sometime-later}
+use Rattle.laws.proofs.Tools.{by_test, or3}
 use Rattle.laws.proofs.Accepted.{turn_of, ack_found}
 use Rattle.laws.proofs.Orders.{order_stays}
 use Rattle.laws.proofs.Posts.{order_is, served_post}

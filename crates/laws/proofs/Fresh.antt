@@ -1,12 +1,11 @@
 -- What a Load fills is what the tables map at that moment.
-use Rattle.std.proofs.Common.{◌≡◌, ℕ, ◌+◌, ◌*◌, ◌%◌, Some, sym, arith}
-use Rattle.std.specs.Prelude.{◌↔◌, Result, Ok}
+use Rattle.std.proofs.Common.{◌≡◌, ℕ, ◌+◌, ◌*◌, ◌%◌, sym, arith}
+use Rattle.std.specs.Prelude.{Ok}
 use Rattle.pte.specs.Address.{Holds, bytes_of, pages_of}
 use Rattle.pte.specs.declared.address.PageSize.TheVariants.{Kib4}
 use Rattle.pte.specs.declared.permission.Access.{Access}
 use Rattle.pte.specs.declared.permission.Ctx.{Ctx}
 use Rattle.walk.specs.declared.found_or_trap.Found.{Found}
-use Rattle.walk.specs.declared.found_or_trap.Trap.{Trap}
 use Rattle.walk.specs.Leads.{Tables}
 use Rattle.walk.specs.Maps.{Maps, page_number}
 use Rattle.walk.specs.Outcome.{Outcome}
@@ -18,8 +17,9 @@ use Rattle.tlb.specs.Answer.{entry_of}
 use Rattle.history.specs.Setup.{Setup, asid_of}
 use Rattle.history.specs.Turns.{Turn, History}
 use Rattle.history.specs.Tables.{words_of}
-use Rattle.history.specs.Harts.{Walking, walk_of, space_of, outcome_of}
+use Rattle.history.specs.Harts.{space_of}
 use Rattle.history.specs.Due.{Lawful}
+use Rattle.history.proofs.Walks.{walk_outcome}
 use Rattle.laws.specs.Fills.{Fills}
 
 pub numbered : (n : ℕ) → page_number (n * bytes_of Kib4) ≡ n
@@ -35,14 +35,9 @@ found_maps words root va asid access ctx found m is of =
     let same : m.ppn ≡ found.ppn + m.page % pages_of found.page.size = of.ppn in
     rw (same, of.flags) (rw (numbered m.page) at member)
 
--- what a walk of a lawful history finds is its outcome
-abbrev pub FindsOutcomes : Type 0
-FindsOutcomes = (C : Setup) (H : History) (hart space : ℕ) (walk : Walking) (answer : Result Found Trap) → Lawful C H → walk_of H hart ≡ Some walk
-    → (answer ≡ outcome_of C H space walk) ↔ Outcome (words_of C H) (root_ppn C.layout space) walk.va walk.access walk.ctx answer
-
-pub fill_maps : FindsOutcomes → (C : Setup) (turn : Turn) (H : History) (h : ℕ) (e : Entry) (m : Mapping) → Lawful C H → Fills C h e turn H → IsMappingOf e m
+pub fill_maps : (C : Setup) (turn : Turn) (H : History) (h : ℕ) (e : Entry) (m : Mapping) → Lawful C H → Fills C h e turn H → IsMappingOf e m
     → Maps (words_of C H) (root_ppn C.layout (space_of H h)) m.page m.ppn m.flags e.global
-fill_maps finds C turn H h e m l f of =
-    let out = (finds C H h (space_of H h) f.walk (Ok f.found) l f.walking).0 (sym f.finds) in
+fill_maps C turn H h e m l f of =
+    let out = (walk_outcome C H h (space_of H h) f.walk (Ok f.found) l f.walking).0 (sym f.finds) in
     let is : e ≡ entry_of (asid_of C (space_of H h)) f.found = f.is in
     rw is (found_maps (words_of C H) (root_ppn C.layout (space_of H h)) f.walk.va (asid_of C (space_of H h)) f.walk.access f.walk.ctx f.found m out (rw is at of))

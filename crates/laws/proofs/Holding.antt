@@ -29,7 +29,7 @@ use Rattle.laws.specs.Fills.{Fills}
 use Rattle.laws.specs.Kept.{HavePages, HasAsids, UserPagesAreNotGlobal}
 use Rattle.laws.proofs.Acknowledged.{acked_below}
 use Rattle.laws.proofs.Filling.{entries_filled, acknowledged_since, LeftOrFilled}
-use Rattle.laws.proofs.Fresh.{FindsOutcomes, fill_maps}
+use Rattle.laws.proofs.Fresh.{fill_maps}
 use Rattle.laws.proofs.Causes.{IsAsked, space_there}
 
 -- the page of 4 KiB of an address of a page lies in the page
@@ -68,7 +68,7 @@ pub record MappedSince (C : Setup) (H : History) (k : ℕ) (place : Place) (e : 
   pub root : IsRootOf C place (root_ppn C.layout space)
   pub maps : Maps (words_of C earlier) (root_ppn C.layout space) m.page m.ppn m.flags e.global
 
-module _ (C : Setup) (has : HasAsids C) (finds : FindsOutcomes) (user : (H : History) → Lawful C H → HavePages H → UserPagesAreNotGlobal C H) where
+module _ (C : Setup) (has : HasAsids C) (user : (H : History) → Lawful C H → HavePages H → UserPagesAreNotGlobal C H) where
   -- a filled mapping is mapped from the root of a space that is there
   record Mapped (H : History) (e : Entry) (m : Mapping) (space : ℕ) : Type 0 where
     there : space < length C.asids
@@ -79,7 +79,7 @@ module _ (C : Setup) (has : HasAsids C) (finds : FindsOutcomes) (user : (H : His
   fill_mapped turn H h e m l f of = record {
     there = space_there C H h has l;
     asid = ap (λ (x : Entry). x.asid) f.is;
-    maps = fill_maps finds C turn H h e m l f of;
+    maps = fill_maps C turn H h e m l f of;
   }
 
   -- no entry that is global has a mapping in a page of a space

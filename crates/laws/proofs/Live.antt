@@ -1,10 +1,10 @@
 -- What waits or is served is of an order that is open, and that its receiver has not acknowledged.
-use Rattle.std.proofs.Common.{◌≡◌, ℕ, zero, suc, true, false, cond, ◌&&◌, List, [], ◌∷◌, ◌++◌, length, drop, Option, Some, None, slice_get, refl, ap, sym, ◌∙◌, subst, eqb, inl, inr}
+use Rattle.std.proofs.Common.{◌≡◌, ℕ, zero, suc, true, false, cond, ◌&&◌, List, [], ◌∷◌, ◌++◌, length, drop, Option, Some, None, slice_get, refl, sym, ◌∙◌, subst, eqb, inl, inr}
 use Rattle.std.specs.Prelude.{All}
 use Rattle.std.specs.List.{slice_index_or}
 use Rattle.std.proofs.lemmas.Bool.{and_parts, and_from, eqb-true, ne_eqb, eq-eqb, false≢true, false_from_ne_true}
 use Rattle.std.proofs.lemmas.List.{append-nil, drop-append-le}
-use Rattle.std.proofs.lemmas.List.Elements.{All-nil, All-cons, All-head, All-tail, All-append}
+use Rattle.std.proofs.lemmas.List.Elements.{All-nil, All-head, All-tail, All-append}
 use Rattle.shoot.specs.Request.{Message}
 use Rattle.shoot.specs.HartSet.{contains}
 use Rattle.history.specs.Setup.{Setup}
@@ -13,7 +13,7 @@ use Rattle.history.specs.declared.event.Event.TheVariants.{Post, Take, Ack, AckS
 use Rattle.history.specs.declared.reply.Reply.{Reply}
 use Rattle.history.specs.declared.reply.Reply.TheVariants as reply
 use Rattle.history.specs.Turns.{Turn, History, is_ok, is_taken, is_progress, taken_request, are_same}
-use Rattle.history.specs.Orders.{Order, order_at, open_order, is_order, what_asked}
+use Rattle.history.specs.Orders.{order_at, open_order, is_order}
 use Rattle.history.specs.Mailboxes.{Sent, sent_of, posts, taken}
 use Rattle.history.specs.Service.{served_after, served, is_served}
 use Rattle.history.specs.Acknowledgements.{is_posted, is_acked, is_collected}
@@ -22,8 +22,8 @@ use Rattle.laws.specs.Orders.{Finishes}
 use Rattle.laws.specs.Posts.{IsAcceptedPost, IsLive, waiting_posts}
 use Rattle.laws.proofs.Tools.{by_test, and3, or3, drop_slice_get, All-slice_get}
 use Rattle.laws.proofs.Accepted.{turn_of, post_found, finish_found}
-use Rattle.laws.proofs.Orders.{known, open_known, open_stays}
-use Rattle.laws.proofs.Posts.{order_is, posts_known, served_post, taken_within, waiting_known}
+use Rattle.laws.proofs.Orders.{known, open_known, one_sender, open_stays}
+use Rattle.laws.proofs.Posts.{order_is, sent_each, posts_known, served_post, taken_within, waiting_known}
 use Rattle.laws.proofs.Waiting.{served_is_other, taken_length}
 use Rattle.laws.proofs.Acknowledged.{collected_acked, acked_posted}
 
@@ -60,8 +60,7 @@ stays_unacked C (Ack b) r H s h x l p v f =
 stays_unacked C (AckSelf b t) r H s h x l p v f =
     false_from_ne_true _ (λ z. elim (or3 (is_progress r) (eqb b h) (is_order (open_order H b t) x.order) (is_acked C H x.order h) z) [
       | inl n ↦ let own = open_known C H b t x.order l (order_is (open_order H b t) x.order n.2) in
-          let same : own.order ≡ p.opened.order = cc (own.is, p.opened.is) in
-          p.apart (sym p.opened.sender ∙ (ap (λ (o : Order). o.sender) (sym same) ∙ (own.sender ∙ eqb-true b h n.1)))
+          p.apart (sym p.opened.sender ∙ (one_sender C H x.order p.opened.order own.order p.opened.is own.is ∙ (own.sender ∙ eqb-true b h n.1)))
       | inr y ↦ false≢true (sym v.unacked ∙ y)
     ])
 stays_unacked C _ r H s h x l p v f = v.unacked
@@ -92,19 +91,16 @@ fresh_unacked C H s t k h l o fresh apart =
     let own = open_known C H s t k l o in
     false_from_ne_true (is_acked C H k h) (λ y. elim (acked_posted C H k h l y) [
       | inl p ↦ false≢true (sym fresh ∙ p)
-      | inr i ↦ let e : own.order ≡ i.order = cc (own.is, i.is) in
-          apart (sym own.sender ∙ (ap (λ (j : Order). j.sender) e ∙ i.sender))
+      | inr i ↦ apart (sym own.sender ∙ (one_sender C H k own.order i.order own.is i.is ∙ i.sender))
     ])
 
 new_live : (C : Setup) (H : History) (s t h : ℕ) (r : Reply) → Lawful C (turn_of (Post s t h) r ∷ H) → is_ok r ≡ true
-    → (o : Option ℕ) → o ≡ open_order H s t → All (IsLive C (turn_of (Post s t h) r ∷ H) h) (sent_of C H s t o)
-new_live C H s t h r l z None q = All-nil (IsLive C (turn_of (Post s t h) r ∷ H) h)
-new_live C H s t h r l z (Some k) q =
-    let P = IsLive C (turn_of (Post s t h) r ∷ H) h in
-    let f = post_found C H s t h r l.1 z in
-    let same : f.order ≡ k = cc (f.is, q) in
-    All-cons P (record { sender = s; order = k; request = record { ticket = t; what = what_asked (order_at C H k) } }) []
-    (record { is_open = sym q; unacked = fresh_unacked C H s t k h l.0 (sym q) (rw (← same) f.fresh) f.apart }) (All-nil P)
+    → All (IsLive C (turn_of (Post s t h) r ∷ H) h) (sent_of C H s t (open_order H s t))
+new_live C H s t h r l z =
+    sent_each C H (IsLive C (turn_of (Post s t h) r ∷ H) h) s t (open_order H s t)
+    (λ k o. let f = post_found C H s t h r l.1 z in
+    let same : f.order ≡ k = cc (f.is, o) in
+    record { is_open = o; unacked = fresh_unacked C H s t k h l.0 o (rw (← same) f.fresh) f.apart })
 
 All-drop_more : {A : Type 0} (P : A → Type 0) (n : ℕ) (xs : List A) → All P (drop n xs) → All P (drop (suc n) xs)
 All-drop_more P zero [] h = h
@@ -125,7 +121,7 @@ waits_step C (Post a t b) r H s h l all =
     let bh : b ≡ h = eqb-true b h y.2 in
     rw (drop-append-le (length (taken H s h)) (posts C H s h) (sent_of C H a t (open_order H a t)) (taken_within C H s h l.0))
     (All-append P (waiting_posts C H s h) (sent_of C H a t (open_order H a t)) (waits_stay C (Post a t b) r H s h l all)
-    (subst (λ (i : ℕ). All (IsLive C (turn_of (Post a t b) r ∷ H) i) (sent_of C H a t (open_order H a t))) bh (new_live C H a t b r l y.0 (open_order H a t) refl))))
+    (subst (λ (i : ℕ). All (IsLive C (turn_of (Post a t b) r ∷ H) i) (sent_of C H a t (open_order H a t))) bh (new_live C H a t b r l y.0))))
     (λ _. waits_stay C (Post a t b) r H s h l all)
 waits_step C (Take b a) r H s h l all =
     let P = IsLive C (turn_of (Take b a) r ∷ H) h in

@@ -1,7 +1,8 @@
 -- What the tables of a lawful history keep: which pages are global, the window, and a page until it is edited once more.
-use Rattle.std.proofs.Common.{◌≡◌, ℕ, ◌≤◌, ◌<◌, Bool, true, false, cond, ◌&&◌, ◌||◌, [], ◌∷◌, length, Option, Some, None, refl, ap, sym, ◌∙◌, subst, inl, inr, arith}
+use Rattle.std.proofs.Common.{◌≡◌, ℕ, ◌*◌, ◌≤◌, ◌<◌, Bool, true, false, cond, ◌&&◌, ◌||◌, [], ◌∷◌, length, Option, Some, None, refl, ap, sym, ◌∙◌, subst, inl, inr, arith}
 use Rattle.std.proofs.lemmas.Bool.{or_parts, false≢true, ltb-true}
-use Rattle.pte.specs.Address.{Span}
+use Rattle.pte.specs.Address.{Span, bytes_of, top_level, vpn_of}
+use Rattle.pte.specs.declared.address.PageSize.TheVariants.{Kib4}
 use Rattle.pte.specs.declared.address.What.{What}
 use Rattle.pte.specs.declared.flags.PteFlags.{PteFlags}
 use Rattle.walk.specs.Leads.{Tables}
@@ -9,9 +10,9 @@ use Rattle.walk.specs.Maps.{Maps}
 use Rattle.spaces.specs.declared.places.Place.{Place}
 use Rattle.spaces.specs.declared.places.Place.TheVariants.{Space, Kernel}
 use Rattle.spaces.specs.declared.wishes.Wish.TheVariants as wish
-use Rattle.spaces.specs.Layout.{root_ppn}
-use Rattle.spaces.specs.Edits.{is_kernel}
+use Rattle.spaces.specs.Layout.{first_window_slot, root_ppn}
 use Rattle.spaces.specs.Effects.{IsPart, IsAbout, HangsBelow}
+use Rattle.spaces.proofs.EditLaws.{global-window}
 use Rattle.tlb.specs.Service.{overlaps}
 use Rattle.history.specs.Setup.{Setup}
 use Rattle.history.specs.declared.event.Event.{Event}
@@ -20,14 +21,16 @@ use Rattle.history.specs.declared.reply.Reply.{Reply}
 use Rattle.history.specs.declared.reply.Reply.TheVariants as reply
 use Rattle.history.specs.Turns.{Turn, History, is_leaf, is_opened, opened_ticket}
 use Rattle.history.specs.Orders.{Order, Cause, Unmapped, Protected, Flushed, page_request, scope_request, order_with, opened_order, order_at}
-use Rattle.history.specs.Tables.{words_of, with_store}
+use Rattle.history.specs.Tables.{words_of, used_spares, with_store}
 use Rattle.history.specs.Due.{is_place, edit_at, due, Lawful}
 use Rattle.history.specs.Staleness.{is_over, is_over_order, is_same_place, anew_after, is_mapped_anew, superseded_after, is_superseded, IsChange, IsRootOf}
 use Rattle.laws.specs.Kept.{HasPage, HavePages, IsSetup, StaysMapped, StaysUnmapped, UserPagesAreNotGlobal, WindowIsShared}
 use Rattle.laws.proofs.Tools.{by_test}
 use Rattle.laws.proofs.Accepted.{turn_of}
-use Rattle.laws.proofs.Orders.{order_cases}
+use Rattle.laws.proofs.Orders.{order_made}
+use Rattle.history.proofs.OpenOrders.{order_cases}
 use Rattle.laws.proofs.Causes.{IsAsked, follows}
+use Rattle.laws.proofs.TreeKept.{tree}
 use Rattle.laws.proofs.Clearing.{anew_step}
 use Rattle.laws.proofs.Cohering.{follows_change}
 use Rattle.laws.proofs.Halves.{half_end, part, in_user, in_window, about_over}
@@ -54,8 +57,8 @@ opened_is r t e = by_opened r e
 -- an order was opened with its cause
 with_cause : (hart named : ℕ) (what : What) (cause : Cause) (t : Option ℕ) (order : Order) → order_with hart named what cause t ≡ Some order
     → (ticket : ℕ) × (t ≡ Some ticket) × (cause ≡ order.cause)
-with_cause hart named what cause None order e = absurd cc
-with_cause hart named what cause (Some ticket) order e = (ticket, refl, cc)
+with_cause hart named what cause t order e =
+    let made = order_made hart named what cause t order e in (made.0, made.1, ap (λ (o : Order). o.cause) made.2)
 
 -- a test of a page that the order is about
 over_change : (cause : Cause) (place other : Place) (page span : Span) → IsChange cause place page → (is_same_place place other && overlaps page span) ≡ true → is_over cause other span ≡ true
@@ -73,27 +76,13 @@ module _ (C : Setup) (setup : IsSetup C) where
   in_layout : (s : ℕ) → s < length C.asids → s < length C.layout.homes
   in_layout s there = subst (λ n. s < n) setup.homes there
 
-  -- no page of the user's half is global
-  module _ (space n : ℕ) (there : space < length C.layout.homes) (low : n < half_end) where
-    adds_plain : (place : Place) (page : Span) → IsEdited C place page → IsPart page n → true ≡ is_kernel place → ⊥
-    adds_plain (Space s) page e at k = false≢true (sym k)
-    adds_plain Kernel page e at k = let high = in_window C setup.layout page n e.is_page e.right_half at in omega arith
-
-    plain_step : (event : Event) (r : Reply) (old new : Tables) → Changes C r old new event
-        → ((ppn : ℕ) (flags : PteFlags) → ¬ Maps old (root_ppn C.layout space) n ppn flags true)
-        → (ppn : ℕ) (flags : PteFlags) → ¬ Maps new (root_ppn C.layout space) n ppn flags true
-    plain_step event r old new (keeps _ same) none ppn flags m = none ppn flags ((same space n ppn flags true there).0 m)
-    plain_step event r old new (adds hart place page first f leaf e does) none ppn flags m =
-        elim ((does space n ppn flags true there).0 m) [ inl was ↦ none ppn flags was | inr new ↦ adds_plain place page e new.0.1 new.3 ]
-    plain_step event r old new (removes hart place page named opened e does) none ppn flags m = none ppn flags ((does space n ppn flags true there).0 m).0
-    plain_step event r old new (changes_flags hart place page f named opened e does) none ppn flags m =
-        elim ((does space n ppn flags true there).0 m) [ inl was ↦ none ppn flags was.0 | inr new ↦ none ppn new.2.0 new.2.1 ]
-
+  -- no page of the user's half is global: what is global is in the window
   pub user_plain : (H : History) → Lawful C H → HavePages H → UserPagesAreNotGlobal C H
-  user_plain [] l has = λ s space page n ppn flags is half there at m. opening_maps_nothing C.layout setup.layout (root_ppn C.layout space) n ppn flags true m
-  user_plain (turn ∷ H) l has = λ s space page n ppn flags is half there at.
-      plain_step space n (in_layout space there) (in_user C setup.layout s page n is half (part page n at)) turn.event turn.reply (words_of C H) (words_of C (turn ∷ H))
-      (changes C setup H l.0 has.0 turn.event turn.reply l.1 has.1) (λ ppn flags. user_plain H l.0 has.0 s space page n ppn flags is half there at) ppn flags
+  user_plain H l has = λ s space page n ppn flags is half there at m.
+      let low : n < half_end = in_user C setup.layout s page n is half (part page n at) in
+      let high : first_window_slot C.layout ≤ vpn_of (n * bytes_of Kib4) top_level =
+      (global-window C.layout (words_of C H) (used_spares H) setup.layout (tree C setup.layout setup.homes H l has) space n ppn flags true (in_layout space there) m).0 refl in
+      omega (arith, setup.layout.window, low, high)
 
   -- the window is the same in all roots
   module _ (s t n : ℕ) (there_s : s < length C.layout.homes) (there_t : t < length C.layout.homes) (high : half_end ≤ n) where
@@ -201,7 +190,7 @@ module _ (C : Setup) (setup : IsSetup C) where
   stays_unmapped [] l has = λ k order place page is. absurd (let bad : None ≡ Some order = is in cc)
   stays_unmapped (turn ∷ H) l has = λ k order place page is cause fresh root n ppn flags global of at.
       elim (order_cases (opened_order C turn.event turn.reply) (length H) k (order_at C H k) order is) [
-        | inl new ↦ gone turn.event turn.reply H order place page l.0 has.0 l.1 has.1 new.0 cause root n ppn flags global of (part page n at)
+        | inl new ↦ gone turn.event turn.reply H order place page l.0 has.0 l.1 has.1 new.1 cause root n ppn flags global of (part page n at)
         | inr old ↦
             let asked = follows_change C order.cause place page order.what (inl cause) (follows C H k order l.0 has.0 old) in
             let r = root_of C place root asked.there of in

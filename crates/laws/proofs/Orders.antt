@@ -1,6 +1,6 @@
 -- Orders: which are there, and which are open under which ticket.
-use Rattle.std.proofs.Common.{◌≡◌, ℕ, ◌<◌, true, cond, ◌&&◌, [], ◌∷◌, ◌++◌, length, Option, Some, None, refl, ◌∙◌, arith, eqb, ◌⊎◌, inl, inr, length-append}
-use Rattle.std.proofs.lemmas.Bool.{and_parts, eqb-true, ne_eqb, eq-eqb}
+use Rattle.std.proofs.Common.{◌≡◌, ℕ, ◌<◌, true, cond, ◌&&◌, [], ◌∷◌, ◌++◌, length, Option, Some, None, refl, ap, ◌∙◌, arith, eqb, ◌⊎◌, inl, inr, length-append}
+use Rattle.std.proofs.lemmas.Bool.{and_parts, eqb-true, eq-eqb}
 use Rattle.pte.specs.declared.address.What.{What}
 use Rattle.shoot.specs.HartSet.{contains, harts_in}
 use Rattle.std.specs.Int.{bit_at}
@@ -10,8 +10,9 @@ use Rattle.history.specs.declared.event.Event.{Event}
 use Rattle.history.specs.declared.event.Event.TheVariants.{Unmap, Protect, Flush, Finish}
 use Rattle.history.specs.declared.reply.Reply.{Reply}
 use Rattle.history.specs.Turns.{Turn, History, is_ok, opened_ticket, are_same}
-use Rattle.history.specs.Orders.{Order, Cause, Unmapped, Protected, Flushed, page_request, scope_request, order_with, opened_order, order_or, order_at, held_after, open_after, open_order}
+use Rattle.history.specs.Orders.{Order, Cause, Unmapped, Protected, Flushed, page_request, scope_request, order_with, opened_order, order_at, held_after, open_after, open_order}
 use Rattle.history.specs.Due.{due, Lawful}
+use Rattle.history.proofs.OpenOrders.{order_cases, order_stays as order_or_stays}
 use Rattle.laws.specs.Orders.{IsOrder, IsOpenedBy, Finishes}
 use Rattle.laws.proofs.Tools.{by_test, and3, contains_below}
 use Rattle.laws.proofs.Accepted.{turn_of, OpeningFound, unmap_found, protect_found, flush_found}
@@ -23,13 +24,18 @@ pub record Opened (H : History) (order : Order) : Type 0 where
   pub names_sender : contains order.named order.sender ≡ true
   pub names_harts : (h : ℕ) → contains order.named h ≡ true → h < MAX_HARTS
 
+-- what an opening opened
+pub order_made : (hart named : ℕ) (what : What) (cause : Cause) (t : Option ℕ) (order : Order) → order_with hart named what cause t ≡ Some order
+    → (ticket : ℕ) × (t ≡ Some ticket) × (record { sender = hart; ticket = ticket; named = harts_in named; what = what; cause = cause } ≡ order)
+order_made hart named what cause None order e = absurd cc
+order_made hart named what cause (Some ticket) order e = (ticket, refl, cc)
+
 opened_with : (H : History) (hart named : ℕ) (what : What) (cause : Cause) (t : Option ℕ) (order : Order)
     → ((ticket : ℕ) → t ≡ Some ticket → OpeningFound H hart named ticket) → order_with hart named what cause t ≡ Some order → Opened H order
-opened_with H hart named what cause None order f e = absurd cc
-opened_with H hart named what cause (Some ticket) order f e =
-    let found = f ticket refl in
-    let same : record { sender = hart; ticket = ticket; named = harts_in named; what = what; cause = cause } ≡ order = cc in
-    rw (← same) (record { bound = found.bound; free = found.free; names_sender = found.names_sender; names_harts = λ h n. contains_below (λ i. eqb (bit_at named i) 1) h n })
+opened_with H hart named what cause t order f e =
+    let made = order_made hart named what cause t order e in
+    let found = f made.0 made.1 in
+    rw (← made.2) (record { bound = found.bound; free = found.free; names_sender = found.names_sender; names_harts = λ h n. contains_below (λ i. eqb (bit_at named i) 1) h n })
 
 pub opened_found : (C : Setup) (event : Event) (r : Reply) (H : History) (order : Order) → r ≡ due C H event → opened_order C event r ≡ Some order → Opened H order
 opened_found C (Unmap hart place page named) r H order d e =
@@ -40,19 +46,12 @@ opened_found C (Flush hart scope named) r H order d e =
     opened_with H hart named (scope_request C scope) Flushed (opened_ticket r) order (λ t q. flush_found C H hart scope named t r d q) e
 opened_found C _ r H order d e = absurd (cc (e))
 
--- the order at a place is the new one, or was there
-pub order_cases : (new : Option Order) (place k : ℕ) (old : Option Order) (order : Order) → order_or new place k old ≡ Some order → ((new ≡ Some order) × (place ≡ k)) ⊎ (old ≡ Some order)
-order_cases None place k old order e = inr e
-order_cases (Some new) place k old order e =
-    by_test (λ v. cond v (Some new) old ≡ Some order → ((Some new ≡ Some order) × (place ≡ k)) ⊎ (old ≡ Some order)) (eqb place k)
-    (λ t q. inl (q, eqb-true place k t)) (λ _ q. inr q) e
-
 pub known : (C : Setup) (H : History) (k : ℕ) (order : Order) → Lawful C H → order_at C H k ≡ Some order → IsOrder H k order
 known C [] k order l e = absurd cc
 known C (turn ∷ H) k order l e =
     elim (order_cases (opened_order C turn.event turn.reply) (length H) k (order_at C H k) order e) [
-      | inl new ↦ let o = opened_found C turn.event turn.reply H order l.1 new.0 in
-          let q = new.1 in
+      | inl new ↦ let o = opened_found C turn.event turn.reply H order l.1 new.1 in
+          let q = new.0 in
           record { below = omega arith; ticket_bound = o.bound; names_sender = o.names_sender; names_harts = o.names_harts }
       | inr old ↦ let o = known C H k order l.0 old in
           let b = o.below in
@@ -60,12 +59,8 @@ known C (turn ∷ H) k order l e =
     ]
 
 -- an order stays
-order_or_old : (new : Option Order) (place k : ℕ) (old : Option Order) → k < place → order_or new place k old ≡ old
-order_or_old None place k old l = refl
-order_or_old (Some new) place k old l = let e = ne_eqb place k (λ q. omega arith) in rw e refl
-
 pub order_stays : (C : Setup) (turn : Turn) (H : History) (k : ℕ) → k < length H → order_at C (turn ∷ H) k ≡ order_at C H k
-order_stays C turn H k l = order_or_old (opened_order C turn.event turn.reply) (length H) k (order_at C H k) l
+order_stays C turn H k l = order_or_stays (opened_order C turn.event turn.reply) (length H) k (order_at C H k) l
 
 pub orders_stay : (C : Setup) (later H : History) (k : ℕ) → k < length H → order_at C (later ++ H) k ≡ order_at C H k
 orders_stay C [] H k l = refl
@@ -103,6 +98,10 @@ open_known C (turn ∷ H) s t k l e =
       | inr old ↦ let o = open_known C H s t k l.0 old in
           record { order = o.order; is = order_stays C turn H k (known C H k o.order l.0 o.is).below ∙ o.is; sender = o.sender; ticket = o.ticket }
     ]
+
+-- an order has one sender
+pub one_sender : (C : Setup) (H : History) (k : ℕ) (a b : Order) → order_at C H k ≡ Some a → order_at C H k ≡ Some b → a.sender ≡ b.sender
+one_sender C H k a b p q = let same : a ≡ b = cc (p, q) in ap (λ (o : Order). o.sender) same
 
 pub open_below : (C : Setup) (H : History) (s t k : ℕ) → Lawful C H → open_order H s t ≡ Some k → k < length H
 open_below C H s t k l e = let o = open_known C H s t k l e in (known C H k o.order l o.is).below

@@ -10,7 +10,7 @@ use Rattle.history.specs.declared.event.Event.{Event}
 use Rattle.history.specs.declared.event.Event.TheVariants.{Post, AckSelf, Collect}
 use Rattle.history.specs.declared.reply.Reply.{Reply}
 use Rattle.history.specs.Turns.{Turn, History, is_ok, is_progress, are_same}
-use Rattle.history.specs.Orders.{Order, open_order, is_order}
+use Rattle.history.specs.Orders.{order_at, open_order, is_order}
 use Rattle.history.specs.Mailboxes.{Sent, sent_of, posts, taken, waiting}
 use Rattle.history.specs.Acknowledgements.{is_acked, is_collected, count_where, outstanding}
 use Rattle.history.specs.Due.{due, Lawful}
@@ -18,7 +18,7 @@ use Rattle.laws.specs.Posts.{IsAcceptedPost, IsLive, IsOfOther, waiting_posts}
 use Rattle.laws.specs.Outstanding.{is_collectable, outstanding_after}
 use Rattle.laws.proofs.Tools.{by_test, and3}
 use Rattle.laws.proofs.Accepted.{turn_of, post_found, collect_found}
-use Rattle.laws.proofs.Orders.{open_known}
+use Rattle.laws.proofs.Orders.{open_known, one_sender}
 use Rattle.laws.proofs.Posts.{order_is, posts_known, distinct}
 use Rattle.laws.proofs.Waiting.{posted_stands}
 use Rattle.laws.proofs.Acknowledged.{collected_acked, acked_posted}
@@ -45,8 +45,7 @@ new_counts C H s t h r l d z (Some k) q =
 of_sender : (C : Setup) (H : History) (a t s h k : ℕ) (x : Sent) → Lawful C H → open_order H a t ≡ Some k → IsAcceptedPost C H s h x → x.order ≡ k → a ≡ s
 of_sender C H a t s h k x l o p e =
     let own = open_known C H a t k l o in
-    let same : own.order ≡ p.opened.order = cc (own.is, p.opened.is, e) in
-    sym own.sender ∙ (ap (λ (j : Order). j.sender) same ∙ p.opened.sender)
+    sym own.sender ∙ (one_sender C H k own.order p.opened.order own.is (ap (order_at C H) (sym e) ∙ p.opened.is) ∙ p.opened.sender)
 
 or_same : (b old : Bool) → (b ≡ true → old ≡ true) → (b || old) ≡ old
 or_same true old f = sym (f refl)
@@ -105,8 +104,7 @@ collected_stands C H s t h l c =
     let own = open_known C H s t c.order l c.is in
     elim (acked_posted C H c.order h l c.acked) [
       | inl p ↦ subst (λ (i : ℕ). Stands c.order (posts C H i h)) own.sender (stands (posts C H own.order.sender h) c.order (posted_stands C H c.order h own.order l own.is p))
-      | inr i ↦ let e : own.order ≡ i.order = cc (own.is, i.is) in
-          absurd (c.apart (sym own.sender ∙ (ap (λ (j : Order). j.sender) e ∙ i.sender)))
+      | inr i ↦ absurd (c.apart (sym own.sender ∙ (one_sender C H c.order own.order i.order own.is i.is ∙ i.sender)))
     ]
 
 collect_less : (C : Setup) (H : History) (s t h : ℕ) (r : Reply) → Lawful C H → is_progress r ≡ true → (c : Collects C H s t h)

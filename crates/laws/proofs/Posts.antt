@@ -18,15 +18,12 @@ use Rattle.history.specs.Mailboxes.{Sent, sent_of, posts_after, posts, taken}
 use Rattle.history.specs.Service.{served_after, served}
 use Rattle.history.specs.Acknowledgements.{is_posted}
 use Rattle.history.specs.Due.{due, Lawful, names}
+pub use Rattle.history.proofs.Occurred.{order_is}
 use Rattle.laws.specs.Orders.{IsOpenedBy}
 use Rattle.laws.specs.Posts.{IsAcceptedPost, waiting_posts, IsOfOther, AreOfDifferent}
 use Rattle.laws.proofs.Tools.{by_test, and3, All-slice_get}
 use Rattle.laws.proofs.Accepted.{turn_of, post_found, take_found}
 use Rattle.laws.proofs.Orders.{known, order_stays, open_known, open_below}
-
-pub order_is : (o : Option ℕ) (k : ℕ) → is_order o k ≡ true → o ≡ Some k
-order_is None k e = absurd (false≢true e)
-order_is (Some n) k e = ap Some (eqb-true n k e)
 
 -- what is known of a post stays known
 pub post_below : (C : Setup) (H : History) (s h : ℕ) (x : Sent) → Lawful C H → IsAcceptedPost C H s h x → x.order < length H
@@ -52,24 +49,30 @@ post_stays C event r H s h l x p =
       posted = posted_stays event r H x.order h p.posted;
     }
 
+-- what a Post of an open order sends
+abbrev pub post_of : Setup → History → ℕ → ℕ → ℕ → Sent
+post_of C H s t k = record { sender = s; order = k; request = record { ticket = t; what = what_asked (order_at C H k) } }
+
+pub sent_each : (C : Setup) (H : History) (P : Sent → Type 0) (s t : ℕ) (o : Option ℕ) → ((k : ℕ) → o ≡ Some k → P (post_of C H s t k)) → All P (sent_of C H s t o)
+sent_each C H P s t None each = All-nil P
+sent_each C H P s t (Some k) each = All-cons P (post_of C H s t k) [] (each k refl) (All-nil P)
+
 -- the new post
 new_post : (C : Setup) (H : History) (s t h : ℕ) (r : Reply) → Lawful C (turn_of (Post s t h) r ∷ H) → is_ok r ≡ true
-    → (o : Option ℕ) → o ≡ open_order H s t → All (IsAcceptedPost C (turn_of (Post s t h) r ∷ H) s h) (sent_of C H s t o)
-new_post C H s t h r l z None q = All-nil (IsAcceptedPost C (turn_of (Post s t h) r ∷ H) s h)
-new_post C H s t h r l z (Some k) q =
-    let P = IsAcceptedPost C (turn_of (Post s t h) r ∷ H) s h in
-    let f = post_found C H s t h r l.1 z in
-    let same : f.order ≡ k = cc (f.is, q) in
-    let b = open_below C H s t k l.0 (sym q) in
-    All-cons P (record { sender = s; order = k; request = record { ticket = t; what = what_asked (order_at C H k) } }) []
-    (record {
+    → All (IsAcceptedPost C (turn_of (Post s t h) r ∷ H) s h) (sent_of C H s t (open_order H s t))
+new_post C H s t h r l z =
+    sent_each C H (IsAcceptedPost C (turn_of (Post s t h) r ∷ H) s h) s t (open_order H s t)
+    (λ k o. let f = post_found C H s t h r l.1 z in
+    let same : f.order ≡ k = cc (f.is, o) in
+    let b = open_below C H s t k l.0 o in
+    record {
       sender = refl;
       apart = f.apart;
-      opened = opened_stays C (turn_of (Post s t h) r) H s t k b (open_known C H s t k l.0 (sym q));
+      opened = opened_stays C (turn_of (Post s t h) r) H s t k b (open_known C H s t k l.0 o);
       what = ap what_asked (sym (order_stays C (turn_of (Post s t h) r) H k b));
       named = rw (← same) f.named;
-      posted = or_left (is_ok r && (eqb h h && is_order (open_order H s t) k)) (is_posted H k h) (rw (z, eq-eqb h h refl, sym q) (eq-eqb k k refl));
-    }) (All-nil P)
+      posted = or_left (is_ok r && (eqb h h && is_order (open_order H s t) k)) (is_posted H k h) (rw (z, eq-eqb h h refl, o) (eq-eqb k k refl));
+    })
 
 posts_stay : (C : Setup) (event : Event) (r : Reply) (H : History) (s h : ℕ) → Lawful C H → All (IsAcceptedPost C H s h) (posts C H s h)
     → All (IsAcceptedPost C (turn_of event r ∷ H) s h) (posts C H s h)
@@ -84,7 +87,7 @@ posts_step C (Post a t b) r H s h l all =
     let as' : a ≡ s = eqb-true a s y.1 in
     let bh : b ≡ h = eqb-true b h y.2 in
     All-append P (posts C H s h) (sent_of C H a t (open_order H a t)) (posts_stay C (Post a t b) r H s h l.0 all)
-    (rw (← as', ← bh) (new_post C H a t b r l y.0 (open_order H a t) refl)))
+    (rw (← as', ← bh) (new_post C H a t b r l y.0)))
     (λ _. posts_stay C (Post a t b) r H s h l.0 all)
 posts_step C event r H s h l all = posts_stay C event r H s h l.0 all
 
@@ -143,7 +146,7 @@ new_distinct C H s t h r l z d None q = rw append-nil d
 new_distinct C H s t h r l z d (Some k) q =
     let f = post_found C H s t h r l.1 z in
     let same : f.order ≡ k = cc (f.is, q) in
-    distinct_push (posts C H s h) (record { sender = s; order = k; request = record { ticket = t; what = what_asked (order_at C H k) } }) d
+    distinct_push (posts C H s h) (post_of C H s t k) d
     (fresh_is_other C H s h k (rw (← same) f.fresh) (posts C H s h) (posts_known C H s h l.0))
 
 distinct_step : (C : Setup) (event : Event) (r : Reply) (H : History) (s h : ℕ) → Lawful C (turn_of event r ∷ H) → Distinct (posts C H s h)

@@ -1,23 +1,15 @@
 -- Tests, options and lists.
 use Rattle.std.proofs.Common.{◌≡◌, ℕ, zero, suc, ◌+◌, ◌<◌, ◌≤◌, Bool, true, false, ◌&&◌, ◌||◌, not, List, [], ◌∷◌, drop, map, Option, Some, None, slice_get, refl, ap, subst, arith, ◌⊎◌, inl, inr, eqb, ltb}
 use Rattle.std.specs.Prelude.{All, is_some, is_none}
-use Rattle.std.proofs.lemmas.Bool.{and_parts, or_cases, eqb-true, false≢true, ltb-true, ltb-false}
+use Rattle.std.proofs.lemmas.Bool.{and_parts, or_cases, eqb-true, false≢true, not-true, ltb-true, ltb-false}
 use Rattle.std.proofs.lemmas.Option.{slice_get_past}
 use Rattle.std.proofs.lemmas.List.Elements.{All-head, All-tail}
 use Rattle.std.proofs.lemmas.Bool.Decides.{nat_tests}
 use Rattle.std.specs.List.{list_all, range_with_len}
-use Rattle.history.specs.Turns.{Turn, History}
-use Rattle.history.specs.Occurrences.{Sometime}
 use Rattle.shoot.specs.HartSet.{contains, harts_where, is_empty}
 use Rattle.shoot.specs.declared.TheConstants.{MAX_HARTS}
-
--- a test with the equation that it meets
-pub by_test : (P : Bool → Type 0) (b : Bool) → (b ≡ true → P true) → (b ≡ false → P false) → P b
-by_test P true f g = f refl
-by_test P false f g = g refl
-
-pub and3 : (a b c : Bool) → (a && (b && c)) ≡ true → (a ≡ true) × (b ≡ true) × (c ≡ true)
-and3 a b c e = let p = and_parts a (b && c) e in let q = and_parts b c p.1 in (p.0, q.0, q.1)
+pub use Rattle.history.proofs.OpenOrders.{by_test}
+pub use Rattle.history.proofs.Occurred.{and3}
 
 pub or3 : (a b c old : Bool) → ((a && (b && c)) || old) ≡ true → ((a ≡ true) × (b ≡ true) × (c ≡ true)) ⊎ (old ≡ true)
 or3 a b c old e = elim (or_cases (a && (b && c)) old e) [ inl n ↦ inl (and3 a b c n) | inr y ↦ inr y ]
@@ -51,13 +43,9 @@ none_in_range f from zero h e low high = absurd (omega arith)
 none_in_range f from (suc n) h e low high =
     let p = and_parts (not (f from)) (list_all (λ member. not member) (map f (range_with_len (from + 1) n))) e in
     by_test (λ v. f h ≡ false) (eqb from h)
-    (λ t. let q : from ≡ h = eqb-true from h t in rw (← q) (not_true (f from) p.0))
+    (λ t. let q : from ≡ h = eqb-true from h t in rw (← q) (not-true (f from) p.0))
     (λ t. none_in_range f (from + 1) n h p.1 (below_more from h low t) (omega arith))
   where
-    not_true : (b : Bool) → not b ≡ true → b ≡ false
-    not_true true e = absurd (false≢true e)
-    not_true false e = refl
-
     below_more : (from h : ℕ) → from ≤ h → eqb from h ≡ false → from + 1 ≤ h
     below_more from h low t = grind (arith, nat_tests)
 
@@ -70,11 +58,3 @@ contains_below f h e =
     by_test (λ v. h < MAX_HARTS) (ltb h MAX_HARTS) (λ t. ltb-true h MAX_HARTS t)
     (λ t. let past = slice_get_past (harts_where f) h (ltb-false h MAX_HARTS t) in
     let none : false ≡ true = rw past at e in absurd (false≢true none))
-
--- something happened at the newest turn, or at an earlier one
-module _ (P : Turn → History → Type 0) where
-  pub sometime-here : (turn : Turn) (H : History) → P turn H → Sometime P (turn ∷ H)
-  sometime-here turn H p = record { later = []; turn = turn; earlier = H; split = refl; so = p }
-
-  pub sometime-later : (turn : Turn) (H : History) → Sometime P H → Sometime P (turn ∷ H)
-  sometime-later turn H s = record { later = turn ∷ s.later; turn = s.turn; earlier = s.earlier; split = ap (λ xs. turn ∷ xs) s.split; so = s.so }

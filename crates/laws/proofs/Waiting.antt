@@ -3,7 +3,7 @@ use Rattle.std.proofs.Common.{◌≡◌, ℕ, suc, ◌<◌, Bool, true, false, c
 use Rattle.std.specs.Prelude.{All}
 use Rattle.std.proofs.lemmas.Bool.{and_parts, eqb-true, eq-eqb, false≢true, false_from_ne_true, cases_eq}
 use Rattle.std.proofs.lemmas.List.{append-nil, drop-append-le}
-use Rattle.std.proofs.lemmas.List.Elements.{All-nil, All-cons, All-append, All-weaker, All-contains, Contains-append_left, Contains-push}
+use Rattle.std.proofs.lemmas.List.Elements.{All-append, All-weaker, All-contains, Contains-append_left, Contains-push}
 use Rattle.shoot.specs.Request.{Message}
 use Rattle.history.specs.Setup.{Setup}
 use Rattle.history.specs.declared.event.Event.{Event}
@@ -11,7 +11,7 @@ use Rattle.history.specs.declared.event.Event.TheVariants.{Post, Take, Ack}
 use Rattle.history.specs.declared.reply.Reply.{Reply}
 use Rattle.history.specs.declared.reply.Reply.TheVariants as reply
 use Rattle.history.specs.Turns.{History, is_ok, is_taken, taken_request, are_same}
-use Rattle.history.specs.Orders.{Order, order_at, open_order, is_order, what_asked}
+use Rattle.history.specs.Orders.{Order, order_at, open_order, is_order}
 use Rattle.history.specs.Mailboxes.{Sent, sent_of, posts_after, posts, taken}
 use Rattle.history.specs.Service.{served_after, served}
 use Rattle.history.specs.Acknowledgements.{is_posted}
@@ -19,26 +19,23 @@ use Rattle.history.specs.Due.{due, Lawful, names}
 use Rattle.laws.specs.Posts.{IsAcceptedPost, waiting_posts, IsOfOther, StandsIn}
 use Rattle.laws.proofs.Tools.{by_test, and3, or3, All-slice_get, drop_slice_get}
 use Rattle.laws.proofs.Accepted.{turn_of, post_found}
-use Rattle.laws.proofs.Orders.{order_stays, open_known, open_below}
-use Rattle.laws.proofs.Posts.{order_is, posts_known, served_post, Distinct, distinct, distinct_drop, taken_within, waiting_known}
+use Rattle.laws.proofs.Orders.{order_stays, open_known, one_sender, open_below}
+use Rattle.laws.proofs.Posts.{order_is, post_of, sent_each, posts_known, served_post, Distinct, distinct, distinct_drop, taken_within, waiting_known}
 
 -- the posts of two senders are of different orders
 sender_differs : (C : Setup) (H : History) (s a h b : ℕ) (x y : Sent) → IsAcceptedPost C H s h x → IsAcceptedPost C H a b y → (s ≡ a → ⊥) → IsOfOther x.order y
 sender_differs C H s a h b x y p q apart e =
-    let same : p.opened.order ≡ q.opened.order = cc (p.opened.is, q.opened.is, e) in
-    apart (sym p.opened.sender ∙ (ap (λ (o : Order). o.sender) same ∙ q.opened.sender))
+    apart (sym p.opened.sender ∙ (one_sender C H x.order p.opened.order q.opened.order p.opened.is (ap (order_at C H) e ∙ q.opened.is) ∙ q.opened.sender))
 
 -- a new post is of another order than one that was posted
 new_is_other : (C : Setup) (H : History) (s t h k : ℕ) (r : Reply) → r ≡ due C H (Post s t h) → is_ok r ≡ true → is_posted H k h ≡ true
-    → (o : Option ℕ) → o ≡ open_order H s t → All (IsOfOther k) (sent_of C H s t o)
-new_is_other C H s t h k r d z p None q = All-nil (IsOfOther k)
-new_is_other C H s t h k r d z p (Some j) q =
-    let f = post_found C H s t h r d z in
-    let same : f.order ≡ j = cc (f.is, q) in
-    All-cons (IsOfOther k) (record { sender = s; order = j; request = record { ticket = t; what = what_asked (order_at C H j) } }) []
-    (λ e. let kf : k ≡ f.order = e ∙ sym same in
+    → All (IsOfOther k) (sent_of C H s t (open_order H s t))
+new_is_other C H s t h k r d z p =
+    sent_each C H (IsOfOther k) s t (open_order H s t)
+    (λ j o e. let f = post_found C H s t h r d z in
+    let same : f.order ≡ j = cc (f.is, o) in
+    let kf : k ≡ f.order = e ∙ sym same in
     let fresh : is_posted H k h ≡ false = rw kf f.fresh in false≢true (sym fresh ∙ p))
-    (All-nil (IsOfOther k))
 
 not_taken : (r : Reply) → is_taken r ≡ false → taken_request r ≡ []
 not_taken (reply.Taken request) e = absurd (cc (e))
@@ -64,7 +61,7 @@ others_step C (Post a t b) r H h x l old e =
     let bh : b ≡ h = eqb-true b h y.2 in
     rw (drop-append-le (length (taken H x.sender h)) (posts C H x.sender h) (sent_of C H a t (open_order H a t)) (taken_within C H x.sender h l.0))
     (All-append (IsOfOther x.order) (waiting_posts C H x.sender h) (sent_of C H a t (open_order H a t)) (old e)
-    (new_is_other C H a t b x.order r l.1 y.0 (rw bh (served_post C H h x l.0 e).posted) (open_order H a t) refl)))
+    (new_is_other C H a t b x.order r l.1 y.0 (rw bh (served_post C H h x l.0 e).posted))))
     (λ _. old e)
 others_step C (Take b a) r H h x l old e =
     by_test (λ v. cond v (slice_get (posts C H a b) (length (taken H a b))) (served C H h) ≡ Some x → Others C (turn_of (Take b a) r ∷ H) h x) (is_taken r && eqb b h)
@@ -107,8 +104,7 @@ stands_left xs ys k i = record { post = i.post; member = Contains-append_left xs
 new_stands : (C : Setup) (H : History) (s t k : ℕ) (xs : List Sent) (o : Option ℕ) → o ≡ Some k → StandsIn (xs ++ sent_of C H s t o) k
 new_stands C H s t k xs None e = absurd cc
 new_stands C H s t k xs (Some j) e =
-    let post : Sent = record { sender = s; order = j; request = record { ticket = t; what = what_asked (order_at C H j) } } in
-    record { post = post; member = Contains-push xs post; is = cc }
+    record { post = post_of C H s t j; member = Contains-push xs (post_of C H s t j); is = cc }
 
 stands_step : (C : Setup) (event : Event) (r : Reply) (H : History) (k h : ℕ) (order : Order) → Lawful C H → order_at C H k ≡ Some order
     → (is_posted H k h ≡ true → StandsIn (posts C H order.sender h) k)
@@ -117,8 +113,7 @@ stands_step C (Post a t b) r H k h order l is old e =
     elim (or3 (is_ok r) (eqb b h) (is_order (open_order H a t) k) (is_posted H k h) e) [
       | inl n ↦ let o = order_is (open_order H a t) k n.2 in
           let own = open_known C H a t k l o in
-          let same : own.order ≡ order = cc (own.is, is) in
-          let from : a ≡ order.sender = sym own.sender ∙ ap (λ (o : Order). o.sender) same in
+          let from : a ≡ order.sender = sym own.sender ∙ one_sender C H k own.order order own.is is in
           rw (n.0, eq-eqb a order.sender from, n.1) (new_stands C H a t k (posts C H order.sender h) (open_order H a t) o)
       | inr y ↦ by_test (λ v. StandsIn (cond v (posts C H order.sender h ++ sent_of C H a t (open_order H a t)) (posts C H order.sender h)) k) (is_ok r && are_same a b order.sender h)
           (λ _. stands_left (posts C H order.sender h) (sent_of C H a t (open_order H a t)) k (old y)) (λ _. old y)

@@ -32,8 +32,6 @@ ghost use Rattle.laws.specs.Orders.{IsOrder, IsOpenedBy, Finishes};
 ghost use Rattle.laws.specs.Outstanding.{is_collectable, outstanding_after};
 ghost use Rattle.laws.specs.Posts.{IsAcceptedPost, IsLive, IsOwn, IsOfOther, AreOfDifferent, StandsIn, waiting_posts};
 
-use history::occurrences::lawful_walk_finds_the_outcome;
-
 /// Each order is one of the turns; its ticket is below 64, and it names its own sender, and only harts that can be there.
 pub fn orders_are_known()
     ensures { (C : Setup) (H : History) (k : ℕ) (order : Order) → Lawful C H → order_at C H k ≡ Some order → IsOrder H k order }
@@ -141,9 +139,7 @@ pub fn entries_were_filled()
 pub fn filled_pages_are_mapped()
     ensures { (C : Setup) (turn : Turn) (H : History) (h : ℕ) (e : Entry) (m : Mapping) → Lawful C H → Fills C h e turn H → IsMappingOf e m
         → Maps (words_of C H) (root_ppn C.layout (space_of H h)) m.page m.ppn m.flags e.global }
-{
-    lawful_walk_finds_the_outcome()
-}
+{}
 
 /// The turn by which a hart acknowledges an order leaves no entry in its TLB that the order drops.
 pub fn acknowledgement_leaves_nothing_of_the_request()
@@ -186,18 +182,14 @@ pub fn unmapped_page_stays_unmapped()
 /// the page in its address space, until the page is mapped anew. It holds after every lawful history whose events speak of pages.
 pub fn unmapped_page_stays_clear()
     ensures { (C : Setup) → IsSetup C → (H : History) (k h : ℕ) → Lawful C H → HavePages H → Clear C H (entries_of C H h) k h }
-{
-    lawful_walk_finds_the_outcome()
-}
+{}
 
 /// Coherent: once a hart that an unmapping or a change of flags names has acknowledged it, each mapping of the page that its TLB
 /// holds for its address space is mapped now, from each root of the place, until the page is unmapped or changed once more.
 /// It holds after every lawful history whose events speak of pages.
 pub fn changed_page_stays_coherent()
     ensures { (C : Setup) → IsSetup C → (H : History) (k h : ℕ) → Lawful C H → HavePages H → Coherent C H (entries_of C H h) k h }
-{
-    lawful_walk_finds_the_outcome()
-}
+{}
 
 /// The table words are a tree after every lawful history whose events speak of pages, with as many spare frames in use as
 /// Maps answered with a new table.

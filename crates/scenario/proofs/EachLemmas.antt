@@ -5,12 +5,18 @@ use Rattle.std.proofs.Math.Seq.{drop-length}
 use Rattle.toml.specs.Data.{Data, as_str, as_array}
 use Rattle.toml.specs.View.{view, items_of, array_view}
 use Rattle.toml.specs.declared.value.Value.{Value}
-use Rattle.scenario.specs.declared.step.WalkStep.{WalkStep}
-use Rattle.scenario.specs.declared.fault.StepFault.TheVariants.{NotStep}
+use Rattle.steps.specs.declared.step.WalkStep.{WalkStep}
+use Rattle.steps.specs.declared.fault.StepFault.TheVariants.{NotStep}
 use Rattle.scenario.specs.Faults.{Failure, wrong_step, ◌>>=◌}
 use Rattle.scenario.specs.Keys.{each, listed, texts_of}
+use Rattle.spaces.specs.Limits.{max_harts, max_spaces}
+use Rattle.history.specs.declared.event.Event.{Event}
+use Rattle.steps.specs.declared.fault.StepFault.{StepFault}
+use Rattle.steps.specs.RunStep.{step_among}
+use Rattle.scenario.specs.RunFile.{events_from}
+use Rattle.scenario.specs.Settings.{few_spaces, space_of, spares_of, whole_of, wholes_of}
 use Rattle.scenario.specs.WalkFile.{ppn_of, ppns_of, steps_from}
-use Rattle.scenario.specs.Step.{walk_step_of}
+use Rattle.steps.specs.Step.{walk_step_of}
 
 -- what is read so far, and what each of the rest gives, is what each of them all gives
 abbrev pub EachSoFar : {X Y : Type 0} → (X → Option Y) → List X → ℕ → List Y → Type 0
@@ -88,3 +94,43 @@ steps_refused ts i front d lt is so_far = so_far ∙ rw (drop_more ts i d lt, is
 
 pub steps_end : (ts : List (Bor (List ℕ))) (front : List WalkStep) → StepsSoFar ts (length ts) front → steps_from 1 (map (λ text. text.now) ts) ≡ Ok front
 steps_end ts front so_far = so_far ∙ rw (drop-length ts) (ap Ok (append-nil front))
+
+-- ---- the steps of `run`
+
+abbrev pub EventsSoFar : ℕ → List (Bor (List ℕ)) → ℕ → List Event → Type 0
+EventsSoFar harts ts i front = events_from harts 1 (map (λ text. text.now) ts) ≡ (events_from harts (i + 1) (texts_from ts i) >>= λ rest. Ok (front ++ rest))
+
+bind-none : (r : Result (List Event) Failure) → r ≡ (r >>= λ rest. Ok ([] ++ rest))
+bind-none (Ok events) = refl
+bind-none (Err e) = refl
+
+pub events_start : (harts : ℕ) (ts : List (Bor (List ℕ))) → EventsSoFar harts ts 0 []
+events_start harts ts = bind-none (events_from harts 1 (map (λ text. text.now) ts))
+
+one_event_more : (front : List Event) (event : Event) (r : Result (List Event) Failure)
+    → ((r >>= λ events. Ok (event ∷ events)) >>= λ rest. Ok (front ++ rest)) ≡ (r >>= λ rest. Ok ((front ++ event ∷ []) ++ rest))
+one_event_more front event (Ok events) = ap Ok (sym (append_assoc front (event ∷ []) events))
+one_event_more front event (Err e) = refl
+
+pub events_more : (harts : ℕ) (ts : List (Bor (List ℕ))) (i : ℕ) (front : List Event) (d : Bor (List ℕ)) (event : Event) → i < length ts → step_among harts (get_or ts i d).now ≡ Ok event
+    → EventsSoFar harts ts i front → EventsSoFar harts ts (i + 1) (front ++ event ∷ [])
+events_more harts ts i front d event lt is so_far =
+    so_far ∙ rw (drop_more ts i d lt, is) (one_event_more front event (events_from harts (i + 1 + 1) (texts_from ts (i + 1))))
+
+pub events_refused : (harts : ℕ) (ts : List (Bor (List ℕ))) (i : ℕ) (front : List Event) (d : Bor (List ℕ)) (fault : StepFault) → i < length ts → step_among harts (get_or ts i d).now ≡ Err fault
+    → EventsSoFar harts ts i front → events_from harts 1 (map (λ text. text.now) ts) ≡ Err (wrong_step (i + 1) fault)
+events_refused harts ts i front d fault lt is so_far = so_far ∙ rw (drop_more ts i d lt, is)
+
+pub events_end : (harts : ℕ) (ts : List (Bor (List ℕ))) (front : List Event) → EventsSoFar harts ts (length ts) front → events_from harts 1 (map (λ text. text.now) ts) ≡ Ok front
+events_end harts ts front so_far = so_far ∙ rw (drop-length ts) (ap Ok (append-nil front))
+
+-- ---- the configuration
+
+pub spaces_fit : (ts : List (Bor (List ℕ))) → length ts ≤ max_spaces → few_spaces (map (λ text. text.now) ts) ≡ each (λ (text : Bor (List ℕ)). space_of text.now) ts
+spaces_fit ts fits = rw (length-map ts (λ text. text.now), le-leb (length ts) max_spaces fits) (each-map space_of (λ (text : Bor (List ℕ)). text.now) ts)
+
+pub wholes_fit : (values : List Value) → length values ≤ max_harts → wholes_of (map view values) ≡ each (λ value. whole_of (view value)) values
+wholes_fit values fits = rw (length-map values view, le-leb (length values) max_harts fits) (each-map whole_of view values)
+
+pub spares_of_array : (values : Vec Value Global) (d : Data) → Some (array_view values) ≡ as_array d → wholes_of (map view values.items) ≡ spares_of d
+spares_of_array values d is = rw (sym is, listed-items (map view values.items)) refl

@@ -1,41 +1,59 @@
 -- What the bytes of a file are, by whether they are UTF-8, and what a fault leaves.
-use Rattle.std.proofs.Common.{◌≡◌, ℕ, ◌≤◌, List, length, Err, Option, Some, inl, inr, ◌⊎◌, IfSome, sym, ap, subst, None}
+use Rattle.std.proofs.Common.{◌≡◌, ℕ, ◌≤◌, List, length, if◌then◌else◌, Result, Err, Option, Some, inl, inr, ◌⊎◌, IfSome, sym, ap, subst, None}
 use Rattle.std.proofs.lemmas.Bool.{cases_Bool}
 use Rattle.std.specs.Str.{IsUtf8, is_utf8}
 use Rattle.std.proofs.lemmas.Str.{IsUtf8-from_is_utf8, is_utf8-from_IsUtf8}
 use Rattle.scenario.specs.declared.fault.Fault.{Fault}
 use Rattle.scenario.specs.declared.fault.Fault.TheVariants as faults
 use Rattle.scenario.specs.declared.program.Which.{Which}
-use Rattle.scenario.specs.declared.program.Which.TheVariants.{Walk}
+use Rattle.scenario.specs.declared.program.Which.TheVariants.{Walk, Run}
 use Rattle.scenario.specs.Command.{done, Ending, ending_of_fault, Ends, EndsAs, file_fault, FileLines, IsSilent, Leaves, no_memory, output_failed, refused, Reports, too_large, unreadable}
-use Rattle.scenario.specs.Faults.{fault_in, not_toml}
+use Rattle.scenario.specs.Faults.{Failure, fault_in, not_toml}
 use Rattle.scenario.specs.Limits.{most_bytes}
 use Rattle.scenario.specs.Lines.{LinesOf, Prints}
 use Rattle.scenario.specs.Output.{EndsBy}
 use Rattle.scenario.proofs.OutputLemmas.{front_of_all}
-use Rattle.scenario.specs.WalkFile.{walk_file, walk_scenario_of}
+use Rattle.scenario.specs.ReplyLines.{PrintsReplies}
+use Rattle.scenario.specs.RunFile.{run_scenario_of}
+use Rattle.scenario.specs.WalkFile.{walk_scenario_of}
 
-walk_file-utf8 : (bytes text : List ℕ) → (text ≡ bytes) × IsUtf8 bytes → walk_file bytes ≡ walk_scenario_of text
-walk_file-utf8 bytes text h = rw (is_utf8-from_IsUtf8 bytes h.1) (ap walk_scenario_of (sym h.0))
+-- the scenario of a text, and of the bytes of a file
+by_utf8 : {P : Type 0} (bytes text : List ℕ) (read : List ℕ → Result P Failure) → (text ≡ bytes) × IsUtf8 bytes
+    → (if is_utf8 bytes then read bytes else Err not_toml) ≡ read text
+by_utf8 bytes text read h = rw (is_utf8-from_IsUtf8 bytes h.1) (ap read (sym h.0))
 
-walk_file-not_utf8 : (bytes : List ℕ) → ¬ (IsUtf8 bytes) → walk_file bytes ≡ Err not_toml
-walk_file-not_utf8 bytes h =
+by_other : {P : Type 0} (bytes : List ℕ) (read : List ℕ → Result P Failure) → ¬ (IsUtf8 bytes)
+    → (if is_utf8 bytes then read bytes else Err not_toml) ≡ Err not_toml
+by_other bytes read h =
     elim (cases_Bool (is_utf8 bytes)) [ inl holds ↦ absurd (h (IsUtf8-from_is_utf8 bytes holds)) | inr fails ↦ rw fails ]
 
-pub file_fault-utf8 : (which : Which) (bytes text : List ℕ) → (text ≡ bytes) × IsUtf8 bytes → file_fault which bytes ≡ fault_in (walk_scenario_of text)
-file_fault-utf8 Walk bytes text h = ap fault_in (walk_file-utf8 bytes text h)
+-- the first fault of a text, and what is printed of it
+abbrev pub text_fault : Which → List ℕ → Option Failure
+text_fault Walk text = fault_in (walk_scenario_of text)
+text_fault Run text = fault_in (run_scenario_of text)
 
-pub FileLines-utf8 : (which : Which) (bytes text : List ℕ) → (text ≡ bytes) × IsUtf8 bytes → FileLines which bytes ≡ LinesOf Prints (walk_scenario_of text)
-FileLines-utf8 Walk bytes text h = ap (LinesOf Prints) (walk_file-utf8 bytes text h)
+abbrev pub TextLines : Which → List ℕ → List ℕ → Type 0
+TextLines Walk text = LinesOf Prints (walk_scenario_of text)
+TextLines Run text = LinesOf PrintsReplies (run_scenario_of text)
+
+pub file_fault-utf8 : (which : Which) (bytes text : List ℕ) → (text ≡ bytes) × IsUtf8 bytes → file_fault which bytes ≡ text_fault which text
+file_fault-utf8 Walk bytes text h = ap fault_in (by_utf8 bytes text walk_scenario_of h)
+file_fault-utf8 Run bytes text h = ap fault_in (by_utf8 bytes text run_scenario_of h)
+
+pub FileLines-utf8 : (which : Which) (bytes text : List ℕ) → (text ≡ bytes) × IsUtf8 bytes → FileLines which bytes ≡ TextLines which text
+FileLines-utf8 Walk bytes text h = ap (LinesOf Prints) (by_utf8 bytes text walk_scenario_of h)
+FileLines-utf8 Run bytes text h = ap (LinesOf PrintsReplies) (by_utf8 bytes text run_scenario_of h)
 
 pub file_fault-not_utf8 : (which : Which) (bytes : List ℕ) → ¬ (IsUtf8 bytes) → file_fault which bytes ≡ Some not_toml
-file_fault-not_utf8 Walk bytes h = ap fault_in (walk_file-not_utf8 bytes h)
+file_fault-not_utf8 Walk bytes h = ap fault_in (by_other bytes walk_scenario_of h)
+file_fault-not_utf8 Run bytes h = ap fault_in (by_other bytes run_scenario_of h)
 
 -- a fault of a file that is not too long is an ending
 pub fault_ends : (which : Which) (bytes : List ℕ) (fault : Fault) (old new : Option (List ℕ)) → length bytes ≤ most_bytes
     → EndsBy fault (file_fault which bytes) (FileLines which bytes) old new → EndsAs which bytes (ending_of_fault fault) old new
 fault_ends which bytes faults.NotToml old new short h = record { suits = (short, h.0); leaves = h.1 }
 fault_ends which bytes (faults.Key name) old new short h = record { suits = (short, h.0); leaves = h.1 }
+fault_ends which bytes faults.Layout old new short h = record { suits = (short, h.0); leaves = h.1 }
 fault_ends which bytes faults.TooMany old new short h = record { suits = (short, h.0); leaves = h.1 }
 fault_ends which bytes (faults.Step n fault) old new short h = record { suits = (short, h.0); leaves = h.1 }
 fault_ends which bytes faults.Output old new short h = record { suits = (short, h.0); leaves = h.1 }
@@ -45,6 +63,7 @@ pub fault_silent : (which : Which) (bytes : List ℕ) (fault : Fault) (old new :
     → EndsBy fault (file_fault which bytes) (FileLines which bytes) old new → IsSilent (ending_of_fault fault) old new
 fault_silent which bytes faults.NotToml old new h = h.1
 fault_silent which bytes (faults.Key name) old new h = h.1
+fault_silent which bytes faults.Layout old new h = h.1
 fault_silent which bytes faults.TooMany old new h = h.1
 fault_silent which bytes (faults.Step n fault) old new h = h.1
 fault_silent which bytes faults.Output old new h = tt

@@ -1,10 +1,10 @@
 pub mod EachLemmas
 pub mod FileLemmas
-pub mod GrammarLemmas
 pub mod KeyLemmas
+pub mod LimitLemmas
 pub mod LineLemmas
 pub mod MemoryLemmas
-pub mod NumLemmas
 pub mod OutputLemmas
+pub mod ReplyLemmas
+pub mod RunLemmas
 pub mod StepLemmas
-pub mod WordLemmas

@@ -17,7 +17,7 @@ use Rattle.walk.specs.Outcome.{Outcome}
 use Rattle.walk.specs.declared.found_or_trap.Found.{Found}
 use Rattle.walk.specs.declared.found_or_trap.Trap.{Trap}
 use Rattle.walk.proofs.Unique.{computes, outcome_unique}
-use Rattle.scenario.specs.declared.step.WalkStep.{WalkStep}
+use Rattle.steps.specs.declared.step.WalkStep.{WalkStep}
 use Rattle.scenario.specs.Lines.{line_of, Prints, WritesLines}
 use Rattle.scenario.specs.WalkFile.{WalkPlan}
 

@@ -2,25 +2,29 @@
 use Rattle.std.specs.Prelude.{◌≡◌, ℕ, ◌<◌, ◌≤◌, ◌⊎◌, ◌++◌, List, [], length, codes, Option, Some, None}
 use Rattle.std.specs.Io.KnownBytes.{Keeps}
 use Rattle.scenario.specs.declared.program.Which.{Which}
-use Rattle.scenario.specs.declared.program.Which.TheVariants.{Walk}
+use Rattle.scenario.specs.declared.program.Which.TheVariants.{Walk, Run}
 use Rattle.scenario.specs.declared.program.Trouble.{Trouble}
 use Rattle.scenario.specs.declared.program.Trouble.TheVariants as troubles
 use Rattle.scenario.specs.declared.fault.Fault.{Fault}
 use Rattle.scenario.specs.declared.fault.Fault.TheVariants as faults
 use Rattle.std.specs.Prelude.{string_bytes}
-use Rattle.scenario.specs.Faults.{Failure, not_toml, wrong_key, too_many, wrong_step, failure_text, fault_in}
+use Rattle.scenario.specs.Faults.{Failure, not_toml, wrong_key, bad_layout, too_many, wrong_step, failure_text, fault_in}
 use Rattle.scenario.specs.Lines.{LinesOf, Prints}
 use Rattle.scenario.specs.Output.{AppendsFront, WritesAll, WritesFront}
 use Rattle.scenario.specs.Limits.{most_bytes}
 use Rattle.scenario.specs.WalkFile.{walk_file}
+use Rattle.scenario.specs.RunFile.{run_file}
+use Rattle.scenario.specs.ReplyLines.{PrintsReplies}
 
 -- the first fault of a file's bytes, if they have one
 abbrev pub file_fault : Which → List ℕ → Option Failure
 file_fault Walk bytes = fault_in (walk_file bytes)
+file_fault Run bytes = fault_in (run_file bytes)
 
 -- what is printed of a file
 abbrev pub FileLines : Which → List ℕ → List ℕ → Type 0
 FileLines Walk bytes = LinesOf Prints (walk_file bytes)
+FileLines Run bytes = LinesOf PrintsReplies (run_file bytes)
 
 pub data Ending : Type 0 where
   done : Ending
@@ -88,6 +92,7 @@ pub record Ends (which : Which) (file bytes : List ℕ) (status : ℕ) (out_old 
 abbrev pub ending_of_fault : Fault → Ending
 ending_of_fault faults.NotToml = refused not_toml
 ending_of_fault (faults.Key name) = refused (wrong_key (string_bytes name))
+ending_of_fault faults.Layout = refused bad_layout
 ending_of_fault faults.TooMany = refused too_many
 ending_of_fault (faults.Step n fault) = refused (wrong_step n fault)
 ending_of_fault faults.Output = output_failed

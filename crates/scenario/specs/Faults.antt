@@ -3,22 +3,22 @@ use Rattle.std.specs.Prelude.{◌≡◌, ℕ, ◌++◌, List, Option, Some, None
 use Rattle.std.specs.Fmt.{decimal}
 use Rattle.scenario.specs.declared.fault.Fault.{Fault}
 use Rattle.scenario.specs.declared.fault.Fault.TheVariants as faults
-use Rattle.scenario.specs.declared.fault.StepFault.{StepFault}
-use Rattle.scenario.specs.declared.fault.StepFault.TheVariants.{NotStep}
+use Rattle.steps.specs.declared.fault.StepFault.{StepFault}
+use Rattle.steps.specs.StepFaults.{step_fault_text}
 
--- what is wrong with a text: it is no TOML, a key is wrong, there are too many steps, or the step of a number is wrong
+-- what is wrong with a text: it is no TOML, a key is wrong, the layout is not within the limits, there are too many steps,
+-- or the step of a number is wrong
 pub data Failure : Type 0 where
   not_toml : Failure
   wrong_key : List ℕ → Failure
+  bad_layout : Failure
   too_many : Failure
   wrong_step : ℕ → StepFault → Failure
-
-abbrev pub step_fault_text : StepFault → List ℕ
-step_fault_text NotStep = codes "not a step"
 
 abbrev pub failure_text : Failure → List ℕ
 failure_text not_toml = codes "not TOML"
 failure_text (wrong_key name) = codes "key " ++ name ++ codes ": wrong"
+failure_text bad_layout = codes "layout refused"
 failure_text too_many = codes "too many steps"
 failure_text (wrong_step n fault) = codes "step " ++ decimal n ++ codes ": " ++ step_fault_text fault
 
@@ -26,6 +26,7 @@ failure_text (wrong_step n fault) = codes "step " ++ decimal n ++ codes ": " ++ 
 abbrev pub failure_of : Fault → Option Failure
 failure_of faults.NotToml = Some not_toml
 failure_of (faults.Key name) = Some (wrong_key (string_bytes name))
+failure_of faults.Layout = Some bad_layout
 failure_of faults.TooMany = Some too_many
 failure_of (faults.Step n fault) = Some (wrong_step n fault)
 failure_of faults.Output = None
@@ -34,6 +35,7 @@ failure_of faults.NoMemory = None
 abbrev pub fault_text : Fault → List ℕ
 fault_text faults.NotToml = failure_text not_toml
 fault_text (faults.Key name) = failure_text (wrong_key (string_bytes name))
+fault_text faults.Layout = failure_text bad_layout
 fault_text faults.TooMany = failure_text too_many
 fault_text (faults.Step n fault) = failure_text (wrong_step n fault)
 fault_text faults.Output = codes "output failed"
@@ -55,6 +57,7 @@ fault_in (Err e) = Some e
 abbrev pub Fails : {Y : Type 0} → Fault → Result Y Failure → Type 0
 Fails faults.NotToml read = read ≡ Err not_toml
 Fails (faults.Key name) read = read ≡ Err (wrong_key (string_bytes name))
+Fails faults.Layout read = read ≡ Err bad_layout
 Fails faults.TooMany read = read ≡ Err too_many
 Fails (faults.Step n fault) read = read ≡ Err (wrong_step n fault)
 Fails faults.Output read = ⊥

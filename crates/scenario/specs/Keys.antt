@@ -1,5 +1,5 @@
 -- What the keys of a document give.
-use Rattle.std.specs.Prelude.{◌≡◌, ◌⊎◌, ℕ, Bool, nat_lt, false, List, [], ◌∷◌, map, Option, Some, None, option_and_then, option_map, Result, Ok, Err, if◌then◌else◌, Vec}
+use Rattle.std.specs.Prelude.{◌≡◌, ◌⊎◌, ℕ, Bool, nat_lt, nat_le, false, List, [], ◌∷◌, length, map, Option, Some, None, option_and_then, option_map, Result, Ok, Err, if◌then◌else◌, Vec}
 use Rattle.std.specs.declared.alloc.Global.{Global}
 use denote.Ref.{Bor}
 use Rattle.std.specs.List.{list_any}
@@ -8,14 +8,19 @@ use Rattle.std.specs.Ordering.{nat_cmp, is_lt}
 use Rattle.std.specs.Cmp.Lexicographic.{slice_cmp}
 use Rattle.std.specs.Str.{bytes_eq}
 use Rattle.toml.specs.Data.{Data, as_str, as_array, Items, no_items, item, Members, no_members, member, get_member}
-use Rattle.scenario.specs.Num.{num_of}
-use Rattle.scenario.specs.Words.{words_of}
-use Rattle.scenario.specs.Faults.{Failure, wrong_key}
+use Rattle.steps.specs.Num.{num_of}
+use Rattle.steps.specs.Words.{words_of}
+use Rattle.scenario.specs.Faults.{Failure, wrong_key, too_many}
+use Rattle.scenario.specs.Limits.{most_steps}
 
 -- ---- unknown keys
 
 abbrev pub is_known : List (List ℕ) → List ℕ → Bool
 is_known known key = list_any (bytes_eq key) known
+
+-- the texts of a list of keys
+abbrev pub key_texts : List (Bor (List ℕ)) → List (List ℕ)
+key_texts keys = map (λ key. key.now) keys
 
 -- the first text comes before the second by bytes
 abbrev pub is_before : List ℕ → List ℕ → Bool
@@ -81,6 +86,10 @@ texts_of d = option_and_then (λ ds. each as_str (listed ds)) (as_array d)
 
 abbrev pub texts_at : List ℕ → Members → Result (List (List ℕ)) Failure
 texts_at key ms = value_or key [] texts_of (get_member key ms)
+
+-- no more steps than a file may have
+abbrev pub few : {X : Type 0} → List X → Result (Unit {0}) Failure
+few xs = if nat_le (length xs) most_steps then Ok tt else Err too_many
 
 -- the texts that references point to
 abbrev pub text_views : Vec (Bor (List ℕ)) Global → List (List ℕ)

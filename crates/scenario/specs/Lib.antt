@@ -1,13 +1,12 @@
-pub mod Num
-pub mod Words
-pub mod Step
-pub mod Grammar
 pub mod Faults
-pub mod Keys
 pub mod Limits
+pub mod Keys
 pub mod Memory
+pub mod Settings
+pub mod RunFile
 pub mod WalkFile
 pub mod Lines
+pub mod ReplyLines
 pub mod Output
 pub mod Input
 pub mod Command

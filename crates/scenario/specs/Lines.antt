@@ -9,7 +9,7 @@ use Rattle.walk.specs.declared.found_or_trap.Found.{Found}
 use Rattle.walk.specs.declared.found_or_trap.Trap.{Trap}
 use Rattle.walk.specs.declared.found_or_trap.Why.{Why}
 use Rattle.walk.specs.declared.found_or_trap.Why.TheVariants.{NotCanonical, Outside, Invalid, Reserved, TooDeep, Denied, Misaligned, NotAccessed, NotDirty}
-use Rattle.scenario.specs.declared.step.WalkStep.{WalkStep}
+use Rattle.steps.specs.declared.step.WalkStep.{WalkStep}
 use Rattle.scenario.specs.Faults.{Failure}
 use Rattle.scenario.specs.WalkFile.{WalkPlan}
 
@@ -36,9 +36,12 @@ hex n = codes "0x" ++ digits 16 false n
 abbrev pub global_text : Bool → List ℕ
 global_text global = if global then codes " global" else []
 
+abbrev pub trap_text : Trap → List ℕ
+trap_text trap = codes "trap " ++ decimal trap.cause ++ codes " " ++ why_text trap.why
+
 abbrev pub answer_text : Result Found Trap → List ℕ
 answer_text (Ok found) = codes "pa " ++ hex found.pa ++ codes " " ++ size_text found.page.size ++ global_text found.global
-answer_text (Err trap) = codes "trap " ++ decimal trap.cause ++ codes " " ++ why_text trap.why
+answer_text (Err trap) = trap_text trap
 
 abbrev pub line_of : ℕ → Result Found Trap → List ℕ
 line_of number answer = decimal number ++ codes " " ++ answer_text answer ++ codes "\n"

@@ -7,16 +7,16 @@ use Rattle.toml.specs.Parse.{parse_document}
 use Rattle.pte.specs.Address.{table_length}
 use Rattle.pte.specs.Entry.{ppn_bits}
 use Rattle.walk.specs.Leads.{Tables}
-use Rattle.scenario.specs.declared.fault.StepFault.TheVariants.{NotStep}
+use Rattle.steps.specs.declared.fault.StepFault.TheVariants.{NotStep}
 use Rattle.scenario.specs.declared.frames.TableWord.{TableWord}
 use Rattle.scenario.specs.declared.plan.WalkScenario.{WalkScenario}
-use Rattle.scenario.specs.declared.step.WalkStep.{WalkStep}
-use Rattle.scenario.specs.Num.{num_of}
-use Rattle.scenario.specs.Step.{walk_step_of}
-use Rattle.scenario.specs.Words.{words_of}
-use Rattle.scenario.specs.Faults.{Failure, not_toml, wrong_key, too_many, wrong_step, ◌>>=◌}
-use Rattle.scenario.specs.Keys.{below, each, known_only, one_number, texts_at, value_or}
-use Rattle.scenario.specs.Limits.{most_frames, most_steps}
+use Rattle.steps.specs.declared.step.WalkStep.{WalkStep}
+use Rattle.steps.specs.Num.{num_of}
+use Rattle.steps.specs.Step.{walk_step_of}
+use Rattle.steps.specs.Words.{words_of}
+use Rattle.scenario.specs.Faults.{Failure, not_toml, wrong_key, wrong_step, ◌>>=◌}
+use Rattle.scenario.specs.Keys.{below, each, few, known_only, one_number, texts_at, value_or}
+use Rattle.scenario.specs.Limits.{most_frames}
 use Rattle.scenario.specs.Memory.{is_listed, word_at, word_in}
 
 -- a root, the words of the table frames, and the accesses that are made from the root
@@ -72,9 +72,6 @@ abbrev pub tables_at : (ℕ → Bool) → Members → Result Tables Failure
 tables_at is_frame ms = words_at is_frame ms >>= λ words. Ok (word_in is_frame words)
 
 -- ---- steps
-
-abbrev pub few : {X : Type 0} → List X → Result (Unit {0}) Failure
-few xs = if nat_le (length xs) most_steps then Ok tt else Err too_many
 
 -- the steps of the texts, the first of which has this number
 abbrev pub steps_from : ℕ → List (List ℕ) → Result (List WalkStep) Failure

@@ -1,28 +1,47 @@
 //! What the keys of a document hold.
 ghost use Rattle.std.specs.Prelude.{◌≡◌, IfOk, map, option_map, option_and_then, string_bytes, Ok, Err};
+ghost use Rattle.std.specs.List.{list_any};
+ghost use Rattle.std.specs.Option.{ok_or};
+ghost use Rattle.std.specs.Str.{bytes_eq};
 ghost use Rattle.toml.specs.Data.{get_member, as_str};
+ghost use Rattle.toml.specs.Parse.{parse_document};
 ghost use Rattle.toml.specs.View.{table_view, view};
-ghost use Rattle.scenario.specs.Faults.{Fails, Gives, wrong_key};
-ghost use Rattle.scenario.specs.Keys.{each, is_known, known_only, least_unknown, one_number, one_word, text_views, texts_at, texts_of};
-ghost use Rattle.scenario.specs.Num.{num_of};
-ghost use Rattle.scenario.specs.WalkFile.{walk_keys};
+ghost use Rattle.scenario.specs.Faults.{Fails, Gives, not_toml, wrong_key};
+ghost use Rattle.scenario.specs.Keys.{each, is_known, key_texts, known_only, least_unknown, one_number, one_word, text_views, texts_at, texts_of};
+ghost use Rattle.steps.specs.Num.{num_of};
 
 use crate::fault::Fault;
-use crate::num::num;
-use crate::words::words;
 use std::alloc::{AllocError, Global};
+use steps::{num, words};
 use toml::{Table, Value};
 
-fn is_walk_key(key: &str) -> bool
-    ensures { result ≡ is_known walk_keys key.now }
+/// The table of a document.
+pub fn document(alloc: Global, text: &str) -> Result<Table, Fault>
+    ensures { Gives table_view result (ok_or (parse_document text.now) not_toml) }
 {
-    key == "root" || key == "frames" || key == "words" || key == "steps"
+    match toml::table_from_str(alloc, text) {
+        Ok(table) => Ok(table),
+        Err(error) if error.is_memory() => Err(Fault::NoMemory),
+        Err(_) => Err(Fault::NotToml),
+    }
 }
 
-fn unknown_key(table: &Table) -> Option<&String>
-    ensures { option_map (λ key. string_bytes key.now) result ≡ least_unknown walk_keys (table_view table.now) }
+fn has_text(texts: &[&str], key: &str) -> bool
+    ensures { result ≡ list_any (λ text. bytes_eq key.now text.now) texts.now }
 {
-    table.keys().find(|key| !is_walk_key(key.as_str()))
+    texts.iter().any(|text| key == *text)
+}
+
+fn is_known(known: &[&str], key: &str) -> bool
+    ensures { result ≡ is_known (key_texts known.now) key.now }
+{
+    has_text(known, key)
+}
+
+fn unknown_key<'a>(table: &'a Table, known: &[&str]) -> Option<&'a String>
+    ensures { option_map (λ key. string_bytes key.now) result ≡ least_unknown (key_texts known.now) (table_view table.now) }
+{
+    table.keys().find(|key| !is_known(known, key.as_str()))
 }
 
 pub fn key_fault(alloc: Global, key: &str) -> Fault
@@ -34,11 +53,11 @@ pub fn key_fault(alloc: Global, key: &str) -> Fault
     }
 }
 
-/// Refuses a key that `walk` does not know: the least by bytes.
-pub fn check_keys(alloc: Global, table: &Table) -> Result<(), Fault>
-    ensures { Gives (λ done. done) result (known_only walk_keys (table_view table.now)) }
+/// Refuses a key that is not one of the known: the least by bytes.
+pub fn check_keys(alloc: Global, table: &Table, known: &[&str]) -> Result<(), Fault>
+    ensures { Gives (λ done. done) result (known_only (key_texts known.now) (table_view table.now)) }
 {
-    match unknown_key(table) {
+    match unknown_key(table, known) {
         Some(key) => Err(key_fault(alloc, key.as_str())),
         None => Ok(()),
     }
@@ -82,7 +101,7 @@ fn texts<'a>(alloc: Global, values: &'a [Value]) -> Result<Option<Vec<&'a str>>,
 }
 
 /// The texts of an array that has nothing else.
-fn texts_in<'a>(alloc: Global, value: &'a Value) -> Result<Option<Vec<&'a str>>, AllocError>
+pub fn texts_in<'a>(alloc: Global, value: &'a Value) -> Result<Option<Vec<&'a str>>, AllocError>
     ensures { IfOk result (λ found. option_map text_views found ≡ texts_of (view value.now)) }
 {
     match value.as_array() {

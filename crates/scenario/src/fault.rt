@@ -5,13 +5,7 @@ ghost use Rattle.scenario.specs.declared.fault.Fault.TheVariants.{NoMemory};
 use std::alloc::{AllocError, AllocFailed};
 use std::error::Error;
 use std::fmt;
-
-/// What is wrong with a step.
-#[derive(Clone, Copy, Debug, PartialEq, Eq)]
-pub enum StepFault {
-    /// The text has no form of the command's steps.
-    NotStep,
-}
+use steps::StepFault;
 
 /// Why a scenario has no answer. `Display` is the text that `svsim` prints.
 #[derive(Debug, Drop)]
@@ -20,6 +14,8 @@ pub enum Fault {
     NotToml,
     /// A key that the command does not know, or one whose value has the wrong type or content.
     Key(String),
+    /// The harts, spaces and frames are not within the limits.
+    Layout,
     /// More than 65,536 steps.
     TooMany,
     /// The step of this number, from 1.
@@ -29,21 +25,6 @@ pub enum Fault {
     /// A growth was refused.
     NoMemory,
 }
-
-impl fmt::Display for StepFault {
-    ghost use Rattle.std.specs.Prelude.{Some};
-    ghost use Rattle.scenario.specs.Faults.{step_fault_text};
-
-    ghost output = { λ fault. Some (step_fault_text fault) };
-
-    fn fmt<W: fmt::Write>(&self, f: &mut fmt::Formatter<W>) -> fmt::Result {
-        match self {
-            StepFault::NotStep => f.write_str("not a step"),
-        }
-    }
-}
-
-impl Error for StepFault {}
 
 impl fmt::Display for Fault {
     ghost use Rattle.std.specs.Prelude.{Some};
@@ -55,6 +36,7 @@ impl fmt::Display for Fault {
         match self {
             Fault::NotToml => f.write_str("not TOML"),
             Fault::Key(name) => write!(f, "key {name}: wrong"),
+            Fault::Layout => f.write_str("layout refused"),
             Fault::TooMany => f.write_str("too many steps"),
             Fault::Step(number, fault) => write!(f, "step {number}: {fault}"),
             Fault::Output => f.write_str("output failed"),

@@ -1,28 +1,31 @@
 //! Scenario files: from a file's bytes to the lines that `svsim` prints.
 //!
-//! `walk_text` answers a text, and `command` does the whole of a command over any reader and writers. A text is read and
-//! checked whole before its first line is written.
+//! `walk_text` and `run_text` answer a text, and `command` does the whole of a command over any reader and writers. A
+//! text is read and checked whole before its first line is written.
 #![tactic(auto)]
 
 mod document;
 mod fault;
+mod format_laws;
 mod frames;
 mod input;
-mod laws;
 mod lines;
-mod num;
 mod output;
 mod plan;
 mod program;
+mod reply_lines;
+mod run_scenario;
 mod scenario;
-mod step;
+mod settings;
 mod texts;
-mod words;
 
-pub use fault::{Fault, StepFault};
-pub use laws::{least_unknown_key, num_is_written, one_text, walk_step_is_written};
+pub use fault::Fault;
+pub use format_laws::{least_unknown_key, limits_are_checked, one_text};
 pub use program::{Which, command};
-pub use texts::walk_text;
+pub use steps::StepFault;
+pub use texts::{run_text, walk_text};
 
+#[cfg(test)]
+mod run_tests;
 #[cfg(test)]
 mod tests;

@@ -8,7 +8,7 @@ use pte::PageSize;
 use std::alloc::{AllocError, Global};
 use walk::{Found, Trap, Why, translate};
 
-fn size_word(size: PageSize) -> &'static str
+pub fn size_word(size: PageSize) -> &'static str
     ensures { result.now ≡ size_text size }
 {
     match size {
@@ -18,7 +18,7 @@ fn size_word(size: PageSize) -> &'static str
     }
 }
 
-fn why_word(why: Why) -> &'static str
+pub fn why_word(why: Why) -> &'static str
     ensures { result.now ≡ why_text why }
 {
     match why {

@@ -1,9 +1,20 @@
 //! A scenario that was read and checked.
 ghost use Rattle.std.specs.Prelude.{◌<◌, ◌^◌};
 ghost use Rattle.pte.specs.Entry.{ppn_bits};
+ghost use Rattle.spaces.specs.Limits.{max_frames, MeetsLimits};
 
 use crate::frames::TableFrames;
-use crate::step::WalkStep;
+use history::Event;
+use spaces::Config;
+use steps::WalkStep;
+
+/// A scenario of `run`, read and checked.
+#[derive(Drop)]
+pub struct RunScenario {
+    pub config: Config,
+    pub events: Vec<Event>,
+    ghost within: { MeetsLimits max_frames config },
+}
 
 /// A scenario of `walk`, read and checked.
 #[derive(Debug, Drop)]

@@ -11,7 +11,7 @@ ghost use Rattle.scenario.specs.Command.{ending_of, done, Ends, EndsAs, error_li
 use crate::fault::Fault;
 use crate::input::read_file;
 use crate::output::write_whole;
-use crate::texts::walk_text;
+use crate::texts::{run_text, walk_text};
 use std::alloc::{AllocError, Global};
 use std::io::{Read, Write};
 
@@ -20,6 +20,8 @@ use std::io::{Read, Write};
 pub enum Which {
     /// Answers accesses by walks from one root.
     Walk,
+    /// Runs the steps of the harts.
+    Run,
 }
 
 /// Why a command was not done.
@@ -83,6 +85,7 @@ fn run_file<W: Write>(alloc: Global, which: Which, bytes: &[u8], out: &mut W) ->
     };
     match which {
         Which::Walk => walk_text(alloc, text, out),
+        Which::Run => run_text(alloc, text, out),
     }
 }
 

@@ -8,23 +8,25 @@ ghost use Rattle.scenario.specs.Limits.{most_frames, most_steps};
 ghost use Rattle.scenario.specs.Memory.{is_frame_of, is_listed, word_at};
 ghost use Rattle.scenario.specs.WalkFile.{frames_at, plan_view, ppn_of, ppns_of, root_at, steps_from, tables_at, walk_plan_of, walk_scenario_of, word_in_table, word_of, word_of_words, words_at};
 
-use crate::document::{check_keys, key_fault, number, texts_of_key, value_at};
-use crate::fault::{Fault, StepFault};
+use crate::document::{check_keys, document, key_fault, number, texts_of_key, value_at};
+use crate::fault::Fault;
 use crate::frames::{Frames, MOST_FRAMES, TableFrames, TableWord};
-use crate::num::num;
 use crate::plan::WalkScenario;
-use crate::step::{WalkStep, walk_step};
-use crate::words::words;
 use pte::{PPN_BITS, TABLE_LENGTH};
 use std::alloc::{AllocError, Global};
+use steps::{StepFault, WalkStep, num, walk_step, words};
 use toml::Table;
+
+/// The keys that `walk` knows.
+const KEYS: [&str; 4] = ["root", "frames", "words", "steps"];
 
 /// PPNs are below this.
 const PPN_LIMIT: u64 = 1 << PPN_BITS;
 
 const DEFAULT_ROOT: u64 = 0x80000;
 
-const MOST_STEPS: usize = 65_536;
+/// The steps that a file may have.
+pub const MOST_STEPS: usize = 65_536;
 
 fn ppn(alloc: Global, text: &str) -> Result<Option<u64>, AllocError>
     ensures value { IfOk result (λ n. n ≡ ppn_of text.now) }
@@ -177,7 +179,7 @@ fn steps(alloc: Global, texts: &[&str]) -> Result<Vec<WalkStep>, Fault>
 fn scenario(alloc: Global, table: &Table) -> Result<WalkScenario, Fault>
     ensures { Gives plan_view result (walk_plan_of (table_view table.now)) }
 {
-    check_keys(alloc, table)?;
+    check_keys(alloc, table, &KEYS)?;
     let root = root(alloc, table)?;
     let frames = frames(alloc, table)?;
     let tables = tables(alloc, table, frames)?;
@@ -198,9 +200,6 @@ fn scenario(alloc: Global, table: &Table) -> Result<WalkScenario, Fault>
 pub fn read_walk(alloc: Global, text: &str) -> Result<WalkScenario, Fault>
     ensures { Gives plan_view result (walk_scenario_of text.now) }
 {
-    match toml::table_from_str(alloc, text) {
-        Ok(table) => scenario(alloc, &table),
-        Err(error) if error.is_memory() => Err(Fault::NoMemory),
-        Err(_) => Err(Fault::NotToml),
-    }
+    let table = document(alloc, text)?;
+    scenario(alloc, &table)
 }

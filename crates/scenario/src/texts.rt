@@ -1,16 +1,27 @@
-//! From a text to what `walk` prints of it.
-ghost use Rattle.std.specs.Prelude.{◌≡◌, None, OnOk, IfErr};
+//! From a text to what is printed of it.
+ghost use Rattle.std.specs.Prelude.{◌≡◌, [], None, OnOk, IfOk, IfErr};
+ghost use Rattle.history.specs.Setup.{setup_of};
+ghost use Rattle.history.specs.Runs.{due_replies};
 ghost use Rattle.scenario.specs.Faults.{fault_in};
 ghost use Rattle.scenario.specs.Lines.{LinesOf, Prints};
+ghost use Rattle.scenario.specs.ReplyLines.{PrintsReplies};
+ghost use Rattle.scenario.specs.RunFile.{run_scenario_of};
+ghost use Rattle.scenario.specs.declared.fault.Fault.TheVariants.{NoMemory};
 ghost use Rattle.scenario.specs.Output.{EndsBy, WritesAll};
 ghost use Rattle.scenario.specs.WalkFile.{walk_scenario_of};
 
 use crate::fault::Fault;
 use crate::lines::lines;
 use crate::output::write_whole;
+use crate::plan::RunScenario;
+use crate::reply_lines::reply_lines;
+use crate::run_scenario::read_run;
 use crate::scenario::read_walk;
+use history::Reply;
+use spaces::OpenFault;
 use std::alloc::Global;
 use std::io::Write;
+use stepcore::Machine;
 
 /// Writes what each step of a `walk` scenario answers, a line a step. The whole text is read and checked before the first
 /// byte is written; any fault of it, the first in the order of checking, leaves the writer as it was.
@@ -23,4 +34,33 @@ pub fn walk_text<W: Write>(alloc: Global, text: &str, out: &mut W) -> Result<(),
     let scenario = read_walk(alloc, text)?;
     let text = lines(alloc, &scenario)?;
     write_whole(out, text.as_bytes())
+}
+
+/// The replies to the steps of a scenario.
+fn replies(alloc: Global, scenario: &RunScenario) -> Result<Vec<Reply>, Fault>
+    ensures due { IfOk result (λ replies. replies.items ≡ due_replies (setup_of scenario.now.config) [] scenario.now.events.items) }
+    ensures fault { IfErr result (λ fault. fault ≡ NoMemory) }
+{
+    let mut machine = match Machine::open(alloc, &scenario.config) {
+        Ok(machine) => machine,
+        Err(OpenFault::NoMemory) => return Err(Fault::NoMemory),
+        Err(OpenFault::BadLayout) => return Err(Fault::Layout),
+    };
+    let mut replies = Vec::new(alloc);
+    machine.run(scenario.events.as_slice(), &mut replies)?;
+    Ok(replies)
+}
+
+/// Writes what each step of a `run` scenario answers, a line a step. The whole text is read and checked before the first
+/// byte is written; any fault of it, the first in the order of checking, leaves the writer as it was.
+pub fn run_text<W: Write>(alloc: Global, text: &str, out: &mut W) -> Result<(), Fault>
+    ensures faultless { OnOk result (fault_in (run_scenario_of text.now) ≡ None) }
+    ensures written { OnOk result (WritesAll (LinesOf PrintsReplies (run_scenario_of text.now)) (W.contents out.old) (W.contents out.new)) }
+    ensures err { IfErr result (λ fault. EndsBy fault (fault_in (run_scenario_of text.now)) (LinesOf PrintsReplies (run_scenario_of text.now))
+        (W.contents out.old) (W.contents out.new)) }
+{
+    let scenario = read_run(alloc, text)?;
+    let replies = replies(alloc, &scenario)?;
+    let lines = reply_lines(alloc, replies.as_slice())?;
+    write_whole(out, lines.as_bytes())
 }

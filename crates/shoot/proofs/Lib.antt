@@ -1,5 +1,7 @@
+pub mod FreeTickets
 pub mod HartBytes
 pub mod HartSets
 pub mod MailboxLaws
+pub mod Rings
 pub mod TicketLaws
 mod WorkedRows

@@ -3,11 +3,13 @@
 //! count of who has answered.
 #![tactic(auto)]
 
+mod free_tickets;
 mod hart_set;
 mod hart_set_laws;
 mod mailbox;
 mod mailbox_laws;
 mod request;
+mod ring;
 mod ticket_laws;
 mod tickets;
 
@@ -26,14 +28,14 @@ pub use ticket_laws::{
 pub use tickets::{Collected, NotDone, Ticket, TicketFault, Tickets};
 
 /// A machine has at most this many harts, with numbers from 0 on.
-pub const MAX_HARTS: usize = 8;
+pub const MAX_HARTS: usize = pte::MAX_HARTS;
 
-/// How many tickets a hart has, with numbers from 0 on.
-pub const MAX_TICKETS: usize = 64;
+/// The largest capacity of a mailbox.
+pub const MAX_CAPACITY: usize = pte::MAX_CAPACITY as usize;
 
-/// The largest capacity of a mailbox: a hart posts each of its tickets to
-/// another hart at most once.
-pub const MAX_CAPACITY: usize = MAX_TICKETS;
+/// How many tickets a hart has, with numbers from 0 on: a hart posts each of
+/// them to another hart at most once.
+pub const MAX_TICKETS: usize = MAX_CAPACITY;
 
 #[cfg(test)]
 mod tests;

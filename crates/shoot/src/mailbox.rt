@@ -4,7 +4,7 @@ ghost use Rattle.std.specs.Prelude.{◌≡◌, ◌≤◌, IsTrue};
 
 use crate::MAX_CAPACITY;
 use crate::request::Request;
-use arrayvec::ArrayVec;
+use crate::ring::Ring;
 use std::marker::Model;
 
 /// Why a post is refused.
@@ -23,7 +23,7 @@ pub enum PostFault {
 /// request makes no room, collecting its acknowledgement does.
 #[derive(Drop)]
 pub struct Mailbox {
-    waiting: ArrayVec<Request, MAX_CAPACITY>,
+    waiting: Ring,
     outstanding: usize,
     closed: bool,
     capacity: usize,
@@ -34,9 +34,9 @@ impl Model for Mailbox {
 
     ghost Value = { MailboxState };
 
-    ghost view = { λ m. record { waiting = m.waiting.items; outstanding = m.outstanding; closed = m.closed; capacity = m.capacity } };
+    ghost view = { λ m. record { waiting = m.waiting; outstanding = m.outstanding; closed = m.closed; capacity = m.capacity } };
 
-    ghost invariant = { λ m. IsMailbox (record { waiting = m.waiting.items; outstanding = m.outstanding; closed = m.closed; capacity = m.capacity }) };
+    ghost invariant = { λ m. IsMailbox (record { waiting = m.waiting; outstanding = m.outstanding; closed = m.closed; capacity = m.capacity }) };
 }
 
 impl Mailbox {
@@ -49,7 +49,7 @@ impl Mailbox {
         ensures { result ≡ empty_mailbox capacity }
     {
         Mailbox {
-            waiting: ArrayVec::new(),
+            waiting: Ring::new(),
             outstanding: 0,
             closed: false,
             capacity,
@@ -78,7 +78,7 @@ impl Mailbox {
         if let Some(fault) = self.post_fault() {
             return Err((fault, request));
         }
-        self.waiting.push(request);
+        self.waiting.push_back(request);
         self.outstanding += 1;
         Ok(())
     }
@@ -87,7 +87,7 @@ impl Mailbox {
     pub fn first_waiting(&self) -> Option<Request>
         ensures { result ≡ first_waiting self.now }
     {
-        self.waiting.first().copied()
+        self.waiting.first()
     }
 
     /// Takes the oldest request that waits. It stays outstanding.
@@ -95,9 +95,7 @@ impl Mailbox {
         ensures answer { result ≡ first_waiting self.old }
         ensures after { self.new ≡ after_take self.old }
     {
-        let first = self.first_waiting()?;
-        self.waiting.remove(0);
-        Some(first)
+        self.waiting.pop_front()
     }
 
     /// Whether more requests are outstanding than wait: some were taken whose

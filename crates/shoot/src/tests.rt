@@ -42,6 +42,27 @@ fn mailbox_of_two(rt: HostRuntime) {
 }
 
 #[test]
+fn mailbox_keeps_order_around_its_end(rt: HostRuntime) {
+    let mut mailbox = Mailbox::new(3);
+    assert!(&rt; mailbox.post(request(0)) == Ok(()));
+    assert!(&rt; mailbox.post(request(1)) == Ok(()));
+    for number in 0..200 {
+        let oldest = request(number % 64);
+        let newest = request((number + 2) % 64);
+        assert!(&rt; mailbox.post(newest) == Ok(()));
+        assert!(&rt; mailbox.post(newest) == Err((PostFault::Full, newest)));
+        assert!(&rt; mailbox.first_waiting() == Some(oldest));
+        assert!(&rt; mailbox.take() == Some(oldest));
+        assert!(&rt; mailbox.can_release());
+        mailbox.release();
+    }
+    assert!(&rt; mailbox.outstanding() == 2);
+    assert!(&rt; mailbox.take() == Some(request(8)));
+    assert!(&rt; mailbox.take() == Some(request(9)));
+    assert!(&rt; mailbox.take() == None);
+}
+
+#[test]
 fn own_acknowledgement_is_collected(rt: HostRuntime) {
     let mut tickets = Tickets::new(0);
     assert!(&rt; tickets.open(What::All, 0b10) == Err(TicketFault::HomeNotNamed));
@@ -134,4 +155,40 @@ fn sets_of_harts(rt: HostRuntime) {
     assert!(&rt; u8::from(set) == 0b1000_0001);
     assert!(&rt; set == HartSet::from(0b1000_0001));
     assert!(&rt; u8::from(set.difference(&HartSet::from(0b0000_0011))) == 0b1000_0000);
+}
+
+/// Frees a ticket of hart 0 that names that hart alone.
+fn finish_own(rt: &impl Abort, tickets: &mut Tickets, ticket: u32) {
+    assert!(rt; tickets.is_open(ticket) && tickets.names(ticket, 0));
+    tickets.acked(ticket, 0);
+    assert!(rt; tickets.is_open(ticket));
+    assert!(rt; tickets.finish(ticket) == Ok(()));
+}
+
+#[test]
+fn lowest_free_number_is_opened(rt: HostRuntime) {
+    let mut tickets = Tickets::new(0);
+    for number in 0..64 {
+        assert!(&rt; tickets.would_open(0b1) == Ok(number));
+        assert!(&rt; tickets.open(What::All, 0b1) == Ok(number));
+    }
+    for number in [40, 7, 63, 0, 32, 31] {
+        finish_own(&rt, &mut tickets, number);
+    }
+    assert!(&rt; tickets.open(What::All, 0b1) == Ok(0));
+    assert!(&rt; tickets.open(What::All, 0b1) == Ok(7));
+    finish_own(&rt, &mut tickets, 5);
+    assert!(&rt; tickets.open(What::All, 0b1) == Ok(5));
+    assert!(&rt; tickets.open(What::All, 0b1) == Ok(31));
+    finish_own(&rt, &mut tickets, 62);
+    for number in [32, 40, 62, 63] {
+        assert!(&rt; tickets.open(What::All, 0b1) == Ok(number));
+    }
+    assert!(&rt; tickets.open(What::All, 0b1) == Err(TicketFault::NoTicket));
+    for turn in 0..64 {
+        finish_own(&rt, &mut tickets, (37 * turn + 11) % 64);
+        let lowest = (0..64).find(|number| !tickets.is_open(*number));
+        assert!(&rt; tickets.would_open(0b1).ok() == lowest);
+    }
+    assert!(&rt; tickets.would_open(0b1) == Ok(0));
 }

@@ -3,6 +3,7 @@
 ghost use Rattle.std.specs.Prelude.{◌≡◌, ◌<◌, IsTrue, IsSome, IfSome, IfOk};
 ghost use Rattle.std.specs.Option.{option_copied};
 
+use crate::free_tickets::FreeTickets;
 use crate::hart_set::HartSet;
 use crate::{MAX_HARTS, MAX_TICKETS};
 use pte::What;
@@ -45,14 +46,17 @@ pub struct Ticket {
 ///
 /// A ticket is opened for what the named harts are to drop, posted to each of
 /// the others, and done once each named hart is collected.
+/// Which numbers are free is kept beside the tickets, so that opening one
+/// searches none of them.
 #[derive(Drop)]
 pub struct Tickets {
     hart: u8,
     tickets: [Option<Ticket>; MAX_TICKETS],
+    free: FreeTickets,
 }
 
 impl Model for Tickets {
-    ghost use Rattle.std.specs.Prelude.{◌<◌};
+    ghost use Rattle.std.specs.Prelude.{◌≡◌, ◌<◌, map, is_none};
     ghost use Rattle.shoot.specs.Tickets.{TicketTable};
     ghost use Rattle.shoot.specs.declared.TheConstants.{MAX_HARTS};
 
@@ -60,7 +64,7 @@ impl Model for Tickets {
 
     ghost view = { λ t. record { hart = t.hart; tickets = t.tickets } };
 
-    ghost invariant = { λ t. t.hart < MAX_HARTS };
+    ghost invariant = { λ t. (t.hart < MAX_HARTS) × (t.free ≡ map is_none t.tickets) };
 }
 
 impl Ticket {
@@ -133,6 +137,7 @@ impl Tickets {
         Tickets {
             hart,
             tickets: [None; MAX_TICKETS],
+            free: FreeTickets::new(),
         }
     }
 
@@ -143,11 +148,12 @@ impl Tickets {
         self.tickets.get(ticket as usize)?.as_ref()
     }
 
+    #[tactic(auto, using(crate::proofs::FreeTickets::lowest_of_test))]
     fn lowest_free(&self) -> Option<usize>
         ensures lowest { result ≡ lowest_free self.now }
         ensures below { IfSome result (λ number. number < MAX_TICKETS) }
     {
-        self.tickets.iter().position(Option::is_none)
+        self.free.lowest()
     }
 
     /// What opening a ticket for these harts would be answered now.
@@ -166,6 +172,7 @@ impl Tickets {
 
     /// Opens the lowest free ticket. Bit h of `named` stands for hart h. At a
     /// refusal nothing changes.
+    #[tactic(auto, using(crate::proofs::FreeTickets::ticket_opened))]
     pub fn open(&mut self, what: What, named: u8) -> Result<u32, TicketFault>
         ensures answer { result ≡ open_answer self.old named }
         ensures below { IfOk result (λ number. number < MAX_TICKETS) }
@@ -173,42 +180,49 @@ impl Tickets {
     {
         let number = self.would_open(named)?;
         self.tickets[number as usize] = Some(Ticket::new(what, named));
+        self.free.remove(number as usize);
         Ok(number)
     }
 
     /// An open ticket was posted to a hart that it names.
+    #[tactic(auto, using(crate::proofs::FreeTickets::ticket_replaced))]
     pub fn posted(&mut self, ticket: u32, to: u8)
         requires { IsTrue (names self.old ticket to) }
         ensures { self.new ≡ after_posted self.old ticket to }
     {
-        if let Some(open) = &mut self.tickets[ticket as usize] {
-            open.mark_posted(to);
-        }
+        let Some(open) = &mut self.tickets[ticket as usize] else {
+            return;
+        };
+        open.mark_posted(to);
     }
 
     /// A hart that an open ticket names acknowledged it. The acknowledgement of
     /// the hart whose ticket it is counts as collected at once.
+    #[tactic(auto, using(crate::proofs::FreeTickets::ticket_replaced))]
     pub fn acked(&mut self, ticket: u32, from: u8)
         requires { IsTrue (names self.old ticket from) }
         ensures { self.new ≡ after_acked self.old ticket from }
     {
         let home = self.hart;
-        if let Some(open) = &mut self.tickets[ticket as usize] {
-            open.mark_acked(home, from);
-        }
+        let Some(open) = &mut self.tickets[ticket as usize] else {
+            return;
+        };
+        open.mark_acked(home, from);
     }
 
     /// Collects the acknowledgement of a hart that an open ticket names, if it
     /// is there, and tells how far the ticket is then.
+    #[tactic(auto, using(crate::proofs::FreeTickets::ticket_replaced))]
     pub fn collect(&mut self, ticket: u32, from: u8) -> Collected
         requires { IsTrue (names self.old ticket from) }
         ensures answer { result ≡ progress_at self.new ticket }
         ensures after { self.new ≡ after_collect self.old ticket from }
     {
-        if let Some(open) = &mut self.tickets[ticket as usize] {
-            open.mark_collected(from);
-        }
-        self.progress(ticket)
+        let Some(open) = &mut self.tickets[ticket as usize] else {
+            return Collected::Done;
+        };
+        open.mark_collected(from);
+        open.progress()
     }
 
     /// How far an open ticket is.
@@ -231,6 +245,7 @@ impl Tickets {
     }
 
     /// Frees an open ticket that is done. At a refusal nothing changes.
+    #[tactic(auto, using(crate::proofs::FreeTickets::ticket_freed))]
     pub fn finish(&mut self, ticket: u32) -> Result<(), NotDone>
         requires { IsTrue (is_open self.old ticket) }
         ensures answer { result ≡ finish_answer self.old ticket }
@@ -240,6 +255,7 @@ impl Tickets {
             return Err(NotDone);
         }
         self.tickets[ticket as usize] = None;
+        self.free.insert(ticket as usize);
         Ok(())
     }
 

@@ -6,9 +6,7 @@ ghost use Rattle.spaces.specs.Limits.{asids_differ, max_harts};
 
 use arrayvec::ArrayVec;
 use pte::PPN_BITS;
-
-/// How many harts there may be.
-pub const MAX_HARTS: usize = 8;
+pub use pte::{MAX_CAPACITY, MAX_HARTS};
 
 /// How many spaces there may be.
 pub const MAX_SPACES: usize = 32;
@@ -21,9 +19,6 @@ pub const MAX_FRAMES: u64 = 512;
 
 /// How many table frames there may be for harts on threads.
 pub const MAX_LIVE_FRAMES: u64 = 96;
-
-/// How many requests of a pair of harts may be accepted and not collected.
-pub const MAX_CAPACITY: u16 = 64;
 
 /// An address space: the hart that alone stores to its tables, and its ASID.
 #[derive(Clone, Copy, PartialEq, Eq, Debug, Default)]

@@ -58,7 +58,59 @@ pub fn read_words<'a>(alloc: Global, words: &'a [String]) -> Result<Ask<'a>, Ref
     };
     let which = match word {
         "walk" => Which::Walk,
+        "run" => Which::Run,
         _ => return Err(Refusal::Usage),
     };
     Ok(Ask { which, file })
+}
+
+#[cfg(test)]
+mod tests {
+    use super::*;
+    use std::test::Fail;
+
+    /// What is read from the words behind the program's name, which stand apart by blanks: the command and the FILE.
+    fn read(alloc: Global, line: &str) -> Result<Option<(Which, bool)>, Fail> {
+        let mut words = Vec::new(alloc);
+        words.push(format!(in alloc; "svsim")?)?;
+        for word in line.split(' ').filter(|word| !word.is_empty()) {
+            words.push(format!(in alloc; "{word}")?)?;
+        }
+        Ok(match read_words(alloc, words.as_slice()) {
+            Ok(ask) => Some((ask.which, ask.file == "FILE")),
+            Err(_) => None,
+        })
+    }
+
+    #[test]
+    fn commands_that_are_known(rt: HostRuntime) -> Result<(), Fail> {
+        assert!(rt; read(rt.alloc(), "walk FILE")? == Some((Which::Walk, true)));
+        assert!(rt; read(rt.alloc(), "run FILE")? == Some((Which::Run, true)));
+        assert!(rt; read(rt.alloc(), "-- run FILE")? == Some((Which::Run, true)));
+        assert!(rt; read(rt.alloc(), "run OTHER")? == Some((Which::Run, false)));
+        Ok(())
+    }
+
+    #[test]
+    fn words_that_are_refused(rt: HostRuntime) -> Result<(), Fail> {
+        for line in [
+            "",
+            "walk",
+            "run",
+            "FILE",
+            "walks FILE",
+            "Walk FILE",
+            "live FILE",
+            "walk FILE FILE",
+            "--help",
+            "-h",
+            "--version",
+            "walk --help",
+            "-x walk FILE",
+            "--file FILE",
+        ] {
+            assert!(rt; read(rt.alloc(), line)?.is_none());
+        }
+        Ok(())
+    }
 }

@@ -85,6 +85,7 @@ impl Walk {
     }
 
     /// Goes on with the word that the walk waited for, `None` if it lies outside memory.
+    #[inline(always)]
     pub fn load(self, word: Option<u64>) -> Progress
         ensures { result ≡ load_of self word }
     {
@@ -126,6 +127,7 @@ impl Walk {
     }
 
     /// What a leaf at the walk's level gives.
+    #[inline(always)]
     fn leaf(self, ppn: u64, flags: PteFlags) -> Result<Found, Trap>
         requires { ppn < 2 ^ ppn_bits }
         ensures { result ≡ leaf_answer self.va self.access self.ctx self.level (self.global || is_global flags.0) ppn flags }

@@ -1,0 +1,102 @@
+//! `bench [all|events|translations] [N]`: makes about N events on a machine of 8 harts, N translations in a full memory, or
+//! both, and prints what they came to, by counts. N is 10,000,000 where no number is given. The clock is the caller's.
+#![tactic(auto)]
+
+mod cycle;
+mod tally;
+mod tree;
+
+use std::alloc::AllocError;
+use std::process::ExitCode;
+use std::{env, io};
+use tally::Tally;
+
+/// How many events and translations, where no number is given.
+const DEFAULT_COUNT: u64 = 10_000_000;
+
+/// Why nothing is measured.
+#[derive(Clone, Copy, Debug, PartialEq, Eq)]
+enum Failure {
+    /// The words are not those that `bench` takes.
+    Usage,
+    NoMemory,
+    /// The configuration is refused, or a page is not mapped.
+    NotOpened,
+    /// Words can't be read, or lines not be written.
+    Io,
+}
+
+impl From<AllocError> for Failure {
+    fn from(_error: AllocError) -> Failure {
+        Failure::NoMemory
+    }
+}
+
+impl From<io::Error> for Failure {
+    fn from(_error: io::Error) -> Failure {
+        Failure::Io
+    }
+}
+
+/// What is measured.
+#[derive(Clone, Copy, Debug, PartialEq, Eq)]
+enum Part {
+    All,
+    Events,
+    Translations,
+}
+
+/// What the words ask for: the part, and how many.
+fn asked(words: &[String]) -> Result<(Part, u64), Failure> {
+    let part = match words.get(1) {
+        None => Part::All,
+        Some(word) => match word.as_str() {
+            "all" => Part::All,
+            "events" => Part::Events,
+            "translations" => Part::Translations,
+            _ => return Err(Failure::Usage),
+        },
+    };
+    let count = match words.get(2) {
+        None => DEFAULT_COUNT,
+        Some(word) => word.as_str().parse::<u64>().map_err(|_| Failure::Usage)?,
+    };
+    Ok((part, count))
+}
+
+fn print_events(rt: &HostRuntime, cycles: u64, tally: &Tally) -> Result<(), Failure> {
+    println!(rt; "cycles {cycles}")?;
+    for (name, count) in tally.counts() {
+        println!(rt; "{name} {count}")?;
+    }
+    Ok(())
+}
+
+fn run(rt: &HostRuntime) -> Result<(), Failure> {
+    let alloc = rt.alloc();
+    let words: Vec<String> = env::args(rt)?.collect(alloc)?;
+    let (part, count) = asked(&words)?;
+    if part != Part::Translations {
+        let (cycles, tally) = cycle::run(alloc, count)?;
+        print_events(rt, cycles, &tally)?;
+    }
+    if part != Part::Events {
+        let found = tree::run(alloc, count)?;
+        println!(rt; "translations {count}")?;
+        println!(rt; "found {found}")?;
+    }
+    Ok(())
+}
+
+fn main(rt: HostRuntime) -> ExitCode {
+    let Err(failure) = run(&rt) else {
+        return ExitCode::SUCCESS;
+    };
+    let _ = match failure {
+        Failure::Usage => eprintln!(rt; "usage: bench [all|events|translations] [N]"),
+        Failure::NoMemory => eprintln!(rt; "bench: no memory"),
+        Failure::NotOpened => eprintln!(rt; "bench: nothing to measure on"),
+        Failure::Io => eprintln!(rt; "bench: cannot read the words or write the counts"),
+    };
+    ExitCode::FAILURE
+}

@@ -1,0 +1,142 @@
+//! Translations in a memory of 512 table frames, all of them in use.
+//!
+//! Below the root stand 15 tables, and below each of these 33 tables full of leaves, which map each page to itself: with
+//! the table of the kernel window these are 1 + 1 + 15 + 15 * 33 = 512 frames, and 15 * 33 * 512 = 253,440 pages.
+
+use crate::Failure;
+use arrayvec::ArrayVec;
+use bitflags::Flags;
+use pte::{Access, Ctx, Kind, Mode, PAGE_BYTES, Page, PageSize, Pte, PteFlags, VirtAddr};
+use spaces::{Config, Memory, OpenFault, Place, Space, apply, next_map_edit};
+use std::alloc::{AllocError, Global};
+use walk::translate;
+
+/// How many tables stand below the root.
+const MIDDLES: u64 = 15;
+
+/// How many tables stand below each of these.
+const LOWS: u64 = 33;
+
+/// How many leaves each of these has.
+const LEAVES: u64 = 512;
+
+/// How many addresses are picked. They are translated again and again, at other offsets of their pages.
+const ADDRESSES: u64 = 1 << 16;
+
+/// R, W, X, U, A and D.
+const FLAGS: u8 = 0xDE;
+
+const CTX: Ctx = Ctx {
+    mode: Mode::User,
+    sum: false,
+    mxr: false,
+};
+
+const PLACE: Place = Place::Space(0);
+
+/// One hart, the home of one space, with 510 spare frames.
+fn config() -> Config {
+    let mut spaces = ArrayVec::new();
+    spaces.push(Space { home: 0, asid: 1 });
+    let mut spares = ArrayVec::new();
+    spares.push(510);
+    Config {
+        harts: 1,
+        spaces,
+        window: 1,
+        base: 0x8_0000,
+        spares,
+        capacity: 1,
+    }
+}
+
+/// The address of a leaf.
+fn address(middle: u64, low: u64, leaf: u64) -> u64 {
+    (middle % 512) << 30 | (low % 512) << 21 | (leaf % 512) << 12
+}
+
+/// Makes the next store that maps a page to itself. `Some(true)` if that is the leaf, `Some(false)` if a table.
+fn store_next(memory: &mut Memory, va: u64) -> Option<bool> {
+    if !memory.has(PLACE) {
+        return None;
+    }
+    let page = Page::around(VirtAddr::new(va)?, PageSize::Kib4);
+    let flags = PteFlags::from_bits_retain(FLAGS);
+    let edit = next_map_edit(memory, 0, PLACE, page, va >> 12, flags).ok()?;
+    apply(memory, edit);
+    Some(matches!(Pte(edit.word()).kind(), Kind::Leaf { .. }))
+}
+
+/// Maps a page to itself, with the tables that are missing.
+fn map(memory: &mut Memory, va: u64) -> Result<(), Failure> {
+    for _ in 0..3_u8 {
+        if store_next(memory, va).ok_or(Failure::NotOpened)? {
+            return Ok(());
+        }
+    }
+    Err(Failure::NotOpened)
+}
+
+/// The memory with all its pages mapped.
+fn full_memory(alloc: Global) -> Result<Memory, Failure> {
+    let mut memory = match Memory::open(alloc, &config()) {
+        Ok(memory) => memory,
+        Err(OpenFault::NoMemory) => return Err(Failure::NoMemory),
+        Err(OpenFault::BadLayout) => return Err(Failure::NotOpened),
+    };
+    for low in 0..LOWS {
+        for middle in 0..MIDDLES {
+            for leaf in 0..LEAVES {
+                map(&mut memory, address(middle, low, leaf))?;
+            }
+        }
+    }
+    Ok(memory)
+}
+
+/// Addresses picked by a linear congruential generator. Every 16th is of a table that is not there.
+fn picked(alloc: Global) -> Result<Vec<u64>, AllocError> {
+    let mut addresses = Vec::with_capacity(alloc, ADDRESSES as usize)?;
+    let mut state: u64 = 77;
+    for number in 0..ADDRESSES {
+        state = state
+            .wrapping_mul(6_364_136_223_846_793_005)
+            .wrapping_add(1_442_695_040_888_963_407);
+        let (middle, low, leaf) = ((state >> 33) % MIDDLES, (state >> 40) % LOWS, state >> 48);
+        let low = if number % 16 == 15 { LOWS } else { low };
+        addresses.push(address(middle, low, leaf))?;
+    }
+    Ok(addresses)
+}
+
+/// How many of the addresses, with an offset of their pages, lead to themselves.
+fn count_found(memory: &Memory, addresses: &[u64], offset: u64) -> u64 {
+    if !memory.has(PLACE) {
+        return 0;
+    }
+    let root = memory.root(0);
+    let mut found: u64 = 0;
+    for address in addresses {
+        let va = *address | offset % PAGE_BYTES;
+        match translate(memory, root, va, Access::Load, CTX) {
+            Ok(there) if there.pa == va => found = found.wrapping_add(1),
+            _ => {}
+        }
+    }
+    found
+}
+
+/// Makes so many translations, and tells how many of them are found: all but every 16th.
+pub fn run(alloc: Global, count: u64) -> Result<u64, Failure> {
+    let memory = full_memory(alloc)?;
+    let addresses = picked(alloc)?;
+    let mut found: u64 = 0;
+    for pass in 0..count / ADDRESSES {
+        found = found.wrapping_add(count_found(&memory, &addresses, pass));
+    }
+    let rest = (count % ADDRESSES) as usize;
+    match addresses.get(..rest) {
+        Some(rest) => Ok(found.wrapping_add(count_found(&memory, rest, 0))),
+        None => Err(Failure::NotOpened),
+    }
+}

@@ -1,0 +1,20 @@
+-- A history as a book keeps it, each event with its reply, the oldest first.
+use Rattle.std.specs.Prelude.{◌≡◌, List, [], ◌∷◌}
+use Rattle.history.specs.declared.event.Event.{Event}
+use Rattle.history.specs.declared.reply.Reply.{Reply}
+use Rattle.history.specs.Setup.{Setup}
+use Rattle.history.specs.Turns.{History}
+use Rattle.history.specs.Runs.{with_turn}
+use Rattle.history.specs.Due.{Lawful, due}
+
+-- what is kept, on top of a history; and as a history of its own
+abbrev pub kept_on : List (Event × Reply) → History → History
+kept_on [] H = H
+kept_on (turn ∷ turns) H = kept_on turns (with_turn turn.0 turn.1 H)
+
+abbrev pub history_of : List (Event × Reply) → History
+history_of turns = kept_on turns []
+
+-- the reply is due to the event after some lawful history
+abbrev pub IsDueAfterSome : Setup → Event → Reply → Type 0
+IsDueAfterSome C event reply = (H : History) × Lawful C H × (reply ≡ due C H event)

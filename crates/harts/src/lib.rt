@@ -1,0 +1,13 @@
+//! Harts as threads: a machine under one lock, with the history at which it stands.
+#![tactic(auto)]
+
+mod book;
+mod locked;
+mod named;
+
+pub use book::Book;
+pub use locked::{Locked, Tally};
+pub use named::Named;
+
+#[cfg(test)]
+mod tests;

@@ -1,0 +1,232 @@
+ghost use Rattle.std.specs.Prelude.{◌≡◌};
+
+use super::*;
+use arrayvec::ArrayVec;
+use pte::{Access, Ctx, Mode, Page, PageSize, PteFlags, VirtAddr, What};
+use shoot::Request;
+use spaces::{Config, OpenFault, Place, Space};
+use std::alloc::{AllocError, Global};
+use std::marker::Brand;
+use std::sync::Wait;
+use std::sync::ledger::Blank;
+use std::test::Fail;
+use std::thread::{Threads, join};
+use stepcore::{Event, Refusal, Reply};
+use walk::{Trap, Why};
+
+/// Two harts and one space, with 8 spare frames for each hart: the first spare frame is 0x80002.
+fn two_harts() -> Config
+    ensures { result.harts ≡ 2 }
+{
+    let mut spaces = ArrayVec::new();
+    spaces.push(Space { home: 0, asid: 1 });
+    let mut spares = ArrayVec::new();
+    spares.push(8);
+    spares.push(8);
+    Config {
+        harts: 2,
+        spaces,
+        window: 1,
+        base: 0x8_0000,
+        spares,
+        capacity: 4,
+    }
+}
+
+fn many<C: Named, R: Wait>(
+    rt: &R,
+    locked: &Locked<C>,
+    mut tally: Tally<C>,
+    hart: u8,
+) -> Result<Tally<C>, AllocError> {
+    for _ in 0..100_u32 {
+        let fence = Event::Fence {
+            hart,
+            rs1: None,
+            rs2: None,
+        };
+        let _reply = locked.call(rt, &mut tally, fence)?;
+    }
+    Ok(tally)
+}
+
+fn is_fence_of(turn: &(Event, Reply), number: u8) -> bool {
+    match turn.0 {
+        Event::Fence { hart, .. } => hart == number && turn.1 == Reply::Ok,
+        _ => false,
+    }
+}
+
+/// How many events two threads made that each called 100 fences, those of hart 0, and those of hart 1.
+fn by_two<C: Named + Send + Sync, R: Threads + Wait + Sync>(
+    rt: &R,
+    alloc: Global,
+    blank: Blank,
+    config: &Config,
+) -> Option<[usize; 3]>
+    requires config { C.config ≡ config.now }
+    requires name { blank.name ≡ C.name }
+    requires parts { (blank.parts ≡ C.parts) × (C.parts ≡ config.now.harts) × (config.now.harts ≡ 2) }
+{
+    let Ok((locked, mut tallies)) = Locked::<C>::open(alloc, blank, config) else {
+        return None;
+    };
+    let (b, a) = (tallies.pop()?, tallies.pop()?);
+    let shared = &locked;
+    let (a, b) = join(rt, || many(rt, shared, a, 0), || many(rt, shared, b, 1));
+    let (Ok(a), Ok(b)) = (a, b) else { return None };
+    tallies.push_reserved(a);
+    tallies.push_reserved(b);
+    let (_machine, history) = locked.into_parts(tallies);
+    let of_0 = history.iter().filter(|turn| is_fence_of(turn, 0)).count();
+    let of_1 = history.iter().filter(|turn| is_fence_of(turn, 1)).count();
+    Some([history.len(), of_0, of_1])
+}
+
+#[test]
+fn locked_counts(rt: HostRuntime) -> Result<(), Fail> {
+    let config = two_harts();
+    let counts = by_two::<Brand, _>(&rt, rt.alloc(), Blank::new(2), &config);
+    assert!(rt; counts == Some([200, 100, 100]));
+    Ok(())
+}
+
+/// The page of 2 MiB at 0x400000.
+fn superpage() -> Option<Page> {
+    Page::new(VirtAddr::new(0x40_0000)?, PageSize::Mib2).ok()
+}
+
+fn load_of(hart: u8, va: u64) -> Event {
+    Event::Begin {
+        hart,
+        va,
+        access: Access::Load,
+        ctx: Ctx {
+            mode: Mode::User,
+            sum: false,
+            mxr: false,
+        },
+    }
+}
+
+/// Whether each event, called by one thread in this order, is answered so, and the lock keeps all of them.
+fn answers<C: Named, R: Wait>(
+    rt: &R,
+    alloc: Global,
+    blank: Blank,
+    config: &Config,
+    steps: &[(Event, Reply)],
+) -> Option<bool>
+    requires config { C.config ≡ config.now }
+    requires name { blank.name ≡ C.name }
+    requires parts { (blank.parts ≡ C.parts) × (C.parts ≡ config.now.harts) × (config.now.harts ≡ 2) }
+{
+    let Ok((locked, mut tallies)) = Locked::<C>::open(alloc, blank, config) else {
+        return None;
+    };
+    let mut tally = tallies.pop()?;
+    let mut same = true;
+    for step in steps {
+        let Ok(reply) = locked.call(rt, &mut tally, step.0) else {
+            return None;
+        };
+        same &= reply == step.1;
+    }
+    tallies.push_reserved(tally);
+    let (_machine, history) = locked.into_parts(tallies);
+    Some(same && history.as_slice() == steps)
+}
+
+fn map_of(page: &Page) -> Event {
+    Event::Map {
+        hart: 0,
+        place: Place::Space(0),
+        page: *page,
+        ppn: 0x200,
+        flags: PteFlags::R | PteFlags::W | PteFlags::U | PteFlags::A | PteFlags::D,
+    }
+}
+
+fn unmap_of(page: &Page) -> Event {
+    Event::Unmap {
+        hart: 0,
+        place: Place::Space(0),
+        page: *page,
+        named: 0b11,
+    }
+}
+
+fn finish() -> Event {
+    Event::Finish { hart: 0, ticket: 0 }
+}
+
+/// Hart 0 maps a page of 2 MiB, hart 1 walks to it, and hart 0 unmaps it.
+fn mapped_used_unmapped(page: &Page) -> [(Event, Reply); 8] {
+    [
+        (map_of(page), Reply::Table(0x8_0002)),
+        (map_of(page), Reply::Leaf),
+        (load_of(1, 0x5f_ffff), Reply::More),
+        (Event::Load { hart: 1 }, Reply::More),
+        (Event::Load { hart: 1 }, Reply::Filled(0x3f_ffff)),
+        (unmap_of(page), Reply::Opened(0)),
+        (load_of(1, 0x5f_ffff), Reply::Hit(0x3f_ffff)),
+        (
+            Event::Post {
+                hart: 0,
+                ticket: 0,
+                to: 1,
+            },
+            Reply::Ok,
+        ),
+    ]
+}
+
+/// Hart 1 takes the request and serves it, and finds the page gone; hart 0 collects, acknowledges and finishes.
+fn served_and_finished(page: &Page) -> [(Event, Reply); 11] {
+    let request = Request {
+        ticket: 0,
+        what: What::PageOf(*page, Some(1)),
+    };
+    let gone = Trap {
+        cause: 13,
+        why: Why::Invalid,
+    };
+    [
+        (Event::Take { hart: 1, from: 0 }, Reply::Taken(request)),
+        (load_of(1, 0x5f_ffff), Reply::Refused(Refusal::Serving)),
+        (Event::ServeFence { hart: 1 }, Reply::Ok),
+        (Event::Ack { hart: 1 }, Reply::Ok),
+        (load_of(1, 0x5f_ffff), Reply::More),
+        (Event::Load { hart: 1 }, Reply::More),
+        (Event::Load { hart: 1 }, Reply::Trap(gone)),
+        (
+            Event::Collect {
+                hart: 0,
+                ticket: 0,
+                from: 1,
+            },
+            Reply::Waiting(0b01),
+        ),
+        (finish(), Reply::Refused(Refusal::NotDone)),
+        (Event::AckSelf { hart: 0, ticket: 0 }, Reply::Done),
+        (finish(), Reply::Ok),
+    ]
+}
+
+#[test]
+fn superpage_shootdown_through_calls(rt: HostRuntime) -> Result<(), Fail> {
+    let Some(page) = superpage() else {
+        return Err(Fail::new("no page"));
+    };
+    let mut steps = Vec::new(rt.alloc());
+    for step in mapped_used_unmapped(&page) {
+        steps.push(step)?;
+    }
+    for step in served_and_finished(&page) {
+        steps.push(step)?;
+    }
+    let config = two_harts();
+    let same = answers::<Brand, _>(&rt, rt.alloc(), Blank::new(2), &config, steps.as_slice());
+    assert!(rt; same == Some(true));
+    Ok(())
+}

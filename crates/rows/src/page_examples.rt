@@ -1,0 +1,328 @@
+//! The files of the folder `examples` about ranges, superpages and kernel pages, and what each prints.
+use crate::examples::Example;
+use crate::run_files::ends;
+use std::test::Fail;
+
+const RANGE_FIRST_PAGE: Example = Example {
+    name: "range-first-page",
+    file: r##"# A range of small pages unmapped, and only its first page flushed.
+#
+#     ./svsim run examples/range-first-page.toml
+#
+# In real kernels: a range is flushed by a loop over its addresses, with a stride. For huge pages the stride is 2 MiB,
+# since one fence drops a huge page whole; for small pages it has to be 4 KiB. Linux hands the stride down beside the
+# range (stride_shift on x86, stride on RISC-V) and derives it from the smallest page that the mmu_gather has cleared.
+# With the stride of a huge page the first small page is flushed, and up to 511 behind it are not.
+#
+# Here: two small pages of one range are unmapped, which opens two orders, and only the first is posted. Hart 1 serves
+# and acknowledges it, all is answered with `ok`, and line 19 still finds the second page. Its order is open: `waiting
+# 0,1` in line 20.
+
+harts = 2
+
+steps = [
+    # Two small pages side by side, which hart 1 reads.
+    "0 map 0 4K:0x600000 0x300 rwuad",
+    "0 map 0 4K:0x600000 0x300 rwuad",
+    "0 map 0 4K:0x600000 0x300 rwuad",
+    "0 map 0 4K:0x601000 0x301 rwuad",
+    "1 begin u load 0x600008",
+    "1 load",
+    "1 load",
+    "1 load", # 8 fill 0x300008
+    "1 begin u load 0x601008",
+    "1 load",
+    "1 load",
+    "1 load", # 12 fill 0x301008
+
+    # Both are unmapped. The bug: hart 1 is asked for the first alone.
+    "0 unmap 0 4K:0x600000 0,1",
+    "0 unmap 0 4K:0x601000 0,1",
+    "0 post 0 1",
+    "1 take 0",
+    "1 servefence",
+    "1 ack",
+    "1 begin u load 0x601008", # 19 hit 0x301008
+
+    # What was owed: the request of the second order.
+    "0 collect 1 1", # 20 waiting 0,1
+    "0 post 1 1",
+    "1 take 0",
+    "1 servefence",
+    "1 ack",
+    "1 begin u load 0x601008", # 25 more
+]
+"##,
+    lines: r"1 table 0x80002
+2 table 0x80003
+3 leaf
+4 leaf
+5 more
+6 more
+7 more
+8 fill 0x300008
+9 more
+10 more
+11 more
+12 fill 0x301008
+13 opened 0
+14 opened 1
+15 ok
+16 taken 0 page 4K:0x600000 asid 1
+17 ok
+18 ok
+19 hit 0x301008
+20 waiting 0,1
+21 ok
+22 taken 1 page 4K:0x601000 asid 1
+23 ok
+24 ok
+25 more
+",
+};
+
+const SUPERPAGE_SPLIT: Example = Example {
+    name: "superpage-split",
+    file: r##"# A superpage replaced by small pages while a hart still holds it whole.
+#
+#     ./svsim run examples/superpage-split.toml
+#
+# In real kernels: mprotect or munmap of 4 KiB in the middle of a huge page has to split it first. If the leaf of 2 MiB
+# is overwritten with a table of small pages and nothing is flushed, a processor that holds the old leaf goes on by it
+# at all 512 small pages, whatever the tables say of each. Linux's split of a huge page (__split_huge_pmd_locked)
+# therefore makes the old entry invalid and flushes it before the small entries are stored; some processors even raise
+# a machine check where a small and a huge translation of one address meet.
+#
+# Here: a superpage is one leaf and so one entry. Lines 10 and 11 are stores through the old entry, to a page that is
+# read only by now and to one that is not mapped. Lines 12 and 13: a fence for any one address of a superpage drops
+# its entry whole. Lines 21 to 25: a request for the superpage drops the entries of any size that overlap it.
+
+harts = 2
+
+steps = [
+    # 2 MiB at 0x400000, and hart 1 writes to the second small page of it.
+    "0 map 0 2M:0x400000 0x200 rwuad",
+    "0 map 0 2M:0x400000 0x200 rwuad",
+    "1 begin u store 0x401008",
+    "1 load",
+    "1 load", # 5 fill 0x201008
+
+    # One small page can't be taken out of a superpage: its tables have no word for it.
+    "0 unmap 0 4K:0x401000 0,1", # 6 refused WrongSize
+
+    # The split: the first small page comes back, read only; the second does not. The bug: nobody has asked hart 1 yet.
+    "0 unmap 0 2M:0x400000 0,1",
+    "0 map 0 4K:0x400000 0x200 ruad",
+    "0 map 0 4K:0x400000 0x200 ruad",
+    "1 begin u store 0x400008", # 10 hit 0x200008: read only in the tables
+    "1 begin u store 0x401008", # 11 hit 0x201008: not in the tables
+
+    # One fence at one address of the superpage, and the tables are seen again at every other one.
+    "1 fence 0x401000 1",
+    "1 begin u store 0x400008", # 13 more
+    "1 load",
+    "1 load",
+    "1 load", # 16 trap 15 Denied
+    "1 begin u load 0x400008",
+    "1 load",
+    "1 load",
+    "1 load", # 20 fill 0x200008: now an entry of 4 KiB
+
+    # The request for the superpage is still owed. It drops the small entry as well: more than needed, and no harm.
+    "0 post 0 1",
+    "1 take 0",
+    "1 servefence",
+    "1 ack",
+    "1 begin u load 0x400008", # 25 more
+]
+"##,
+    lines: r"1 table 0x80002
+2 leaf
+3 more
+4 more
+5 fill 0x201008
+6 refused WrongSize
+7 opened 0
+8 table 0x80003
+9 leaf
+10 hit 0x200008
+11 hit 0x201008
+12 ok
+13 more
+14 more
+15 more
+16 trap 15 Denied
+17 more
+18 more
+19 more
+20 fill 0x200008
+21 ok
+22 taken 0 page 2M:0x400000 asid 1
+23 ok
+24 ok
+25 more
+",
+};
+
+const GLOBAL_PAGE_ASID_FENCE: Example = Example {
+    name: "global-page-asid-fence",
+    file: r##"# A kernel page flushed with an ASID.
+#
+#     ./svsim run examples/global-page-asid-fence.toml
+#
+# In real kernels: a mapping of the kernel has G set and belongs to every address space, so SFENCE.VMA with an ASID in
+# rs2 leaves its entries alone, even at their own address. A flush of the kernel's range that goes through the code
+# for user pages, with the ASID of the process that happens to run, does nothing. Linux on RISC-V passes "no ASID"
+# down from flush_tlb_kernel_range for this reason. x86 has the same trap: a write of CR3 keeps global entries, so
+# Linux and FreeBSD toggle CR4.PGE, or use INVPCID, to be rid of them.
+#
+# Here: hart 1 holds a kernel page, and changes its space: the entry stays and still answers (line 8). The page is
+# unmapped, and hart 1 fences with its ASID, with the address (line 10) and without (line 12). Both fences are `ok`
+# and change nothing: lines 11 and 13. The fence with the address and x0 for the ASID is the right one.
+
+harts = 2
+spaces = ["0 1", "1 2"]
+
+steps = [
+    # A page in the kernel window, the last slot of every root. Hart 0 is the home of its tables.
+    "0 map k 4K:0xffffffffc0000000 0x300 rwgad",
+    "0 map k 4K:0xffffffffc0000000 0x300 rwgad",
+    "1 begin s store 0xffffffffc0000010",
+    "1 load",
+    "1 load",
+    "1 load", # 6 fill 0x300010
+    "1 switch 1",
+    "1 begin s load 0xffffffffc0000010", # 8 hit 0x300010: in another space, by the same entry
+
+    # The page goes. The bug: hart 1, in the space of ASID 2, fences as if the page were one of its process.
+    "0 unmap k 4K:0xffffffffc0000000 0,1",
+    "1 fence 0xffffffffc0000000 2",
+    "1 begin s load 0xffffffffc0000010", # 11 hit 0x300010
+    "1 fence x0 2",
+    "1 begin s load 0xffffffffc0000010", # 13 hit 0x300010
+
+    # x0 for the ASID: entries of every space, global ones too.
+    "1 fence 0xffffffffc0000000 x0",
+    "1 begin s load 0xffffffffc0000010", # 15 more
+    "1 load",
+    "1 load",
+    "1 load", # 18 trap 13 Invalid
+
+    # A hart's own fences are no acknowledgement: for the sender nothing has happened yet.
+    "0 ackself 0", # 19 waiting 1
+    "0 finish 0",  # 20 refused NotDone
+]
+"##,
+    lines: r"1 table 0x80003
+2 leaf
+3 more
+4 more
+5 more
+6 fill 0x300010
+7 ok
+8 hit 0x300010
+9 opened 0
+10 ok
+11 hit 0x300010
+12 ok
+13 hit 0x300010
+14 ok
+15 more
+16 more
+17 more
+18 trap 13 Invalid
+19 waiting 1
+20 refused NotDone
+",
+};
+
+const SPACE_FLUSH_GLOBAL: Example = Example {
+    name: "space-flush-global",
+    file: r##"# A kernel page unmapped, and the address space flushed in place of the page.
+#
+#     ./svsim run examples/space-flush-global.toml
+#
+# In real kernels: memory of the kernel that is mapped page by page (vmalloc, the text of a module, a compiled filter)
+# is unmapped and freed. What has to follow is a flush of that range for every ASID on every processor: Linux's vfree
+# ends in flush_tlb_kernel_range. A flush of the current process (flush_tlb_mm) asks for one ASID, and what is global
+# stays. The next module's data is then read through the entry of the last one's.
+#
+# Here: hart 1 holds a page of its process and one of the kernel. The kernel's is unmapped, but what is posted is a
+# flush of space 0. It is served, acknowledged and done; line 19 shows that the process's entry went, and line 18 that
+# the kernel's did not. The order for the kernel page, ticket 0, is not done, and its ticket can't be finished (line
+# 23).
+
+harts = 2
+
+steps = [
+    # A kernel page, and a user page of 2 MiB in space 0.
+    "0 map k 4K:0xffffffffc0001000 0x300 rwgad",
+    "0 map k 4K:0xffffffffc0001000 0x300 rwgad",
+    "0 map 0 2M:0x400000 0x200 ruad",
+    "0 map 0 2M:0x400000 0x200 ruad",
+
+    # Hart 1 fills both.
+    "1 begin s load 0xffffffffc0001000",
+    "1 load",
+    "1 load",
+    "1 load", # 8 fill 0x300000
+    "1 begin u load 0x400000",
+    "1 load",
+    "1 load", # 11 fill 0x200000
+
+    # The kernel page goes, ticket 0. The bug: hart 1 is asked to flush the space, ticket 1.
+    "0 unmap k 4K:0xffffffffc0001000 0,1",
+    "0 flush 0 0,1",
+    "0 post 1 1",
+    "1 take 0", # 15 taken 1 asid 1
+    "1 servefence",
+    "1 ack",
+    "1 begin s load 0xffffffffc0001000", # 18 hit 0x300000
+    "1 begin u load 0x400000",           # 19 more
+
+    # The flush is done, and the page's order has not begun.
+    "0 collect 1 1",
+    "0 ackself 1", # 21 done
+    "0 finish 1",
+    "0 finish 0", # 23 refused NotDone
+]
+"##,
+    lines: r"1 table 0x80002
+2 leaf
+3 table 0x80003
+4 leaf
+5 more
+6 more
+7 more
+8 fill 0x300000
+9 more
+10 more
+11 fill 0x200000
+12 opened 0
+13 opened 1
+14 ok
+15 taken 1 asid 1
+16 ok
+17 ok
+18 hit 0x300000
+19 more
+20 waiting 0
+21 done
+22 ok
+23 refused NotDone
+",
+};
+
+#[test]
+fn page_examples_print_their_lines(rt: HostRuntime) -> Result<(), Fail> {
+    for example in [
+        RANGE_FIRST_PAGE,
+        SUPERPAGE_SPLIT,
+        GLOBAL_PAGE_ASID_FENCE,
+        SPACE_FLUSH_GLOBAL,
+    ] {
+        let printed = ends(rt.alloc(), example.file, 0, example.lines, "");
+        assert!(rt; printed, "{}", example.name);
+    }
+    Ok(())
+}

@@ -1,0 +1,5 @@
+use Rattle.scenario.proofs.EachLemmas.{EventsSoFar}
+use Rattle.scenario.proofs.run_scenario.events.Given as goal
+
+abbrev pub invariant-loop-index : goal.invariant-loop-index
+invariant-loop-index l = EventsSoFar l.harts l.texts l.index l.events.items

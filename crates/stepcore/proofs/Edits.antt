@@ -1,0 +1,118 @@
+-- The store of an edit leaves the words and the used frames that its event asks for.
+use Rattle.std.proofs.Common.{◌≡◌, ℕ, true, false, ◌||◌, Ok, refl, ap, sym, ◌∙◌}
+use Rattle.std.specs.Prelude.{slice_index, slice_set, is_some}
+use Rattle.pte.specs.Address.{Span, IsPage}
+use Rattle.pte.specs.declared.address.What.{What}
+use Rattle.pte.specs.Entry.{kind_of}
+use Rattle.pte.specs.declared.entry.Kind.{Kind}
+use Rattle.pte.specs.declared.entry.Kind.TheVariants as kinds
+use Rattle.pte.specs.declared.flags.PteFlags.{PteFlags}
+use Rattle.walk.specs.Pointers.{pointed_kind}
+use Rattle.spaces.specs.declared.places.Place.{Place}
+use Rattle.spaces.specs.declared.wishes.Wish.{Wish}
+use Rattle.spaces.specs.declared.wishes.Wish.TheVariants as wish
+use Rattle.spaces.specs.Layout.{HasPlace}
+use Rattle.spaces.specs.Held.{Held, IsMemory, words_of, spare_of}
+use Rattle.spaces.specs.Edits.{Store, place_of, page_of}
+use Rattle.spaces.specs.Accepted.{Accepted}
+use Rattle.spaces.specs.Applied.{used_by_all, words_after}
+use Rattle.spaces.proofs.EditLaws.{edit-accepted}
+use Rattle.history.specs.declared.event.Event.TheVariants.{Map, Unmap, Protect}
+use Rattle.history.specs.declared.reply.Reply.TheVariants as reply
+use Rattle.history.specs.Turns.{is_table, is_leaf}
+use Rattle.shoot.specs.Tickets.{after_open}
+use Rattle.history.specs.Orders.{page_request}
+use Rattle.history.specs.Tables.{with_store}
+use Rattle.history.specs.Due.{stored_reply}
+use Rattle.laws.proofs.TreeKept.{used_same, removed_unpointed, changed_unpointed}
+use Rattle.stepcore.specs.State.{State, setup_in, tickets_at, words_in, used_in}
+use Rattle.stepcore.specs.Answers.{edit_in}
+use Rattle.stepcore.specs.Changes.{Follows}
+
+-- the reply of a store
+stored : (k : Kind) → (is_table (stored_reply k) || is_leaf (stored_reply k)) ≡ true
+stored (kinds.Table ppn global) = refl
+stored kinds.Invalid = refl
+stored kinds.Reserved = refl
+stored (kinds.Leaf ppn flags) = refl
+
+told : (k : Kind) → is_table (stored_reply k) ≡ is_some (pointed_kind k)
+told (kinds.Table ppn global) = refl
+told kinds.Invalid = refl
+told kinds.Reserved = refl
+told (kinds.Leaf ppn flags) = refl
+
+-- the memory after a store that is due
+pub record IsStored (m : State) (now : Held) (hart : ℕ) (w : Wish) (store : Store) : Type 0 where
+  pub memory : IsMemory m.memory
+  pub has : HasPlace m.memory.layout (place_of w)
+  pub page : IsPage (page_of w)
+  pub is : edit_in m hart w ≡ Ok store
+  pub layout : now.layout ≡ m.memory.layout
+  pub words : (ppn i : ℕ) → words_of now ppn i ≡ words_after (words_of m.memory) store ppn i
+  pub used : (h : ℕ) → slice_index now.used h ≡ used_by_all (λ k. slice_index m.memory.used k) store h
+
+module _ (m : State) (now : Held) (hart : ℕ) where
+  accepted : (w : Wish) (store : Store) → IsStored m now hart w store → Accepted m.memory.layout (words_of m.memory) (spare_of m.memory hart) hart w store
+  accepted w store is =
+      edit-accepted m.memory.layout (words_of m.memory) (used_in m) hart w store
+      (record { layout = is.memory.layout; tree = is.memory.tree; has = is.has; page = is.page; is = is.is })
+
+  -- the words after it, as its event has them
+  words : (w : Wish) (store : Store) → IsStored m now hart w store → (ppn i : ℕ) → words_of now ppn i ≡ with_store (words_in m) (edit_in m hart w) ppn i
+  words w store is ppn i = rw is.is (is.words ppn i)
+
+module _ (m new : State) (hart : ℕ) (others : new ≡ record m { memory = new.memory }) where
+  pub map_follows : (place : Place) (page : Span) (ppn : ℕ) (flags : PteFlags) (store : Store) → IsStored m new.memory hart (wish.Map place page ppn flags) store
+      → Follows m (Map hart place page ppn flags) (stored_reply (kind_of store.word)) new
+  map_follows place page ppn flags store is = record {
+    layout = is.layout;
+    asids = ap (λ (s : State). s.asids) others;
+    words = λ p i. rw (stored (kind_of store.word)) (words m new.memory hart (wish.Map place page ppn flags) store is p i);
+    used = λ h. is.used h
+        ∙ used_same (used_in m) store hart h (is_table (stored_reply (kind_of store.word)))
+        (accepted m new.memory hart (wish.Map place page ppn flags) store is).by (told (kind_of store.word));
+    harts = ap (λ (s : State). s.harts) others;
+    tickets = ap (λ (s : State). s.tickets) others;
+    mailboxes = ap (λ (s : State). s.mailboxes) others;
+  }
+
+-- a store, and a ticket that is opened for its page
+module _ (m mid new : State) (hart named t : ℕ) (place : Place) (page : Span) (what : What)
+    (others : mid ≡ record m { memory = mid.memory })
+    (opens : new ≡ record mid { tickets = slice_set mid.tickets hart (after_open (tickets_at mid hart) what named) })
+    (asks : what ≡ page_request (setup_in m) place page) where
+  tickets : new.tickets ≡ slice_set m.tickets hart (after_open (tickets_at m hart) (page_request (setup_in m) place page) named)
+  tickets =
+      ap (λ (s : State). s.tickets) opens
+      ∙ (ap (λ (s : State). slice_set s.tickets hart (after_open (tickets_at s hart) what named)) others
+      ∙ ap (λ (w : What). slice_set m.tickets hart (after_open (tickets_at m hart) w named)) asks)
+
+  pub unmap_follows : (store : Store) → IsStored m mid.memory hart (wish.Unmap place page) store → Follows m (Unmap hart place page named) (reply.Opened t) new
+  unmap_follows store is =
+      let edit = accepted m mid.memory hart (wish.Unmap place page) store is in
+      record {
+        layout = ap (λ (s : State). s.memory.layout) opens ∙ is.layout;
+        asids = ap (λ (s : State). s.asids) opens ∙ ap (λ (s : State). s.asids) others;
+        words = λ p i. ap (λ (s : State). words_in s p i) opens ∙ words m mid.memory hart (wish.Unmap place page) store is p i;
+        used = λ h. ap (λ (s : State). used_in s h) opens
+            ∙ (is.used h ∙ used_same (used_in m) store hart h false edit.by (sym (removed_unpointed _ _ _ _ place page edit.writes)));
+        harts = ap (λ (s : State). s.harts) opens ∙ ap (λ (s : State). s.harts) others;
+        tickets = tickets;
+        mailboxes = ap (λ (s : State). s.mailboxes) opens ∙ ap (λ (s : State). s.mailboxes) others;
+      }
+
+  pub protect_follows : (flags : PteFlags) (store : Store) → IsStored m mid.memory hart (wish.Protect place page flags) store
+      → Follows m (Protect hart place page flags named) (reply.Opened t) new
+  protect_follows flags store is =
+      let edit = accepted m mid.memory hart (wish.Protect place page flags) store is in
+      record {
+        layout = ap (λ (s : State). s.memory.layout) opens ∙ is.layout;
+        asids = ap (λ (s : State). s.asids) opens ∙ ap (λ (s : State). s.asids) others;
+        words = λ p i. ap (λ (s : State). words_in s p i) opens ∙ words m mid.memory hart (wish.Protect place page flags) store is p i;
+        used = λ h. ap (λ (s : State). used_in s h) opens
+            ∙ (is.used h ∙ used_same (used_in m) store hart h false edit.by (sym (changed_unpointed _ _ _ place page flags _ edit.writes)));
+        harts = ap (λ (s : State). s.harts) opens ∙ ap (λ (s : State). s.harts) others;
+        tickets = tickets;
+        mailboxes = ap (λ (s : State). s.mailboxes) opens ∙ ap (λ (s : State). s.mailboxes) others;
+      }

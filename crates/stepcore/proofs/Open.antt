@@ -1,0 +1,79 @@
+-- The opened machine stands at the empty history.
+use Rattle.std.proofs.Common.{◌≡◌, ℕ, zero, suc, ◌<◌, [], map, replicate, length, refl, sym, ◌∙◌, arith}
+use Rattle.std.specs.List.{range_with_len}
+use Rattle.std.specs.Prelude.{slice_index}
+use Rattle.std.proofs.lemmas.List.{get_or-replicate, length-replicate, length-map}
+use Rattle.std.proofs.lemmas.List.FromFn.{get_or-map-range_with_len, length-map-range_with_len}
+use Rattle.std.proofs.lemmas.List.Elements.{All-replicate}
+use Rattle.std.proofs.lemmas.Option.{unwrap_or-slice_get}
+use Rattle.spaces.specs.declared.configuration.Config.{Config}
+use Rattle.spaces.specs.Held.{words_of}
+use Rattle.spaces.specs.Layout.{layout_of}
+use Rattle.spaces.specs.Limits.{MeetsLimits, max_frames}
+use Rattle.spaces.specs.Opening.{opening}
+use Rattle.shoot.specs.Mailbox.{empty_mailbox}
+use Rattle.shoot.specs.Tickets.{no_tickets}
+use Rattle.history.specs.Setup.{setup_of}
+use Rattle.laws.specs.Kept.{IsSetup}
+use Rattle.stepcore.specs.State.{State, HartState, IsMachine, idle_hart, setup_in, hart_at, tickets_at, mailbox_at, mailbox_index}
+use Rattle.stepcore.specs.Stands.{Stands}
+
+-- what an opened machine has
+pub record IsOpened (c : Config) (m : State) : Type 0 where
+  pub meets : MeetsLimits max_frames c
+  pub layout : m.memory.layout ≡ layout_of c
+  pub words : (ppn i : ℕ) → words_of m.memory ppn i ≡ opening (layout_of c) ppn i
+  pub used : m.memory.used ≡ replicate (length c.spares.items) 0
+  pub asids : m.asids ≡ map (λ s. s.asid) c.spaces.items
+  pub harts : m.harts ≡ replicate c.harts idle_hart
+  pub tickets : m.tickets ≡ map no_tickets (range_with_len 0 c.harts)
+  pub mailboxes : m.mailboxes ≡ replicate 64 (empty_mailbox c.capacity)
+
+module _ (c : Config) (m : State) (is : IsOpened c m) where
+  hart : (h : ℕ) → h < c.harts → hart_at m h ≡ idle_hart
+  hart h less = rw is.harts (unwrap_or-slice_get (replicate c.harts idle_hart) h idle_hart ∙ get_or-replicate c.harts h idle_hart idle_hart less)
+
+  tickets : (h : ℕ) → h < c.harts → tickets_at m h ≡ no_tickets h
+  tickets h less =
+      rw is.tickets
+      (unwrap_or-slice_get (map no_tickets (range_with_len 0 c.harts)) h (no_tickets h) ∙ get_or-map-range_with_len no_tickets 0 c.harts h h (no_tickets h) less (omega arith))
+
+  mailbox : (s h : ℕ) → s < 8 → h < 8 → mailbox_at m s h ≡ empty_mailbox c.capacity
+  mailbox s h less less' =
+      rw is.mailboxes
+      (unwrap_or-slice_get (replicate 64 (empty_mailbox c.capacity)) (mailbox_index s h) (empty_mailbox 0)
+      ∙ get_or-replicate 64 (mailbox_index s h) (empty_mailbox c.capacity) (empty_mailbox 0) (omega (arith, less, less')))
+
+  same_setup : setup_in m ≡ setup_of c
+  same_setup = rw (mailbox 0 0 (omega arith) (omega arith), is.asids, is.layout, is.harts, length-replicate c.harts idle_hart) refl
+
+  used_none : (n h : ℕ) → slice_index (replicate n 0) h ≡ 0
+  used_none zero h = refl
+  used_none (suc n) zero = refl
+  used_none (suc n) (suc h) = used_none n h
+
+  pub opened : IsSetup (setup_of c) → Stands (setup_of c) m []
+  opened within = record {
+    lawful = tt;
+    pages = tt;
+    within = within;
+    setup = same_setup;
+    words = is.words;
+    used = λ h. rw is.used (used_none (length c.spares.items) h);
+    harts = λ h less. rw (hart h less) (record { space = refl; walk = tt; serving = refl; entries = refl });
+    tickets = tickets;
+    mailboxes = λ s h less less'. mailbox s h (omega (arith, less, is.meets.harts)) (omega (arith, less', is.meets.harts));
+  }
+
+  pub machine : IsMachine m
+  machine = record {
+    few = omega (arith, is.meets.harts, count);
+    tickets = rw (is.tickets, is.harts) (length-map-range_with_len no_tickets 0 c.harts ∙ sym (length-replicate c.harts idle_hart));
+    mailboxes = rw is.mailboxes (length-replicate 64 (empty_mailbox c.capacity));
+    asids = rw (is.asids, is.layout) (length-map c.spaces.items (λ s. s.asid) ∙ sym (length-map c.spaces.items (λ s. s.home)));
+    spaces = rw (is.harts, is.asids) (All-replicate (λ (h : HartState). h.space < length (map (λ s. s.asid) c.spaces.items)) c.harts idle_hart
+        (omega (arith, is.meets.some_space, length-map c.spaces.items (λ s. s.asid))));
+  }
+    where
+      count : length m.harts ≡ c.harts
+      count = rw is.harts (length-replicate c.harts idle_hart)

@@ -1,0 +1,99 @@
+-- An edit that is due replaces a word that is no pointer: the tables stay that pointers lead to, and a walk in flight stays on its path.
+use Rattle.std.proofs.Common.{◌≡◌, ℕ, ◌<◌, true, cond, ◌||◌, not, length, Option, Some, None, refl, ap, sym, ◌∙◌, subst, inl, inr}
+use Rattle.std.specs.Prelude.{Result, Ok}
+use Rattle.std.proofs.lemmas.Bool.{not-false, ltb-true}
+use Rattle.walk.specs.Leads.{Tables, PointsTo}
+use Rattle.walk.specs.Pointers.{pointed}
+use Rattle.walk.specs.Stage.{Stage}
+use Rattle.walk.specs.Stores.{KeepsPointers, stored}
+use Rattle.walk.proofs.Stored.{on_path_kept, pointers-kept, stored_agrees}
+use Rattle.spaces.specs.declared.faults.MapFault.{MapFault}
+use Rattle.spaces.specs.declared.places.Place.{Place}
+use Rattle.spaces.specs.declared.places.Place.TheVariants.{Space, Kernel}
+use Rattle.spaces.specs.declared.wishes.Wish.{Wish}
+use Rattle.spaces.specs.declared.wishes.Wish.TheVariants as wish
+use Rattle.spaces.specs.Layout.{HasPlace}
+use Rattle.spaces.specs.Held.{spare_after}
+use Rattle.spaces.specs.Edits.{Store, place_of}
+use Rattle.spaces.proofs.Accepting.{accepted}
+use Rattle.spaces.proofs.Keeping.{leaf-or-pointer}
+use Rattle.spaces.proofs.Leaves.{pointed-to}
+use Rattle.spaces.proofs.Trees.{pointed-zero}
+use Rattle.history.specs.Setup.{Setup}
+use Rattle.history.specs.declared.event.Event.{Event}
+use Rattle.history.specs.declared.event.Event.TheVariants.{Map, Unmap, Protect}
+use Rattle.history.specs.declared.refusal.Refusal.TheVariants.{NoHart, NoSpace}
+use Rattle.history.specs.declared.reply.Reply.{Reply}
+use Rattle.history.specs.Turns.{History, is_table, is_leaf, is_opened}
+use Rattle.history.specs.Tables.{words_of, used_spares, with_store}
+use Rattle.history.specs.Harts.{Walking}
+use Rattle.history.specs.Due.{is_place, edit_at, due, Lawful}
+use Rattle.history.specs.Runs.{with_turn}
+use Rattle.laws.specs.Kept.{HavePages, IsSetup}
+use Rattle.laws.proofs.Accepted.{passed, opened_accepted, edit_made}
+use Rattle.laws.proofs.Tools.{by_test}
+use Rattle.laws.proofs.TreeKept.{tree, map_with, opened_some, stored_accepted}
+use Rattle.stepcore.specs.Stands.{AreSameWalk}
+
+-- a walk stays what the history says where the pointers stay
+pub same_walk_kept : (old new : Tables) (root : ℕ) (stage : Option Stage) (walk : Option Walking) → KeepsPointers old new → AreSameWalk old root stage walk → AreSameWalk new root stage walk
+same_walk_kept old new root None None keeps same = same
+same_walk_kept old new root None (Some walk) keeps same = absurd same
+same_walk_kept old new root (Some stage) None keeps same = absurd same
+same_walk_kept old new root (Some stage) (Some walk) keeps same =
+    record { va = same.va; access = same.access; ctx = same.ctx; level = same.level; on = on_path_kept old new root stage keeps same.on }
+
+pub pointers_stay : (words : Tables) → KeepsPointers words words
+pointers_stay words = record { kept = λ t n next point. refl }
+
+module _ (C : Setup) (within : IsSetup C) where
+  has_place : (place : Place) → is_place C place ≡ true → HasPlace C.layout place
+  has_place (Space s) e = subst (λ n. s < n) within.homes (ltb-true s (length C.asids) e)
+  has_place Kernel e = tt
+
+  -- the store that is due
+  edit_keeps : (H : History) (hart : ℕ) (w : Wish) (store : Store) → Lawful C H → HavePages H → is_place C (place_of w) ≡ true → edit_at C H hart w ≡ Ok store
+      → KeepsPointers (words_of C H) (with_store (words_of C H) (edit_at C H hart w))
+  edit_keeps H hart w store l has there is =
+      let words = words_of C H in
+      let acc = accepted C.layout within.layout words (used_spares H) (tree C within.layout within.homes H l has) (spare_after C.layout hart (used_spares H hart)) hart w store
+      (has_place (place_of w) there) is in
+      let was : pointed (Some acc.old) ≡ None = elim (leaf-or-pointer C.layout within.layout hart (used_spares H hart) _ acc.old w store.word acc.writes) [
+        | inl leaf ↦ leaf.was
+        | inr pointer ↦ ap (λ word. pointed (Some word)) pointer.was ∙ pointed-zero
+      ] in
+      let none : (next : ℕ) → PointsTo (words store.ppn store.index) next → ⊥ = λ next point.
+      let bad : None ≡ Some next = sym was ∙ ap pointed (sym acc.word) ∙ pointed-to (words store.ppn store.index) next point in cc in
+      let keeps = pointers-kept words (stored words store.ppn store.index store.word) store.ppn store.index (stored_agrees words store.ppn store.index store.word) none in
+      subst (λ (answer : Result Store MapFault). KeepsPointers words (with_store words answer)) (sym is)
+      keeps
+
+  -- and each event with its reply
+  pub pointers_kept : (event : Event) (r : Reply) (H : History) → Lawful C H → HavePages H → r ≡ due C H event → KeepsPointers (words_of C H) (words_of C (with_turn event r H))
+  pointers_kept (Map hart place page ppn flags) r H l has d =
+      by_test (λ v. KeepsPointers (words_of C H) (cond v (with_store (words_of C H) (edit_at C H hart (wish.Map place page ppn flags))) (words_of C H))) (is_table r || is_leaf r)
+      (λ z. let a = stored_accepted r z in
+      let p = passed _ NoHart _ r (sym d) a in
+      let q = passed (not (is_place C place)) NoSpace _ r p.1 a in
+      let made = map_with (edit_at C H hart (wish.Map place page ppn flags)) r q.1 a in
+      edit_keeps H hart (wish.Map place page ppn flags) made.0 l has (not-false (is_place C place) q.0) made.1)
+      (λ _. pointers_stay (words_of C H))
+  pointers_kept (Unmap hart place page named) r H l has d =
+      by_test (λ v. KeepsPointers (words_of C H) (cond v (with_store (words_of C H) (edit_at C H hart (wish.Unmap place page))) (words_of C H))) (is_opened r)
+      (λ z. let t = opened_some r z in
+      let a = opened_accepted r t.0 t.1 in
+      let p = passed _ NoHart _ r (sym d) a in
+      let q = passed (not (is_place C place)) NoSpace _ r p.1 a in
+      let made = edit_made (edit_at C H hart (wish.Unmap place page)) _ r t.0 q.1 t.1 in
+      edit_keeps H hart (wish.Unmap place page) made.0 l has (not-false (is_place C place) q.0) made.1)
+      (λ _. pointers_stay (words_of C H))
+  pointers_kept (Protect hart place page flags named) r H l has d =
+      by_test (λ v. KeepsPointers (words_of C H) (cond v (with_store (words_of C H) (edit_at C H hart (wish.Protect place page flags))) (words_of C H))) (is_opened r)
+      (λ z. let t = opened_some r z in
+      let a = opened_accepted r t.0 t.1 in
+      let p = passed _ NoHart _ r (sym d) a in
+      let q = passed (not (is_place C place)) NoSpace _ r p.1 a in
+      let made = edit_made (edit_at C H hart (wish.Protect place page flags)) _ r t.0 q.1 t.1 in
+      edit_keeps H hart (wish.Protect place page flags) made.0 l has (not-false (is_place C place) q.0) made.1)
+      (λ _. pointers_stay (words_of C H))
+  pointers_kept event r H l has d = pointers_stay (words_of C H)

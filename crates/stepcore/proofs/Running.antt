@@ -1,0 +1,70 @@
+-- Runs, one answered event at a time, and what holds of a machine that stands at a history.
+use Rattle.std.proofs.Common.{◌≡◌, ℕ, ◌<◌, ◌≤◌, List, [], ◌∷◌, ◌++◌, length, Some, slice_get, refl, ap, sym, ◌∙◌, subst, arith}
+use Rattle.std.proofs.lemmas.List.{drop_all, drop-append-le}
+use Rattle.tlb.specs.declared.store.Entry.{Entry}
+use Rattle.shoot.specs.Mailbox.{MailboxState}
+use Rattle.history.specs.Setup.{Setup}
+use Rattle.history.specs.declared.event.Event.{Event}
+use Rattle.history.specs.declared.reply.Reply.{Reply}
+use Rattle.history.specs.Turns.{History}
+use Rattle.history.specs.Mailboxes.{accepted, taken, NoneAfterClose}
+use Rattle.history.specs.Runs.{with_turn}
+use Rattle.history.specs.Staleness.{Clear, Coherent}
+use Rattle.history.proofs.Mailboxes as mailboxes
+use Rattle.laws.proofs.Clearing.{clear}
+use Rattle.laws.proofs.Cohering.{coherent}
+use Rattle.laws.proofs.MapsKept.{stays_mapped, stays_unmapped, user_plain, window_shared}
+use Rattle.stepcore.specs.State.{State}
+use Rattle.stepcore.specs.Stands.{Stands}
+use Rattle.stepcore.specs.Runs.{with_turns, appended, waiting_in, entries_in}
+
+-- no reply, no turn; and one answered event more
+pub no_turns : (events : List Event) (H : History) → with_turns events [] H ≡ H
+no_turns [] H = refl
+no_turns (event ∷ events) H = refl
+
+pub turns_more : (events : List Event) (replies : List Reply) (event : Event) (r : Reply) (H : History) → slice_get events (length replies) ≡ Some event
+    → with_turns events (replies ++ r ∷ []) H ≡ with_turn event r (with_turns events replies H)
+turns_more [] [] event r H e = absurd cc
+turns_more [] (x ∷ replies) event r H e = absurd cc
+turns_more (y ∷ events) [] event r H e = let same : y ≡ event = cc in no_turns events (with_turn y r H) ∙ ap (λ z. with_turn z r H) same
+turns_more (y ∷ events) (x ∷ replies) event r H e = turns_more events replies event r (with_turn y x H) e
+
+-- what was appended to a list
+pub appended_none : {A : Type 0} (old : List A) → appended old old ≡ []
+appended_none old = drop_all (length old) old (omega arith)
+
+pub appended_is : {A : Type 0} (old new : List A) → appended old (old ++ new) ≡ new
+appended_is [] new = refl
+appended_is (x ∷ old) new = appended_is old new
+
+pub appended_more : {A : Type 0} (old now : List A) (x : A) → length old ≤ length now → appended old (now ++ x ∷ []) ≡ appended old now ++ x ∷ []
+appended_more old now x l = drop-append-le (length old) now (x ∷ []) l
+
+-- a run that made a turn more, by what was appended to the replies
+pub run_more : (events : List Event) (old now : List Reply) (event : Event) (r : Reply) (H : History) → length old ≤ length now
+    → slice_get events (length (appended old now)) ≡ Some event
+    → with_turns events (appended old (now ++ r ∷ [])) H ≡ with_turn event r (with_turns events (appended old now) H)
+run_more events old now event r H l e =
+    ap (λ (replies : List Reply). with_turns events replies H) (appended_more old now r l) ∙ turns_more events (appended old now) event r H e
+
+module _ (C : Setup) (m : State) (H : History) (st : Stands C m H) where
+  -- each mailbox keeps its order: what was accepted is what was taken, followed by what waits in the machine
+  pub mailbox_order : (s h : ℕ) → s < C.harts → h < C.harts → accepted C H s h ≡ taken H s h ++ waiting_in m s h
+  mailbox_order s h ls lh =
+      mailboxes.lawful_order C H st.lawful s h
+      ∙ ap (λ (mailbox : MailboxState). taken H s h ++ mailbox.waiting) (sym (st.mailboxes s h ls lh))
+
+  pub none_after_close : (s h : ℕ) → NoneAfterClose C H s h
+  none_after_close s h = mailboxes.none_after_close C H s h st.lawful
+
+  -- what the TLBs of the machine hold is clear and coherent
+  pub entries_clear : (k h : ℕ) → h < C.harts → Clear C H (entries_in m h) k h
+  entries_clear k h l =
+      subst (λ (entries : List Entry). Clear C H entries k h) (sym (st.harts h l).entries)
+      (clear C st.within.asids (stays_unmapped C st.within) (user_plain C st.within) H k h st.lawful st.pages)
+
+  pub entries_coherent : (k h : ℕ) → h < C.harts → Coherent C H (entries_in m h) k h
+  entries_coherent k h l =
+      subst (λ (entries : List Entry). Coherent C H entries k h) (sym (st.harts h l).entries)
+      (coherent C st.within.asids (user_plain C st.within) (stays_mapped C st.within) (window_shared C st.within) H k h st.lawful st.pages)

@@ -1,0 +1,174 @@
+-- What no event changes: how many harts there are, the capacity of each mailbox, and so the setup; and what every machine keeps.
+use Rattle.std.proofs.Common.{◌≡◌, ℕ, zero, suc, ◌<◌, Bool, true, false, cond, List, [], ◌∷◌, length, Option, Some, None, slice_get, refl, ap, sym, ◌∙◌, arith, ltb}
+use Rattle.std.specs.Prelude.{slice_set, unwrap_or, All}
+use Rattle.std.proofs.lemmas.Bool.{not-false, ltb-true, ltb-false}
+use Rattle.std.proofs.lemmas.List.{length-set, set_past}
+use Rattle.std.proofs.lemmas.List.Elements.{All-set}
+use Rattle.walk.specs.Leads.{Tables}
+use Rattle.walk.specs.Stage.{Stage}
+use Rattle.walk.specs.declared.walking.Progress.{Progress}
+use Rattle.walk.specs.declared.walking.Progress.TheVariants as progress
+use Rattle.spaces.specs.Layout.{Layout}
+use Rattle.shoot.specs.Request.{Message}
+use Rattle.shoot.specs.Mailbox.{MailboxState, empty_mailbox, with_message}
+use Rattle.shoot.specs.Tickets.{TicketTable}
+use Rattle.history.specs.Setup.{Setup}
+use Rattle.history.specs.declared.event.Event.{Event}
+use Rattle.history.specs.declared.event.Event.TheVariants.{Begin, Load, Unmap, Protect, Flush, Switch, Fence, Post, Take, ServeFence, Ack, AckSelf, Collect, Finish, Close}
+use Rattle.history.specs.declared.refusal.Refusal.TheVariants.{NoHart, NoSpace}
+use Rattle.history.specs.declared.reply.Reply.{Reply}
+use Rattle.history.specs.declared.reply.Reply.TheVariants as reply
+use Rattle.history.specs.Turns.{is_ok}
+use Rattle.history.specs.Due.{is_space}
+use Rattle.laws.proofs.Tools.{by_test}
+use Rattle.laws.proofs.Accepted.{passed, ok_accepted}
+use Rattle.stepcore.specs.declared.serving.Serving.{Serving as Service}
+use Rattle.stepcore.specs.State.{State, HartState, IsMachine, idle_hart, setup_in, hart_at, mailbox_at, mailbox_index, words_in}
+use Rattle.stepcore.specs.Answers.{reply_to, next_of, asid_in}
+use Rattle.stepcore.specs.Changes.{Follows, with_progress, with_load, with_taken, with_served, harts_after, tickets_after, acked_after, mailboxes_after}
+
+put_length : {A : Type 0} (xs : List A) (i : ℕ) (test : Bool) (x : A) → length (cond test (slice_set xs i x) xs) ≡ length xs
+put_length xs i true x = length-set xs i x
+put_length xs i false x = refl
+
+pub harts_length : (m : State) (event : Event) (r : Reply) → length (harts_after m event r) ≡ length m.harts
+harts_length m (Begin hart va access ctx) r = put_length m.harts hart _ _
+harts_length m (Load hart) r = put_length m.harts hart _ _
+harts_length m (Switch hart space) r = put_length m.harts hart _ _
+harts_length m (Fence hart rs1 rs2) r = put_length m.harts hart _ _
+harts_length m (Take hart from) r = put_length m.harts hart _ _
+harts_length m (ServeFence hart) r = put_length m.harts hart _ _
+harts_length m (Ack hart) r = put_length m.harts hart _ _
+harts_length m (AckSelf hart ticket) r = put_length m.harts hart _ _
+harts_length m _ r = refl
+
+acked_length : (m : State) (hart : ℕ) (test : Bool) (serving : Option Service) → length (acked_after m hart test serving) ≡ length m.tickets
+acked_length m hart test None = refl
+acked_length m hart test (Some serving) = put_length m.tickets serving.from test _
+
+pub tickets_length : (m : State) (event : Event) (r : Reply) → length (tickets_after m event r) ≡ length m.tickets
+tickets_length m (Unmap hart place page named) r = put_length m.tickets hart _ _
+tickets_length m (Protect hart place page flags named) r = put_length m.tickets hart _ _
+tickets_length m (Flush hart scope named) r = put_length m.tickets hart _ _
+tickets_length m (Post hart ticket to) r = put_length m.tickets hart _ _
+tickets_length m (Ack hart) r = acked_length m hart (is_ok r) (hart_at m hart).serving
+tickets_length m (AckSelf hart ticket) r = put_length m.tickets hart _ _
+tickets_length m (Collect hart ticket from) r = put_length m.tickets hart _ _
+tickets_length m (Finish hart ticket) r = put_length m.tickets hart _ _
+tickets_length m _ r = refl
+
+pub mailboxes_length : (m : State) (event : Event) (r : Reply) → length (mailboxes_after m event r) ≡ length m.mailboxes
+mailboxes_length m (Post hart ticket to) r = put_length m.mailboxes _ _ _
+mailboxes_length m (Take hart from) r = put_length m.mailboxes _ _ _
+mailboxes_length m (Collect hart ticket from) r = put_length m.mailboxes _ _ _
+mailboxes_length m (Close hart to) r = put_length m.mailboxes _ _ _
+mailboxes_length m _ r = refl
+
+-- the capacity of the mailbox at a place
+abbrev capacity_at : List MailboxState → ℕ → ℕ
+capacity_at xs i = (unwrap_or (slice_get xs i) (empty_mailbox 0)).capacity
+
+set_capacity : (xs : List MailboxState) (i j : ℕ) (v : MailboxState) → v.capacity ≡ capacity_at xs i → capacity_at (slice_set xs i v) j ≡ capacity_at xs j
+set_capacity [] i j v e = refl
+set_capacity (x ∷ xs) zero zero v e = e
+set_capacity (x ∷ xs) zero (suc j) v e = refl
+set_capacity (x ∷ xs) (suc i) zero v e = refl
+set_capacity (x ∷ xs) (suc i) (suc j) v e = set_capacity xs i j v e
+
+put_capacity : (xs : List MailboxState) (i j : ℕ) (test : Bool) (v : MailboxState) → v.capacity ≡ capacity_at xs i → capacity_at (cond test (slice_set xs i v) xs) j ≡ capacity_at xs j
+put_capacity xs i j true v e = set_capacity xs i j v e
+put_capacity xs i j false v e = refl
+
+posted_with : (accepted : Bool) (mailbox : MailboxState) (x : Message) → (cond accepted (with_message mailbox x) mailbox).capacity ≡ mailbox.capacity
+posted_with true mailbox x = refl
+posted_with false mailbox x = refl
+
+pub capacity_kept : (m : State) (event : Event) (r : Reply) (s h : ℕ) → (unwrap_or (slice_get (mailboxes_after m event r) (mailbox_index s h)) (empty_mailbox 0)).capacity ≡ (mailbox_at m s h).capacity
+capacity_kept m (Post hart ticket to) r s h = put_capacity m.mailboxes (mailbox_index hart to) (mailbox_index s h) _ _ (posted_with _ (mailbox_at m hart to) _)
+capacity_kept m (Take hart from) r s h = put_capacity m.mailboxes (mailbox_index from hart) (mailbox_index s h) _ _ refl
+capacity_kept m (Collect hart ticket from) r s h = put_capacity m.mailboxes (mailbox_index hart from) (mailbox_index s h) _ _ refl
+capacity_kept m (Close hart to) r s h = put_capacity m.mailboxes (mailbox_index hart to) (mailbox_index s h) _ _ refl
+capacity_kept m _ r s h = refl
+
+-- the setup stays
+abbrev setup_with : ℕ → ℕ → List ℕ → Layout → Setup
+setup_with harts capacity asids layout = record { harts = harts; capacity = capacity; asids = asids; layout = layout }
+
+pub setup_stays : (m n : State) (event : Event) (r : Reply) → Follows m event r n → setup_in n ≡ setup_in m
+setup_stays m n event r f =
+    let harts : length n.harts ≡ length m.harts = ap (λ (xs : List HartState). length xs) f.harts ∙ harts_length m event r in
+    let capacity : (mailbox_at n 0 0).capacity ≡ (mailbox_at m 0 0).capacity = ap (λ xs. capacity_at xs (mailbox_index 0 0)) f.mailboxes ∙ capacity_kept m event r 0 0 in
+    ap (λ k. setup_with k (mailbox_at n 0 0).capacity n.asids n.memory.layout) harts
+    ∙ ap (λ k. setup_with (length m.harts) k n.asids n.memory.layout) capacity
+    ∙ ap (λ xs. setup_with (length m.harts) (mailbox_at m 0 0).capacity xs n.memory.layout) f.asids
+    ∙ ap (setup_with (length m.harts) (mailbox_at m 0 0).capacity m.asids) f.layout
+
+-- each hart stays in a space that is there
+abbrev InSpace : ℕ → HartState → Type 0
+InSpace n hart = hart.space < n
+
+put_in_space : (n : ℕ) (xs : List HartState) (i : ℕ) (test : Bool) (x : HartState) → All (InSpace n) xs → (test ≡ true → i < length xs → InSpace n x) → All (InSpace n) (cond test (slice_set xs i x) xs)
+put_in_space n xs i test x all f =
+    by_test (λ v. All (InSpace n) (cond v (slice_set xs i x) xs)) test
+    (λ e. by_test (λ v. All (InSpace n) (slice_set xs i x)) (ltb i (length xs))
+    (λ l. All-set (InSpace n) xs i x (f e (ltb-true i (length xs) l)) all)
+    (λ l. rw (set_past xs i x (ltb-false i (length xs) l)) all))
+    (λ _. all)
+
+hart_in_space : (n : ℕ) (xs : List HartState) (i : ℕ) → All (InSpace n) xs → i < length xs → InSpace n (unwrap_or (slice_get xs i) idle_hart)
+hart_in_space n [] i all l = absurd (omega arith)
+hart_in_space n (x ∷ xs) zero all l = all 0 x (omega arith)
+hart_in_space n (x ∷ xs) (suc i) all l = hart_in_space n xs i (λ k d within. all (suc k) d (omega arith)) (omega arith)
+
+progress_space : (asid : ℕ) (p : Progress) (hart : HartState) → (with_progress asid p hart).space ≡ hart.space
+progress_space asid (progress.More next) hart = refl
+progress_space asid (progress.Found found) hart = refl
+progress_space asid (progress.Trap trap) hart = refl
+
+load_space : (words : Tables) (asid : ℕ) (walk : Option Stage) (hart : HartState) → (with_load words asid walk hart).space ≡ hart.space
+load_space words asid None hart = refl
+load_space words asid (Some walk) hart = progress_space asid (next_of words walk) hart
+
+taken_space : (from : ℕ) (r : Reply) (hart : HartState) → (with_taken from r hart).space ≡ hart.space
+taken_space from (reply.Taken request) hart = refl
+taken_space from _ hart = refl
+
+served_space : (serving : Option Service) (hart : HartState) → (with_served serving hart).space ≡ hart.space
+served_space None hart = refl
+served_space (Some serving) hart = refl
+
+-- a Switch that is accepted goes to a space that is there
+switch_space : (m : State) (hart space : ℕ) (r : Reply) → r ≡ reply_to m (Switch hart space) → is_ok r ≡ true → space < length m.asids
+switch_space m hart space r e z =
+    let a = ok_accepted r z in
+    let p = passed _ NoHart _ r (sym e) a in
+    ltb-true space (length m.asids) (not-false (is_space (setup_in m) space) (passed _ NoSpace _ r p.1 a).0)
+
+spaces_stay : (m : State) (event : Event) (r : Reply) → IsMachine m → r ≡ reply_to m event → All (InSpace (length m.asids)) (harts_after m event r)
+spaces_stay m (Begin hart va access ctx) r is e = put_in_space _ m.harts hart _ _ is.spaces (λ _ l. hart_in_space _ m.harts hart is.spaces l)
+spaces_stay m (Load hart) r is e =
+    put_in_space _ m.harts hart _ _ is.spaces (λ _ l.
+    rw (load_space (words_in m) (asid_in m (hart_at m hart)) (hart_at m hart).walk (hart_at m hart)) (hart_in_space _ m.harts hart is.spaces l))
+spaces_stay m (Switch hart space) r is e = put_in_space _ m.harts hart (is_ok r) _ is.spaces (λ z _. switch_space m hart space r e z)
+spaces_stay m (Fence hart rs1 rs2) r is e = put_in_space _ m.harts hart _ _ is.spaces (λ _ l. hart_in_space _ m.harts hart is.spaces l)
+spaces_stay m (Take hart from) r is e =
+    put_in_space _ m.harts hart _ _ is.spaces (λ _ l. rw (taken_space from r (hart_at m hart)) (hart_in_space _ m.harts hart is.spaces l))
+spaces_stay m (ServeFence hart) r is e =
+    put_in_space _ m.harts hart _ _ is.spaces (λ _ l. rw (served_space (hart_at m hart).serving (hart_at m hart)) (hart_in_space _ m.harts hart is.spaces l))
+spaces_stay m (Ack hart) r is e = put_in_space _ m.harts hart _ _ is.spaces (λ _ l. hart_in_space _ m.harts hart is.spaces l)
+spaces_stay m (AckSelf hart ticket) r is e = put_in_space _ m.harts hart _ _ is.spaces (λ _ l. hart_in_space _ m.harts hart is.spaces l)
+spaces_stay m _ r is e = is.spaces
+
+-- what every machine keeps, it keeps over an event
+pub machine_stays : (m n : State) (event : Event) (r : Reply) → IsMachine m → r ≡ reply_to m event → Follows m event r n → IsMachine n
+machine_stays m n event r is e f =
+    let harts : length n.harts ≡ length m.harts = ap (λ (xs : List HartState). length xs) f.harts ∙ harts_length m event r in
+    let tickets : length n.tickets ≡ length m.tickets = ap (λ (xs : List TicketTable). length xs) f.tickets ∙ tickets_length m event r in
+    let mailboxes : length n.mailboxes ≡ length m.mailboxes = ap (λ (xs : List MailboxState). length xs) f.mailboxes ∙ mailboxes_length m event r in
+    record {
+      few = rw harts is.few;
+      tickets = tickets ∙ is.tickets ∙ sym harts;
+      mailboxes = mailboxes ∙ is.mailboxes;
+      asids = ap (λ (xs : List ℕ). length xs) f.asids ∙ is.asids ∙ ap (λ (l : Layout). length l.homes) (sym f.layout);
+      spaces = rw (f.asids, f.harts) (spaces_stay m event r is e);
+    }

@@ -1,0 +1,163 @@
+-- The replies to events on tickets: what a machine that stands at a history answers is what is due there.
+use Rattle.std.proofs.Common.{◌≡◌, ℕ, ◌<◌, Bool, true, false, cond, ◌&&◌, not, Option, Some, None, refl, ap, ◌∙◌, eqb}
+use Rattle.std.specs.Prelude.{is_some, Err}
+use Rattle.std.proofs.lemmas.Bool.{and_parts, not-false, ltb-true}
+use Rattle.walk.specs.Leads.{Tables}
+use Rattle.walk.specs.Stage.{Stage}
+use Rattle.shoot.specs.HartSet.{contains, harts_in}
+use Rattle.shoot.specs.Tickets.{TicketTable, ticket_at, is_open, names, opened, lowest_free, open_answer, with_change, with_acked, with_collected, changed, tells, progress_with, progress_at, after_collect}
+use Rattle.shoot.specs.declared.TheConstants.{MAX_TICKETS}
+use Rattle.shoot.specs.declared.tickets.Ticket.{Ticket}
+use Rattle.shoot.specs.declared.tickets.TicketFault.TheVariants as ticket_fault
+use Rattle.shoot.proofs.HartSets.{by_test}
+use Rattle.shoot.proofs.TicketLaws.{at_changed}
+use Rattle.history.specs.declared.event.Event.TheVariants.{Flush, AckSelf, Collect, Finish}
+use Rattle.history.specs.declared.event.Scope.{Scope}
+use Rattle.history.specs.declared.refusal.Refusal.{Refusal}
+use Rattle.history.specs.declared.refusal.Refusal.TheVariants.{NoHart, NoSpace, HomeNotNamed, NotOpen, NotNamed, Walking, NotDone}
+use Rattle.history.specs.declared.reply.Reply.{Reply}
+use Rattle.history.specs.declared.reply.Reply.TheVariants as reply
+use Rattle.history.specs.Setup.{Setup}
+use Rattle.history.specs.Turns.{History}
+use Rattle.history.specs.Orders.{open_order, order_at}
+use Rattle.history.specs.Harts.{Walking as Walk, walk_of}
+use Rattle.history.specs.Due.{refuse, is_hart, are_pair, are_harts, is_scope, least_free, opened_reply, open_reply, left_after, left_reply, ack_self_reply, collect_reply, finish_reply, due, Lawful}
+use Rattle.history.specs.Due as due_tests
+use Rattle.history.specs.Runs.{with_turn}
+use Rattle.stepcore.specs.State.{State, HartState, setup_in, hart_at}
+use Rattle.stepcore.specs.Answers.{opening_answer, open_in, progress_reply, acked_by, ack_self_answer, collect_answer, finish_answer, reply_to}
+use Rattle.stepcore.specs.Stands.{AreSameWalk, tickets_of, Stands}
+use Rattle.stepcore.proofs.TicketsHeld.{ticket_for, OpenHere, open_here, open_told, names_told, free_told, done_told, left_of, uncollected_told, progress_told}
+use Rattle.stepcore.proofs.TicketMarks.{own_mark, collected_mark}
+
+-- ---- refusals
+
+refused_same : (test : Bool) (why : Refusal) (rest rest' : Reply) → (test ≡ false → rest ≡ rest') → refuse test why rest ≡ refuse test why rest'
+refused_same true why rest rest' f = refl
+refused_same false why rest rest' f = f refl
+
+hart_in : (C : Setup) (h : ℕ) → not (is_hart C h) ≡ false → h < C.harts
+hart_in C h e = ltb-true h C.harts (not-false (is_hart C h) e)
+
+named_in : (C : Setup) (h named : ℕ) → not (is_hart C h && are_harts C named) ≡ false → h < C.harts
+named_in C h named e = ltb-true h C.harts (and_parts (is_hart C h) (are_harts C named) (not-false (is_hart C h && are_harts C named) e)).0
+
+pair_in : (C : Setup) (a b : ℕ) → not (are_pair C a b) ≡ false → a < C.harts
+pair_in C a b e = ltb-true a C.harts (and_parts (is_hart C a) (is_hart C b && not (eqb a b)) (not-false (are_pair C a b) e)).0
+
+-- the event is refused alike where the hart is not there
+hart_refused : (C : Setup) (m : State) (h : ℕ) (rest rest' : Reply) → setup_in m ≡ C → (h < C.harts → rest ≡ rest')
+    → refuse (not (is_hart (setup_in m) h)) NoHart rest ≡ refuse (not (is_hart C h)) NoHart rest'
+hart_refused C m h rest rest' e f =
+    ap (λ (S : Setup). refuse (not (is_hart S h)) NoHart rest) e ∙ refused_same (not (is_hart C h)) NoHart rest rest' (λ q. f (hart_in C h q))
+
+pair_refused : (C : Setup) (m : State) (a b : ℕ) (rest rest' : Reply) → setup_in m ≡ C → (a < C.harts → rest ≡ rest')
+    → refuse (not (are_pair (setup_in m) a b)) NoHart rest ≡ refuse (not (are_pair C a b)) NoHart rest'
+pair_refused C m a b rest rest' e f =
+    ap (λ (S : Setup). refuse (not (are_pair S a b)) NoHart rest) e ∙ refused_same (not (are_pair C a b)) NoHart rest rest' (λ q. f (pair_in C a b q))
+
+-- ---- an opening
+
+opened_same : (o : Option ℕ) → opening_answer (opened o) ≡ opened_reply o
+opened_same None = refl
+opened_same (Some n) = refl
+
+pub opening_told : (C : Setup) (H : History) (h named : ℕ) → Lawful C H → opening_answer (open_answer (tickets_of C H h) named) ≡ open_reply H h named
+opening_told C H h named l =
+    by_test (λ v. opening_answer (cond v (opened (lowest_free (tickets_of C H h))) (Err ticket_fault.HomeNotNamed)) ≡ refuse (not v) HomeNotNamed (opened_reply (least_free H h MAX_TICKETS 0)))
+    (contains (harts_in named) h)
+    (λ _. opened_same (lowest_free (tickets_of C H h)) ∙ ap opened_reply (free_told C H h l))
+    (λ _. refl)
+
+-- ---- acknowledging and collecting
+
+-- how far an open ticket is once it was changed to that of a history
+changed_progress : (C : Setup) (H G : History) (s t k : ℕ) (change : Ticket → Ticket) (o : OpenHere C H s t k) → order_at C G k ≡ Some o.order
+    → change (ticket_for C H k o.order) ≡ ticket_for C G k o.order
+    → progress_reply (progress_at (with_change (tickets_of C H s) t change) t) ≡ left_reply (left_of C G k)
+changed_progress C H G s t k change o is after =
+    let here : ticket_at (with_change (tickets_of C H s) t change) t ≡ Some (ticket_for C G k o.order) =
+    at_changed (tickets_of C H s) t change ∙ (ap (changed change) o.ticket ∙ ap Some after) in
+    ap (λ (x : Option Ticket). progress_reply (progress_with x)) here
+    ∙ (progress_told (ticket_for C G k o.order) ∙ ap left_reply (uncollected_told C G k o.order is))
+
+-- a hart is named by each of its open tickets
+pub own_named : (C : Setup) (H : History) (h t k : ℕ) → OpenHere C H h t k → names (tickets_of C H h) t h ≡ true
+own_named C H h t k o = ap (λ (x : Option Ticket). tells (λ ticket. ticket.named) x h) o.ticket ∙ o.names_sender
+
+pub own_acked : (C : Setup) (H : History) (h t k : ℕ) → OpenHere C H h t k → acked_by (tickets_of C H h) t h ≡ with_change (tickets_of C H h) t (with_acked h h)
+own_acked C H h t k o = ap (λ v. cond v (with_change (tickets_of C H h) t (with_acked h h)) (tickets_of C H h)) (own_named C H h t k o)
+
+own_progress : (C : Setup) (H : History) (h t k : ℕ) → Lawful C H → open_order H h t ≡ Some k
+    → progress_reply (progress_at (acked_by (tickets_of C H h) t h) t) ≡ left_reply (left_after C H (AckSelf h t) k)
+own_progress C H h t k l e =
+    let o = open_here C H h t k l e in
+    ap (λ (x : TicketTable). progress_reply (progress_at x t)) (own_acked C H h t k o)
+    ∙ changed_progress C H (with_turn (AckSelf h t) reply.Done H) h t k (with_acked h h) o o.is (own_mark C H h t k o.order reply.Done refl e)
+
+collect_progress : (C : Setup) (H : History) (h t from k : ℕ) → Lawful C H → open_order H h t ≡ Some k
+    → progress_reply (progress_at (after_collect (tickets_of C H h) t from) t) ≡ left_reply (left_after C H (Collect h t from) k)
+collect_progress C H h t from k l e =
+    let o = open_here C H h t k l e in
+    changed_progress C H (with_turn (Collect h t from) reply.Done H) h t k (with_collected from) o o.is (collected_mark C H h t from k o.order reply.Done refl e)
+
+-- a ticket that is not open is refused, and one that is open is answered by the rest
+unopened : (C : Setup) (H : History) (h t : ℕ) (o : Option ℕ) (rest : Reply) → Lawful C H → open_order H h t ≡ o
+    → refuse (not (is_open (tickets_of C H h) t)) NotOpen rest ≡ refuse (not (is_some o)) NotOpen rest
+unopened C H h t o rest l e = ap (λ v. refuse (not v) NotOpen rest) (open_told C H h t l ∙ ap is_some e)
+
+self_with : (C : Setup) (H : History) (hart : HartState) (h t : ℕ) (o : Option ℕ) → Lawful C H → is_some hart.walk ≡ is_some (walk_of H h) → open_order H h t ≡ o
+    → ack_self_answer hart (tickets_of C H h) t h ≡ ack_self_reply C H h t o
+self_with C H hart h t None l w e = unopened C H h t None _ l e
+self_with C H hart h t (Some k) l w e =
+    unopened C H h t (Some k) _ l e
+    ∙ (ap (λ v. refuse v Walking (progress_reply (progress_at (acked_by (tickets_of C H h) t h) t))) w
+    ∙ ap (λ (r : Reply). refuse (is_some (walk_of H h)) Walking r) (own_progress C H h t k l e))
+
+collect_with : (C : Setup) (H : History) (h t from : ℕ) (o : Option ℕ) → Lawful C H → open_order H h t ≡ o → collect_answer (tickets_of C H h) t from ≡ collect_reply C H h t from o
+collect_with C H h t from None l e = unopened C H h t None _ l e
+collect_with C H h t from (Some k) l e =
+    unopened C H h t (Some k) _ l e
+    ∙ (ap (λ v. refuse (not v) NotNamed (progress_reply (progress_at (after_collect (tickets_of C H h) t from) t))) (names_told C H h t k from l e)
+    ∙ ap (λ (r : Reply). refuse (not (due_tests.names (order_at C H k) from)) NotNamed r) (collect_progress C H h t from k l e))
+
+finish_with : (C : Setup) (H : History) (h t : ℕ) (o : Option ℕ) → Lawful C H → open_order H h t ≡ o → finish_answer (tickets_of C H h) t ≡ finish_reply C H o
+finish_with C H h t None l e = unopened C H h t None _ l e
+finish_with C H h t (Some k) l e =
+    unopened C H h t (Some k) _ l e ∙ ap (λ v. refuse (not v) NotDone reply.Ok) (done_told C H h t k l e)
+
+walks_same : (words : Tables) (root : ℕ) (stage : Option Stage) (walk : Option Walk) → AreSameWalk words root stage walk → is_some stage ≡ is_some walk
+walks_same words root None None same = refl
+walks_same words root None (Some walk) same = absurd same
+walks_same words root (Some stage) None same = absurd same
+walks_same words root (Some stage) (Some walk) same = refl
+
+-- ---- the replies of a machine that stands at a history
+
+module _ (C : Setup) (m : State) (H : History) (st : Stands C m H) where
+  pub open_due : (hart named : ℕ) → hart < C.harts → open_in m hart named ≡ open_reply H hart named
+  open_due hart named below = ap (λ (x : TicketTable). opening_answer (open_answer x named)) (st.tickets hart below) ∙ opening_told C H hart named st.lawful
+
+  pub flush_due : (hart : ℕ) (scope : Scope) (named : ℕ) → reply_to m (Flush hart scope named) ≡ due C H (Flush hart scope named)
+  flush_due hart scope named =
+      ap (λ (S : Setup). refuse (not (is_hart S hart && are_harts S named)) NoHart (refuse (not (is_scope S scope)) NoSpace (open_in m hart named))) st.setup
+      ∙ refused_same (not (is_hart C hart && are_harts C named)) NoHart _ _
+      (λ q. ap (λ (r : Reply). refuse (not (is_scope C scope)) NoSpace r) (open_due hart named (named_in C hart named q)))
+
+  pub ack_self_due : (hart ticket : ℕ) → reply_to m (AckSelf hart ticket) ≡ due C H (AckSelf hart ticket)
+  ack_self_due hart ticket =
+      hart_refused C m hart _ _ st.setup (λ below.
+      ap (λ (x : TicketTable). ack_self_answer (hart_at m hart) x ticket hart) (st.tickets hart below)
+      ∙ self_with C H (hart_at m hart) hart ticket (open_order H hart ticket) st.lawful (walks_same _ _ _ _ (st.harts hart below).walk) refl)
+
+  pub collect_due : (hart ticket from : ℕ) → reply_to m (Collect hart ticket from) ≡ due C H (Collect hart ticket from)
+  collect_due hart ticket from =
+      pair_refused C m hart from _ _ st.setup (λ below.
+      ap (λ (x : TicketTable). collect_answer x ticket from) (st.tickets hart below)
+      ∙ collect_with C H hart ticket from (open_order H hart ticket) st.lawful refl)
+
+  pub finish_due : (hart ticket : ℕ) → reply_to m (Finish hart ticket) ≡ due C H (Finish hart ticket)
+  finish_due hart ticket =
+      hart_refused C m hart _ _ st.setup (λ below.
+      ap (λ (x : TicketTable). finish_answer x ticket) (st.tickets hart below)
+      ∙ finish_with C H hart ticket (open_order H hart ticket) st.lawful refl)

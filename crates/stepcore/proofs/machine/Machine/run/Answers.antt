@@ -1,0 +1,70 @@
+use Rattle.std.proofs.Common.{◌≡◌, Some, slice_get, ◌+◌, ◌≤◌, List, ◌++◌, ◌∷◌, [], length, refl, ap, sym, subst, ◌∙◌, vec_len, arith, length-append}
+use Rattle.std.proofs.Math.Seq.{take-length}
+use Rattle.std.proofs.lemmas.Bool.{cond-true}
+use Rattle.std.proofs.lemmas.List.{take-append-le}
+use Rattle.std.proofs.lemmas.Option.{slice_get-get_or}
+use Rattle.std.specs.Vec.{vec_capacity}
+use Rattle.history.specs.Setup.{Setup}
+use Rattle.history.specs.Turns.{History}
+use Rattle.history.specs.declared.reply.Reply.{Reply}
+use Rattle.stepcore.specs.Stands.{Stands}
+use Rattle.stepcore.specs.Runs.{after_run, appended, with_turns}
+use Rattle.stepcore.proofs.Running.{appended_none, no_turns, run_more, appended_more, mailbox_order, none_after_close, entries_clear, entries_coherent}
+use Rattle.stepcore.proofs.machine.Machine.run.Goals as goal
+
+pub loop-event-init : goal.loop-event-init
+loop-event-init c =
+    let old = c.args.replies.now.items in
+    record {
+      more = omega arith;
+      kept = take-length old;
+      count = ap length (appended_none old);
+      stands = λ C H st. subst (Stands C c.args.self.now) (sym (ap (λ (rs : List Reply). with_turns c.args.events.now rs H) (appended_none old) ∙ no_turns c.args.events.now H)) st;
+    }
+
+pushed : (c : goal.After-push) → c.push.new.self.items ≡ c.loop-event.replies.items ++ c.step-reply.result ∷ []
+pushed c =
+    let room : vec_len c.reserve.new.self + 1 ≤ vec_capacity c.reserve.new.self = c.in_ok-reserve.ensures.ok in
+    c.push.ensures.items ∙ (cond-true _ _ _ (c.push.ensures.succeeds (omega arith)) ∙ rw c.in_ok-reserve.ensures.items refl)
+
+pub loop-event-preserved : goal.loop-event-preserved
+loop-event-preserved c =
+    let i = c.loop-event.invariant in
+    let old = c.args.replies.now.items in
+    let now = c.loop-event.replies.items in
+    record {
+      more = rw (pushed c) (omega (arith, i.more, length-append now (c.step-reply.result ∷ [])));
+      kept = rw (pushed c) (take-append-le (length old) now (c.step-reply.result ∷ []) i.more ∙ i.kept);
+      count = rw (pushed c, appended_more old now c.step-reply.result i.more) (omega (arith, i.count, length-append (appended old now) (c.step-reply.result ∷ [])));
+      stands = λ C H st.
+          let at : slice_get c.args.events.now (length (appended old now)) ≡ Some c.event-item.result = rw i.count (slice_get-get_or c.args.events.now c.loop-event.event-index c.event-item.result c.loop-event-test.true ∙ ap Some (sym c.event-item.is)) in
+          rw (pushed c, run_more c.args.events.now old now c.event-item.result c.step-reply.result H i.more at) (c.step-reply.ensures.stands C _ (i.stands C H st));
+    }
+
+stays : (c : goal.After-from_residual) (C : Setup) (H : History) → Stands C c.args.self.now H
+    → Stands C c.loop-event.self (after_run c.args.events.now c.args.replies.now.items c.reserve.new.self.items H)
+stays c C H st = rw c.in_err-reserve.ensures.items (c.loop-event.invariant.stands C H st)
+
+pub returns-in_err-reserve-clause-mailboxes : goal.returns-in_err-reserve-clause-mailboxes
+returns-in_err-reserve-clause-mailboxes c C H st = mailbox_order C _ _ (stays c C H st)
+
+pub returns-in_err-reserve-clause-closed : goal.returns-in_err-reserve-clause-closed
+returns-in_err-reserve-clause-closed c C H st = none_after_close C _ _ (stays c C H st)
+
+pub returns-in_err-reserve-clause-clear : goal.returns-in_err-reserve-clause-clear
+returns-in_err-reserve-clause-clear c C H st = entries_clear C _ _ (stays c C H st)
+
+pub returns-in_err-reserve-clause-coherent : goal.returns-in_err-reserve-clause-coherent
+returns-in_err-reserve-clause-coherent c C H st = entries_coherent C _ _ (stays c C H st)
+
+pub returns-clause-mailboxes : goal.returns-clause-mailboxes
+returns-clause-mailboxes c C H st = mailbox_order C _ _ (c.loop-event.invariant.stands C H st)
+
+pub returns-clause-closed : goal.returns-clause-closed
+returns-clause-closed c C H st = none_after_close C _ _ (c.loop-event.invariant.stands C H st)
+
+pub returns-clause-clear : goal.returns-clause-clear
+returns-clause-clear c C H st = entries_clear C _ _ (c.loop-event.invariant.stands C H st)
+
+pub returns-clause-coherent : goal.returns-clause-coherent
+returns-clause-coherent c C H st = entries_coherent C _ _ (c.loop-event.invariant.stands C H st)

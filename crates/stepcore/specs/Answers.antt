@@ -1,0 +1,175 @@
+-- What a machine answers to an event: the first refusal that applies, else what the event does.
+use Rattle.std.specs.Prelude.{ℕ, ◌&&◌, not, Option, Some, None, is_some, is_none, Result, Ok, Err, if◌then◌else◌, slice_index}
+use Rattle.pte.specs.declared.permission.Access.{Access}
+use Rattle.pte.specs.declared.permission.Ctx.{Ctx}
+use Rattle.walk.specs.declared.found_or_trap.Why.TheVariants.{NotCanonical}
+use Rattle.walk.specs.declared.walking.Progress.{Progress}
+use Rattle.walk.specs.declared.walking.Progress.TheVariants as progress
+use Rattle.walk.specs.Answer.{page_trap}
+use Rattle.walk.specs.Leads.{Tables, word_at}
+use Rattle.walk.specs.Stage.{Stage}
+use Rattle.walk.specs.Step.{load_of}
+use Rattle.spaces.specs.declared.wishes.Wish.{Wish}
+use Rattle.spaces.specs.declared.wishes.Wish.TheVariants as wish
+use Rattle.spaces.specs.declared.faults.MapFault.{MapFault}
+use Rattle.spaces.specs.Edits.{Store}
+use Rattle.tlb.specs.Entries.{first_match}
+use Rattle.tlb.specs.Fence.{is_canonical}
+use Rattle.shoot.specs.Request.{Message}
+use Rattle.shoot.specs.Mailbox.{MailboxState, post_fault, first_waiting}
+use Rattle.shoot.specs.Tickets.{TicketTable, is_open, names, is_posted, is_done_at, open_answer, progress_at, after_acked, after_collect}
+use Rattle.shoot.specs.declared.mailbox.PostFault.{PostFault}
+use Rattle.shoot.specs.declared.mailbox.PostFault.TheVariants as fault
+use Rattle.shoot.specs.declared.tickets.TicketFault.{TicketFault}
+use Rattle.shoot.specs.declared.tickets.TicketFault.TheVariants as ticket_fault
+use Rattle.shoot.specs.declared.tickets.Collected.{Collected}
+use Rattle.shoot.specs.declared.tickets.Collected.TheVariants as collected
+use Rattle.history.specs.declared.event.Event.{Event}
+use Rattle.history.specs.declared.event.Event.TheVariants.{Begin, Load, Map, Unmap, Protect, Flush, Switch, Fence, Post, Take, ServeFence, Ack, AckSelf, Collect, Finish, Close}
+use Rattle.history.specs.declared.refusal.Refusal.TheVariants.{NoHart, NoSpace, HomeNotNamed, NoTicket, NotOpen, NotNamed, AlreadyPosted, Closed, Full, Empty, Walking, NotWalking, Serving, NotServing, NotFenced, NotDone}
+use Rattle.history.specs.declared.reply.Reply.{Reply}
+use Rattle.history.specs.declared.reply.Reply.TheVariants as reply
+use Rattle.history.specs.Tables.{edit_due}
+use Rattle.history.specs.Due.{refuse, is_hart, are_pair, are_harts, is_space, is_place, is_scope, match_reply, map_reply, edit_reply}
+use Rattle.stepcore.specs.declared.serving.Serving.{Serving as Service}
+use Rattle.stepcore.specs.State.{State, HartState, setup_in, words_in, used_in, hart_at, tickets_at, mailbox_at}
+
+-- Begin: the TLB answers, or a walk begins
+abbrev pub asid_in : State → HartState → ℕ
+asid_in m hart = slice_index m.asids hart.space
+
+abbrev pub begin_answer : State → HartState → ℕ → Access → Ctx → Reply
+begin_answer m hart va access ctx =
+    refuse (is_some hart.walk) Walking
+    (refuse (is_some hart.serving) Serving
+    (if is_canonical va then match_reply va access ctx (first_match hart.entries (asid_in m hart) va)
+    else reply.Trap (page_trap access NotCanonical)))
+
+-- Load: what the word of now makes of the walk
+abbrev pub next_of : Tables → Stage → Progress
+next_of words walk = load_of walk (word_at words walk.va walk.level walk.table)
+
+abbrev pub progress_answer : Progress → Reply
+progress_answer (progress.More next) = reply.More
+progress_answer (progress.Found found) = reply.Filled found.pa
+progress_answer (progress.Trap trap) = reply.Trap trap
+
+abbrev pub load_answer : Tables → Option Stage → Reply
+load_answer words None = reply.Refused NotWalking
+load_answer words (Some walk) = progress_answer (next_of words walk)
+
+-- the store that is due for a wish
+abbrev pub edit_in : State → ℕ → Wish → Result Store MapFault
+edit_in m hart w = edit_due (setup_in m) (words_in m) (used_in m hart) hart w
+
+-- what opening a ticket of a hart is answered
+abbrev pub opening_answer : Result ℕ TicketFault → Reply
+opening_answer (Ok ticket) = reply.Opened ticket
+opening_answer (Err ticket_fault.HomeNotNamed) = reply.Refused HomeNotNamed
+opening_answer (Err ticket_fault.NoTicket) = reply.Refused NoTicket
+
+abbrev pub open_in : State → ℕ → ℕ → Reply
+open_in m hart named = opening_answer (open_answer (tickets_at m hart) named)
+
+-- Post
+abbrev pub box_answer : Option PostFault → Reply
+box_answer None = reply.Ok
+box_answer (Some fault.Closed) = reply.Refused Closed
+box_answer (Some fault.Full) = reply.Refused Full
+
+abbrev pub post_answer : TicketTable → MailboxState → ℕ → ℕ → Reply
+post_answer tickets mailbox ticket to =
+    refuse (not (is_open tickets ticket)) NotOpen
+    (refuse (not (names tickets ticket to)) NotNamed
+    (refuse (is_posted tickets ticket to) AlreadyPosted
+    (box_answer (post_fault mailbox))))
+
+-- Take: the first request that waits
+abbrev pub next_answer : Option Message → Reply
+next_answer None = reply.Refused Empty
+next_answer (Some request) = reply.Taken request
+
+abbrev pub take_answer : HartState → MailboxState → Reply
+take_answer hart mailbox =
+    refuse (is_some hart.walk) Walking (refuse (is_some hart.serving) Serving (next_answer (first_waiting mailbox)))
+
+-- ServeFence and Ack
+abbrev pub serve_fence_answer : HartState → Reply
+serve_fence_answer hart = refuse (is_some hart.walk) Walking (refuse (is_none hart.serving) NotServing reply.Ok)
+
+abbrev pub ack_answer : Option Service → Reply
+ack_answer None = reply.Refused NotServing
+ack_answer (Some serving) = refuse (not serving.fenced) NotFenced reply.Ok
+
+-- AckSelf and Collect: how far the ticket is once the event is done
+abbrev pub progress_reply : Collected → Reply
+progress_reply collected.Done = reply.Done
+progress_reply (collected.Waiting harts) = reply.Waiting harts
+
+-- the tickets once a hart acknowledged one, if it names the hart
+abbrev pub acked_by : TicketTable → ℕ → ℕ → TicketTable
+acked_by tickets ticket hart = if names tickets ticket hart then after_acked tickets ticket hart else tickets
+
+abbrev pub ack_self_answer : HartState → TicketTable → ℕ → ℕ → Reply
+ack_self_answer hart tickets ticket number =
+    refuse (not (is_open tickets ticket)) NotOpen
+    (refuse (is_some hart.walk) Walking
+    (progress_reply (progress_at (acked_by tickets ticket number) ticket)))
+
+abbrev pub collect_answer : TicketTable → ℕ → ℕ → Reply
+collect_answer tickets ticket from =
+    refuse (not (is_open tickets ticket)) NotOpen
+    (refuse (not (names tickets ticket from)) NotNamed
+    (progress_reply (progress_at (after_collect tickets ticket from) ticket)))
+
+-- Finish: each named hart is collected
+abbrev pub finish_answer : TicketTable → ℕ → Reply
+finish_answer tickets ticket = refuse (not (is_open tickets ticket)) NotOpen (refuse (not (is_done_at tickets ticket)) NotDone reply.Ok)
+
+-- what an event is answered: NoHart first, then the refusals of the event in order
+abbrev pub reply_to : State → Event → Reply
+reply_to m (Begin hart va access ctx) =
+    refuse (not (is_hart (setup_in m) hart)) NoHart (begin_answer m (hart_at m hart) va access ctx)
+reply_to m (Load hart) =
+    refuse (not (is_hart (setup_in m) hart)) NoHart (load_answer (words_in m) (hart_at m hart).walk)
+reply_to m (Map hart place page ppn flags) =
+    refuse (not (is_hart (setup_in m) hart)) NoHart
+    (refuse (not (is_place (setup_in m) place)) NoSpace
+    (map_reply (edit_in m hart (wish.Map place page ppn flags))))
+reply_to m (Unmap hart place page named) =
+    refuse (not (is_hart (setup_in m) hart && are_harts (setup_in m) named)) NoHart
+    (refuse (not (is_place (setup_in m) place)) NoSpace
+    (edit_reply (edit_in m hart (wish.Unmap place page)) (open_in m hart named)))
+reply_to m (Protect hart place page flags named) =
+    refuse (not (is_hart (setup_in m) hart && are_harts (setup_in m) named)) NoHart
+    (refuse (not (is_place (setup_in m) place)) NoSpace
+    (edit_reply (edit_in m hart (wish.Protect place page flags)) (open_in m hart named)))
+reply_to m (Flush hart scope named) =
+    refuse (not (is_hart (setup_in m) hart && are_harts (setup_in m) named)) NoHart
+    (refuse (not (is_scope (setup_in m) scope)) NoSpace
+    (open_in m hart named))
+reply_to m (Switch hart space) =
+    refuse (not (is_hart (setup_in m) hart)) NoHart
+    (refuse (not (is_space (setup_in m) space)) NoSpace
+    (refuse (is_some (hart_at m hart).walk) Walking
+    reply.Ok))
+reply_to m (Fence hart rs1 rs2) =
+    refuse (not (is_hart (setup_in m) hart)) NoHart
+    (refuse (is_some (hart_at m hart).walk) Walking
+    reply.Ok)
+reply_to m (Post hart ticket to) =
+    refuse (not (are_pair (setup_in m) hart to)) NoHart (post_answer (tickets_at m hart) (mailbox_at m hart to) ticket to)
+reply_to m (Take hart from) =
+    refuse (not (are_pair (setup_in m) hart from)) NoHart (take_answer (hart_at m hart) (mailbox_at m from hart))
+reply_to m (ServeFence hart) =
+    refuse (not (is_hart (setup_in m) hart)) NoHart (serve_fence_answer (hart_at m hart))
+reply_to m (Ack hart) =
+    refuse (not (is_hart (setup_in m) hart)) NoHart (ack_answer (hart_at m hart).serving)
+reply_to m (AckSelf hart ticket) =
+    refuse (not (is_hart (setup_in m) hart)) NoHart (ack_self_answer (hart_at m hart) (tickets_at m hart) ticket hart)
+reply_to m (Collect hart ticket from) =
+    refuse (not (are_pair (setup_in m) hart from)) NoHart (collect_answer (tickets_at m hart) ticket from)
+reply_to m (Finish hart ticket) =
+    refuse (not (is_hart (setup_in m) hart)) NoHart (finish_answer (tickets_at m hart) ticket)
+reply_to m (Close hart to) =
+    refuse (not (are_pair (setup_in m) hart to)) NoHart (refuse (mailbox_at m hart to).closed Closed reply.Ok)

@@ -1,0 +1,122 @@
+-- What an event and its reply leave of a machine, part by part.
+use Rattle.std.specs.Prelude.{ℕ, ◌≡◌, Bool, true, false, ◌&&◌, not, List, Option, Some, None, unwrap_or, slice_set, if◌then◌else◌}
+use Rattle.pte.specs.declared.address.What.{What}
+use Rattle.pte.specs.declared.address.What.TheVariants.{All}
+use Rattle.walk.specs.declared.walking.Progress.{Progress}
+use Rattle.walk.specs.declared.walking.Progress.TheVariants as progress
+use Rattle.walk.specs.Leads.{Tables}
+use Rattle.walk.specs.Stage.{Stage, start_of}
+use Rattle.spaces.specs.Layout.{root_ppn}
+use Rattle.tlb.specs.Entries.{filled}
+use Rattle.tlb.specs.Answer.{entry_of}
+use Rattle.tlb.specs.Fence.{fenced}
+use Rattle.tlb.specs.Service.{served}
+use Rattle.shoot.specs.Mailbox.{MailboxState, can_release, after_post, after_take, after_release, after_close}
+use Rattle.shoot.specs.Tickets.{TicketTable, is_acked, is_collected, what_at, after_open, after_posted, after_collect, after_finish}
+use Rattle.history.specs.declared.event.Event.{Event}
+use Rattle.history.specs.declared.event.Event.TheVariants.{Begin, Load, Unmap, Protect, Flush, Switch, Fence, Post, Take, ServeFence, Ack, AckSelf, Collect, Finish, Close}
+use Rattle.history.specs.declared.reply.Reply.{Reply}
+use Rattle.history.specs.declared.reply.Reply.TheVariants as reply
+use Rattle.history.specs.Turns.{is_ok, is_more, is_opened, is_taken, is_progress}
+use Rattle.history.specs.Orders.{page_request, scope_request}
+use Rattle.history.specs.Tables.{words_after, used_after}
+use Rattle.stepcore.specs.declared.serving.Serving.{Serving as Service}
+use Rattle.stepcore.specs.State.{State, HartState, setup_in, words_in, used_in, hart_at, tickets_at, mailbox_at, mailbox_index}
+use Rattle.stepcore.specs.Answers.{asid_in, next_of, acked_by}
+
+-- what a ticket asks
+abbrev pub what_in : TicketTable → ℕ → What
+what_in tickets ticket = unwrap_or (what_at tickets ticket) All
+
+-- a hart whose walk made a load
+abbrev pub with_progress : ℕ → Progress → HartState → HartState
+with_progress asid (progress.More next) hart = record hart { walk = Some next }
+with_progress asid (progress.Found found) hart = record hart { walk = None; entries = filled hart.entries (entry_of asid found) }
+with_progress asid (progress.Trap trap) hart = record hart { walk = None }
+
+abbrev pub with_load : Tables → ℕ → Option Stage → HartState → HartState
+with_load words asid None hart = hart
+with_load words asid (Some walk) hart = with_progress asid (next_of words walk) hart
+
+-- a hart that takes a request from another, and one that fences for what it serves
+abbrev pub with_taken : ℕ → Reply → HartState → HartState
+with_taken from (reply.Taken request) hart = record hart { serving = Some (record { from = from; request = request; fenced = false }) }
+with_taken from _ hart = hart
+
+abbrev pub with_served : Option Service → HartState → HartState
+with_served None hart = hart
+with_served (Some serving) hart =
+    record hart { serving = Some (record { from = serving.from; request = serving.request; fenced = true }); entries = served hart.entries serving.request.what }
+
+-- the reply is no refusal
+abbrev pub is_accepted : Reply → Bool
+is_accepted (reply.Refused refusal) = false
+is_accepted _ = true
+
+-- the harts: if the test holds, that of the number is this one
+abbrev pub put_hart : State → ℕ → Bool → HartState → List HartState
+put_hart m number test hart = if test then slice_set m.harts number hart else m.harts
+
+abbrev pub harts_after : State → Event → Reply → List HartState
+harts_after m (Begin hart va access ctx) reply =
+    put_hart m hart (is_more reply) (record (hart_at m hart) { walk = Some (start_of (root_ppn m.memory.layout (hart_at m hart).space) va access ctx) })
+harts_after m (Load hart) reply =
+    put_hart m hart (is_accepted reply) (with_load (words_in m) (asid_in m (hart_at m hart)) (hart_at m hart).walk (hart_at m hart))
+harts_after m (Switch hart space) reply = put_hart m hart (is_ok reply) (record (hart_at m hart) { space = space })
+harts_after m (Fence hart rs1 rs2) reply = put_hart m hart (is_ok reply) (record (hart_at m hart) { entries = fenced (hart_at m hart).entries rs1 rs2 })
+harts_after m (Take hart from) reply = put_hart m hart (is_taken reply) (with_taken from reply (hart_at m hart))
+harts_after m (ServeFence hart) reply = put_hart m hart (is_ok reply) (with_served (hart_at m hart).serving (hart_at m hart))
+harts_after m (Ack hart) reply = put_hart m hart (is_ok reply) (record (hart_at m hart) { serving = None })
+harts_after m (AckSelf hart ticket) reply =
+    put_hart m hart (is_progress reply) (record (hart_at m hart) { entries = served (hart_at m hart).entries (what_in (tickets_at m hart) ticket) })
+harts_after m _ reply = m.harts
+
+-- the tickets
+abbrev pub put_tickets : State → ℕ → Bool → TicketTable → List TicketTable
+put_tickets m hart test tickets = if test then slice_set m.tickets hart tickets else m.tickets
+
+abbrev pub acked_after : State → ℕ → Bool → Option Service → List TicketTable
+acked_after m hart test None = m.tickets
+acked_after m hart test (Some serving) = put_tickets m serving.from test (acked_by (tickets_at m serving.from) serving.request.ticket hart)
+
+abbrev pub tickets_after : State → Event → Reply → List TicketTable
+tickets_after m (Unmap hart place page named) reply =
+    put_tickets m hart (is_opened reply) (after_open (tickets_at m hart) (page_request (setup_in m) place page) named)
+tickets_after m (Protect hart place page flags named) reply =
+    put_tickets m hart (is_opened reply) (after_open (tickets_at m hart) (page_request (setup_in m) place page) named)
+tickets_after m (Flush hart scope named) reply =
+    put_tickets m hart (is_opened reply) (after_open (tickets_at m hart) (scope_request (setup_in m) scope) named)
+tickets_after m (Post hart ticket to) reply = put_tickets m hart (is_ok reply) (after_posted (tickets_at m hart) ticket to)
+tickets_after m (Ack hart) reply = acked_after m hart (is_ok reply) (hart_at m hart).serving
+tickets_after m (AckSelf hart ticket) reply = put_tickets m hart (is_progress reply) (acked_by (tickets_at m hart) ticket hart)
+tickets_after m (Collect hart ticket from) reply = put_tickets m hart (is_progress reply) (after_collect (tickets_at m hart) ticket from)
+tickets_after m (Finish hart ticket) reply = put_tickets m hart (is_ok reply) (after_finish (tickets_at m hart) ticket)
+tickets_after m _ reply = m.tickets
+
+-- the mailboxes
+abbrev pub put_mailbox : State → ℕ → ℕ → Bool → MailboxState → List MailboxState
+put_mailbox m sender receiver test mailbox = if test then slice_set m.mailboxes (mailbox_index sender receiver) mailbox else m.mailboxes
+
+-- the acknowledgement of a hart is there, and not collected yet
+abbrev pub is_collectable : TicketTable → ℕ → ℕ → Bool
+is_collectable tickets ticket from = is_acked tickets ticket from && not (is_collected tickets ticket from)
+
+abbrev pub mailboxes_after : State → Event → Reply → List MailboxState
+mailboxes_after m (Post hart ticket to) reply =
+    put_mailbox m hart to (is_ok reply) (after_post (mailbox_at m hart to) (record { ticket = ticket; what = what_in (tickets_at m hart) ticket }))
+mailboxes_after m (Take hart from) reply = put_mailbox m from hart (is_taken reply) (after_take (mailbox_at m from hart))
+mailboxes_after m (Collect hart ticket from) reply =
+    put_mailbox m hart from (is_progress reply && (is_collectable (tickets_at m hart) ticket from && can_release (mailbox_at m hart from)))
+    (after_release (mailbox_at m hart from))
+mailboxes_after m (Close hart to) reply = put_mailbox m hart to (is_ok reply) (after_close (mailbox_at m hart to))
+mailboxes_after m _ reply = m.mailboxes
+
+-- the machine is what the event and its reply leave of an older one
+pub record Follows (old : State) (event : Event) (reply : Reply) (new : State) : Type 0 where
+  pub layout : new.memory.layout ≡ old.memory.layout
+  pub asids : new.asids ≡ old.asids
+  pub words : (ppn i : ℕ) → words_in new ppn i ≡ words_after (setup_in old) event reply (words_in old) (used_in old) ppn i
+  pub used : (hart : ℕ) → used_in new hart ≡ used_after event reply hart (used_in old hart)
+  pub harts : new.harts ≡ harts_after old event reply
+  pub tickets : new.tickets ≡ tickets_after old event reply
+  pub mailboxes : new.mailboxes ≡ mailboxes_after old event reply

@@ -1,0 +1,5 @@
+pub mod State
+pub mod Answers
+pub mod Changes
+pub mod Stands
+pub mod Runs

@@ -1,0 +1,63 @@
+-- What contracts see of a machine: its table memory, and its harts, tickets and mailboxes by the numbers of the harts.
+use Rattle.std.specs.Prelude.{ℕ, ◌≡◌, ◌+◌, ◌*◌, ◌<◌, ◌≤◌, List, [], length, Option, None, slice_get, slice_index, unwrap_or, All}
+use Rattle.walk.specs.Leads.{Tables}
+use Rattle.walk.specs.Stage.{Stage}
+use Rattle.spaces.specs.Held.{Held, words_of}
+use Rattle.tlb.specs.declared.store.Entry.{Entry}
+use Rattle.shoot.specs.declared.TheConstants.{MAX_HARTS}
+use Rattle.shoot.specs.Mailbox.{MailboxState, empty_mailbox}
+use Rattle.shoot.specs.Tickets.{TicketTable, no_tickets}
+use Rattle.history.specs.Setup.{Setup}
+use Rattle.stepcore.specs.declared.serving.Serving.{Serving}
+
+-- a hart: its space, the walk in flight, the request that it serves, and the entries of its TLB
+pub record HartState : Type 0 where
+  pub space : ℕ
+  pub walk : Option Stage
+  pub serving : Option Serving
+  pub entries : List Entry
+
+-- the ASIDs stand by the numbers of the spaces
+pub record State : Type 0 where
+  pub memory : Held
+  pub asids : List ℕ
+  pub harts : List HartState
+  pub tickets : List TicketTable
+  pub mailboxes : List MailboxState
+
+-- the words of the tables, and how many spare frames of a hart are in use
+abbrev pub words_in : State → Tables
+words_in m = words_of m.memory
+
+abbrev pub used_in : State → ℕ → ℕ
+used_in m hart = slice_index m.memory.used hart
+
+-- a hart that was just opened
+abbrev pub idle_hart : HartState
+idle_hart = record { space = 0; walk = None; serving = None; entries = [] }
+
+-- the hart of a number, its tickets, and the mailbox from one hart to another
+abbrev pub hart_at : State → ℕ → HartState
+hart_at m hart = unwrap_or (slice_get m.harts hart) idle_hart
+
+abbrev pub tickets_at : State → ℕ → TicketTable
+tickets_at m hart = unwrap_or (slice_get m.tickets hart) (no_tickets hart)
+
+abbrev pub mailbox_index : ℕ → ℕ → ℕ
+mailbox_index sender receiver = MAX_HARTS * sender + receiver
+
+abbrev pub mailbox_at : State → ℕ → ℕ → MailboxState
+mailbox_at m sender receiver = unwrap_or (slice_get m.mailboxes (mailbox_index sender receiver)) (empty_mailbox 0)
+
+-- what the machine was opened with, as numbers; the mailboxes are all of one capacity
+abbrev pub setup_in : State → Setup
+setup_in m = record { harts = length m.harts; capacity = (mailbox_at m 0 0).capacity; asids = m.asids; layout = m.memory.layout }
+
+-- what every machine keeps: as many tables of tickets as harts, a mailbox for each pair of numbers, an ASID for each space,
+-- and each hart in a space that is there
+pub record IsMachine (m : State) : Type 0 where
+  pub few : length m.harts ≤ MAX_HARTS
+  pub tickets : length m.tickets ≡ length m.harts
+  pub mailboxes : length m.mailboxes ≡ MAX_HARTS * MAX_HARTS
+  pub asids : length m.asids ≡ length m.memory.layout.homes
+  pub spaces : All (λ hart. hart.space < length m.asids) m.harts

@@ -1,0 +1,60 @@
+//! One event of one hart.
+
+ghost use Rattle.std.specs.Prelude.{◌≡◌, false};
+ghost use Rattle.laws.specs.Kept.{HasPage};
+ghost use Rattle.stepcore.specs.Answers.{reply_to};
+ghost use Rattle.stepcore.specs.Changes.{Follows, is_accepted};
+
+use crate::machine::Machine;
+use history::{Event, Reply};
+
+impl Machine {
+    /// What the event asks, done or refused.
+    pub(crate) fn do_event(&mut self, event: Event) -> Reply
+        ensures reply { result ≡ reply_to self.old event }
+        ensures follows { Follows self.old event result self.new }
+        ensures refused { is_accepted result ≡ false → self.new ≡ self.old }
+        ensures pages { HasPage event }
+    {
+        match event {
+            Event::Begin {
+                hart,
+                va,
+                access,
+                ctx,
+            } => self.begin(hart, va, access, ctx),
+            Event::Load { hart } => self.load(hart),
+            Event::Map {
+                hart,
+                place,
+                page,
+                ppn,
+                flags,
+            } => self.map(hart, place, page, ppn, flags),
+            Event::Unmap {
+                hart,
+                place,
+                page,
+                named,
+            } => self.unmap(hart, place, page, named),
+            Event::Protect {
+                hart,
+                place,
+                page,
+                flags,
+                named,
+            } => self.protect(hart, place, page, flags, named),
+            Event::Flush { hart, scope, named } => self.flush(hart, scope, named),
+            Event::Switch { hart, space } => self.switch(hart, space),
+            Event::Fence { hart, rs1, rs2 } => self.fence(hart, rs1, rs2),
+            Event::Post { hart, ticket, to } => self.post(hart, ticket, to),
+            Event::Take { hart, from } => self.take(hart, from),
+            Event::ServeFence { hart } => self.serve_fence(hart),
+            Event::Ack { hart } => self.ack(hart),
+            Event::AckSelf { hart, ticket } => self.ack_self(hart, ticket),
+            Event::Collect { hart, ticket, from } => self.collect(hart, ticket, from),
+            Event::Finish { hart, ticket } => self.finish(hart, ticket),
+            Event::Close { hart, to } => self.close(hart, to),
+        }
+    }
+}

@@ -1,0 +1,170 @@
+//! A hart.
+
+ghost use Rattle.std.specs.Prelude.{◌≡◌, ◌↔◌, IsSome, IfSome, IfNone, Some, None, false, is_some};
+ghost use Rattle.tlb.specs.Entries.{first_match};
+ghost use Rattle.tlb.specs.Fence.{fenced};
+ghost use Rattle.tlb.specs.Mappings.{IsMappedBy, Translates};
+ghost use Rattle.tlb.specs.Service.{served};
+ghost use Rattle.history.specs.Due.{match_reply};
+ghost use Rattle.history.specs.Turns.{is_more};
+ghost use Rattle.history.specs.declared.reply.Reply.TheVariants.{More};
+ghost use Rattle.stepcore.specs.State.{idle_hart};
+ghost use Rattle.stepcore.specs.Changes.{with_progress, with_served};
+
+use crate::serving::Serving;
+use history::Reply;
+use pte::{Access, Ctx, VirtAddr, What};
+use shoot::Request;
+use std::marker::Model;
+use tlb::{Entry, Tlb};
+use walk::{Progress, Walk};
+
+/// A hart: the space that it runs in, the walk in flight, the request that it serves, and its TLB.
+#[derive(Drop)]
+pub(crate) struct Hart {
+    space: u8,
+    walk: Option<Walk>,
+    serving: Option<Serving>,
+    tlb: Tlb,
+}
+
+impl Model for Hart {
+    ghost use Rattle.stepcore.specs.State.{HartState};
+
+    ghost Value = { HartState };
+
+    ghost view = { λ h. record { space = h.space; walk = h.walk; serving = h.serving; entries = h.tlb } };
+}
+
+impl Hart {
+    /// A hart in space 0 that neither walks nor serves, with an empty TLB.
+    pub(crate) fn new() -> Hart
+        ensures { result ≡ idle_hart }
+    {
+        Hart {
+            space: 0,
+            walk: None,
+            serving: None,
+            tlb: Tlb::new(),
+        }
+    }
+
+    pub(crate) fn space(&self) -> u8
+        ensures { result ≡ self.now.space }
+    {
+        self.space
+    }
+
+    pub(crate) fn walk(&self) -> Option<Walk>
+        ensures { result ≡ self.now.walk }
+    {
+        self.walk
+    }
+
+    pub(crate) fn serving(&self) -> Option<Serving>
+        ensures { result ≡ self.now.serving }
+    {
+        self.serving
+    }
+
+    pub(crate) fn is_walking(&self) -> bool
+        ensures { result ≡ is_some self.now.walk }
+    {
+        self.walk.is_some()
+    }
+
+    pub(crate) fn is_serving(&self) -> bool
+        ensures { result ≡ is_some self.now.serving }
+    {
+        self.serving.is_some()
+    }
+
+    /// The oldest entry of the TLB that matches.
+    pub(crate) fn lookup(&self, asid: u16, va: VirtAddr) -> Option<Entry>
+        ensures oldest { result ≡ first_match self.now.entries asid va }
+        ensures translates { IsSome result ↔ Translates (IsMappedBy self.now.entries) asid va }
+    {
+        self.tlb.lookup(asid, va)
+    }
+
+    /// What the TLB answers to an access of an address, if an entry matches.
+    pub(crate) fn access(&self, asid: u16, va: VirtAddr, access: Access, ctx: Ctx) -> Option<Reply>
+        ensures answers { IfSome result (λ reply. match_reply va access ctx (first_match self.now.entries asid va) ≡ reply) }
+        ensures ends { IfSome result (λ reply. is_more reply ≡ false) }
+        ensures misses { IfNone result (match_reply va access ctx (first_match self.now.entries asid va) ≡ More) }
+    {
+        let entry = self.lookup(asid, va)?;
+        match entry.translate(va, access, ctx) {
+            Ok(pa) => Some(Reply::Hit(pa)),
+            Err(trap) => Some(Reply::Trap(trap)),
+        }
+    }
+
+    pub(crate) fn switch(&mut self, space: u8)
+        ensures { self.new ≡ record self.old { space = space } }
+    {
+        self.space = space;
+    }
+
+    pub(crate) fn begin(&mut self, walk: Walk)
+        ensures { self.new ≡ record self.old { walk = Some walk } }
+    {
+        self.walk = Some(walk);
+    }
+
+    /// Goes on as a load of the walk says: what it found goes into the TLB, for an ASID.
+    pub(crate) fn load(&mut self, asid: u16, progress: &Progress)
+        ensures { self.new ≡ with_progress asid progress.now self.old }
+    {
+        match progress {
+            Progress::More(walk) => self.walk = Some(*walk),
+            Progress::Found(found) => {
+                self.walk = None;
+                self.tlb.fill(Entry::found(asid, found));
+            }
+            Progress::Trap(_) => self.walk = None,
+        }
+    }
+
+    /// SFENCE.VMA (privileged manual 4.2.1).
+    pub(crate) fn fence(&mut self, rs1: Option<u64>, rs2: Option<u64>)
+        ensures { self.new ≡ record self.old { entries = fenced self.old.entries rs1 rs2 } }
+    {
+        self.tlb.fence(rs1, rs2);
+    }
+
+    /// Begins to serve a request.
+    pub(crate) fn take(&mut self, from: u8, request: Request)
+        ensures { self.new ≡ record self.old { serving = Some (record { from = from; request = request; fenced = false }) } }
+    {
+        self.serving = Some(Serving {
+            from,
+            request,
+            fenced: false,
+        });
+    }
+
+    /// Fences for the request that it serves, if any.
+    pub(crate) fn serve_fence(&mut self)
+        ensures { self.new ≡ with_served self.old.serving self.old }
+    {
+        if let Some(serving) = &mut self.serving {
+            serving.fenced = true;
+            self.tlb.serve(&serving.request.what);
+        }
+    }
+
+    /// Serves nothing more.
+    pub(crate) fn acknowledge(&mut self)
+        ensures { self.new ≡ record self.old { serving = None } }
+    {
+        self.serving = None;
+    }
+
+    /// Drops what a request asks to drop.
+    pub(crate) fn serve(&mut self, what: &What)
+        ensures { self.new ≡ record self.old { entries = served self.old.entries what.now } }
+    {
+        self.tlb.serve(what);
+    }
+}

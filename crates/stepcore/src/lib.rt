@@ -1,0 +1,21 @@
+//! The machine: table memory, and harts with their TLBs, walks, tickets and mailboxes, moved by one event at a time.
+#![tactic(auto)]
+
+mod accesses;
+mod editing;
+mod events;
+mod hart;
+mod machine;
+mod opening;
+mod runs;
+mod serving;
+mod shootdown;
+
+pub use history::{Event, Refusal, Reply, Scope};
+pub use machine::Machine;
+pub use serving::Serving;
+pub use shoot::Request;
+pub use spaces::{Config, OpenFault, Place, Space};
+
+#[cfg(test)]
+mod tests;

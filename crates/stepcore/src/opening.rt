@@ -1,0 +1,105 @@
+//! Opening a machine.
+
+ghost use Rattle.std.specs.Prelude.{◌≡◌, ◌↔◌, ◌<◌, ◌≤◌, ◌^◌, [], Err, IfOk, All, length, map, replicate};
+ghost use Rattle.std.specs.List.{range_with_len};
+ghost use Rattle.shoot.specs.Mailbox.{empty_mailbox};
+ghost use Rattle.shoot.specs.Tickets.{no_tickets};
+ghost use Rattle.spaces.specs.Limits.{MeetsLimits, max_frames, max_harts, max_capacity, max_spaces};
+ghost use Rattle.spaces.specs.declared.faults.OpenFault.TheVariants as fault;
+ghost use Rattle.tlb.specs.Fence.{asid_bits};
+ghost use Rattle.history.specs.Setup.{setup_of};
+ghost use Rattle.stepcore.specs.State.{idle_hart};
+ghost use Rattle.stepcore.specs.Stands.{Stands};
+
+use crate::hart::Hart;
+use crate::machine::Machine;
+use arrayvec::ArrayVec;
+use laws::limits_give_setup;
+use shoot::{MAX_HARTS, Mailbox, Tickets};
+use spaces::{Config, MAX_SPACES, Memory, OpenFault, Space};
+use std::alloc::{AllocError, Global};
+
+/// How many pairs of numbers of harts there are.
+const PAIRS: usize = MAX_HARTS * MAX_HARTS;
+
+/// The ASID of a space.
+fn asid_of(space: &Space) -> u16
+    ensures value { result ≡ space.now.asid }
+    ensures bits { space.now.asid < 2 ^ asid_bits }
+{
+    space.asid
+}
+
+/// The ASID of each space.
+fn asids_of(spaces: &[Space]) -> ArrayVec<u16, MAX_SPACES>
+    requires { length spaces.now ≤ max_spaces }
+    ensures asids { result.items ≡ map (λ s. s.asid) spaces.now }
+    ensures bits { All (λ s. s.asid < 2 ^ asid_bits) spaces.now }
+{
+    let mut asids = ArrayVec::new();
+    for space in spaces {
+        asids.push(asid_of(space));
+    }
+    asids
+}
+
+/// Harts that neither walk nor serve.
+fn idle_harts(alloc: Global, count: u8) -> Result<Vec<Hart>, AllocError>
+    ensures { IfOk result (λ harts. harts.items ≡ replicate count idle_hart) }
+{
+    let mut harts = Vec::with_capacity(alloc, usize::from(count))?;
+    for _ in 0..count {
+        harts.push(Hart::new())?;
+    }
+    Ok(harts)
+}
+
+/// The tickets of each hart, all of them free.
+fn free_tickets(alloc: Global, count: u8) -> Result<Vec<Tickets>, AllocError>
+    requires { count ≤ max_harts }
+    ensures { IfOk result (λ tickets. tickets.items ≡ map no_tickets (range_with_len 0 count)) }
+{
+    let mut tickets = Vec::with_capacity(alloc, usize::from(count))?;
+    for hart in 0..count {
+        tickets.push(Tickets::new(hart))?;
+    }
+    Ok(tickets)
+}
+
+/// A mailbox for each pair of numbers of harts.
+fn empty_mailboxes(alloc: Global, capacity: usize) -> Result<Vec<Mailbox>, AllocError>
+    requires some { 1 ≤ capacity }
+    requires bounded { capacity ≤ max_capacity }
+    ensures { IfOk result (λ mailboxes. mailboxes.items ≡ replicate 64 (empty_mailbox capacity)) }
+{
+    let mut mailboxes = Vec::with_capacity(alloc, PAIRS)?;
+    for _ in 0..PAIRS {
+        mailboxes.push(Mailbox::new(capacity))?;
+    }
+    Ok(mailboxes)
+}
+
+impl Machine {
+    /// The machine of a configuration, with all the room that it ever takes: harts in space 0 that neither walk nor serve,
+    /// empty TLBs and mailboxes, no open ticket, and nothing mapped. `BadLayout` exactly if `Config::check` says no,
+    /// `NoMemory` if the room cannot be allocated.
+    pub fn open(alloc: Global, config: &Config) -> Result<Machine, OpenFault>
+        ensures bad_layout { (result ≡ Err fault.BadLayout) ↔ (¬ MeetsLimits max_frames config.now) }
+        ensures ok { IfOk result (λ machine. Stands (setup_of config.now) machine []) }
+    {
+        let memory = Memory::open(alloc, config)?;
+        let asids = asids_of(&config.spaces);
+        let count = config.harts as u8;
+        let harts = idle_harts(alloc, count)?;
+        let tickets = free_tickets(alloc, count)?;
+        let mailboxes = empty_mailboxes(alloc, usize::from(config.capacity))?;
+        limits_give_setup();
+        Ok(Machine {
+            memory,
+            asids,
+            harts,
+            tickets,
+            mailboxes,
+        })
+    }
+}

@@ -1,0 +1,52 @@
+//! Steps and runs.
+
+ghost use Rattle.std.specs.Prelude.{◌≡◌, ◌≤◌, ◌↔◌, IsOk, false, length, take};
+ghost use Rattle.history.specs.Setup.{Setup};
+ghost use Rattle.history.specs.Turns.{History};
+ghost use Rattle.history.specs.Runs.{with_turn};
+ghost use Rattle.history.specs.Due.{due};
+ghost use Rattle.stepcore.specs.Changes.{is_accepted};
+ghost use Rattle.stepcore.specs.Runs.{after_run, appended, IsClear, IsCoherent, MailboxesKeepOrder, NothingAfterCloses};
+ghost use Rattle.stepcore.specs.Stands.{Stands};
+
+use crate::machine::Machine;
+use history::{Event, Reply};
+use std::alloc::AllocError;
+
+impl Machine {
+    /// Does one event of one hart, or refuses it. It takes no memory. The reply is the one that is due, and a refusal changes
+    /// nothing. For every history at which the machine stood, it stands at that history with this turn.
+    pub fn step(&mut self, event: Event) -> Reply
+        ensures stands { (C : Setup) (H : History) → Stands C self.old H → Stands C self.new (with_turn event result H) }
+        ensures due { (C : Setup) (H : History) → Stands C self.old H → result ≡ due C H event }
+        ensures refused { is_accepted result ≡ false → self.new ≡ self.old }
+        ensures mailboxes { (C : Setup) (H : History) → Stands C self.old H → MailboxesKeepOrder C (with_turn event result H) self.new }
+        ensures closed { (C : Setup) (H : History) → Stands C self.old H → NothingAfterCloses C (with_turn event result H) }
+        ensures clear { (C : Setup) (H : History) → Stands C self.old H → IsClear C (with_turn event result H) self.new }
+        ensures coherent { (C : Setup) (H : History) → Stands C self.old H → IsCoherent C (with_turn event result H) self.new }
+    {
+        // A machine tells here what every machine keeps.
+        let _memory = &self.memory;
+        self.do_event(event)
+    }
+
+    /// Does the events in order, and appends one reply an event. An error comes only if there is no memory for a reply: the
+    /// machine then has done the events whose replies were appended, and no other.
+    pub fn run(&mut self, events: &[Event], replies: &mut Vec<Reply>) -> Result<(), AllocError>
+        ensures kept { take (length replies.old.items) replies.new.items ≡ replies.old.items }
+        ensures all { IsOk result ↔ (length (appended replies.old.items replies.new.items) ≡ length events.now) }
+        ensures no_more { length (appended replies.old.items replies.new.items) ≤ length events.now }
+        ensures stands { (C : Setup) (H : History) → Stands C self.old H → Stands C self.new (after_run events.now replies.old.items replies.new.items H) }
+        ensures mailboxes { (C : Setup) (H : History) → Stands C self.old H → MailboxesKeepOrder C (after_run events.now replies.old.items replies.new.items H) self.new }
+        ensures closed { (C : Setup) (H : History) → Stands C self.old H → NothingAfterCloses C (after_run events.now replies.old.items replies.new.items H) }
+        ensures clear { (C : Setup) (H : History) → Stands C self.old H → IsClear C (after_run events.now replies.old.items replies.new.items H) self.new }
+        ensures coherent { (C : Setup) (H : History) → Stands C self.old H → IsCoherent C (after_run events.now replies.old.items replies.new.items H) self.new }
+    {
+        for event in events {
+            replies.reserve(1)?;
+            let reply = self.step(*event);
+            let _ = replies.push(reply);
+        }
+        Ok(())
+    }
+}

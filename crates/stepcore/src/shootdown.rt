@@ -1,0 +1,361 @@
+//! Shootdowns: requests that go from mailbox to mailbox, and the tickets that count the answers.
+
+ghost use Rattle.std.specs.Prelude.{◌≡◌, ◌<◌, ◌&&◌, false, true, length, IsTrue, IfOk, IfErr, slice_set, None};
+ghost use Rattle.shoot.specs.Mailbox.{can_release, after_post, after_take, after_release};
+ghost use Rattle.shoot.specs.Tickets.{is_open, names, progress_at, after_posted, after_collect};
+ghost use Rattle.tlb.specs.Service.{served};
+ghost use Rattle.history.specs.Turns.{is_progress};
+ghost use Rattle.history.specs.declared.event.Event.TheVariants.{Post, Take, ServeFence, Ack, AckSelf, Collect, Finish, Close};
+ghost use Rattle.history.specs.declared.reply.Reply.TheVariants as reply;
+ghost use Rattle.stepcore.specs.State.{hart_at, tickets_at, mailbox_at, mailbox_index};
+ghost use Rattle.stepcore.specs.Answers.{reply_to, progress_reply, acked_by};
+ghost use Rattle.stepcore.specs.Changes.{Follows, is_accepted, is_collectable, put_mailbox, what_in};
+
+use crate::machine::{Machine, mailbox_index};
+use crate::serving::Serving;
+use history::{Refusal, Reply};
+use pte::What;
+use shoot::{Collected, PostFault, Request, Tickets};
+
+/// How far a ticket is, as a reply.
+fn progress_reply(collected: Collected) -> Reply
+    ensures reply { result ≡ progress_reply collected }
+    ensures progress { is_progress result ≡ true }
+    ensures accepted { is_accepted result ≡ true }
+{
+    match collected {
+        Collected::Done => Reply::Done,
+        Collected::Waiting(harts) => Reply::Waiting(harts),
+    }
+}
+
+/// A hart acknowledges a ticket, if it is open and names the hart.
+fn acknowledge(tickets: &mut Tickets, ticket: u32, hart: u8)
+    ensures { tickets.new ≡ acked_by tickets.old ticket hart }
+{
+    if tickets.names(ticket, hart) {
+        tickets.acked(ticket, hart);
+    }
+}
+
+impl Machine {
+    /// An open ticket was posted to a hart that it names.
+    fn mark_posted(&mut self, hart: u8, ticket: u32, to: u8)
+        requires hart { hart < length self.old.harts }
+        requires names { IsTrue (names (tickets_at self.old hart) ticket to) }
+        ensures { self.new ≡ record self.old { tickets = slice_set self.old.tickets hart (after_posted (tickets_at self.old hart) ticket to) } }
+    {
+        let tickets = &mut self.tickets[usize::from(hart)];
+        tickets.posted(ticket, to);
+    }
+
+    /// Posts a request, where the mailbox takes it.
+    fn send(&mut self, sender: u8, receiver: u8, request: Request)
+        requires sender { sender < length self.old.harts }
+        requires receiver { receiver < length self.old.harts }
+        ensures { self.new ≡ record self.old { mailboxes = slice_set self.old.mailboxes (mailbox_index sender receiver) (after_post (mailbox_at self.old sender receiver) request) } }
+    {
+        let mailbox = &mut self.mailboxes[mailbox_index(sender, receiver)];
+        let _ = mailbox.post(request);
+    }
+
+    /// Takes the oldest request out of a mailbox.
+    fn drop_first(&mut self, sender: u8, receiver: u8)
+        requires sender { sender < length self.old.harts }
+        requires receiver { receiver < length self.old.harts }
+        ensures { self.new ≡ record self.old { mailboxes = slice_set self.old.mailboxes (mailbox_index sender receiver) (after_take (mailbox_at self.old sender receiver)) } }
+    {
+        let mailbox = &mut self.mailboxes[mailbox_index(sender, receiver)];
+        let _ = mailbox.take();
+    }
+
+    /// A hart serves nothing more.
+    fn end_service(&mut self, hart: u8)
+        requires { hart < length self.old.harts }
+        ensures { self.new ≡ record self.old { harts = slice_set self.old.harts hart (record (hart_at self.old hart) { serving = None }) } }
+    {
+        let this = &mut self.harts[usize::from(hart)];
+        this.acknowledge();
+    }
+
+    /// A hart acknowledges what it served, to the hart that posted it, if that hart is there.
+    fn acknowledge(&mut self, serving: Serving, hart: u8)
+        ensures { self.new ≡ record self.old { tickets = slice_set self.old.tickets serving.from (acked_by (tickets_at self.old serving.from) serving.request.ticket hart) } }
+    {
+        let sender = usize::from(serving.from);
+        if sender < self.tickets.len() {
+            acknowledge(&mut self.tickets[sender], serving.request.ticket, hart);
+        }
+    }
+
+    /// Makes room in a mailbox for one more request.
+    fn release(&mut self, sender: u8, receiver: u8)
+        requires sender { sender < length self.old.harts }
+        requires receiver { receiver < length self.old.harts }
+        requires taken { IsTrue (can_release (mailbox_at self.old sender receiver)) }
+        ensures { self.new ≡ record self.old { mailboxes = slice_set self.old.mailboxes (mailbox_index sender receiver) (after_release (mailbox_at self.old sender receiver)) } }
+    {
+        let mailbox = &mut self.mailboxes[mailbox_index(sender, receiver)];
+        mailbox.release();
+    }
+
+    /// The request of an open ticket that may be posted to another hart.
+    fn request_to(&self, hart: u8, ticket: u32, to: u8) -> Result<Request, Refusal>
+        ensures reply { IfOk result (λ request. reply_to self.now (Post hart ticket to) ≡ reply.Ok) }
+        ensures hart { IfOk result (λ request. hart < length self.now.harts) }
+        ensures to { IfOk result (λ request. to < length self.now.harts) }
+        ensures names { IfOk result (λ request. IsTrue (names (tickets_at self.now hart) ticket to)) }
+        ensures request { IfOk result (λ request. request ≡ record { ticket = ticket; what = what_in (tickets_at self.now hart) ticket }) }
+        ensures refused { IfErr result (λ refusal. reply_to self.now (Post hart ticket to) ≡ reply.Refused refusal) }
+    {
+        if !self.are_pair(hart, to) {
+            return Err(Refusal::NoHart);
+        }
+        let tickets = self.tickets(hart);
+        if !tickets.is_open(ticket) {
+            return Err(Refusal::NotOpen);
+        }
+        if !tickets.names(ticket, to) {
+            return Err(Refusal::NotNamed);
+        }
+        if tickets.is_posted(ticket, to) {
+            return Err(Refusal::AlreadyPosted);
+        }
+        match self.mailbox(hart, to).post_fault() {
+            None => Ok(Request {
+                ticket,
+                what: tickets.what(ticket),
+            }),
+            Some(PostFault::Closed) => Err(Refusal::Closed),
+            Some(PostFault::Full) => Err(Refusal::Full),
+        }
+    }
+
+    /// Puts the request of an open ticket into the mailbox to another hart.
+    pub(crate) fn post(&mut self, hart: u8, ticket: u32, to: u8) -> Reply
+        ensures reply { result ≡ reply_to self.old (Post hart ticket to) }
+        ensures follows { Follows self.old (Post hart ticket to) result self.new }
+        ensures refused { is_accepted result ≡ false → self.new ≡ self.old }
+    {
+        match self.request_to(hart, ticket, to) {
+            Ok(request) => {
+                self.mark_posted(hart, ticket, to);
+                self.send(hart, to, request);
+                Reply::Ok
+            }
+            Err(refusal) => Reply::Refused(refusal),
+        }
+    }
+
+    /// The request that a hart may take out of the mailbox from another hart.
+    fn request_from(&self, hart: u8, from: u8) -> Result<Request, Refusal>
+        ensures reply { IfOk result (λ request. reply_to self.now (Take hart from) ≡ reply.Taken request) }
+        ensures hart { IfOk result (λ request. hart < length self.now.harts) }
+        ensures from { IfOk result (λ request. from < length self.now.harts) }
+        ensures refused { IfErr result (λ refusal. reply_to self.now (Take hart from) ≡ reply.Refused refusal) }
+    {
+        if !self.are_pair(hart, from) {
+            return Err(Refusal::NoHart);
+        }
+        let this = self.hart(hart);
+        if this.is_walking() {
+            return Err(Refusal::Walking);
+        }
+        if this.is_serving() {
+            return Err(Refusal::Serving);
+        }
+        self.mailbox(from, hart)
+            .first_waiting()
+            .ok_or(Refusal::Empty)
+    }
+
+    /// Takes the oldest request out of the mailbox from another hart.
+    pub(crate) fn take(&mut self, hart: u8, from: u8) -> Reply
+        ensures reply { result ≡ reply_to self.old (Take hart from) }
+        ensures follows { Follows self.old (Take hart from) result self.new }
+        ensures refused { is_accepted result ≡ false → self.new ≡ self.old }
+    {
+        match self.request_from(hart, from) {
+            Ok(request) => {
+                let this = &mut self.harts[usize::from(hart)];
+                this.take(from, request);
+                self.drop_first(from, hart);
+                Reply::Taken(request)
+            }
+            Err(refusal) => Reply::Refused(refusal),
+        }
+    }
+
+    /// Fences the hart's TLB as the request asks that it serves.
+    pub(crate) fn serve_fence(&mut self, hart: u8) -> Reply
+        ensures reply { result ≡ reply_to self.old (ServeFence hart) }
+        ensures follows { Follows self.old (ServeFence hart) result self.new }
+        ensures refused { is_accepted result ≡ false → self.new ≡ self.old }
+    {
+        if !self.is_hart(hart) {
+            return Reply::Refused(Refusal::NoHart);
+        }
+        let this = self.hart(hart);
+        if this.is_walking() {
+            return Reply::Refused(Refusal::Walking);
+        }
+        if !this.is_serving() {
+            return Reply::Refused(Refusal::NotServing);
+        }
+        let this = &mut self.harts[usize::from(hart)];
+        this.serve_fence();
+        Reply::Ok
+    }
+
+    /// Acknowledges the request that the hart serves.
+    pub(crate) fn ack(&mut self, hart: u8) -> Reply
+        ensures reply { result ≡ reply_to self.old (Ack hart) }
+        ensures follows { Follows self.old (Ack hart) result self.new }
+        ensures refused { is_accepted result ≡ false → self.new ≡ self.old }
+    {
+        if !self.is_hart(hart) {
+            return Reply::Refused(Refusal::NoHart);
+        }
+        let Some(serving) = self.hart(hart).serving() else {
+            return Reply::Refused(Refusal::NotServing);
+        };
+        if !serving.fenced {
+            return Reply::Refused(Refusal::NotFenced);
+        }
+        self.end_service(hart);
+        self.acknowledge(serving, hart);
+        Reply::Ok
+    }
+
+    /// A hart drops what one of its own tickets asks to drop.
+    fn drop_own(&mut self, hart: u8, what: &What)
+        requires { hart < length self.old.harts }
+        ensures { self.new ≡ record self.old { harts = slice_set self.old.harts hart (record (hart_at self.old hart) { entries = served (hart_at self.old hart).entries what.now }) } }
+    {
+        let this = &mut self.harts[usize::from(hart)];
+        this.serve(what);
+    }
+
+    /// A hart acknowledges an open ticket of its own, if the ticket names it, and is told how far the ticket is then.
+    fn acknowledge_own(&mut self, hart: u8, ticket: u32) -> Collected
+        requires hart { hart < length self.old.harts }
+        requires open { IsTrue (is_open (tickets_at self.old hart) ticket) }
+        ensures answer { result ≡ progress_at (acked_by (tickets_at self.old hart) ticket hart) ticket }
+        ensures after { self.new ≡ record self.old { tickets = slice_set self.old.tickets hart (acked_by (tickets_at self.old hart) ticket hart) } }
+    {
+        let tickets = &mut self.tickets[usize::from(hart)];
+        acknowledge(tickets, ticket, hart);
+        tickets.progress(ticket)
+    }
+
+    /// Serves an own ticket's request on the own TLB.
+    pub(crate) fn ack_self(&mut self, hart: u8, ticket: u32) -> Reply
+        ensures reply { result ≡ reply_to self.old (AckSelf hart ticket) }
+        ensures follows { Follows self.old (AckSelf hart ticket) result self.new }
+        ensures refused { is_accepted result ≡ false → self.new ≡ self.old }
+    {
+        if !self.is_hart(hart) {
+            return Reply::Refused(Refusal::NoHart);
+        }
+        if !self.tickets(hart).is_open(ticket) {
+            return Reply::Refused(Refusal::NotOpen);
+        }
+        if self.hart(hart).is_walking() {
+            return Reply::Refused(Refusal::Walking);
+        }
+        let what = self.tickets(hart).what(ticket);
+        self.drop_own(hart, &what);
+        let collected = self.acknowledge_own(hart, ticket);
+        progress_reply(collected)
+    }
+
+    /// Whether the acknowledgement of a hart is there, and not collected yet.
+    fn is_collectable(&self, hart: u8, ticket: u32, from: u8) -> bool
+        requires hart { hart < length self.now.harts }
+        requires open { IsTrue (is_open (tickets_at self.now hart) ticket) }
+        ensures { result ≡ is_collectable (tickets_at self.now hart) ticket from }
+    {
+        let tickets = self.tickets(hart);
+        tickets.is_acked(ticket, from) && !tickets.is_collected(ticket, from)
+    }
+
+    /// Makes room in a mailbox for one more request, if the acknowledgement of one is collected now.
+    fn make_room(&mut self, sender: u8, receiver: u8, is_collected: bool)
+        requires sender { sender < length self.old.harts }
+        requires receiver { receiver < length self.old.harts }
+        ensures { self.new ≡ record self.old { mailboxes = put_mailbox self.old sender receiver (is_collected && can_release (mailbox_at self.old sender receiver)) (after_release (mailbox_at self.old sender receiver)) } }
+    {
+        if is_collected && self.mailbox(sender, receiver).can_release() {
+            self.release(sender, receiver);
+        }
+    }
+
+    /// Marks the acknowledgement of a hart that an open ticket names as collected, if it is there.
+    fn collect_named(&mut self, hart: u8, ticket: u32, from: u8) -> Collected
+        requires hart { hart < length self.old.harts }
+        requires names { IsTrue (names (tickets_at self.old hart) ticket from) }
+        ensures answer { result ≡ progress_at (after_collect (tickets_at self.old hart) ticket from) ticket }
+        ensures after { self.new ≡ record self.old { tickets = slice_set self.old.tickets hart (after_collect (tickets_at self.old hart) ticket from) } }
+    {
+        let tickets = &mut self.tickets[usize::from(hart)];
+        tickets.collect(ticket, from)
+    }
+
+    /// Collects the acknowledgement of another hart, if it is there.
+    pub(crate) fn collect(&mut self, hart: u8, ticket: u32, from: u8) -> Reply
+        ensures reply { result ≡ reply_to self.old (Collect hart ticket from) }
+        ensures follows { Follows self.old (Collect hart ticket from) result self.new }
+        ensures refused { is_accepted result ≡ false → self.new ≡ self.old }
+    {
+        if !self.are_pair(hart, from) {
+            return Reply::Refused(Refusal::NoHart);
+        }
+        if !self.tickets(hart).is_open(ticket) {
+            return Reply::Refused(Refusal::NotOpen);
+        }
+        if !self.tickets(hart).names(ticket, from) {
+            return Reply::Refused(Refusal::NotNamed);
+        }
+        let is_collected = self.is_collectable(hart, ticket, from);
+        self.make_room(hart, from, is_collected);
+        progress_reply(self.collect_named(hart, ticket, from))
+    }
+
+    /// Frees the number of a ticket whose named harts are all collected.
+    pub(crate) fn finish(&mut self, hart: u8, ticket: u32) -> Reply
+        ensures reply { result ≡ reply_to self.old (Finish hart ticket) }
+        ensures follows { Follows self.old (Finish hart ticket) result self.new }
+        ensures refused { is_accepted result ≡ false → self.new ≡ self.old }
+    {
+        if !self.is_hart(hart) {
+            return Reply::Refused(Refusal::NoHart);
+        }
+        let tickets = self.tickets(hart);
+        if !tickets.is_open(ticket) {
+            return Reply::Refused(Refusal::NotOpen);
+        }
+        if !tickets.is_done(ticket) {
+            return Reply::Refused(Refusal::NotDone);
+        }
+        let tickets = &mut self.tickets[usize::from(hart)];
+        let _ = tickets.finish(ticket);
+        Reply::Ok
+    }
+
+    /// Closes the mailbox to another hart.
+    pub(crate) fn close(&mut self, hart: u8, to: u8) -> Reply
+        ensures reply { result ≡ reply_to self.old (Close hart to) }
+        ensures follows { Follows self.old (Close hart to) result self.new }
+        ensures refused { is_accepted result ≡ false → self.new ≡ self.old }
+    {
+        if !self.are_pair(hart, to) {
+            return Reply::Refused(Refusal::NoHart);
+        }
+        if self.mailbox(hart, to).is_closed() {
+            return Reply::Refused(Refusal::Closed);
+        }
+        let mailbox = &mut self.mailboxes[mailbox_index(hart, to)];
+        mailbox.close();
+        Reply::Ok
+    }
+}

@@ -1,0 +1,371 @@
+//! Shootdowns from their first event to their last, what fills a mailbox, and the machines that are opened.
+
+ghost use Rattle.std.specs.Prelude.{◌<◌};
+ghost use Rattle.shoot.specs.declared.TheConstants.{MAX_TICKETS};
+
+use crate::{Config, Event, Machine, OpenFault, Place, Refusal, Reply, Request, Scope, Space};
+use arrayvec::ArrayVec;
+use bitflags::Flags;
+use pte::{Access, Ctx, Mode, Page, PageSize, PteFlags, VirtAddr, What};
+use std::alloc::Global;
+use std::process::Abort;
+use std::test::*;
+use walk::{Trap, Why};
+
+const R: u8 = 0x02;
+
+const W: u8 = 0x04;
+
+const U: u8 = 0x10;
+
+const A: u8 = 0x40;
+
+const D: u8 = 0x80;
+
+/// Harts 0 and 1.
+const BOTH: u8 = 0b11;
+
+fn spares_of(counts: &[u16]) -> ArrayVec<u16, 8> {
+    let mut spares = ArrayVec::new();
+    for count in counts {
+        if !spares.is_full() {
+            spares.push(*count);
+        }
+    }
+    spares
+}
+
+fn spaces_of(list: &[(u8, u16)]) -> ArrayVec<Space, 32> {
+    let mut spaces = ArrayVec::new();
+    for (home, asid) in list {
+        if !spaces.is_full() {
+            spaces.push(Space {
+                home: *home,
+                asid: *asid,
+            });
+        }
+    }
+    spaces
+}
+
+/// Two harts with 8 spare frames each, one space of ASID 1, one slot of the window.
+fn two_harts() -> Config {
+    Config {
+        harts: 2,
+        spaces: spaces_of(&[(0, 1)]),
+        window: 1,
+        base: 0x8_0000,
+        spares: spares_of(&[8, 8]),
+        capacity: 4,
+    }
+}
+
+/// There is ample memory for each machine of a test.
+fn opened(rt: &impl Abort, alloc: Global, config: &Config) -> Machine {
+    match Machine::open(alloc, config) {
+        Ok(machine) => machine,
+        Err(_) => panic!(rt; "not opened"),
+    }
+}
+
+fn page(rt: &impl Abort, base: u64, size: PageSize) -> Page {
+    Page::new(VirtAddr::new(base).expect(rt, "an address"), size).expect(rt, "a page")
+}
+
+/// The page of 2 MiB at 0x40_0000, which hart 0 maps to PPN 0x200 and unmaps.
+fn large(rt: &impl Abort) -> Page {
+    page(rt, 0x40_0000, PageSize::Mib2)
+}
+
+fn map_large(rt: &impl Abort) -> Event {
+    map(0, large(rt), 0x200, R | W | U | A | D)
+}
+
+fn unmap_large(rt: &impl Abort) -> Event {
+    Event::Unmap {
+        hart: 0,
+        place: Place::Space(0),
+        page: large(rt),
+        named: BOTH,
+    }
+}
+
+fn large_of_space(rt: &impl Abort) -> What {
+    What::PageOf(large(rt), Some(1))
+}
+
+/// Maps the page of 4 KiB at 0x1000.
+fn map_small(rt: &impl Abort, space: u8, ppn: u64) -> Event {
+    map(space, page(rt, 0x1000, PageSize::Kib4), ppn, R | U | A | D)
+}
+
+fn map(space: u8, page: Page, ppn: u64, bits: u8) -> Event {
+    Event::Map {
+        hart: 0,
+        place: Place::Space(space),
+        page,
+        ppn,
+        flags: PteFlags::from_bits_retain(bits),
+    }
+}
+
+/// A load from user mode.
+fn begin(hart: u8, va: u64) -> Event {
+    Event::Begin {
+        hart,
+        va,
+        access: Access::Load,
+        ctx: Ctx {
+            mode: Mode::User,
+            sum: false,
+            mxr: false,
+        },
+    }
+}
+
+fn load(hart: u8) -> Event {
+    Event::Load { hart }
+}
+
+fn switch(space: u8) -> Event {
+    Event::Switch { hart: 1, space }
+}
+
+fn post(ticket: u32) -> Event {
+    Event::Post {
+        hart: 0,
+        ticket,
+        to: 1,
+    }
+}
+
+fn flush(scope: Scope) -> Event {
+    Event::Flush {
+        hart: 0,
+        scope,
+        named: BOTH,
+    }
+}
+
+/// Hart 1 takes a request from hart 0, fences for it, and acknowledges.
+fn take() -> Event {
+    Event::Take { hart: 1, from: 0 }
+}
+
+fn serve_fence() -> Event {
+    Event::ServeFence { hart: 1 }
+}
+
+fn ack() -> Event {
+    Event::Ack { hart: 1 }
+}
+
+fn collect(ticket: u32) -> Event {
+    Event::Collect {
+        hart: 0,
+        ticket,
+        from: 1,
+    }
+}
+
+fn finish(ticket: u32) -> Event {
+    Event::Finish { hart: 0, ticket }
+}
+
+fn taken(ticket: u32, what: What) -> Reply
+    requires { ticket < MAX_TICKETS }
+{
+    Reply::Taken(Request { ticket, what })
+}
+
+/// The page fault of a load.
+fn page_fault(why: Why) -> Reply {
+    Reply::Trap(Trap { cause: 13, why })
+}
+
+fn refused(refusal: Refusal) -> Reply {
+    Reply::Refused(refusal)
+}
+
+/// Each event is answered as the row says.
+fn steps(rt: &impl Abort, machine: &mut Machine, rows: &[(Event, Reply)]) {
+    for (event, reply) in rows {
+        assert!(rt; machine.step(*event) == *reply);
+    }
+}
+
+/// Whether the TLB of hart 1 translates an address for ASID 1.
+fn translates(rt: &impl Abort, machine: &Machine, va: u64) -> bool {
+    assert!(rt; 1 < machine.harts());
+    machine.translates(1, 1, VirtAddr::new(va).expect(rt, "an address"))
+}
+
+/// How many of the pages of 4 KiB in the page of 2 MiB at 0x40_0000 hart 1 translates.
+fn translated(rt: &impl Abort, machine: &Machine) -> usize {
+    let mut count = 0_usize;
+    for k in 0..512_u64 {
+        if translates(rt, machine, 0x40_0000 + k * 0x1000) && count < 512 {
+            count += 1;
+        }
+    }
+    count
+}
+
+/// A page of 2 MiB is unmapped while hart 1 holds it. Once hart 1 has acknowledged, it translates no address of the page, and
+/// the number of the finished ticket is given out again.
+#[test]
+fn superpage_is_shot_down(rt: HostRuntime) {
+    let mut machine = opened(&rt, rt.alloc(), &two_harts());
+    let until_service = [
+        (map_large(&rt), Reply::Table(0x8_0002)),
+        (map_large(&rt), Reply::Leaf),
+        (begin(1, 0x5F_FFFF), Reply::More),
+        (load(1), Reply::More),
+        (load(1), Reply::Filled(0x3F_FFFF)),
+        (unmap_large(&rt), Reply::Opened(0)),
+        (begin(1, 0x5F_FFFF), Reply::Hit(0x3F_FFFF)),
+        (post(0), Reply::Ok),
+        (take(), taken(0, large_of_space(&rt))),
+        (begin(1, 0x5F_FFFF), refused(Refusal::Serving)),
+    ];
+    steps(&rt, &mut machine, &until_service);
+    assert!(rt; translated(&rt, &machine) == 512);
+    steps(
+        &rt,
+        &mut machine,
+        &[(serve_fence(), Reply::Ok), (ack(), Reply::Ok)],
+    );
+    assert!(rt; translated(&rt, &machine) == 0);
+    assert!(rt; !translates(&rt, &machine, 0x5F_FFFF));
+    let after = [
+        (begin(1, 0x5F_FFFF), Reply::More),
+        (load(1), Reply::More),
+        (load(1), page_fault(Why::Invalid)),
+        (collect(0), Reply::Waiting(0b01)),
+        (finish(0), refused(Refusal::NotDone)),
+        (Event::AckSelf { hart: 0, ticket: 0 }, Reply::Done),
+        (finish(0), Reply::Ok),
+        (flush(Scope::All), Reply::Opened(0)),
+    ];
+    steps(&rt, &mut machine, &after);
+    assert!(rt; translated(&rt, &machine) == 0);
+}
+
+/// A mailbox of capacity 2 takes a third request once the acknowledgement of the first is collected. What waits at its close
+/// is still taken, in the order of the posts.
+#[test]
+fn mailbox_is_bounded_and_closed(rt: HostRuntime) -> Result<(), Fail> {
+    let config = Config {
+        capacity: 2,
+        ..two_harts()
+    };
+    let mut machine = opened(&rt, rt.alloc(), &config);
+    let rows = [
+        (flush(Scope::All), Reply::Opened(0)),
+        (flush(Scope::All), Reply::Opened(1)),
+        (flush(Scope::All), Reply::Opened(2)),
+        (flush(Scope::All), Reply::Opened(3)),
+        (post(0), Reply::Ok),
+        (post(1), Reply::Ok),
+        (post(2), refused(Refusal::Full)),
+        (take(), taken(0, What::All)),
+        (serve_fence(), Reply::Ok),
+        (ack(), Reply::Ok),
+        (post(2), refused(Refusal::Full)),
+        (collect(0), Reply::Waiting(0b01)),
+        (post(2), Reply::Ok),
+        (Event::Close { hart: 0, to: 1 }, Reply::Ok),
+        (post(3), refused(Refusal::Closed)),
+        (take(), taken(1, What::All)),
+        (take(), refused(Refusal::Serving)),
+        (serve_fence(), Reply::Ok),
+        (ack(), Reply::Ok),
+        (take(), taken(2, What::All)),
+        (serve_fence(), Reply::Ok),
+        (ack(), Reply::Ok),
+        (take(), refused(Refusal::Empty)),
+    ];
+    let mut replies = Vec::new(rt.alloc());
+    let mut expected = Vec::new(rt.alloc());
+    let mut events = Vec::new(rt.alloc());
+    for (event, reply) in rows {
+        events.push(event)?;
+        expected.push(reply)?;
+    }
+    machine.run(&events, &mut replies)?;
+    assert!(&rt; replies == expected);
+    Ok(())
+}
+
+/// A request for a space drops what hart 1 holds of it, and nothing of the other space.
+#[test]
+fn space_is_flushed(rt: HostRuntime) {
+    let config = Config {
+        spaces: spaces_of(&[(0, 1), (0, 2)]),
+        ..two_harts()
+    };
+    let mut machine = opened(&rt, rt.alloc(), &config);
+    let rows = [
+        (map_small(&rt, 0, 0x100), Reply::Table(0x8_0003)),
+        (map_small(&rt, 0, 0x100), Reply::Table(0x8_0004)),
+        (map_small(&rt, 0, 0x100), Reply::Leaf),
+        (map_small(&rt, 1, 0x101), Reply::Table(0x8_0005)),
+        (map_small(&rt, 1, 0x101), Reply::Table(0x8_0006)),
+        (map_small(&rt, 1, 0x101), Reply::Leaf),
+        (begin(1, 0x1004), Reply::More),
+        (load(1), Reply::More),
+        (load(1), Reply::More),
+        (load(1), Reply::Filled(0x10_0004)),
+        (switch(1), Reply::Ok),
+        (begin(1, 0x1004), Reply::More),
+        (load(1), Reply::More),
+        (load(1), Reply::More),
+        (load(1), Reply::Filled(0x10_1004)),
+        (flush(Scope::Space(0)), Reply::Opened(0)),
+        (post(0), Reply::Ok),
+        (take(), taken(0, What::SpaceOf(1))),
+        (serve_fence(), Reply::Ok),
+        (ack(), Reply::Ok),
+        (begin(1, 0x1004), Reply::Hit(0x10_1004)),
+        (switch(0), Reply::Ok),
+        (begin(1, 0x1004), Reply::More),
+    ];
+    steps(&rt, &mut machine, &rows);
+}
+
+/// With ample memory a machine is opened exactly within the limits.
+#[test]
+fn machines_are_opened(rt: HostRuntime) {
+    let rows = [
+        (two_harts(), true),
+        (
+            Config {
+                harts: 8,
+                spares: spares_of(&[62, 62, 62, 62, 62, 62, 62, 62]),
+                capacity: 64,
+                ..two_harts()
+            },
+            true,
+        ),
+        (
+            Config {
+                harts: 3,
+                ..two_harts()
+            },
+            false,
+        ),
+        (
+            Config {
+                capacity: 65,
+                ..two_harts()
+            },
+            false,
+        ),
+    ];
+    for (config, is_within) in rows {
+        match Machine::open(rt.alloc(), &config) {
+            Ok(machine) => { assert!(rt; is_within && u16::from(machine.harts()) == config.harts) }
+            Err(fault) => assert!(rt; !is_within && fault == OpenFault::BadLayout),
+        }
+    }
+}

@@ -1,0 +1,10 @@
+pub mod FaultLemmas
+pub mod FieldLemmas
+pub mod GrammarLemmas
+pub mod HartLemmas
+pub mod MoreHarts
+pub mod NamedLemmas
+pub mod NumLemmas
+pub mod RunLemmas
+pub mod StepLemmas
+pub mod WordLemmas

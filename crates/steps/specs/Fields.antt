@@ -1,0 +1,119 @@
+-- What the words of a step write.
+use Rattle.std.specs.Prelude.{ℕ, ◌-◌, ◌^◌, ◌%◌, ◌==◌, ◌&&◌, ◌||◌, Bool, true, bit_and, bit_or, nat_lt, nat_le, codes, List, [], ◌∷◌, length, take, drop, Option, Some, None, option_and_then, option_map, Result, Ok, Err, slice_set, if◌then◌else◌}
+use Rattle.std.specs.List.{list_all, slice_split}
+use Rattle.std.specs.Option.{option_or}
+use Rattle.std.specs.Str.{bytes_eq}
+use Rattle.pte.specs.Address.{address_bits, bytes_of, Span}
+use Rattle.pte.specs.declared.address.PageSize.{PageSize}
+use Rattle.pte.specs.declared.address.PageSize.TheVariants.{Kib4, Mib2, Gib1}
+use Rattle.pte.specs.declared.flags.PteFlags.{PteFlags}
+use Rattle.spaces.specs.declared.places.Place.{Place}
+use Rattle.spaces.specs.declared.places.Place.TheVariants as places
+use Rattle.shoot.specs.HartSet.{byte_of, no_harts}
+use Rattle.history.specs.declared.event.Scope.{Scope}
+use Rattle.history.specs.declared.event.Scope.TheVariants as scopes
+use Rattle.steps.specs.declared.fault.StepFault.{StepFault}
+use Rattle.steps.specs.declared.fault.StepFault.TheVariants.{NoSuchHart, NotPage}
+use Rattle.steps.specs.declared.fields.PageWord.{PageWord}
+use Rattle.steps.specs.Num.{num_of}
+use Rattle.steps.specs.StepFaults.{asked, ◌>>=◌}
+
+-- ---- numbers
+
+-- a number below a limit
+abbrev pub number_below : ℕ → List ℕ → Option ℕ
+number_below limit word = option_and_then (λ n. if nat_lt n limit then Some n else None) (num_of word)
+
+abbrev pub ticket_of : List ℕ → Option ℕ
+ticket_of word = number_below (2 ^ 32) word
+
+abbrev pub space_of : List ℕ → Option ℕ
+space_of word = number_below (2 ^ 8) word
+
+-- ---- a number, or a name in its place
+
+-- `k` for the kernel window
+abbrev pub place_of : List ℕ → Option Place
+place_of word = if bytes_eq word (codes "k") then Some places.Kernel else option_map places.Space (space_of word)
+
+abbrev pub scope_of : List ℕ → Option Scope
+scope_of word = if bytes_eq word (codes "all") then Some scopes.All else option_map scopes.Space (space_of word)
+
+-- the register x0, or another that holds the number
+abbrev pub register_of : List ℕ → Option (Option ℕ)
+register_of word = if bytes_eq word (codes "x0") then Some None else option_map Some (num_of word)
+
+-- ---- pages
+
+abbrev pub page_after : List ℕ → PageSize → List ℕ → Option PageWord
+page_after prefix size word =
+    if bytes_eq (take (length prefix) word) prefix then option_map (λ base. record { base = base; size = size }) (num_of (drop (length prefix) word)) else None
+
+-- a size, a colon and the address, whatever it is
+abbrev pub page_of : List ℕ → Option PageWord
+page_of word = option_or (option_or (page_after (codes "4K:") Kib4 word) (page_after (codes "2M:") Mib2 word)) (page_after (codes "1G:") Gib1 word)
+
+-- the address is canonical and a multiple of the size (privileged manual 4.4.1)
+abbrev pub is_page : PageWord → Bool
+is_page page =
+    (nat_lt page.base (2 ^ (address_bits - 1)) || (nat_le (2 ^ 64 - 2 ^ (address_bits - 1)) page.base && nat_lt page.base (2 ^ 64)))
+    && (page.base % bytes_of page.size == 0)
+
+abbrev pub page_at : PageWord → Result Span StepFault
+page_at page = if is_page page then Ok (record { base = page.base; size = page.size }) else Err NotPage
+
+-- ---- flags
+
+-- the bit of a letter: r, w, x, u, g, a, d
+abbrev pub flag_of : ℕ → Option ℕ
+flag_of letter =
+    if letter == 114 then Some 0x02 else if letter == 119 then Some 0x04 else if letter == 120 then Some 0x08 else if letter == 117 then Some 0x10
+    else if letter == 103 then Some 0x20 else if letter == 97 then Some 0x40 else if letter == 100 then Some 0x80 else None
+
+-- the bits of the letters and those that are set already, of which no letter may be
+abbrev pub with_letters : ℕ → List ℕ → Option ℕ
+with_letters bits [] = Some bits
+with_letters bits (letter ∷ letters) =
+    option_and_then (λ bit. if bit_and bits bit == 0 then with_letters (bit_or bits bit) letters else None) (flag_of letter)
+
+abbrev pub bits_of : List ℕ → Option ℕ
+bits_of [] = None
+bits_of word = if bytes_eq word (codes "-") then Some 0 else with_letters 0 word
+
+abbrev pub flags_of : List ℕ → Option PteFlags
+flags_of word = option_map (λ bits. record { 0 = bits }) (bits_of word)
+
+-- ---- harts
+
+-- one of so many harts
+abbrev pub among : ℕ → ℕ → Result ℕ StepFault
+among harts hart = if nat_lt hart harts then Ok hart else Err NoSuchHart
+
+-- what stands between commas
+abbrev pub parts_of : List ℕ → List (List ℕ)
+parts_of word = slice_split (λ byte. byte == 44) word
+
+abbrev pub nums_of : List (List ℕ) → Option (List ℕ)
+nums_of [] = Some []
+nums_of (part ∷ parts) = option_and_then (λ n. option_map (λ ns. n ∷ ns) (nums_of parts)) (num_of part)
+
+-- the harts that are in the set already, and these
+abbrev pub with_harts : List Bool → List ℕ → List Bool
+with_harts set [] = set
+with_harts set (hart ∷ harts) = with_harts (slice_set set hart true) harts
+
+-- their set, if all of them are there
+abbrev pub set_among : ℕ → List ℕ → Result (List Bool) StepFault
+set_among harts named = if list_all (λ hart. nat_lt hart harts) named then Ok (with_harts no_harts named) else Err NoSuchHart
+
+-- the set of harts with commas between them
+abbrev pub set_in : ℕ → List ℕ → Result (List Bool) StepFault
+set_in harts word = asked (nums_of (parts_of word)) >>= set_among harts
+
+-- bit h for hart h, `-` for none
+abbrev pub named_in : ℕ → List ℕ → Result ℕ StepFault
+named_in harts word = if bytes_eq word (codes "-") then Ok 0 else set_in harts word >>= λ set. Ok (byte_of set)
+
+-- the set of the parts that were read, with one part more
+abbrev pub with_part : ℕ → Result (List Bool) StepFault → List ℕ → Result (List Bool) StepFault
+with_part harts named part = asked (num_of part) >>= λ n. named >>= λ set. among harts n >>= λ hart. Ok (slice_set set hart true)

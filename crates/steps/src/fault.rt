@@ -1,0 +1,32 @@
+//! What is wrong with the text of a step.
+
+use std::error::Error;
+use std::fmt;
+
+/// What is wrong with a step. Where several are, it is the first of them in this order.
+#[derive(Clone, Copy, Debug, PartialEq, Eq)]
+pub enum StepFault {
+    /// The text has no form of the command's steps.
+    NotStep,
+    /// It names a hart that is not there.
+    NoSuchHart,
+    /// The address of its page is not canonical, or no multiple of the page's size (privileged manual 4.4.1).
+    NotPage,
+}
+
+impl fmt::Display for StepFault {
+    ghost use Rattle.std.specs.Prelude.{Some};
+    ghost use Rattle.steps.specs.StepFaults.{step_fault_text};
+
+    ghost output = { λ fault. Some (step_fault_text fault) };
+
+    fn fmt<W: fmt::Write>(&self, f: &mut fmt::Formatter<W>) -> fmt::Result {
+        match self {
+            StepFault::NotStep => f.write_str("not a step"),
+            StepFault::NoSuchHart => f.write_str("no such hart"),
+            StepFault::NotPage => f.write_str("not a page"),
+        }
+    }
+}
+
+impl Error for StepFault {}

@@ -1,0 +1,203 @@
+//! The words of a step.
+ghost use Rattle.std.specs.Prelude.{◌≡◌};
+ghost use Rattle.steps.specs.Fields.{among, bits_of, flag_of, flags_of, named_in, page_after, page_at, page_of, place_of, register_of, scope_of, set_in, space_of, ticket_of, with_letters, with_part};
+
+use crate::fault::StepFault;
+use crate::numbers::num;
+use bitflags::Flags;
+use history::Scope;
+use pte::{Page, PageSize, PteFlags, VirtAddr};
+use shoot::HartSet;
+use spaces::Place;
+
+/// A size and an address that is a page's base, or not.
+#[derive(Clone, Copy, Debug, PartialEq, Eq)]
+pub struct PageWord {
+    pub base: u64,
+    pub size: PageSize,
+}
+
+/// A number below 2^32.
+pub fn ticket(word: &[u8]) -> Option<u32>
+    ensures { result ≡ ticket_of word.now }
+{
+    let ticket = num(word)?;
+    if ticket < 1 << 32 {
+        Some(ticket as u32)
+    } else {
+        None
+    }
+}
+
+/// A number below 256.
+pub fn space(word: &[u8]) -> Option<u8>
+    ensures { result ≡ space_of word.now }
+{
+    let space = num(word)?;
+    if space < 1 << 8 {
+        Some(space as u8)
+    } else {
+        None
+    }
+}
+
+/// A space, or `k` for the kernel window.
+pub fn place(word: &[u8]) -> Option<Place>
+    ensures { result ≡ place_of word.now }
+{
+    if word == b"k".as_slice() {
+        return Some(Place::Kernel);
+    }
+    let space = space(word)?;
+    Some(Place::Space(space))
+}
+
+/// A space, or `all`.
+pub fn scope(word: &[u8]) -> Option<Scope>
+    ensures { result ≡ scope_of word.now }
+{
+    if word == b"all".as_slice() {
+        return Some(Scope::All);
+    }
+    let space = space(word)?;
+    Some(Scope::Space(space))
+}
+
+/// The operand of a fence: `None` is the register x0, which the word `x0` names, and a number is what another holds.
+pub fn register(word: &[u8]) -> Option<Option<u64>>
+    ensures { result ≡ register_of word.now }
+{
+    if word == b"x0".as_slice() {
+        return Some(None);
+    }
+    let value = num(word)?;
+    Some(Some(value))
+}
+
+/// A page of this size, whose address stands after a prefix.
+fn page_after(prefix: &[u8], size: PageSize, word: &[u8]) -> Option<PageWord>
+    ensures { result ≡ page_after prefix.now size word.now }
+{
+    let digits = word.strip_prefix(prefix)?;
+    let base = num(digits)?;
+    Some(PageWord { base, size })
+}
+
+/// `4K`, `2M` or `1G`, a colon, and an address.
+pub fn page_word(word: &[u8]) -> Option<PageWord>
+    ensures { result ≡ page_of word.now }
+{
+    page_after(b"4K:".as_slice(), PageSize::Kib4, word)
+        .or(page_after(b"2M:".as_slice(), PageSize::Mib2, word))
+        .or(page_after(b"1G:".as_slice(), PageSize::Gib1, word))
+}
+
+pub fn page(word: PageWord) -> Result<Page, StepFault>
+    ensures { result ≡ page_at word }
+{
+    let Some(base) = VirtAddr::new(word.base) else {
+        return Err(StepFault::NotPage);
+    };
+    match Page::new(base, word.size) {
+        Ok(page) => Ok(page),
+        Err(_) => Err(StepFault::NotPage),
+    }
+}
+
+fn flag(letter: u8) -> Option<u8>
+    ensures { result ≡ flag_of letter }
+{
+    match letter {
+        b'r' => Some(0x02),
+        b'w' => Some(0x04),
+        b'x' => Some(0x08),
+        b'u' => Some(0x10),
+        b'g' => Some(0x20),
+        b'a' => Some(0x40),
+        b'd' => Some(0x80),
+        _ => None,
+    }
+}
+
+/// The bits of the letters and those that are set already, of which no letter may be.
+fn with_letters(bits: u8, letters: &[u8]) -> Option<u8>
+    ensures { result ≡ with_letters bits letters.now }
+{
+    match letters {
+        [] => Some(bits),
+        [letter, rest @ ..] => {
+            let bit = flag(*letter)?;
+            if bits & bit == 0 {
+                with_letters(bits | bit, rest)
+            } else {
+                None
+            }
+        }
+    }
+}
+
+fn bits(word: &[u8]) -> Option<u8>
+    ensures { result ≡ bits_of word.now }
+{
+    if word.is_empty() {
+        return None;
+    }
+    if word == b"-".as_slice() {
+        return Some(0);
+    }
+    with_letters(0, word)
+}
+
+/// Letters of `rwxugad`, each at most once, or `-` for none.
+pub fn flags(word: &[u8]) -> Option<PteFlags>
+    ensures { result ≡ flags_of word.now }
+{
+    let bits = bits(word)?;
+    Some(PteFlags::from_bits_retain(bits))
+}
+
+/// One of so many harts.
+pub fn among(harts: u8, hart: u64) -> Result<u8, StepFault>
+    ensures { result ≡ among harts hart }
+{
+    if hart >= u64::from(harts) {
+        return Err(StepFault::NoSuchHart);
+    }
+    Ok(hart as u8)
+}
+
+/// The harts that were named, and that of one part more.
+fn with_part(
+    harts: u8,
+    named: Result<HartSet, StepFault>,
+    part: &[u8],
+) -> Result<HartSet, StepFault>
+    ensures { result ≡ with_part harts named part.now }
+{
+    let hart = num(part).ok_or(StepFault::NotStep)?;
+    let mut set = named?;
+    let hart = among(harts, hart)?;
+    set.insert(hart);
+    Ok(set)
+}
+
+/// The set of the harts that stand between commas.
+fn set(harts: u8, word: &[u8]) -> Result<HartSet, StepFault>
+    ensures { result ≡ set_in harts word.now }
+{
+    word.split(|byte| *byte == b',').fold(
+        Ok(HartSet::new()),
+        |set, part| with_part(harts, set, part),
+    )
+}
+
+/// The harts that a word names, bit h for hart h: their numbers with commas between them, or `-` for none.
+pub fn named(harts: u8, word: &[u8]) -> Result<u8, StepFault>
+    ensures { result ≡ named_in harts word.now }
+{
+    if word == b"-".as_slice() {
+        return Ok(0);
+    }
+    let set = set(harts, word)?;
+    Ok(u8::from(set))
+}

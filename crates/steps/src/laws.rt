@@ -1,0 +1,38 @@
+//! Laws of the texts: each call makes no step, and its clauses hold of the definitions alone.
+ghost use Rattle.std.specs.Prelude.{◌≡◌, ◌≤◌, List, ℕ, Ok, Err, Some, ◌↔◌};
+ghost use Rattle.history.specs.declared.event.Event.{Event};
+ghost use Rattle.shoot.specs.declared.TheConstants.{MAX_HARTS};
+ghost use Rattle.steps.specs.declared.fault.StepFault.TheVariants.{NoSuchHart, NotStep};
+ghost use Rattle.steps.specs.declared.step.WalkStep.{WalkStep};
+ghost use Rattle.steps.specs.Grammar.{WritesNumber, WritesStep};
+ghost use Rattle.steps.specs.Num.{num_of};
+ghost use Rattle.steps.specs.RunGrammar.{WritesRunStep};
+ghost use Rattle.steps.specs.RunStep.{run_step_of, step_among};
+ghost use Rattle.steps.specs.Step.{walk_step_of};
+
+/// A word writes at most one number, and the reader finds just the number that is written.
+pub fn num_is_written()
+    ensures one { (word : List ℕ) (m n : ℕ) → WritesNumber word m → WritesNumber word n → m ≡ n }
+    ensures found { (word : List ℕ) (n : ℕ) → WritesNumber word n ↔ (num_of word ≡ Some n) }
+{}
+
+/// A text writes at most one step of `walk`, and the reader finds just the step that is written.
+pub fn walk_step_is_written()
+    ensures one { (text : List ℕ) (a b : WalkStep) → WritesStep text a → WritesStep text b → a ≡ b }
+    ensures found { (text : List ℕ) (step : WalkStep) → WritesStep text step ↔ (walk_step_of text ≡ Some step) }
+{}
+
+/// For each number of harts, a text writes at most one step of `run`, and the reader finds just the step that is written.
+pub fn run_step_is_written()
+    ensures one { (harts : ℕ) (text : List ℕ) (a b : Event) → WritesRunStep harts text a → WritesRunStep harts text b → a ≡ b }
+    ensures found { (harts : ℕ) (text : List ℕ) (event : Event) → WritesRunStep harts text event ↔ (step_among harts text ≡ Ok event) }
+    ensures found_of_all { (text : List ℕ) (event : Event) → WritesRunStep MAX_HARTS text event ↔ (run_step_of text ≡ Some event) }
+{}
+
+/// Whether a text is a step of `run` does not depend on how many harts there are: that it is none is told before anything
+/// else. With more harts it stays the same step, or has the same fault, unless it named a hart that was not there: that its
+/// page is none is told last.
+pub fn harts_are_told_between_steps_and_pages()
+    ensures not_step { (m n : ℕ) (text : List ℕ) → step_among m text ≡ Err NotStep → step_among n text ≡ Err NotStep }
+    ensures more_harts { (m n : ℕ) (text : List ℕ) → m ≤ n → ¬ (step_among m text ≡ Err NoSuchHart) → step_among n text ≡ step_among m text }
+{}

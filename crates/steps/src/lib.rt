@@ -1,0 +1,26 @@
+//! The texts of steps: numbers, words, and the steps that `svsim` reads.
+//!
+//! A step is one text of a scenario file. Its words stand between spaces and tabs, and its numbers are hexadecimal after `0x`
+//! or decimal.
+#![tactic(auto)]
+
+mod fault;
+mod fields;
+mod laws;
+mod numbers;
+mod run;
+mod step;
+mod text;
+
+pub use fault::StepFault;
+pub use laws::{
+    harts_are_told_between_steps_and_pages, num_is_written, run_step_is_written,
+    walk_step_is_written,
+};
+pub use numbers::num;
+pub use run::{run_step, run_step_among};
+pub use step::{WalkStep, walk_step};
+pub use text::words;
+
+#[cfg(test)]
+mod tests;

@@ -1,0 +1,353 @@
+//! The steps of `run`.
+ghost use Rattle.std.specs.Prelude.{◌≡◌, IfOk, map};
+ghost use Rattle.steps.specs.RunStep.{ack_in, ackself_in, begin_in, close_in, collect_in, fence_in, finish_in, flush_in, load_in, map_in, post_in, protect_in, run_step_of, servefence_in, step_among, step_in, step_of_words, switch_in, take_in, unmap_in, with_a_word, with_four_words, with_no_word, with_three_words, with_two_words};
+
+use crate::fault::StepFault;
+use crate::fields::{among, flags, named, page, page_word, place, register, scope, space, ticket};
+use crate::numbers::num;
+use crate::step::translation;
+use crate::text::words;
+use history::Event;
+use shoot::MAX_HARTS;
+use std::alloc::{AllocError, Global};
+
+fn switch(harts: u8, hart: u64, word: &[u8]) -> Result<Event, StepFault>
+    ensures { result ≡ switch_in harts hart word.now }
+{
+    let space = space(word).ok_or(StepFault::NotStep)?;
+    let hart = among(harts, hart)?;
+    Ok(Event::Switch { hart, space })
+}
+
+fn take(harts: u8, hart: u64, other: &[u8]) -> Result<Event, StepFault>
+    ensures { result ≡ take_in harts hart other.now }
+{
+    let from = num(other).ok_or(StepFault::NotStep)?;
+    let hart = among(harts, hart)?;
+    let from = among(harts, from)?;
+    Ok(Event::Take { hart, from })
+}
+
+fn ack_self(harts: u8, hart: u64, word: &[u8]) -> Result<Event, StepFault>
+    ensures { result ≡ ackself_in harts hart word.now }
+{
+    let ticket = ticket(word).ok_or(StepFault::NotStep)?;
+    let hart = among(harts, hart)?;
+    Ok(Event::AckSelf { hart, ticket })
+}
+
+fn finish(harts: u8, hart: u64, word: &[u8]) -> Result<Event, StepFault>
+    ensures { result ≡ finish_in harts hart word.now }
+{
+    let ticket = ticket(word).ok_or(StepFault::NotStep)?;
+    let hart = among(harts, hart)?;
+    Ok(Event::Finish { hart, ticket })
+}
+
+fn close(harts: u8, hart: u64, other: &[u8]) -> Result<Event, StepFault>
+    ensures { result ≡ close_in harts hart other.now }
+{
+    let to = num(other).ok_or(StepFault::NotStep)?;
+    let hart = among(harts, hart)?;
+    let to = among(harts, to)?;
+    Ok(Event::Close { hart, to })
+}
+
+fn flush(harts: u8, hart: u64, word: &[u8], harts_named: &[u8]) -> Result<Event, StepFault>
+    ensures { result ≡ flush_in harts hart word.now harts_named.now }
+{
+    let scope = scope(word).ok_or(StepFault::NotStep)?;
+    let named = named(harts, harts_named)?;
+    let hart = among(harts, hart)?;
+    Ok(Event::Flush { hart, scope, named })
+}
+
+fn fence(harts: u8, hart: u64, first: &[u8], second: &[u8]) -> Result<Event, StepFault>
+    ensures { result ≡ fence_in harts hart first.now second.now }
+{
+    let rs1 = register(first).ok_or(StepFault::NotStep)?;
+    let rs2 = register(second).ok_or(StepFault::NotStep)?;
+    let hart = among(harts, hart)?;
+    Ok(Event::Fence { hart, rs1, rs2 })
+}
+
+fn post(harts: u8, hart: u64, word: &[u8], other: &[u8]) -> Result<Event, StepFault>
+    ensures { result ≡ post_in harts hart word.now other.now }
+{
+    let ticket = ticket(word).ok_or(StepFault::NotStep)?;
+    let to = num(other).ok_or(StepFault::NotStep)?;
+    let hart = among(harts, hart)?;
+    let to = among(harts, to)?;
+    Ok(Event::Post { hart, ticket, to })
+}
+
+fn collect(harts: u8, hart: u64, word: &[u8], other: &[u8]) -> Result<Event, StepFault>
+    ensures { result ≡ collect_in harts hart word.now other.now }
+{
+    let ticket = ticket(word).ok_or(StepFault::NotStep)?;
+    let from = num(other).ok_or(StepFault::NotStep)?;
+    let hart = among(harts, hart)?;
+    let from = among(harts, from)?;
+    Ok(Event::Collect { hart, ticket, from })
+}
+
+fn begin(
+    harts: u8,
+    hart: u64,
+    mode: &[u8],
+    access: &[u8],
+    address: &[u8],
+) -> Result<Event, StepFault>
+    ensures { result ≡ begin_in harts hart mode.now access.now address.now }
+{
+    let step = translation(mode, access, address).ok_or(StepFault::NotStep)?;
+    let hart = among(harts, hart)?;
+    Ok(Event::Begin {
+        hart,
+        va: step.va,
+        access: step.access,
+        ctx: step.ctx,
+    })
+}
+
+fn unmap(
+    harts: u8,
+    hart: u64,
+    at: &[u8],
+    span: &[u8],
+    harts_named: &[u8],
+) -> Result<Event, StepFault>
+    ensures { result ≡ unmap_in harts hart at.now span.now harts_named.now }
+{
+    let place = place(at).ok_or(StepFault::NotStep)?;
+    let word = page_word(span).ok_or(StepFault::NotStep)?;
+    let named = named(harts, harts_named)?;
+    let hart = among(harts, hart)?;
+    let page = page(word)?;
+    Ok(Event::Unmap {
+        hart,
+        place,
+        page,
+        named,
+    })
+}
+
+fn map(
+    harts: u8,
+    hart: u64,
+    at: &[u8],
+    span: &[u8],
+    frame: &[u8],
+    letters: &[u8],
+) -> Result<Event, StepFault>
+    ensures { result ≡ map_in harts hart at.now span.now frame.now letters.now }
+{
+    let place = place(at).ok_or(StepFault::NotStep)?;
+    let word = page_word(span).ok_or(StepFault::NotStep)?;
+    let ppn = num(frame).ok_or(StepFault::NotStep)?;
+    let flags = flags(letters).ok_or(StepFault::NotStep)?;
+    let hart = among(harts, hart)?;
+    let page = page(word)?;
+    Ok(Event::Map {
+        hart,
+        place,
+        page,
+        ppn,
+        flags,
+    })
+}
+
+fn protect(
+    harts: u8,
+    hart: u64,
+    at: &[u8],
+    span: &[u8],
+    letters: &[u8],
+    harts_named: &[u8],
+) -> Result<Event, StepFault>
+    ensures { result ≡ protect_in harts hart at.now span.now letters.now harts_named.now }
+{
+    let place = place(at).ok_or(StepFault::NotStep)?;
+    let word = page_word(span).ok_or(StepFault::NotStep)?;
+    let flags = flags(letters).ok_or(StepFault::NotStep)?;
+    let named = named(harts, harts_named)?;
+    let hart = among(harts, hart)?;
+    let page = page(word)?;
+    Ok(Event::Protect {
+        hart,
+        place,
+        page,
+        flags,
+        named,
+    })
+}
+
+fn load(harts: u8, hart: u64) -> Result<Event, StepFault>
+    ensures { result ≡ load_in harts hart }
+{
+    let hart = among(harts, hart)?;
+    Ok(Event::Load { hart })
+}
+
+fn serve_fence(harts: u8, hart: u64) -> Result<Event, StepFault>
+    ensures { result ≡ servefence_in harts hart }
+{
+    let hart = among(harts, hart)?;
+    Ok(Event::ServeFence { hart })
+}
+
+fn ack(harts: u8, hart: u64) -> Result<Event, StepFault>
+    ensures { result ≡ ack_in harts hart }
+{
+    let hart = among(harts, hart)?;
+    Ok(Event::Ack { hart })
+}
+
+fn with_no_word(harts: u8, hart: u64, name: &[u8]) -> Result<Event, StepFault>
+    ensures { result ≡ with_no_word harts hart name.now }
+{
+    if name == b"load".as_slice() {
+        load(harts, hart)
+    } else if name == b"servefence".as_slice() {
+        serve_fence(harts, hart)
+    } else if name == b"ack".as_slice() {
+        ack(harts, hart)
+    } else {
+        Err(StepFault::NotStep)
+    }
+}
+
+fn with_a_word(harts: u8, hart: u64, name: &[u8], word: &[u8]) -> Result<Event, StepFault>
+    ensures { result ≡ with_a_word harts hart name.now word.now }
+{
+    if name == b"switch".as_slice() {
+        switch(harts, hart, word)
+    } else if name == b"take".as_slice() {
+        take(harts, hart, word)
+    } else if name == b"ackself".as_slice() {
+        ack_self(harts, hart, word)
+    } else if name == b"finish".as_slice() {
+        finish(harts, hart, word)
+    } else if name == b"close".as_slice() {
+        close(harts, hart, word)
+    } else {
+        Err(StepFault::NotStep)
+    }
+}
+
+fn with_two_words(harts: u8, hart: u64, name: &[u8], a: &[u8], b: &[u8]) -> Result<Event, StepFault>
+    ensures { result ≡ with_two_words harts hart name.now a.now b.now }
+{
+    if name == b"flush".as_slice() {
+        flush(harts, hart, a, b)
+    } else if name == b"fence".as_slice() {
+        fence(harts, hart, a, b)
+    } else if name == b"post".as_slice() {
+        post(harts, hart, a, b)
+    } else if name == b"collect".as_slice() {
+        collect(harts, hart, a, b)
+    } else {
+        Err(StepFault::NotStep)
+    }
+}
+
+fn with_three_words(
+    harts: u8,
+    hart: u64,
+    name: &[u8],
+    a: &[u8],
+    b: &[u8],
+    c: &[u8],
+) -> Result<Event, StepFault>
+    ensures { result ≡ with_three_words harts hart name.now a.now b.now c.now }
+{
+    if name == b"begin".as_slice() {
+        begin(harts, hart, a, b, c)
+    } else if name == b"unmap".as_slice() {
+        unmap(harts, hart, a, b, c)
+    } else {
+        Err(StepFault::NotStep)
+    }
+}
+
+fn with_four_words(
+    harts: u8,
+    hart: u64,
+    name: &[u8],
+    a: &[u8],
+    b: &[u8],
+    c: &[u8],
+    d: &[u8],
+) -> Result<Event, StepFault>
+    ensures { result ≡ with_four_words harts hart name.now a.now b.now c.now d.now }
+{
+    if name == b"map".as_slice() {
+        map(harts, hart, a, b, c, d)
+    } else if name == b"protect".as_slice() {
+        protect(harts, hart, a, b, c, d)
+    } else {
+        Err(StepFault::NotStep)
+    }
+}
+
+/// The step of a hart with this name and the words after it.
+fn step_of_words(harts: u8, hart: u64, name: &[u8], words: &[&[u8]]) -> Result<Event, StepFault>
+    ensures { result ≡ step_of_words harts hart name.now (map (λ word. word.now) words.now) }
+{
+    match words {
+        [] => with_no_word(harts, hart, name),
+        [a] => with_a_word(harts, hart, name, a),
+        [a, b] => with_two_words(harts, hart, name, a, b),
+        [a, b, c] => with_three_words(harts, hart, name, a, b, c),
+        [a, b, c, d] => with_four_words(harts, hart, name, a, b, c, d),
+        _ => Err(StepFault::NotStep),
+    }
+}
+
+fn step_in(harts: u8, words: &[&[u8]]) -> Result<Event, StepFault>
+    ensures { result ≡ step_in harts (map (λ word. word.now) words.now) }
+{
+    match words {
+        [hart, name, words @ ..] => {
+            let hart = num(hart).ok_or(StepFault::NotStep)?;
+            step_of_words(harts, hart, name, words)
+        }
+        _ => Err(StepFault::NotStep),
+    }
+}
+
+/// The step of `run` that a text writes where there are so many harts, with numbers from 0, or the first of its faults.
+///
+/// The words are one of these lines, where H, G are harts, T a ticket below 2^32, S a space below 256, PL a space or `k`,
+/// PAGE a size and an address such as `4K:0x1000`, FLAGS letters of `rwxugad` or `-`, NAMED harts such as `0,1` or `-`, SCOPE
+/// a space or `all`, R a number or `x0`, M a mode such as `s+sum`, A an access, and VA, PPN numbers:
+///
+/// ```text
+/// H begin M A VA         H load                 H map PL PAGE PPN FLAGS    H unmap PL PAGE NAMED
+/// H flush SCOPE NAMED    H switch S             H fence R R                H protect PL PAGE FLAGS NAMED
+/// H post T G             H take G               H servefence               H ack
+/// H ackself T            H collect T G          H finish T                 H close G
+/// ```
+///
+/// `StepFault::NotStep`: the words are none of them. `NoSuchHart`: they are, and name a hart that is not there.
+/// `NotPage`: all harts are there, and the page's address is not canonical or no multiple of its size (privileged manual
+/// 4.4.1). `AllocError`: there was no room for the words.
+pub fn run_step_among(
+    alloc: Global,
+    harts: u8,
+    text: &str,
+) -> Result<Result<Event, StepFault>, AllocError>
+    ensures { IfOk result (λ step. step ≡ step_among harts text.now) }
+{
+    let words = words(alloc, text)?;
+    Ok(step_in(harts, words.as_slice()))
+}
+
+/// The step of `run` that a text writes where there are 8 harts, as many as there may be (`shoot::MAX_HARTS`); `None` where it has a fault.
+/// `AllocError`: there was no room for the words.
+pub fn run_step(alloc: Global, text: &str) -> Result<Option<Event>, AllocError>
+    ensures { IfOk result (λ step. step ≡ run_step_of text.now) }
+{
+    let step = run_step_among(alloc, MAX_HARTS as u8, text)?;
+    Ok(step.ok())
+}

@@ -1,0 +1,82 @@
+//! Step texts.
+ghost use Rattle.std.specs.Prelude.{◌≡◌, IfOk, map};
+ghost use Rattle.steps.specs.Step.{access_of, ctx_of, step_of_words, translation_of, walk_step_of};
+
+use crate::numbers::num;
+use crate::text::words;
+use pte::{Access, Ctx, Mode};
+use std::alloc::{AllocError, Global};
+
+/// One translation from the root.
+#[derive(Clone, Copy, Debug, PartialEq, Eq)]
+pub struct WalkStep {
+    pub ctx: Ctx,
+    pub access: Access,
+    pub va: u64,
+}
+
+/// The step of `walk` that a text writes, if it writes one. `AllocError`: there was no room for its words.
+pub fn walk_step(alloc: Global, text: &str) -> Result<Option<WalkStep>, AllocError>
+    ensures { IfOk result (λ step. step ≡ walk_step_of text.now) }
+{
+    let words = words(alloc, text)?;
+    Ok(step_in(words.as_slice()))
+}
+
+fn step_in(words: &[&[u8]]) -> Option<WalkStep>
+    ensures { result ≡ step_of_words (map (λ word. word.now) words.now) }
+{
+    if words.len() != 3 {
+        return None;
+    }
+    translation(words[0], words[1], words[2])
+}
+
+/// The words `M A VA`, for any command that has them in its steps.
+pub fn translation(mode: &[u8], access: &[u8], address: &[u8]) -> Option<WalkStep>
+    ensures { result ≡ translation_of mode.now access.now address.now }
+{
+    let ctx = read_ctx(mode)?;
+    let access = read_access(access)?;
+    let va = num(address)?;
+    Some(WalkStep { ctx, access, va })
+}
+
+fn read_access(word: &[u8]) -> Option<Access>
+    ensures { result ≡ access_of word.now }
+{
+    if word == b"fetch".as_slice() {
+        Some(Access::Fetch)
+    } else if word == b"load".as_slice() {
+        Some(Access::Load)
+    } else if word == b"store".as_slice() {
+        Some(Access::Store)
+    } else {
+        None
+    }
+}
+
+fn read_ctx(word: &[u8]) -> Option<Ctx>
+    ensures { result ≡ ctx_of word.now }
+{
+    let ctx = |mode, sum, mxr| Some(Ctx { mode, sum, mxr });
+    if word == b"u".as_slice() {
+        ctx(Mode::User, false, false)
+    } else if word == b"u+sum".as_slice() {
+        ctx(Mode::User, true, false)
+    } else if word == b"u+mxr".as_slice() {
+        ctx(Mode::User, false, true)
+    } else if word == b"u+sum+mxr".as_slice() {
+        ctx(Mode::User, true, true)
+    } else if word == b"s".as_slice() {
+        ctx(Mode::Super, false, false)
+    } else if word == b"s+sum".as_slice() {
+        ctx(Mode::Super, true, false)
+    } else if word == b"s+mxr".as_slice() {
+        ctx(Mode::Super, false, true)
+    } else if word == b"s+sum+mxr".as_slice() {
+        ctx(Mode::Super, true, true)
+    } else {
+        None
+    }
+}
