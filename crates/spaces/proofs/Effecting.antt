@@ -27,7 +27,7 @@ use Rattle.spaces.proofs.Trees.{IsPlace, kind-zero, pointed-zero, table_on-point
 use Rattle.spaces.proofs.Accepting.{home-there}
 use Rattle.spaces.proofs.Keeping.{IsLeafStore, IsPointerStore, there, reaches, keeps-tree, is-place, high}
 use Rattle.spaces.proofs.Numbers.{same-vpns, same-page, part-of, of-part, place-of-part, canonical-part, number-part}
-use Rattle.spaces.proofs.Leaves.{LeafOn, member-of, maps-of}
+use Rattle.spaces.proofs.Leaves.{LeafOn, member-of, maps-of, moved}
 
 -- a page's level fits its place: what hangs in both
 size-level : (size : PageSize) → level_of size ≤ top_level
@@ -235,19 +235,7 @@ module _ (l : Layout) (fits : IsLayout l) (words : Tables) (used : ℕ → ℕ) 
                     in
                     inr (is-about.0, m.place ∙ ap (λ n. n + number % level_pages m.level) leaves ∙ ap (λ n. first + n) part, flags-same, m.reach ∙ ap is_kernel is-about.2)
                 | inr apart ↦
-                    inl (maps-of l fits words used tree s number ppn f global root (record {
-                      va = m.va;
-                      level = m.level;
-                      table = m.table;
-                      entry = m.entry;
-                      leaf = m.leaf;
-                      canonical = m.canonical;
-                      of_page = m.of_page;
-                      on = new-old s m.va m.level m.table m.entry m.leaf f apart m.on;
-                      aligned = m.aligned;
-                      place = m.place;
-                      reach = m.reach;
-                    }))
+                    inl (maps-of l fits words used tree s number ppn f global root (moved l (words_after words store) words s number ppn f global m (new-old s m.va m.level m.table m.entry m.leaf f apart m.on) refl))
               ]
 
           backward : Maps words (root_ppn l s) number ppn f global
@@ -260,19 +248,7 @@ module _ (l : Layout) (fits : IsLayout l) (words : Tables) (used : ℕ → ℕ) 
               let bad : kinds.Leaf m.leaf f ≡ kinds.Invalid = sym m.on.kind ∙ ap kind_of (is ∙ zero-old) ∙ kind-zero in
               cc
               in
-              maps-of l fits (words_after words store) (used_by_all used store) new-tree s number ppn f global root (record {
-                va = m.va;
-                level = m.level;
-                table = m.table;
-                entry = m.entry;
-                leaf = m.leaf;
-                canonical = m.canonical;
-                of_page = m.of_page;
-                on = old-new s m.va m.level m.table m.entry m.leaf f apart m.on;
-                aligned = m.aligned;
-                place = m.place;
-                reach = m.reach;
-              })
+              maps-of l fits (words_after words store) (used_by_all used store) new-tree s number ppn f global root (moved l words (words_after words store) s number ppn f global m (old-new s m.va m.level m.table m.entry m.leaf f apart m.on) refl)
           backward (inr new) =
               let part = place-of-part (page_of wish).base (page_of wish).size number is-page.aligned new.0.1 in
               maps-of l fits (words_after words store) (used_by_all used store) new-tree s number ppn f global root (record {
@@ -303,19 +279,7 @@ module _ (l : Layout) (fits : IsLayout l) (words : Tables) (used : ℕ → ℕ) 
               cc
               in
               let old = new-old s m.va m.level m.table m.entry m.leaf f apart m.on in (
-                maps-of l fits words used tree s number ppn f global root (record {
-                  va = m.va;
-                  level = m.level;
-                  table = m.table;
-                  entry = m.entry;
-                  leaf = m.leaf;
-                  canonical = m.canonical;
-                  of_page = m.of_page;
-                  on = old;
-                  aligned = m.aligned;
-                  place = m.place;
-                  reach = m.reach;
-                }),
+                maps-of l fits words used tree s number ppn f global root (moved l (words_after words store) words s number ppn f global m old refl),
                 (λ is-about. let same = the-word s m.va m.level m.table m.entry m.leaf number f old m.of_page is-about in apart same.0 same.1),
               )
 
@@ -325,19 +289,7 @@ module _ (l : Layout) (fits : IsLayout l) (words : Tables) (used : ℕ → ℕ) 
               let apart : store.ppn ≡ m.table → store.index ≡ vpn_of m.va m.level → ⊥ = λ p q.
               not-about (about s m.va m.level m.table number m.on.place m.on.hangs m.on.has m.on.within m.on.low m.on.on m.canonical m.of_page p q).0
               in
-              maps-of l fits (words_after words store) (used_by_all used store) new-tree s number ppn f global root (record {
-                va = m.va;
-                level = m.level;
-                table = m.table;
-                entry = m.entry;
-                leaf = m.leaf;
-                canonical = m.canonical;
-                of_page = m.of_page;
-                on = old-new s m.va m.level m.table m.entry m.leaf f apart m.on;
-                aligned = m.aligned;
-                place = m.place;
-                reach = m.reach;
-              })
+              maps-of l fits (words_after words store) (used_by_all used store) new-tree s number ppn f global root (moved l words (words_after words store) s number ppn f global m (old-new s m.va m.level m.table m.entry m.leaf f apart m.on) refl)
 
       -- a leaf with other flags in place of a leaf
       pub changes-flags : (q : ℕ) (was fl : PteFlags) → kind_of acc.old ≡ kinds.Leaf q was → kind_of store.word ≡ kinds.Leaf q (seven fl)
@@ -396,19 +348,7 @@ module _ (l : Layout) (fits : IsLayout l) (words : Tables) (used : ℕ → ℕ) 
                 | inr apart ↦
                     let old = new-old s m.va m.level m.table m.entry m.leaf f apart m.on in
                     inl (
-                      maps-of l fits words used tree s number ppn f global root (record {
-                        va = m.va;
-                        level = m.level;
-                        table = m.table;
-                        entry = m.entry;
-                        leaf = m.leaf;
-                        canonical = m.canonical;
-                        of_page = m.of_page;
-                        on = old;
-                        aligned = m.aligned;
-                        place = m.place;
-                        reach = m.reach;
-                      }),
+                      maps-of l fits words used tree s number ppn f global root (moved l (words_after words store) words s number ppn f global m old refl),
                       (λ is-about. let same = the-word s m.va m.level m.table m.entry m.leaf number f old m.of_page is-about in apart same.0 same.1),
                     )
               ]
@@ -421,19 +361,7 @@ module _ (l : Layout) (fits : IsLayout l) (words : Tables) (used : ℕ → ℕ) 
               let apart : store.ppn ≡ m.table → store.index ≡ vpn_of m.va m.level → ⊥ = λ p q.
               not-about (about s m.va m.level m.table number m.on.place m.on.hangs m.on.has m.on.within m.on.low m.on.on m.canonical m.of_page p q).0
               in
-              maps-of l fits (words_after words store) (used_by_all used store) new-tree s number ppn f global root (record {
-                va = m.va;
-                level = m.level;
-                table = m.table;
-                entry = m.entry;
-                leaf = m.leaf;
-                canonical = m.canonical;
-                of_page = m.of_page;
-                on = old-new s m.va m.level m.table m.entry m.leaf f apart m.on;
-                aligned = m.aligned;
-                place = m.place;
-                reach = m.reach;
-              })
+              maps-of l fits (words_after words store) (used_by_all used store) new-tree s number ppn f global root (moved l words (words_after words store) s number ppn f global m (old-new s m.va m.level m.table m.entry m.leaf f apart m.on) refl)
           backward (inr (is-about, flags-same, mapped)) =
               let m = member-of l fits words used tree s number ppn mapped.0 global root mapped.1 in
               let same = the-word s m.va m.level m.table m.entry m.leaf number mapped.0 m.on m.of_page is-about in
@@ -486,28 +414,16 @@ module _ (l : Layout) (fits : IsLayout l) (words : Tables) (used : ℕ → ℕ) 
                 let bad : None ≡ Some (spare_ppn l (home_of l (place_of wish)) + used (home_of l (place_of wish))) = ap pointed_kind (sym m.on.kind) ∙ ap pointed is ∙ p.now in
                 cc
                 in
-                maps-of l fits words used tree s number ppn f global root (record {
-                  va = m.va;
-                  level = m.level;
-                  table = m.table;
-                  entry = m.entry;
-                  leaf = m.leaf;
-                  canonical = m.canonical;
-                  of_page = m.of_page;
-                  on = record {
-                    place = m.on.place;
-                    hangs = m.on.hangs;
-                    has = m.on.has;
-                    within = m.on.within;
-                    low = m.on.low;
-                    on = old-path;
-                    word = sym (stored-there words store.ppn store.index store.word m.table (vpn_of m.va m.level) apart) ∙ m.on.word;
-                    kind = m.on.kind;
-                  };
-                  aligned = m.aligned;
-                  place = m.place;
-                  reach = m.reach;
-                })
+                maps-of l fits words used tree s number ppn f global root (moved l (words_after words store) words s number ppn f global m (record {
+                  place = m.on.place;
+                  hangs = m.on.hangs;
+                  has = m.on.has;
+                  within = m.on.within;
+                  low = m.on.low;
+                  on = old-path;
+                  word = sym (stored-there words store.ppn store.index store.word m.table (vpn_of m.va m.level) apart) ∙ m.on.word;
+                  kind = m.on.kind;
+                }) refl)
           ]
 
       backward : Maps words (root_ppn l s) number ppn f global → Maps (words_after words store) (root_ppn l s) number ppn f global
@@ -518,25 +434,13 @@ module _ (l : Layout) (fits : IsLayout l) (words : Tables) (used : ℕ → ℕ) 
           let bad : kinds.Leaf m.leaf f ≡ kinds.Invalid = sym m.on.kind ∙ ap kind_of (some-same _ _ is ∙ p.was) ∙ kind-zero in
           cc
           in
-          maps-of l fits (words_after words store) (used_by_all used store) new-tree s number ppn f global root (record {
-            va = m.va;
-            level = m.level;
-            table = m.table;
-            entry = m.entry;
-            leaf = m.leaf;
-            canonical = m.canonical;
-            of_page = m.of_page;
-            on = record {
-              place = m.on.place;
-              hangs = m.on.hangs;
-              has = m.on.has;
-              within = m.on.within;
-              low = m.on.low;
-              on = table_on-kept l fits words _ _ home-tree store.ppn store.index store.word place-is p.room p.now up m.on.place m.va (start_level m.on.place - m.level) m.table m.on.on;
-              word = stored-there words store.ppn store.index store.word m.table (vpn_of m.va m.level) apart ∙ m.on.word;
-              kind = m.on.kind;
-            };
-            aligned = m.aligned;
-            place = m.place;
-            reach = m.reach;
-          })
+          maps-of l fits (words_after words store) (used_by_all used store) new-tree s number ppn f global root (moved l words (words_after words store) s number ppn f global m (record {
+            place = m.on.place;
+            hangs = m.on.hangs;
+            has = m.on.has;
+            within = m.on.within;
+            low = m.on.low;
+            on = table_on-kept l fits words _ _ home-tree store.ppn store.index store.word place-is p.room p.now up m.on.place m.va (start_level m.on.place - m.level) m.table m.on.on;
+            word = stored-there words store.ppn store.index store.word m.table (vpn_of m.va m.level) apart ∙ m.on.word;
+            kind = m.on.kind;
+          }) refl)

@@ -210,6 +210,23 @@ pub record Member (l : Layout) (words : Tables) (s number ppn : ℕ) (flags : Pt
   pub place : ppn ≡ leaf + number % level_pages level
   pub reach : global ≡ is_kernel on.place
 
+-- what is mapped in one memory is in another, where its leaf stands there too
+pub moved : (l : Layout) (old new : Tables) (s number ppn : ℕ) (flags : PteFlags) (global : Bool) (m : Member l old s number ppn flags global)
+    → (on : LeafOn l new s m.va m.level m.table m.entry m.leaf flags) → on.place ≡ m.on.place → Member l new s number ppn flags global
+moved l old new s number ppn flags global m on same = record {
+  va = m.va;
+  level = m.level;
+  table = m.table;
+  entry = m.entry;
+  leaf = m.leaf;
+  canonical = m.canonical;
+  of_page = m.of_page;
+  on = on;
+  aligned = m.aligned;
+  place = m.place;
+  reach = m.reach ∙ ap is_kernel (sym same);
+}
+
 module _ (l : Layout) (fits : IsLayout l) (words : Tables) (used : ℕ → ℕ) (tree : IsTree l words used) (s number ppn : ℕ) (flags : PteFlags) (global : Bool) (has : s < length l.homes) where
   pub member-of : Maps words (root_ppn l s) number ppn flags global → Member l words s number ppn flags global
   member-of m =

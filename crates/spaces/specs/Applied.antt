@@ -14,10 +14,10 @@ words_after words store = stored words store.ppn store.index store.word
 abbrev pub used_after : ℕ → Store → ℕ
 used_after used store = if is_some (pointed (Some store.word)) then used + 1 else used
 
--- the flags that an entry has: bits 7 to 1
-abbrev pub seven : PteFlags → PteFlags
-seven flags = record { 0 = flags.0 / 2 * 2 }
-
 -- the same, hart by hart
 abbrev pub used_by_all : (ℕ → ℕ) → Store → ℕ → ℕ
 used_by_all used store h = if h == store.hart then used_after (used h) store else used h
+
+-- the flags that an entry has: bits 7 to 1
+abbrev pub seven : PteFlags → PteFlags
+seven flags = record { 0 = flags.0 / 2 * 2 }

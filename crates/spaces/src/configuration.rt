@@ -23,7 +23,9 @@ pub const MAX_LIVE_FRAMES: u64 = 96;
 /// An address space: the hart that alone stores to its tables, and its ASID.
 #[derive(Clone, Copy, PartialEq, Eq, Debug, Default)]
 pub struct Space {
+    /// The hart, below the number of harts.
     pub home: u8,
+    /// The ASID, different from those of the other spaces.
     pub asid: u16,
 }
 

@@ -157,7 +157,8 @@ pub fn next_map_edit(
     )
 }
 
-/// The one store that unmaps the page: 0 in the place of its leaf.
+/// The one store that unmaps the page: 0 in the place of its leaf. Refused, in this order, with `NotHome`, `WrongHalf`, and
+/// then `NotMapped` or `WrongSize` by what the path of the page ends at.
 pub fn unmap_edit(memory: &Memory, hart: u8, place: Place, page: Page) -> Result<Edit, MapFault>
     requires { HasPlace memory.now.layout place }
     ensures outcome { result ≡ edit_of memory.now.layout (words_of memory.now) (spare_of memory.now hart) hart (wish.Unmap place page) }
@@ -166,7 +167,8 @@ pub fn unmap_edit(memory: &Memory, hart: u8, place: Place, page: Page) -> Result
     edit_due(memory, hart, &Wish::Unmap { place, page })
 }
 
-/// The one store that gives the page's leaf other flags, and keeps its PPN.
+/// The one store that gives the page's leaf other flags, and keeps its PPN. Refused, in this order, with `NotHome`,
+/// `WrongHalf`, `BadFlags`, and then `NotMapped` or `WrongSize` by what the path of the page ends at.
 pub fn protect_edit(
     memory: &Memory,
     hart: u8,

@@ -2,14 +2,13 @@
 
 ghost use Rattle.std.specs.Prelude.{◌≡◌, ◌-◌, ◌<◌, ◌≤◌, ◌↔◌, ◌*◌, ℕ, Bool, IsTrue, length};
 ghost use Rattle.pte.specs.declared.flags.PteFlags.{PteFlags};
-ghost use Rattle.pte.specs.Address.{bytes_of, top_level, vpn_of};
+ghost use Rattle.pte.specs.Address.{bytes_of, Span, top_level, vpn_of};
 ghost use Rattle.walk.specs.Leads.{Tables};
 ghost use Rattle.walk.specs.Maps.{Maps};
 ghost use Rattle.spaces.specs.declared.configuration.Config.{Config as Configuration};
 ghost use Rattle.spaces.specs.declared.places.Place.{Place as PlaceOf};
 ghost use Rattle.spaces.specs.declared.wishes.Wish.{Wish as WishOf};
 ghost use Rattle.spaces.specs.declared.wishes.Wish.TheVariants as wish;
-ghost use Rattle.pte.specs.Address.{Span};
 ghost use Rattle.spaces.specs.Layout.{first_window_slot, Layout, home_of, layout_of, root_ppn};
 ghost use Rattle.spaces.specs.Limits.{max_frames, MeetsLimits};
 ghost use Rattle.spaces.specs.Opening.{opening};

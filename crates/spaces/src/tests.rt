@@ -139,111 +139,68 @@ fn table_of_words(rt: HostRuntime) {
     }
 }
 
+fn with_harts(harts: u16) -> Config {
+    Config {
+        harts,
+        ..default_config()
+    }
+}
+
+fn with_window(window: u16) -> Config {
+    Config {
+        window,
+        ..default_config()
+    }
+}
+
+fn with_spaces(list: &[(u8, u16)]) -> Config {
+    Config {
+        spaces: spaces_of(list),
+        ..default_config()
+    }
+}
+
+fn with_capacity(capacity: u16) -> Config {
+    Config {
+        capacity,
+        ..default_config()
+    }
+}
+
+fn with_spares(counts: &[u16]) -> Config {
+    Config {
+        spares: spares_of(counts),
+        ..default_config()
+    }
+}
+
+fn with_base(base: u64) -> Config {
+    Config {
+        base,
+        ..default_config()
+    }
+}
+
 #[test]
-fn refused_layouts(rt: HostRuntime) {
-    let good = default_config;
+fn layouts_at_their_limits(rt: HostRuntime) {
     let rows = [
-        (Config { harts: 0, ..good() }, false),
-        (Config { harts: 9, ..good() }, false),
-        (
-            Config {
-                window: 0,
-                ..good()
-            },
-            false,
-        ),
-        (
-            Config {
-                window: 5,
-                ..good()
-            },
-            false,
-        ),
-        (
-            Config {
-                spaces: spaces_of(&[]),
-                ..good()
-            },
-            false,
-        ),
-        (
-            Config {
-                spaces: spaces_of(&[(0, 1), (0, 1)]),
-                ..good()
-            },
-            false,
-        ),
-        (
-            Config {
-                spaces: spaces_of(&[(1, 1)]),
-                ..good()
-            },
-            false,
-        ),
-        (
-            Config {
-                capacity: 0,
-                ..good()
-            },
-            false,
-        ),
-        (
-            Config {
-                capacity: 65,
-                ..good()
-            },
-            false,
-        ),
-        (
-            Config {
-                spares: spares_of(&[511]),
-                ..good()
-            },
-            false,
-        ),
-        (
-            Config {
-                spares: spares_of(&[8, 8]),
-                ..good()
-            },
-            false,
-        ),
-        (
-            Config {
-                base: (1 << 44) - 9,
-                ..good()
-            },
-            false,
-        ),
-        (
-            Config {
-                base: u64::MAX,
-                ..good()
-            },
-            false,
-        ),
-        (
-            Config {
-                base: (1 << 44) - 10,
-                ..good()
-            },
-            true,
-        ),
-        (
-            Config {
-                spares: spares_of(&[510]),
-                ..good()
-            },
-            true,
-        ),
-        (
-            Config {
-                capacity: 64,
-                window: 4,
-                ..good()
-            },
-            true,
-        ),
+        (with_harts(0), false),
+        (with_harts(9), false),
+        (with_window(0), false),
+        (with_window(5), false),
+        (with_spaces(&[]), false),
+        (with_spaces(&[(0, 1), (0, 1)]), false),
+        (with_spaces(&[(1, 1)]), false),
+        (with_capacity(0), false),
+        (with_capacity(65), false),
+        (with_spares(&[511]), false),
+        (with_spares(&[8, 8]), false),
+        (with_base((1 << 44) - 9), false),
+        (with_base(u64::MAX), false),
+        (with_base((1 << 44) - 10), true),
+        (with_spares(&[510]), true),
+        (with_capacity(64), true),
+        (with_window(4), true),
     ];
     for (config, accepted) in &rows {
         assert!(rt; config.check() == *accepted);
@@ -253,137 +210,88 @@ fn refused_layouts(rt: HostRuntime) {
         };
         assert!(rt; refused != *accepted);
     }
+    assert!(rt; with_spares(&[94]).check_live());
+    assert!(rt; !with_spares(&[95]).check_live());
+}
+
+fn map(ppn: u64, bits: u8) -> Call {
+    Call::Map(ppn, bits)
+}
+
+const RUAD: u8 = R | U | A | D;
+
+/// Memory of two harts, in which the 2 MiB at 0x400000 of the space are mapped.
+fn with_large_page(rt: &impl Abort, alloc: Global) -> Memory {
+    let config = Config {
+        harts: 2,
+        ..with_spares(&[8, 8])
+    };
+    let mut memory = opened(rt, alloc, &config);
+    let large = page(rt, 0x40_0000, PageSize::Mib2);
+    let rwuad = map(0x200, W | RUAD);
     assert!(rt;
-        Config {
-            spares: spares_of(&[94]),
-            ..good()
-        }
-        .check_live()
+        edited(rt, &mut memory, 0, Place::Space(0), large, rwuad) == Ok((0x8_0001, 0, 0x2000_0801))
     );
     assert!(rt;
-        !Config {
-            spares: spares_of(&[95]),
-            ..good()
-        }
-        .check_live()
+        edited(rt, &mut memory, 0, Place::Space(0), large, rwuad) == Ok((0x8_0002, 2, 0x8_00D7))
     );
+    memory
 }
 
 #[test]
-fn refused_edits(rt: HostRuntime) {
-    let config = Config {
-        harts: 2,
-        spares: spares_of(&[8, 8]),
-        ..default_config()
-    };
-    let mut memory = opened(&rt, rt.alloc(), &config);
-    let large = page(&rt, 0x40_0000, PageSize::Mib2);
-    let rwuad = Call::Map(0x200, R | W | U | A | D);
-    assert!(rt;
-        edited(&rt, &mut memory, 0, Place::Space(0), large, rwuad) == Ok((0x8_0001, 0, 0x2000_0801))
-    );
-    assert!(rt;
-        edited(&rt, &mut memory, 0, Place::Space(0), large, rwuad) == Ok((0x8_0002, 2, 0x8_00D7))
-    );
+fn edits_refused_by_what_is_asked(rt: HostRuntime) {
+    let mut memory = with_large_page(&rt, rt.alloc());
+    let small = page(&rt, 0x1000, PageSize::Kib4);
+    let large = page(&rt, 0x60_0000, PageSize::Mib2);
+    let window = page(&rt, KERNEL, PageSize::Kib4);
+    let space = Place::Space(0);
     assert!(rt; !memory.has(Place::Space(5)));
+    assert!(rt;
+        edited(&rt, &mut memory, 1, space, small, map(0x100, RUAD)) == Err(MapFault::NotHome)
+    );
+    let too_large = map(1 << 44, RUAD);
+    let rows = [
+        (space, window, map(0x100, RUAD), MapFault::WrongHalf),
+        (
+            Place::Kernel,
+            small,
+            map(0x100, R | G | A | D),
+            MapFault::WrongHalf,
+        ),
+        (space, small, map(0x100, W | X | U), MapFault::BadFlags),
+        (space, small, map(0x100, RUAD | G), MapFault::BadFlags),
+        (Place::Kernel, window, map(0x100, R), MapFault::BadFlags),
+        (space, small, too_large, MapFault::PpnTooLarge),
+        (space, large, map(0x201, RUAD), MapFault::Misaligned),
+    ];
+    for (place, page, call, fault) in rows {
+        assert!(rt; edited(&rt, &mut memory, 0, place, page, call) == Err(fault));
+    }
+}
+
+#[test]
+fn edits_refused_by_what_stands_there(rt: HostRuntime) {
+    let mut memory = with_large_page(&rt, rt.alloc());
+    let large = page(&rt, 0x40_0000, PageSize::Mib2);
+    let huge = page(&rt, 0, PageSize::Gib1);
     let small = page(&rt, 0x1000, PageSize::Kib4);
     let inside = page(&rt, 0x40_1000, PageSize::Kib4);
-    let window = page(&rt, KERNEL, PageSize::Kib4);
-    let ruad = R | U | A | D;
+    let slot = page(&rt, KERNEL, PageSize::Gib1);
     let space = Place::Space(0);
+    let rgad = map(0x4_0000, R | G | A | D);
     let rows = [
-        (1, space, small, Call::Map(0x100, ruad), MapFault::NotHome),
-        (
-            0,
-            space,
-            window,
-            Call::Map(0x100, ruad),
-            MapFault::WrongHalf,
-        ),
-        (
-            0,
-            Place::Kernel,
-            small,
-            Call::Map(0x100, R | G | A | D),
-            MapFault::WrongHalf,
-        ),
-        (
-            0,
-            space,
-            small,
-            Call::Map(0x100, W | X | U | A | D),
-            MapFault::BadFlags,
-        ),
-        (
-            0,
-            space,
-            small,
-            Call::Map(0x100, ruad | G),
-            MapFault::BadFlags,
-        ),
-        (
-            0,
-            Place::Kernel,
-            window,
-            Call::Map(0x100, R | A | D),
-            MapFault::BadFlags,
-        ),
-        (
-            0,
-            space,
-            small,
-            Call::Map(0x1000_0000_0000, ruad),
-            MapFault::PpnTooLarge,
-        ),
-        (
-            0,
-            space,
-            page(&rt, 0x60_0000, PageSize::Mib2),
-            Call::Map(0x201, ruad),
-            MapFault::Misaligned,
-        ),
-        (
-            0,
-            space,
-            large,
-            Call::Map(0x400, ruad),
-            MapFault::AlreadyMapped,
-        ),
-        (
-            0,
-            space,
-            inside,
-            Call::Map(0x100, ruad),
-            MapFault::LeafInWay,
-        ),
-        (
-            0,
-            space,
-            page(&rt, 0, PageSize::Gib1),
-            Call::Map(0x4_0000, ruad),
-            MapFault::TableInWay,
-        ),
-        (
-            0,
-            Place::Kernel,
-            page(&rt, KERNEL, PageSize::Gib1),
-            Call::Map(0x4_0000, R | G | A | D),
-            MapFault::TableInWay,
-        ),
-        (0, space, inside, Call::Unmap, MapFault::WrongSize),
-        (0, space, small, Call::Unmap, MapFault::NotMapped),
-        (0, space, inside, Call::Protect(ruad), MapFault::WrongSize),
-        (0, space, small, Call::Protect(ruad), MapFault::NotMapped),
-        (
-            0,
-            Place::Kernel,
-            page(&rt, KERNEL, PageSize::Gib1),
-            Call::Unmap,
-            MapFault::WrongSize,
-        ),
+        (space, large, map(0x400, RUAD), MapFault::AlreadyMapped),
+        (space, inside, map(0x100, RUAD), MapFault::LeafInWay),
+        (space, huge, map(0x4_0000, RUAD), MapFault::TableInWay),
+        (Place::Kernel, slot, rgad, MapFault::TableInWay),
+        (space, inside, Call::Unmap, MapFault::WrongSize),
+        (space, small, Call::Unmap, MapFault::NotMapped),
+        (space, inside, Call::Protect(RUAD), MapFault::WrongSize),
+        (space, small, Call::Protect(RUAD), MapFault::NotMapped),
+        (Place::Kernel, slot, Call::Unmap, MapFault::WrongSize),
     ];
-    for (hart, place, page, call, fault) in rows {
-        assert!(rt; edited(&rt, &mut memory, hart, place, page, call) == Err(fault));
+    for (place, page, call, fault) in rows {
+        assert!(rt; edited(&rt, &mut memory, 0, place, page, call) == Err(fault));
     }
 }
 

@@ -224,43 +224,21 @@ fn what_a_walk_found_answers(rt: HostRuntime) {
     assert_eq!(rt; tlb.lookup(2, va), None);
 }
 
+/// A page fault.
+fn fault(cause: u8, why: Why) -> Result<u64, Trap> {
+    Err(Trap { cause, why })
+}
+
 #[test]
 fn a_match_tests_permission_then_accessed_then_dirty(rt: HostRuntime) {
     let user = PteFlags::R | PteFlags::W | PteFlags::U;
+    let clean = user | PteFlags::A;
     let rows = [
-        (
-            user,
-            Access::Fetch,
-            Err(Trap {
-                cause: 12,
-                why: Why::Denied,
-            }),
-        ),
-        (
-            user,
-            Access::Load,
-            Err(Trap {
-                cause: 13,
-                why: Why::NotAccessed,
-            }),
-        ),
-        (
-            user,
-            Access::Store,
-            Err(Trap {
-                cause: 15,
-                why: Why::NotAccessed,
-            }),
-        ),
-        (user | PteFlags::A, Access::Load, Ok(0x1234_5ABC)),
-        (
-            user | PteFlags::A,
-            Access::Store,
-            Err(Trap {
-                cause: 15,
-                why: Why::NotDirty,
-            }),
-        ),
+        (user, Access::Fetch, fault(12, Why::Denied)),
+        (user, Access::Load, fault(13, Why::NotAccessed)),
+        (user, Access::Store, fault(15, Why::NotAccessed)),
+        (clean, Access::Load, Ok(0x1234_5ABC)),
+        (clean, Access::Store, fault(15, Why::NotDirty)),
     ];
     let va = address(&rt, 0x8040_3ABC);
     for (flags, access, answer) in &rows {
