@@ -17,7 +17,7 @@
 //! | finish the four tickets | the home | 4 ok |
 //!
 //! So a turn is answered by 392 hit, 168 more, 56 filled, 4 leaf, 4 opened, 95 ok, 28 taken, 4 done and 28 waiting. A TLB
-//! keeps what it holds of the pages that stay: it is full in each turn, and of a space's pages it holds nothing when the
+//! keeps what it holds of the pages that stay: it is full from its third turn on, and of a space's pages it holds nothing when the
 //! space has its next turn, since each turn fills eight entries of sixteen and drops four.
 //!
 //! The file `stdout` is what 100,000 asks for: 100,000 / (8 * 779) = 16 cycles, which are 128 turns, after an opening
