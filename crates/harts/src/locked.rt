@@ -1,6 +1,6 @@
 //! A machine that threads share under one lock.
 
-ghost use Rattle.std.specs.Prelude.{◌≡◌, ℕ, ◌+◌, ◌<◌, ◌≤◌, length, vec_len, Err, IfOk, OnOk, OnErr, ◌↔◌};
+ghost use Rattle.std.specs.Prelude.{◌≡◌, ℕ, ◌+◌, ◌<◌, ◌≤◌, [], ◌∷◌, ◌++◌, length, vec_len, Err, IfOk, OnOk, OnErr, ◌↔◌};
 ghost use Rattle.std.specs.List.{sum_by};
 ghost use Rattle.spaces.specs.Limits.{max_frames, MeetsLimits};
 ghost use Rattle.history.specs.Setup.{setup_of};
@@ -24,10 +24,12 @@ struct Kept<C: Named> {
 }
 
 impl<C: Named> Kept<C> {
-    /// One event, which the share counts if it was answered.
+    /// One event, which is kept with its reply and counted by the share if it was answered.
     fn call(&mut self, mine: &mut Share<C>, event: Event) -> Result<Reply, AllocError>
         requires { 0 < mine.old.parts }
         ensures due { IfOk result (λ reply. IsDueAfterSome (setup_of C.config) event reply) }
+        ensures appended { IfOk result (λ reply. self.new.book ≡ self.old.book ++ (event, reply) ∷ []) }
+        ensures unchanged { OnErr result (self.new.book ≡ self.old.book) }
         ensures ok { OnOk result (mine.new.amount ≡ mine.old.amount + 1) }
         ensures err { OnErr result (mine.new.amount ≡ mine.old.amount) }
         ensures parts { mine.new.parts ≡ mine.old.parts }
@@ -82,8 +84,9 @@ impl<C: Named> Locked<C> {
         Ok((locked, tallies))
     }
 
-    /// Takes the lock for one event. The reply is the due one after the events that were called before it, by whichever thread,
-    /// and the event is kept with it. At `AllocError` nothing changed.
+    /// Takes the lock for one event, which is kept with its reply. The reply is due after some lawful history of the
+    /// configuration, and the tally counts one more. `AllocError` if there is no memory to keep the event; the tally is then the
+    /// same, and the machine too.
     pub fn call(
         &self,
         rt: &impl Wait,

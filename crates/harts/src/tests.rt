@@ -137,6 +137,25 @@ fn answers<C: Named, R: Wait>(
     Some(same && history.as_slice() == steps)
 }
 
+/// What a book answers to one event after another, and whether it shows each with its reply.
+fn book_shows<C: Named>(alloc: Global, config: &Config, steps: &[(Event, Reply)]) -> Option<bool>
+    requires { C.config ≡ config.now }
+{
+    let Ok(mut book) = Book::<C>::open(alloc, config) else {
+        return None;
+    };
+    let mut same = true;
+    for step in steps {
+        let Ok(reply) = book.note(step.0) else {
+            return None;
+        };
+        same &= reply == step.1;
+    }
+    same &= book.history() == steps;
+    let (machine, history) = book.into_parts();
+    Some(same && machine.harts() == 2 && history.as_slice() == steps)
+}
+
 fn map_of(page: &Page) -> Event {
     Event::Map {
         hart: 0,
@@ -227,6 +246,23 @@ fn superpage_shootdown_through_calls(rt: HostRuntime) -> Result<(), Fail> {
     }
     let config = two_harts();
     let same = answers::<Brand, _>(&rt, rt.alloc(), Blank::new(2), &config, steps.as_slice());
+    assert!(rt; same == Some(true));
+    Ok(())
+}
+
+/// A book shows the events with their replies, the refused one too.
+#[test]
+fn book_shows_its_history(rt: HostRuntime) -> Result<(), Fail> {
+    let Some(page) = superpage() else {
+        return Err(Fail::new("no page"));
+    };
+    let mut steps = Vec::new(rt.alloc());
+    for step in mapped_used_unmapped(&page) {
+        steps.push(step)?;
+    }
+    steps.push((finish(), Reply::Refused(Refusal::NotDone)))?;
+    let config = two_harts();
+    let same = book_shows::<Brand>(rt.alloc(), &config, steps.as_slice());
     assert!(rt; same == Some(true));
     Ok(())
 }

@@ -1,9 +1,6 @@
 -- What a machine that stands at a history answers to Post, Take and Close: the reply that is due.
-use Rattle.std.proofs.Common.{◌≡◌, ℕ, ◌<◌, Bool, true, false, cond, not, List, [], ◌∷◌, Option, Some, None, slice_get, refl, ap, ◌∙◌, eqb, leb, arith}
+use Rattle.std.proofs.Common.{◌≡◌, ℕ, ◌<◌, Bool, true, false, cond, not, List, [], ◌∷◌, Option, Some, None, slice_get, refl, ap, ◌∙◌, leb, arith}
 use Rattle.std.specs.Prelude.{is_some}
-use Rattle.std.proofs.lemmas.Bool.{not-false, ltb-true}
-use Rattle.walk.specs.Leads.{Tables}
-use Rattle.walk.specs.Stage.{Stage}
 use Rattle.shoot.specs.Request.{Message}
 use Rattle.shoot.specs.HartSet.{contains}
 use Rattle.shoot.specs.Mailbox.{MailboxState, post_fault}
@@ -14,39 +11,23 @@ use Rattle.shoot.specs.declared.tickets.Ticket.{Ticket}
 use Rattle.shoot.proofs.HartSets.{contains_where}
 use Rattle.history.specs.Setup.{Setup}
 use Rattle.history.specs.declared.event.Event.TheVariants.{Post, Take, Close}
-use Rattle.history.specs.declared.refusal.Refusal.{Refusal}
-use Rattle.history.specs.declared.refusal.Refusal.TheVariants.{NoHart, NotOpen, NotNamed, AlreadyPosted, Closed, Full, Walking, Serving}
+use Rattle.history.specs.declared.refusal.Refusal.TheVariants.{NotOpen, NotNamed, AlreadyPosted, Closed, Full, Walking, Serving}
 use Rattle.history.specs.declared.reply.Reply.{Reply}
 use Rattle.history.specs.declared.reply.Reply.TheVariants as reply
 use Rattle.history.specs.Turns.{History}
 use Rattle.history.specs.Orders.{Order, order_at, open_order}
-use Rattle.history.specs.Mailboxes.{Sent, waiting, is_closed}
+use Rattle.history.specs.Mailboxes.{waiting, is_closed}
 use Rattle.history.specs.Service.{served, has_fenced}
 use Rattle.history.specs.Acknowledgements.{is_posted, outstanding}
-use Rattle.history.specs.Harts.{Walking as Walk, walk_of}
-use Rattle.history.specs.Due.{due, refuse, is_hart, are_pair, post_reply, next_reply}
-use Rattle.laws.proofs.Tools.{and3}
+use Rattle.history.specs.Harts.{walk_of}
+use Rattle.history.specs.Due.{due, refuse, post_reply, next_reply}
 use Rattle.laws.proofs.Orders.{open_known}
 use Rattle.stepcore.specs.declared.serving.Serving.{Serving as Service}
-use Rattle.stepcore.specs.State.{State, IsMachine, setup_in, hart_at, mailbox_at}
+use Rattle.stepcore.specs.State.{State, IsMachine, hart_at, mailbox_at}
 use Rattle.stepcore.specs.Answers.{reply_to, post_answer, box_answer, next_answer}
-use Rattle.stepcore.specs.Stands.{Stands, AreSameWalk, service_with, ticket_held, tickets_of, mailbox_of}
+use Rattle.stepcore.specs.Stands.{Stands, ticket_held, tickets_of, mailbox_of}
+use Rattle.stepcore.proofs.Tools.{walks_alike, serves_alike, pair_there}
 use Rattle.stepcore.proofs.TicketsHeld.{ticket_told}
-
--- two answers behind a test that differ only where it passes
-pub refuse_same : (test : Bool) (why : Refusal) (a b : Reply) → (test ≡ false → a ≡ b) → refuse test why a ≡ refuse test why b
-refuse_same true why a b f = refl
-refuse_same false why a b f = f refl
-
--- both harts of a pair are there
-pub record IsPair (C : Setup) (a b : ℕ) : Type 0 where
-  pub first : a < C.harts
-  pub second : b < C.harts
-
-pub pair_parts : (C : Setup) (a b : ℕ) → not (are_pair C a b) ≡ false → IsPair C a b
-pair_parts C a b e =
-    let p = and3 (is_hart C a) (is_hart C b) (not (eqb a b)) (not-false (are_pair C a b) e) in
-    record { first = ltb-true a C.harts p.0; second = ltb-true b C.harts p.1 }
 
 -- Post
 fault_same : (closed full : Bool) → box_answer (cond closed (Some fault.Closed) (cond full (Some fault.Full) None)) ≡ refuse closed Closed (refuse full Full reply.Ok)
@@ -71,16 +52,6 @@ post_due C H s h (Some k) l f =
     (fault_same (is_closed H s h) (leb C.capacity (outstanding C H s h))))
 
 -- Take
-walk_same : (words : Tables) (root : ℕ) (stage : Option Stage) (walk : Option Walk) → AreSameWalk words root stage walk → is_some stage ≡ is_some walk
-walk_same words root None None s = refl
-walk_same words root None (Some walk) s = absurd s
-walk_same words root (Some stage) None s = absurd s
-walk_same words root (Some stage) (Some walk) s = refl
-
-service_same : (fenced : Bool) (sent : Option Sent) → is_some (service_with fenced sent) ≡ is_some sent
-service_same fenced None = refl
-service_same fenced (Some sent) = refl
-
 next_same : (ws : List Message) → next_answer (slice_get ws 0) ≡ next_reply ws
 next_same [] = refl
 next_same (w ∷ ws) = refl
@@ -90,30 +61,25 @@ module _ (C : Setup) (m : State) (H : History) (st : Stands C m H) (is : IsMachi
   pub hart_below : (h : ℕ) → h < C.harts → h < MAX_HARTS
   hart_below h l = let n = ap (λ (S : Setup). S.harts) st.setup in let few = is.few in omega arith
 
-  pub pair_same : (a b : ℕ) (x y : Reply) → (a < C.harts → b < C.harts → x ≡ y) → refuse (not (are_pair (setup_in m) a b)) NoHart x ≡ refuse (not (are_pair C a b)) NoHart y
-  pair_same a b x y f =
-      ap (λ (S : Setup). refuse (not (are_pair S a b)) NoHart x) st.setup
-      ∙ refuse_same (not (are_pair C a b)) NoHart x y (λ e. let p = pair_parts C a b e in f p.first p.second)
-
   -- an open order is one that its sender opened
   pub order_of : (s t k : ℕ) → open_order H s t ≡ Some k → (order : Order) × (order_at C H k ≡ Some order)
   order_of s t k e = let o = open_known C H s t k st.lawful e in (o.order, o.is)
 
   pub post_reply_due : (s t h : ℕ) → reply_to m (Post s t h) ≡ due C H (Post s t h)
-  post_reply_due s t h = pair_same s h _ _ (λ ls lh.
+  post_reply_due s t h = pair_there C m s h _ _ st.setup (λ ls lh.
       ap (λ (table : TicketTable). post_answer table (mailbox_at m s h) t h) (st.tickets s ls)
       ∙ ap (λ (mailbox : MailboxState). post_answer (tickets_of C H s) mailbox t h) (st.mailboxes s h ls lh)
       ∙ ap (λ (ticket : Option Ticket). post_with ticket (mailbox_of C H s h) h) (ticket_told C H s t st.lawful)
       ∙ post_due C H s h (open_order H s t) (hart_below h lh) (λ k e. order_of s t k e))
 
   pub take_reply_due : (h s : ℕ) → reply_to m (Take h s) ≡ due C H (Take h s)
-  take_reply_due h s = pair_same h s _ _ (λ lh ls.
+  take_reply_due h s = pair_there C m h s _ _ st.setup (λ lh ls.
       let hart = st.harts h lh in
-      ap (λ (v : Bool). refuse v Walking (refuse (is_some (hart_at m h).serving) Serving (next_answer (slice_get (mailbox_at m s h).waiting 0)))) (walk_same _ _ _ _ hart.walk)
+      ap (λ (v : Bool). refuse v Walking (refuse (is_some (hart_at m h).serving) Serving (next_answer (slice_get (mailbox_at m s h).waiting 0)))) (walks_alike _ _ _ _ hart.walk)
       ∙ ap (λ (v : Option Service). refuse (is_some (walk_of H h)) Walking (refuse (is_some v) Serving (next_answer (slice_get (mailbox_at m s h).waiting 0)))) hart.serving
-      ∙ ap (λ (v : Bool). refuse (is_some (walk_of H h)) Walking (refuse v Serving (next_answer (slice_get (mailbox_at m s h).waiting 0)))) (service_same (has_fenced H h) (served C H h))
+      ∙ ap (λ (v : Bool). refuse (is_some (walk_of H h)) Walking (refuse v Serving (next_answer (slice_get (mailbox_at m s h).waiting 0)))) (serves_alike (has_fenced H h) (served C H h))
       ∙ ap (λ (mailbox : MailboxState). refuse (is_some (walk_of H h)) Walking (refuse (is_some (served C H h)) Serving (next_answer (slice_get mailbox.waiting 0)))) (st.mailboxes s h ls lh)
       ∙ ap (λ (r : Reply). refuse (is_some (walk_of H h)) Walking (refuse (is_some (served C H h)) Serving r)) (next_same (waiting C H s h)))
 
   pub close_reply_due : (s h : ℕ) → reply_to m (Close s h) ≡ due C H (Close s h)
-  close_reply_due s h = pair_same s h _ _ (λ ls lh. ap (λ (mailbox : MailboxState). refuse mailbox.closed Closed reply.Ok) (st.mailboxes s h ls lh))
+  close_reply_due s h = pair_there C m s h _ _ st.setup (λ ls lh. ap (λ (mailbox : MailboxState). refuse mailbox.closed Closed reply.Ok) (st.mailboxes s h ls lh))

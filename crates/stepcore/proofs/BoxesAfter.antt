@@ -34,7 +34,8 @@ use Rattle.stepcore.specs.State.{State, IsMachine, mailbox_index, tickets_at, ma
 use Rattle.stepcore.specs.Changes.{what_in, is_collectable as is_collectable_in, mailboxes_after}
 use Rattle.stepcore.specs.Stands.{Stands, ticket_held, mailbox_of}
 use Rattle.stepcore.proofs.TicketsHeld.{ticket_told, what_told}
-use Rattle.stepcore.proofs.BoxReplies.{pair_parts, hart_below, order_of}
+use Rattle.stepcore.proofs.Tools.{pair_parts}
+use Rattle.stepcore.proofs.BoxReplies.{hart_below, order_of}
 
 abbrev mailbox_with : List Message → ℕ → Bool → ℕ → MailboxState
 mailbox_with waiting outstanding closed capacity = record { waiting = waiting; outstanding = outstanding; closed = closed; capacity = capacity }

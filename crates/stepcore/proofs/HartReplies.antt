@@ -1,8 +1,7 @@
 -- What a machine that stands at a history answers to the events of its harts and tables is what is due.
-use Rattle.std.proofs.Common.{◌≡◌, ℕ, ◌+◌, ◌<◌, Bool, true, false, cond, ◌&&◌, not, List, Option, Some, None, refl, ap, ◌∙◌}
+use Rattle.std.proofs.Common.{◌≡◌, ℕ, ◌+◌, ◌<◌, Bool, true, false, cond, not, List, Option, Some, None, refl, ap, ◌∙◌}
 use Rattle.std.specs.Prelude.{is_some, is_none, slice_index, Result, Ok, Err}
 use Rattle.std.proofs.Math.Path.{fun_ext}
-use Rattle.std.proofs.lemmas.Bool.{and_parts, ltb-true}
 use Rattle.pte.specs.Address.{Span, level_count}
 use Rattle.pte.specs.declared.flags.PteFlags.{PteFlags}
 use Rattle.pte.specs.declared.permission.Access.{Access}
@@ -27,7 +26,7 @@ use Rattle.tlb.specs.Entries.{first_match}
 use Rattle.tlb.specs.Fence.{is_canonical}
 use Rattle.history.specs.Setup.{Setup, asid_of}
 use Rattle.history.specs.declared.event.Event.TheVariants.{Begin, Load, Map, Unmap, Protect, Switch, Fence, ServeFence, Ack}
-use Rattle.history.specs.declared.refusal.Refusal.TheVariants.{NoHart, NoSpace, NotFenced, Walking as Walks, Serving as Serves, NotServing as NotServes}
+use Rattle.history.specs.declared.refusal.Refusal.TheVariants.{NoSpace, NotFenced, Walking as Walks, Serving as Serves, NotServing as NotServes}
 use Rattle.history.specs.declared.reply.Reply.{Reply}
 use Rattle.history.specs.declared.reply.Reply.TheVariants as reply
 use Rattle.history.specs.Turns.{History}
@@ -35,23 +34,14 @@ use Rattle.history.specs.Mailboxes.{Sent}
 use Rattle.history.specs.Service.{served, has_fenced}
 use Rattle.history.specs.Tables.{words_of, edit_due}
 use Rattle.history.specs.Harts.{Walking, walk_of, space_of, entries_of, outcome_of}
-use Rattle.history.specs.Due.{refuse, is_hart, are_harts, is_space, is_place, match_reply, begin_reply, load_reply, end_reply, edit_at, edit_reply, map_reply, open_reply, due}
+use Rattle.history.specs.Due.{refuse, is_space, match_reply, begin_reply, load_reply, end_reply, edit_at, edit_reply, map_reply, open_reply, due}
 use Rattle.laws.proofs.Tools.{by_test}
-use Rattle.stepcore.specs.State.{State, setup_in, words_in, used_in, hart_at}
+use Rattle.stepcore.specs.State.{State, words_in, used_in, hart_at}
 use Rattle.stepcore.specs.Answers.{asid_in, begin_answer, next_of, progress_answer, load_answer, edit_in, open_in, ack_answer, reply_to}
 use Rattle.stepcore.specs.Stands.{IsStageOf, AreSameWalk, service_with, Stands}
+use Rattle.stepcore.proofs.Tools.{walks_alike, serves_alike, hart_there, harts_there, place_there}
 
--- whether a hart walks and serves
-pub walks_alike : (words : Tables) (root : ℕ) (stage : Option Stage) (walk : Option Walking) → AreSameWalk words root stage walk → is_some stage ≡ is_some walk
-walks_alike words root None None same = refl
-walks_alike words root None (Some walk) same = absurd same
-walks_alike words root (Some stage) None same = absurd same
-walks_alike words root (Some stage) (Some walk) same = refl
-
-serves_alike : (fenced : Bool) (sent : Option Sent) → is_some (service_with fenced sent) ≡ is_some sent
-serves_alike fenced None = refl
-serves_alike fenced (Some sent) = refl
-
+-- whether a hart serves nothing
 idles_alike : (fenced : Bool) (sent : Option Sent) → is_none (service_with fenced sent) ≡ is_none sent
 idles_alike fenced None = refl
 idles_alike fenced (Some sent) = refl
@@ -96,26 +86,6 @@ load_same C H hart (Some stage) (Some walk) same =
     by_test (λ v. progress_answer (next_of (words_of C H) stage) ≡ cond v reply.More (end_reply (outcome_of C H (space_of H hart) walk))) (goes_on (words_of C H) (root_ppn C.layout (space_of H hart)) walk.va walk.loads)
     (λ goes. ap progress_answer (makes.more goes).1)
     (λ stops. ap progress_answer (makes.ends stops) ∙ ended_answer (outcome_of C H (space_of H hart) walk))
-
--- an event of a hart that is there
-pub hart_there : (C : Setup) (m : State) (hart : ℕ) (r q : Reply) → setup_in m ≡ C → (hart < C.harts → r ≡ q)
-    → refuse (not (is_hart (setup_in m) hart)) NoHart r ≡ refuse (not (is_hart C hart)) NoHart q
-hart_there C m hart r q same f =
-    ap (λ (D : Setup). refuse (not (is_hart D hart)) NoHart r) same
-    ∙ by_test (λ v. refuse (not v) NoHart r ≡ refuse (not v) NoHart q) (is_hart C hart) (λ t. f (ltb-true hart C.harts t)) (λ _. refl)
-
--- an edit of a place that is there
-place_there : (C : Setup) (m : State) (place : Place) (r q : Reply) → setup_in m ≡ C → r ≡ q
-    → refuse (not (is_place (setup_in m) place)) NoSpace r ≡ refuse (not (is_place C place)) NoSpace q
-place_there C m place r q same e =
-    ap (λ (D : Setup). refuse (not (is_place D place)) NoSpace r) same ∙ ap (λ (x : Reply). refuse (not (is_place C place)) NoSpace x) e
-
-pub harts_there : (C : Setup) (m : State) (hart named : ℕ) (r q : Reply) → setup_in m ≡ C → (hart < C.harts → r ≡ q)
-    → refuse (not (is_hart (setup_in m) hart && are_harts (setup_in m) named)) NoHart r ≡ refuse (not (is_hart C hart && are_harts C named)) NoHart q
-harts_there C m hart named r q same f =
-    ap (λ (D : Setup). refuse (not (is_hart D hart && are_harts D named)) NoHart r) same
-    ∙ by_test (λ v. refuse (not v) NoHart r ≡ refuse (not v) NoHart q) (is_hart C hart && are_harts C named)
-    (λ t. f (ltb-true hart C.harts (and_parts (is_hart C hart) (are_harts C named) t).0)) (λ _. refl)
 
 -- Begin and Ack over plain values
 begin_form : (w w' s s' : Bool) (a a' : ℕ) (es es' : List Entry) (va : ℕ) (access : Access) (ctx : Ctx) → w ≡ w' → s ≡ s' → a ≡ a' → es ≡ es'

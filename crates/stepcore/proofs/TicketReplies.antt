@@ -1,9 +1,6 @@
 -- The replies to events on tickets: what a machine that stands at a history answers is what is due there.
-use Rattle.std.proofs.Common.{◌≡◌, ℕ, ◌<◌, Bool, true, false, cond, ◌&&◌, not, Option, Some, None, refl, ap, ◌∙◌, eqb}
+use Rattle.std.proofs.Common.{◌≡◌, ℕ, ◌<◌, true, cond, not, Option, Some, None, refl, ap, ◌∙◌}
 use Rattle.std.specs.Prelude.{is_some, Err}
-use Rattle.std.proofs.lemmas.Bool.{and_parts, not-false, ltb-true}
-use Rattle.walk.specs.Leads.{Tables}
-use Rattle.walk.specs.Stage.{Stage}
 use Rattle.shoot.specs.HartSet.{contains, harts_in}
 use Rattle.shoot.specs.Tickets.{TicketTable, ticket_at, is_open, names, opened, lowest_free, open_answer, with_change, with_acked, with_collected, changed, tells, progress_with, progress_at, after_collect}
 use Rattle.shoot.specs.declared.TheConstants.{MAX_TICKETS}
@@ -13,48 +10,22 @@ use Rattle.shoot.proofs.HartSets.{by_test}
 use Rattle.shoot.proofs.TicketLaws.{at_changed}
 use Rattle.history.specs.declared.event.Event.TheVariants.{Flush, AckSelf, Collect, Finish}
 use Rattle.history.specs.declared.event.Scope.{Scope}
-use Rattle.history.specs.declared.refusal.Refusal.{Refusal}
-use Rattle.history.specs.declared.refusal.Refusal.TheVariants.{NoHart, NoSpace, HomeNotNamed, NotOpen, NotNamed, Walking, NotDone}
+use Rattle.history.specs.declared.refusal.Refusal.TheVariants.{NoSpace, HomeNotNamed, NotOpen, NotNamed, Walking, NotDone}
 use Rattle.history.specs.declared.reply.Reply.{Reply}
 use Rattle.history.specs.declared.reply.Reply.TheVariants as reply
 use Rattle.history.specs.Setup.{Setup}
 use Rattle.history.specs.Turns.{History}
 use Rattle.history.specs.Orders.{open_order, order_at}
-use Rattle.history.specs.Harts.{Walking as Walk, walk_of}
-use Rattle.history.specs.Due.{refuse, is_hart, are_pair, are_harts, is_scope, least_free, opened_reply, open_reply, left_after, left_reply, ack_self_reply, collect_reply, finish_reply, due, Lawful}
+use Rattle.history.specs.Harts.{walk_of}
+use Rattle.history.specs.Due.{refuse, is_scope, least_free, opened_reply, open_reply, left_after, left_reply, ack_self_reply, collect_reply, finish_reply, due, Lawful}
 use Rattle.history.specs.Due as due_tests
 use Rattle.history.specs.Runs.{with_turn}
-use Rattle.stepcore.specs.State.{State, HartState, setup_in, hart_at}
+use Rattle.stepcore.specs.State.{State, HartState, hart_at}
 use Rattle.stepcore.specs.Answers.{opening_answer, open_in, progress_reply, acked_by, ack_self_answer, collect_answer, finish_answer, reply_to}
-use Rattle.stepcore.specs.Stands.{AreSameWalk, tickets_of, Stands}
+use Rattle.stepcore.specs.Stands.{tickets_of, Stands}
+use Rattle.stepcore.proofs.Tools.{walks_alike, hart_there, harts_there, pair_there}
 use Rattle.stepcore.proofs.TicketsHeld.{ticket_for, OpenHere, open_here, open_told, names_told, free_told, done_told, left_of, uncollected_told, progress_told}
 use Rattle.stepcore.proofs.TicketMarks.{own_mark, collected_mark}
-
--- ---- refusals
-
-refused_same : (test : Bool) (why : Refusal) (rest rest' : Reply) → (test ≡ false → rest ≡ rest') → refuse test why rest ≡ refuse test why rest'
-refused_same true why rest rest' f = refl
-refused_same false why rest rest' f = f refl
-
-hart_in : (C : Setup) (h : ℕ) → not (is_hart C h) ≡ false → h < C.harts
-hart_in C h e = ltb-true h C.harts (not-false (is_hart C h) e)
-
-named_in : (C : Setup) (h named : ℕ) → not (is_hart C h && are_harts C named) ≡ false → h < C.harts
-named_in C h named e = ltb-true h C.harts (and_parts (is_hart C h) (are_harts C named) (not-false (is_hart C h && are_harts C named) e)).0
-
-pair_in : (C : Setup) (a b : ℕ) → not (are_pair C a b) ≡ false → a < C.harts
-pair_in C a b e = ltb-true a C.harts (and_parts (is_hart C a) (is_hart C b && not (eqb a b)) (not-false (are_pair C a b) e)).0
-
--- the event is refused alike where the hart is not there
-hart_refused : (C : Setup) (m : State) (h : ℕ) (rest rest' : Reply) → setup_in m ≡ C → (h < C.harts → rest ≡ rest')
-    → refuse (not (is_hart (setup_in m) h)) NoHart rest ≡ refuse (not (is_hart C h)) NoHart rest'
-hart_refused C m h rest rest' e f =
-    ap (λ (S : Setup). refuse (not (is_hart S h)) NoHart rest) e ∙ refused_same (not (is_hart C h)) NoHart rest rest' (λ q. f (hart_in C h q))
-
-pair_refused : (C : Setup) (m : State) (a b : ℕ) (rest rest' : Reply) → setup_in m ≡ C → (a < C.harts → rest ≡ rest')
-    → refuse (not (are_pair (setup_in m) a b)) NoHart rest ≡ refuse (not (are_pair C a b)) NoHart rest'
-pair_refused C m a b rest rest' e f =
-    ap (λ (S : Setup). refuse (not (are_pair S a b)) NoHart rest) e ∙ refused_same (not (are_pair C a b)) NoHart rest rest' (λ q. f (pair_in C a b q))
 
 -- ---- an opening
 
@@ -126,12 +97,6 @@ finish_with C H h t None l e = unopened C H h t None _ l e
 finish_with C H h t (Some k) l e =
     unopened C H h t (Some k) _ l e ∙ ap (λ v. refuse (not v) NotDone reply.Ok) (done_told C H h t k l e)
 
-walks_same : (words : Tables) (root : ℕ) (stage : Option Stage) (walk : Option Walk) → AreSameWalk words root stage walk → is_some stage ≡ is_some walk
-walks_same words root None None same = refl
-walks_same words root None (Some walk) same = absurd same
-walks_same words root (Some stage) None same = absurd same
-walks_same words root (Some stage) (Some walk) same = refl
-
 -- ---- the replies of a machine that stands at a history
 
 module _ (C : Setup) (m : State) (H : History) (st : Stands C m H) where
@@ -140,24 +105,24 @@ module _ (C : Setup) (m : State) (H : History) (st : Stands C m H) where
 
   pub flush_due : (hart : ℕ) (scope : Scope) (named : ℕ) → reply_to m (Flush hart scope named) ≡ due C H (Flush hart scope named)
   flush_due hart scope named =
-      ap (λ (S : Setup). refuse (not (is_hart S hart && are_harts S named)) NoHart (refuse (not (is_scope S scope)) NoSpace (open_in m hart named))) st.setup
-      ∙ refused_same (not (is_hart C hart && are_harts C named)) NoHart _ _
-      (λ q. ap (λ (r : Reply). refuse (not (is_scope C scope)) NoSpace r) (open_due hart named (named_in C hart named q)))
+      harts_there C m hart named _ _ st.setup (λ below.
+      ap (λ (S : Setup). refuse (not (is_scope S scope)) NoSpace (open_in m hart named)) st.setup
+      ∙ ap (λ (r : Reply). refuse (not (is_scope C scope)) NoSpace r) (open_due hart named below))
 
   pub ack_self_due : (hart ticket : ℕ) → reply_to m (AckSelf hart ticket) ≡ due C H (AckSelf hart ticket)
   ack_self_due hart ticket =
-      hart_refused C m hart _ _ st.setup (λ below.
+      hart_there C m hart _ _ st.setup (λ below.
       ap (λ (x : TicketTable). ack_self_answer (hart_at m hart) x ticket hart) (st.tickets hart below)
-      ∙ self_with C H (hart_at m hart) hart ticket (open_order H hart ticket) st.lawful (walks_same _ _ _ _ (st.harts hart below).walk) refl)
+      ∙ self_with C H (hart_at m hart) hart ticket (open_order H hart ticket) st.lawful (walks_alike _ _ _ _ (st.harts hart below).walk) refl)
 
   pub collect_due : (hart ticket from : ℕ) → reply_to m (Collect hart ticket from) ≡ due C H (Collect hart ticket from)
   collect_due hart ticket from =
-      pair_refused C m hart from _ _ st.setup (λ below.
+      pair_there C m hart from _ _ st.setup (λ below _.
       ap (λ (x : TicketTable). collect_answer x ticket from) (st.tickets hart below)
       ∙ collect_with C H hart ticket from (open_order H hart ticket) st.lawful refl)
 
   pub finish_due : (hart ticket : ℕ) → reply_to m (Finish hart ticket) ≡ due C H (Finish hart ticket)
   finish_due hart ticket =
-      hart_refused C m hart _ _ st.setup (λ below.
+      hart_there C m hart _ _ st.setup (λ below.
       ap (λ (x : TicketTable). finish_answer x ticket) (st.tickets hart below)
       ∙ finish_with C H hart ticket (open_order H hart ticket) st.lawful refl)
