@@ -2,7 +2,7 @@
 -- (privileged manual 4.3.2, virtual address translation process, steps 1 to 4; 4.4.1, the levels of Sv39).
 use Rattle.std.specs.Prelude.{ℕ, Bool, ◌≡◌, ◌-◌, ◌<◌, ◌≤◌, Option, Some, IsTrue}
 use Rattle.pte.specs.declared.entry.Kind.TheVariants.{Table}
-use Rattle.pte.specs.Address.{IsCanonical, top_level, vpn_of}
+use Rattle.pte.specs.Address.{top_level, vpn_of}
 use Rattle.pte.specs.Entry.{kind_of, is_global}
 
 -- what memory holds: the word at an index of the table at a PPN, or None outside memory
@@ -38,8 +38,3 @@ pub record IsGlobalAt (words : Tables) (root va i : ℕ) : Type 0 where
   pub from : i ≤ level
   pub leads : Leads words root va level table (Some entry)
   pub global : IsTrue (is_global entry)
-
--- each word that leads for the address may be read; none need be, where the address is not canonical
-abbrev pub IsPathReadable : Tables → ℕ → ℕ → (ℕ → ℕ → Type 0) → Type 0
-IsPathReadable words root va may_read =
-    IsCanonical va → (i table : ℕ) (word : Option ℕ) → Leads words root va i table word → may_read table (vpn_of va i)

@@ -7,11 +7,7 @@ pub trait Words {
     // the word at an index of the table at a PPN, or None outside memory
     ghost words: { Self → ℕ → ℕ → Option ℕ };
 
-    // which words may be asked for: every one, where an impl does not say
-    ghost may_read: { Self → ℕ → ℕ → Type 0 } = { λ _ _ _. Unit {0} };
-
     /// The word at an index, below 512, of the table at a PPN; `None` outside memory.
     fn word(&self, ppn: u64, index: u16) -> Option<u64>
-        requires { may_read self.now ppn index }
         ensures { result ≡ words self.now ppn index };
 }

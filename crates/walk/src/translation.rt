@@ -2,7 +2,6 @@
 
 ghost use Rattle.std.specs.Prelude.{◌<◌, ◌^◌};
 ghost use Rattle.pte.specs.Entry.{ppn_bits};
-ghost use Rattle.walk.specs.Leads.{IsPathReadable};
 ghost use Rattle.walk.specs.Outcome.{Outcome};
 
 use crate::found_or_trap::{Found, Trap};
@@ -11,8 +10,8 @@ use crate::walking::{Progress, Walk};
 use pte::{Access, Ctx};
 
 /// Where an access of a virtual address leads from the root table at a PPN, which the caller keeps below 2^44, or the
-/// exception that it raises. The accessed and dirty bits are never set: a leaf that lacks one faults. Only words
-/// that lead for the address are read, and none where the address is not canonical.
+/// exception that it raises. The accessed and dirty bits are never set: a leaf that lacks one faults. At most one word a
+/// level is read.
 pub fn translate<W: Words>(
     words: &W,
     root: u64,
@@ -20,8 +19,7 @@ pub fn translate<W: Words>(
     access: Access,
     ctx: Ctx,
 ) -> Result<Found, Trap>
-    requires root { root < 2 ^ ppn_bits }
-    requires path { IsPathReadable (W.words words.now) root va (W.may_read words.now) }
+    requires { root < 2 ^ ppn_bits }
     ensures { Outcome (W.words words.now) root va access ctx result }
 {
     let mut walk = Walk::begin(root, va, access, ctx)?;

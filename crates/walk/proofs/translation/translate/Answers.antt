@@ -1,6 +1,5 @@
 use Rattle.std.proofs.Common.{◌≡◌, Ok, Err, subst, sym, refl, arith}
 use Rattle.walk.specs.declared.walking.Progress.TheVariants as progress
-use Rattle.walk.specs.Leads.{IsPathReadable}
 use Rattle.walk.specs.Stage.{Stage, start_of, OnPath, IsFor}
 use Rattle.walk.proofs.Ending.{goes-load, on_path-start, outcome-same, same-access}
 use Rattle.walk.proofs.translation.translate.Goals as goal
@@ -36,12 +35,3 @@ returns-in-Trap g c =
     outcome-same (g.W.Words.words c.args.words.now) c.args.root c.loop-next.walk c.args.va c.args.access c.args.ctx (Err c.in-Trap.trap) c.loop-next.invariant.same
     (goes-load (g.W.Words.words c.args.words.now) c.args.root c.loop-next.walk c.word.result c.wants-ppn.result.0 c.wants-ppn.result.1 (progress.Trap c.in-Trap.trap)
     c.loop-next.invariant.on c.word.ensures c.wants-ppn.ensures.table c.wants-ppn.ensures.index c.in-Trap.ensures)
-
--- the walk stands on the path, so its word may be read
-pub word-requires : goal.word-requires
-word-requires g c =
-    let on = c.loop-next.invariant.on in
-    let path = subst (λ va. IsPathReadable (g.W.Words.words c.args.words.now) c.args.root va (g.W.Words.may_read c.args.words.now)) (sym c.loop-next.invariant.same.same_va) c.requires.path in
-    subst (λ table. g.W.Words.may_read c.args.words.now table c.wants-ppn.result.1) (sym c.wants-ppn.ensures.table)
-    (subst (λ index. g.W.Words.may_read c.args.words.now c.loop-next.walk.table index) (sym c.wants-ppn.ensures.index)
-    (path on.canonical c.loop-next.walk.level c.loop-next.walk.table _ on.leads))
