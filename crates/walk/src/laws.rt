@@ -108,7 +108,7 @@ pub fn found_is_mapped()
         → Maps words root (page_number va) (page_number found.pa) found.flags found.global }
 {}
 
-/// So is each page of 4 KiB of the page that is found: its PPN is the leaf's and its place in the page.
+/// Each page of 4 KiB of the page that is found is mapped: its PPN is the leaf's and its place in the page.
 pub fn found_page_is_mapped()
     ensures { (words : Tables) (root va : ℕ) (access : Access) (ctx : Ctx) (found : Found) → Outcome words root va access ctx (Ok found)
         → (at : ℕ) → Holds found.page at → Maps words root (page_number at) (found.ppn + page_number at % pages_of found.page.size) found.flags found.global }
@@ -172,7 +172,7 @@ pub fn store_over_no_pointer_is_at_an_end()
         → (t ≡ table) × (vpn_of va i ≡ index) × (w ≡ old table index) × Leads new root va i table (new table index) }
 {}
 
-/// So does what is mapped.
+/// If two memories differ in one word, what is mapped in the one is mapped in the other, or its path passes through that word.
 pub fn what_is_mapped_passes_through_a_change()
     ensures after { (old new : Tables) (root page ppn table index : ℕ) (flags : PteFlags) (global : Bool) → AgreeBut old new table index
         → (m : Maps old root page ppn flags global) → Maps new root page ppn flags global ⊎ PassesThrough old new root m.va m.level table index }

@@ -10,8 +10,8 @@ use crate::walking::{Progress, Walk};
 use pte::{Access, Ctx};
 
 /// Where an access of a virtual address leads from the root table at a PPN, which the caller keeps below 2^44, or the
-/// exception that it raises. The accessed and dirty bits are never set: a leaf that lacks one faults. At most one word a
-/// level is read.
+/// exception that it raises (privileged manual 4.3.2). The accessed and dirty bits are never set: a leaf that lacks A, or D
+/// for a store, faults. At most one word a level is read, which is tested, and no clause.
 pub fn translate<W: Words>(
     words: &W,
     root: u64,

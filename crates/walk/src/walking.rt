@@ -84,7 +84,7 @@ impl Walk {
         (self.table, self.va.vpn(self.level))
     }
 
-    /// Goes on with the word that the walk waited for, `None` if it lies outside memory.
+    /// Goes on with the word that the walk waited for, `None` if it lies outside memory (privileged manual 4.3.2, steps 2 to 8).
     #[inline(always)]
     pub fn load(self, word: Option<u64>) -> Progress
         ensures { result ≡ load_of self word }
