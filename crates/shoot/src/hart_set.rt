@@ -97,6 +97,7 @@ impl HartSet {
         self.contains(hart) && !other.contains(hart)
     }
 
+    /// Whether no hart is in the set.
     pub fn is_empty(&self) -> bool
         ensures { result ≡ is_empty self.now }
     {

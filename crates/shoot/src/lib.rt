@@ -33,8 +33,7 @@ pub const MAX_HARTS: usize = pte::MAX_HARTS;
 /// The largest capacity of a mailbox.
 pub const MAX_CAPACITY: usize = pte::MAX_CAPACITY as usize;
 
-/// How many tickets a hart has, with numbers from 0 on: a hart posts each of
-/// them to another hart at most once.
+/// How many tickets a hart has, with numbers from 0 on.
 pub const MAX_TICKETS: usize = MAX_CAPACITY;
 
 #[cfg(test)]

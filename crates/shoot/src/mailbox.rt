@@ -69,8 +69,8 @@ impl Mailbox {
         }
     }
 
-    /// Puts a request behind those that wait. A refused one comes back, and
-    /// nothing changes.
+    /// Puts a request behind those that wait. Refused with `Closed`, else with
+    /// `Full`, it comes back, and nothing changes.
     pub fn post(&mut self, request: Request) -> Result<(), (PostFault, Request)>
         ensures answer { result ≡ post_answer self.old request }
         ensures after { self.new ≡ after_post self.old request }

@@ -7,7 +7,9 @@ use std::marker::Model;
 /// keeps count of the answers. The number is below 64.
 #[derive(Clone, Copy, PartialEq, Eq, Debug)]
 pub struct Request {
+    /// The number of the sender's ticket.
     pub ticket: u32,
+    /// What is to be dropped.
     pub what: What,
 }
 

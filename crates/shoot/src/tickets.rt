@@ -35,10 +35,15 @@ pub enum Collected {
 /// to, has acknowledged, and is collected.
 #[derive(Clone, Copy, PartialEq, Eq, Debug)]
 pub struct Ticket {
+    /// What the named harts are to drop.
     pub what: What,
+    /// The harts that are asked.
     pub named: HartSet,
+    /// Those to which it was posted.
     pub posted: HartSet,
+    /// Those that have acknowledged it.
     pub acked: HartSet,
+    /// Those whose acknowledgement is collected.
     pub collected: HartSet,
 }
 
@@ -170,8 +175,8 @@ impl Tickets {
         }
     }
 
-    /// Opens the lowest free ticket. Bit h of `named` stands for hart h. At a
-    /// refusal nothing changes.
+    /// Opens the lowest free ticket. Bit h of `named` stands for hart h. Refused
+    /// with `HomeNotNamed`, else with `NoTicket`, nothing changes.
     #[tactic(auto, using(crate::proofs::FreeTickets::ticket_opened))]
     pub fn open(&mut self, what: What, named: u8) -> Result<u32, TicketFault>
         ensures answer { result ≡ open_answer self.old named }
