@@ -38,9 +38,10 @@ pub struct Config {
     pub spaces: ArrayVec<Space, MAX_SPACES>,
     /// How many of the last slots of each root are the kernel window, from 1 to 4.
     pub window: u16,
-    /// The PPN of the first table frame.
+    /// The PPN of the first table frame. The PPNs of all table frames are below 2^44.
     pub base: u64,
-    /// How many spare frames for new tables each hart has.
+    /// How many spare frames for new tables each hart has: one number for each hart. Window, spaces and spares together are
+    /// at most 512 table frames.
     pub spares: ArrayVec<u16, MAX_HARTS>,
     /// The capacity of each mailbox, from 1 to 64.
     pub capacity: u16,
@@ -77,14 +78,14 @@ impl Config {
     ghost use Rattle.spaces.specs.Layout.{layout_of, frame_count};
     ghost use Rattle.spaces.specs.Limits.{max_frames, max_live_frames, MeetsLimits};
 
-    /// Whether the limits hold, with at most 512 table frames.
+    /// Whether the limits hold that the fields tell, with at most 512 table frames.
     pub fn check(&self) -> bool
         ensures { IsTrue result ↔ MeetsLimits max_frames self.now }
     {
         self.meets_limits(MAX_FRAMES)
     }
 
-    /// Whether the limits hold, with at most 96 table frames.
+    /// Whether the limits hold that the fields tell, with at most 96 table frames.
     pub fn check_live(&self) -> bool
         ensures { IsTrue result ↔ MeetsLimits max_live_frames self.now }
     {

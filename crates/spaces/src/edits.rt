@@ -183,7 +183,7 @@ pub fn protect_edit(
     edit_due(memory, hart, &Wish::Protect { place, page, flags })
 }
 
-/// Stores the edit's word. Asks for an edit of this memory as it is now.
+/// Stores the edit's word, and counts the frame of a new table as used. Asks for an edit of this memory as it is now.
 pub fn apply(memory: &mut Memory, edit: Edit)
     requires { IsDue memory.old edit }
     ensures layout { memory.new.layout ≡ memory.old.layout }

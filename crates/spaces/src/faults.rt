@@ -5,7 +5,7 @@ use std::alloc::AllocError;
 /// Why no memory is opened.
 #[derive(Clone, Copy, PartialEq, Eq, Debug)]
 pub enum OpenFault {
-    /// The words of the frames could not be allocated.
+    /// There was no memory for what is opened.
     NoMemory,
     /// `Config::check` says no.
     BadLayout,

@@ -43,7 +43,7 @@ pub fn edit_is_accepted()
         → Accepted l words (spare_after l hart (used hart)) hart w store }
 {}
 
-/// It writes a frame of the home of its place.
+/// An accepted edit writes a frame of the home of its place.
 pub fn edit_stays_at_home()
     ensures { (l : Layout) (words : Tables) (used : ℕ → ℕ) (hart : ℕ) (w : WishOf) (store : Store) → IsEdit l words used hart w store
         → IsAtHome l (home_of l (place_of w)) store.ppn }
@@ -54,13 +54,14 @@ pub fn home_is_one()
     ensures { (l : Layout) (h other f : ℕ) → IsAtHome l h f → IsAtHome l other f → h ≡ other }
 {}
 
-/// The words after it are a tree again.
+/// The words after an accepted edit of a tree are a tree again.
 pub fn edit_keeps_tree()
     ensures { (l : Layout) (words : Tables) (used : ℕ → ℕ) (hart : ℕ) (w : WishOf) (store : Store) → IsEdit l words used hart w store
         → IsTree l (words_after words store) (used_by_all used store) }
 {}
 
-/// A pointer changes what no root maps; a leaf adds, takes away or changes its page alone, in its place's roots alone.
+/// The store of a pointer changes nothing that any root maps; an edit of a leaf adds its page, takes it away or changes its
+/// flags, in its place's roots alone, and nothing else.
 pub fn edit_changes_its_page()
     ensures { (l : Layout) (words : Tables) (used : ℕ → ℕ) (hart : ℕ) (w : WishOf) (store : Store) → IsEdit l words used hart w store
         → HasEffect l w store words (words_after words store) }
