@@ -56,12 +56,12 @@ pub enum Event {
         scope: Scope,
         named: u8,
     },
-    /// Goes to another space, as a write of satp does. The TLB stays.
+    /// Goes to another space, as a write of satp does (privileged manual 4.1.11). The TLB stays.
     Switch {
         hart: u8,
         space: u8,
     },
-    /// SFENCE.VMA on the hart's own TLB; `None` is the register x0.
+    /// SFENCE.VMA on the hart's own TLB; `None` is the register x0 (privileged manual 4.2.1).
     Fence {
         hart: u8,
         rs1: Option<u64>,
