@@ -153,7 +153,8 @@ pub fn acknowledged_hart_holds_only_what_it_filled_since()
         → All (λ e. (is_served (what_asked (order_at C H k)) e ≡ false) ⊎ Sometime (FillsAcked C k h e) H) (entries_of C H h) }
 {}
 
-/// A configuration within the limits, with ASIDs of 16 bits, makes a setup that the laws below are about.
+/// A configuration within the limits, with ASIDs of 16 bits, makes a setup such as the laws of the tables, of Clear and of
+/// Coherent ask for.
 pub fn limits_give_setup()
     ensures { (c : Configuration) → MeetsLimits max_frames c → All (λ s. s.asid < 2 ^ asid_bits) c.spaces.items → IsSetup (setup_of c) }
 {}
@@ -168,7 +169,8 @@ pub fn window_is_shared()
     ensures { (C : Setup) → IsSetup C → (H : History) → Lawful C H → HavePages H → WindowIsShared C H }
 {}
 
-/// What is mapped in the page of an unmapping or a change of flags stays mapped until the page is unmapped or changed once more.
+/// What is mapped in the page of an unmapping or a change of flags stays mapped over one turn more, unless by then the page is
+/// unmapped or changed once more.
 pub fn mapped_page_stays_mapped()
     ensures { (C : Setup) → IsSetup C → (turn : Turn) (H : History) → Lawful C (turn ∷ H) → HavePages (turn ∷ H) → StaysMapped C turn H }
 {}
