@@ -51,6 +51,7 @@ pub struct Locked<C: Named> {
 /// Counts, for contracts alone, the calls with it that were answered.
 #[derive(Drop)]
 pub struct Tally<C: Named> {
+    /// This tally's part of the ledger, which counts the calls.
     pub share: Share<C>,
     ghost one: { share.parts ≡ 1 },
 }
