@@ -10,8 +10,11 @@ use std::alloc::{AllocError, Global};
 /// One translation from the root.
 #[derive(Clone, Copy, Debug, PartialEq, Eq)]
 pub struct WalkStep {
+    /// The mode, SUM and MXR.
     pub ctx: Ctx,
+    /// What the access does.
     pub access: Access,
+    /// The virtual address, canonical or not.
     pub va: u64,
 }
 
