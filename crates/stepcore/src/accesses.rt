@@ -146,7 +146,7 @@ impl Machine {
         Reply::Ok
     }
 
-    /// Whether the TLB of a hart that is there translates an address for an ASID.
+    /// Whether the TLB of a hart that is there translates an address for an ASID, by an entry of any size.
     pub fn translates(&self, hart: u8, asid: u16, va: VirtAddr) -> bool
         requires { hart < length self.now.harts }
         ensures { IsTrue result ↔ Translates (IsMappedBy (entries_in self.now hart)) asid va }
