@@ -24,7 +24,8 @@ use std::io::Write;
 use stepcore::Machine;
 
 /// Writes what each step of a `walk` scenario answers, a line a step. The whole text is read and checked before the first
-/// byte is written; any fault of it, the first in the order of checking, leaves the writer as it was.
+/// byte is written; any fault of it, the first in the order of checking, leaves the writer as it was. `Output`: a beginning
+/// of the lines was written. `NoMemory`: nothing was.
 pub fn walk_text<W: Write>(alloc: Global, text: &str, out: &mut W) -> Result<(), Fault>
     ensures faultless { OnOk result (fault_in (walk_scenario_of text.now) ≡ None) }
     ensures written { OnOk result (WritesAll (LinesOf Prints (walk_scenario_of text.now)) (W.contents out.old) (W.contents out.new)) }
@@ -52,7 +53,8 @@ fn replies(alloc: Global, scenario: &RunScenario) -> Result<Vec<Reply>, Fault>
 }
 
 /// Writes what each step of a `run` scenario answers, a line a step. The whole text is read and checked before the first
-/// byte is written; any fault of it, the first in the order of checking, leaves the writer as it was.
+/// byte is written; any fault of it, the first in the order of checking, leaves the writer as it was. `Output`: a beginning
+/// of the lines was written. `NoMemory`: nothing was.
 pub fn run_text<W: Write>(alloc: Global, text: &str, out: &mut W) -> Result<(), Fault>
     ensures faultless { OnOk result (fault_in (run_scenario_of text.now) ≡ None) }
     ensures written { OnOk result (WritesAll (LinesOf PrintsReplies (run_scenario_of text.now)) (W.contents out.old) (W.contents out.new)) }
