@@ -47,8 +47,9 @@ impl Entry {
         }
     }
 
-    /// What the entry answers to an access of an address of its page, without the tables: the physical address, or a page
-    /// fault with the first of `Denied`, `NotAccessed` and `NotDirty` that applies. Of the PPN the low 44 bits count.
+    /// What the entry answers to an access of an address of its page, without the tables (privileged manual 4.3.2, steps 5 to
+    /// 8): the physical address, or a page fault with the first of `Denied`, `NotAccessed` and `NotDirty` that applies. Of the
+    /// PPN the low 44 bits count.
     pub fn translate(&self, va: VirtAddr, access: Access, ctx: Ctx) -> Result<u64, Trap>
         ensures { result ≡ answer_of self.now va access ctx }
     {
