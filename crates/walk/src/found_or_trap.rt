@@ -43,8 +43,8 @@ pub enum Why {
 /// The exception that an access raises.
 #[derive(Clone, Copy, PartialEq, Eq, Debug)]
 pub struct Trap {
-    /// The cause, as in scause: of the access fault of the access (1, 5 or 7) for `Outside`, else of its page fault (12,
-    /// 13 or 15).
+    /// The cause, as in scause (privileged manual 4.1.8): of the access fault of the access (1, 5 or 7) for `Outside`, else of
+    /// its page fault (12, 13 or 15).
     pub cause: u8,
     /// What was wrong.
     pub why: Why,
