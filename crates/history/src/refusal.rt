@@ -24,13 +24,13 @@ pub enum Refusal {
     AlreadyMapped,
     /// A leaf of a larger page is there.
     LeafInWay,
-    /// A table of smaller pages is there.
+    /// A table of smaller pages is there, be they unmapped by now.
     TableInWay,
     /// Every spare frame of the home is in use.
     NoFrame,
     /// Nothing is mapped there.
     NotMapped,
-    /// A page of another size is mapped there.
+    /// A larger page is mapped there, or a table of smaller ones is there.
     WrongSize,
     /// The hart that opens a ticket is not among the named.
     HomeNotNamed,
