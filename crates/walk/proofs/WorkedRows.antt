@@ -156,3 +156,75 @@ all_ones_but_v = computed 0xFFFFFFFFFFFFFFFE 0x20000801 0x48D14D7 Load user _ re
 highest_table : Gives 0x3FFFFFFFFFFC01 0x20000801 0x48D14D7 Load user (trap 5 Outside)
 unfolding kind_of
 highest_table = computed 0x3FFFFFFFFFFC01 0x20000801 0x48D14D7 Load user _ refl
+
+accessed_pointer : Gives 0x20000441 0x20000801 0x48D14D7 Load user (trap 13 Reserved)
+unfolding kind_of
+accessed_pointer = computed 0x20000441 0x20000801 0x48D14D7 Load user _ refl
+
+dirty_pointer : Gives 0x20000481 0x20000801 0x48D14D7 Load user (trap 13 Reserved)
+unfolding kind_of
+dirty_pointer = computed 0x20000481 0x20000801 0x48D14D7 Load user _ refl
+
+write_and_execute : Gives 0x20000401 0x20000801 0x48D14DD Fetch user (trap 12 Reserved)
+unfolding kind_of
+write_and_execute = computed 0x20000401 0x20000801 0x48D14DD Fetch user _ refl
+
+lowest_high_bit : Gives 0x20000401 0x20000801 0x400000048D14D7 Load user (trap 13 Reserved)
+unfolding kind_of
+lowest_high_bit = computed 0x20000401 0x20000801 0x400000048D14D7 Load user _ refl
+
+software_bits_of_pointer : Gives 0x20000701 0x20000801 0x48D14D7 Load user (small 0xD6 false)
+unfolding kind_of
+software_bits_of_pointer = computed 0x20000701 0x20000801 0x48D14D7 Load user _ refl
+
+global_middle_pointer : Gives 0x20000401 0x20000821 0x48D14D7 Load user (small 0xD6 true)
+unfolding kind_of
+global_middle_pointer = computed 0x20000401 0x20000821 0x48D14D7 Load user _ refl
+
+global_leaf : Gives 0x20000401 0x20000801 0x48D14F7 Load user (small 0xF6 true)
+unfolding kind_of
+global_leaf = computed 0x20000401 0x20000801 0x48D14F7 Load user _ refl
+
+supervisor_page : Gives 0x20000401 0x20000801 0x48D14CF Load user (trap 13 Denied)
+unfolding kind_of
+supervisor_page = computed 0x20000401 0x20000801 0x48D14CF Load user _ refl
+
+supervisor_fetches : Gives 0x20000401 0x20000801 0x48D14CF Fetch supervisor (small 0xCE false)
+unfolding kind_of
+supervisor_fetches = computed 0x20000401 0x20000801 0x48D14CF Fetch supervisor _ refl
+
+sum_lets_store : Gives 0x20000401 0x20000801 0x48D14D7 Store with_sum (small 0xD6 false)
+unfolding kind_of
+sum_lets_store = computed 0x20000401 0x20000801 0x48D14D7 Store with_sum _ refl
+
+denied_before_misaligned : Gives 0x20000401 0x48804C7 0x48D14D7 Load user (trap 13 Denied)
+unfolding kind_of
+denied_before_misaligned = computed 0x20000401 0x48804C7 0x48D14D7 Load user _ refl
+
+misaligned_before_accessed : Gives 0x20000401 0x4880417 0x48D14D7 Load user (trap 13 Misaligned)
+unfolding kind_of
+misaligned_before_accessed = computed 0x20000401 0x4880417 0x48D14D7 Load user _ refl
+
+misaligned_before_dirty : Gives 0x20000401 0x4880457 0x48D14D7 Store user (trap 15 Misaligned)
+unfolding kind_of
+misaligned_before_dirty = computed 0x20000401 0x4880457 0x48D14D7 Store user _ refl
+
+misaligned_by_half : Gives 0x20000401 0x48C00D7 0x48D14D7 Load user (trap 13 Misaligned)
+unfolding kind_of
+misaligned_by_half = computed 0x20000401 0x48C00D7 0x48D14D7 Load user _ refl
+
+misaligned_large_page : Gives 0x180000D7 0x20000801 0x48D14D7 Load user (trap 13 Misaligned)
+unfolding kind_of
+misaligned_large_page = computed 0x180000D7 0x20000801 0x48D14D7 Load user _ refl
+
+accessed_before_dirty : Gives 0x20000401 0x20000801 0x48D1417 Store user (trap 15 NotAccessed)
+unfolding kind_of
+accessed_before_dirty = computed 0x20000401 0x20000801 0x48D1417 Store user _ refl
+
+dirty_alone : Gives 0x20000401 0x20000801 0x48D1497 Load user (trap 13 NotAccessed)
+unfolding kind_of
+dirty_alone = computed 0x20000401 0x20000801 0x48D1497 Load user _ refl
+
+fetch_not_accessed : Gives 0x20000401 0x20000801 0x48D141B Fetch user (trap 12 NotAccessed)
+unfolding kind_of
+fetch_not_accessed = computed 0x20000401 0x20000801 0x48D141B Fetch user _ refl

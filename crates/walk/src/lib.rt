@@ -3,12 +3,23 @@
 #![tactic(auto)]
 
 mod found_or_trap;
-pub mod laws;
+mod laws;
 mod memory;
 mod translation;
 mod walking;
 
 pub use found_or_trap::{Found, Trap, Why, flags_fault};
+pub use laws::{
+    addresses_of_a_page_share_their_path, found_is_in_range, found_is_mapped, found_page_is_mapped,
+    global_is_known, leads_is_the_pointers_followed, leaf_maps_its_page,
+    loads_count_the_levels_of_a_walk, mapped_page_answers_by_its_flags,
+    nothing_leads_below_the_end_of_a_path, one_word_leads_at_a_level, outcome_is_unique,
+    outcome_takes_one_load_a_level, page_is_mapped_once, path_without_leaf_maps_nothing,
+    paths_go_pointer_by_pointer, store_agrees_elsewhere, store_over_no_pointer_is_at_an_end,
+    walk_begins_on_its_path, walk_goes_on_along_its_path, walk_on_its_path_computes_the_outcome,
+    walk_stays_on_its_path, what_is_mapped_passes_through_a_change,
+    what_leads_passes_through_a_change,
+};
 pub use memory::Words;
 pub use translation::translate;
 pub use walking::{Progress, Walk};
