@@ -1,6 +1,7 @@
 -- The laws of accepted edits.
 use Rattle.std.proofs.Common.{◌≡◌, ℕ, ◌-◌, ◌<◌, ◌≤◌, ◌⊎◌, Bool, true, false, Option, Some, None, length, ap, sym, ◌∙◌, subst, refl, inl, inr, arith}
 use Rattle.std.specs.Prelude.{unwrap_or, is_some}
+use Rattle.std.proofs.Math.Path.{fun_ext}
 use Rattle.std.proofs.lemmas.Bool.{cases_lt}
 use Rattle.pte.specs.declared.flags.PteFlags.{PteFlags}
 use Rattle.pte.specs.declared.entry.Kind.{Kind}
@@ -85,6 +86,12 @@ pub edit-effect : (l : Layout) (words : Tables) (used : ℕ → ℕ) (hart : ℕ
 edit-effect l words used hart wish store e =
     let acc = at-home l words used hart wish store e in
     effect-by l words used hart wish store e acc store.word refl acc.writes (leaf-or-pointer l e.layout _ _ _ acc.old wish store.word acc.writes)
+
+-- and in any memory whose words are those after the store
+pub effect-in : (l : Layout) (words : Tables) (used : ℕ → ℕ) (hart : ℕ) (wish : Wish) (store : Store) (new : Tables) → ((ppn i : ℕ) → new ppn i ≡ words_after words store ppn i)
+    → IsEdit l words used hart wish store → HasEffect l wish store words new
+effect-in l words used hart wish store new same e =
+    subst (HasEffect l wish store words) (sym (fun_ext (λ ppn. fun_ext (λ i. same ppn i)))) (edit-effect l words used hart wish store e)
 
 -- the end of a path, by what leads
 pub end-leads : (words : Tables) (root va lowest : ℕ) → lowest ≤ top_level → IsEnd words root va lowest (path_end words va lowest (top_level - lowest) root)

@@ -191,7 +191,7 @@ pub fn apply(memory: &mut Memory, edit: Edit)
     ensures used { (h : ℕ) → slice_index memory.new.used h ≡ used_by_all (λ k. slice_index memory.old.used k) edit h }
     // what it does to the mappings of all roots, for what was wished
     ensures maps { (w : WishOf) → IsEdit memory.old.layout (words_of memory.old) (λ h. slice_index memory.old.used h) edit.hart w edit
-        → HasEffect memory.old.layout w edit (words_of memory.old) (words_after (words_of memory.old) edit) }
+        → HasEffect memory.old.layout w edit (words_of memory.old) (words_of memory.new) }
 {
     memory.store(edit.hart, edit.ppn, edit.index, edit.word);
 }

@@ -1,5 +1,9 @@
-use Rattle.spaces.proofs.EditLaws.{edit-effect}
+use Rattle.std.proofs.Common.{rules}
+use Rattle.spaces.proofs.EditLaws.{effect-in}
 use Rattle.spaces.proofs.edits.apply.Goals as goal
 
+pub returns-clause-words : goal.returns-clause-words
+returns-clause-words c = search rules
+
 pub returns-clause-maps : goal.returns-clause-maps
-returns-clause-maps c w e = edit-effect _ _ _ _ w _ e
+returns-clause-maps c w e = effect-in _ _ _ _ w _ _ (returns-clause-words c) e
