@@ -201,6 +201,10 @@ fn layouts_at_their_limits(rt: HostRuntime) {
         (with_spares(&[510]), true),
         (with_capacity(64), true),
         (with_window(4), true),
+        (with_capacity(1), true),
+        (with_spares(&[0]), true),
+        (with_spaces(&[(0, 0), (0, 0xFFFF)]), true),
+        (with_spaces(&[(0, 1), (0, 2), (0, 1)]), false),
     ];
     for (config, accepted) in &rows {
         assert!(rt; config.check() == *accepted);
@@ -212,6 +216,46 @@ fn layouts_at_their_limits(rt: HostRuntime) {
     }
     assert!(rt; with_spares(&[94]).check_live());
     assert!(rt; !with_spares(&[95]).check_live());
+}
+
+/// Two harts with 8 spare frames each, and these spaces.
+fn two_harts(list: &[(u8, u16)]) -> Config {
+    Config {
+        harts: 2,
+        spares: spares_of(&[8, 8]),
+        ..with_spaces(list)
+    }
+}
+
+/// 32 spaces of ASIDs 0 to 31, at home on the last of eight harts.
+fn largest() -> Config {
+    let mut spaces = ArrayVec::new();
+    for asid in 0..32_u16 {
+        if !spaces.is_full() {
+            spaces.push(Space { home: 7, asid });
+        }
+    }
+    Config {
+        harts: 8,
+        spaces,
+        spares: spares_of(&[1; 8]),
+        ..default_config()
+    }
+}
+
+#[test]
+fn homes_and_asids(rt: HostRuntime) {
+    let rows = [
+        (two_harts(&[(1, 1)]), true),
+        (two_harts(&[(2, 1)]), false),
+        (two_harts(&[(0, 1), (1, 2)]), true),
+        (two_harts(&[(0, 1), (1, 1)]), false),
+        (two_harts(&[(0, 1), (1, 2), (1, 1)]), false),
+        (largest(), true),
+    ];
+    for (config, accepted) in &rows {
+        assert!(rt; config.check() == *accepted);
+    }
 }
 
 fn map(ppn: u64, bits: u8) -> Call {
@@ -269,6 +313,189 @@ fn edits_refused_by_what_is_asked(rt: HostRuntime) {
     }
 }
 
+/// Of several refusals the first is told: the home, the half, the flags, the PPN, its alignment, and then the tables.
+#[test]
+fn first_refusal_is_told(rt: HostRuntime) {
+    let mut memory = with_large_page(&rt, rt.alloc());
+    let small = page(&rt, 0x1000, PageSize::Kib4);
+    let large = page(&rt, 0x40_0000, PageSize::Mib2);
+    let window = page(&rt, KERNEL, PageSize::Mib2);
+    let rows = [
+        (1, window, map(1 << 44, W), MapFault::NotHome),
+        (1, small, Call::Unmap, MapFault::NotHome),
+        (1, window, Call::Unmap, MapFault::NotHome),
+        (1, small, Call::Protect(W), MapFault::NotHome),
+        (0, window, map(1 << 44, W), MapFault::WrongHalf),
+        (0, window, Call::Unmap, MapFault::WrongHalf),
+        (0, window, Call::Protect(W), MapFault::WrongHalf),
+        (0, large, map((1 << 44) + 1, W), MapFault::BadFlags),
+        (0, large, map(0x201, W), MapFault::BadFlags),
+        (0, large, map((1 << 44) + 1, RUAD), MapFault::PpnTooLarge),
+        (0, large, map(0x201, RUAD), MapFault::Misaligned),
+        (0, large, map(0x200, W | RUAD), MapFault::AlreadyMapped),
+        (0, small, Call::Protect(W), MapFault::BadFlags),
+        (0, small, Call::Protect(R | G), MapFault::BadFlags),
+    ];
+    for (hart, page, call, fault) in rows {
+        assert!(rt; edited(&rt, &mut memory, hart, Place::Space(0), page, call) == Err(fault));
+    }
+}
+
+/// The answer to a mapping of the 1 GiB at an address.
+fn mapped_huge(
+    rt: &impl Abort,
+    memory: &mut Memory,
+    place: Place,
+    base: u64,
+    bits: u8,
+) -> Result<(u64, u16, u64), MapFault> {
+    let huge = page(rt, base, PageSize::Gib1);
+    edited(rt, memory, 0, place, huge, map(0x4_0000, bits))
+}
+
+/// The user's half is slots 0 to 255 of a root.
+#[test]
+fn slots_of_a_space(rt: HostRuntime) {
+    let mut memory = opened(&rt, rt.alloc(), &default_config());
+    let rows = [
+        (0x3F_C000_0000, Ok((0x8_0001, 255, 0x1000_00D3))),
+        (0xFFFF_FFC0_0000_0000, Err(MapFault::WrongHalf)),
+        (0xFFFF_FFFF_8000_0000, Err(MapFault::WrongHalf)),
+        (KERNEL, Err(MapFault::WrongHalf)),
+    ];
+    for (base, answer) in rows {
+        assert!(rt; mapped_huge(&rt, &mut memory, Place::Space(0), base, RUAD) == answer);
+    }
+}
+
+/// A window of one slot is slot 511, where a table is from the opening on.
+#[test]
+fn slots_of_the_window(rt: HostRuntime) {
+    let mut memory = opened(&rt, rt.alloc(), &default_config());
+    let rows = [
+        (0x3F_C000_0000, MapFault::WrongHalf),
+        (0xFFFF_FFC0_0000_0000, MapFault::WrongHalf),
+        (0xFFFF_FFFF_8000_0000, MapFault::WrongHalf),
+        (KERNEL, MapFault::TableInWay),
+    ];
+    for (base, fault) in rows {
+        let answer = mapped_huge(&rt, &mut memory, Place::Kernel, base, R | G | A | D);
+        assert!(rt; answer == Err(fault));
+    }
+}
+
+/// Flags that a leaf may have, and some that none has: X alone is a leaf, and U, A and D alone are not.
+#[test]
+fn flags_of_leaves(rt: HostRuntime) {
+    let mut memory = with_large_page(&rt, rt.alloc());
+    let rows = [
+        (0x80_0000, X | U | A, Ok((0x8_0002, 4, 0x8_0059))),
+        (0xA0_0000, R | W | X, Ok((0x8_0002, 5, 0x8_000F))),
+        (0xC0_0000, U | A | D, Err(MapFault::BadFlags)),
+        (0xC0_0000, W | U | A | D, Err(MapFault::BadFlags)),
+        (0xC0_0000, W | X | U, Err(MapFault::BadFlags)),
+    ];
+    for (base, bits, answer) in rows {
+        let large = page(&rt, base, PageSize::Mib2);
+        assert!(rt;
+            edited(
+                &rt,
+                &mut memory,
+                0,
+                Place::Space(0),
+                large,
+                map(0x200, bits)
+            ) == answer
+        );
+    }
+}
+
+/// Two harts with 3 and 2 spare frames, two spaces at home on hart 1 and hart 0, and two slots of the window. So the frames
+/// are: the window's at 0x80000, the roots at 0x80002, hart 0's spares at 0x80004, and hart 1's at 0x80007.
+fn two_homes(rt: &impl Abort, alloc: Global) -> Memory {
+    let config = Config {
+        window: 2,
+        spares: spares_of(&[3, 2]),
+        ..two_harts(&[(1, 7), (0, 9)])
+    };
+    opened(rt, alloc, &config)
+}
+
+#[test]
+fn frames_in_their_order(rt: HostRuntime) {
+    let memory = two_homes(&rt, rt.alloc());
+    assert!(rt; memory.has(Place::Space(1)) && !memory.has(Place::Space(2)));
+    assert!(rt; memory.root(0) == 0x8_0002);
+    assert!(rt; memory.root(1) == 0x8_0003);
+    let rows = [
+        (0x7_FFFF, 511, None),
+        (0x8_0000, 511, Some(0)),
+        (0x8_0002, 256, Some(0)),
+        (0x8_0002, 509, Some(0)),
+        (0x8_0002, 510, Some(0x2000_0021)),
+        (0x8_0002, 511, Some(0x2000_0421)),
+        (0x8_0003, 510, Some(0x2000_0021)),
+        (0x8_0003, 511, Some(0x2000_0421)),
+        (0x8_0004, 511, Some(0)),
+        (0x8_0008, 511, Some(0)),
+        (0x8_0009, 0, None),
+    ];
+    for (ppn, index, word) in rows {
+        assert!(rt; memory.word(ppn, index) == word);
+    }
+}
+
+/// The answer to a mapping of the 4 KiB at an address to PPN 0x100.
+fn mapped_small(
+    rt: &impl Abort,
+    memory: &mut Memory,
+    hart: u8,
+    place: Place,
+    base: u64,
+) -> Result<(u64, u16, u64), MapFault> {
+    let flags = match place {
+        Place::Space(_) => RUAD,
+        Place::Kernel => R | G | A | D,
+    };
+    let small = page(rt, base, PageSize::Kib4);
+    edited(rt, memory, hart, place, small, map(0x100, flags))
+}
+
+#[test]
+fn tables_of_two_homes(rt: HostRuntime) {
+    let mut memory = two_homes(&rt, rt.alloc());
+    let rows = [
+        (0, 0, 0x1000, Err(MapFault::NotHome)),
+        (1, 0, 0x1000, Ok((0x8_0002, 0, 0x2000_1C01))),
+        (1, 0, 0x1000, Ok((0x8_0007, 0, 0x2000_2001))),
+        (1, 0, 0x1000, Ok((0x8_0008, 1, 0x4_00D3))),
+        (1, 0, 0x4000_0000, Err(MapFault::NoFrame)),
+        (1, 1, 0x1000, Err(MapFault::NotHome)),
+        (0, 1, 0x1000, Ok((0x8_0003, 0, 0x2000_1001))),
+    ];
+    for (hart, space, base, answer) in rows {
+        assert!(rt; mapped_small(&rt, &mut memory, hart, Place::Space(space), base) == answer);
+    }
+}
+
+/// Hart 0 is the home of the window, also where space 0 is at home elsewhere.
+#[test]
+fn tables_of_the_window(rt: HostRuntime) {
+    let mut memory = two_homes(&rt, rt.alloc());
+    let low_slot = 0xFFFF_FFFF_8000_0000;
+    let rows = [
+        (1, low_slot, Err(MapFault::NotHome)),
+        (0, low_slot, Ok((0x8_0000, 0, 0x2000_1021))),
+        (0, low_slot, Ok((0x8_0004, 0, 0x4_00E3))),
+        (0, KERNEL, Ok((0x8_0001, 0, 0x2000_1421))),
+        (0, KERNEL, Ok((0x8_0005, 0, 0x4_00E3))),
+        (1, KERNEL, Err(MapFault::NotHome)),
+    ];
+    for (hart, base, answer) in rows {
+        assert!(rt; mapped_small(&rt, &mut memory, hart, Place::Kernel, base) == answer);
+    }
+}
+
 #[test]
 fn edits_refused_by_what_stands_there(rt: HostRuntime) {
     let mut memory = with_large_page(&rt, rt.alloc());
@@ -289,6 +516,8 @@ fn edits_refused_by_what_stands_there(rt: HostRuntime) {
         (space, inside, Call::Protect(RUAD), MapFault::WrongSize),
         (space, small, Call::Protect(RUAD), MapFault::NotMapped),
         (Place::Kernel, slot, Call::Unmap, MapFault::WrongSize),
+        (space, huge, Call::Unmap, MapFault::WrongSize),
+        (space, huge, Call::Protect(RUAD), MapFault::WrongSize),
     ];
     for (place, page, call, fault) in rows {
         assert!(rt; edited(&rt, &mut memory, 0, place, page, call) == Err(fault));
