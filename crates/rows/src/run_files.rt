@@ -89,6 +89,46 @@ const SUPERPAGE: &str = r"
 0 finish 0 -> ok
 ";
 
+/// Each of the 512 small pages of the page that `SUPERPAGE` unmaps: hart 1 finds it until it takes the request, and walks
+/// to a word that is 0 once it has acknowledged.
+#[test]
+fn small_pages_of_a_superpage(rt: HostRuntime) -> Result<(), Fail> {
+    let alloc = rt.alloc();
+    let mut script = Script::new(alloc, "harts = 2")?;
+    script.steps(
+        r"
+0 map 0 2M:0x400000 0x200 rwuad -> table 0x80002
+0 map 0 2M:0x400000 0x200 rwuad -> leaf
+1 begin u load 0x5fffff -> more
+1 load -> more
+1 load -> fill 0x3fffff
+0 unmap 0 2M:0x400000 0,1 -> opened 0
+0 post 0 1 -> ok
+",
+    )?;
+    for small in 0_u32..512 {
+        let begin = format!(in alloc; "1 begin u load 0x{:x}000", 0x400 + small)?;
+        let hit = format!(in alloc; "hit 0x{:x}000", 0x200 + small)?;
+        script.step(begin.as_str(), hit.as_str())?;
+    }
+    script.steps(
+        r"
+1 begin u load 0x5fffff -> hit 0x3fffff
+1 take 0 -> taken 0 page 2M:0x400000 asid 1
+1 servefence -> ok
+1 ack -> ok
+",
+    )?;
+    for small in 0_u32..512 {
+        let begin = format!(in alloc; "1 begin u load 0x{:x}000", 0x400 + small)?;
+        script.step(begin.as_str(), "more")?;
+        script.step("1 load", "more")?;
+        script.step("1 load", "trap 13 Invalid")?;
+    }
+    assert!(rt; script.answers(alloc)?);
+    Ok(())
+}
+
 const MID_WALK: &str = r"
 0 map 0 2M:0x400000 0x200 rwuad -> table 0x80002
 0 map 0 2M:0x400000 0x200 rwuad -> leaf
@@ -453,49 +493,60 @@ fn refused_steps(rt: HostRuntime) -> Result<(), Fail> {
     Ok(())
 }
 
+/// A file that is refused: its text, the status, and the line on standard error.
+type Refused = (&'static str, u8, &'static str);
+
+const REFUSED_KEYS: [Refused; 7] = [
+    ("base = \"0x80", 2, "svsim: not TOML\n"),
+    ("harts = true", 3, "svsim: key harts: wrong\n"),
+    ("root = '0x80000'", 3, "svsim: key root: wrong\n"),
+    (
+        "spares = [1, 1, 1, 1, 1, 1, 1, 1, 1]",
+        3,
+        "svsim: key spares: wrong\n",
+    ),
+    ("harts = 9", 3, "svsim: layout refused\n"),
+    ("harts = 2\nspares = [8]", 3, "svsim: layout refused\n"),
+    ("spaces = ['255 1']", 3, "svsim: layout refused\n"),
+];
+
+const REFUSED_STEPS: [Refused; 6] = [
+    (
+        "harts = 8\nsteps = ['0 load', '8 load']",
+        3,
+        "svsim: step 2: no such hart\n",
+    ),
+    ("steps = ['']", 3, "svsim: step 1: not a step\n"),
+    (
+        "steps = ['0 flush all 0,1']",
+        3,
+        "svsim: step 1: no such hart\n",
+    ),
+    (
+        "steps = ['9 map 0 4K:0x1 0x1 r']",
+        3,
+        "svsim: step 1: no such hart\n",
+    ),
+    (
+        "steps = ['0 map 0 2M:0x1000 0x1 r']",
+        3,
+        "svsim: step 1: not a page\n",
+    ),
+    (
+        "steps = ['0 unmap 0 4K:0x4000000000 0']",
+        3,
+        "svsim: step 1: not a page\n",
+    ),
+];
+
 #[test]
 fn refused_files(rt: HostRuntime) -> Result<(), Fail> {
     let alloc = rt.alloc();
     assert!(rt; ends(alloc, "", 0, "", ""));
-    for (text, status, line) in [
-        ("base = \"0x80", 2, "svsim: not TOML\n"),
-        ("harts = true", 3, "svsim: key harts: wrong\n"),
-        ("root = '0x80000'", 3, "svsim: key root: wrong\n"),
-        (
-            "spares = [1, 1, 1, 1, 1, 1, 1, 1, 1]",
-            3,
-            "svsim: key spares: wrong\n",
-        ),
-        ("harts = 9", 3, "svsim: layout refused\n"),
-        ("harts = 2\nspares = [8]", 3, "svsim: layout refused\n"),
-        ("spaces = ['255 1']", 3, "svsim: layout refused\n"),
-        (
-            "harts = 8\nsteps = ['0 load', '8 load']",
-            3,
-            "svsim: step 2: no such hart\n",
-        ),
-        ("steps = ['']", 3, "svsim: step 1: not a step\n"),
-        (
-            "steps = ['0 flush all 0,1']",
-            3,
-            "svsim: step 1: no such hart\n",
-        ),
-        (
-            "steps = ['9 map 0 4K:0x1 0x1 r']",
-            3,
-            "svsim: step 1: no such hart\n",
-        ),
-        (
-            "steps = ['0 map 0 2M:0x1000 0x1 r']",
-            3,
-            "svsim: step 1: not a page\n",
-        ),
-        (
-            "steps = ['0 unmap 0 4K:0x4000000000 0']",
-            3,
-            "svsim: step 1: not a page\n",
-        ),
-    ] {
+    for (text, status, line) in REFUSED_KEYS {
+        assert!(rt; ends(alloc, text, status, "", line), "{text}");
+    }
+    for (text, status, line) in REFUSED_STEPS {
         assert!(rt; ends(alloc, text, status, "", line), "{text}");
     }
     Ok(())

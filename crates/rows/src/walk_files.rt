@@ -68,7 +68,7 @@ fn answers(alloc: Global, row: &Row) -> Result<bool, Fail> {
 }
 
 #[test]
-fn pages_and_kinds(rt: HostRuntime) -> Result<(), Fail> {
+fn pages_of_each_size(rt: HostRuntime) -> Result<(), Fail> {
     for row in [
         on_path(
             "page of 4 KiB",
@@ -91,6 +91,25 @@ fn pages_and_kinds(rt: HostRuntime) -> Result<(), Fail> {
             "1 trap 13 Misaligned\n",
         ),
         on_path(
+            "RSW set",
+            [ROOT, MIDDLE, "0x80002 3 0x48D17D7"],
+            "1 pa 0x12345abc 4K\n",
+        ),
+        on_path(
+            "pointer with G",
+            ["0x80000 2 0x20000421", MIDDLE, LEAF],
+            "1 pa 0x12345abc 4K global\n",
+        ),
+    ] {
+        assert!(rt; answers(rt.alloc(), &row)?, "{}", row.name);
+    }
+    Ok(())
+}
+
+#[test]
+fn words_that_end_a_walk(rt: HostRuntime) -> Result<(), Fail> {
+    for row in [
+        on_path(
             "pointer with U",
             ["0x80000 2 0x20000411", MIDDLE, LEAF],
             "1 trap 13 Reserved\n",
@@ -110,16 +129,15 @@ fn pages_and_kinds(rt: HostRuntime) -> Result<(), Fail> {
             [ROOT, MIDDLE, "0x80002 3 0x48D14D5"],
             "1 trap 13 Reserved\n",
         ),
-        on_path(
-            "RSW set",
-            [ROOT, MIDDLE, "0x80002 3 0x48D17D7"],
-            "1 pa 0x12345abc 4K\n",
-        ),
-        on_path(
-            "pointer with G",
-            ["0x80000 2 0x20000421", MIDDLE, LEAF],
-            "1 pa 0x12345abc 4K global\n",
-        ),
+    ] {
+        assert!(rt; answers(rt.alloc(), &row)?, "{}", row.name);
+    }
+    Ok(())
+}
+
+#[test]
+fn addresses_and_tables(rt: HostRuntime) -> Result<(), Fail> {
+    for row in [
         Row {
             name: "table outside memory",
             words: ["0x80000 2 0x20000C01", MIDDLE, LEAF],
