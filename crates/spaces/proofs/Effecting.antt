@@ -27,7 +27,7 @@ use Rattle.spaces.proofs.Trees.{IsPlace, kind-zero, pointed-zero, table_on-point
 use Rattle.spaces.proofs.Accepting.{home-there}
 use Rattle.spaces.proofs.Keeping.{IsLeafStore, IsPointerStore, there, reaches, keeps-tree, is-place, high}
 use Rattle.spaces.proofs.Numbers.{same-vpns, same-page, part-of, of-part, place-of-part, canonical-part, number-part}
-use Rattle.spaces.proofs.Leaves.{LeafOn, member-of, maps-of, moved}
+use Rattle.spaces.proofs.Leaves.{LeafOn, member-of, maps-of, moved, leaf-carried}
 
 -- a page's level fits its place: what hangs in both
 size-level : (size : PageSize) → level_of size ≤ top_level
@@ -130,29 +130,15 @@ module _ (l : Layout) (fits : IsLayout l) (words : Tables) (used : ℕ → ℕ) 
       -- a leaf elsewhere is in both
       new-old : (s va level t entry leaf : ℕ) (flags : PteFlags) → (store.ppn ≡ t → store.index ≡ vpn_of va level → ⊥)
           → LeafOn l (words_after words store) s va level t entry leaf flags → LeafOn l words s va level t entry leaf flags
-      new-old s va level t entry leaf flags apart o = record {
-        place = o.place;
-        hangs = o.hangs;
-        has = o.has;
-        within = o.within;
-        low = o.low;
-        on = sym (same-tables o.place va (start_level o.place - level)) ∙ o.on;
-        word = sym (stored-there words store.ppn store.index store.word t (vpn_of va level) apart) ∙ o.word;
-        kind = o.kind;
-      }
+      new-old s va level t entry leaf flags apart o =
+          leaf-carried l (words_after words store) words s va level t entry leaf flags o (sym (same-tables o.place va (start_level o.place - level)))
+          (sym (stored-there words store.ppn store.index store.word t (vpn_of va level) apart))
 
       old-new : (s va level t entry leaf : ℕ) (flags : PteFlags) → (store.ppn ≡ t → store.index ≡ vpn_of va level → ⊥)
           → LeafOn l words s va level t entry leaf flags → LeafOn l (words_after words store) s va level t entry leaf flags
-      old-new s va level t entry leaf flags apart o = record {
-        place = o.place;
-        hangs = o.hangs;
-        has = o.has;
-        within = o.within;
-        low = o.low;
-        on = same-tables o.place va (start_level o.place - level) ∙ o.on;
-        word = stored-there words store.ppn store.index store.word t (vpn_of va level) apart ∙ o.word;
-        kind = o.kind;
-      }
+      old-new s va level t entry leaf flags apart o =
+          leaf-carried l words (words_after words store) s va level t entry leaf flags o (same-tables o.place va (start_level o.place - level))
+          (stored-there words store.ppn store.index store.word t (vpn_of va level) apart)
 
       -- a leaf of the page in the old words is the one in that word
       the-word : (s va level t entry leaf number : ℕ) (flags : PteFlags) → (o : LeafOn l words s va level t entry leaf flags) → page_number va ≡ number → IsAbout (place_of wish) (page_of wish) s number

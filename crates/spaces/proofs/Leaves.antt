@@ -93,6 +93,21 @@ pub record LeafOn (l : Layout) (words : Tables) (s va level t entry leaf : ℕ) 
   pub word : word_at words va level t ≡ Some entry
   pub kind : kind_of entry ≡ kinds.Leaf leaf flags
 
+-- it is one in any memory whose tables lead there and whose word is the same
+abbrev pub leaf-carried : (l : Layout) (old new : Tables) (s va level t entry leaf : ℕ) (flags : PteFlags) → (o : LeafOn l old s va level t entry leaf flags)
+    → table_on l new o.place va (start_level o.place - level) ≡ table_on l old o.place va (start_level o.place - level)
+    → word_at new va level t ≡ word_at old va level t → LeafOn l new s va level t entry leaf flags
+leaf-carried l old new s va level t entry leaf flags o tables word = record {
+  place = o.place;
+  hangs = o.hangs;
+  has = o.has;
+  within = o.within;
+  low = o.low;
+  on = tables ∙ o.on;
+  word = word ∙ o.word;
+  kind = o.kind;
+}
+
 module _ (l : Layout) (fits : IsLayout l) (words : Tables) (used : ℕ → ℕ) (tree : IsTree l words used) where
   root-home : (s : ℕ) → s < length l.homes → IsHome l words (slice_index l.homes s) (used (slice_index l.homes s))
   root-home s has = tree (slice_index l.homes s) (fits.homes s 0 has)
