@@ -3,14 +3,14 @@ use Rattle.std.proofs.Common.{◌≡◌, ℕ, zero, suc, ◌+◌, ◌-◌, ◌<�
 use Rattle.std.specs.Prelude.{slice_index, ◌↔◌}
 use Rattle.std.proofs.lemmas.Bool.{cases_lt}
 use Rattle.pte.specs.declared.flags.PteFlags.{PteFlags}
-use Rattle.pte.specs.declared.entry.Kind.{Kind}
 use Rattle.pte.specs.declared.entry.Kind.TheVariants as kinds
 use Rattle.pte.specs.Address.{IsCanonical, top_level, level_pages, vpn_of}
 use Rattle.pte.specs.Entry.{kind_of, table_word, ppn_bits}
 use Rattle.pte.proofs.EntryKinds.{kind-table}
 use Rattle.walk.specs.Leads.{Tables, word_at, PointsTo, Leads, IsGlobalAt}
 use Rattle.walk.specs.Maps.{Maps, page_number}
-use Rattle.walk.proofs.Paths.{leads-start, leads-below}
+use Rattle.walk.proofs.Paths.{leads-start}
+use Rattle.walk.proofs.Downward.{points-to, leads-after, leads_by_pointers}
 use Rattle.walk.proofs.Unique.{same_bool}
 use Rattle.spaces.specs.declared.places.Place.{Place}
 use Rattle.spaces.specs.declared.places.Place.TheVariants.{Space, Kernel}
@@ -18,56 +18,26 @@ use Rattle.spaces.specs.Layout.{Layout, HasPlace, root_ppn, user_slots, first_wi
 use Rattle.spaces.specs.Held.{IsLayout}
 use Rattle.spaces.specs.Edits.{is_kernel}
 use Rattle.spaces.specs.Tree.{start_level, start_table, IsIn, table_on, IsHome, IsTree}
-use Rattle.walk.specs.Pointers.{pointed, pointed_kind, table_below}
+use Rattle.walk.specs.Pointers.{pointed, table_below}
 use Rattle.spaces.specs.Effects.{HangsBelow}
-use Rattle.spaces.proofs.Paths.{above, below, some-same, vpn-below}
+use Rattle.spaces.proofs.Paths.{above, some-same, vpn-below}
 use Rattle.spaces.proofs.Trees.{kind-zero, pointed-zero}
 use Rattle.spaces.proofs.EntryWords.{global-table}
 use Rattle.spaces.proofs.EndPaths.{table_below-front}
 use Rattle.spaces.proofs.Accepting.{window-points}
 
--- a word that points is a pointer
-pointer-kind : (word t : ℕ) (kind : Kind) → kind_of word ≡ kind → pointed_kind kind ≡ Some t → PointsTo (Some word) t
-pointer-kind word t (kinds.Table q g) is e = record { entry = word; global = g; is = refl; kind = is ∙ ap (λ n. kinds.Table n g) (some-same _ _ e) }
-pointer-kind word t kinds.Invalid is e = absurd (let bad : None ≡ Some t = e in cc)
-pointer-kind word t kinds.Reserved is e = absurd (let bad : None ≡ Some t = e in cc)
-pointer-kind word t (kinds.Leaf q f) is e = absurd (let bad : None ≡ Some t = e in cc)
-
-pub points-to : (o : Option ℕ) (t : ℕ) → pointed o ≡ Some t → PointsTo o t
-points-to (Some word) t e = pointer-kind word t (kind_of word) refl e
-points-to None t e = absurd (let bad : None ≡ Some t = e in cc)
-
+-- a pointer is a word that points
 pub pointed-to : (o : Option ℕ) (t : ℕ) → PointsTo o t → pointed o ≡ Some t
-pointed-to o t p = ap pointed p.is ∙ ap pointed_kind p.kind
+pointed-to o t p = points-to o t p
 
 module _ (words : Tables) (root va : ℕ) where
   -- a path of tables leads
   pub leads-path : (n t : ℕ) → n ≤ top_level → table_below words va top_level root n ≡ Some t → Leads words root va (top_level - n) t (word_at words va (top_level - n) t)
-  leads-path zero t deep e = subst (λ u. Leads words root va top_level u (word_at words va top_level u)) (some-same _ _ e) (leads-start words root va)
-  leads-path (suc n) t deep e =
-      let up = above words va top_level root n t e in
-      let path = leads-path n up.table_above (omega arith) up.on in
-      let point = points-to (word_at words va (top_level - n) up.table_above) t up.points in
-      let level : top_level - n ≡ top_level - suc n + 1 = omega arith in
-      leads-below words root va (top_level - suc n) up.table_above point.entry t point.global
-      (subst (λ k. Leads words root va k up.table_above (Some point.entry)) level
-      (subst (λ o. Leads words root va (top_level - n) up.table_above o) point.is path))
-      point.kind
+  leads-path n t deep e = leads-after words root va n (top_level - n) t (omega arith) e
 
   -- and what leads has a path of tables
-  tables-path : (i t : ℕ) (w : Option ℕ) → (p : Leads words root va i t w) → (n : ℕ) → n + i ≤ top_level → table_below words va top_level root n ≡ Some (p.tables (top_level - n))
-  tables-path i t w p zero deep = ap Some (sym p.first)
-  tables-path i t w p (suc n) deep =
-      let rest = tables-path i t w p n (omega arith) in
-      let level : top_level - n - 1 ≡ top_level - suc n = omega arith in
-      below words va top_level root n (p.tables (top_level - n)) rest
-      ∙ pointed-to (word_at words va (top_level - n) (p.tables (top_level - n))) (p.tables (top_level - n - 1)) (p.pointers (top_level - n) (omega arith) (omega arith))
-      ∙ ap (λ k. Some (p.tables k)) level
-
   pub path-leads : (i t : ℕ) (w : Option ℕ) → Leads words root va i t w → table_below words va top_level root (top_level - i) ≡ Some t
-  path-leads i t w p =
-      let level : top_level - (top_level - i) ≡ i = omega (arith, p.level) in
-      tables-path i t w p (top_level - i) (omega (arith, p.level)) ∙ ap (λ k. Some (p.tables k)) level ∙ ap Some p.last
+  path-leads i t w p = ((leads_by_pointers words root va i t w).0 p).1
 
   -- where the first word is no pointer the path has one table
   pub path-none : (n t : ℕ) → pointed (word_at words va top_level root) ≡ None → table_below words va top_level root n ≡ Some t → n ≡ 0

@@ -9,7 +9,8 @@ use Rattle.walk.specs.Leads.{Tables, word_at, PointsTo, Leads}
 use Rattle.walk.specs.Pointers.{pointed_kind, pointed, next_table, table_after}
 use Rattle.walk.proofs.Paths.{leads-start, leads-below, leads-above}
 
-points-to : (word : Option ℕ) (table : ℕ) → PointsTo word table → pointed word ≡ Some table
+-- a word points to a table exactly if the pointer that it holds is to that one
+pub points-to : (word : Option ℕ) (table : ℕ) → PointsTo word table → pointed word ≡ Some table
 points-to word table p = ap pointed p.is ∙ ap pointed_kind p.kind
 
 kind-points : (entry : ℕ) (kind : Kind) (table : ℕ) → kind_of entry ≡ kind → pointed_kind kind ≡ Some table → PointsTo (Some entry) table
@@ -40,7 +41,7 @@ module _ (words : Tables) (root va : ℕ) where
   next-from level None t is = cc
   next-from level (Some table) t is = (table, refl, points-from (word_at words va level table) t is)
 
-  leads-after : (n i t : ℕ) → i + n ≡ top_level → table_after words root va n ≡ Some t → Leads words root va i t (word_at words va i t)
+  pub leads-after : (n i t : ℕ) → i + n ≡ top_level → table_after words root va n ≡ Some t → Leads words root va i t (word_at words va i t)
   leads-after zero i t at is =
       let top : i ≡ top_level = omega arith in
       let same : root ≡ t = cc in
