@@ -48,6 +48,9 @@ module _ (words : Tables) (root va : ℕ) (access : Access) (ctx : Ctx) (found :
   pub entry_matches : IsPage (entry_of asid found).page × IsTrue (is_match asid va (entry_of asid found))
   entry_matches = (found_page.0, and_from _ _ ((holds-Holds found.page va).1 found_page.1) (or_right found.global (asid == asid) (eq-eqb asid asid refl)))
 
+  pub entry_spaces : (other : ℕ) → is_match other va (entry_of asid found) ≡ found.global || (asid == other)
+  entry_spaces other = ap (λ there. there && (found.global || (asid == other))) ((holds-Holds found.page va).1 found_page.1)
+
   pub entry_is_mapped : (m : Mapping) → IsMappingOf (entry_of asid found) m → Maps words root m.page m.ppn m.flags found.global
   entry_is_mapped m of =
       let at : ℕ = m.page * bytes_of Kib4 in

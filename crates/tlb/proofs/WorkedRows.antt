@@ -1,11 +1,17 @@
--- Worked rows, computed from the definitions alone, whatever the entries' PPNs and flags.
-use Rattle.std.proofs.Common.{◌≡◌, ℕ, zero, suc, ◌+◌, ◌*◌, Bool, true, false, Some, None, List, [], ◌∷◌, refl}
+-- Worked rows, computed from the definitions alone; in the first part whatever the entries' PPNs and flags are.
+use Rattle.std.proofs.Common.{◌≡◌, ℕ, zero, suc, ◌+◌, ◌*◌, Bool, true, false, Some, None, Ok, Err, List, [], ◌∷◌, refl}
 use Rattle.pte.specs.declared.flags.PteFlags.{PteFlags}
 use Rattle.pte.specs.declared.address.PageSize.{PageSize}
 use Rattle.pte.specs.declared.address.PageSize.TheVariants.{Kib4, Mib2, Gib1}
 use Rattle.pte.specs.declared.address.What.TheVariants.{PageOf, SpaceOf, All}
 use Rattle.pte.specs.Address.{Span}
+use Rattle.pte.specs.declared.permission.Access.TheVariants.{Fetch, Load, Store}
+use Rattle.pte.specs.declared.permission.Mode.TheVariants.{User}
+use Rattle.pte.specs.declared.permission.Ctx.{Ctx}
+use Rattle.walk.specs.declared.found_or_trap.Found.{Found}
+use Rattle.walk.specs.declared.found_or_trap.Why.TheVariants.{Denied, NotDirty}
 use Rattle.tlb.specs.declared.store.Entry.{Entry}
+use Rattle.tlb.specs.Answer.{answer_of, entry_of}
 use Rattle.tlb.specs.Entries.{filled, first_match}
 use Rattle.tlb.specs.Fence.{fenced}
 use Rattle.tlb.specs.Service.{served}
@@ -54,6 +60,43 @@ module _ (ppn : ℕ) (flags : PteFlags) where
   form_1 : fenced four None None ≡ []
   form_1 = refl
 
+  -- the first address behind a page is none of it
+  form_3_behind_the_page : fenced four (Some 0x1000) None ≡ a ∷ c ∷ d ∷ []
+  form_3_behind_the_page = refl
+
+  -- a kernel page, by its last address; what is not canonical lies between the last address below and the first above
+  abbrev k : Entry
+  k = entry 1 true (page Kib4 0xFFFFFFFFC0000000)
+
+  abbrev below : Entry
+  below = entry 1 false (page Gib1 0x3FC0000000)
+
+  abbrev above : Entry
+  above = entry 1 false (page Gib1 0xFFFFFFC000000000)
+
+  form_3_kernel_page : fenced (k ∷ a ∷ []) (Some 0xFFFFFFFFC0000FFF) None ≡ a ∷ []
+  form_3_kernel_page = refl
+
+  last_canonical_below : fenced (below ∷ above ∷ []) (Some 0x3FFFFFFFFF) None ≡ above ∷ []
+  last_canonical_below = refl
+
+  first_canonical_above : fenced (below ∷ above ∷ []) (Some 0xFFFFFFC000000000) None ≡ below ∷ []
+  first_canonical_above = refl
+
+  not_canonical_above : fenced (below ∷ above ∷ []) (Some 0xFFFFFFBFFFFFFFFF) None ≡ below ∷ above ∷ []
+  not_canonical_above = refl
+
+  -- all 16 bits of an ASID count
+  abbrev last_asid : Entry
+  last_asid = entry 0xFFFF false (page Kib4 0)
+
+  form_2_all_bits : fenced (last_asid ∷ entry 0x7FFF false (page Kib4 0) ∷ []) None (Some 0xFFFF) ≡ entry 0x7FFF false (page Kib4 0) ∷ []
+  form_2_all_bits = refl
+
+  -- ASID 0 is an address space as any other
+  asid_0_matches_its_own : first_match (a ∷ []) 1 0 ≡ None
+  asid_0_matches_its_own = refl
+
   -- look-ups and services
   abbrev A : Entry
   A = entry 1 false (page Mib2 0x400000)
@@ -88,6 +131,12 @@ module _ (ppn : ℕ) (flags : PteFlags) where
   none_matches : first_match six 3 0x600000 ≡ None
   none_matches = refl
 
+  form_3_superpages : fenced six (Some 0x5FFFFF) None ≡ C ∷ F ∷ []
+  form_3_superpages = refl
+
+  form_4_superpages : fenced six (Some 0x401FFF) (Some 1) ≡ B ∷ C ∷ D ∷ F ∷ []
+  form_4_superpages = refl
+
   superpage_of_space : served six (PageOf (page Mib2 0x400000) (Some 1)) ≡ C ∷ D ∷ F ∷ []
   superpage_of_space = refl
 
@@ -96,6 +145,10 @@ module _ (ppn : ℕ) (flags : PteFlags) where
 
   global_page : served six (PageOf (page Kib4 0x401000) None) ≡ B ∷ F ∷ []
   global_page = refl
+
+  -- A and B end where F begins
+  page_behind_others : served six (PageOf (page Kib4 0x600000) (Some 1)) ≡ A ∷ B ∷ C ∷ D ∷ []
+  page_behind_others = refl
 
   whole_space : served six (SpaceOf 1) ≡ C ∷ D ∷ []
   whole_space = refl
@@ -113,3 +166,48 @@ module _ (ppn : ℕ) (flags : PteFlags) where
 
   seventeenth_keeps_second : first_match (pages 17) 1 0x2000 ≡ Some (entry 1 false (page Kib4 0x2000))
   seventeenth_keeps_second = refl
+
+  -- a page that is filled twice, with another PPN, is there twice, and the older entry answers
+  abbrev moved : Entry
+  moved = record { asid = 0; global = false; page = page Kib4 0; ppn = ppn + 1; flags = flags }
+
+  twice_filled : filled (filled [] a) moved ≡ a ∷ moved ∷ []
+  twice_filled = refl
+
+  older_answers : first_match (filled (filled [] a) moved) 0 0 ≡ Some a
+  older_answers = refl
+
+  -- what a walk found on a leaf of 2 MiB, and under a global mapping or not
+  abbrev found : Bool → Found
+  found global = record { pa = 0; page = page Mib2 0x400000; ppn = ppn; flags = flags; global = global }
+
+  found_is_of_the_space : first_match (entry_of 1 (found false) ∷ []) 2 0x5FFFFF ≡ None
+  found_is_of_the_space = refl
+
+  found_global_is_of_every_space : first_match (entry_of 1 (found true) ∷ []) 2 0x5FFFFF ≡ Some (entry 1 true (page Mib2 0x400000))
+  found_global_is_of_every_space = refl
+
+-- what a leaf of U-mode with A and no D answers: of its PPN 44 bits count, and the place is that in its own page
+abbrev clean : PageSize → ℕ → Entry
+clean size ppn = record { asid = 1; global = false; page = record { base = 0x40000000; size = size }; ppn = ppn; flags = record { 0 = 0x56 } }
+
+abbrev user : Ctx
+user = record { mode = User; sum = false; mxr = false }
+
+small_page_answers : answer_of (clean Kib4 0x12345) 0x40000ABC Load user ≡ Ok 0x12345ABC
+small_page_answers = refl
+
+superpage_answers : answer_of (clean Mib2 0x200) 0x401FFFFF Load user ≡ Ok 0x3FFFFF
+superpage_answers = refl
+
+huge_page_answers : answer_of (clean Gib1 0x40000) 0x7FFFFFFF Load user ≡ Ok 0x7FFFFFFF
+huge_page_answers = refl
+
+bits_of_the_ppn : answer_of (clean Kib4 0x180000012345) 0x40000ABC Load user ≡ Ok 0x80000012345ABC
+bits_of_the_ppn = refl
+
+clean_page_is_not_stored_to : answer_of (clean Kib4 0x12345) 0x40000ABC Store user ≡ Err (record { cause = 15; why = NotDirty })
+clean_page_is_not_stored_to = refl
+
+clean_page_is_not_executed : answer_of (clean Kib4 0x12345) 0x40000ABC Fetch user ≡ Err (record { cause = 12; why = Denied })
+clean_page_is_not_executed = refl

@@ -1,6 +1,6 @@
 //! Laws of the definitions that the contracts of a TLB cite. Each function does nothing, and its clause is the law.
 
-ghost use Rattle.std.specs.Prelude.{ℕ, Bool, Option, None, Some, Ok, Result, List, ◌≡◌, ◌⊎◌, ◌↔◌, ◌<◌, ◌^◌, ◌&&◌, IsSome, IsTrue, not};
+ghost use Rattle.std.specs.Prelude.{ℕ, Bool, Option, None, Some, Ok, Result, List, ◌≡◌, ◌⊎◌, ◌↔◌, ◌<◌, ◌^◌, ◌==◌, ◌&&◌, ◌||◌, IsSome, IsTrue, not};
 ghost use Rattle.std.specs.List.{All, AllPass};
 ghost use Rattle.pte.specs.Address.{Holds, IsCanonical, IsPage, Overlap, Span};
 ghost use Rattle.pte.specs.declared.address.What.{What};
@@ -74,11 +74,13 @@ pub fn served_page_is_not_mapped()
     ensures space { (entries : List Entry) (page : Span) (asid : ℕ) → asid < 2 ^ asid_bits → AllPass (λ e. not (e.global && overlaps page e.page)) entries → AllPass (λ e. not (maps_into page (Some asid) e)) (served entries (PageOf page (Some asid))) }
 {}
 
-/// What a walk found gives an entry that matches the address for the walk's ASID, and whose mappings are all among those of
-/// the tables.
+/// What a walk found gives an entry that matches the address for the walk's ASID, for another exactly where the walk found
+/// it global, and whose mappings are all among those of the tables.
 pub fn found_entry_is_mapped()
     ensures matches { (words : Tables) (root va : ℕ) (access : Access) (ctx : Ctx) (found : Found) (asid : ℕ) → Outcome words root va access ctx (Ok found)
         → IsPage (entry_of asid found).page × IsTrue (is_match asid va (entry_of asid found)) }
+    ensures spaces { (words : Tables) (root va : ℕ) (access : Access) (ctx : Ctx) (found : Found) (asid : ℕ) → Outcome words root va access ctx (Ok found)
+        → (other : ℕ) → is_match other va (entry_of asid found) ≡ (found.global || (asid == other)) }
     ensures mapped { (words : Tables) (root va : ℕ) (access : Access) (ctx : Ctx) (found : Found) (asid : ℕ) → Outcome words root va access ctx (Ok found)
         → (m : Mapping) → IsMappingOf (entry_of asid found) m → Maps words root m.page m.ppn m.flags found.global }
 {}

@@ -108,6 +108,48 @@ fn six(rt: &impl Abort) -> [Probe; 6] {
 }
 
 #[test]
+fn fences_of_an_address_in_larger_pages(rt: HostRuntime) {
+    let probes = six(&rt);
+    let rows = [
+        (
+            Some(0x5F_FFFF),
+            None,
+            [false, false, true, false, false, true],
+        ),
+        (
+            Some(0x40_1FFF),
+            Some(1),
+            [false, true, true, true, false, true],
+        ),
+    ];
+    for (rs1, rs2, stays) in &rows {
+        let mut tlb = filled(&probes);
+        tlb.fence(*rs1, *rs2);
+        for (i, probe) in probes.iter().enumerate() {
+            assert_eq!(rt;
+                is_there(&rt, &tlb, probe),
+                stays[i],
+                "entry {i} after {rs1:?}, {rs2:?}"
+            );
+        }
+    }
+}
+
+#[test]
+fn all_bits_of_an_asid_count(rt: HostRuntime) {
+    let zero = page(&rt, PageSize::Kib4, 0);
+    let last = seen_at(0xFFFF, false, zero, (0xFFFF, 0));
+    let half = seen_at(0x7FFF, false, zero, (0x7FFF, 0));
+    let first = seen_at(0, false, zero, (0, 0));
+    let mut tlb = filled(&[last, half, first]);
+    assert!(&rt; is_there(&rt, &tlb, &last) && is_there(&rt, &tlb, &first));
+    assert_eq!(rt; lookup(&rt, &tlb, 1, 0), None);
+    tlb.fence(None, Some(0xFFFF));
+    assert_eq!(rt; lookup(&rt, &tlb, 0xFFFF, 0), None);
+    assert!(&rt; is_there(&rt, &tlb, &half) && is_there(&rt, &tlb, &first));
+}
+
+#[test]
 fn the_oldest_match_answers(rt: HostRuntime) {
     let probes = six(&rt);
     let tlb = filled(&probes);
@@ -251,4 +293,41 @@ fn a_match_tests_permission_then_accessed_then_dirty(rt: HostRuntime) {
         };
         assert_eq!(rt; entry.translate(va, *access, USER), *answer);
     }
+}
+
+#[test]
+fn what_a_walk_found_global_answers_in_every_space(rt: HostRuntime) {
+    let mut found = Found {
+        pa: 0x30_0008,
+        page: page(&rt, PageSize::Kib4, 0xFFFF_FFFF_C000_0000),
+        ppn: 0x300,
+        flags: PteFlags::R | PteFlags::A | PteFlags::D | PteFlags::G,
+        global: true,
+    };
+    let mut tlb = Tlb::new();
+    tlb.fill(Entry::found(1, &found));
+    assert_eq!(rt;
+        lookup(&rt, &tlb, 2, 0xFFFF_FFFF_C000_0008).map(|entry| entry.ppn),
+        Some(0x300)
+    );
+    found.global = false;
+    let mut tlb = Tlb::new();
+    tlb.fill(Entry::found(1, &found));
+    assert_eq!(rt; lookup(&rt, &tlb, 2, 0xFFFF_FFFF_C000_0008), None);
+}
+
+#[test]
+fn of_a_ppn_44_bits_count(rt: HostRuntime) {
+    let va = address(&rt, 0x8040_3ABC);
+    let entry = Entry {
+        asid: 1,
+        global: false,
+        page: Page::around(va, PageSize::Kib4),
+        ppn: 0x1800_0001_2345,
+        flags: PteFlags::R | PteFlags::U | PteFlags::A,
+    };
+    assert_eq!(rt;
+        entry.translate(va, Access::Load, USER),
+        Ok(0x80_0000_1234_5ABC)
+    );
 }
