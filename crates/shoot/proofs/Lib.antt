@@ -4,4 +4,5 @@ pub mod HartSets
 pub mod MailboxLaws
 pub mod Rings
 pub mod TicketLaws
+pub mod TicketOpenings
 mod WorkedRows

@@ -148,3 +148,6 @@ stands_after mailbox turn history stands due =
 
 pub stands_order : (mailbox : MailboxState) (history : List Turn) → Stands mailbox history → accepted history ≡ taken history ++ mailbox.waiting
 stands_order mailbox history stands = order mailbox.capacity history stands.lawful ∙ ap (λ (m : MailboxState). taken history ++ m.waiting) (sym stands.left)
+
+pub stands_room : (mailbox : MailboxState) (history : List Turn) → Stands mailbox history → length (accepted history) ≡ mailbox.outstanding + released history
+stands_room mailbox history stands = room mailbox.capacity history stands.lawful ∙ ap (λ (m : MailboxState). m.outstanding + released history) (sym stands.left)

@@ -17,13 +17,13 @@ pub use hart_set::HartSet;
 pub use hart_set_laws::{bytes_are_sets_of_harts, sets_of_harts_are_tests};
 pub use mailbox::{Mailbox, PostFault};
 pub use mailbox_laws::{
-    mailbox_accepts_nothing_after_close, mailbox_keeps_order, mailbox_refuses_when_closed_or_full,
-    mailbox_stands_at_its_calls,
+    mailbox_accepts_nothing_after_close, mailbox_counts_what_is_not_collected, mailbox_keeps_order,
+    mailbox_refuses_when_closed_or_full, mailbox_stands_at_its_calls,
 };
 pub use request::Request;
 pub use ticket_laws::{
-    done_tickets_were_acknowledged, one_ticket_changes, ticket_is_done_once_all_are_collected,
-    tickets_stand_at_their_calls, tickets_tell_their_calls,
+    done_tickets_were_acknowledged, lowest_free_number_is_opened, one_ticket_changes,
+    ticket_is_done_once_all_are_collected, tickets_stand_at_their_calls, tickets_tell_their_calls,
 };
 pub use tickets::{Collected, NotDone, Ticket, TicketFault, Tickets};
 

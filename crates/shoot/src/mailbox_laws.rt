@@ -22,6 +22,13 @@ pub fn mailbox_keeps_order()
     ensures { (mailbox : MailboxState) (history : List Turn) → Stands mailbox history → accepted history ≡ taken history ++ mailbox.waiting }
 {}
 
+/// What is outstanding is what was accepted, but for the acknowledgements that
+/// were collected.
+#[tactic(auto, using(crate::proofs::MailboxLaws::stands_room))]
+pub fn mailbox_counts_what_is_not_collected()
+    ensures { (mailbox : MailboxState) (history : List Turn) → Stands mailbox history → length (accepted history) ≡ mailbox.outstanding + released history }
+{}
+
 /// Nothing is accepted after a close.
 #[tactic(auto, using(crate::proofs::MailboxLaws::none_after_close))]
 pub fn mailbox_accepts_nothing_after_close()

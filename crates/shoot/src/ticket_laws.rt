@@ -1,13 +1,13 @@
 //! Laws of every list of calls on the tickets of one hart. Each function does
 //! nothing: its contract is the law.
 
-ghost use Rattle.std.specs.Prelude.{◌≡◌, ◌≢◌, ◌↔◌, ◌<◌, ℕ, List, [], ◌∷◌, Option, IsTrue, length};
-ghost use Rattle.shoot.specs.HartSet.{contains};
+ghost use Rattle.std.specs.Prelude.{◌≡◌, ◌≢◌, ◌↔◌, ◌<◌, ℕ, false, List, [], ◌∷◌, Option, None, Ok, Err, IsTrue, length};
+ghost use Rattle.shoot.specs.HartSet.{contains, harts_in};
 ghost use Rattle.shoot.specs.TicketHistory.{Turn, IsDue, Stands, after_turn, told};
-ghost use Rattle.shoot.specs.Tickets.{TicketTable, is_acked, is_done, is_done_at, names, no_tickets, ticket_at, with_ticket};
+ghost use Rattle.shoot.specs.Tickets.{TicketTable, is_acked, is_done, is_done_at, is_open, names, no_tickets, open_answer, ticket_at, with_ticket};
 
 use crate::MAX_HARTS;
-use crate::tickets::Ticket;
+use crate::tickets::{Ticket, TicketFault};
 
 /// The new tickets of a hart stand at no calls. Each call that may be made and
 /// is answered as its contract says is one more at which the tickets stand.
@@ -23,6 +23,17 @@ pub fn tickets_stand_at_their_calls()
 #[tactic(auto, using(crate::proofs::TicketLaws::stands_told))]
 pub fn tickets_tell_their_calls()
     ensures { (table : TicketTable) (history : List Turn) (number : ℕ) → Stands table history → ticket_at table number ≡ told table.hart history number }
+{}
+
+/// An opening has to name the hart whose tickets they are. It is then refused
+/// exactly if all tickets are open, and else opens the lowest number that is
+/// free.
+pub fn lowest_free_number_is_opened()
+    ensures home { (table : TicketTable) (named : ℕ) → open_answer table named ≡ Err TicketFault.HomeNotNamed ↔ (contains (harts_in named) table.hart ≡ false) }
+    ensures full { (table : TicketTable) (named : ℕ) → open_answer table named ≡ Err TicketFault.NoTicket
+        ↔ IsTrue (contains (harts_in named) table.hart) × ((number : ℕ) → number < length table.tickets → IsTrue (is_open table number)) }
+    ensures number { (table : TicketTable) (named number : ℕ) → open_answer table named ≡ Ok number
+        ↔ IsTrue (contains (harts_in named) table.hart) × (number < length table.tickets) × (ticket_at table number ≡ None) × ((lower : ℕ) → lower < number → IsTrue (is_open table lower)) }
 {}
 
 /// Each hart that a ticket names has acknowledged it by the time that it is
