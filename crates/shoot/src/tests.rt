@@ -63,6 +63,30 @@ fn mailbox_keeps_order_around_its_end(rt: HostRuntime) {
 }
 
 #[test]
+fn mailbox_of_sixty_four(rt: HostRuntime) {
+    let mut mailbox = Mailbox::new(64);
+    for number in 0..64 {
+        assert!(&rt; mailbox.post(request(number)) == Ok(()));
+    }
+    assert!(&rt; mailbox.post(request(0)) == Err((PostFault::Full, request(0))));
+    for number in 0..64 {
+        assert!(&rt; mailbox.take() == Some(request(number)));
+    }
+    assert!(&rt; mailbox.take() == None && mailbox.outstanding() == 64);
+    assert!(&rt; mailbox.post(request(0)) == Err((PostFault::Full, request(0))));
+    assert!(&rt; mailbox.can_release());
+    mailbox.release();
+    assert!(&rt; mailbox.post(request(7)) == Ok(()));
+    assert!(&rt; mailbox.first_waiting() == Some(request(7)));
+}
+
+#[test]
+fn default_request_is_of_ticket_0_for_all(rt: HostRuntime) {
+    let request = Request::default();
+    assert!(&rt; request.ticket == 0 && request.what == What::All);
+}
+
+#[test]
 fn own_acknowledgement_is_collected(rt: HostRuntime) {
     let mut tickets = Tickets::new(0);
     assert!(&rt; tickets.open(What::All, 0b10) == Err(TicketFault::HomeNotNamed));
