@@ -1,7 +1,8 @@
 -- What bytes and tests say of sets of harts.
-use Rattle.std.proofs.Common.{◌≡◌, ◌∙◌, sym, ap, refl, ℕ, zero, suc, ◌+◌, ◌<◌, ◌≤◌, ◌^◌, Bool, true, false, not, ◌&&◌, ◌↔◌, List, [], ◌∷◌, length, map, IsTrue, arith, eqb}
+use Rattle.std.proofs.Common.{◌≡◌, ◌∙◌, sym, ap, refl, ℕ, zero, suc, ◌+◌, ◌<◌, ◌≤◌, ◌^◌, Bool, true, false, not, ◌&&◌, ◌↔◌, List, [], ◌∷◌, length, IsTrue, arith, eqb}
 use Rattle.std.proofs.lemmas.Bool.{eqb-true, and_parts}
 use Rattle.std.proofs.lemmas.Bool.Decides.{nat_tests}
+use Rattle.std.proofs.lemmas.List.Folds.{list_all-map}
 use Rattle.std.specs.List.{range_with_len, list_all}
 use Rattle.std.specs.Int.{bit_at}
 use Rattle.shoot.specs.HartSet.{all_harts, contains, harts_where, harts_in, byte_of, difference}
@@ -27,10 +28,6 @@ pass_all : (test : ℕ → Bool) (from count : ℕ) → ((n : ℕ) → from ≤ 
 pass_all test from zero h = refl
 pass_all test from (suc count) h =
     rw (h from (omega arith) (omega arith)) (pass_all test (from + 1) count (λ n above below. h n (omega arith) (omega arith)))
-
-all_map : (test : Bool → Bool) (f : ℕ → Bool) (numbers : List ℕ) → list_all test (map f numbers) ≡ list_all (λ n. test (f n)) numbers
-all_map test f [] = refl
-all_map test f (n ∷ rest) = ap (λ (more : Bool). test (f n) && more) (all_map test f rest)
 
 all_lists : ℕ → (List Bool → Bool) → Bool
 all_lists zero test = test []
@@ -106,7 +103,7 @@ pub done : (ticket : Ticket) → IsTrue (is_done ticket) ↔ ((hart : ℕ) → h
 unfolding difference
 done ticket =
     let test : ℕ → Bool = λ n. contains ticket.named n && not (contains ticket.collected n) in
-    let same = all_map not test all_harts in (
+    let same = list_all-map not test all_harts in (
       λ e hart below named. left_over _ _ (all_pass (λ n. not (test n)) 0 MAX_HARTS (sym same ∙ e) hart (omega arith) below) named,
       λ h. same ∙ pass_all (λ n. not (test n)) 0 MAX_HARTS (λ n above below. none_left _ _ (h n below)),
     )

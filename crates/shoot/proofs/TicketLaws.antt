@@ -1,7 +1,7 @@
 -- What every lawful history of the tickets of a hart keeps: each ticket is what the calls since
 -- its opening tell.
 use Rattle.std.proofs.Common.{◌≡◌, ◌≢◌, ◌∙◌, sym, ap, refl, subst, ℕ, zero, suc, ◌<◌, Bool, true, false, cond, ◌&&◌, ◌||◌, List, [], ◌∷◌, length, replicate, set, slice_get, Option, Some, None, Result, Ok, Err, IsTrue, arith, eqb, ltb}
-use Rattle.std.proofs.lemmas.Bool.{eqb-true, ltb-true}
+use Rattle.std.proofs.lemmas.Bool.{eqb-true, ltb-true, or_right}
 use Rattle.std.proofs.lemmas.Bool.Decides.{nat_tests}
 use Rattle.std.specs.Option.{is_none}
 use Rattle.std.specs.List.{position_or_len}
@@ -261,10 +261,6 @@ ack_before number (turn ∷ earlier) hart e =
     or_right (acks number hart turn) (was_acked number earlier hart)
     (either (collects number hart turn) (was_acked number earlier hart) (collected_after_ack number earlier hart) e (ack_before number earlier hart))
   where
-    or_right : (a b : Bool) → b ≡ true → a || b ≡ true
-    or_right true b e = refl
-    or_right false b e = e
-
     either : (a b c : Bool) → (a && b) || c ≡ true → (c ≡ true → b ≡ true) → b ≡ true
     either true true c e h = refl
     either true false c e h = h e
