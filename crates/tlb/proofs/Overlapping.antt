@@ -1,11 +1,12 @@
 -- Pages that overlap, and the addresses that they hold.
-use Rattle.std.proofs.Common.{◌≡◌, ℕ, ◌+◌, ◌*◌, ◌-◌, ◌%◌, ◌^◌, ◌<◌, ◌≤◌, Bool, true, false, IsTrue, sym, refl, inl, inr, arith}
+use Rattle.std.proofs.Common.{◌≡◌, ℕ, ◌+◌, ◌*◌, ◌-◌, ◌%◌, ◌^◌, ◌<◌, ◌≤◌, Bool, IsTrue, inl, inr, arith}
 use Rattle.std.specs.Prelude.{◌↔◌, ◌&&◌, nat_lt, nat_le}
-use Rattle.std.proofs.lemmas.Bool.{cases_lt, and_parts, and_from, or_left, or_right, or_cases, lt-ltb, le-leb, ltb-true, leb-true, cases_Bool, true≢false}
+use Rattle.std.proofs.lemmas.Bool.{cases_lt, and_parts, and_from, or_left, or_right, or_cases, lt-ltb, le-leb, ltb-true, leb-true}
 use Rattle.std.proofs.lemmas.Nat.{pow_pos}
 use Rattle.pte.specs.declared.address.PageSize.{PageSize}
 use Rattle.pte.specs.declared.address.PageSize.TheVariants.{Kib4, Mib2, Gib1}
 use Rattle.pte.specs.Address.{Span, IsPage, Holds, Overlap, IsCanonical, address_bits, bytes_of, level_of}
+use Rattle.walk.proofs.Unique.{same_bool}
 use Rattle.tlb.specs.Entries.{holds}
 use Rattle.tlb.specs.Fence.{is_canonical}
 use Rattle.tlb.specs.Service.{overlaps}
@@ -53,12 +54,7 @@ overlaps-Overlap p q = (
 
 -- a test that is true exactly if the pages overlap is this one
 pub overlaps_same : (r : Bool) (p q : Span) → (IsTrue r ↔ Overlap p q) → r ≡ overlaps p q
-overlaps_same true p q h = sym ((overlaps-Overlap p q).1 (h.0 refl))
-overlaps_same false p q h =
-    elim (cases_Bool (overlaps p q)) [
-      | inl on ↦ absurd (true≢false (sym (h.1 ((overlaps-Overlap p q).0 on))))
-      | inr off ↦ sym off
-    ]
+overlaps_same r p q h = same_bool r (overlaps p q) ((λ on. (overlaps-Overlap p q).1 (h.0 on)), (λ on. h.1 ((overlaps-Overlap p q).0 on)))
 
 -- each address of a page is canonical
 all_canonical : (size : PageSize) (base va : ℕ) → IsCanonical base → base % bytes_of size ≡ 0 → base ≤ va → va < base + bytes_of size → IsCanonical va

@@ -1,11 +1,12 @@
 -- An entry goes by the one test exactly if it does not stay under the request's fences.
-use Rattle.std.proofs.Common.{◌≡◌, ℕ, Bool, true, false, Some, None, IsTrue, sym, ◌∙◌, refl, List}
+use Rattle.std.proofs.Common.{◌≡◌, ℕ, Some, None, IsTrue, sym, ◌∙◌, refl, List}
 use Rattle.std.specs.Prelude.{◌↔◌, not}
 use Rattle.std.proofs.lemmas.Bool.{and_parts, and_from, not-true, not_from_false, false_from_ne_true, true≢false}
 use Rattle.std.proofs.lemmas.List.Elements.{filter_agree}
 use Rattle.pte.specs.declared.address.What.{What}
 use Rattle.pte.specs.declared.address.What.TheVariants.{PageOf, SpaceOf, All}
 use Rattle.pte.specs.Address.{Span, IsPage, Holds}
+use Rattle.walk.proofs.Unique.{same_bool}
 use Rattle.tlb.specs.declared.store.Entry.{Entry}
 use Rattle.tlb.specs.Entries.{holds}
 use Rattle.tlb.specs.Fence.{is_canonical, is_of_address, is_of_space}
@@ -59,17 +60,12 @@ not_is_served-Stays what e asked = (
 pub served_is_meant : (old new : List Entry) (what : What) → IsRequest what → new ≡ served old what → Served old what new
 served_is_meant old new what asked e = record { stays = λ e. not (is_served what e); each = λ e. not_is_served-Stays what e asked; left = e }
 
--- two tests that are true exactly if the same fact holds are equal
-same_test : (P : Type 0) (a b : Bool) → (IsTrue a ↔ P) → (IsTrue b ↔ P) → a ≡ b
-same_test P true true f g = refl
-same_test P true false f g = sym (g.1 (f.0 refl))
-same_test P false true f g = f.1 (g.0 refl)
-same_test P false false f g = refl
-
 -- what is served is determined
 pub Served-unique : (old : List Entry) (what : What) (a b : List Entry) → Served old what a → Served old what b → a ≡ b
 Served-unique old what a b p q =
-    p.left ∙ filter_agree p.stays q.stays (λ e. same_test (Stays what e) (p.stays e) (q.stays e) (p.each e) (q.each e)) old ∙ sym q.left
+    let same : (e : Entry) → p.stays e ≡ q.stays e =
+    λ e. same_bool (p.stays e) (q.stays e) ((λ on. (q.each e).1 ((p.each e).0 on)), (λ on. (p.each e).1 ((q.each e).0 on))) in
+    p.left ∙ filter_agree p.stays q.stays same old ∙ sym q.left
 
 pub served-Served : (entries : List Entry) (what : What) → IsRequest what → Served entries what (served entries what)
 served-Served entries what asked = served_is_meant entries (served entries what) what asked refl

@@ -1,5 +1,5 @@
 -- A look-up finds an entry exactly if the set of mappings translates the address.
-use Rattle.std.proofs.Common.{◌≡◌, ℕ, ◌+◌, ◌/◌, ◌%◌, ◌<◌, ◌≤◌, Bool, true, false, Some, None, Option, IsTrue, List, [], ◌∷◌, sym, ◌∙◌, ap, subst, refl, inl, inr, arith}
+use Rattle.std.proofs.Common.{◌≡◌, ℕ, ◌+◌, ◌%◌, ◌<◌, ◌≤◌, Bool, true, false, Some, None, Option, IsTrue, List, [], ◌∷◌, sym, ◌∙◌, ap, subst, refl, inl, inr, arith}
 use Rattle.std.specs.Prelude.{◌↔◌, ◌⊎◌, ◌==◌, ◌||◌, if◌then◌else◌, IsSome, All, Contains, find}
 use Rattle.std.specs.List.{AllByRecursion}
 use Rattle.std.proofs.lemmas.Bool.{and_parts, and_from, cases_Bool, true≢false, eqb-true, eq-eqb}
@@ -8,6 +8,7 @@ use Rattle.std.proofs.lemmas.Option.{none-some}
 use Rattle.pte.specs.declared.address.PageSize.{PageSize}
 use Rattle.pte.specs.declared.address.PageSize.TheVariants.{Kib4, Mib2, Gib1}
 use Rattle.pte.specs.Address.{Span, IsPage, Holds, bytes_of, pages_of}
+use Rattle.walk.specs.Maps.{page_number}
 use Rattle.tlb.specs.declared.store.Entry.{Entry}
 use Rattle.tlb.specs.Entries.{holds, is_match, first_match}
 use Rattle.tlb.specs.Mappings.{Mapping, LiesIn, IsMappedBy, Translates}
@@ -38,14 +39,17 @@ pub find-None : {X : Type 0} (p : X → Bool) (xs : List X) (x : X) → find p x
 find-None p xs x e at = All-contains (λ y. p y ≡ false) xs x (All-from_recursion (λ y. p y ≡ false) xs (passed_over p xs e)) at
 
 -- the page of 4 KiB that an address of an aligned page lies in is a part of it
-part_of : (size : PageSize) (base va : ℕ) → base % bytes_of size ≡ 0 → base ≤ va → va < base + bytes_of size → LiesIn (record { base = base; size = size }) (va / bytes_of Kib4)
+part_of : (size : PageSize) (base va : ℕ) → base % bytes_of size ≡ 0 → base ≤ va → va < base + bytes_of size → LiesIn (record { base = base; size = size }) (page_number va)
 part_of Kib4 base va aligned from below = record { from = omega arith; to = omega arith }
 part_of Mib2 base va aligned from below = record { from = omega arith; to = omega arith }
 part_of Gib1 base va aligned from below = record { from = omega arith; to = omega arith }
 
+pub lies_in : (page : Span) (va : ℕ) → IsPage page → Holds page va → LiesIn page (page_number va)
+lies_in page va is h = part_of page.size page.base va is.aligned h.from h.below
+
 -- and an address whose page of 4 KiB is a part lies in the page
-Holds_part : (page : Span) (va : ℕ) → LiesIn page (va / bytes_of Kib4) → Holds page va
-Holds_part page va part = record { from = omega (arith, part.from); below = omega (arith, part.to) }
+pub held_by : (page : Span) (va : ℕ) → LiesIn page (page_number va) → Holds page va
+held_by page va part = record { from = omega (arith, part.from); below = omega (arith, part.to) }
 
 -- the mapping that an entry has of the page of 4 KiB with a number
 mapping_of : Entry → ℕ → Mapping
@@ -67,8 +71,8 @@ match_translates entries asid va e page at on =
     let parts = and_parts (holds e.page va) (e.global || (e.asid == asid)) on in
     let h = (holds-Holds e.page va).0 parts.0 in
     record {
-      mapping = mapping_of e (va / bytes_of Kib4);
-      member = (e, at, record { asid = refl; page = part_of e.page.size e.page.base va page.aligned h.from h.below; ppn = refl; flags = refl });
+      mapping = mapping_of e (page_number va);
+      member = (e, at, record { asid = refl; page = lies_in e.page va page h; ppn = refl; flags = refl });
       space = for_asid e.global e.asid asid parts.1;
       page = refl;
     }
@@ -78,7 +82,7 @@ pub translated_match : (entries : List Entry) (asid va : ℕ) → Translates (Is
 translated_match entries asid va t =
     let e = t.member.0 in
     let of = t.member.2 in
-    let h : Holds e.page va = Holds_part e.page va (let P : ℕ → Type 0 = λ n. LiesIn e.page n in subst P t.page of.page) in
+    let h : Holds e.page va = held_by e.page va (let P : ℕ → Type 0 = λ n. LiesIn e.page n in subst P t.page of.page) in
     (e, t.member.1, and_from _ _ ((holds-Holds e.page va).1 h) (asid_from e.global e.asid asid t.mapping.asid of.asid t.space))
 
 some_found : (o : Option Entry) → (¬ (o ≡ None)) → IsSome o
