@@ -1,5 +1,5 @@
 -- What a fence, a service and a fill keep of what holds of each entry.
-use Rattle.std.proofs.Common.{◌≡◌, ℕ, ◌-◌, ◌≤◌, Bool, true, Option, List, [], ◌∷◌, ◌++◌, length, drop, filter, arith, length-drop}
+use Rattle.std.proofs.Common.{◌≡◌, ap, ℕ, ◌+◌, ◌-◌, ◌<◌, ◌≤◌, Bool, true, Option, List, [], ◌∷◌, ◌++◌, length, drop, filter, arith, length-append, length-drop}
 use Rattle.std.specs.Prelude.{◌⊎◌, not, All, Contains, IsTrue}
 use Rattle.std.specs.List.{AllPass}
 use Rattle.std.proofs.lemmas.List.Elements.{All-nil, All-push, All-drop, All-filter, All-contains, All-contains_itself, filter_passes, Contains-push_cases}
@@ -16,6 +16,17 @@ length-filter-le p entries = omega (arith, length-filter p entries, count_by-le-
 
 pub All-filled : (P : Entry → Type 0) (entries : List Entry) (e : Entry) → All P entries → P e → All P (filled entries e)
 All-filled P entries e all new = All-drop P _ _ (All-push P entries e all new)
+
+-- a fill of a TLB with room, and of a full one
+pub filled_with_room : (entries : List Entry) (e : Entry) → length entries < tlb_size → filled entries e ≡ entries ++ e ∷ []
+filled_with_room entries e room =
+    let none : length (entries ++ e ∷ []) - tlb_size ≡ 0 = omega (arith, length-append entries (e ∷ [])) in
+    ap (λ n. drop n (entries ++ e ∷ [])) none
+
+pub filled_when_full : (oldest e : Entry) (others : List Entry) → length others + 1 ≡ tlb_size → filled (oldest ∷ others) e ≡ others ++ e ∷ []
+filled_when_full oldest e others full =
+    let one : length ((oldest ∷ others) ++ e ∷ []) - tlb_size ≡ 1 = omega (arith, length-append (oldest ∷ others) (e ∷ [])) in
+    ap (λ n. drop n ((oldest ∷ others) ++ e ∷ [])) one
 
 pub IsTlb-nil : IsTlb []
 IsTlb-nil = record { size = omega arith; pages = All-nil (λ e. IsPage e.page) }

@@ -1,6 +1,6 @@
 //! Laws of the definitions that the contracts of a TLB cite. Each function does nothing, and its clause is the law.
 
-ghost use Rattle.std.specs.Prelude.{ℕ, Bool, Option, None, Some, Ok, Result, List, ◌≡◌, ◌⊎◌, ◌↔◌, ◌<◌, ◌^◌, ◌==◌, ◌&&◌, ◌||◌, IsSome, IsTrue, not};
+ghost use Rattle.std.specs.Prelude.{ℕ, Bool, Option, None, Some, Ok, Result, List, [], ◌∷◌, ◌++◌, length, ◌≡◌, ◌+◌, ◌⊎◌, ◌↔◌, ◌<◌, ◌^◌, ◌==◌, ◌&&◌, ◌||◌, IsSome, IsTrue, not};
 ghost use Rattle.std.specs.List.{All, AllPass};
 ghost use Rattle.pte.specs.Address.{Holds, IsCanonical, IsPage, Overlap, Span};
 ghost use Rattle.pte.specs.declared.address.What.{What};
@@ -16,7 +16,7 @@ ghost use Rattle.walk.specs.Leads.{Tables};
 ghost use Rattle.walk.specs.Maps.{Maps, page_number};
 ghost use Rattle.walk.specs.Outcome.{Outcome};
 ghost use Rattle.tlb.specs.Answer.{address_found, answer_of, entry_of};
-ghost use Rattle.tlb.specs.Entries.{filled, first_match, holds, is_match};
+ghost use Rattle.tlb.specs.Entries.{filled, first_match, holds, is_match, tlb_size};
 ghost use Rattle.tlb.specs.Fence.{asid_bits, fenced, is_canonical, is_fenced};
 ghost use Rattle.tlb.specs.Mappings.{IsMappedBy, IsMappingOf, Mapping, Translates, maps_into};
 ghost use Rattle.tlb.specs.Service.{Goes, IsRequest, is_served, overlaps, served, Served};
@@ -34,6 +34,13 @@ pub fn service_is_its_fences()
     ensures goes { (what : What) (e : Entry) → IsRequest what → IsTrue (is_served what e) ↔ Goes what e }
     ensures leaves { (entries : List Entry) (what : What) → IsRequest what → Served entries what (served entries what) }
     ensures alone { (entries : List Entry) (what : What) (a b : List Entry) → Served entries what a → Served entries what b → a ≡ b }
+{}
+
+/// A fill of a TLB with room drops nothing, and of a full one the oldest entry alone; what is filled is the youngest.
+#[tactic(auto, using(crate::proofs::Keeping::filled_with_room, crate::proofs::Keeping::filled_when_full))]
+pub fn fill_drops_at_most_the_oldest()
+    ensures room { (entries : List Entry) (e : Entry) → length entries < tlb_size → filled entries e ≡ entries ++ e ∷ [] }
+    ensures full { (oldest e : Entry) (others : List Entry) → length others + 1 ≡ tlb_size → filled (oldest ∷ others) e ≡ others ++ e ∷ [] }
 {}
 
 /// What holds of each entry still does after a fence, after a service, and after the fill of an entry of which it holds.
