@@ -130,12 +130,8 @@ fn own_acknowledgement_needs_no_collect(rt: HostRuntime) {
 
 #[test]
 fn posting_is_no_acknowledgement(rt: HostRuntime) {
-    let Some(base) = VirtAddr::new(0x40_0000) else {
-        return
-    };
-    let Ok(page) = Page::new(base, PageSize::Mib2) else {
-        return
-    };
+    let base = VirtAddr::new(0x40_0000).expect(&rt, "a canonical address");
+    let page = Page::new(base, PageSize::Mib2).expect(&rt, "an aligned base");
     let asked = What::PageOf(page, Some(1));
     let mut tickets = Tickets::new(2);
     assert!(&rt; tickets.open(asked, 0b1000_0100) == Ok(0));
