@@ -40,6 +40,9 @@ one_to_collect a b = refl
 collected_once : (a b : Message) → can_release (mailbox_after 2 (Release ∷ Take (Some a) ∷ Post b (Ok tt) ∷ Post a (Ok tt) ∷ [])) ≡ false
 collected_once a b = refl
 
+one_left_to_collect : (a b : Message) → can_release (mailbox_after 2 (Release ∷ Take (Some b) ∷ Take (Some a) ∷ Post b (Ok tt) ∷ Post a (Ok tt) ∷ [])) ≡ true
+one_left_to_collect a b = refl
+
 -- hart 2 names itself and hart 7: neither a post nor an acknowledgement is a collection, and two tickets are told apart
 two_tickets_row : IsLawfulTickets 2
     (Finish 0 (Ok tt) ∷ Acked 0 2 ∷ Collect 0 7 (Waiting 0x4) ∷ Collect 1 7 (Waiting 0x84) ∷ Finish 0 (Err (record {})) ∷ Acked 0 7 ∷ Collect 0 7 (Waiting 0x84)
