@@ -1,6 +1,6 @@
 -- What every lawful history of the tickets of a hart keeps: each ticket is what the calls since
 -- its opening tell.
-use Rattle.std.proofs.Common.{◌≡◌, ◌≢◌, ◌∙◌, sym, ap, refl, subst, ℕ, zero, suc, ◌<◌, Bool, true, false, cond, ◌&&◌, ◌||◌, List, [], ◌∷◌, length, replicate, set, slice_get, Option, Some, None, Result, Ok, Err, IsTrue, arith, eqb, ltb}
+use Rattle.std.proofs.Common.{◌≡◌, ◌≢◌, ◌∙◌, sym, ap, refl, subst, ℕ, zero, suc, ◌<◌, Bool, true, false, cond, ◌&&◌, ◌||◌, List, [], ◌∷◌, length, length-set, replicate, set, slice_get, Option, Some, None, Result, Ok, Err, IsTrue, arith, eqb, ltb}
 use Rattle.std.proofs.lemmas.Bool.{eqb-true, ltb-true, or_right}
 use Rattle.std.proofs.lemmas.Bool.Decides.{nat_tests}
 use Rattle.std.specs.Option.{is_none}
@@ -218,6 +218,21 @@ home_kept home (Finish number answer ∷ earlier) =
     by_test (λ test. (cond test (with_ticket (tickets_after home earlier) number None) (tickets_after home earlier)).hart ≡ home) (is_done_at (tickets_after home earlier) number)
     (λ _. home_kept home earlier) (λ _. home_kept home earlier)
 
+-- the table keeps its length
+length_kept : (home : ℕ) (history : List Turn) → length (tickets_after home history).tickets ≡ MAX_TICKETS
+length_kept home [] = refl
+length_kept home (Open what named answer ∷ earlier) = opened_keeps (tickets_after home earlier) (open_answer (tickets_after home earlier) named) (new_ticket what named) ∙ length_kept home earlier
+  where
+    opened_keeps : (table : TicketTable) (answer : Result ℕ TicketFault) (ticket : Ticket) → length (with_opened table answer ticket).tickets ≡ length table.tickets
+    opened_keeps table (Ok number) ticket = length-set table.tickets number (Some ticket)
+    opened_keeps table (Err fault) ticket = refl
+length_kept home (Posted number to ∷ earlier) = length-set _ number _ ∙ length_kept home earlier
+length_kept home (Acked number from ∷ earlier) = length-set _ number _ ∙ length_kept home earlier
+length_kept home (Collect number from answer ∷ earlier) = length-set _ number _ ∙ length_kept home earlier
+length_kept home (Finish number answer ∷ earlier) =
+    by_test (λ test. length (cond test (with_ticket (tickets_after home earlier) number None) (tickets_after home earlier)).tickets ≡ MAX_TICKETS) (is_done_at (tickets_after home earlier) number)
+    (λ _. length-set _ number None ∙ length_kept home earlier) (λ _. length_kept home earlier)
+
 -- a change at one number, where the call tells of that number alone
 changed_told : (home : ℕ) (table : TicketTable) (ticket number : ℕ) (change : Ticket → Ticket) (turn : Turn) (before : Option Opening)
     → (eqb ticket number ≡ false → told_with home number before ≡ told_with home number (with_turn turn before))
@@ -314,3 +329,6 @@ pub stands_acked : (table : TicketTable) (history : List Turn) (number hart : �
 stands_acked table history number hart stands below =
     let P : TicketTable → Type 0 = λ t. IsTrue (is_done_at t number) → IsTrue (names t number hart) → IsTrue (is_acked t number hart) in
     subst P (sym stands.left) (done_acked table.hart history number hart stands.lawful below)
+
+pub stands_length : (table : TicketTable) (history : List Turn) → Stands table history → length table.tickets ≡ MAX_TICKETS
+stands_length table history stands = ap (λ (t : TicketTable). length t.tickets) stands.left ∙ length_kept table.hart history

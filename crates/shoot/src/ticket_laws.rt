@@ -6,7 +6,7 @@ ghost use Rattle.shoot.specs.HartSet.{contains, harts_in};
 ghost use Rattle.shoot.specs.TicketHistory.{Turn, IsDue, Stands, after_turn, told};
 ghost use Rattle.shoot.specs.Tickets.{TicketTable, is_acked, is_done, is_done_at, is_open, names, no_tickets, open_answer, ticket_at, with_ticket};
 
-use crate::MAX_HARTS;
+use crate::{MAX_HARTS, MAX_TICKETS};
 use crate::tickets::{Ticket, TicketFault};
 
 /// The new tickets of a hart stand at no calls. Each call that may be made and
@@ -25,10 +25,11 @@ pub fn tickets_tell_their_calls()
     ensures { (table : TicketTable) (history : List Turn) (number : ℕ) → Stands table history → ticket_at table number ≡ told table.hart history number }
 {}
 
-/// An opening has to name the hart whose tickets they are. It is then refused
-/// exactly if all tickets are open, and else opens the lowest number that is
-/// free.
+/// There are 64 numbers. An opening has to name the hart whose tickets they
+/// are. It is then refused exactly if all are open, and else opens the lowest
+/// that is free.
 pub fn lowest_free_number_is_opened()
+    ensures count { (table : TicketTable) (history : List Turn) → Stands table history → length table.tickets ≡ MAX_TICKETS }
     ensures home { (table : TicketTable) (named : ℕ) → open_answer table named ≡ Err TicketFault.HomeNotNamed ↔ (contains (harts_in named) table.hart ≡ false) }
     ensures full { (table : TicketTable) (named : ℕ) → open_answer table named ≡ Err TicketFault.NoTicket
         ↔ IsTrue (contains (harts_in named) table.hart) × ((number : ℕ) → number < length table.tickets → IsTrue (is_open table number)) }
