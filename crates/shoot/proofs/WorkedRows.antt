@@ -43,12 +43,12 @@ collected_once a b = refl
 one_left_to_collect : (a b : Message) → can_release (mailbox_after 2 (Release ∷ Take (Some b) ∷ Take (Some a) ∷ Post b (Ok tt) ∷ Post a (Ok tt) ∷ [])) ≡ true
 one_left_to_collect a b = refl
 
--- hart 2 names itself and hart 7: neither a post nor an acknowledgement is a collection, and two tickets are told apart
+-- hart 2 names itself and hart 7: a post is no acknowledgement and an acknowledgement no collection, and two tickets are told apart
 two_tickets_row : IsLawfulTickets 2
-    (Finish 0 (Ok tt) ∷ Acked 0 2 ∷ Collect 0 7 (Waiting 0x4) ∷ Collect 1 7 (Waiting 0x84) ∷ Finish 0 (Err (record {})) ∷ Acked 0 7 ∷ Collect 0 7 (Waiting 0x84)
-    ∷ Posted 0 7 ∷ Open All 0x84 (Ok 1) ∷ Open (SpaceOf 1) 0x84 (Ok 0) ∷ Open All 0x3 (Err HomeNotNamed) ∷ [])
+    (Finish 0 (Ok tt) ∷ Collect 0 7 Done ∷ Collect 1 7 (Waiting 0x84) ∷ Finish 0 (Err (record {})) ∷ Acked 0 7 ∷ Collect 0 7 (Waiting 0x80) ∷ Acked 0 2
+    ∷ Collect 0 7 (Waiting 0x84) ∷ Posted 0 7 ∷ Open All 0x84 (Ok 1) ∷ Open (SpaceOf 1) 0x84 (Ok 0) ∷ Open All 0x3 (Err HomeNotNamed) ∷ [])
 unfolding byte_of difference
-two_tickets_row = (((((((((((tt, refl), refl), refl), refl), (refl, refl)), refl), (refl, refl)), (refl, refl)), (refl, refl)), refl), (refl, refl))
+two_tickets_row = ((((((((((((tt, refl), refl), refl), refl), (refl, refl)), refl), (refl, refl)), refl), (refl, refl)), (refl, refl)), (refl, refl)), (refl, refl))
 
 -- what is asked is told by its number, and what was said of a number is not said of a later ticket
 ticket_0_used_again : ℕ → List Turn

@@ -6,8 +6,8 @@ ghost use Rattle.shoot.specs.HartSet.{contains, harts_in};
 ghost use Rattle.shoot.specs.TicketHistory.{Turn, IsDue, Stands, after_turn, told};
 ghost use Rattle.shoot.specs.Tickets.{TicketTable, is_acked, is_done, is_done_at, is_open, names, no_tickets, open_answer, ticket_at, with_ticket};
 
-use crate::{MAX_HARTS, MAX_TICKETS};
 use crate::tickets::{Ticket, TicketFault};
+use crate::{MAX_HARTS, MAX_TICKETS};
 
 /// The new tickets of a hart stand at no calls. Each call that may be made and
 /// is answered as its contract says is one more at which the tickets stand.
