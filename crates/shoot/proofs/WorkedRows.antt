@@ -1,11 +1,11 @@
 -- Worked rows, computed from the definitions: lists of calls with the answers that are due, newest first.
-use Rattle.std.proofs.Common.{◌≡◌, refl, ℕ, zero, suc, true, false, List, [], ◌∷◌, Some, None, Ok, Err}
+use Rattle.std.proofs.Common.{◌≡◌, refl, ℕ, zero, suc, Bool, true, false, List, [], ◌∷◌, Some, None, Ok, Err}
 use Rattle.pte.specs.declared.address.What.TheVariants.{SpaceOf, All}
 use Rattle.shoot.specs.HartSet.{byte_of, difference, harts_in}
 use Rattle.shoot.specs.Request.{Message}
 use Rattle.shoot.specs.Mailbox.{can_release}
 use Rattle.shoot.specs.MailboxHistory.{Post, Take, Release, Close, IsLawful, mailbox_after}
-use Rattle.shoot.specs.Tickets.{open_answer, what_at, is_acked, is_posted, is_collected}
+use Rattle.shoot.specs.Tickets.{TicketTable, is_open, names, open_answer, what_at, is_acked, is_posted, is_collected, is_done_at, after_acked}
 use Rattle.shoot.specs.TicketHistory.{Turn, Open, Posted, Acked, Collect, Finish, IsLawful as IsLawfulTickets, tickets_after}
 use Rattle.shoot.specs.declared.mailbox.PostFault.TheVariants.{Closed, Full}
 use Rattle.shoot.specs.declared.tickets.Collected.TheVariants.{Done, Waiting}
@@ -49,6 +49,37 @@ two_tickets_row : IsLawfulTickets 2
     ∷ Collect 0 7 (Waiting 0x84) ∷ Posted 0 7 ∷ Open All 0x84 (Ok 1) ∷ Open (SpaceOf 1) 0x84 (Ok 0) ∷ Open All 0x3 (Err HomeNotNamed) ∷ [])
 unfolding byte_of difference
 two_tickets_row = ((((((((((((tt, refl), refl), refl), refl), (refl, refl)), refl), (refl, refl)), refl), (refl, refl)), (refl, refl)), (refl, refl)), (refl, refl))
+
+-- what is told of two open tickets of hart 2, and of two harts, is told apart: each of these tests gives both answers
+two_open : TicketTable
+two_open = tickets_after 2 (Acked 0 2 ∷ Posted 0 7 ∷ Open All 0x4 (Ok 1) ∷ Open (SpaceOf 1) 0x84 (Ok 0) ∷ [])
+
+marks : (TicketTable → ℕ → ℕ → Bool) → List Bool
+marks tells = tells two_open 0 2 ∷ tells two_open 0 7 ∷ tells two_open 1 2 ∷ tells two_open 1 7 ∷ []
+
+open_numbers : is_open two_open 0 ∷ is_open two_open 1 ∷ is_open two_open 2 ∷ is_open two_open 64 ∷ [] ≡ true ∷ true ∷ false ∷ false ∷ []
+unfolding two_open
+open_numbers = refl
+
+who_is_named : marks names ≡ true ∷ true ∷ true ∷ false ∷ []
+unfolding two_open marks
+who_is_named = refl
+
+who_was_posted_to : marks is_posted ≡ false ∷ true ∷ false ∷ false ∷ []
+unfolding two_open marks
+who_was_posted_to = refl
+
+who_acknowledged : marks is_acked ≡ true ∷ false ∷ false ∷ false ∷ []
+unfolding two_open marks
+who_acknowledged = refl
+
+who_is_collected : marks is_collected ≡ true ∷ false ∷ false ∷ false ∷ []
+unfolding two_open marks
+who_is_collected = refl
+
+one_is_done : is_done_at (after_acked two_open 1 2) 0 ∷ is_done_at (after_acked two_open 1 2) 1 ∷ [] ≡ false ∷ true ∷ []
+unfolding two_open difference
+one_is_done = refl
 
 -- what is asked is told by its number, and what was said of a number is not said of a later ticket
 ticket_0_used_again : ℕ → List Turn

@@ -145,6 +145,32 @@ fn posting_is_no_acknowledgement(rt: HostRuntime) {
 }
 
 #[test]
+fn tickets_and_harts_are_told_apart(rt: HostRuntime) {
+    let mut tickets = Tickets::new(2);
+    assert!(&rt; tickets.open(What::SpaceOf(1), 0b1000_0100) == Ok(0));
+    assert!(&rt; tickets.open(What::All, 0b0000_0100) == Ok(1));
+    assert!(&rt; tickets.names(0, 2) && tickets.names(0, 7));
+    assert!(&rt; tickets.names(1, 2) && !tickets.names(1, 7) && !tickets.names(2, 2));
+    tickets.posted(0, 7);
+    assert!(&rt; tickets.names(0, 2));
+    tickets.acked(0, 2);
+    assert!(&rt; tickets.is_open(0) && tickets.is_open(1) && !tickets.is_open(2));
+    assert!(&rt; tickets.is_posted(0, 7) && !tickets.is_posted(0, 2) && !tickets.is_posted(1, 7));
+    assert!(&rt; tickets.is_acked(0, 2) && !tickets.is_acked(0, 7) && !tickets.is_acked(1, 2));
+    assert!(&rt; tickets.is_collected(0, 2) && !tickets.is_collected(0, 7));
+    assert!(&rt; !tickets.is_collected(1, 2));
+    assert!(&rt; tickets.names(1, 2));
+    tickets.acked(1, 2);
+    assert!(&rt; tickets.is_open(0) && tickets.is_open(1));
+    assert!(&rt; tickets.is_done(1) && !tickets.is_done(0));
+    assert!(&rt; tickets.what(0) == What::SpaceOf(1) && tickets.what(1) == What::All);
+    assert!(&rt; tickets.progress(0) == Collected::Waiting(0b1000_0000));
+    assert!(&rt; tickets.finish(1) == Ok(()));
+    assert!(&rt; tickets.is_open(0) && !tickets.is_open(1));
+    assert!(&rt; tickets.open(What::All, 0b0000_0100) == Ok(1));
+}
+
+#[test]
 fn freed_number_is_taken_again(rt: HostRuntime) {
     let mut tickets = Tickets::new(0);
     for number in 0..64 {
