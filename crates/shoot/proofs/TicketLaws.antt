@@ -1,21 +1,19 @@
 -- What every lawful history of the tickets of a hart keeps: each ticket is what the calls since
 -- its opening tell.
-use Rattle.std.proofs.Common.{◌≡◌, ◌≢◌, ◌∙◌, sym, ap, refl, subst, ℕ, zero, suc, ◌<◌, Bool, true, false, cond, ◌&&◌, ◌||◌, List, [], ◌∷◌, length, length-set, replicate, set, slice_get, Option, Some, None, Result, Ok, Err, IsTrue, arith, eqb, ltb}
-use Rattle.std.proofs.lemmas.Bool.{eqb-true, ltb-true, or_right}
+use Rattle.std.proofs.Common.{◌≡◌, ◌≢◌, ◌∙◌, sym, ap, refl, subst, ℕ, zero, suc, ◌<◌, Bool, true, false, cond, ◌&&◌, ◌||◌, List, [], ◌∷◌, length, length-set, replicate, set, slice_get, Option, Some, None, Result, Ok, Err, IsTrue, arith, eqb}
+use Rattle.std.proofs.lemmas.Bool.{eqb-true, or_right}
 use Rattle.std.proofs.lemmas.Bool.Decides.{nat_tests}
-use Rattle.std.specs.Option.{is_none}
-use Rattle.std.specs.List.{position_or_len}
 use Rattle.pte.specs.declared.address.What.{What}
-use Rattle.shoot.specs.HartSet.{contains, harts_where, harts_in}
-use Rattle.shoot.specs.Tickets.{TicketTable, no_tickets, if_open, ticket_at, with_ticket, with_change, changed, new_ticket, with_posted, with_acked, with_collected, lowest_free, opened, open_answer, with_opened, is_done_at, done_with, tells, names, is_acked}
+use Rattle.shoot.specs.HartSet.{contains, harts_where}
+use Rattle.shoot.specs.Tickets.{TicketTable, no_tickets, if_open, ticket_at, with_ticket, with_change, changed, new_ticket, with_posted, with_acked, with_collected, open_answer, with_opened, is_done_at, done_with, tells, names, is_acked}
 use Rattle.shoot.specs.TicketHistory.{Turn, Open, Posted, Acked, Collect, Finish, after_turn, tickets_after, IsDue, IsLawful, Stands, Opening, with_turn, opening_with, opening_of, acks, collects, was_posted, was_acked, collected_after_ack, was_collected, ticket_told, told_with, told}
 use Rattle.shoot.specs.declared.TheConstants.{MAX_HARTS, MAX_TICKETS}
 use Rattle.shoot.specs.declared.tickets.Ticket.{Ticket}
 use Rattle.shoot.specs.declared.tickets.Collected.{Collected}
 use Rattle.shoot.specs.declared.tickets.TicketFault.{TicketFault}
-use Rattle.shoot.specs.declared.tickets.TicketFault.TheVariants.{HomeNotNamed}
 use Rattle.shoot.specs.declared.tickets.NotDone.{NotDone}
 use Rattle.shoot.proofs.HartBytes.{done}
+use Rattle.shoot.proofs.TicketOpenings.{lowest}
 use Rattle.shoot.proofs.HartSets.{by_test, eqb_same, where_agree, where_with, contains_where, passes}
 
 -- ---- the places of the table
@@ -62,16 +60,6 @@ at_changed table number change = get_changed table.tickets number change
 
 apart : (a b : ℕ) → eqb a b ≡ false → a ≢ b
 apart a b h = grind (arith, nat_tests)
-
-pub opened_below : (table : TicketTable) (named number : ℕ) → open_answer table named ≡ Ok number → number < length table.tickets
-opened_below table named number =
-    let first = position_or_len is_none table.tickets in
-    let all = length table.tickets in
-    by_test (λ test. cond test (opened (lowest_free table)) (Err HomeNotNamed) ≡ Ok number → number < all) (contains (harts_in named) table.hart)
-    (λ _. by_test (λ test. opened (cond test (Some first) None) ≡ Ok number → number < all) (ltb first all)
-    (λ below e. let same : first ≡ number = cc in let fits : first < all = ltb-true first all below in omega arith)
-    (λ _ e. absurd cc))
-    (λ _ e. absurd cc)
 
 -- ---- a call that tells nothing of a ticket
 
@@ -251,7 +239,7 @@ recount home (Open what named answer ∷ earlier) number lawful =
     let table = tickets_after home earlier in
     let due : answer ≡ open_answer table named = lawful.1 in
     rw (← due) (opened_told home table what named number answer (opening_of earlier number)
-    (λ free e. opened_below table named free (sym due ∙ e)) (recount home earlier number lawful.0))
+    (λ free e. ((lowest table named free).0 (sym due ∙ e)).1) (recount home earlier number lawful.0))
 recount home (Posted ticket to ∷ earlier) number lawful =
     let before = opening_of earlier number in
     changed_told home (tickets_after home earlier) ticket number (with_posted to) (Posted ticket to) before
