@@ -14,3 +14,9 @@ pub mod Ordered
 pub mod Walks
 pub mod Lasting
 pub mod InWalk
+mod StalenessRows
+mod Promises
+mod ClearFacts
+mod CoherentFacts
+mod MailboxFacts
+mod StillTranslated

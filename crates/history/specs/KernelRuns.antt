@@ -28,8 +28,8 @@ kernel_page_in_both_spaces =
     ∷ []
 
 -- it outlives a fence of its address and an ASID, and goes by the request for the kernel page
-abbrev pub kernel_page_outlives_an_asid_fence : List Step
-kernel_page_outlives_an_asid_fence =
+abbrev pub kernel_page_until_acknowledged : List Step
+kernel_page_until_acknowledged =
     kernel_page_in_both_spaces
     ++ (Fence 1 (Some 0xffffffffc0000000) (Some 2), Ok)
     ∷ (Begin 1 0xffffffffc0000008 access.Load supervisor, Hit 0x300008)
@@ -38,7 +38,12 @@ kernel_page_outlives_an_asid_fence =
     ∷ (Take 1 0, taken 0 (PageOf (small_page 0xffffffffc0000000) None))
     ∷ (ServeFence 1, Ok)
     ∷ (Ack 1, Ok)
-    ∷ (Begin 1 0xffffffffc0000008 access.Load supervisor, More)
+    ∷ []
+
+abbrev pub kernel_page_outlives_an_asid_fence : List Step
+kernel_page_outlives_an_asid_fence =
+    kernel_page_until_acknowledged
+    ++ (Begin 1 0xffffffffc0000008 access.Load supervisor, More)
     ∷ (Load 1, More)
     ∷ (Load 1, More)
     ∷ (Load 1, trap 13 Invalid)

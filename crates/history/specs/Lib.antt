@@ -17,3 +17,6 @@ pub mod KernelRuns
 pub mod MailboxRuns
 pub mod EditRuns
 pub mod RefusalRuns
+pub mod StalenessRuns
+pub mod UnlawfulRuns
+pub mod Counterexamples

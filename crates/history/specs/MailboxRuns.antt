@@ -14,8 +14,8 @@ mailboxes_of_two = record { harts = 2; capacity = 2; asids = 1 ∷ []; layout = 
 
 -- a full mailbox takes no more when a request is taken out or acknowledged, only when the acknowledgement is collected; a
 -- closed one takes no more at all, and what waits is taken in order
-abbrev pub bound_order_and_close : List Step
-bound_order_and_close =
+abbrev pub two_requests_wait : List Step
+two_requests_wait =
     (Flush 0 scope.All (hart_0 + hart_1), Opened 0)
     ∷ (Flush 0 scope.All (hart_0 + hart_1), Opened 1)
     ∷ (Flush 0 scope.All (hart_0 + hart_1), Opened 2)
@@ -29,7 +29,12 @@ bound_order_and_close =
     ∷ (Post 0 2 1, refused Full)
     ∷ (Collect 0 0 1, Waiting hart_0)
     ∷ (Post 0 2 1, Ok)
-    ∷ (Close 0 1, Ok)
+    ∷ []
+
+abbrev pub bound_order_and_close : List Step
+bound_order_and_close =
+    two_requests_wait
+    ++ (Close 0 1, Ok)
     ∷ (Post 0 3 1, refused Closed)
     ∷ (Take 1 0, taken 1 All)
     ∷ (Take 1 0, refused Serving)

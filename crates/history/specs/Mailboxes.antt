@@ -54,9 +54,13 @@ abbrev pub is_closed : History → ℕ → ℕ → Bool
 is_closed [] sender receiver = false
 is_closed (turn ∷ H) sender receiver = closed_after turn.event turn.reply sender receiver (is_closed H sender receiver)
 
--- each mailbox keeps its order: what was accepted is what was taken, followed by what waits
+-- a mailbox in which these requests wait keeps its order: what was accepted is what was taken, followed by what waits
+abbrev pub KeepsOrder : Setup → History → ℕ → ℕ → List Message → Type 0
+KeepsOrder C H sender receiver requests = accepted C H sender receiver ≡ taken H sender receiver ++ requests
+
+-- each mailbox does
 abbrev pub Mailboxes : Setup → History → Type 0
-Mailboxes C H = (sender receiver : ℕ) → accepted C H sender receiver ≡ taken H sender receiver ++ waiting C H sender receiver
+Mailboxes C H = (sender receiver : ℕ) → KeepsOrder C H sender receiver (waiting C H sender receiver)
 
 -- no turn after the pair's close adds to what was accepted
 abbrev pub NoneAfterClose : Setup → History → ℕ → ℕ → Type 0

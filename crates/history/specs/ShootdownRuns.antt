@@ -78,8 +78,8 @@ abbrev pub page_of_space : What
 page_of_space = PageOf (small_page 0x1000) (Some 1)
 
 -- hart 2 holds the old translation of a page that was unmapped and mapped anew, until it serves the request
-abbrev pub mapped_anew_before_service : List Step
-mapped_anew_before_service =
+abbrev pub mapped_anew_until_service : List Step
+mapped_anew_until_service =
     (Map 0 (Space 0) (small_page 0x1000) 0x100 (flags (R + U + A + D)), Table 0x80002)
     ∷ (Map 0 (Space 0) (small_page 0x1000) 0x100 (flags (R + U + A + D)), Table 0x80003)
     ∷ (Map 0 (Space 0) (small_page 0x1000) 0x100 (flags (R + U + A + D)), Leaf)
@@ -96,29 +96,38 @@ mapped_anew_before_service =
     ∷ (Ack 1, Ok)
     ∷ (Map 0 (Space 0) (small_page 0x1000) 0x101 (flags (R + U + A + D)), Leaf)
     ∷ (Begin 2 0x1004 access.Load user, Hit 0x100004)
-    ∷ (Take 2 0, taken 0 page_of_space)
-    ∷ (ServeFence 2, Ok)
-    ∷ (Ack 2, Ok)
-    ∷ (Begin 2 0x1004 access.Load user, More)
+    ∷ []
+
+abbrev pub mapped_anew_until_acknowledged : List Step
+mapped_anew_until_acknowledged = mapped_anew_until_service ++ (Take 2 0, taken 0 page_of_space) ∷ (ServeFence 2, Ok) ∷ (Ack 2, Ok) ∷ []
+
+abbrev pub mapped_anew_before_service : List Step
+mapped_anew_before_service =
+    mapped_anew_until_acknowledged
+    ++ (Begin 2 0x1004 access.Load user, More)
     ∷ (Load 2, More)
     ∷ (Load 2, More)
     ∷ (Load 2, Filled 0x101004)
     ∷ []
 
 -- the superpage loses W while hart 1 holds it with W
-abbrev pub superpage_made_read_only : List Step
-superpage_made_read_only =
+abbrev pub read_only_until_service : List Step
+read_only_until_service =
     map_superpage
     ++ (Begin 1 0x400000 access.Store user, More)
     ∷ (Load 1, More)
     ∷ (Load 1, Filled 0x200000)
     ∷ (Protect 0 (Space 0) (large_page 0x400000) (flags (R + U + A + D)) (hart_0 + hart_1), Opened 0)
     ∷ (Begin 1 0x400000 access.Store user, Hit 0x200000)
-    ∷ (Post 0 0 1, Ok)
-    ∷ (Take 1 0, taken 0 superpage_of_space)
-    ∷ (ServeFence 1, Ok)
-    ∷ (Ack 1, Ok)
-    ∷ (Begin 1 0x400000 access.Store user, More)
+    ∷ []
+
+abbrev pub read_only_until_acknowledged : List Step
+read_only_until_acknowledged = read_only_until_service ++ (Post 0 0 1, Ok) ∷ (Take 1 0, taken 0 superpage_of_space) ∷ (ServeFence 1, Ok) ∷ (Ack 1, Ok) ∷ []
+
+abbrev pub superpage_made_read_only : List Step
+superpage_made_read_only =
+    read_only_until_acknowledged
+    ++ (Begin 1 0x400000 access.Store user, More)
     ∷ (Load 1, More)
     ∷ (Load 1, trap 15 Denied)
     ∷ []
@@ -127,9 +136,9 @@ superpage_made_read_only =
 abbrev pub spaces_of_one_home : Setup
 spaces_of_one_home = two_spaces (0 ∷ 0 ∷ []) (1 ∷ 2 ∷ [])
 
--- a request for a space drops what hart 1 holds of that space, and nothing of the other
-abbrev pub space_flush : List Step
-space_flush =
+-- hart 1 holds the page at 0x1000 of each, and is in space 1
+abbrev pub held_in_both_spaces : List Step
+held_in_both_spaces =
     (Map 0 (Space 0) (small_page 0x1000) 0x100 (flags (R + U + A + D)), Table 0x80003)
     ∷ (Map 0 (Space 0) (small_page 0x1000) 0x100 (flags (R + U + A + D)), Table 0x80004)
     ∷ (Map 0 (Space 0) (small_page 0x1000) 0x100 (flags (R + U + A + D)), Leaf)
@@ -145,7 +154,13 @@ space_flush =
     ∷ (Load 1, More)
     ∷ (Load 1, More)
     ∷ (Load 1, Filled 0x101004)
-    ∷ (Flush 0 (scope.Space 0) (hart_0 + hart_1), Opened 0)
+    ∷ []
+
+-- a request for a space drops what hart 1 holds of that space, and nothing of the other
+abbrev pub space_flush : List Step
+space_flush =
+    held_in_both_spaces
+    ++ (Flush 0 (scope.Space 0) (hart_0 + hart_1), Opened 0)
     ∷ (Post 0 0 1, Ok)
     ∷ (Take 1 0, taken 0 (SpaceOf 1))
     ∷ (ServeFence 1, Ok)

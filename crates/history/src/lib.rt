@@ -1,6 +1,7 @@
 //! What a run of the harts leaves, and which reply is due to an event after it: definitions, with no machine.
 #![tactic(auto)]
 
+pub mod counterexamples;
 mod event;
 pub mod occurrences;
 mod refusal;

@@ -10,6 +10,7 @@ ghost use Rattle.history.specs.Due.{Lawful};
 ghost use Rattle.history.specs.Harts.{entries_of};
 ghost use Rattle.history.specs.WorkedRuns.{IsEachDueAfter, IsRun, Step, history_of, large_page, one_hart, three_harts, two_harts};
 ghost use Rattle.history.specs.ShootdownRuns as shootdowns;
+ghost use Rattle.history.specs.StalenessRuns as staleness;
 ghost use Rattle.history.specs.KernelRuns as kernel;
 ghost use Rattle.history.specs.MailboxRuns as mailboxes;
 ghost use Rattle.history.specs.EditRuns as edits;
@@ -64,6 +65,31 @@ pub fn superpage_made_read_only()
 #[tactic(auto, using(crate::proofs::ShootdownRows::space_flush))]
 pub fn space_flush()
     ensures { IsRun shootdowns.spaces_of_one_home shootdowns.space_flush }
+{}
+
+/// A hart that an unmapping does not name uses the page, also once the ticket is finished.
+#[tactic(auto, using(crate::proofs::StalenessRows::unnamed_hart))]
+pub fn unnamed_hart()
+    ensures { IsRun two_harts staleness.unnamed_hart }
+{}
+
+/// A small page is mapped in an unmapped page of 2 MiB: a hart that has acknowledged the unmapping walks to it.
+#[tactic(auto, using(crate::proofs::StalenessRows::small_page_mapped_anew))]
+pub fn small_page_mapped_anew()
+    ensures { IsRun two_harts staleness.small_page_mapped_anew }
+{}
+
+/// The request for a page of one space leaves the same page of another space.
+#[tactic(auto, using(crate::proofs::StalenessRows::same_page_of_another_space))]
+pub fn same_page_of_another_space()
+    ensures { IsRun shootdowns.spaces_of_one_home staleness.same_page_of_another_space }
+{}
+
+/// A page that a hart filled after its acknowledgement is changed once more: the hart uses what it holds.
+#[tactic(auto, using(crate::proofs::StalenessRows::protected_once_more, crate::proofs::StalenessRows::unmapped_once_more))]
+pub fn changed_once_more()
+    ensures protected { IsRun two_harts staleness.protected_once_more }
+    ensures unmapped { IsRun two_harts staleness.unmapped_once_more }
 {}
 
 /// A kernel page is found in every space. It outlives a fence for its address and an ASID, and goes by the request for the

@@ -1,0 +1,110 @@
+-- What Coherent forbids a TLB to hold after the worked runs, and where it says nothing.
+use Rattle.std.proofs.Common.{ℕ, ◌+◌, Option, Some, None, refl, arith, inl, inr}
+use Rattle.pte.specs.declared.permission.Access.TheVariants as access
+use Rattle.pte.specs.Entry.{kind_of}
+use Rattle.spaces.specs.declared.places.Place.TheVariants.{Space, Kernel}
+use Rattle.spaces.specs.Edits.{wish_fault, path_end, edit_of}
+use Rattle.tlb.specs.Mappings.{Mapping}
+use Rattle.history.specs.Orders.{Unmapped, Protected}
+use Rattle.history.specs.Tables.{words_of}
+use Rattle.history.specs.Staleness.{IsMapped}
+use Rattle.history.specs.WorkedRuns.{history_of, large_page, small_page, two_harts, three_harts, flags, R, W, U, A, D, user}
+use Rattle.history.specs.ShootdownRuns as shootdowns
+use Rattle.history.specs.KernelRuns as kernel
+use Rattle.history.specs.StalenessRuns as staleness
+use Rattle.history.specs.Counterexamples.{CoherentForbids, CoherentAllowsAll, entry, read_only_entry, global_entry}
+use Rattle.history.proofs.Promises.{not_mapped, coherent_forbids, unacked_coherent, unnamed_coherent, superseded_coherent}
+
+-- the mapping of the page of 4 KiB with a number
+abbrev mapping : Option ℕ → ℕ → ℕ → ℕ → Mapping
+mapping asid page ppn bits = record { asid = asid; page = page; ppn = ppn; flags = flags bits }
+
+-- after the change of flags the tables do not let the page be stored to
+writable_gone : ¬ IsMapped two_harts (history_of shootdowns.read_only_until_acknowledged) 0x80001 (mapping (Some 1) 0x400 0x200 (R + W + U + A + D))
+unfolding kind_of wish_fault path_end edit_of
+writable_gone m =
+    not_mapped (words_of two_harts (history_of shootdowns.read_only_until_acknowledged)) 0x80001 0x400000 0x200 access.Store user (flags (R + W + U + A + D)) m.0
+    (inl (omega arith)) refl refl m.1
+
+pub old_flags : CoherentForbids two_harts (history_of shootdowns.read_only_until_acknowledged) 5 1 (entry 1 (large_page 0x400000) 0x200)
+old_flags =
+    coherent_forbids two_harts (history_of shootdowns.read_only_until_acknowledged) 5 1 (Protected (Space 0) (large_page 0x400000)) (Space 0) (large_page 0x400000) (inr refl)
+    (record { order = _; is = refl; same_cause = refl; named = refl; acked = refl }) refl (entry 1 (large_page 0x400000) 0x200)
+    (mapping (Some 1) 0x400 0x200 (R + W + U + A + D))
+    (record { asid = refl; page = record { from = omega arith; to = omega arith }; ppn = refl; flags = refl })
+    (inr (1, refl, refl)) (record { from = omega arith; to = omega arith }) 0x80001 refl writable_gone
+
+-- the page is mapped anew, to another PPN
+old_frame_gone : ¬ IsMapped three_harts (history_of shootdowns.mapped_anew_until_acknowledged) 0x80001 (mapping (Some 1) 1 0x100 (R + U + A + D))
+unfolding kind_of wish_fault path_end edit_of
+old_frame_gone m =
+    not_mapped (words_of three_harts (history_of shootdowns.mapped_anew_until_acknowledged)) 0x80001 0x1000 0x100 access.Load user (flags (R + U + A + D)) m.0
+    (inl (omega arith)) refl refl m.1
+
+pub old_ppn : CoherentForbids three_harts (history_of shootdowns.mapped_anew_until_acknowledged) 7 2 (read_only_entry 1 (small_page 0x1000) 0x100)
+old_ppn =
+    coherent_forbids three_harts (history_of shootdowns.mapped_anew_until_acknowledged) 7 2 (Unmapped (Space 0) (small_page 0x1000)) (Space 0) (small_page 0x1000) (inl refl)
+    (record { order = _; is = refl; same_cause = refl; named = refl; acked = refl }) refl (read_only_entry 1 (small_page 0x1000) 0x100)
+    (mapping (Some 1) 1 0x100 (R + U + A + D))
+    (record { asid = refl; page = record { from = omega arith; to = omega arith }; ppn = refl; flags = refl })
+    (inr (1, refl, refl)) (record { from = omega arith; to = omega arith }) 0x80001 refl old_frame_gone
+
+-- the page is unmapped: nothing of it is mapped, for no ASID
+superpage_gone : (asid : Option ℕ) → ¬ IsMapped two_harts (history_of shootdowns.superpage_shootdown) 0x80001 (mapping asid 0x400 0x200 (R + W + U + A + D))
+unfolding kind_of wish_fault path_end edit_of
+superpage_gone asid m =
+    not_mapped (words_of two_harts (history_of shootdowns.superpage_shootdown)) 0x80001 0x400000 0x200 access.Load user (flags (R + W + U + A + D)) m.0
+    (inl (omega arith)) refl refl m.1
+
+pub nothing_mapped : CoherentForbids two_harts (history_of shootdowns.superpage_shootdown) 5 1 (entry 1 (large_page 0x400000) 0x200)
+nothing_mapped =
+    coherent_forbids two_harts (history_of shootdowns.superpage_shootdown) 5 1 (Unmapped (Space 0) (large_page 0x400000)) (Space 0) (large_page 0x400000) (inl refl)
+    (record { order = _; is = refl; same_cause = refl; named = refl; acked = refl }) refl (entry 1 (large_page 0x400000) 0x200)
+    (mapping (Some 1) 0x400 0x200 (R + W + U + A + D))
+    (record { asid = refl; page = record { from = omega arith; to = omega arith }; ppn = refl; flags = refl })
+    (inr (1, refl, refl)) (record { from = omega arith; to = omega arith }) 0x80001 refl (superpage_gone (Some 1))
+
+pub global : CoherentForbids two_harts (history_of shootdowns.superpage_shootdown) 5 1 (global_entry (large_page 0x400000) 0x200)
+global =
+    coherent_forbids two_harts (history_of shootdowns.superpage_shootdown) 5 1 (Unmapped (Space 0) (large_page 0x400000)) (Space 0) (large_page 0x400000) (inl refl)
+    (record { order = _; is = refl; same_cause = refl; named = refl; acked = refl }) refl (global_entry (large_page 0x400000) 0x200)
+    (mapping None 0x400 0x200 (R + W + U + A + D))
+    (record { asid = refl; page = record { from = omega arith; to = omega arith }; ppn = refl; flags = refl })
+    (inl refl) (record { from = omega arith; to = omega arith }) 0x80001 refl (superpage_gone None)
+
+pub sender : CoherentForbids two_harts (history_of shootdowns.superpage_shootdown) 5 0 (entry 1 (large_page 0x400000) 0x200)
+sender =
+    coherent_forbids two_harts (history_of shootdowns.superpage_shootdown) 5 0 (Unmapped (Space 0) (large_page 0x400000)) (Space 0) (large_page 0x400000) (inl refl)
+    (record { order = _; is = refl; same_cause = refl; named = refl; acked = refl }) refl (entry 1 (large_page 0x400000) 0x200)
+    (mapping (Some 1) 0x400 0x200 (R + W + U + A + D))
+    (record { asid = refl; page = record { from = omega arith; to = omega arith }; ppn = refl; flags = refl })
+    (inr (1, refl, refl)) (record { from = omega arith; to = omega arith }) 0x80001 refl (superpage_gone (Some 1))
+
+-- a kernel page is unmapped, for every ASID: from the root of space 1 too nothing of it is mapped
+kernel_page_gone : (asid : Option ℕ)
+    → ¬ IsMapped kernel.spaces_of_two_homes (history_of kernel.kernel_page_until_acknowledged) 0x80002 (mapping asid 0xffffffffc0000 0x300 (R + W + U + A + D))
+unfolding kind_of wish_fault path_end edit_of
+kernel_page_gone asid m =
+    not_mapped (words_of kernel.spaces_of_two_homes (history_of kernel.kernel_page_until_acknowledged)) 0x80002 0xffffffffc0000000 0x300 access.Load user
+    (flags (R + W + U + A + D)) m.0 (inr (omega arith, omega arith)) refl refl m.1
+
+pub kernel_page : (asid : ℕ) → CoherentForbids kernel.spaces_of_two_homes (history_of kernel.kernel_page_until_acknowledged) 10 1 (entry asid (small_page 0xffffffffc0000000) 0x300)
+kernel_page asid =
+    coherent_forbids kernel.spaces_of_two_homes (history_of kernel.kernel_page_until_acknowledged) 10 1 (Unmapped Kernel (small_page 0xffffffffc0000000)) Kernel
+    (small_page 0xffffffffc0000000) (inl refl) (record { order = _; is = refl; same_cause = refl; named = refl; acked = refl }) refl
+    (entry asid (small_page 0xffffffffc0000000) 0x300) (mapping (Some asid) 0xffffffffc0000 0x300 (R + W + U + A + D))
+    (record { asid = refl; page = record { from = omega arith; to = omega arith }; ppn = refl; flags = refl })
+    (inr (asid, refl, tt)) (record { from = omega arith; to = omega arith }) 0x80002 (1, omega arith, refl) (kernel_page_gone (Some asid))
+
+-- where Coherent says nothing
+pub unacknowledged : CoherentAllowsAll two_harts (history_of shootdowns.read_only_until_service) 5 1
+unacknowledged = unacked_coherent two_harts (history_of shootdowns.read_only_until_service) 5 1 refl
+
+pub unnamed : CoherentAllowsAll two_harts (history_of staleness.unnamed_hart) 5 1
+unnamed = unnamed_coherent two_harts (history_of staleness.unnamed_hart) 5 1 refl
+
+pub protected_once_more : CoherentAllowsAll two_harts (history_of staleness.protected_once_more) 5 1
+protected_once_more = superseded_coherent two_harts (history_of staleness.protected_once_more) 5 1 refl
+
+pub unmapped_once_more : CoherentAllowsAll two_harts (history_of staleness.unmapped_once_more) 5 1
+unmapped_once_more = superseded_coherent two_harts (history_of staleness.unmapped_once_more) 5 1 refl

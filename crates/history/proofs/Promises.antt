@@ -1,0 +1,121 @@
+-- What an acknowledgement forbids a TLB to hold, and where it says nothing, computed from the histories of worked runs.
+use Rattle.std.proofs.Common.{◌≡◌, ℕ, zero, suc, ◌+◌, ◌*◌, ◌%◌, Bool, true, false, List, [], ◌∷◌, Some, None, Ok, Err, ◌==◌, IsTrue, refl, sym, ap, subst, ◌∙◌, arith}
+use Rattle.std.specs.Prelude.{Contains, Result}
+use Rattle.std.proofs.lemmas.Bool.{true≢false, eq-eqb}
+use Rattle.pte.specs.Address.{Span, IsPage, IsCanonical, Holds, bytes_of, level_count}
+use Rattle.pte.specs.declared.address.PageSize.TheVariants.{Kib4}
+use Rattle.pte.specs.declared.flags.PteFlags.{PteFlags}
+use Rattle.pte.specs.declared.permission.Access.{Access}
+use Rattle.pte.specs.declared.permission.Ctx.{Ctx}
+use Rattle.walk.specs.declared.found_or_trap.Found.{Found}
+use Rattle.walk.specs.declared.found_or_trap.Trap.{Trap}
+use Rattle.walk.specs.Leads.{Tables}
+use Rattle.walk.specs.Maps.{Maps, page_number}
+use Rattle.walk.specs.Answer.{flags_fault, found_unless}
+use Rattle.walk.specs.Stage.{start_of}
+use Rattle.walk.specs.Loads.{answer_after}
+use Rattle.walk.proofs.MappedAnswers.{mapped_answer}
+use Rattle.walk.proofs.Unique.{level_count_loads}
+use Rattle.spaces.specs.declared.places.Place.{Place}
+use Rattle.tlb.specs.declared.store.Entry.{Entry}
+use Rattle.tlb.specs.Entries.{is_match}
+use Rattle.tlb.specs.Answer.{address_found}
+use Rattle.tlb.specs.Mappings.{Mapping, LiesIn, IsMappingOf, IsMappedBy, Translates}
+use Rattle.tlb.proofs.Translating.{match_translates, translated_match}
+use Rattle.history.specs.Setup.{Setup}
+use Rattle.history.specs.Turns.{History}
+use Rattle.history.specs.Orders.{Order, Cause, Unmapped, order_at}
+use Rattle.history.specs.Acknowledgements.{is_acked}
+use Rattle.history.specs.Due.{names}
+use Rattle.history.specs.Staleness.{is_mapped_anew, is_superseded, HasAnswered, IsAsidOf, IsForPlace, IsRootOf, IsMapped, IsChange, Clear}
+use Rattle.history.specs.Counterexamples.{ClearForbids, ClearAllowsAll, CoherentForbids, CoherentAllowsAll}
+
+-- what an access of a mapped page finds
+mapped_address : (words : Tables) (root va ppn : ℕ) (access : Access) (ctx : Ctx) (flags : PteFlags) (global : Bool) → IsCanonical va → flags_fault access ctx flags ≡ None
+    → Maps words root (page_number va) ppn flags global
+    → address_found (answer_after level_count words (start_of root va access ctx)) ≡ Ok (ppn * bytes_of Kib4 + va % bytes_of Kib4)
+mapped_address words root va ppn access ctx flags global canonical none maps =
+    let m = mapped_answer words root va ppn access ctx flags global maps in
+    let found : Found = m.0 in
+    let is : found_unless (flags_fault access ctx flags) access found ≡ answer_after level_count words (start_of root va access ctx) =
+    (level_count_loads words root va access ctx (found_unless (flags_fault access ctx flags) access found) canonical).0 m.1 in
+    ap address_found (sym is) ∙ ap (λ why. address_found (found_unless why access found)) none ∙ ap Ok m.2
+
+-- what an access does not find is not mapped
+abbrev finds : Result ℕ Trap → ℕ → Bool
+finds (Ok address) pa = address == pa
+finds (Err trap) pa = false
+
+pub not_mapped : (words : Tables) (root va ppn : ℕ) (access : Access) (ctx : Ctx) (flags : PteFlags) (global : Bool) → IsCanonical va → flags_fault access ctx flags ≡ None
+    → finds (address_found (answer_after level_count words (start_of root va access ctx))) (ppn * bytes_of Kib4 + va % bytes_of Kib4) ≡ false
+    → ¬ Maps words root (page_number va) ppn flags global
+not_mapped words root va ppn access ctx flags global canonical none other maps =
+    let pa = ppn * bytes_of Kib4 + va % bytes_of Kib4 in
+    true≢false (sym (eq-eqb pa pa refl) ∙ sym (ap (λ r. finds r pa) (mapped_address words root va ppn access ctx flags global canonical none maps)) ∙ other)
+
+abbrev cause_of : Order → Cause
+cause_of order = order.cause
+
+some-inj : {A : Type 0} {a b : A} → Some a ≡ Some b → a ≡ b
+some-inj e = cc
+
+-- a TLB of one entry translates what the entry matches, and nothing else
+contained : (e x : Entry) → Contains (e ∷ []) x → x ≡ e
+contained e x (zero, below, is) = sym is
+contained e x (suc k, below, is) = absurd (omega (arith, below))
+
+pub one_match : (e : Entry) (asid va : ℕ) → Translates (IsMappedBy (e ∷ [])) asid va → IsTrue (is_match asid va e)
+one_match e asid va t = let m = translated_match (e ∷ []) asid va t in subst (λ x. IsTrue (is_match asid va x)) (contained e m.0 m.1) m.2
+
+pub one_translates : (entries : List Entry) (e : Entry) (asid va : ℕ) → entries ≡ e ∷ [] → IsPage e.page → IsTrue (is_match asid va e) → Translates (IsMappedBy entries) asid va
+one_translates entries e asid va is aligned on =
+    subst (λ es. Translates (IsMappedBy es) asid va) (sym is) (match_translates (e ∷ []) asid va e aligned (0, omega arith, refl) on)
+
+module _ (C : Setup) (H : History) (k h : ℕ) where
+  -- where h has answered the unmapping and the page is not mapped anew, no entry of the page may be held
+  pub clear_forbids : (place : Place) (page : Span) → HasAnswered C H k h (Unmapped place page) → is_mapped_anew C H k ≡ false
+      → (asid va : ℕ) → IsAsidOf C place asid → Holds page va → (e : Entry) → IsPage e.page → IsTrue (is_match asid va e) → ClearForbids C H k h e
+  clear_forbids place page answered old asid va for held e aligned on entries at clear =
+      clear place page answered old asid va for held (match_translates entries asid va e aligned at on)
+
+  pub unacked_clear : is_acked C H k h ≡ false → ClearAllowsAll C H k h
+  unacked_clear none entries place page answered = absurd (true≢false (sym answered.acked ∙ none))
+
+  -- an order that followed no unmapping
+  pub other_cause_clear : (order : Order) → order_at C H k ≡ Some order → ((place : Place) (page : Span) → order.cause ≡ Unmapped place page → ⊥) → ClearAllowsAll C H k h
+  other_cause_clear order is other entries place page answered =
+      absurd (other place page (ap cause_of (some-inj (sym is ∙ answered.is)) ∙ answered.same_cause))
+
+  -- entries that translate nothing of the page for its address space may be held
+  pub clear_allows : (order : Order) (place : Place) (page : Span) → order_at C H k ≡ Some order → order.cause ≡ Unmapped place page → (entries : List Entry)
+      → ((asid va : ℕ) → IsAsidOf C place asid → Holds page va → ¬ Translates (IsMappedBy entries) asid va) → Clear C H entries k h
+  clear_allows order place page is cause entries none place' page' answered old asid va for held =
+      let causes : Unmapped place page ≡ Unmapped place' page' = sym cause ∙ ap cause_of (some-inj (sym is ∙ answered.is)) ∙ answered.same_cause in
+      let places : place' ≡ place = cc in
+      let pages : page' ≡ page = cc in
+      none asid va (subst (λ p. IsAsidOf C p asid) places for) (subst (λ p. Holds p va) pages held)
+
+  pub unacked_coherent : is_acked C H k h ≡ false → CoherentAllowsAll C H k h
+  unacked_coherent none entries cause place page change answered = absurd (true≢false (sym answered.acked ∙ none))
+
+  pub anew_clear : is_mapped_anew C H k ≡ true → ClearAllowsAll C H k h
+  anew_clear anew entries place page answered old = absurd (true≢false (sym anew ∙ old))
+
+  pub superseded_coherent : is_superseded C H k ≡ true → CoherentAllowsAll C H k h
+  superseded_coherent changed entries cause place page change answered old = absurd (true≢false (sym changed ∙ old))
+
+  not_named : (cause : Cause) → names (order_at C H k) h ≡ false → HasAnswered C H k h cause → ⊥
+  not_named cause none answered = true≢false (sym answered.named ∙ sym (ap (λ o. names o h) answered.is) ∙ none)
+
+  pub unnamed_clear : names (order_at C H k) h ≡ false → ClearAllowsAll C H k h
+  unnamed_clear none entries place page answered = absurd (not_named (Unmapped place page) none answered)
+
+  pub unnamed_coherent : names (order_at C H k) h ≡ false → CoherentAllowsAll C H k h
+  unnamed_coherent none entries cause place page change answered = absurd (not_named cause none answered)
+
+  -- a mapping that the tables do not have now may not be held
+  pub coherent_forbids : (cause : Cause) (place : Place) (page : Span) → IsChange cause place page → HasAnswered C H k h cause → is_superseded C H k ≡ false
+      → (e : Entry) (m : Mapping) → IsMappingOf e m → IsForPlace C place m → LiesIn page m.page → (root : ℕ) → IsRootOf C place root → ¬ IsMapped C H root m
+      → CoherentForbids C H k h e
+  coherent_forbids cause place page change answered old e m of for lies root is_root none entries at coherent =
+      none (coherent cause place page change answered old m (e, at, of) for lies root is_root)

@@ -1,0 +1,38 @@
+-- What the promises of an acknowledgement forbid a TLB to hold, and the entries with which the counterexamples try it.
+use Rattle.std.specs.Prelude.{ℕ, ◌+◌, true, false, List, Contains}
+use Rattle.pte.specs.Address.{Span}
+use Rattle.tlb.specs.declared.store.Entry.{Entry}
+use Rattle.shoot.specs.Request.{Message}
+use Rattle.pte.specs.declared.address.What.TheVariants.{All}
+use Rattle.history.specs.Setup.{Setup}
+use Rattle.history.specs.Turns.{History}
+use Rattle.history.specs.Staleness.{Clear, Coherent}
+use Rattle.history.specs.WorkedRuns.{flags, R, W, U, A, D}
+
+-- Clear is false of each TLB that holds the entry, whatever else it holds
+abbrev pub ClearForbids : Setup → History → ℕ → ℕ → Entry → Type 0
+ClearForbids C H k h e = (entries : List Entry) → Contains entries e → ¬ Clear C H entries k h
+
+-- Clear says nothing: it is so whatever the TLB holds
+abbrev pub ClearAllowsAll : Setup → History → ℕ → ℕ → Type 0
+ClearAllowsAll C H k h = (entries : List Entry) → Clear C H entries k h
+
+abbrev pub CoherentForbids : Setup → History → ℕ → ℕ → Entry → Type 0
+CoherentForbids C H k h e = (entries : List Entry) → Contains entries e → ¬ Coherent C H entries k h
+
+abbrev pub CoherentAllowsAll : Setup → History → ℕ → ℕ → Type 0
+CoherentAllowsAll C H k h = (entries : List Entry) → Coherent C H entries k h
+
+-- an entry of a page for an ASID, with W and without, and one for every ASID
+abbrev pub entry : ℕ → Span → ℕ → Entry
+entry asid page ppn = record { asid = asid; global = false; page = page; ppn = ppn; flags = flags (R + W + U + A + D) }
+
+abbrev pub read_only_entry : ℕ → Span → ℕ → Entry
+read_only_entry asid page ppn = record { asid = asid; global = false; page = page; ppn = ppn; flags = flags (R + U + A + D) }
+
+abbrev pub global_entry : Span → ℕ → Entry
+global_entry page ppn = record { asid = 0; global = true; page = page; ppn = ppn; flags = flags (R + W + U + A + D) }
+
+-- the request of a ticket that asks for everything
+abbrev pub request : ℕ → Message
+request ticket = record { ticket = ticket; what = All }
