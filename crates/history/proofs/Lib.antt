@@ -15,6 +15,7 @@ pub mod Walks
 pub mod Lasting
 pub mod InWalk
 mod StalenessRows
+mod HartRows
 mod Promises
 mod ClearFacts
 mod CoherentFacts

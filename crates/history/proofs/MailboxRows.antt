@@ -1,5 +1,7 @@
 -- The worked runs of mailboxes and tickets, computed from the definitions alone.
 use Rattle.std.proofs.Common.{refl}
+use Rattle.pte.specs.Entry.{kind_of}
+use Rattle.spaces.specs.Edits.{wish_fault, path_end, edit_of}
 use Rattle.shoot.specs.HartSet.{byte_of, difference}
 use Rattle.history.specs.WorkedRuns.{IsRun, one_hart, two_harts}
 use Rattle.history.specs.MailboxRuns as run
@@ -13,5 +15,9 @@ unfolding IsRun byte_of difference
 close_in_mid_shootdown = refl
 
 pub tickets_run_out : IsRun one_hart run.tickets_run_out
-unfolding IsRun byte_of difference
+unfolding IsRun kind_of wish_fault path_end edit_of byte_of difference
 tickets_run_out = refl
+
+pub refused_posts : IsRun run.mailboxes_of_two run.refused_posts
+unfolding IsRun byte_of difference
+refused_posts = refl

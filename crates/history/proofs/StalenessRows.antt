@@ -26,3 +26,7 @@ protected_once_more = refl
 pub unmapped_once_more : IsRun two_harts run.unmapped_once_more
 unfolding IsRun kind_of wish_fault path_end edit_of byte_of difference
 unmapped_once_more = refl
+
+pub refused_changes : IsRun two_harts run.refused_changes
+unfolding IsRun kind_of wish_fault path_end edit_of byte_of difference
+refused_changes = refl

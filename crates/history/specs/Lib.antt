@@ -20,3 +20,4 @@ pub mod RefusalRuns
 pub mod StalenessRuns
 pub mod UnlawfulRuns
 pub mod Counterexamples
+pub mod HartRuns

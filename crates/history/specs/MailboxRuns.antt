@@ -1,12 +1,13 @@
 -- Worked runs of mailboxes and tickets: the bound and the order of a mailbox, its close, and the numbers of the tickets.
 use Rattle.std.specs.Prelude.{ℕ, zero, suc, ◌+◌, List, [], ◌∷◌, ◌++◌}
 use Rattle.pte.specs.declared.address.What.TheVariants.{All}
-use Rattle.history.specs.declared.event.Event.TheVariants.{Flush, Post, Take, ServeFence, Ack, AckSelf, Collect, Finish, Close}
+use Rattle.spaces.specs.declared.places.Place.TheVariants.{Space}
+use Rattle.history.specs.declared.event.Event.TheVariants.{Unmap, Flush, Post, Take, ServeFence, Ack, AckSelf, Collect, Finish, Close}
 use Rattle.history.specs.declared.event.Scope.TheVariants as scope
-use Rattle.history.specs.declared.refusal.Refusal.TheVariants.{NoTicket, NotOpen, Closed, Full, Empty, Serving, NotFenced, NotDone}
+use Rattle.history.specs.declared.refusal.Refusal.TheVariants.{NotMapped, HomeNotNamed, NoTicket, NotOpen, NotNamed, AlreadyPosted, Closed, Full, Empty, Serving, NotFenced, NotDone}
 use Rattle.history.specs.declared.reply.Reply.TheVariants.{Opened, Ok, Done, Waiting}
 use Rattle.history.specs.Setup.{Setup}
-use Rattle.history.specs.WorkedRuns.{Step, one_space, hart_0, hart_1, refused, taken}
+use Rattle.history.specs.WorkedRuns.{Step, one_space, small_page, hart_0, hart_1, refused, taken}
 
 -- two harts whose mailboxes hold 2 requests
 abbrev pub mailboxes_of_two : Setup
@@ -41,6 +42,7 @@ bound_order_and_close =
     ∷ (ServeFence 1, Ok)
     ∷ (Ack 1, Ok)
     ∷ (Take 1 0, taken 2 All)
+    ∷ (Ack 1, refused NotFenced)
     ∷ (ServeFence 1, Ok)
     ∷ (Ack 1, Ok)
     ∷ (Take 1 0, refused Empty)
@@ -67,6 +69,27 @@ close_in_mid_shootdown =
     ∷ (Take 1 0, refused Empty)
     ∷ []
 
+-- Post asks in this order: whether the order names the hart, whether it was posted, whether the mailbox is closed, whether it
+-- is full
+abbrev pub refused_posts : List Step
+refused_posts =
+    (Flush 0 scope.All hart_0, Opened 0)
+    ∷ (Flush 0 scope.All (hart_0 + hart_1), Opened 1)
+    ∷ (Flush 0 scope.All (hart_0 + hart_1), Opened 2)
+    ∷ (Flush 0 scope.All (hart_0 + hart_1), Opened 3)
+    ∷ (Post 0 1 1, Ok)
+    ∷ (Post 0 2 1, Ok)
+    ∷ (Post 0 0 1, refused NotNamed)
+    ∷ (Post 0 1 1, refused AlreadyPosted)
+    ∷ (Post 0 3 1, refused Full)
+    ∷ (Post 0 4 1, refused NotOpen)
+    ∷ (Close 0 1, Ok)
+    ∷ (Post 0 0 1, refused NotNamed)
+    ∷ (Post 0 1 1, refused AlreadyPosted)
+    ∷ (Post 0 3 1, refused Closed)
+    ∷ (Post 0 4 1, refused NotOpen)
+    ∷ []
+
 -- so many openings of one hart in a row, from a number on
 abbrev pub openings : ℕ → ℕ → List Step
 openings zero from = []
@@ -77,6 +100,8 @@ abbrev pub tickets_run_out : List Step
 tickets_run_out =
     openings 64 0
     ++ (Flush 0 scope.All hart_0, refused NoTicket)
+    ∷ (Flush 0 scope.All 0, refused HomeNotNamed)
+    ∷ (Unmap 0 (Space 0) (small_page 0x1000) hart_0, refused NotMapped)
     ∷ (AckSelf 0 5, Done)
     ∷ (Finish 0 5, Ok)
     ∷ (Flush 0 scope.All hart_0, Opened 5)

@@ -14,6 +14,9 @@ use Rattle.history.specs.WorkedRuns.{Step, small_page, flags, R, W, U, A, D, use
 abbrev pub nothing_there : List Step
 nothing_there =
     (Begin 2 0x1000 access.Load user, refused NoHart)
+    ∷ (Map 2 (Space 1) (small_page 0x1000) 0x100 (flags W), refused NoHart)
+    ∷ (Switch 2 32, refused NoHart)
+    ∷ (Flush 0 scope.All hart_2, refused NoHart)
     ∷ (Flush 0 (scope.Space 1) (hart_1 + hart_2), refused NoHart)
     ∷ (Unmap 1 (Space 1) (small_page 0x1000) (hart_0 + hart_2), refused NoHart)
     ∷ (Protect 1 (Space 1) (small_page 0x1000) (flags W) (hart_1 + hart_2), refused NoHart)
@@ -26,6 +29,8 @@ nothing_there =
     ∷ (Map 1 (Space 1) (small_page 0x1000) 0x100 (flags W), refused NoSpace)
     ∷ (Switch 0 32, refused NoSpace)
     ∷ (Protect 1 (Space 0) (small_page 0x1000) (flags W) hart_0, refused NotHome)
+    ∷ (Unmap 1 (Space 0) (small_page 0x1000) hart_0, refused NotHome)
+    ∷ (Unmap 0 (Space 0) (small_page 0x1000) hart_1, refused NotMapped)
     ∷ (Protect 0 (Space 0) (small_page 0x1000) (flags W) hart_1, refused BadFlags)
     ∷ (Protect 0 (Space 0) (small_page 0x1000) (flags (R + U + A + D)) hart_1, refused NotMapped)
     ∷ (Flush 0 scope.All hart_1, refused HomeNotNamed)
@@ -85,6 +90,7 @@ while_serving =
     ∷ (Ack 0, Ok)
     ∷ (Ack 0, refused NotServing)
     ∷ (AckSelf 1 0, Waiting hart_0)
+    ∷ (Finish 1 0, refused NotDone)
     ∷ (Collect 1 0 0, Done)
     ∷ (Collect 1 0 0, Done)
     ∷ (Finish 1 0, Ok)

@@ -4,8 +4,9 @@ use Rattle.std.specs.Prelude.{◌+◌, List, [], ◌∷◌, ◌++◌}
 use Rattle.pte.specs.declared.permission.Access.TheVariants as access
 use Rattle.spaces.specs.declared.places.Place.TheVariants.{Space}
 use Rattle.history.specs.declared.event.Event.TheVariants.{Begin, Load, Map, Unmap, Protect, Post, Take, ServeFence, Ack, AckSelf, Finish}
+use Rattle.history.specs.declared.refusal.Refusal.TheVariants.{Misaligned, NotMapped}
 use Rattle.history.specs.declared.reply.Reply.TheVariants.{Hit, More, Filled, Table, Leaf, Opened, Ok, Done}
-use Rattle.history.specs.WorkedRuns.{Step, small_page, large_page, flags, R, U, A, D, user, hart_0, hart_1, taken}
+use Rattle.history.specs.WorkedRuns.{Step, small_page, large_page, flags, R, U, A, D, user, hart_0, hart_1, refused, taken}
 use Rattle.history.specs.ShootdownRuns.{map_superpage, superpage_until_acknowledged, read_only_until_acknowledged, held_in_both_spaces, page_of_space}
 
 -- hart 1 holds the superpage, and is not named: it may use it also when the ticket is finished
@@ -33,6 +34,15 @@ small_page_mapped_anew =
     ∷ (Load 1, More)
     ∷ (Load 1, More)
     ∷ (Load 1, Filled 0x100004)
+    ∷ []
+
+-- what is refused changes nothing: the superpage is neither mapped anew nor unmapped or changed once more
+abbrev pub refused_changes : List Step
+refused_changes =
+    superpage_until_acknowledged
+    ++ (Map 0 (Space 0) (large_page 0x400000) 0x201 (flags (R + U + A + D)), refused Misaligned)
+    ∷ (Unmap 0 (Space 0) (large_page 0x400000) (hart_0 + hart_1), refused NotMapped)
+    ∷ (Protect 0 (Space 0) (large_page 0x400000) (flags (R + U + A + D)) (hart_0 + hart_1), refused NotMapped)
     ∷ []
 
 -- the page at 0x1000 is unmapped in space 0: hart 1 keeps that of space 1, also when this one is unmapped and mapped anew

@@ -12,6 +12,7 @@ ghost use Rattle.history.specs.WorkedRuns.{IsEachDueAfter, IsRun, Step, history_
 ghost use Rattle.history.specs.ShootdownRuns as shootdowns;
 ghost use Rattle.history.specs.StalenessRuns as staleness;
 ghost use Rattle.history.specs.KernelRuns as kernel;
+ghost use Rattle.history.specs.HartRuns as harts;
 ghost use Rattle.history.specs.MailboxRuns as mailboxes;
 ghost use Rattle.history.specs.EditRuns as edits;
 ghost use Rattle.history.specs.RefusalRuns as refusals;
@@ -67,6 +68,12 @@ pub fn space_flush()
     ensures { IsRun shootdowns.spaces_of_one_home shootdowns.space_flush }
 {}
 
+/// What is refused neither maps a page anew nor changes it once more.
+#[tactic(auto, using(crate::proofs::StalenessRows::refused_changes))]
+pub fn refused_changes()
+    ensures { IsRun two_harts staleness.refused_changes }
+{}
+
 /// A hart that an unmapping does not name uses the page, also once the ticket is finished.
 #[tactic(auto, using(crate::proofs::StalenessRows::unnamed_hart))]
 pub fn unnamed_hart()
@@ -112,6 +119,12 @@ pub fn bound_order_and_close()
     ensures { IsRun mailboxes.mailboxes_of_two mailboxes.bound_order_and_close }
 {}
 
+/// Post asks whether the order names the hart, then whether it was posted, whether the mailbox is closed, whether it is full.
+#[tactic(auto, using(crate::proofs::MailboxRows::refused_posts))]
+pub fn refused_posts()
+    ensures { IsRun mailboxes.mailboxes_of_two mailboxes.refused_posts }
+{}
+
 /// A mailbox is closed in the middle of a shootdown: what was posted is served and finished, what was not stays open.
 #[tactic(auto, using(crate::proofs::MailboxRows::close_in_mid_shootdown))]
 pub fn close_in_mid_shootdown()
@@ -146,4 +159,34 @@ pub fn seventeen_fills()
 #[tactic(auto, using(crate::proofs::RefusalRows::refusals_in_order))]
 pub fn refusals_in_order()
     ensures { IsRun two_harts refusals.refusals_in_order }
+{}
+
+/// A switch drops nothing: in the other space the page is not found, and back again it is.
+#[tactic(auto, using(crate::proofs::HartRows::switch_and_back))]
+pub fn switch_and_back()
+    ensures { IsRun harts.spaces_of_other_asids harts.switch_and_back }
+{}
+
+/// Each form of SFENCE.VMA drops what it names and no more, from the TLB of the hart that executes it.
+#[tactic(auto, using(crate::proofs::HartRows::own_fences))]
+pub fn own_fences()
+    ensures { IsRun harts.spaces_of_other_asids harts.own_fences }
+{}
+
+/// The hart that unmaps a page uses it until its own acknowledgement, and not after.
+#[tactic(auto, using(crate::proofs::HartRows::own_acknowledgement))]
+pub fn own_acknowledgement()
+    ensures { IsRun two_harts harts.own_acknowledgement }
+{}
+
+/// Each home makes its tables of spare frames of its own.
+#[tactic(auto, using(crate::proofs::HartRows::spare_frames_of_each_home))]
+pub fn spare_frames_of_each_home()
+    ensures { IsRun kernel.spaces_of_two_homes harts.spare_frames_of_each_home }
+{}
+
+/// While a hart serves a request, and in the middle of a walk, it edits, opens, posts, collects, finishes and closes.
+#[tactic(auto, using(crate::proofs::HartRows::at_work_while_walking))]
+pub fn at_work_while_walking()
+    ensures { IsRun three_harts harts.at_work_while_walking }
 {}
