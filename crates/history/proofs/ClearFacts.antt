@@ -73,6 +73,9 @@ ticket_used_again = superpage_itself _ 1 (record { order = _; is = refl; same_ca
 pub pointer_stored : ClearForbids two_harts (history_of staleness.pointer_stored) 5 1 (entry 1 (large_page 0x400000) 0x200)
 pointer_stored = superpage_itself _ 1 (record { order = _; is = refl; same_cause = refl; named = refl; acked = refl }) refl
 
+pub refused_changes : ClearForbids two_harts (history_of staleness.refused_changes) 5 1 (entry 1 (large_page 0x400000) 0x200)
+refused_changes = superpage_itself _ 1 (record { order = _; is = refl; same_cause = refl; named = refl; acked = refl }) refl
+
 -- the page of space 0 is unmapped, and that of space 1 is mapped anew
 pub other_space : ClearForbids shootdowns.spaces_of_one_home (history_of staleness.same_page_of_another_space) 15 1 (entry 1 (small_page 0x1000) 0x100)
 other_space =

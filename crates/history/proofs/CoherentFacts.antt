@@ -96,6 +96,65 @@ kernel_page asid =
     (record { asid = refl; page = record { from = omega arith; to = omega arith }; ppn = refl; flags = refl })
     (inr (asid, refl, tt)) (record { from = omega arith; to = omega arith }) 0x80002 (1, omega arith, refl) (kernel_page_gone (Some asid))
 
+-- the last small page of the superpage, with the old flags
+last_writable_gone : ¬ IsMapped two_harts (history_of shootdowns.read_only_until_acknowledged) 0x80001 (mapping (Some 1) 0x5ff 0x3ff (R + W + U + A + D))
+unfolding kind_of wish_fault path_end edit_of
+last_writable_gone m =
+    not_mapped (words_of two_harts (history_of shootdowns.read_only_until_acknowledged)) 0x80001 0x5ff000 0x3ff access.Store user (flags (R + W + U + A + D)) m.0
+    (inl (omega arith)) refl refl m.1
+
+pub last_part : CoherentForbids two_harts (history_of shootdowns.read_only_until_acknowledged) 5 1 (entry 1 (small_page 0x5ff000) 0x3ff)
+last_part =
+    coherent_forbids two_harts (history_of shootdowns.read_only_until_acknowledged) 5 1 (Protected (Space 0) (large_page 0x400000)) (Space 0) (large_page 0x400000) (inr refl)
+    (record { order = _; is = refl; same_cause = refl; named = refl; acked = refl }) refl (entry 1 (small_page 0x5ff000) 0x3ff)
+    (mapping (Some 1) 0x5ff 0x3ff (R + W + U + A + D))
+    (record { asid = refl; page = record { from = omega arith; to = omega arith }; ppn = refl; flags = refl })
+    (inr (1, refl, refl)) (record { from = omega arith; to = omega arith }) 0x80001 refl last_writable_gone
+
+-- neither a flush nor what is refused ends the promise
+gone_after_flush : ¬ IsMapped two_harts (history_of shootdowns.ticket_used_again) 0x80001 (mapping (Some 1) 0x400 0x200 (R + W + U + A + D))
+unfolding kind_of wish_fault path_end edit_of
+gone_after_flush m =
+    not_mapped (words_of two_harts (history_of shootdowns.ticket_used_again)) 0x80001 0x400000 0x200 access.Load user (flags (R + W + U + A + D)) m.0
+    (inl (omega arith)) refl refl m.1
+
+pub flushed : CoherentForbids two_harts (history_of shootdowns.ticket_used_again) 5 1 (entry 1 (large_page 0x400000) 0x200)
+flushed =
+    coherent_forbids two_harts (history_of shootdowns.ticket_used_again) 5 1 (Unmapped (Space 0) (large_page 0x400000)) (Space 0) (large_page 0x400000) (inl refl)
+    (record { order = _; is = refl; same_cause = refl; named = refl; acked = refl }) refl (entry 1 (large_page 0x400000) 0x200)
+    (mapping (Some 1) 0x400 0x200 (R + W + U + A + D))
+    (record { asid = refl; page = record { from = omega arith; to = omega arith }; ppn = refl; flags = refl })
+    (inr (1, refl, refl)) (record { from = omega arith; to = omega arith }) 0x80001 refl (gone_after_flush)
+
+gone_after_refusals : ¬ IsMapped two_harts (history_of staleness.refused_changes) 0x80001 (mapping (Some 1) 0x400 0x200 (R + W + U + A + D))
+unfolding kind_of wish_fault path_end edit_of
+gone_after_refusals m =
+    not_mapped (words_of two_harts (history_of staleness.refused_changes)) 0x80001 0x400000 0x200 access.Load user (flags (R + W + U + A + D)) m.0
+    (inl (omega arith)) refl refl m.1
+
+pub refused_changes : CoherentForbids two_harts (history_of staleness.refused_changes) 5 1 (entry 1 (large_page 0x400000) 0x200)
+refused_changes =
+    coherent_forbids two_harts (history_of staleness.refused_changes) 5 1 (Unmapped (Space 0) (large_page 0x400000)) (Space 0) (large_page 0x400000) (inl refl)
+    (record { order = _; is = refl; same_cause = refl; named = refl; acked = refl }) refl (entry 1 (large_page 0x400000) 0x200)
+    (mapping (Some 1) 0x400 0x200 (R + W + U + A + D))
+    (record { asid = refl; page = record { from = omega arith; to = omega arith }; ppn = refl; flags = refl })
+    (inr (1, refl, refl)) (record { from = omega arith; to = omega arith }) 0x80001 refl (gone_after_refusals)
+
+-- nor does a change of the same page of another space
+gone_in_space_0 : ¬ IsMapped shootdowns.spaces_of_one_home (history_of staleness.same_page_of_another_space) 0x80001 (mapping (Some 1) 1 0x100 (R + U + A + D))
+unfolding kind_of wish_fault path_end edit_of
+gone_in_space_0 m =
+    not_mapped (words_of shootdowns.spaces_of_one_home (history_of staleness.same_page_of_another_space)) 0x80001 0x1000 0x100 access.Load user (flags (R + U + A + D)) m.0
+    (inl (omega arith)) refl refl m.1
+
+pub other_space : CoherentForbids shootdowns.spaces_of_one_home (history_of staleness.same_page_of_another_space) 15 1 (read_only_entry 1 (small_page 0x1000) 0x100)
+other_space =
+    coherent_forbids shootdowns.spaces_of_one_home (history_of staleness.same_page_of_another_space) 15 1 (Unmapped (Space 0) (small_page 0x1000)) (Space 0) (small_page 0x1000) (inl refl)
+    (record { order = _; is = refl; same_cause = refl; named = refl; acked = refl }) refl (read_only_entry 1 (small_page 0x1000) 0x100)
+    (mapping (Some 1) 1 0x100 (R + U + A + D))
+    (record { asid = refl; page = record { from = omega arith; to = omega arith }; ppn = refl; flags = refl })
+    (inr (1, refl, refl)) (record { from = omega arith; to = omega arith }) 0x80001 refl gone_in_space_0
+
 -- where Coherent says nothing
 pub unacknowledged : CoherentAllowsAll two_harts (history_of shootdowns.read_only_until_service) 5 1
 unacknowledged = unacked_coherent two_harts (history_of shootdowns.read_only_until_service) 5 1 refl

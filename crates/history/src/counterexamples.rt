@@ -34,11 +34,13 @@ pub fn each_acknowledged_hart_holds_none()
     ensures ticket_used_again { ClearForbids two_harts (history_of shootdowns.ticket_used_again) 5 1 (entry 1 (large_page 0x400000) 0x200) }
 {}
 
-/// It lasts until a leaf is mapped there: neither a pointer to a new table nor the same page of another space ends it.
-#[tactic(auto, using(crate::proofs::ClearFacts::pointer_stored, crate::proofs::ClearFacts::other_space))]
+/// It lasts until a leaf is mapped there: neither a pointer to a new table, nor the same page of another space, nor what is
+/// refused ends it.
+#[tactic(auto, using(crate::proofs::ClearFacts::pointer_stored, crate::proofs::ClearFacts::other_space, crate::proofs::ClearFacts::refused_changes))]
 pub fn no_entry_is_held_until_a_leaf_is_mapped()
     ensures pointer { ClearForbids two_harts (history_of staleness.pointer_stored) 5 1 (entry 1 (large_page 0x400000) 0x200) }
     ensures other_space { ClearForbids shootdowns.spaces_of_one_home (history_of staleness.same_page_of_another_space) 15 1 (entry 1 (small_page 0x1000) 0x100) }
+    ensures refused { ClearForbids two_harts (history_of staleness.refused_changes) 5 1 (entry 1 (large_page 0x400000) 0x200) }
 {}
 
 /// Of a kernel page that is unmapped, an acknowledged hart holds no entry: neither a global one, nor one of any ASID.
@@ -90,6 +92,21 @@ pub fn acknowledged_hart_holds_only_what_is_mapped()
     ensures global { CoherentForbids two_harts (history_of shootdowns.superpage_shootdown) 5 1 (global_entry (large_page 0x400000) 0x200) }
     ensures sender { CoherentForbids two_harts (history_of shootdowns.superpage_shootdown) 5 0 (entry 1 (large_page 0x400000) 0x200) }
     ensures kernel_page { (asid : ℕ) → CoherentForbids kernel.spaces_of_two_homes (history_of kernel.kernel_page_until_acknowledged) 10 1 (entry asid (small_page 0xffffffffc0000000) 0x300) }
+{}
+
+/// The same of a small page of a page of 2 MiB that lost W.
+#[tactic(auto, using(crate::proofs::CoherentFacts::last_part))]
+pub fn acknowledged_hart_holds_no_part_with_old_flags()
+    ensures { CoherentForbids two_harts (history_of shootdowns.read_only_until_acknowledged) 5 1 (entry 1 (small_page 0x5ff000) 0x3ff) }
+{}
+
+/// It lasts until the page is unmapped or changed once more: neither a flush, nor what is refused, nor the same page of another
+/// space ends it.
+#[tactic(auto, using(crate::proofs::CoherentFacts::flushed, crate::proofs::CoherentFacts::refused_changes, crate::proofs::CoherentFacts::other_space))]
+pub fn only_what_is_mapped_is_held_until_a_change()
+    ensures flushed { CoherentForbids two_harts (history_of shootdowns.ticket_used_again) 5 1 (entry 1 (large_page 0x400000) 0x200) }
+    ensures refused { CoherentForbids two_harts (history_of staleness.refused_changes) 5 1 (entry 1 (large_page 0x400000) 0x200) }
+    ensures other_space { CoherentForbids shootdowns.spaces_of_one_home (history_of staleness.same_page_of_another_space) 15 1 (read_only_entry 1 (small_page 0x1000) 0x100) }
 {}
 
 /// Coherent says nothing of a hart that has not acknowledged the change, of one that it does not name, and of a page that was
