@@ -3,9 +3,9 @@ pub mod Occurred
 pub mod OpenOrders
 pub mod Passing
 pub mod Mailboxes
-mod RunsAreLawful
-mod ShootdownRows
-mod KernelRows
+pub mod RunsAreLawful
+pub mod ShootdownRows
+pub mod KernelRows
 mod MailboxRows
 mod EditRows
 mod SuperpageEntries
@@ -21,3 +21,4 @@ mod ClearFacts
 mod CoherentFacts
 mod MailboxFacts
 mod StillTranslated
+mod SetupFacts

@@ -3,7 +3,7 @@ use Rattle.std.proofs.Common.{refl}
 use Rattle.pte.specs.Entry.{kind_of}
 use Rattle.spaces.specs.Edits.{wish_fault, path_end, edit_of}
 use Rattle.shoot.specs.HartSet.{byte_of, difference}
-use Rattle.history.specs.WorkedRuns.{IsRun, one_hart, two_harts}
+use Rattle.history.specs.WorkedRuns.{IsRun, one_hart, two_harts, three_harts}
 use Rattle.history.specs.MailboxRuns as run
 
 pub bound_order_and_close : IsRun run.mailboxes_of_two run.bound_order_and_close
@@ -21,3 +21,7 @@ tickets_run_out = refl
 pub refused_posts : IsRun run.mailboxes_of_two run.refused_posts
 unfolding IsRun byte_of difference
 refused_posts = refl
+
+pub two_senders : IsRun three_harts run.two_senders
+unfolding IsRun byte_of difference
+two_senders = refl

@@ -1,13 +1,13 @@
 -- Worked runs of mailboxes and tickets: the bound and the order of a mailbox, its close, and the numbers of the tickets.
 use Rattle.std.specs.Prelude.{ℕ, zero, suc, ◌+◌, List, [], ◌∷◌, ◌++◌}
-use Rattle.pte.specs.declared.address.What.TheVariants.{All}
+use Rattle.pte.specs.declared.address.What.TheVariants.{SpaceOf, All}
 use Rattle.spaces.specs.declared.places.Place.TheVariants.{Space}
 use Rattle.history.specs.declared.event.Event.TheVariants.{Unmap, Flush, Post, Take, ServeFence, Ack, AckSelf, Collect, Finish, Close}
 use Rattle.history.specs.declared.event.Scope.TheVariants as scope
 use Rattle.history.specs.declared.refusal.Refusal.TheVariants.{NotMapped, HomeNotNamed, NoTicket, NotOpen, NotNamed, AlreadyPosted, Closed, Full, Empty, Serving, NotFenced, NotDone}
 use Rattle.history.specs.declared.reply.Reply.TheVariants.{Opened, Ok, Done, Waiting}
 use Rattle.history.specs.Setup.{Setup}
-use Rattle.history.specs.WorkedRuns.{Step, one_space, small_page, hart_0, hart_1, refused, taken}
+use Rattle.history.specs.WorkedRuns.{Step, one_space, small_page, hart_0, hart_1, hart_2, refused, taken}
 
 -- two harts whose mailboxes hold 2 requests
 abbrev pub mailboxes_of_two : Setup
@@ -67,6 +67,29 @@ close_in_mid_shootdown =
     ∷ (AckSelf 0 1, Waiting hart_1)
     ∷ (Finish 0 1, refused NotDone)
     ∷ (Take 1 0, refused Empty)
+    ∷ []
+
+-- harts 1 and 2 ask hart 0: each pair has a mailbox of its own, and a service is of the mailbox that it was taken from
+abbrev pub two_senders : List Step
+two_senders =
+    (Flush 1 scope.All (hart_0 + hart_1), Opened 0)
+    ∷ (Flush 2 scope.All (hart_0 + hart_2), Opened 0)
+    ∷ (Flush 2 (scope.Space 0) (hart_0 + hart_2), Opened 1)
+    ∷ (Post 1 0 0, Ok)
+    ∷ (Post 2 1 0, Ok)
+    ∷ (Post 2 0 0, Ok)
+    ∷ (Take 0 2, taken 1 (SpaceOf 1))
+    ∷ (ServeFence 0, Ok)
+    ∷ (Ack 0, Ok)
+    ∷ (Collect 1 0 0, Waiting (hart_0 + hart_1))
+    ∷ (Collect 2 0 0, Waiting (hart_0 + hart_2))
+    ∷ (Collect 2 1 0, Waiting hart_2)
+    ∷ (Close 2 0, Ok)
+    ∷ (Take 0 1, taken 0 All)
+    ∷ (ServeFence 0, Ok)
+    ∷ (Ack 0, Ok)
+    ∷ (Take 0 1, refused Empty)
+    ∷ (Take 0 2, taken 0 All)
     ∷ []
 
 -- Post asks in this order: whether the order names the hart, whether it was posted, whether the mailbox is closed, whether it

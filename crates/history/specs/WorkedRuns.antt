@@ -8,6 +8,7 @@ use Rattle.pte.specs.declared.flags.PteFlags.{PteFlags}
 use Rattle.pte.specs.declared.permission.Mode.TheVariants.{User, Super}
 use Rattle.pte.specs.declared.permission.Ctx.{Ctx}
 use Rattle.walk.specs.declared.found_or_trap.Why.{Why}
+use Rattle.spaces.specs.declared.configuration.Config.{Config}
 use Rattle.spaces.specs.Layout.{Layout}
 use Rattle.history.specs.declared.event.Event.{Event}
 use Rattle.history.specs.declared.refusal.Refusal.{Refusal}
@@ -60,6 +61,15 @@ two_harts = with_spares 2 (8 ∷ 8 ∷ [])
 
 abbrev pub three_harts : Setup
 three_harts = with_spares 3 (8 ∷ 8 ∷ 8 ∷ [])
+
+-- the numbers of a configuration that gives three harts
+pub record IsOfThreeHarts (c : Config) : Type 0 where
+  pub harts : c.harts ≡ 3
+  pub capacity : c.capacity ≡ 4
+  pub spaces : c.spaces.items ≡ record { home = 0; asid = 1 } ∷ []
+  pub window : c.window ≡ 1
+  pub base : c.base ≡ 0x80000
+  pub spares : c.spares.items ≡ 8 ∷ 8 ∷ 8 ∷ []
 
 -- two harts and two spaces, with these homes and ASIDs: the roots are frames 0x80001 and 0x80002, the first spare is 0x80003
 abbrev pub two_spaces : List ℕ → List ℕ → Setup

@@ -5,10 +5,11 @@ ghost use Rattle.std.specs.Prelude.{ℕ, List, ◌≡◌, ◌<◌, ◌+◌, ◌*
 ghost use Rattle.pte.specs.declared.address.PageSize.TheVariants.{Kib4, Mib2};
 ghost use Rattle.pte.specs.Address.{Holds, bytes_of, pages_of};
 ghost use Rattle.tlb.specs.Mappings.{IsMappedBy, Translates};
-ghost use Rattle.history.specs.Setup.{Setup};
+ghost use Rattle.spaces.specs.declared.configuration.Config.{Config};
+ghost use Rattle.history.specs.Setup.{Setup, setup_of};
 ghost use Rattle.history.specs.Due.{Lawful};
 ghost use Rattle.history.specs.Harts.{entries_of};
-ghost use Rattle.history.specs.WorkedRuns.{IsEachDueAfter, IsRun, Step, history_of, large_page, one_hart, three_harts, two_harts};
+ghost use Rattle.history.specs.WorkedRuns.{IsEachDueAfter, IsOfThreeHarts, IsRun, Step, history_of, large_page, one_hart, three_harts, two_harts};
 ghost use Rattle.history.specs.ShootdownRuns as shootdowns;
 ghost use Rattle.history.specs.StalenessRuns as staleness;
 ghost use Rattle.history.specs.KernelRuns as kernel;
@@ -16,6 +17,12 @@ ghost use Rattle.history.specs.HartRuns as harts;
 ghost use Rattle.history.specs.MailboxRuns as mailboxes;
 ghost use Rattle.history.specs.EditRuns as edits;
 ghost use Rattle.history.specs.RefusalRuns as refusals;
+
+/// The setup of the worked runs of three harts is that of a configuration with these numbers.
+#[tactic(auto, using(crate::proofs::SetupFacts::three_harts_are_configured))]
+pub fn three_harts_are_configured()
+    ensures { (c : Config) → IsOfThreeHarts c → setup_of c ≡ three_harts }
+{}
 
 /// The steps of a worked run make a lawful history.
 #[tactic(auto, using(crate::proofs::RunsAreLawful::lawful_run))]
@@ -117,6 +124,12 @@ pub fn kernel_page_outlives_a_space_request()
 #[tactic(auto, using(crate::proofs::MailboxRows::bound_order_and_close))]
 pub fn bound_order_and_close()
     ensures { IsRun mailboxes.mailboxes_of_two mailboxes.bound_order_and_close }
+{}
+
+/// Two harts ask a third: each pair has a mailbox of its own.
+#[tactic(auto, using(crate::proofs::MailboxRows::two_senders))]
+pub fn two_senders()
+    ensures { IsRun three_harts mailboxes.two_senders }
 {}
 
 /// Post asks whether the order names the hart, then whether it was posted, whether the mailbox is closed, whether it is full.

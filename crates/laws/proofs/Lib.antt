@@ -19,3 +19,4 @@ pub mod Halves
 pub mod Changing
 pub mod MapsKept
 pub mod Setups
+mod PremisesMet

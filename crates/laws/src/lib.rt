@@ -2,6 +2,7 @@
 #![tactic(auto)]
 
 mod laws;
+pub mod premises;
 
 pub use laws::{
     acknowledged_hart_holds_only_what_it_filled_since, acknowledged_was_posted,

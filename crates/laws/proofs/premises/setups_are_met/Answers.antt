@@ -1,0 +1,8 @@
+use Rattle.laws.proofs.PremisesMet.{one_space, two_spaces}
+use Rattle.laws.proofs.premises.setups_are_met.Goals as goal
+
+pub returns-clause-one_space : goal.returns-clause-one_space
+returns-clause-one_space c = one_space
+
+pub returns-clause-two_spaces : goal.returns-clause-two_spaces
+returns-clause-two_spaces c = two_spaces

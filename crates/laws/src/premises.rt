@@ -1,0 +1,42 @@
+//! The premises of the laws can be met, by the worked runs of crate `history`: so the laws say something.
+
+ghost use Rattle.std.specs.Prelude.{◌≡◌, false};
+ghost use Rattle.spaces.specs.declared.places.Place.TheVariants.{Kernel, Space};
+ghost use Rattle.history.specs.Due.{Lawful};
+ghost use Rattle.history.specs.Orders.{Protected, Unmapped};
+ghost use Rattle.history.specs.Staleness.{HasAnswered, is_mapped_anew, is_superseded};
+ghost use Rattle.history.specs.WorkedRuns.{history_of, large_page, small_page, two_harts};
+ghost use Rattle.history.specs.KernelRuns as kernel;
+ghost use Rattle.history.specs.ShootdownRuns as shootdowns;
+ghost use Rattle.laws.specs.Kept.{HavePages, IsSetup};
+
+/// The harts of the worked runs make setups: two harts in one space, and two spaces at home on two harts.
+pub fn setups_are_met()
+    ensures one_space { IsSetup two_harts }
+    ensures two_spaces { IsSetup kernel.spaces_of_two_homes }
+{}
+
+/// What Clear asks of a history is met by a shootdown of a page of 2 MiB: it is lawful, its events speak of pages, and hart 1
+/// has answered the unmapping, which stands at place 5 and is not followed by a Map.
+pub fn premises_of_clear_are_met()
+    ensures lawful { Lawful two_harts (history_of shootdowns.superpage_shootdown) }
+    ensures pages { HavePages (history_of shootdowns.superpage_shootdown) }
+    ensures answered { HasAnswered two_harts (history_of shootdowns.superpage_shootdown) 5 1 (Unmapped (Space 0) (large_page 0x400000)) }
+    ensures not_anew { is_mapped_anew two_harts (history_of shootdowns.superpage_shootdown) 5 ≡ false }
+{}
+
+/// The same of a kernel page, at place 10.
+pub fn premises_of_clear_are_met_by_a_kernel_page()
+    ensures lawful { Lawful kernel.spaces_of_two_homes (history_of kernel.kernel_page_outlives_an_asid_fence) }
+    ensures pages { HavePages (history_of kernel.kernel_page_outlives_an_asid_fence) }
+    ensures answered { HasAnswered kernel.spaces_of_two_homes (history_of kernel.kernel_page_outlives_an_asid_fence) 10 1 (Unmapped Kernel (small_page 0xffffffffc0000000)) }
+    ensures not_anew { is_mapped_anew kernel.spaces_of_two_homes (history_of kernel.kernel_page_outlives_an_asid_fence) 10 ≡ false }
+{}
+
+/// What Coherent asks is met by a page of 2 MiB that loses W.
+pub fn premises_of_coherent_are_met()
+    ensures lawful { Lawful two_harts (history_of shootdowns.superpage_made_read_only) }
+    ensures pages { HavePages (history_of shootdowns.superpage_made_read_only) }
+    ensures answered { HasAnswered two_harts (history_of shootdowns.superpage_made_read_only) 5 1 (Protected (Space 0) (large_page 0x400000)) }
+    ensures not_superseded { is_superseded two_harts (history_of shootdowns.superpage_made_read_only) 5 ≡ false }
+{}
