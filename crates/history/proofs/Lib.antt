@@ -22,3 +22,5 @@ mod CoherentFacts
 mod MailboxFacts
 mod StillTranslated
 mod SetupFacts
+mod LeastFree
+mod Lawfully

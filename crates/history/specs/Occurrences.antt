@@ -1,6 +1,6 @@
 -- When something happened: facts about one turn of a history and the turns before it, in plain words. The laws of
 -- src/occurrences.rt say that what a history leaves is read off such turns.
-use Rattle.std.specs.Prelude.{ℕ, suc, ◌-◌, ◌<◌, ◌≡◌, ◌⊎◌, Bool, true, false, ◌==◌, ◌&&◌, ◌∷◌, ◌++◌, length, slice_get, Some, Ok}
+use Rattle.std.specs.Prelude.{ℕ, suc, ◌-◌, ◌<◌, ◌≡◌, ◌⊎◌, Bool, true, false, ◌==◌, ◌&&◌, ◌∷◌, ◌++◌, length, slice_get, Some, None, Ok}
 use Rattle.pte.specs.Address.{Span, top_level}
 use Rattle.pte.specs.declared.flags.PteFlags.{PteFlags}
 use Rattle.walk.specs.declared.found_or_trap.Trap.{Trap}
@@ -10,6 +10,7 @@ use Rattle.spaces.specs.declared.wishes.Wish.{Wish}
 use Rattle.spaces.specs.declared.wishes.Wish.TheVariants as wish
 use Rattle.spaces.specs.Edits.{Store}
 use Rattle.shoot.specs.Request.{Message}
+use Rattle.shoot.specs.declared.TheConstants.{MAX_TICKETS}
 use Rattle.tlb.specs.Service.{overlaps}
 use Rattle.history.specs.Setup.{Setup}
 use Rattle.history.specs.declared.event.Event.{Event}
@@ -23,6 +24,7 @@ use Rattle.history.specs.Service.{served}
 use Rattle.history.specs.Tables.{words_of, used_spares, edit_due}
 use Rattle.history.specs.Harts.{Walking}
 use Rattle.history.specs.Acknowledgements.{is_acked, count_where}
+use Rattle.history.specs.Due.{due}
 use Rattle.history.specs.Staleness.{IsChange}
 
 -- at some turn of the history P held, of that turn and the turns before it
@@ -289,3 +291,13 @@ is_map_by h _ = false
 
 abbrev pub is_new_table : ℕ → Turn → Bool
 is_new_table hart turn = is_table turn.reply && is_map_by hart turn.event
+
+-- the number is the least of the hart's tickets that is not open
+pub record IsLeastFree (H : History) (hart ticket : ℕ) : Type 0 where
+  pub below : ticket < MAX_TICKETS
+  pub free : open_order H hart ticket ≡ None
+  pub least : (n : ℕ) → n < ticket → ¬ (open_order H hart n ≡ None)
+
+-- the reply of each turn was due after the turns before it
+abbrev pub EachIsDue : Setup → History → Type 0
+EachIsDue C H = (later : History) (turn : Turn) (earlier : History) → H ≡ later ++ turn ∷ earlier → turn.reply ≡ due C earlier turn.event

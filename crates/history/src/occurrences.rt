@@ -1,7 +1,7 @@
 //! Laws of the definitions: what a history leaves is read off its turns. Each function does nothing, and its contract is
 //! the law.
 
-ghost use Rattle.std.specs.Prelude.{ℕ, true, ◌≡◌, ◌↔◌, Result, Some, slice_get};
+ghost use Rattle.std.specs.Prelude.{ℕ, true, ◌<◌, None, ◌≡◌, ◌↔◌, Result, Some, slice_get};
 ghost use Rattle.pte.specs.Address.{IsCanonical};
 ghost use Rattle.walk.specs.declared.found_or_trap.Found.{Found};
 ghost use Rattle.walk.specs.declared.found_or_trap.Trap.{Trap};
@@ -9,9 +9,10 @@ ghost use Rattle.walk.specs.Outcome.{Outcome};
 ghost use Rattle.spaces.specs.Layout.{root_ppn};
 ghost use Rattle.spaces.specs.Opening.{opening};
 ghost use Rattle.shoot.specs.Request.{Message};
+ghost use Rattle.shoot.specs.declared.TheConstants.{MAX_TICKETS};
 ghost use Rattle.history.specs.Setup.{Setup};
 ghost use Rattle.history.specs.Turns.{History};
-ghost use Rattle.history.specs.Due.{Lawful, goes_on};
+ghost use Rattle.history.specs.Due.{Lawful, goes_on, least_free};
 ghost use Rattle.history.specs.Orders.{Order, open_order, order_at};
 ghost use Rattle.history.specs.Acknowledgements.{count_where, is_acked, is_collected, is_posted};
 ghost use Rattle.history.specs.Mailboxes.{Mailboxes, NoneAfterClose, Sent, accepted, is_closed, posts, taken};
@@ -19,7 +20,7 @@ ghost use Rattle.history.specs.Service.{has_fenced, served};
 ghost use Rattle.history.specs.Staleness.{is_mapped_anew, is_superseded};
 ghost use Rattle.history.specs.Tables.{used_spares, words_of};
 ghost use Rattle.history.specs.Harts.{Walking, outcome_of, space_of, walk_of};
-ghost use Rattle.history.specs.Occurrences.{Acknowledges, Collects, IsClose, IsInWalk, IsMapOver, IsNthPost, IsNthTake, IsPost, IsPostAfterClose, IsServeFence, IsStore, IsSwitch, IsTake, LeadsOn, OpensAt, OpensOrder, OpensOrFinishes, Since, SinceOr, Sometime, Stores, Supersedes, Switches, TakesOrAcks, TakesPost, is_new_table};
+ghost use Rattle.history.specs.Occurrences.{Acknowledges, Collects, EachIsDue, IsClose, IsInWalk, IsLeastFree, IsMapOver, IsNthPost, IsNthTake, IsPost, IsPostAfterClose, IsServeFence, IsStore, IsSwitch, IsTake, LeadsOn, OpensAt, OpensOrder, OpensOrFinishes, Since, SinceOr, Sometime, Stores, Supersedes, Switches, TakesOrAcks, TakesPost, is_new_table};
 
 /// An order is posted to a hart exactly if at some turn a Post to it was accepted of the ticket under which the order was
 /// open.
@@ -69,6 +70,19 @@ pub fn order_at_is_the_one_opened_there()
 /// sender's ticket, and no later turn opened the ticket or finished it.
 pub fn open_order_is_the_last_opened()
     ensures { (H : History) (sender ticket k : ℕ) → (open_order H sender ticket ≡ Some k) ↔ Since (OpensOrder sender ticket k) (OpensOrFinishes sender ticket) H }
+{}
+
+/// An opening takes the least number of the hart under which no order is open, and there is none exactly if each is open.
+#[tactic(auto, using(crate::proofs::LeastFree::none_is))]
+pub fn opening_takes_the_least_free_ticket()
+    ensures least { (H : History) (hart ticket : ℕ) → (least_free H hart MAX_TICKETS 0 ≡ Some ticket) ↔ IsLeastFree H hart ticket }
+    ensures none { (H : History) (hart : ℕ) → (least_free H hart MAX_TICKETS 0 ≡ None) ↔ ((n : ℕ) → n < MAX_TICKETS → ¬ (open_order H hart n ≡ None)) }
+{}
+
+/// A history is lawful exactly if the reply of each turn was due after the turns before it.
+#[tactic(auto, using(crate::proofs::Lawfully::each_is_due))]
+pub fn lawful_is_each_reply_due()
+    ensures { (C : Setup) (H : History) → Lawful C H ↔ EachIsDue C H }
 {}
 
 /// After a lawful history each mailbox has kept its order: what was accepted is what was taken, followed by what waits.
