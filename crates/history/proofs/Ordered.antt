@@ -37,8 +37,8 @@ none_more [] n y e = e
 none_more (x ∷ xs) zero y e = e
 none_more (x ∷ xs) (suc n) y e = none_more xs n y e
 
--- posts
-abbrev sent_as : Setup → History → ℕ → ℕ → ℕ → Sent
+-- what a Post of an open order sends
+abbrev pub sent_as : Setup → History → ℕ → ℕ → ℕ → Sent
 sent_as C H sender ticket order = record { sender = sender; order = order; request = record { ticket = ticket; what = what_of C H (Some order) } }
 
 module _ (C : Setup) (s h n : ℕ) (sent : Sent) where

@@ -162,7 +162,6 @@ post_found C H s t h r d z =
 pub record TakeFound (C : Setup) (H : History) (h s : ℕ) : Type 0 where
   pub apart : h ≡ s → ⊥
   pub unwalking : walk_of H h ≡ None
-  pub unserving : served C H h ≡ None
   pub first : Message
   pub rest : List Message
   pub waits : waiting C H s h ≡ first ∷ rest
@@ -181,7 +180,6 @@ take_found C H h s r d z =
     record {
       apart = (pair_parts C h s p.0).2;
       unwalking = none_since (walk_of H h) w.0;
-      unserving = none_since (served C H h) v.0;
       first = n.0;
       rest = n.1;
       waits = n.2;

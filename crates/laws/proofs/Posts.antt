@@ -19,6 +19,7 @@ use Rattle.history.specs.Service.{served_after, served}
 use Rattle.history.specs.Acknowledgements.{is_posted}
 use Rattle.history.specs.Due.{due, Lawful, names}
 pub use Rattle.history.proofs.Occurred.{order_is}
+use Rattle.history.proofs.Ordered.{sent_as}
 use Rattle.laws.specs.Orders.{IsOpenedBy}
 use Rattle.laws.specs.Posts.{IsAcceptedPost, waiting_posts, IsOfOther, AreOfDifferent}
 use Rattle.laws.proofs.Tools.{by_test, and3, All-slice_get}
@@ -49,13 +50,9 @@ post_stays C event r H s h l x p =
       posted = posted_stays event r H x.order h p.posted;
     }
 
--- what a Post of an open order sends
-abbrev pub post_of : Setup → History → ℕ → ℕ → ℕ → Sent
-post_of C H s t k = record { sender = s; order = k; request = record { ticket = t; what = what_asked (order_at C H k) } }
-
-pub sent_each : (C : Setup) (H : History) (P : Sent → Type 0) (s t : ℕ) (o : Option ℕ) → ((k : ℕ) → o ≡ Some k → P (post_of C H s t k)) → All P (sent_of C H s t o)
+pub sent_each : (C : Setup) (H : History) (P : Sent → Type 0) (s t : ℕ) (o : Option ℕ) → ((k : ℕ) → o ≡ Some k → P (sent_as C H s t k)) → All P (sent_of C H s t o)
 sent_each C H P s t None each = All-nil P
-sent_each C H P s t (Some k) each = All-cons P (post_of C H s t k) [] (each k refl) (All-nil P)
+sent_each C H P s t (Some k) each = All-cons P (sent_as C H s t k) [] (each k refl) (All-nil P)
 
 -- the new post
 new_post : (C : Setup) (H : History) (s t h : ℕ) (r : Reply) → Lawful C (turn_of (Post s t h) r ∷ H) → is_ok r ≡ true
@@ -146,7 +143,7 @@ new_distinct C H s t h r l z d None q = rw append-nil d
 new_distinct C H s t h r l z d (Some k) q =
     let f = post_found C H s t h r l.1 z in
     let same : f.order ≡ k = cc (f.is, q) in
-    distinct_push (posts C H s h) (post_of C H s t k) d
+    distinct_push (posts C H s h) (sent_as C H s t k) d
     (fresh_is_other C H s h k (rw (← same) f.fresh) (posts C H s h) (posts_known C H s h l.0))
 
 distinct_step : (C : Setup) (event : Event) (r : Reply) (H : History) (s h : ℕ) → Lawful C (turn_of event r ∷ H) → Distinct (posts C H s h)

@@ -22,10 +22,6 @@ pub none_by : {A : Type 0} (o : Option A) → is_none o ≡ true → o ≡ None
 none_by None e = refl
 none_by (Some x) e = absurd cc
 
-pub some_since : {A : Type 0} (o : Option A) → is_none o ≡ false → (x : A) × (o ≡ Some x)
-some_since None e = absurd cc
-some_since (Some x) e = (x, refl)
-
 -- lists
 pub All-slice_get : {A : Type 0} (P : A → Type 0) (xs : List A) (i : ℕ) (x : A) → All P xs → slice_get xs i ≡ Some x → P x
 All-slice_get P [] i x h e = absurd cc

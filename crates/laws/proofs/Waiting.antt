@@ -17,10 +17,11 @@ use Rattle.history.specs.Service.{served_after, served}
 use Rattle.history.specs.Acknowledgements.{is_posted}
 use Rattle.history.specs.Due.{due, Lawful, names}
 use Rattle.laws.specs.Posts.{IsAcceptedPost, waiting_posts, IsOfOther, StandsIn}
+use Rattle.history.proofs.Ordered.{sent_as}
 use Rattle.laws.proofs.Tools.{by_test, and3, or3, All-slice_get, drop_slice_get}
 use Rattle.laws.proofs.Accepted.{turn_of, post_found}
 use Rattle.laws.proofs.Orders.{order_stays, open_known, one_sender, open_below}
-use Rattle.laws.proofs.Posts.{order_is, post_of, sent_each, posts_known, served_post, Distinct, distinct, distinct_drop, taken_within, waiting_known}
+use Rattle.laws.proofs.Posts.{order_is, sent_each, posts_known, served_post, Distinct, distinct, distinct_drop, taken_within, waiting_known}
 
 -- the posts of two senders are of different orders
 sender_differs : (C : Setup) (H : History) (s a h b : ℕ) (x y : Sent) → IsAcceptedPost C H s h x → IsAcceptedPost C H a b y → (s ≡ a → ⊥) → IsOfOther x.order y
@@ -104,7 +105,7 @@ stands_left xs ys k i = record { post = i.post; member = Contains-append_left xs
 new_stands : (C : Setup) (H : History) (s t k : ℕ) (xs : List Sent) (o : Option ℕ) → o ≡ Some k → StandsIn (xs ++ sent_of C H s t o) k
 new_stands C H s t k xs None e = absurd cc
 new_stands C H s t k xs (Some j) e =
-    record { post = post_of C H s t j; member = Contains-push xs (post_of C H s t j); is = cc }
+    record { post = sent_as C H s t j; member = Contains-push xs (sent_as C H s t j); is = cc }
 
 stands_step : (C : Setup) (event : Event) (r : Reply) (H : History) (k h : ℕ) (order : Order) → Lawful C H → order_at C H k ≡ Some order
     → (is_posted H k h ≡ true → StandsIn (posts C H order.sender h) k)
