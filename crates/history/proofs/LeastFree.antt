@@ -51,16 +51,16 @@ module _ (H : History) (hart : ℕ) where
       by_test (λ v. is_none (open_order H hart from) ≡ v → cond v (Some from) (least_free H hart n (from + 1)) ≡ Some ticket → LeastFrom (suc n) from ticket)
       (is_none (open_order H hart from)) (λ _ free e. at_first n from ticket free cc)
       (λ _ busy e.
-          let rest = found n (from + 1) ticket e in
-          record {
-            first = omega (arith, rest.first);
-            below = omega (arith, rest.below);
-            free = rest.free;
-            least = λ m up down. elim (first_or_later from m up) [
-              | inl same ↦ subst (λ t. ¬ (open_order H hart t ≡ None)) same (not_free from busy)
-              | inr later ↦ rest.least m later down
-            ];
-          })
+      let rest = found n (from + 1) ticket e in
+      record {
+        first = omega (arith, rest.first);
+        below = omega (arith, rest.below);
+        free = rest.free;
+        least = λ m up down. elim (first_or_later from m up) [
+          | inl same ↦ subst (λ t. ¬ (open_order H hart t ≡ None)) same (not_free from busy)
+          | inr later ↦ rest.least m later down
+        ];
+      })
       refl e
 
   taken : (n from ticket : ℕ) → LeastFrom n from ticket → least_free H hart n from ≡ Some ticket
