@@ -1,7 +1,7 @@
 -- An edit that is due replaces a word that is no pointer: the tables stay that pointers lead to, and a walk in flight stays on its path.
-use Rattle.std.proofs.Common.{◌≡◌, ℕ, ◌<◌, true, cond, ◌||◌, not, length, Option, Some, None, refl, ap, sym, ◌∙◌, subst, inl, inr}
-use Rattle.std.specs.Prelude.{Result, Ok}
-use Rattle.std.proofs.lemmas.Bool.{not-false, ltb-true}
+use Rattle.std.proofs.Common.{◌≡◌, ℕ, ◌<◌, true, cond, ◌||◌, length, Option, Some, None, refl, ap, sym, ◌∙◌, subst, inl, inr}
+use Rattle.std.specs.Prelude.{Result}
+use Rattle.std.proofs.lemmas.Bool.{ltb-true}
 use Rattle.walk.specs.Leads.{Tables, PointsTo}
 use Rattle.walk.specs.Pointers.{pointed}
 use Rattle.walk.specs.Stage.{Stage}
@@ -22,7 +22,6 @@ use Rattle.spaces.proofs.Trees.{pointed-zero}
 use Rattle.history.specs.Setup.{Setup}
 use Rattle.history.specs.declared.event.Event.{Event}
 use Rattle.history.specs.declared.event.Event.TheVariants.{Map, Unmap, Protect}
-use Rattle.history.specs.declared.refusal.Refusal.TheVariants.{NoHart, NoSpace}
 use Rattle.history.specs.declared.reply.Reply.{Reply}
 use Rattle.history.specs.Turns.{History, is_table, is_leaf, is_opened}
 use Rattle.history.specs.Tables.{words_of, used_spares, with_store}
@@ -30,9 +29,9 @@ use Rattle.history.specs.Harts.{Walking}
 use Rattle.history.specs.Due.{is_place, edit_at, due, Lawful}
 use Rattle.history.specs.Runs.{with_turn}
 use Rattle.laws.specs.Kept.{HavePages, IsSetup}
-use Rattle.laws.proofs.Accepted.{passed, opened_accepted, edit_made}
+use Rattle.laws.proofs.Accepted.{EditFound, unmap_edit, protect_edit}
 use Rattle.laws.proofs.Tools.{by_test}
-use Rattle.laws.proofs.TreeKept.{tree, map_with, opened_some, stored_accepted}
+use Rattle.laws.proofs.TreeKept.{tree, map_edit, opened_some}
 use Rattle.stepcore.specs.Stands.{AreSameWalk}
 
 -- a walk stays what the history says where the pointers stay
@@ -52,12 +51,12 @@ module _ (C : Setup) (within : IsSetup C) where
   has_place Kernel e = tt
 
   -- the store that is due
-  edit_keeps : (H : History) (hart : ℕ) (w : Wish) (store : Store) → Lawful C H → HavePages H → is_place C (place_of w) ≡ true → edit_at C H hart w ≡ Ok store
-      → KeepsPointers (words_of C H) (with_store (words_of C H) (edit_at C H hart w))
-  edit_keeps H hart w store l has there is =
+  edit_keeps : (H : History) (hart : ℕ) (w : Wish) → EditFound C H hart w → Lawful C H → HavePages H → KeepsPointers (words_of C H) (with_store (words_of C H) (edit_at C H hart w))
+  edit_keeps H hart w e l has =
       let words = words_of C H in
+      let store = e.store in
       let acc = accepted C.layout within.layout words (used_spares H) (tree C within.layout within.homes H l has) (spare_after C.layout hart (used_spares H hart)) hart w store
-      (has_place (place_of w) there) is in
+      (has_place (place_of w) e.there) e.is in
       let was : pointed (Some acc.old) ≡ None = elim (leaf-or-pointer C.layout within.layout hart (used_spares H hart) _ acc.old w store.word acc.writes) [
         | inl leaf ↦ leaf.was
         | inr pointer ↦ ap (λ word. pointed (Some word)) pointer.was ∙ pointed-zero
@@ -65,35 +64,21 @@ module _ (C : Setup) (within : IsSetup C) where
       let none : (next : ℕ) → PointsTo (words store.ppn store.index) next → ⊥ = λ next point.
       let bad : None ≡ Some next = sym was ∙ ap pointed (sym acc.word) ∙ pointed-to (words store.ppn store.index) next point in cc in
       let keeps = pointers-kept words (stored words store.ppn store.index store.word) store.ppn store.index (stored_agrees words store.ppn store.index store.word) none in
-      subst (λ (answer : Result Store MapFault). KeepsPointers words (with_store words answer)) (sym is)
+      subst (λ (answer : Result Store MapFault). KeepsPointers words (with_store words answer)) (sym e.is)
       keeps
 
   -- and each event with its reply
   pub pointers_kept : (event : Event) (r : Reply) (H : History) → Lawful C H → HavePages H → r ≡ due C H event → KeepsPointers (words_of C H) (words_of C (with_turn event r H))
   pointers_kept (Map hart place page ppn flags) r H l has d =
       by_test (λ v. KeepsPointers (words_of C H) (cond v (with_store (words_of C H) (edit_at C H hart (wish.Map place page ppn flags))) (words_of C H))) (is_table r || is_leaf r)
-      (λ z. let a = stored_accepted r z in
-      let p = passed _ NoHart _ r (sym d) a in
-      let q = passed (not (is_place C place)) NoSpace _ r p.1 a in
-      let made = map_with (edit_at C H hart (wish.Map place page ppn flags)) r q.1 a in
-      edit_keeps H hart (wish.Map place page ppn flags) made.0 l has (not-false (is_place C place) q.0) made.1)
+      (λ z. edit_keeps H hart (wish.Map place page ppn flags) (map_edit C H hart place page ppn flags r d z).0 l has)
       (λ _. pointers_stay (words_of C H))
   pointers_kept (Unmap hart place page named) r H l has d =
       by_test (λ v. KeepsPointers (words_of C H) (cond v (with_store (words_of C H) (edit_at C H hart (wish.Unmap place page))) (words_of C H))) (is_opened r)
-      (λ z. let t = opened_some r z in
-      let a = opened_accepted r t.0 t.1 in
-      let p = passed _ NoHart _ r (sym d) a in
-      let q = passed (not (is_place C place)) NoSpace _ r p.1 a in
-      let made = edit_made (edit_at C H hart (wish.Unmap place page)) _ r t.0 q.1 t.1 in
-      edit_keeps H hart (wish.Unmap place page) made.0 l has (not-false (is_place C place) q.0) made.1)
+      (λ z. let t = opened_some r z in edit_keeps H hart (wish.Unmap place page) (unmap_edit C H hart place page named t.0 r d t.1) l has)
       (λ _. pointers_stay (words_of C H))
   pointers_kept (Protect hart place page flags named) r H l has d =
       by_test (λ v. KeepsPointers (words_of C H) (cond v (with_store (words_of C H) (edit_at C H hart (wish.Protect place page flags))) (words_of C H))) (is_opened r)
-      (λ z. let t = opened_some r z in
-      let a = opened_accepted r t.0 t.1 in
-      let p = passed _ NoHart _ r (sym d) a in
-      let q = passed (not (is_place C place)) NoSpace _ r p.1 a in
-      let made = edit_made (edit_at C H hart (wish.Protect place page flags)) _ r t.0 q.1 t.1 in
-      edit_keeps H hart (wish.Protect place page flags) made.0 l has (not-false (is_place C place) q.0) made.1)
+      (λ z. let t = opened_some r z in edit_keeps H hart (wish.Protect place page flags) (protect_edit C H hart place page flags named t.0 r d t.1) l has)
       (λ _. pointers_stay (words_of C H))
   pointers_kept event r H l has d = pointers_stay (words_of C H)
