@@ -13,7 +13,6 @@ mod shootdown;
 
 pub use history::{Event, Refusal, Reply, Scope};
 pub use machine::Machine;
-pub use serving::Serving;
 pub use shoot::Request;
 pub use spaces::{Config, OpenFault, Place, Space};
 
