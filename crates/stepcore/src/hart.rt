@@ -155,7 +155,7 @@ impl Hart {
     }
 
     /// Serves nothing more.
-    pub(crate) fn acknowledge(&mut self)
+    pub(crate) fn end_service(&mut self)
         ensures { self.new ≡ record self.old { serving = None } }
     {
         self.serving = None;

@@ -29,8 +29,8 @@ fn progress_reply(collected: Collected) -> Reply
     }
 }
 
-/// A hart acknowledges a ticket, if it is open and names the hart.
-fn acknowledge(tickets: &mut Tickets, ticket: u32, hart: u8)
+/// Marks a ticket as acknowledged by a hart, if it is open and names the hart.
+fn mark_acknowledged(tickets: &mut Tickets, ticket: u32, hart: u8)
     ensures { tickets.new ≡ acked_by tickets.old ticket hart }
 {
     if tickets.names(ticket, hart) {
@@ -75,7 +75,7 @@ impl Machine {
         ensures { self.new ≡ record self.old { harts = slice_set self.old.harts hart (record (hart_at self.old hart) { serving = None }) } }
     {
         let this = &mut self.harts[usize::from(hart)];
-        this.acknowledge();
+        this.end_service();
     }
 
     /// A hart acknowledges what it served, to the hart that posted it, if that hart is there.
@@ -84,7 +84,7 @@ impl Machine {
     {
         let sender = usize::from(serving.from);
         if sender < self.tickets.len() {
-            acknowledge(&mut self.tickets[sender], serving.request.ticket, hart);
+            mark_acknowledged(&mut self.tickets[sender], serving.request.ticket, hart);
         }
     }
 
@@ -244,7 +244,7 @@ impl Machine {
         ensures after { self.new ≡ record self.old { tickets = slice_set self.old.tickets hart (acked_by (tickets_at self.old hart) ticket hart) } }
     {
         let tickets = &mut self.tickets[usize::from(hart)];
-        acknowledge(tickets, ticket, hart);
+        mark_acknowledged(tickets, ticket, hart);
         tickets.progress(ticket)
     }
 
