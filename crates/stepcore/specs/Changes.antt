@@ -14,7 +14,7 @@ use Rattle.tlb.specs.Service.{served}
 use Rattle.shoot.specs.Mailbox.{MailboxState, can_release, after_post, after_take, after_release, after_close}
 use Rattle.shoot.specs.Tickets.{TicketTable, is_acked, is_collected, what_at, after_open, after_posted, after_collect, after_finish}
 use Rattle.history.specs.declared.event.Event.{Event}
-use Rattle.history.specs.declared.event.Event.TheVariants.{Begin, Load, Unmap, Protect, Flush, Switch, Fence, Post, Take, ServeFence, Ack, AckSelf, Collect, Finish, Close}
+use Rattle.history.specs.declared.event.Event.TheVariants.{Begin, Load, Map, Unmap, Protect, Flush, Switch, Fence, Post, Take, ServeFence, Ack, AckSelf, Collect, Finish, Close}
 use Rattle.history.specs.declared.reply.Reply.{Reply}
 use Rattle.history.specs.declared.reply.Reply.TheVariants as reply
 use Rattle.history.specs.Turns.{is_ok, is_more, is_opened, is_taken, is_progress}
@@ -47,6 +47,13 @@ abbrev pub with_served : Option Service → HartState → HartState
 with_served None hart = hart
 with_served (Some serving) hart =
     record hart { serving = Some (record { from = serving.from; request = serving.request; fenced = true }); entries = served hart.entries serving.request.what }
+
+-- the event asks for a store to the tables
+abbrev pub is_edit : Event → Bool
+is_edit (Map hart place page ppn flags) = true
+is_edit (Unmap hart place page named) = true
+is_edit (Protect hart place page flags named) = true
+is_edit _ = false
 
 -- the reply is no refusal
 abbrev pub is_accepted : Reply → Bool

@@ -1,29 +1,23 @@
 //! One event of one hart.
 
-ghost use Rattle.std.specs.Prelude.{◌≡◌, false};
+ghost use Rattle.std.specs.Prelude.{◌≡◌, false, IsTrue};
 ghost use Rattle.laws.specs.Kept.{HasPage};
 ghost use Rattle.stepcore.specs.Answers.{reply_to};
-ghost use Rattle.stepcore.specs.Changes.{Follows, is_accepted};
+ghost use Rattle.stepcore.specs.Changes.{Follows, is_accepted, is_edit};
 
 use crate::machine::Machine;
 use history::{Event, Reply};
 
 impl Machine {
-    /// What the event asks, done or refused.
-    pub(crate) fn do_event(&mut self, event: Event) -> Reply
+    /// What an event asks that edits the tables, done or refused.
+    fn do_edit(&mut self, event: Event) -> Reply
+        requires { IsTrue (is_edit event) }
         ensures reply { result ≡ reply_to self.old event }
         ensures follows { Follows self.old event result self.new }
         ensures refused { is_accepted result ≡ false → self.new ≡ self.old }
         ensures pages { HasPage event }
     {
         match event {
-            Event::Begin {
-                hart,
-                va,
-                access,
-                ctx,
-            } => self.begin(hart, va, access, ctx),
-            Event::Load { hart } => self.load(hart),
             Event::Map {
                 hart,
                 place,
@@ -44,6 +38,26 @@ impl Machine {
                 flags,
                 named,
             } => self.protect(hart, place, page, flags, named),
+            _ => unreachable!(),
+        }
+    }
+
+    /// What the event asks, done or refused.
+    pub(crate) fn do_event(&mut self, event: Event) -> Reply
+        ensures reply { result ≡ reply_to self.old event }
+        ensures follows { Follows self.old event result self.new }
+        ensures refused { is_accepted result ≡ false → self.new ≡ self.old }
+        ensures pages { HasPage event }
+    {
+        match event {
+            Event::Begin {
+                hart,
+                va,
+                access,
+                ctx,
+            } => self.begin(hart, va, access, ctx),
+            Event::Load { hart } => self.load(hart),
+            Event::Map { .. } | Event::Unmap { .. } | Event::Protect { .. } => self.do_edit(event),
             Event::Flush { hart, scope, named } => self.flush(hart, scope, named),
             Event::Switch { hart, space } => self.switch(hart, space),
             Event::Fence { hart, rs1, rs2 } => self.fence(hart, rs1, rs2),
