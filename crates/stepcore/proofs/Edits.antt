@@ -77,42 +77,42 @@ module _ (m new : State) (hart : ℕ) (others : new ≡ record m { memory = new.
     mailboxes = ap (λ (s : State). s.mailboxes) others;
   }
 
--- a store, and a ticket that is opened for its page
+-- a ticket that is opened for a page, and the store
 module _ (m mid new : State) (hart named t : ℕ) (place : Place) (page : Span) (what : What)
-    (others : mid ≡ record m { memory = mid.memory })
-    (opens : new ≡ record mid { tickets = slice_set mid.tickets hart (after_open (tickets_at mid hart) what named) })
+    (opens : mid ≡ record m { tickets = slice_set m.tickets hart (after_open (tickets_at m hart) what named) })
+    (others : new ≡ record mid { memory = new.memory })
     (asks : what ≡ page_request (setup_in m) place page) where
   tickets : new.tickets ≡ slice_set m.tickets hart (after_open (tickets_at m hart) (page_request (setup_in m) place page) named)
   tickets =
-      ap (λ (s : State). s.tickets) opens
-      ∙ (ap (λ (s : State). slice_set s.tickets hart (after_open (tickets_at s hart) what named)) others
+      ap (λ (s : State). s.tickets) others
+      ∙ (ap (λ (s : State). s.tickets) opens
       ∙ ap (λ (w : What). slice_set m.tickets hart (after_open (tickets_at m hart) w named)) asks)
 
-  pub unmap_follows : (store : Store) → IsStored m mid.memory hart (wish.Unmap place page) store → Follows m (Unmap hart place page named) (reply.Opened t) new
+  pub unmap_follows : (store : Store) → IsStored m new.memory hart (wish.Unmap place page) store → Follows m (Unmap hart place page named) (reply.Opened t) new
   unmap_follows store is =
-      let edit = accepted m mid.memory hart (wish.Unmap place page) store is in
+      let edit = accepted m new.memory hart (wish.Unmap place page) store is in
       record {
-        layout = ap (λ (s : State). s.memory.layout) opens ∙ is.layout;
-        asids = ap (λ (s : State). s.asids) opens ∙ ap (λ (s : State). s.asids) others;
-        words = λ p i. ap (λ (s : State). words_in s p i) opens ∙ words m mid.memory hart (wish.Unmap place page) store is p i;
-        used = λ h. ap (λ (s : State). used_in s h) opens
-            ∙ (is.used h ∙ used_same (used_in m) store hart h false edit.by (sym (removed_unpointed _ _ _ _ place page edit.writes)));
-        harts = ap (λ (s : State). s.harts) opens ∙ ap (λ (s : State). s.harts) others;
+        layout = is.layout;
+        asids = ap (λ (s : State). s.asids) others ∙ ap (λ (s : State). s.asids) opens;
+        words = λ p i. words m new.memory hart (wish.Unmap place page) store is p i;
+        used = λ h. is.used h
+            ∙ used_same (used_in m) store hart h false edit.by (sym (removed_unpointed _ _ _ _ place page edit.writes));
+        harts = ap (λ (s : State). s.harts) others ∙ ap (λ (s : State). s.harts) opens;
         tickets = tickets;
-        mailboxes = ap (λ (s : State). s.mailboxes) opens ∙ ap (λ (s : State). s.mailboxes) others;
+        mailboxes = ap (λ (s : State). s.mailboxes) others ∙ ap (λ (s : State). s.mailboxes) opens;
       }
 
-  pub protect_follows : (flags : PteFlags) (store : Store) → IsStored m mid.memory hart (wish.Protect place page flags) store
+  pub protect_follows : (flags : PteFlags) (store : Store) → IsStored m new.memory hart (wish.Protect place page flags) store
       → Follows m (Protect hart place page flags named) (reply.Opened t) new
   protect_follows flags store is =
-      let edit = accepted m mid.memory hart (wish.Protect place page flags) store is in
+      let edit = accepted m new.memory hart (wish.Protect place page flags) store is in
       record {
-        layout = ap (λ (s : State). s.memory.layout) opens ∙ is.layout;
-        asids = ap (λ (s : State). s.asids) opens ∙ ap (λ (s : State). s.asids) others;
-        words = λ p i. ap (λ (s : State). words_in s p i) opens ∙ words m mid.memory hart (wish.Protect place page flags) store is p i;
-        used = λ h. ap (λ (s : State). used_in s h) opens
-            ∙ (is.used h ∙ used_same (used_in m) store hart h false edit.by (sym (changed_unpointed _ _ _ place page flags _ edit.writes)));
-        harts = ap (λ (s : State). s.harts) opens ∙ ap (λ (s : State). s.harts) others;
+        layout = is.layout;
+        asids = ap (λ (s : State). s.asids) others ∙ ap (λ (s : State). s.asids) opens;
+        words = λ p i. words m new.memory hart (wish.Protect place page flags) store is p i;
+        used = λ h. is.used h
+            ∙ used_same (used_in m) store hart h false edit.by (sym (changed_unpointed _ _ _ place page flags _ edit.writes));
+        harts = ap (λ (s : State). s.harts) others ∙ ap (λ (s : State). s.harts) opens;
         tickets = tickets;
-        mailboxes = ap (λ (s : State). s.mailboxes) opens ∙ ap (λ (s : State). s.mailboxes) others;
+        mailboxes = ap (λ (s : State). s.mailboxes) others ∙ ap (λ (s : State). s.mailboxes) opens;
       }

@@ -1,6 +1,6 @@
 //! Edits of the tables, and the tickets that they open.
 
-ghost use Rattle.std.specs.Prelude.{◌≡◌, ◌<◌, false, true, length, IsTrue, IfOk, IfErr, slice_set, ℕ};
+ghost use Rattle.std.specs.Prelude.{◌≡◌, ◌<◌, false, true, length, IsTrue, IfOk, IfErr, OnOk, OnErr, slice_set, ℕ};
 ghost use Rattle.pte.specs.Address.{IsPage};
 ghost use Rattle.pte.specs.Entry.{kind_of};
 ghost use Rattle.spaces.specs.Applied.{used_by_all, words_after};
@@ -94,19 +94,6 @@ impl Machine {
         }
     }
 
-    /// What opening a ticket of the hart would be answered.
-    fn opening(&self, hart: u8, named: u8) -> Result<u32, Refusal>
-        requires { hart < length self.now.harts }
-        ensures opens { IfOk result (λ ticket. reply.Opened ticket ≡ open_in self.now hart named) }
-        ensures refuses { IfErr result (λ refusal. reply.Refused refusal ≡ open_in self.now hart named) }
-    {
-        match self.tickets(hart).would_open(named) {
-            Ok(ticket) => Ok(ticket),
-            Err(TicketFault::HomeNotNamed) => Err(Refusal::HomeNotNamed),
-            Err(TicketFault::NoTicket) => Err(Refusal::NoTicket),
-        }
-    }
-
     /// What the harts are asked to drop for a page.
     fn page_request(&self, place: Place, page: Page) -> What
         requires { HasPlace self.now.memory.layout place }
@@ -118,13 +105,20 @@ impl Machine {
         }
     }
 
-    /// Opens a ticket of the hart, which was told to be free.
-    fn open_ticket(&mut self, hart: u8, what: What, named: u8)
+    /// Opens a ticket of the hart. At a refusal nothing changes.
+    fn open_ticket(&mut self, hart: u8, what: What, named: u8) -> Result<u32, Refusal>
         requires { hart < length self.old.harts }
-        ensures { self.new ≡ record self.old { tickets = slice_set self.old.tickets hart (after_open (tickets_at self.old hart) what named) } }
+        ensures opens { IfOk result (λ ticket. reply.Opened ticket ≡ open_in self.old hart named) }
+        ensures refuses { IfErr result (λ refusal. reply.Refused refusal ≡ open_in self.old hart named) }
+        ensures after { OnOk result (self.new ≡ record self.old { tickets = slice_set self.old.tickets hart (after_open (tickets_at self.old hart) what named) }) }
+        ensures unchanged { OnErr result (self.new ≡ self.old) }
     {
         let tickets = &mut self.tickets[usize::from(hart)];
-        let _ = tickets.open(what, named);
+        match tickets.open(what, named) {
+            Ok(ticket) => Ok(ticket),
+            Err(TicketFault::HomeNotNamed) => Err(Refusal::HomeNotNamed),
+            Err(TicketFault::NoTicket) => Err(Refusal::NoTicket),
+        }
     }
 
     /// Stores 0 on the leaf of a page, and opens a ticket for the page.
@@ -145,14 +139,14 @@ impl Machine {
             Ok(edit) => edit,
             Err(fault) => return Reply::Refused(refusal(fault)),
         };
-        let ticket = match self.opening(hart, named) {
-            Ok(ticket) => ticket,
-            Err(refusal) => return Reply::Refused(refusal),
-        };
         let what = self.page_request(place, page);
-        self.store(edit);
-        self.open_ticket(hart, what, named);
-        Reply::Opened(ticket)
+        match self.open_ticket(hart, what, named) {
+            Ok(ticket) => {
+                self.store(edit);
+                Reply::Opened(ticket)
+            }
+            Err(refusal) => Reply::Refused(refusal),
+        }
     }
 
     /// Stores other flags on the leaf of a page, and opens a ticket for the page.
@@ -180,14 +174,14 @@ impl Machine {
             Ok(edit) => edit,
             Err(fault) => return Reply::Refused(refusal(fault)),
         };
-        let ticket = match self.opening(hart, named) {
-            Ok(ticket) => ticket,
-            Err(refusal) => return Reply::Refused(refusal),
-        };
         let what = self.page_request(place, page);
-        self.store(edit);
-        self.open_ticket(hart, what, named);
-        Reply::Opened(ticket)
+        match self.open_ticket(hart, what, named) {
+            Ok(ticket) => {
+                self.store(edit);
+                Reply::Opened(ticket)
+            }
+            Err(refusal) => Reply::Refused(refusal),
+        }
     }
 
     /// What the harts are asked to drop for a scope.
@@ -213,12 +207,10 @@ impl Machine {
         if !self.is_scope(scope) {
             return Reply::Refused(Refusal::NoSpace);
         }
-        let ticket = match self.opening(hart, named) {
-            Ok(ticket) => ticket,
-            Err(refusal) => return Reply::Refused(refusal),
-        };
         let what = self.scope_request(scope);
-        self.open_ticket(hart, what, named);
-        Reply::Opened(ticket)
+        match self.open_ticket(hart, what, named) {
+            Ok(ticket) => Reply::Opened(ticket),
+            Err(refusal) => Reply::Refused(refusal),
+        }
     }
 }

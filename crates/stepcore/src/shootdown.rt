@@ -1,14 +1,14 @@
 //! Shootdowns: requests that go from mailbox to mailbox, and the tickets that count the answers.
 
-ghost use Rattle.std.specs.Prelude.{◌≡◌, ◌<◌, ◌&&◌, false, true, length, IsTrue, IfOk, IfErr, slice_set, None};
-ghost use Rattle.shoot.specs.Mailbox.{can_release, after_post, after_take, after_release};
+ghost use Rattle.std.specs.Prelude.{◌≡◌, ◌<◌, ◌&&◌, false, true, length, IsTrue, IfOk, IfErr, OnOk, OnErr, IfSome, IfNone, slice_set, None};
+ghost use Rattle.shoot.specs.Mailbox.{can_release, post_fault, first_waiting, after_post, after_take, after_release};
 ghost use Rattle.shoot.specs.Tickets.{is_open, names, progress_at, after_posted, after_collect};
 ghost use Rattle.tlb.specs.Service.{served};
 ghost use Rattle.history.specs.Turns.{is_progress};
 ghost use Rattle.history.specs.declared.event.Event.TheVariants.{Post, Take, ServeFence, Ack, AckSelf, Collect, Finish, Close};
 ghost use Rattle.history.specs.declared.reply.Reply.TheVariants as reply;
 ghost use Rattle.stepcore.specs.State.{hart_at, tickets_at, mailbox_at, mailbox_index};
-ghost use Rattle.stepcore.specs.Answers.{reply_to, progress_reply, acked_by};
+ghost use Rattle.stepcore.specs.Answers.{reply_to, box_answer, next_answer, progress_reply, acked_by};
 ghost use Rattle.stepcore.specs.Changes.{Follows, is_accepted, is_collectable, put_mailbox, what_in};
 
 use crate::machine::{Machine, mailbox_index};
@@ -49,24 +49,33 @@ impl Machine {
         tickets.posted(ticket, to);
     }
 
-    /// Posts a request, where the mailbox takes it.
-    fn send(&mut self, sender: u8, receiver: u8, request: Request)
+    /// Posts a request, if the mailbox takes it. At a refusal nothing changes.
+    fn send(&mut self, sender: u8, receiver: u8, request: Request) -> Result<(), Refusal>
         requires sender { sender < length self.old.harts }
         requires receiver { receiver < length self.old.harts }
-        ensures { self.new ≡ record self.old { mailboxes = slice_set self.old.mailboxes (mailbox_index sender receiver) (after_post (mailbox_at self.old sender receiver) request) } }
+        ensures sent { OnOk result (box_answer (post_fault (mailbox_at self.old sender receiver)) ≡ reply.Ok) }
+        ensures refused { IfErr result (λ refusal. box_answer (post_fault (mailbox_at self.old sender receiver)) ≡ reply.Refused refusal) }
+        ensures after { OnOk result (self.new ≡ record self.old { mailboxes = slice_set self.old.mailboxes (mailbox_index sender receiver) (after_post (mailbox_at self.old sender receiver) request) }) }
+        ensures unchanged { OnErr result (self.new ≡ self.old) }
     {
         let mailbox = &mut self.mailboxes[mailbox_index(sender, receiver)];
-        let _ = mailbox.post(request);
+        match mailbox.post(request) {
+            Ok(()) => Ok(()),
+            Err((PostFault::Closed, _)) => Err(Refusal::Closed),
+            Err((PostFault::Full, _)) => Err(Refusal::Full),
+        }
     }
 
-    /// Takes the oldest request out of a mailbox.
-    fn drop_first(&mut self, sender: u8, receiver: u8)
+    /// Takes the oldest request out of a mailbox, if one waits.
+    fn receive(&mut self, sender: u8, receiver: u8) -> Option<Request>
         requires sender { sender < length self.old.harts }
         requires receiver { receiver < length self.old.harts }
-        ensures { self.new ≡ record self.old { mailboxes = slice_set self.old.mailboxes (mailbox_index sender receiver) (after_take (mailbox_at self.old sender receiver)) } }
+        ensures oldest { result ≡ first_waiting (mailbox_at self.old sender receiver) }
+        ensures after { IfSome result (λ request. self.new ≡ record self.old { mailboxes = slice_set self.old.mailboxes (mailbox_index sender receiver) (after_take (mailbox_at self.old sender receiver)) }) }
+        ensures unchanged { IfNone result (self.new ≡ self.old) }
     {
         let mailbox = &mut self.mailboxes[mailbox_index(sender, receiver)];
-        let _ = mailbox.take();
+        mailbox.take()
     }
 
     /// A hart serves nothing more.
@@ -99,9 +108,9 @@ impl Machine {
         mailbox.release();
     }
 
-    /// The request of an open ticket that may be posted to another hart.
+    /// The request of an open ticket for another hart, to whom it was not posted yet.
     fn request_to(&self, hart: u8, ticket: u32, to: u8) -> Result<Request, Refusal>
-        ensures reply { IfOk result (λ request. reply_to self.now (Post hart ticket to) ≡ reply.Ok) }
+        ensures reply { IfOk result (λ request. reply_to self.now (Post hart ticket to) ≡ box_answer (post_fault (mailbox_at self.now hart to))) }
         ensures hart { IfOk result (λ request. hart < length self.now.harts) }
         ensures to { IfOk result (λ request. to < length self.now.harts) }
         ensures names { IfOk result (λ request. IsTrue (names (tickets_at self.now hart) ticket to)) }
@@ -121,14 +130,10 @@ impl Machine {
         if tickets.is_posted(ticket, to) {
             return Err(Refusal::AlreadyPosted);
         }
-        match self.mailbox(hart, to).post_fault() {
-            None => Ok(Request {
-                ticket,
-                what: tickets.what(ticket),
-            }),
-            Some(PostFault::Closed) => Err(Refusal::Closed),
-            Some(PostFault::Full) => Err(Refusal::Full),
-        }
+        Ok(Request {
+            ticket,
+            what: tickets.what(ticket),
+        })
     }
 
     /// Puts the request of an open ticket into the mailbox to another hart.
@@ -137,21 +142,24 @@ impl Machine {
         ensures follows { Follows self.old (Post hart ticket to) result self.new }
         ensures refused { is_accepted result ≡ false → self.new ≡ self.old }
     {
-        match self.request_to(hart, ticket, to) {
-            Ok(request) => {
+        let request = match self.request_to(hart, ticket, to) {
+            Ok(request) => request,
+            Err(refusal) => return Reply::Refused(refusal),
+        };
+        match self.send(hart, to, request) {
+            Ok(()) => {
                 self.mark_posted(hart, ticket, to);
-                self.send(hart, to, request);
                 Reply::Ok
             }
             Err(refusal) => Reply::Refused(refusal),
         }
     }
 
-    /// The request that a hart may take out of the mailbox from another hart.
-    fn request_from(&self, hart: u8, from: u8) -> Result<Request, Refusal>
-        ensures reply { IfOk result (λ request. reply_to self.now (Take hart from) ≡ reply.Taken request) }
-        ensures hart { IfOk result (λ request. hart < length self.now.harts) }
-        ensures from { IfOk result (λ request. from < length self.now.harts) }
+    /// Whether a hart may take a request of another hart, if one waits.
+    fn may_take(&self, hart: u8, from: u8) -> Result<(), Refusal>
+        ensures reply { OnOk result (reply_to self.now (Take hart from) ≡ next_answer (first_waiting (mailbox_at self.now from hart))) }
+        ensures hart { OnOk result (hart < length self.now.harts) }
+        ensures from { OnOk result (from < length self.now.harts) }
         ensures refused { IfErr result (λ refusal. reply_to self.now (Take hart from) ≡ reply.Refused refusal) }
     {
         if !self.are_pair(hart, from) {
@@ -164,9 +172,7 @@ impl Machine {
         if this.is_serving() {
             return Err(Refusal::Serving);
         }
-        self.mailbox(from, hart)
-            .first_waiting()
-            .ok_or(Refusal::Empty)
+        Ok(())
     }
 
     /// Takes the oldest request out of the mailbox from another hart.
@@ -175,15 +181,15 @@ impl Machine {
         ensures follows { Follows self.old (Take hart from) result self.new }
         ensures refused { is_accepted result ≡ false → self.new ≡ self.old }
     {
-        match self.request_from(hart, from) {
-            Ok(request) => {
-                let this = &mut self.harts[usize::from(hart)];
-                this.take(from, request);
-                self.drop_first(from, hart);
-                Reply::Taken(request)
-            }
-            Err(refusal) => Reply::Refused(refusal),
+        if let Err(refusal) = self.may_take(hart, from) {
+            return Reply::Refused(refusal);
         }
+        let Some(request) = self.receive(from, hart) else {
+            return Reply::Refused(Refusal::Empty);
+        };
+        let this = &mut self.harts[usize::from(hart)];
+        this.take(from, request);
+        Reply::Taken(request)
     }
 
     /// Fences the hart's TLB as the request asks that it serves.
@@ -330,15 +336,13 @@ impl Machine {
         if !self.is_hart(hart) {
             return Reply::Refused(Refusal::NoHart);
         }
-        let tickets = self.tickets(hart);
-        if !tickets.is_open(ticket) {
+        if !self.tickets(hart).is_open(ticket) {
             return Reply::Refused(Refusal::NotOpen);
         }
-        if !tickets.is_done(ticket) {
+        let tickets = &mut self.tickets[usize::from(hart)];
+        if tickets.finish(ticket).is_err() {
             return Reply::Refused(Refusal::NotDone);
         }
-        let tickets = &mut self.tickets[usize::from(hart)];
-        let _ = tickets.finish(ticket);
         Reply::Ok
     }
 

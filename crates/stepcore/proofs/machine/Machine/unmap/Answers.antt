@@ -1,17 +1,20 @@
-use Rattle.std.proofs.Common.{rules}
+use Rattle.std.proofs.Common.{rules, ap, ◌∙◌}
+use Rattle.spaces.specs.Applied.{used_by_all, words_after}
+use Rattle.stepcore.specs.State.{State, words_in, used_in}
 use Rattle.stepcore.proofs.Edits.{unmap_follows}
 use Rattle.stepcore.proofs.machine.Machine.unmap.Goals as goal
 
-pub returns-clause-follows : goal.returns-clause-follows
-returns-clause-follows c =
-    unmap_follows c.args.self.now c.store.new.self c.open_ticket.new.self c.args.hart c.args.named c.in-Ok-opening.ticket c.args.place c.args.page _
-    c.store.ensures.others c.open_ticket.ensures c.page_request-what.ensures c.in-Ok.edit
+pub returns-in-Ok-open_ticket-clause-follows : goal.returns-in-Ok-open_ticket-clause-follows
+returns-in-Ok-open_ticket-clause-follows c =
+    let opens = c.in-Ok-open_ticket.ensures.after in
+    unmap_follows c.args.self.now c.open_ticket.new.self c.store.new.self c.args.hart c.args.named c.in-Ok-open_ticket.ticket c.args.place c.args.page _
+    opens c.store.ensures.others c.page_request-what.ensures c.in-Ok.edit
     (record {
       memory = c.is_place.ensures.memory;
       has = search rules;
       page = c.base-base.ensures.page;
       is = search rules;
-      layout = c.store.ensures.layout;
-      words = c.store.ensures.words;
-      used = c.store.ensures.used;
+      layout = c.store.ensures.layout ∙ ap (λ (s : State). s.memory.layout) opens;
+      words = λ ppn i. c.store.ensures.words ppn i ∙ ap (λ (s : State). words_after (words_in s) c.in-Ok.edit ppn i) opens;
+      used = λ h. c.store.ensures.used h ∙ ap (λ (s : State). used_by_all (used_in s) c.in-Ok.edit h) opens;
     })
