@@ -1,12 +1,12 @@
 -- The words of the steps of `run`: what the readers find is what the grammar says.
-use Rattle.std.proofs.Common.{◌≡◌, ◌⊎◌, ℕ, ◌-◌, ◌<◌, ◌^◌, ◌%◌, ◌==◌, ◌||◌, ◌&&◌, Bool, true, false, nat_lt, nat_le, bit_and, bit_or, cond, codes, List, [], ◌∷◌, ◌++◌, length, take, drop, Option, Some, None, option_and_then, option_map, Result, Ok, Err, refl, sym, ap, subst, ◌∙◌, inl, inr, arith, if◌then◌else◌, eqb}
+use Rattle.std.proofs.Common.{◌≡◌, ◌⊎◌, ℕ, ◌-◌, ◌<◌, ◌^◌, ◌%◌, ◌==◌, ◌||◌, ◌&&◌, Bool, true, false, nat_lt, nat_le, bit_and, bit_or, codes, List, [], ◌∷◌, ◌++◌, length, take, drop, Option, Some, None, option_and_then, option_map, Result, Ok, Err, refl, sym, ap, subst, ◌∙◌, inl, inr, arith, if◌then◌else◌, eqb}
 use Rattle.std.specs.Option.{option_or}
 use Rattle.std.specs.Str.{bytes_eq}
 use Rattle.std.proofs.lemmas.Bool.{and_parts, eqb-true}
-use Rattle.std.proofs.lemmas.Bool.Decides.{nat_tests}
+use Rattle.std.proofs.lemmas.Bool.Decides.{Decides-ltb, nat_tests}
 use Rattle.std.proofs.lemmas.Slice.Eq.{bytes_eq-Decides}
 use Rattle.std.proofs.lemmas.List.{take-append-drop}
-use Rattle.std.proofs.lemmas.Option.{same_Some}
+use Rattle.std.proofs.lemmas.Option.{cond_some, same_Some}
 use Rattle.pte.specs.Address.{address_bits, bytes_of, IsCanonical, IsPage, Span}
 use Rattle.pte.specs.declared.address.PageSize.{PageSize}
 use Rattle.pte.specs.declared.address.PageSize.TheVariants.{Kib4, Mib2, Gib1}
@@ -27,23 +27,19 @@ use Rattle.steps.proofs.GrammarLemmas.{num_of-writes, writes-num_of}
 -- ---- numbers below a limit
 
 pub lt_test : (a b : ℕ) → a < b → nat_lt a b ≡ true
-lt_test a b h = grind (arith, nat_tests)
+lt_test a b = (Decides-ltb a b).1
 
 pub lt_from_test : (a b : ℕ) → nat_lt a b ≡ true → a < b
-lt_from_test a b h = grind (arith, nat_tests)
+lt_from_test a b = (Decides-ltb a b).0
 
 pub below-writes : (limit : ℕ) (word : List ℕ) (n : ℕ) → WritesBelow limit word n → number_below limit word ≡ Some n
 below-writes limit word n h = rw (num_of-writes word n h.0, lt_test n limit h.1) refl
 
-kept : (limit m n : ℕ) (b : Bool) → nat_lt m limit ≡ b → cond b (Some m) None ≡ Some n → (m ≡ n) × (m < limit)
-kept limit m n true e h = (same_Some _ _ h, lt_from_test m limit e)
-kept limit m n false e h = cc
-
 below_from : (limit : ℕ) (word : List ℕ) (n : ℕ) (o : Option ℕ) → num_of word ≡ o → option_and_then (λ m. if nat_lt m limit then Some m else None) o ≡ Some n → WritesBelow limit word n
 below_from limit word n None e h = cc
 below_from limit word n (Some m) e h =
-    let k = kept limit m n (nat_lt m limit) refl h in
-    (writes-num_of word n (e ∙ ap Some k.0), subst (λ x. x < limit) k.0 k.1)
+    let kept = cond_some (nat_lt m limit) m n h in
+    (writes-num_of word n (e ∙ ap Some kept.1), subst (λ x. x < limit) kept.1 (lt_from_test m limit kept.0))
 
 pub writes-below : (limit : ℕ) (word : List ℕ) (n : ℕ) → number_below limit word ≡ Some n → WritesBelow limit word n
 writes-below limit word n h = below_from limit word n (num_of word) refl h

@@ -1,5 +1,5 @@
 -- The relations of `specs/Grammar.antt` are what the functions find.
-use Rattle.std.proofs.Common.{◌≡◌, ℕ, ◌^◌, ◌<◌, ◌≤◌, Bool, true, false, cond, nat_eq, List, [], ◌∷◌, ◌++◌, length, drop, codes, Option, Some, None, nat_le, subst, refl, sym, ◌∙◌, arith, inl, inr}
+use Rattle.std.proofs.Common.{◌≡◌, ℕ, ◌^◌, ◌<◌, ◌≤◌, Bool, true, false, cond, nat_eq, List, [], ◌∷◌, ◌++◌, length, drop, codes, Some, nat_le, subst, refl, sym, ◌∙◌, arith, inl, inr}
 use Rattle.std.specs.List.{starts_with}
 use Rattle.std.specs.Char.{digit_value}
 use Rattle.std.specs.Str.Parse.{IsNumeral, digits_value}
@@ -8,13 +8,10 @@ use Rattle.std.proofs.Math.Nat.{pow-le-pow_right}
 use Rattle.std.proofs.Math.Bool.{and-false}
 use Rattle.std.proofs.lemmas.Bool.{and_parts, eqb-true, false≢true}
 use Rattle.std.proofs.lemmas.Bool.Decides.{eqb_tells, nat_tests}
-use Rattle.std.proofs.lemmas.Option.{same_Some}
+use Rattle.std.proofs.lemmas.Option.{cond_some, same_Some}
 use Rattle.steps.specs.Num.{digits_of, is_number, num_of}
 use Rattle.steps.specs.Grammar.{WritesHex, WritesDecimal, WritesNumber}
-use Rattle.steps.proofs.NumLemmas.{number_from_test, number_test}
-
-digits_of-numeral : (radix longest : ℕ) (ds : List ℕ) → IsNumeral radix ds → length ds ≤ longest → digits_value radix ds < 2 ^ 64 → digits_of radix longest ds ≡ Some (digits_value radix ds)
-digits_of-numeral radix longest ds h short small = rw (number_test radix longest ds h short small)
+use Rattle.steps.proofs.NumLemmas.{digits_of-numeral, number_from_test}
 
 hex_small : (ds : List ℕ) → IsNumeral 16 ds → length ds ≤ 16 → digits_value 16 ds < 2 ^ 64
 hex_small ds h short =
@@ -51,10 +48,6 @@ le_from_test a b h = grind (arith, nat_tests)
 is_number_short : (radix longest : ℕ) (ds : List ℕ) → is_number radix longest ds ≡ true → length ds ≤ longest
 is_number_short radix longest ds h = le_from_test (length ds) longest (and_parts _ _ (and_parts _ _ h).0).1
 
-chosen : (b : Bool) (x n : ℕ) → cond {A = Option ℕ} b (Some x) None ≡ Some n → (b ≡ true) × (n ≡ x)
-chosen true x n h = (refl, same_Some _ _ (sym h))
-chosen false x n h = cc
-
 two_bytes : (a b : ℕ) (text : List ℕ) → 48 ≡ a → 120 ≡ b → a ∷ b ∷ text ≡ codes "0x" ++ text
 two_bytes a b text first second = cc
 
@@ -65,13 +58,13 @@ zero_x (a ∷ b ∷ text) h = two_bytes a b text (eqb-true 48 a (and_parts _ _ h
 
 by_prefix : (text : List ℕ) (n : ℕ) (b : Bool) → starts_with nat_eq text (codes "0x") ≡ b → cond b (digits_of 16 16 (drop 2 text)) (digits_of 10 20 text) ≡ Some n → WritesNumber text n
 by_prefix text n true is h =
-    let found = chosen (is_number 16 16 (drop 2 text)) _ n h in
+    let found = cond_some (is_number 16 16 (drop 2 text)) _ n h in
     let numeral = number_from_test 16 16 (drop 2 text) found.0 in
-    inl (record { digits = drop 2 text; text_is = zero_x text is; numeral = numeral.0; short = is_number_short 16 16 (drop 2 text) found.0; value = found.1 })
+    inl (record { digits = drop 2 text; text_is = zero_x text is; numeral = numeral.0; short = is_number_short 16 16 (drop 2 text) found.0; value = sym found.1 })
 by_prefix text n false is h =
-    let found = chosen (is_number 10 20 text) _ n h in
+    let found = cond_some (is_number 10 20 text) _ n h in
     let numeral = number_from_test 10 20 text found.0 in
-    inr (record { numeral = numeral.0; short = is_number_short 10 20 text found.0; small = numeral.1; value = found.1 })
+    inr (record { numeral = numeral.0; short = is_number_short 10 20 text found.0; small = numeral.1; value = sym found.1 })
 
 -- what is found is written so
 pub writes-num_of : (text : List ℕ) (n : ℕ) → num_of text ≡ Some n → WritesNumber text n

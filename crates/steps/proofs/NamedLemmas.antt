@@ -1,9 +1,8 @@
 -- Sets of harts in the steps of `run`: what the reader finds is what the grammar says.
-use Rattle.std.proofs.Common.{◌≡◌, ℕ, ◌<◌, ◌==◌, Bool, true, false, nat_lt, codes, List, [], ◌∷◌, ◌++◌, Option, Some, None, option_and_then, option_map, Ok, Err, refl, sym, ap, subst, ◌∙◌, inl, inr, arith, if◌then◌else◌}
+use Rattle.std.proofs.Common.{◌≡◌, ℕ, ◌==◌, Bool, true, false, nat_lt, codes, List, [], ◌∷◌, ◌++◌, Option, Some, None, option_map, Ok, Err, refl, sym, ap, subst, ◌∙◌, inl, inr, if◌then◌else◌}
 use Rattle.std.specs.List.{list_all}
 use Rattle.std.specs.Str.{bytes_eq}
 use Rattle.std.proofs.lemmas.Bool.{and_parts, eqb-true}
-use Rattle.std.proofs.lemmas.Bool.Decides.{nat_tests}
 use Rattle.std.proofs.lemmas.List.Elements.{All-from_recursion}
 use Rattle.std.proofs.lemmas.List.Splits.{slice_split_at, slice_split_none}
 use Rattle.std.proofs.lemmas.Option.{same_Some}
@@ -14,8 +13,9 @@ use Rattle.steps.specs.Fields.{named_in, nums_of, parts_of, set_among, set_in, w
 use Rattle.steps.specs.Num.{num_of}
 use Rattle.steps.specs.RunGrammar.{IsPart, WritesBelow, WritesHarts, WritesNamed}
 use Rattle.steps.specs.StepFaults.{asked, ◌>>=◌}
-use Rattle.steps.proofs.FieldLemmas.{not_Ok, same_Ok}
+use Rattle.steps.proofs.FieldLemmas.{lt_from_test, lt_test, not_Ok, same_Ok}
 use Rattle.steps.proofs.GrammarLemmas.{num_of-writes, writes-num_of}
+use Rattle.steps.proofs.WordLemmas.{option_and_then-Some, option_map-Some}
 
 abbrev is_comma : ℕ → Bool
 is_comma byte = byte == 44
@@ -54,12 +54,6 @@ has-parts_of word = let h = some_parts word in subst (HasParts word) (sym (parts
 
 -- ---- the numbers of the parts
 
-lt_from_test : (a b : ℕ) → nat_lt a b ≡ true → a < b
-lt_from_test a b h = grind (arith, nat_tests)
-
-lt_test : (a b : ℕ) → a < b → nat_lt a b ≡ true
-lt_test a b h = grind (arith, nat_tests)
-
 abbrev are_there : ℕ → List ℕ → Bool
 are_there harts named = list_all (λ hart. nat_lt hart harts) named
 
@@ -75,14 +69,6 @@ harts-read harts (hart ∷ next ∷ more) word (part, rest, is, writes, good, re
       ap nums_of (ap parts_of is ∙ slice_split_at is_comma part 44 rest (All-from_recursion _ part good) refl) ∙ rw (num_of-writes part hart writes.0, read.0) refl,
       rw (lt_test hart harts writes.1) read.1,
     )
-
-option_map-Some : {A B : Type 0} (f : A → B) (o : Option A) (y : B) → option_map f o ≡ Some y → (x : A) × ((o ≡ Some x) × (f x ≡ y))
-option_map-Some f None y h = cc
-option_map-Some f (Some x) y h = (x, (refl, same_Some _ _ h))
-
-option_and_then-Some : {A B : Type 0} (f : A → Option B) (o : Option A) (y : B) → option_and_then f o ≡ Some y → (x : A) × ((o ≡ Some x) × (f x ≡ Some y))
-option_and_then-Some f None y h = cc
-option_and_then-Some f (Some x) y h = (x, (refl, h))
 
 longer : (harts : ℕ) (word part rest : List ℕ) (m : ℕ) (ns : List ℕ) → word ≡ part ++ 44 ∷ rest → WritesBelow harts part m → IsPart part → WritesHarts harts rest ns → WritesHarts harts word (m ∷ ns)
 longer harts word part rest m [] is writes good more = absurd more

@@ -22,7 +22,7 @@ use Rattle.steps.proofs.GrammarLemmas.{num_of-writes, writes-num_of}
 abbrev is_kept : List ℕ → Bool
 is_kept word = not (length word == 0)
 
-words_of-blank : (b : ℕ) (text : List ℕ) → is_blank b ≡ true → words_of (b ∷ text) ≡ words_of text
+pub words_of-blank : (b : ℕ) (text : List ℕ) → is_blank b ≡ true → words_of (b ∷ text) ≡ words_of text
 words_of-blank b text h = rw h
 
 words_of-lead : (lead text : List ℕ) → IsBlanks lead → words_of (lead ++ text) ≡ words_of text
@@ -33,7 +33,7 @@ kept : (word : List ℕ) (parts : List (List ℕ)) → 0 < length word → filte
 kept [] parts h = absurd (omega arith)
 kept (b ∷ word) parts h = let some : (length (b ∷ word) == 0) ≡ false = grind (arith, nat_tests) in rw some
 
-words_of-word : (word rest : List ℕ) → IsWord word → Breaks rest → words_of (word ++ rest) ≡ word ∷ words_of rest
+pub words_of-word : (word rest : List ℕ) → IsWord word → Breaks rest → words_of (word ++ rest) ≡ word ∷ words_of rest
 words_of-word word [] h ends =
     rw (append-nil word, slice_split_none is_blank word (All-from_recursion _ word h.1)) (kept word [] h.0)
 words_of-word word (b ∷ rest) h ends =
@@ -115,11 +115,11 @@ named-Some : {X : Type 0} (text : X → List ℕ) (xs : List X) (word : List ℕ
 named-Some text [] word x h = cc
 named-Some text (y ∷ xs) word x h = named_step text y x xs word (bytes_eq word (text y)) refl (named-Some text xs word x) h
 
-option_map-Some : {A B : Type 0} (f : A → B) (o : Option A) (y : B) → option_map f o ≡ Some y → (x : A) × ((o ≡ Some x) × (f x ≡ y))
+pub option_map-Some : {A B : Type 0} (f : A → B) (o : Option A) (y : B) → option_map f o ≡ Some y → (x : A) × ((o ≡ Some x) × (f x ≡ y))
 option_map-Some f None y h = cc
 option_map-Some f (Some x) y h = (x, (refl, same_Some _ _ h))
 
-option_and_then-Some : {A B : Type 0} (f : A → Option B) (o : Option A) (y : B) → option_and_then f o ≡ Some y → (x : A) × ((o ≡ Some x) × (f x ≡ Some y))
+pub option_and_then-Some : {A B : Type 0} (f : A → Option B) (o : Option A) (y : B) → option_and_then f o ≡ Some y → (x : A) × ((o ≡ Some x) × (f x ≡ Some y))
 option_and_then-Some f None y h = cc
 option_and_then-Some f (Some x) y h = (x, (refl, h))
 

@@ -1,12 +1,13 @@
 //! The steps of `run`.
-ghost use Rattle.std.specs.Prelude.{◌≡◌, IfOk, map};
-ghost use Rattle.steps.specs.RunStep.{ack_in, ackself_in, begin_in, close_in, collect_in, fence_in, finish_in, flush_in, load_in, map_in, post_in, protect_in, run_step_of, servefence_in, step_among, step_in, step_of_words, switch_in, take_in, unmap_in, with_a_word, with_four_words, with_no_word, with_three_words, with_two_words};
+ghost use Rattle.std.specs.Prelude.{◌≡◌, Ok};
+ghost use Rattle.steps.specs.Words.{words_of};
+ghost use Rattle.steps.specs.RunStep.{ack_in, ackself_in, begin_in, close_in, collect_in, fence_in, finish_in, flush_in, load_in, map_in, post_in, protect_in, run_step_of, servefence_in, step_among, step_of_words, switch_in, take_in, unmap_in, with_a_word, with_four_words, with_no_word, with_three_words, with_two_words};
 
 use crate::fault::StepFault;
 use crate::fields::{among, flags, named, page, page_word, place, register, scope, space, ticket};
 use crate::numbers::num;
 use crate::step::translation;
-use crate::text::words;
+use crate::text::next_word;
 use history::Event;
 use shoot::MAX_HARTS;
 use std::alloc::{AllocError, Global};
@@ -290,30 +291,35 @@ fn with_four_words(
     }
 }
 
-/// The step of a hart with this name and the words after it.
-fn step_of_words(harts: u8, hart: u64, name: &[u8], words: &[&[u8]]) -> Result<Event, StepFault>
-    ensures { result ≡ step_of_words harts hart name.now (map (λ word. word.now) words.now) }
+/// The step of a hart with this name and the words of the text after it.
+fn step_of_words(harts: u8, hart: u64, name: &[u8], rest: &[u8]) -> Result<Event, StepFault>
+    ensures { result ≡ step_of_words harts hart name.now (words_of rest.now) }
 {
-    match words {
-        [] => with_no_word(harts, hart, name),
-        [a] => with_a_word(harts, hart, name, a),
-        [a, b] => with_two_words(harts, hart, name, a, b),
-        [a, b, c] => with_three_words(harts, hart, name, a, b, c),
-        [a, b, c, d] => with_four_words(harts, hart, name, a, b, c, d),
-        _ => Err(StepFault::NotStep),
+    let Some((a, rest)) = next_word(rest) else {
+        return with_no_word(harts, hart, name);
+    };
+    let Some((b, rest)) = next_word(rest) else {
+        return with_a_word(harts, hart, name, a);
+    };
+    let Some((c, rest)) = next_word(rest) else {
+        return with_two_words(harts, hart, name, a, b);
+    };
+    let Some((d, rest)) = next_word(rest) else {
+        return with_three_words(harts, hart, name, a, b, c);
+    };
+    if next_word(rest).is_some() {
+        return Err(StepFault::NotStep);
     }
+    with_four_words(harts, hart, name, a, b, c, d)
 }
 
-fn step_in(harts: u8, words: &[&[u8]]) -> Result<Event, StepFault>
-    ensures { result ≡ step_in harts (map (λ word. word.now) words.now) }
+fn step_in(harts: u8, text: &[u8]) -> Result<Event, StepFault>
+    ensures { result ≡ step_among harts text.now }
 {
-    match words {
-        [hart, name, words @ ..] => {
-            let hart = num(hart).ok_or(StepFault::NotStep)?;
-            step_of_words(harts, hart, name, words)
-        }
-        _ => Err(StepFault::NotStep),
-    }
+    let (hart, rest) = next_word(text).ok_or(StepFault::NotStep)?;
+    let (name, rest) = next_word(rest).ok_or(StepFault::NotStep)?;
+    let hart = num(hart).ok_or(StepFault::NotStep)?;
+    step_of_words(harts, hart, name, rest)
 }
 
 /// The step of `run` that a text writes where there are so many harts, with numbers from 0, or the first of its faults.
@@ -333,20 +339,19 @@ fn step_in(harts: u8, words: &[&[u8]]) -> Result<Event, StepFault>
 /// `NotPage`: all harts are there, and the page's address is not canonical or no multiple of its size (privileged manual
 /// 4.4.1). `AllocError`: there was no room for the words.
 pub fn run_step_among(
-    alloc: Global,
+    _alloc: Global,
     harts: u8,
     text: &str,
 ) -> Result<Result<Event, StepFault>, AllocError>
-    ensures { IfOk result (λ step. step ≡ step_among harts text.now) }
+    ensures { result ≡ Ok (step_among harts text.now) }
 {
-    let words = words(alloc, text)?;
-    Ok(step_in(harts, words.as_slice()))
+    Ok(step_in(harts, text.as_bytes()))
 }
 
 /// The step of `run` that a text writes where there are 8 harts, as many as there may be (`shoot::MAX_HARTS`); `None` where it has a fault.
 /// `AllocError`: there was no room for the words.
 pub fn run_step(alloc: Global, text: &str) -> Result<Option<Event>, AllocError>
-    ensures { IfOk result (λ step. step ≡ run_step_of text.now) }
+    ensures { result ≡ Ok (run_step_of text.now) }
 {
     let step = run_step_among(alloc, MAX_HARTS as u8, text)?;
     Ok(step.ok())

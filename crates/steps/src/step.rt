@@ -1,9 +1,9 @@
 //! Step texts.
-ghost use Rattle.std.specs.Prelude.{◌≡◌, IfOk, map};
-ghost use Rattle.steps.specs.Step.{access_of, ctx_of, step_of_words, translation_of, walk_step_of};
+ghost use Rattle.std.specs.Prelude.{◌≡◌, Ok};
+ghost use Rattle.steps.specs.Step.{access_of, ctx_of, translation_of, walk_step_of};
 
 use crate::numbers::num;
-use crate::text::words;
+use crate::text::next_word;
 use pte::{Access, Ctx, Mode};
 use std::alloc::{AllocError, Global};
 
@@ -18,21 +18,23 @@ pub struct WalkStep {
     pub va: u64,
 }
 
-/// The step of `walk` that a text writes, if it writes one. `AllocError`: there was no room for its words.
-pub fn walk_step(alloc: Global, text: &str) -> Result<Option<WalkStep>, AllocError>
-    ensures { IfOk result (λ step. step ≡ walk_step_of text.now) }
+/// The step of `walk` that a text writes, if it writes one. It takes no memory, so there is no `AllocError`.
+pub fn walk_step(_alloc: Global, text: &str) -> Result<Option<WalkStep>, AllocError>
+    ensures { result ≡ Ok (walk_step_of text.now) }
 {
-    let words = words(alloc, text)?;
-    Ok(step_in(words.as_slice()))
+    Ok(step_in(text.as_bytes()))
 }
 
-fn step_in(words: &[&[u8]]) -> Option<WalkStep>
-    ensures { result ≡ step_of_words (map (λ word. word.now) words.now) }
+fn step_in(text: &[u8]) -> Option<WalkStep>
+    ensures { result ≡ walk_step_of text.now }
 {
-    if words.len() != 3 {
+    let (mode, rest) = next_word(text)?;
+    let (access, rest) = next_word(rest)?;
+    let (address, rest) = next_word(rest)?;
+    if next_word(rest).is_some() {
         return None;
     }
-    translation(words[0], words[1], words[2])
+    translation(mode, access, address)
 }
 
 /// The words `M A VA`, for any command that has them in its steps.
