@@ -4,6 +4,8 @@ use bitflags::Flags;
 use history::{Event, Scope};
 use pte::{Access, Ctx, Mode, Page, PageSize, PteFlags, VirtAddr};
 use spaces::Place;
+use std::alloc::Global;
+use std::process::Abort;
 use std::test::Fail;
 
 #[test]
@@ -41,41 +43,55 @@ fn words_of_texts(rt: HostRuntime) -> Result<(), Fail> {
         ("", 0),
         (" \t ", 0),
         ("a", 1),
-        ("\ta  b\tc ", 3),
+        ("\ta  bc\td ", 3),
         ("a\nb", 1),
     ] {
         assert_eq!(rt; words(alloc, text)?.len(), count, "{text}");
     }
+    let words = words(alloc, "\ta  bc\td ")?;
+    assert!(rt;
+        words.as_slice() == [b"a".as_slice(), b"bc".as_slice(), b"d".as_slice()].as_slice()
+    );
     Ok(())
 }
 
 #[test]
 fn steps_of_walk(rt: HostRuntime) -> Result<(), Fail> {
     let alloc = rt.alloc();
-    let ctx = |mode, sum, mxr| Ctx { mode, sum, mxr };
+    let user = |sum, mxr| Ctx {
+        mode: Mode::User,
+        sum,
+        mxr,
+    };
+    let supervisor = |sum, mxr| Ctx {
+        mode: Mode::Super,
+        sum,
+        mxr,
+    };
     for (text, ctx, access, va) in [
         (
             "u load 0x80403ABC",
-            ctx(Mode::User, false, false),
+            user(false, false),
             Access::Load,
             0x8040_3abc,
         ),
         (
             " s+sum+mxr\tstore 1 ",
-            ctx(Mode::Super, true, true),
+            supervisor(true, true),
             Access::Store,
             1,
         ),
-        (
-            "u+mxr fetch 0",
-            ctx(Mode::User, false, true),
-            Access::Fetch,
-            0,
-        ),
+        ("u+mxr fetch 0", user(false, true), Access::Fetch, 0),
+        ("s+sum load 0", supervisor(true, false), Access::Load, 0),
     ] {
         let step = WalkStep { ctx, access, va };
         assert_eq!(rt; walk_step(alloc, text)?, Some(step), "{text}");
     }
+    Ok(())
+}
+
+#[test]
+fn texts_that_are_no_steps_of_walk(rt: HostRuntime) -> Result<(), Fail> {
     for text in [
         "",
         "u jump 0",
@@ -88,7 +104,7 @@ fn steps_of_walk(rt: HostRuntime) -> Result<(), Fail> {
         "u load +1",
         "u load 18446744073709551616",
     ] {
-        assert_eq!(rt; walk_step(alloc, text)?, None, "{text}");
+        assert_eq!(rt; walk_step(rt.alloc(), text)?, None, "{text}");
     }
     Ok(())
 }
@@ -103,205 +119,231 @@ fn page(base: u64, size: PageSize) -> Result<Page, Fail> {
     }
 }
 
-#[test]
-fn steps_of_walks_and_edits(rt: HostRuntime) -> Result<(), Fail> {
-    let alloc = rt.alloc();
-    for (text, event) in [
-        (
-            "1 begin s+sum load 0xFFFFFFFFC0000008",
-            Event::Begin {
-                hart: 1,
-                va: 0xffff_ffff_c000_0008,
-                access: Access::Load,
-                ctx: Ctx {
-                    mode: Mode::Super,
-                    sum: true,
-                    mxr: false,
-                },
-            },
-        ),
-        (" 0x7\tload ", Event::Load { hart: 7 }),
-        (
-            "0 map 0 4K:0x1000 0x100 ruad",
-            Event::Map {
-                hart: 0,
-                place: Place::Space(0),
-                page: page(0x1000, PageSize::Kib4)?,
-                ppn: 0x100,
-                flags: PteFlags::from_bits_retain(0xd2),
-            },
-        ),
-        (
-            "2 map k 1G:18446744072635809792 0 gwx",
-            Event::Map {
-                hart: 2,
-                place: Place::Kernel,
-                page: page(0xffff_ffff_c000_0000, PageSize::Gib1)?,
-                ppn: 0,
-                flags: PteFlags::from_bits_retain(0x2c),
-            },
-        ),
-        (
-            "0 unmap 255 2M:0x400000 0,1,7,1",
-            Event::Unmap {
-                hart: 0,
-                place: Place::Space(255),
-                page: page(0x40_0000, PageSize::Mib2)?,
-                named: 0x83,
-            },
-        ),
-        (
-            "0 protect 0 4K:0x0 - -",
-            Event::Protect {
-                hart: 0,
-                place: Place::Space(0),
-                page: page(0, PageSize::Kib4)?,
-                flags: PteFlags::from_bits_retain(0),
-                named: 0,
-            },
-        ),
-        ("3 switch 31", Event::Switch { hart: 3, space: 31 }),
-        (
-            "1 fence x0 x0",
-            Event::Fence {
-                hart: 1,
-                rs1: None,
-                rs2: None,
-            },
-        ),
-        (
-            "1 fence 0xFFFFFFFFFFFFFFFF 65536",
-            Event::Fence {
-                hart: 1,
-                rs1: Some(u64::MAX),
-                rs2: Some(65536),
-            },
-        ),
-    ] {
-        assert_eq!(rt; run_step(alloc, text)?, Some(event), "{text}");
+/// Each text writes its event where there are 8 harts.
+fn assert_steps(rt: &impl Abort, alloc: Global, steps: &[(&str, Event)]) -> Result<(), Fail> {
+    for (text, event) in steps {
+        assert_eq!(rt; run_step_among(alloc, 8, text)?, Ok(*event), "{text}");
+        assert_eq!(rt; run_step(alloc, text)?, Some(*event), "{text}");
     }
     Ok(())
+}
+
+#[test]
+fn steps_of_walks_and_fences(rt: HostRuntime) -> Result<(), Fail> {
+    let ctx = Ctx {
+        mode: Mode::Super,
+        sum: true,
+        mxr: false,
+    };
+    let begin = |hart, va, access| Event::Begin {
+        hart,
+        va,
+        access,
+        ctx,
+    };
+    let fence = |hart, rs1, rs2| Event::Fence { hart, rs1, rs2 };
+    assert_steps(
+        &rt,
+        rt.alloc(),
+        &[
+            (
+                "1 begin s+sum load 0xFFFFFFFFC0000008",
+                begin(1, 0xffff_ffff_c000_0008, Access::Load),
+            ),
+            (" 0x7\tload ", Event::Load { hart: 7 }),
+            ("3 switch 31", Event::Switch { hart: 3, space: 31 }),
+            ("1 fence x0 x0", fence(1, None, None)),
+            (
+                "1 fence 0xFFFFFFFFFFFFFFFF 65536",
+                fence(1, Some(u64::MAX), Some(65536)),
+            ),
+            ("1 fence 0 x0", fence(1, Some(0), None)),
+        ],
+    )
+}
+
+#[test]
+fn steps_of_edits(rt: HostRuntime) -> Result<(), Fail> {
+    let map = |hart, place, page, ppn, flags| Event::Map {
+        hart,
+        place,
+        page,
+        ppn,
+        flags: PteFlags::from_bits_retain(flags),
+    };
+    let user = page(0x1000, PageSize::Kib4)?;
+    let kernel = page(0xffff_ffff_c000_0000, PageSize::Gib1)?;
+    let unmap = Event::Unmap {
+        hart: 0,
+        place: Place::Space(255),
+        page: page(0x40_0000, PageSize::Mib2)?,
+        named: 0x83,
+    };
+    assert_steps(
+        &rt,
+        rt.alloc(),
+        &[
+            (
+                "0 map 0 4K:0x1000 0x100 ruad",
+                map(0, Place::Space(0), user, 0x100, 0xd2),
+            ),
+            (
+                "2 map k 1G:18446744072635809792 0 gwx",
+                map(2, Place::Kernel, kernel, 0, 0x2c),
+            ),
+            ("0 unmap 255 2M:0x400000 0,1,7,1", unmap),
+        ],
+    )
+}
+
+/// Each letter alone, by the name that the flag has in the manual.
+#[test]
+fn letters_of_flags(rt: HostRuntime) -> Result<(), Fail> {
+    let protect = |page, flags, named| Event::Protect {
+        hart: 0,
+        place: Place::Space(0),
+        page,
+        flags,
+        named,
+    };
+    let none = PteFlags::from_bits_retain(0);
+    let page = page(0, PageSize::Kib4)?;
+    assert_steps(
+        &rt,
+        rt.alloc(),
+        &[
+            ("0 protect 0 4K:0x0 - -", protect(page, none, 0)),
+            ("0 protect 0 4K:0 r 0", protect(page, PteFlags::R, 1)),
+            ("0 protect 0 4K:0 w 0", protect(page, PteFlags::W, 1)),
+            ("0 protect 0 4K:0 x 0", protect(page, PteFlags::X, 1)),
+            ("0 protect 0 4K:0 u 0", protect(page, PteFlags::U, 1)),
+            ("0 protect 0 4K:0 g 0", protect(page, PteFlags::G, 1)),
+            ("0 protect 0 4K:0 a 0", protect(page, PteFlags::A, 1)),
+            ("0 protect 0 4K:0 d 0", protect(page, PteFlags::D, 1)),
+        ],
+    )
 }
 
 #[test]
 fn steps_of_shootdowns(rt: HostRuntime) -> Result<(), Fail> {
-    let alloc = rt.alloc();
-    for (text, event) in [
-        (
-            "0 flush all 0,1",
-            Event::Flush {
-                hart: 0,
-                scope: Scope::All,
-                named: 3,
-            },
-        ),
-        (
-            "0 flush 0x1 -",
-            Event::Flush {
-                hart: 0,
-                scope: Scope::Space(1),
-                named: 0,
-            },
-        ),
-        (
-            "0 post 4294967295 1",
-            Event::Post {
-                hart: 0,
-                ticket: u32::MAX,
-                to: 1,
-            },
-        ),
-        ("1 take 0", Event::Take { hart: 1, from: 0 }),
-        ("1 take 1", Event::Take { hart: 1, from: 1 }),
-        ("1 servefence", Event::ServeFence { hart: 1 }),
-        ("1 ack", Event::Ack { hart: 1 }),
-        ("0 ackself 5", Event::AckSelf { hart: 0, ticket: 5 }),
-        (
-            "0 collect 5 1",
-            Event::Collect {
-                hart: 0,
-                ticket: 5,
-                from: 1,
-            },
-        ),
-        (
-            "0 finish 64",
-            Event::Finish {
-                hart: 0,
-                ticket: 64,
-            },
-        ),
-        ("0 close 1", Event::Close { hart: 0, to: 1 }),
-    ] {
-        assert_eq!(rt; run_step(alloc, text)?, Some(event), "{text}");
+    let flush = |hart, scope, named| Event::Flush { hart, scope, named };
+    let post = |hart, ticket, to| Event::Post { hart, ticket, to };
+    let collect = |hart, ticket, from| Event::Collect { hart, ticket, from };
+    let own = |hart, ticket| Event::AckSelf { hart, ticket };
+    let finish = |hart, ticket| Event::Finish { hart, ticket };
+    assert_steps(
+        &rt,
+        rt.alloc(),
+        &[
+            ("0 flush all 0,1", flush(0, Scope::All, 3)),
+            ("0 flush 0x1 -", flush(0, Scope::Space(1), 0)),
+            ("0 post 4294967295 1", post(0, u32::MAX, 1)),
+            ("1 take 0", Event::Take { hart: 1, from: 0 }),
+            ("1 take 1", Event::Take { hart: 1, from: 1 }),
+            ("1 servefence", Event::ServeFence { hart: 1 }),
+            ("1 ack", Event::Ack { hart: 1 }),
+            ("0 ackself 5", own(0, 5)),
+            ("0 collect 5 1", collect(0, 5, 1)),
+            ("0 finish 64", finish(0, 64)),
+            ("0 close 1", Event::Close { hart: 0, to: 1 }),
+        ],
+    )
+}
+
+/// Each text writes no step, whatever harts there are.
+fn assert_no_steps(rt: &impl Abort, alloc: Global, texts: &[&str]) -> Result<(), Fail> {
+    for text in texts {
+        for harts in [0, 2, 8, 255] {
+            let step = run_step_among(alloc, harts, text)?;
+            assert_eq!(rt; step, Err(StepFault::NotStep), "{text}");
+        }
+        assert_eq!(rt; run_step(alloc, text)?, None, "{text}");
     }
     Ok(())
 }
 
 #[test]
-fn texts_that_are_no_steps(rt: HostRuntime) -> Result<(), Fail> {
-    let alloc = rt.alloc();
-    for text in [
-        "",
-        "0",
-        "load",
-        "load 0",
-        "0 Load",
-        "0 load 0",
-        "0 jump",
-        "-1 load",
-        "18446744073709551616 load",
-        "0 begin u load",
-        "0 begin u+mxr+sum load 0",
-        "0 map 0 4K:0x1000 0x100",
-        "0 map 0 4K:0x1000 0x100 ruad 0",
-        "0 map 256 4K:0x1000 0x100 ruad",
-        "0 map K 4K:0x1000 0x100 ruad",
-        "0 map all 4K:0x1000 0x100 ruad",
-        "0 map 0 4k:0x1000 0x100 ruad",
-        "0 map 0 4K: 0x1000 0x100 ruad",
-        "0 map 0 4K: 0x100 ruad",
-        "0 map 0 4K0x1000 0x100 ruad",
-        "0 map 0 0x1000 0x100 ruad",
-        "0 map 0 512G:0x0 0x100 ruad",
-        "0 map 0 4K:0x1000 0x100 ruadr",
-        "0 map 0 4K:0x1000 0x100 v",
-        "0 map 0 4K:0x1000 0x100 r-",
-        "0 map 0 4K:0x1000 0x100 --",
-        "0 map 0 4K:0x1000 0x100 R",
-        "0 unmap 0 4K:0x1000 0,",
-        "0 unmap 0 4K:0x1000 ,0",
-        "0 unmap 0 4K:0x1000 0,,1",
-        "0 unmap 0 4K:0x1000 0, 1",
-        "0 unmap 0 4K:0x1000 -,0",
-        "0 unmap 0 4K:0x1000",
-        "0 flush k 0",
-        "0 flush 256 0",
-        "0 switch 256",
-        "0 switch k",
-        "0 fence x0",
-        "0 fence x1 x0",
-        "0 fence - x0",
-        "0 post 4294967296 1",
-        "0 post 0",
-        "0 take",
-        "0 servefence 0",
-        "0 ack 0",
-        "0 ackself",
-        "0 ackself 4294967296",
-        "0 finish 0x100000000",
-        "0 collect 0",
-        "0 close -",
-        "0 wait 0",
-        "9 jump",
-        "9 map 0 4K:0x1 0x1 rr",
-        "0 flush all 9,x",
-    ] {
-        let step = run_step_among(alloc, 8, text)?;
-        assert_eq!(rt; step, Err(StepFault::NotStep), "{text}");
-        assert_eq!(rt; run_step(alloc, text)?, None, "{text}");
-    }
-    Ok(())
+fn texts_of_no_form(rt: HostRuntime) -> Result<(), Fail> {
+    assert_no_steps(
+        &rt,
+        rt.alloc(),
+        &[
+            "",
+            "0",
+            "load",
+            "load 0",
+            "0 Load",
+            "0 load 0",
+            "0 jump",
+            "-1 load",
+            "18446744073709551616 load",
+            "0 begin u load",
+            "0 begin u+mxr+sum load 0",
+            "0 fence x0",
+            "0 post 0",
+            "0 take",
+            "0 servefence 0",
+            "0 ack 0",
+            "0 ackself",
+            "0 collect 0",
+            "0 wait 0",
+            "9 jump",
+        ],
+    )
+}
+
+#[test]
+fn words_that_do_not_fit(rt: HostRuntime) -> Result<(), Fail> {
+    assert_no_steps(
+        &rt,
+        rt.alloc(),
+        &[
+            "0 flush k 0",
+            "0 flush 256 0",
+            "0 switch 256",
+            "0 switch k",
+            "0 fence x1 x0",
+            "0 fence - x0",
+            "0 post 4294967296 1",
+            "0 ackself 4294967296",
+            "0 finish 0x100000000",
+            "0 close -",
+            "0 flush all 9,x",
+        ],
+    )
+}
+
+#[test]
+fn edits_that_are_no_steps(rt: HostRuntime) -> Result<(), Fail> {
+    assert_no_steps(
+        &rt,
+        rt.alloc(),
+        &[
+            "0 map 0 4K:0x1000 0x100",
+            "0 map 0 4K:0x1000 0x100 ruad 0",
+            "0 map 256 4K:0x1000 0x100 ruad",
+            "0 map K 4K:0x1000 0x100 ruad",
+            "0 map all 4K:0x1000 0x100 ruad",
+            "0 map 0 4k:0x1000 0x100 ruad",
+            "0 map 0 4K: 0x1000 0x100 ruad",
+            "0 map 0 4K: 0x100 ruad",
+            "0 map 0 4K0x1000 0x100 ruad",
+            "0 map 0 0x1000 0x100 ruad",
+            "0 map 0 512G:0x0 0x100 ruad",
+            "0 map 0 4K:0x1000 0x100 ruadr",
+            "0 map 0 4K:0x1000 0x100 v",
+            "0 map 0 4K:0x1000 0x100 r-",
+            "0 map 0 4K:0x1000 0x100 --",
+            "0 map 0 4K:0x1000 0x100 R",
+            "0 unmap 0 4K:0x1000 0,",
+            "0 unmap 0 4K:0x1000 ,0",
+            "0 unmap 0 4K:0x1000 0,,1",
+            "0 unmap 0 4K:0x1000 0, 1",
+            "0 unmap 0 4K:0x1000 -,0",
+            "0 unmap 0 4K:0x1000",
+            "9 map 0 4K:0x1 0x1 rr",
+        ],
+    )
 }
 
 #[test]
@@ -326,6 +368,27 @@ fn steps_of_harts_and_pages_that_are_not_there(rt: HostRuntime) -> Result<(), Fa
     ] {
         assert_eq!(rt; run_step_among(alloc, 2, text)?, Err(fault), "{text}");
     }
+    Ok(())
+}
+
+#[test]
+fn run_step_is_for_eight_harts(rt: HostRuntime) -> Result<(), Fail> {
+    let alloc = rt.alloc();
+    for (text, event) in [
+        ("7 ack", Some(Event::Ack { hart: 7 })),
+        ("8 ack", None),
+        ("0 close 8", None),
+        ("0 flush all 0,8", None),
+        ("0 unmap 0 4K:0x1 0", None),
+    ] {
+        assert_eq!(rt; run_step(alloc, text)?, event, "{text}");
+    }
+    Ok(())
+}
+
+#[test]
+fn faults_are_printed(rt: HostRuntime) -> Result<(), Fail> {
+    let alloc = rt.alloc();
     for (fault, told) in [
         (StepFault::NotStep, "not a step"),
         (StepFault::NoSuchHart, "no such hart"),
