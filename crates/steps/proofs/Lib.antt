@@ -9,3 +9,4 @@ pub mod NumLemmas
 pub mod RunLemmas
 pub mod StepLemmas
 pub mod WordLemmas
+mod WorkedRows
