@@ -1,4 +1,3 @@
-pub mod FaultLemmas
 pub mod FieldLemmas
 pub mod GrammarLemmas
 pub mod HartLemmas
