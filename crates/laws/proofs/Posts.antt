@@ -13,7 +13,7 @@ use Rattle.history.specs.declared.event.Event.TheVariants.{Post, Take, Ack}
 use Rattle.history.specs.declared.reply.Reply.{Reply}
 use Rattle.history.specs.declared.reply.Reply.TheVariants as reply
 use Rattle.history.specs.Turns.{Turn, History, is_ok, is_taken, taken_request, are_same}
-use Rattle.history.specs.Orders.{order_at, open_order, is_order, what_asked}
+use Rattle.history.specs.Orders.{open_order, is_order, what_asked}
 use Rattle.history.specs.Mailboxes.{Sent, sent_of, posts_after, posts, taken}
 use Rattle.history.specs.Service.{served_after, served}
 use Rattle.history.specs.Acknowledgements.{is_posted}
