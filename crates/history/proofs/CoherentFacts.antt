@@ -12,8 +12,8 @@ use Rattle.history.specs.WorkedRuns.{history_of, large_page, small_page, two_har
 use Rattle.history.specs.ShootdownRuns as shootdowns
 use Rattle.history.specs.KernelRuns as kernel
 use Rattle.history.specs.StalenessRuns as staleness
-use Rattle.history.specs.Counterexamples.{CoherentForbids, CoherentAllowsAll, entry, read_only_entry, global_entry}
-use Rattle.history.proofs.Promises.{not_mapped, coherent_forbids, unacked_coherent, unnamed_coherent, superseded_coherent}
+use Rattle.history.specs.Counterexamples.{CoherentForbids, CoherentAllowsAll, entry, read_only_entry, global_entry, global_read_only_entry}
+use Rattle.history.proofs.Promises.{not_mapped, not_global, coherent_forbids, unacked_coherent, unnamed_coherent, superseded_coherent}
 
 -- the mapping of the page of 4 KiB with a number
 abbrev mapping : Option ℕ → ℕ → ℕ → ℕ → Mapping
@@ -23,8 +23,8 @@ mapping asid page ppn bits = record { asid = asid; page = page; ppn = ppn; flags
 writable_gone : ¬ IsMapped two_harts (history_of shootdowns.read_only_until_acknowledged) 0x80001 (mapping (Some 1) 0x400 0x200 (R + W + U + A + D))
 unfolding kind_of wish_fault path_end edit_of
 writable_gone m =
-    not_mapped (words_of two_harts (history_of shootdowns.read_only_until_acknowledged)) 0x80001 0x400000 0x200 access.Store user (flags (R + W + U + A + D)) m.0
-    (inl (omega arith)) refl refl m.1
+    not_mapped (words_of two_harts (history_of shootdowns.read_only_until_acknowledged)) 0x80001 0x400000 0x200 access.Store user (flags (R + W + U + A + D)) _
+    (inl (omega arith)) refl refl m
 
 pub old_flags : CoherentForbids two_harts (history_of shootdowns.read_only_until_acknowledged) 5 1 (entry 1 (large_page 0x400000) 0x200)
 old_flags =
@@ -38,8 +38,8 @@ old_flags =
 old_frame_gone : ¬ IsMapped three_harts (history_of shootdowns.mapped_anew_until_acknowledged) 0x80001 (mapping (Some 1) 1 0x100 (R + U + A + D))
 unfolding kind_of wish_fault path_end edit_of
 old_frame_gone m =
-    not_mapped (words_of three_harts (history_of shootdowns.mapped_anew_until_acknowledged)) 0x80001 0x1000 0x100 access.Load user (flags (R + U + A + D)) m.0
-    (inl (omega arith)) refl refl m.1
+    not_mapped (words_of three_harts (history_of shootdowns.mapped_anew_until_acknowledged)) 0x80001 0x1000 0x100 access.Load user (flags (R + U + A + D)) _
+    (inl (omega arith)) refl refl m
 
 pub old_ppn : CoherentForbids three_harts (history_of shootdowns.mapped_anew_until_acknowledged) 7 2 (read_only_entry 1 (small_page 0x1000) 0x100)
 old_ppn =
@@ -53,8 +53,8 @@ old_ppn =
 superpage_gone : (asid : Option ℕ) → ¬ IsMapped two_harts (history_of shootdowns.superpage_shootdown) 0x80001 (mapping asid 0x400 0x200 (R + W + U + A + D))
 unfolding kind_of wish_fault path_end edit_of
 superpage_gone asid m =
-    not_mapped (words_of two_harts (history_of shootdowns.superpage_shootdown)) 0x80001 0x400000 0x200 access.Load user (flags (R + W + U + A + D)) m.0
-    (inl (omega arith)) refl refl m.1
+    not_mapped (words_of two_harts (history_of shootdowns.superpage_shootdown)) 0x80001 0x400000 0x200 access.Load user (flags (R + W + U + A + D)) _
+    (inl (omega arith)) refl refl m
 
 pub nothing_mapped : CoherentForbids two_harts (history_of shootdowns.superpage_shootdown) 5 1 (entry 1 (large_page 0x400000) 0x200)
 nothing_mapped =
@@ -86,7 +86,7 @@ kernel_page_gone : (asid : Option ℕ)
 unfolding kind_of wish_fault path_end edit_of
 kernel_page_gone asid m =
     not_mapped (words_of kernel.spaces_of_two_homes (history_of kernel.kernel_page_until_acknowledged)) 0x80002 0xffffffffc0000000 0x300 access.Load user
-    (flags (R + W + U + A + D)) m.0 (inr (omega arith, omega arith)) refl refl m.1
+    (flags (R + W + U + A + D)) _ (inr (omega arith, omega arith)) refl refl m
 
 pub kernel_page : (asid : ℕ) → CoherentForbids kernel.spaces_of_two_homes (history_of kernel.kernel_page_until_acknowledged) 10 1 (entry asid (small_page 0xffffffffc0000000) 0x300)
 kernel_page asid =
@@ -100,8 +100,8 @@ kernel_page asid =
 last_writable_gone : ¬ IsMapped two_harts (history_of shootdowns.read_only_until_acknowledged) 0x80001 (mapping (Some 1) 0x5ff 0x3ff (R + W + U + A + D))
 unfolding kind_of wish_fault path_end edit_of
 last_writable_gone m =
-    not_mapped (words_of two_harts (history_of shootdowns.read_only_until_acknowledged)) 0x80001 0x5ff000 0x3ff access.Store user (flags (R + W + U + A + D)) m.0
-    (inl (omega arith)) refl refl m.1
+    not_mapped (words_of two_harts (history_of shootdowns.read_only_until_acknowledged)) 0x80001 0x5ff000 0x3ff access.Store user (flags (R + W + U + A + D)) _
+    (inl (omega arith)) refl refl m
 
 pub last_part : CoherentForbids two_harts (history_of shootdowns.read_only_until_acknowledged) 5 1 (entry 1 (small_page 0x5ff000) 0x3ff)
 last_part =
@@ -115,8 +115,8 @@ last_part =
 gone_after_flush : ¬ IsMapped two_harts (history_of shootdowns.ticket_used_again) 0x80001 (mapping (Some 1) 0x400 0x200 (R + W + U + A + D))
 unfolding kind_of wish_fault path_end edit_of
 gone_after_flush m =
-    not_mapped (words_of two_harts (history_of shootdowns.ticket_used_again)) 0x80001 0x400000 0x200 access.Load user (flags (R + W + U + A + D)) m.0
-    (inl (omega arith)) refl refl m.1
+    not_mapped (words_of two_harts (history_of shootdowns.ticket_used_again)) 0x80001 0x400000 0x200 access.Load user (flags (R + W + U + A + D)) _
+    (inl (omega arith)) refl refl m
 
 pub flushed : CoherentForbids two_harts (history_of shootdowns.ticket_used_again) 5 1 (entry 1 (large_page 0x400000) 0x200)
 flushed =
@@ -129,8 +129,8 @@ flushed =
 gone_after_refusals : ¬ IsMapped two_harts (history_of staleness.refused_changes) 0x80001 (mapping (Some 1) 0x400 0x200 (R + W + U + A + D))
 unfolding kind_of wish_fault path_end edit_of
 gone_after_refusals m =
-    not_mapped (words_of two_harts (history_of staleness.refused_changes)) 0x80001 0x400000 0x200 access.Load user (flags (R + W + U + A + D)) m.0
-    (inl (omega arith)) refl refl m.1
+    not_mapped (words_of two_harts (history_of staleness.refused_changes)) 0x80001 0x400000 0x200 access.Load user (flags (R + W + U + A + D)) _
+    (inl (omega arith)) refl refl m
 
 pub refused_changes : CoherentForbids two_harts (history_of staleness.refused_changes) 5 1 (entry 1 (large_page 0x400000) 0x200)
 refused_changes =
@@ -144,8 +144,8 @@ refused_changes =
 gone_in_space_0 : ¬ IsMapped shootdowns.spaces_of_one_home (history_of staleness.same_page_of_another_space) 0x80001 (mapping (Some 1) 1 0x100 (R + U + A + D))
 unfolding kind_of wish_fault path_end edit_of
 gone_in_space_0 m =
-    not_mapped (words_of shootdowns.spaces_of_one_home (history_of staleness.same_page_of_another_space)) 0x80001 0x1000 0x100 access.Load user (flags (R + U + A + D)) m.0
-    (inl (omega arith)) refl refl m.1
+    not_mapped (words_of shootdowns.spaces_of_one_home (history_of staleness.same_page_of_another_space)) 0x80001 0x1000 0x100 access.Load user (flags (R + U + A + D)) _
+    (inl (omega arith)) refl refl m
 
 pub other_space : CoherentForbids shootdowns.spaces_of_one_home (history_of staleness.same_page_of_another_space) 15 1 (read_only_entry 1 (small_page 0x1000) 0x100)
 other_space =
@@ -154,6 +154,20 @@ other_space =
     (mapping (Some 1) 1 0x100 (R + U + A + D))
     (record { asid = refl; page = record { from = omega arith; to = omega arith }; ppn = refl; flags = refl })
     (inr (1, refl, refl)) (record { from = omega arith; to = omega arith }) 0x80001 refl gone_in_space_0
+
+-- what is mapped for one ASID is not held for every one
+local_alone : ¬ IsMapped two_harts (history_of shootdowns.read_only_until_acknowledged) 0x80001 (mapping None 0x400 0x200 (R + U + A + D))
+unfolding kind_of wish_fault path_end edit_of
+local_alone m =
+    not_global (words_of two_harts (history_of shootdowns.read_only_until_acknowledged)) 0x80001 0x400000 0x200 access.Load user (flags (R + U + A + D)) (inl (omega arith)) refl refl m
+
+pub for_every_asid : CoherentForbids two_harts (history_of shootdowns.read_only_until_acknowledged) 5 1 (global_read_only_entry (large_page 0x400000) 0x200)
+for_every_asid =
+    coherent_forbids two_harts (history_of shootdowns.read_only_until_acknowledged) 5 1 (Protected (Space 0) (large_page 0x400000)) (Space 0) (large_page 0x400000) (inr refl)
+    (record { order = _; is = refl; same_cause = refl; named = refl; acked = refl }) refl (global_read_only_entry (large_page 0x400000) 0x200)
+    (mapping None 0x400 0x200 (R + U + A + D))
+    (record { asid = refl; page = record { from = omega arith; to = omega arith }; ppn = refl; flags = refl })
+    (inl refl) (record { from = omega arith; to = omega arith }) 0x80001 refl local_alone
 
 -- where Coherent says nothing
 pub unacknowledged : CoherentAllowsAll two_harts (history_of shootdowns.read_only_until_service) 5 1

@@ -31,15 +31,33 @@ use Rattle.history.specs.Staleness.{is_mapped_anew, is_superseded, HasAnswered, 
 use Rattle.history.specs.Counterexamples.{ClearForbids, ClearAllowsAll, CoherentForbids, CoherentAllowsAll}
 
 -- what an access of a mapped page finds
-mapped_address : (words : Tables) (root va ppn : ℕ) (access : Access) (ctx : Ctx) (flags : PteFlags) (global : Bool) → IsCanonical va → flags_fault access ctx flags ≡ None
+found_mapped : (words : Tables) (root va ppn : ℕ) (access : Access) (ctx : Ctx) (flags : PteFlags) (global : Bool) → IsCanonical va → flags_fault access ctx flags ≡ None
     → Maps words root (page_number va) ppn flags global
-    → address_found (answer_after level_count words (start_of root va access ctx)) ≡ Ok (ppn * bytes_of Kib4 + va % bytes_of Kib4)
-mapped_address words root va ppn access ctx flags global canonical none maps =
+    → (found : Found) × (answer_after level_count words (start_of root va access ctx) ≡ Ok found) × (found.pa ≡ ppn * bytes_of Kib4 + va % bytes_of Kib4) × (found.global ≡ global)
+found_mapped words root va ppn access ctx flags global canonical none maps =
     let m = mapped_answer words root va ppn access ctx flags global maps in
     let found : Found = m.0 in
     let is : found_unless (flags_fault access ctx flags) access found ≡ answer_after level_count words (start_of root va access ctx) =
     (level_count_loads words root va access ctx (found_unless (flags_fault access ctx flags) access found) canonical).0 m.1 in
-    ap address_found (sym is) ∙ ap (λ why. address_found (found_unless why access found)) none ∙ ap Ok m.2
+    (found, sym is ∙ ap (λ why. found_unless why access found) none, m.2, m.4)
+
+mapped_address : (words : Tables) (root va ppn : ℕ) (access : Access) (ctx : Ctx) (flags : PteFlags) (global : Bool) → IsCanonical va → flags_fault access ctx flags ≡ None
+    → Maps words root (page_number va) ppn flags global
+    → address_found (answer_after level_count words (start_of root va access ctx)) ≡ Ok (ppn * bytes_of Kib4 + va % bytes_of Kib4)
+mapped_address words root va ppn access ctx flags global canonical none maps =
+    let f = found_mapped words root va ppn access ctx flags global canonical none maps in
+    ap address_found f.1 ∙ ap Ok f.2
+
+-- what is found as not global is not mapped global
+abbrev finds_global : Result Found Trap → Bool
+finds_global (Ok found) = found.global
+finds_global (Err trap) = false
+
+pub not_global : (words : Tables) (root va ppn : ℕ) (access : Access) (ctx : Ctx) (flags : PteFlags) → IsCanonical va → flags_fault access ctx flags ≡ None
+    → finds_global (answer_after level_count words (start_of root va access ctx)) ≡ false → ¬ Maps words root (page_number va) ppn flags true
+not_global words root va ppn access ctx flags canonical none local maps =
+    let f = found_mapped words root va ppn access ctx flags true canonical none maps in
+    true≢false (sym f.3 ∙ sym (ap finds_global f.1) ∙ local)
 
 -- what an access does not find is not mapped
 abbrev finds : Result ℕ Trap → ℕ → Bool

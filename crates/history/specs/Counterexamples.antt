@@ -33,6 +33,9 @@ read_only_entry asid page ppn = record { asid = asid; global = false; page = pag
 abbrev pub global_entry : Span → ℕ → Entry
 global_entry page ppn = record { asid = 0; global = true; page = page; ppn = ppn; flags = flags (R + W + U + A + D) }
 
+abbrev pub global_read_only_entry : Span → ℕ → Entry
+global_read_only_entry page ppn = record { asid = 0; global = true; page = page; ppn = ppn; flags = flags (R + U + A + D) }
+
 -- the request of a ticket that asks for everything
 abbrev pub request : ℕ → Message
 request ticket = record { ticket = ticket; what = All }

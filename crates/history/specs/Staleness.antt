@@ -1,6 +1,6 @@
 -- What an acknowledgement promises of a TLB: after an unmapping no translation of the page, until it is mapped anew (Clear);
 -- after an unmapping or a change of flags none but what is mapped now, until the page is changed once more (Coherent).
-use Rattle.std.specs.Prelude.{ℕ, Bool, true, false, ◌≡◌, ◌<◌, ◌⊎◌, ◌==◌, ◌&&◌, ◌||◌, List, [], ◌∷◌, length, Option, Some, None}
+use Rattle.std.specs.Prelude.{ℕ, Bool, true, false, ◌≡◌, ◌<◌, ◌⊎◌, ◌==◌, ◌&&◌, ◌||◌, List, [], ◌∷◌, length, Option, Some, None, is_none}
 use Rattle.pte.specs.Address.{Span, Holds}
 use Rattle.walk.specs.Maps.{Maps}
 use Rattle.history.specs.Setup.{Setup, asid_of}
@@ -83,9 +83,9 @@ IsRootOf C Kernel root = (s : ℕ) × (s < length C.asids) × (root ≡ root_ppn
 abbrev pub IsForPlace : Setup → Place → Mapping → Type 0
 IsForPlace C place m = (m.asid ≡ None) ⊎ ((asid : ℕ) × (m.asid ≡ Some asid) × IsAsidOf C place asid)
 
--- the tables of the root map the page to the mapping's PPN with its flags
+-- the tables of the root map the page to the mapping's PPN with its flags, as global exactly if the mapping is for every ASID
 abbrev pub IsMapped : Setup → History → ℕ → Mapping → Type 0
-IsMapped C H root m = (global : Bool) × Maps (words_of C H) root m.page m.ppn m.flags global
+IsMapped C H root m = Maps (words_of C H) root m.page m.ppn m.flags (is_none m.asid)
 
 -- Coherent: once h has acknowledged the unmapping or the change k, each mapping of the page that these entries of its TLB
 -- hold for its address space is mapped now, until the page is unmapped or changed once more

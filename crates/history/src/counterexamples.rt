@@ -8,7 +8,7 @@ ghost use Rattle.history.specs.Harts.{entries_of};
 ghost use Rattle.history.specs.Mailboxes.{KeepsOrder, Mailboxes, NoneAfterClose};
 ghost use Rattle.history.specs.Staleness.{Clear};
 ghost use Rattle.history.specs.WorkedRuns.{history_of, large_page, small_page, three_harts, two_harts};
-ghost use Rattle.history.specs.Counterexamples.{ClearAllowsAll, ClearForbids, CoherentAllowsAll, CoherentForbids, entry, global_entry, read_only_entry, request};
+ghost use Rattle.history.specs.Counterexamples.{ClearAllowsAll, ClearForbids, CoherentAllowsAll, CoherentForbids, entry, global_entry, global_read_only_entry, read_only_entry, request};
 ghost use Rattle.history.specs.EditRuns.{huge_page};
 ghost use Rattle.history.specs.ShootdownRuns as shootdowns;
 ghost use Rattle.history.specs.KernelRuns as kernel;
@@ -94,10 +94,11 @@ pub fn acknowledged_hart_holds_only_what_is_mapped()
     ensures kernel_page { (asid : ℕ) → CoherentForbids kernel.spaces_of_two_homes (history_of kernel.kernel_page_until_acknowledged) 10 1 (entry asid (small_page 0xffffffffc0000000) 0x300) }
 {}
 
-/// The same of a small page of a page of 2 MiB that lost W.
-#[tactic(auto, using(crate::proofs::CoherentFacts::last_part))]
-pub fn acknowledged_hart_holds_no_part_with_old_flags()
-    ensures { CoherentForbids two_harts (history_of shootdowns.read_only_until_acknowledged) 5 1 (entry 1 (small_page 0x5ff000) 0x3ff) }
+/// The same of a small page of a page of 2 MiB that lost W; and what is mapped for one ASID is not held for every one.
+#[tactic(auto, using(crate::proofs::CoherentFacts::last_part, crate::proofs::CoherentFacts::for_every_asid))]
+pub fn acknowledged_hart_holds_it_as_it_is_mapped()
+    ensures for_every_asid { CoherentForbids two_harts (history_of shootdowns.read_only_until_acknowledged) 5 1 (global_read_only_entry (large_page 0x400000) 0x200) }
+    ensures last_part { CoherentForbids two_harts (history_of shootdowns.read_only_until_acknowledged) 5 1 (entry 1 (small_page 0x5ff000) 0x3ff) }
 {}
 
 /// It lasts until the page is unmapped or changed once more: neither a flush, nor what is refused, nor the same page of another

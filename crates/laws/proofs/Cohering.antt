@@ -1,5 +1,6 @@
 -- Coherent, from what an acknowledgement leaves, what a fill adds, and what the tables keep.
-use Rattle.std.proofs.Common.{◌≡◌, ℕ, ◌*◌, ◌<◌, Bool, false, ◌&&◌, [], ◌∷◌, ◌++◌, length, Some, None, refl, ap, sym, ◌∙◌, subst, ◌⊎◌, inl, inr}
+use Rattle.std.proofs.Common.{◌≡◌, ℕ, ◌*◌, ◌<◌, Bool, true, false, ◌&&◌, [], ◌∷◌, ◌++◌, length, Some, None, refl, ap, sym, ◌∙◌, subst, ◌⊎◌, inl, inr}
+use Rattle.std.specs.Prelude.{is_none, if◌then◌else◌}
 use Rattle.std.proofs.lemmas.Bool.{or_parts}
 use Rattle.pte.specs.Address.{Span, bytes_of}
 use Rattle.pte.specs.declared.address.PageSize.TheVariants.{Kib4}
@@ -41,6 +42,11 @@ follows_change C cause place page what change f =
       | inl e ↦ subst (λ (c : Cause). Follows C c what) e f
       | inr e ↦ subst (λ (c : Cause). Follows C c what) e f
     ]
+
+-- a mapping of an entry is for every ASID exactly if the entry is global
+none_if : (global : Bool) (asid : ℕ) → is_none (if global then None else Some asid) ≡ global
+none_if true asid = refl
+none_if false asid = refl
 
 -- an address space of the place that the mapping is for
 for_some : (C : Setup) (place : Place) (m : Mapping) → IsForPlace C place m → (asid : ℕ) × IsAsidOf C place asid × ((m.asid ≡ None) ⊎ (m.asid ≡ Some asid))
@@ -94,8 +100,8 @@ module _ (C : Setup) (has : HasAsids C) (user : (H : History) → Lawful C H →
       let va = m.page * bytes_of Kib4 in
       let same = sym (numbered m.page) in
       let over = (overlaps-Overlap page e.page).1 (va, held_by page va (subst (LiesIn page) same at), held_by e.page va (subst (LiesIn e.page) same is.page)) in
-      let some = for_some C place m for in (
-        e.global,
-        still_mapped H k a.order place page e m root l pages a.is changed asked fresh at
-            (mapped_since C has user H k h a.order place page some.0 e m l pages a.is a.acked asked some.1 over at by.1 is some.2) of,
-      )
+      let some = for_some C place m for in
+      let global : e.global ≡ is_none m.asid = sym (ap is_none is.asid ∙ none_if e.global e.asid) in
+      subst (λ (g : Bool). Maps (words_of C H) root m.page m.ppn m.flags g) global
+      (still_mapped H k a.order place page e m root l pages a.is changed asked fresh at
+      (mapped_since C has user H k h a.order place page some.0 e m l pages a.is a.acked asked some.1 over at by.1 is some.2) of)
