@@ -20,3 +20,4 @@ pub mod Changing
 pub mod MapsKept
 pub mod Setups
 mod PremisesMet
+mod Refuted

@@ -1,3 +1,4 @@
+pub mod Counterexamples
 pub mod Fills
 pub mod Kept
 pub mod Orders

@@ -1,6 +1,7 @@
 //! The laws of all lawful histories, over the definitions alone: each function does nothing, and its contract is the law.
 #![tactic(auto)]
 
+pub mod counterexamples;
 mod laws;
 pub mod premises;
 

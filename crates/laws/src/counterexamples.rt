@@ -1,0 +1,56 @@
+//! What the definitions of this crate refuse: a law whose words say less than their names would say less too. Each function does
+//! nothing, and its clauses are the facts, computed from the histories of worked runs.
+
+ghost use Rattle.std.specs.Prelude.{ℕ, [], ◌∷◌, false, true};
+ghost use Rattle.pte.specs.declared.address.What.TheVariants.{All, SpaceOf};
+ghost use Rattle.tlb.specs.declared.store.Entry.{Entry};
+ghost use Rattle.history.specs.declared.event.Event.TheVariants.{Load};
+ghost use Rattle.history.specs.declared.reply.Reply.TheVariants.{More};
+ghost use Rattle.history.specs.Setup.{Setup};
+ghost use Rattle.history.specs.Turns.{History};
+ghost use Rattle.history.specs.Mailboxes.{posts};
+ghost use Rattle.history.specs.WorkedRuns.{history_of, two_harts};
+ghost use Rattle.history.specs.ShootdownRuns.{superpage_of_space, superpage_shootdown, superpage_until_acknowledged};
+ghost use Rattle.history.specs.UnlawfulRuns.{two_orders, two_posts};
+ghost use Rattle.laws.specs.Counterexamples.{order_to, post_of};
+ghost use Rattle.laws.specs.Fills.{Fills};
+ghost use Rattle.laws.specs.Orders.{IsOpenedBy, IsOrder};
+ghost use Rattle.laws.specs.Posts.{IsAcceptedPost, IsLive, StandsIn};
+
+/// An order names its sender, has a ticket below 64, is one of the turns, and names no hart from 8 on.
+#[tactic(auto, using(crate::proofs::Refuted::without_sender, crate::proofs::Refuted::ticket_64, crate::proofs::Refuted::no_turn, crate::proofs::Refuted::hart_8))]
+pub fn what_is_no_order()
+    ensures without_sender { ¬ IsOrder (history_of two_posts) 0 (order_to 0 (false ∷ true ∷ [])) }
+    ensures ticket_64 { ¬ IsOrder (history_of two_posts) 0 (order_to 64 (true ∷ true ∷ [])) }
+    ensures no_turn { ¬ IsOrder (history_of two_posts) 4 (order_to 0 (true ∷ true ∷ [])) }
+    ensures hart_8 { ¬ IsOrder (history_of two_posts) 0 (order_to 0 (true ∷ false ∷ false ∷ false ∷ false ∷ false ∷ false ∷ false ∷ true ∷ [])) }
+{}
+
+/// The order at place 0 is hart 0's, under ticket 0.
+#[tactic(auto, using(crate::proofs::Refuted::other_sender, crate::proofs::Refuted::other_ticket))]
+pub fn what_another_opened()
+    ensures sender { ¬ IsOpenedBy two_harts (history_of two_posts) 1 0 0 }
+    ensures ticket { ¬ IsOpenedBy two_harts (history_of two_posts) 0 1 0 }
+{}
+
+/// A post asks what its order asks, goes to another hart, and was posted.
+#[tactic(auto, using(crate::proofs::Refuted::other_request, crate::proofs::Refuted::to_itself, crate::proofs::Refuted::not_posted))]
+pub fn what_is_no_accepted_post()
+    ensures other_request { ¬ IsAcceptedPost two_harts (history_of two_posts) 0 1 (post_of 0 0 (SpaceOf 1)) }
+    ensures to_itself { ¬ IsAcceptedPost two_harts (history_of two_posts) 0 0 (post_of 0 0 All) }
+    ensures not_posted { ¬ IsAcceptedPost two_harts (history_of two_orders) 0 1 (post_of 0 0 All) }
+{}
+
+/// A post is live no more once its receiver has acknowledged its order, nor once the ticket is finished; and a list in which an
+/// order stands has a post of that order.
+#[tactic(auto, using(crate::proofs::Refuted::acknowledged, crate::proofs::Refuted::finished, crate::proofs::Refuted::not_standing))]
+pub fn what_is_not_live()
+    ensures acknowledged { ¬ IsLive two_harts (history_of superpage_until_acknowledged) 1 (post_of 5 0 superpage_of_space) }
+    ensures finished { ¬ IsLive two_harts (history_of superpage_shootdown) 2 (post_of 5 0 superpage_of_space) }
+    ensures not_standing { ¬ StandsIn (posts two_harts (history_of two_posts) 0 1) 2 }
+{}
+
+/// A Load after which the walk goes on fills nothing.
+pub fn walk_that_goes_on_fills_nothing()
+    ensures { (C : Setup) (h : ℕ) (e : Entry) (before : History) → ¬ Fills C h e (record { event = Load h; reply = More }) before }
+{}
