@@ -1,12 +1,13 @@
 -- What the definitions of orders, posts and fills refuse, computed from the histories of worked runs.
-use Rattle.std.proofs.Common.{◌≡◌, ℕ, zero, suc, ◌<◌, true, false, List, [], ◌∷◌, Option, Some, None, refl, sym, ap, subst, ◌∙◌, arith}
+use Rattle.std.proofs.Common.{◌≡◌, ℕ, zero, suc, true, false, [], ◌∷◌, Option, Some, None, refl, sym, ap, ◌∙◌, arith}
 use Rattle.std.specs.Prelude.{Contains}
 use Rattle.std.proofs.lemmas.Bool.{true≢false}
 use Rattle.pte.specs.declared.address.What.{What}
 use Rattle.pte.specs.declared.address.What.TheVariants.{SpaceOf, All}
 use Rattle.tlb.specs.declared.store.Entry.{Entry}
+use Rattle.history.specs.declared.event.Event.{Event}
 use Rattle.history.specs.declared.event.Event.TheVariants.{Load}
-use Rattle.history.specs.declared.reply.Reply.TheVariants.{More}
+use Rattle.history.specs.declared.reply.Reply.TheVariants.{More, Filled}
 use Rattle.history.specs.Setup.{Setup}
 use Rattle.history.specs.Turns.{History}
 use Rattle.history.specs.Orders.{Order}
@@ -16,7 +17,7 @@ use Rattle.history.specs.ShootdownRuns.{superpage_until_acknowledged, superpage_
 use Rattle.history.specs.UnlawfulRuns.{two_orders, two_posts}
 use Rattle.laws.specs.Fills.{Fills}
 use Rattle.laws.specs.Orders.{IsOrder, IsOpenedBy}
-use Rattle.laws.specs.Posts.{IsAcceptedPost, IsLive, StandsIn}
+use Rattle.laws.specs.Posts.{IsAcceptedPost, IsLive, IsOwn, StandsIn}
 use Rattle.laws.specs.Counterexamples.{order_to, post_of}
 
 pub without_sender : ¬ IsOrder (history_of two_posts) 0 (order_to 0 (false ∷ true ∷ []))
@@ -81,3 +82,14 @@ not_standing is = not_second is.post is.member is.is
 
 pub goes_on : (C : Setup) (h : ℕ) (e : Entry) (before : History) → ¬ Fills C h e (record { event = Load h; reply = More }) before
 goes_on C h e before fills = true≢false (sym fills.accepted)
+
+loader : Event → ℕ
+loader (Load hart) = hart
+loader _ = 0
+
+pub other_hart : (C : Setup) (e : Entry) (pa : ℕ) (before : History) → ¬ Fills C 1 e (record { event = Load 0; reply = Filled pa }) before
+unfolding loader
+other_hart C e pa before fills = let same : 0 ≡ 1 = ap loader fills.event in omega (arith, same)
+
+pub not_own : ¬ IsOwn two_harts (history_of two_posts) 0 1
+not_own is = let same : 0 ≡ 1 = ap sender_of (made is.is) ∙ is.sender in omega (arith, same)

@@ -1,5 +1,5 @@
 -- Orders and posts with which the counterexamples try the definitions of this crate.
-use Rattle.std.specs.Prelude.{ℕ, List, [], ◌∷◌, Bool, true, false}
+use Rattle.std.specs.Prelude.{ℕ, List, Bool}
 use Rattle.pte.specs.declared.address.What.{What}
 use Rattle.pte.specs.declared.address.What.TheVariants.{All}
 use Rattle.history.specs.Orders.{Order, Flushed}

@@ -5,7 +5,7 @@ ghost use Rattle.std.specs.Prelude.{ℕ, [], ◌∷◌, false, true};
 ghost use Rattle.pte.specs.declared.address.What.TheVariants.{All, SpaceOf};
 ghost use Rattle.tlb.specs.declared.store.Entry.{Entry};
 ghost use Rattle.history.specs.declared.event.Event.TheVariants.{Load};
-ghost use Rattle.history.specs.declared.reply.Reply.TheVariants.{More};
+ghost use Rattle.history.specs.declared.reply.Reply.TheVariants.{Filled, More};
 ghost use Rattle.history.specs.Setup.{Setup};
 ghost use Rattle.history.specs.Turns.{History};
 ghost use Rattle.history.specs.Mailboxes.{posts};
@@ -15,7 +15,7 @@ ghost use Rattle.history.specs.UnlawfulRuns.{two_orders, two_posts};
 ghost use Rattle.laws.specs.Counterexamples.{order_to, post_of};
 ghost use Rattle.laws.specs.Fills.{Fills};
 ghost use Rattle.laws.specs.Orders.{IsOpenedBy, IsOrder};
-ghost use Rattle.laws.specs.Posts.{IsAcceptedPost, IsLive, StandsIn};
+ghost use Rattle.laws.specs.Posts.{IsAcceptedPost, IsLive, IsOwn, StandsIn};
 
 /// An order names its sender, has a ticket below 64, is one of the turns, and names no hart from 8 on.
 #[tactic(auto, using(crate::proofs::Refuted::without_sender, crate::proofs::Refuted::ticket_64, crate::proofs::Refuted::no_turn, crate::proofs::Refuted::hart_8))]
@@ -27,10 +27,11 @@ pub fn what_is_no_order()
 {}
 
 /// The order at place 0 is hart 0's, under ticket 0.
-#[tactic(auto, using(crate::proofs::Refuted::other_sender, crate::proofs::Refuted::other_ticket))]
+#[tactic(auto, using(crate::proofs::Refuted::other_sender, crate::proofs::Refuted::other_ticket, crate::proofs::Refuted::not_own))]
 pub fn what_another_opened()
     ensures sender { ¬ IsOpenedBy two_harts (history_of two_posts) 1 0 0 }
     ensures ticket { ¬ IsOpenedBy two_harts (history_of two_posts) 0 1 0 }
+    ensures own { ¬ IsOwn two_harts (history_of two_posts) 0 1 }
 {}
 
 /// A post asks what its order asks, goes to another hart, and was posted.
@@ -50,7 +51,8 @@ pub fn what_is_not_live()
     ensures not_standing { ¬ StandsIn (posts two_harts (history_of two_posts) 0 1) 2 }
 {}
 
-/// A Load after which the walk goes on fills nothing.
-pub fn walk_that_goes_on_fills_nothing()
-    ensures { (C : Setup) (h : ℕ) (e : Entry) (before : History) → ¬ Fills C h e (record { event = Load h; reply = More }) before }
+/// A Load after which the walk goes on fills nothing, and one of another hart nothing of this hart.
+pub fn what_fills_nothing()
+    ensures other_hart { (C : Setup) (e : Entry) (pa : ℕ) (before : History) → ¬ Fills C 1 e (record { event = Load 0; reply = Filled pa }) before }
+    ensures goes_on { (C : Setup) (h : ℕ) (e : Entry) (before : History) → ¬ Fills C h e (record { event = Load h; reply = More }) before }
 {}
