@@ -1,7 +1,7 @@
 -- What every lawful history of the tickets of a hart keeps: each ticket is what the calls since
 -- its opening tell.
 use Rattle.std.proofs.Common.{◌≡◌, ◌≢◌, ◌∙◌, sym, ap, refl, subst, ℕ, zero, suc, ◌<◌, Bool, true, false, cond, ◌&&◌, ◌||◌, List, [], ◌∷◌, length, length-set, replicate, set, slice_get, Option, Some, None, Result, Ok, Err, IsTrue, arith, eqb}
-use Rattle.std.proofs.lemmas.Bool.{eqb-true, or_right}
+use Rattle.std.proofs.lemmas.Bool.{eqb-false, eqb-true, or_right}
 use Rattle.std.proofs.lemmas.Bool.Decides.{nat_tests}
 use Rattle.pte.specs.declared.address.What.{What}
 use Rattle.shoot.specs.HartSet.{contains, harts_where}
@@ -57,9 +57,6 @@ at_same table number place h = ap if_open (get_set_same table.tickets number pla
 
 pub at_changed : (table : TicketTable) (number : ℕ) (change : Ticket → Ticket) → ticket_at (with_change table number change) number ≡ changed change (ticket_at table number)
 at_changed table number change = get_changed table.tickets number change
-
-apart : (a b : ℕ) → eqb a b ≡ false → a ≢ b
-apart a b h = grind (arith, nat_tests)
 
 -- ---- a call that tells nothing of a ticket
 
@@ -175,7 +172,7 @@ opened_told home table what named number (Ok free) before fits h =
     (λ e. let same : free ≡ number = eqb-true free number e in
     let here : ticket_at (with_ticket table number (Some (new_ticket what named))) number ≡ Some (new_ticket what named) = at_same table number (Some (new_ticket what named)) (rw (← same) (fits free refl)) in
     rw same (here ∙ ap (λ (collected : List Bool). Some (record (new_ticket what named) { collected = collected })) (where_agree (λ hart. false) (was_collected home number []) (λ hart _. nothing_own (eqb hart home)))))
-    (λ e. at_other table free number (Some (new_ticket what named)) (apart free number e) ∙ (h ∙ skip_open home number what named (Ok free) before))
+    (λ e. at_other table free number (Some (new_ticket what named)) (eqb-false free number e) ∙ (h ∙ skip_open home number what named (Ok free) before))
   where
     nothing_own : (own : Bool) → false ≡ (own && false) || false
     nothing_own true = refl
@@ -190,7 +187,7 @@ finished_told home table ticket number false (Err fault) before e h = h ∙ skip
 finished_told home table ticket number true (Ok done) before e h =
     by_test (λ test. ticket_at (with_ticket table ticket None) number ≡ told_with home number (cond test None (with_turn (Finish ticket (Ok done)) before))) (eqb ticket number)
     (λ same. rw (eqb-true ticket number same) (get_freed table.tickets number))
-    (λ different. at_other table ticket number None (apart ticket number different) ∙ (h ∙ skip_finish home number ticket (Ok done) before))
+    (λ different. at_other table ticket number None (eqb-false ticket number different) ∙ (h ∙ skip_finish home number ticket (Ok done) before))
 
 home_kept : (home : ℕ) (history : List Turn) → (tickets_after home history).hart ≡ home
 home_kept home [] = refl
@@ -231,7 +228,7 @@ changed_told home table ticket number change turn before skip tell h =
     by_test (λ test. ticket_at (with_change table ticket change) number ≡ told_with home number (with_turn turn before)) (eqb ticket number)
     (λ e. let same : ticket ≡ number = eqb-true ticket number e in
     rw same (at_changed table number change) ∙ (ap (changed change) h ∙ tell same))
-    (λ e. at_other table ticket number (changed change (ticket_at table ticket)) (apart ticket number e) ∙ (h ∙ skip e))
+    (λ e. at_other table ticket number (changed change (ticket_at table ticket)) (eqb-false ticket number e) ∙ (h ∙ skip e))
 
 pub recount : (home : ℕ) (history : List Turn) (number : ℕ) → IsLawful home history → ticket_at (tickets_after home history) number ≡ told home history number
 recount home [] number lawful = none_at_first MAX_TICKETS number
