@@ -1,18 +1,23 @@
 -- What the bytes of a file are, by whether they are UTF-8, and what a fault leaves.
-use Rattle.std.proofs.Common.{◌≡◌, ℕ, ◌≤◌, List, length, if◌then◌else◌, Result, Err, Option, Some, inl, inr, ◌⊎◌, IfSome, sym, ap, subst, None}
+use Rattle.std.proofs.Common.{◌≡◌, ℕ, ◌+◌, ◌<◌, ◌≤◌, List, [], length, replicate, if◌then◌else◌, Result, Err, Option, Some, inl, inr, ◌⊎◌, sym, ap, subst, refl, None, arith}
+use Rattle.std.specs.Io.KnownBytes.{Keeps}
+use Rattle.std.proofs.KnownBytes.{Appends-nil, Keeps-refl}
 use Rattle.std.proofs.lemmas.Bool.{cases_Bool}
+use Rattle.std.proofs.lemmas.List.{length-replicate}
 use Rattle.std.specs.Str.{IsUtf8, is_utf8}
 use Rattle.std.proofs.lemmas.Str.{IsUtf8-from_is_utf8, is_utf8-from_IsUtf8}
 use Rattle.scenario.specs.declared.fault.Fault.{Fault}
 use Rattle.scenario.specs.declared.fault.Fault.TheVariants as faults
+use Rattle.scenario.specs.declared.program.Trouble.{Trouble}
+use Rattle.scenario.specs.declared.program.Trouble.TheVariants as troubles
 use Rattle.scenario.specs.declared.program.Which.{Which}
 use Rattle.scenario.specs.declared.program.Which.TheVariants.{Walk, Run}
-use Rattle.scenario.specs.Command.{done, Ending, ending_of_fault, Ends, EndsAs, file_fault, FileLines, IsSilent, Leaves, no_memory, output_failed, refused, Reports, too_large, unreadable}
+use Rattle.scenario.specs.Command.{done, Ending, ending_of, ending_of_fault, Ends, EndsAs, file_fault, FileLines, IsToldAs, Leaves, no_memory, output_failed, refused, Reports, status_of, too_large, unreadable}
 use Rattle.scenario.specs.Faults.{Failure, fault_in, not_toml}
+use Rattle.scenario.specs.Input.{AreLeft, IsReadTrouble}
 use Rattle.scenario.specs.Limits.{most_bytes}
 use Rattle.scenario.specs.Lines.{LinesOf, Prints}
 use Rattle.scenario.specs.Output.{EndsBy}
-use Rattle.scenario.proofs.OutputLemmas.{front_of_all}
 use Rattle.scenario.specs.ReplyLines.{PrintsReplies}
 use Rattle.scenario.specs.RunFile.{run_scenario_of}
 use Rattle.scenario.specs.WalkFile.{walk_scenario_of}
@@ -57,37 +62,90 @@ fault_ends which bytes faults.Layout old new short h = record { suits = (short, 
 fault_ends which bytes faults.TooMany old new short h = record { suits = (short, h.0); leaves = h.1 }
 fault_ends which bytes (faults.Step n fault) old new short h = record { suits = (short, h.0); leaves = h.1 }
 fault_ends which bytes faults.Output old new short h = record { suits = (short, h.0); leaves = h.1 }
-fault_ends which bytes faults.NoMemory old new short h = record { suits = tt; leaves = inl h }
+fault_ends which bytes faults.NoMemory old new short h = record { suits = tt; leaves = h }
 
-pub fault_silent : (which : Which) (bytes : List ℕ) (fault : Fault) (old new : Option (List ℕ))
-    → EndsBy fault (file_fault which bytes) (FileLines which bytes) old new → IsSilent (ending_of_fault fault) old new
-fault_silent which bytes faults.NotToml old new h = h.1
-fault_silent which bytes (faults.Key name) old new h = h.1
-fault_silent which bytes faults.Layout old new h = h.1
-fault_silent which bytes faults.TooMany old new h = h.1
-fault_silent which bytes (faults.Step n fault) old new h = h.1
-fault_silent which bytes faults.Output old new h = tt
-fault_silent which bytes faults.NoMemory old new h = tt
+-- bytes that a reader may have
+some_bytes : (left : Option (List ℕ)) → (bytes : List ℕ) × AreLeft left bytes
+some_bytes None = ([], tt)
+some_bytes (Some bytes) = (bytes, refl)
 
--- what any ending leaves is at most what want of memory may leave
-leaves_memory : (Lines : List ℕ → Type 0) (ending : Ending) (old new : Option (List ℕ)) → Leaves Lines ending old new → Leaves Lines no_memory old new
-leaves_memory Lines done old new h = inr (h.0, h.1, front_of_all old new h.0 h.2)
-leaves_memory Lines unreadable old new h = inl h
-leaves_memory Lines too_large old new h = inl h
-leaves_memory Lines (refused failure) old new h = inl h
-leaves_memory Lines output_failed old new h = inr h
-leaves_memory Lines no_memory old new h = h
+long_bytes : (n : ℕ) → (bytes : List ℕ) × (n < length bytes)
+long_bytes n = let byte : ℕ = 0 in (replicate (n + 1) byte, omega (arith, length-replicate (n + 1) byte))
 
-told_ending : (which : Which) (bytes : List ℕ) (trouble ending : Ending) (old new : Option (List ℕ)) → (ending ≡ trouble) ⊎ (ending ≡ no_memory)
-    → EndsAs which bytes trouble old new → EndsAs which bytes ending old new
-told_ending which bytes trouble ending old new (inl is) h = subst (λ e. EndsAs which bytes e old new) (sym is) h
-told_ending which bytes trouble ending old new (inr is) h =
-    subst (λ e. EndsAs which bytes e old new) (sym is) (record { suits = tt; leaves = leaves_memory (FileLines which bytes) trouble old new h.leaves })
+-- a file that was not read ends so, whatever is known of its bytes
+pub unread_ends : (which : Which) (left : Option (List ℕ)) (trouble : Trouble) (out : Option (List ℕ)) → IsReadTrouble trouble left
+    → (bytes : List ℕ) × AreLeft left bytes × EndsAs which bytes (ending_of trouble) out out
+unread_ends which left troubles.Unreadable out h = let any = some_bytes left in (any.0, any.1, record { suits = tt; leaves = Keeps-refl out })
+unread_ends which None troubles.TooLarge out h =
+    let long = long_bytes most_bytes in (long.0, tt, record { suits = long.1; leaves = Keeps-refl out })
+unread_ends which (Some bytes) troubles.TooLarge out h = (bytes, refl, record { suits = h; leaves = Keeps-refl out })
+unread_ends which left (troubles.Refused fault) out h =
+    let any = some_bytes left in
+    subst (λ f. (bytes : List ℕ) × AreLeft left bytes × EndsAs which bytes (ending_of (troubles.Refused f)) out out) (sym h)
+    (any.0, any.1, record { suits = tt; leaves = Keeps-refl out })
 
--- a trouble whose line was written, or want of memory for that line, is how a command ends
-pub reported : (which : Which) (file : List ℕ) (left : Option (List ℕ)) (trouble : Ending) (status : ℕ) (out_old out_new err_old err_new : Option (List ℕ))
-    → IfSome left (λ bytes. EndsAs which bytes trouble out_old out_new) → Reports file trouble status err_old err_new
-    → IfSome left (λ bytes. Ends which file bytes status out_old out_new err_old err_new)
-reported which file None trouble status out_old out_new err_old err_new h r = tt
-reported which file (Some bytes) trouble status out_old out_new err_old err_new h r =
-    record { ending = r.ending; status_is = r.status_is; ends_as = told_ending which bytes trouble r.ending out_old out_new r.is h; tells = r.tells }
+-- a trouble is told as it is, or as want of memory
+pub told_itself : (trouble : Trouble) → IsToldAs (ending_of trouble) (ending_of trouble)
+told_itself troubles.Unreadable = inl refl
+told_itself troubles.TooLarge = inl refl
+told_itself (troubles.Refused faults.NotToml) = inl refl
+told_itself (troubles.Refused (faults.Key name)) = inl refl
+told_itself (troubles.Refused faults.Layout) = inl refl
+told_itself (troubles.Refused faults.TooMany) = inl refl
+told_itself (troubles.Refused (faults.Step n fault)) = inl refl
+told_itself (troubles.Refused faults.Output) = inl refl
+told_itself (troubles.Refused faults.NoMemory) = inl refl
+
+pub told_memory : (trouble : Trouble) → IsToldAs (ending_of trouble) no_memory
+told_memory troubles.Unreadable = inr refl
+told_memory troubles.TooLarge = inr refl
+told_memory (troubles.Refused faults.NotToml) = inr refl
+told_memory (troubles.Refused (faults.Key name)) = inr refl
+told_memory (troubles.Refused faults.Layout) = inr refl
+told_memory (troubles.Refused faults.TooMany) = inr refl
+told_memory (troubles.Refused (faults.Step n fault)) = inr refl
+told_memory (troubles.Refused faults.Output) = inr refl
+told_memory (troubles.Refused faults.NoMemory) = inr refl
+
+-- a command that is done has no line
+pub nothing_reported : (file : List ℕ) (err : Option (List ℕ)) → Reports file done 0 err err
+nothing_reported file err = record { told = done; is_told = refl; status_is = refl; tells = (0, Appends-nil err) }
+
+-- a command ends as its file does, with the line that was reported of it
+pub reported : (which : Which) (file : List ℕ) (left : Option (List ℕ)) (ending : Ending) (status : ℕ) (out_old out_new err_old err_new : Option (List ℕ))
+    → (bytes : List ℕ) × AreLeft left bytes × EndsAs which bytes ending out_old out_new → Reports file ending status err_old err_new
+    → (bytes : List ℕ) × AreLeft left bytes × Ends which file bytes status out_old out_new err_old err_new
+reported which file left ending status out_old out_new err_old err_new (bytes, has, ends) r =
+    (bytes, has, record { ending = ending; ends_as = ends; reports = r })
+
+-- ---- at status 2 and 3 nothing was written
+
+abbrev IsRefusal : ℕ → Type 0
+IsRefusal status = (status ≡ 2) ⊎ (status ≡ 3)
+
+not_done : IsRefusal 0 → ⊥
+not_done (inl e) = cc
+not_done (inr e) = cc
+
+not_failed : IsRefusal 4 → ⊥
+not_failed (inl e) = cc
+not_failed (inr e) = cc
+
+not_memory : IsRefusal 5 → ⊥
+not_memory (inl e) = cc
+not_memory (inr e) = cc
+
+silent_by : (Lines : List ℕ → Type 0) (ending told : Ending) (old new : Option (List ℕ)) → IsToldAs ending told → IsRefusal (status_of told) → Leaves Lines ending old new → Keeps old new
+silent_by Lines done told old new is refused_so h = absurd (not_done (subst (λ e. IsRefusal (status_of e)) is refused_so))
+silent_by Lines unreadable told old new is refused_so h = h
+silent_by Lines too_large told old new is refused_so h = h
+silent_by Lines (refused failure) told old new is refused_so h = h
+silent_by Lines output_failed told old new (inl is) refused_so h = absurd (not_failed (subst (λ e. IsRefusal (status_of e)) is refused_so))
+silent_by Lines output_failed told old new (inr is) refused_so h = absurd (not_memory (subst (λ e. IsRefusal (status_of e)) is refused_so))
+silent_by Lines no_memory told old new is refused_so h = h
+
+pub silent : (which : Which) (file : List ℕ) (left : Option (List ℕ)) (ending : Ending) (status : ℕ) (out_old out_new err_old err_new : Option (List ℕ))
+    → (bytes : List ℕ) × AreLeft left bytes × EndsAs which bytes ending out_old out_new → Reports file ending status err_old err_new
+    → (status ≡ 2) ⊎ (status ≡ 3) → Keeps out_old out_new
+silent which file left ending status out_old out_new err_old err_new (bytes, has, ends) r refused_so =
+    silent_by (FileLines which bytes) ending r.told out_old out_new r.is_told (subst IsRefusal r.status_is refused_so) ends.leaves

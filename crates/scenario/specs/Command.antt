@@ -1,5 +1,5 @@
 -- How a command ends, by its status.
-use Rattle.std.specs.Prelude.{◌≡◌, ℕ, ◌<◌, ◌≤◌, ◌⊎◌, ◌++◌, List, [], length, codes, Option, Some, None}
+use Rattle.std.specs.Prelude.{◌≡◌, ℕ, ◌<◌, ◌≤◌, ◌⊎◌, ◌++◌, List, [], length, codes, string_bytes, Option, Some, None, Result, Ok, Err}
 use Rattle.std.specs.Io.KnownBytes.{Keeps}
 use Rattle.scenario.specs.declared.program.Which.{Which}
 use Rattle.scenario.specs.declared.program.Which.TheVariants.{Walk, Run}
@@ -7,7 +7,6 @@ use Rattle.scenario.specs.declared.program.Trouble.{Trouble}
 use Rattle.scenario.specs.declared.program.Trouble.TheVariants as troubles
 use Rattle.scenario.specs.declared.fault.Fault.{Fault}
 use Rattle.scenario.specs.declared.fault.Fault.TheVariants as faults
-use Rattle.std.specs.Prelude.{string_bytes}
 use Rattle.scenario.specs.Faults.{Failure, not_toml, wrong_key, bad_layout, too_many, wrong_step, failure_text, fault_in}
 use Rattle.scenario.specs.Lines.{LinesOf, Prints}
 use Rattle.scenario.specs.Output.{AppendsFront, WritesAll, WritesFront}
@@ -72,7 +71,6 @@ Suits which bytes no_memory = Unit {0}
 abbrev pub Leaves : (List ℕ → Type 0) → Ending → Option (List ℕ) → Option (List ℕ) → Type 0
 Leaves Lines done old new = WritesAll Lines old new
 Leaves Lines output_failed old new = WritesFront Lines old new
-Leaves Lines no_memory old new = Keeps old new ⊎ WritesFront Lines old new
 Leaves Lines _ old new = Keeps old new
 
 -- the file may end so, and this is what it leaves
@@ -80,12 +78,23 @@ pub record EndsAs (which : Which) (bytes : List ℕ) (ending : Ending) (old new 
   pub suits : Suits which bytes ending
   pub leaves : Leaves (FileLines which bytes) ending old new
 
--- how a command ends on a file of these bytes: one ending gives the status, the output and the line on standard error
+-- what is told of an ending: itself, or want of memory for its line, if it has one
+abbrev pub IsToldAs : Ending → Ending → Type 0
+IsToldAs done told = told ≡ done
+IsToldAs ending told = (told ≡ ending) ⊎ (told ≡ no_memory)
+
+-- the status is that of what is told, and its line was written as far as standard error took it
+pub record Reports (file : List ℕ) (ending : Ending) (status : ℕ) (old new : Option (List ℕ)) : Type 0 where
+  pub told : Ending
+  pub is_told : IsToldAs ending told
+  pub status_is : status ≡ status_of told
+  pub tells : AppendsFront old new (error_line file told)
+
+-- how a command ends on a file of these bytes: one ending gives the output, the status and the line on standard error
 pub record Ends (which : Which) (file bytes : List ℕ) (status : ℕ) (out_old out_new err_old err_new : Option (List ℕ)) : Type 0 where
   pub ending : Ending
-  pub status_is : status ≡ status_of ending
   pub ends_as : EndsAs which bytes ending out_old out_new
-  pub tells : AppendsFront err_old err_new (error_line file ending)
+  pub reports : Reports file ending status err_old err_new
 
 -- ---- how the code's troubles stand for endings
 
@@ -103,16 +112,7 @@ ending_of troubles.Unreadable = unreadable
 ending_of troubles.TooLarge = too_large
 ending_of (troubles.Refused fault) = ending_of_fault fault
 
--- at a file that was not read or that was refused, nothing is written, whatever is known of the reader
-abbrev pub IsSilent : Ending → Option (List ℕ) → Option (List ℕ) → Type 0
-IsSilent done old new = Unit {0}
-IsSilent output_failed old new = Unit {0}
-IsSilent no_memory old new = Unit {0}
-IsSilent _ old new = Keeps old new
-
--- the line of an ending was written as far as it goes, that of the trouble or of want of memory
-pub record Reports (file : List ℕ) (trouble : Ending) (status : ℕ) (old new : Option (List ℕ)) : Type 0 where
-  pub ending : Ending
-  pub is : (ending ≡ trouble) ⊎ (ending ≡ no_memory)
-  pub status_is : status ≡ status_of ending
-  pub tells : AppendsFront old new (error_line file ending)
+-- how it ended, by what a function returned
+abbrev pub ending_in : {X : Type 0} → Result X Trouble → Ending
+ending_in (Ok x) = done
+ending_in (Err trouble) = ending_of trouble

@@ -6,6 +6,10 @@ use Rattle.scenario.specs.declared.program.Trouble.{Trouble}
 use Rattle.scenario.specs.declared.program.Trouble.TheVariants.{Unreadable, TooLarge, Refused}
 use Rattle.scenario.specs.declared.fault.Fault.TheVariants.{NoMemory}
 
+-- these are the bytes that a reader has, where they are known
+abbrev pub AreLeft : Option (List ℕ) → List ℕ → Type 0
+AreLeft left bytes = IfSome left (λ all. bytes ≡ all)
+
 -- no more than n known bytes were read
 abbrev pub ReadsUpTo : ℕ → Option (List ℕ) → Option (List ℕ) → Type 0
 ReadsUpTo n left rest = (bytes : List ℕ) × Consumes left rest bytes × (length bytes ≤ n)

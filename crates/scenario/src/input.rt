@@ -1,6 +1,6 @@
 //! Reading a file whole.
-ghost use Rattle.std.specs.Prelude.{◌≡◌, ◌≤◌, ◌+◌, length, vec_len, IfOk, IfErr, IfSome};
-ghost use Rattle.scenario.specs.Input.{IsPieceTrouble, IsReadTrouble, ReadsPiece, ReadsUpTo};
+ghost use Rattle.std.specs.Prelude.{◌≤◌, ◌+◌, length, vec_len, IfOk, IfErr};
+ghost use Rattle.scenario.specs.Input.{AreLeft, IsPieceTrouble, IsReadTrouble, ReadsPiece, ReadsUpTo};
 ghost use Rattle.scenario.specs.Limits.{most_bytes};
 
 use crate::program::Trouble;
@@ -32,7 +32,7 @@ fn read_piece<R: Read>(
 
 /// All that the reader has, if it is not too long. It is read no further than one byte past the limit.
 pub fn read_file<R: Read>(alloc: Global, input: &mut R) -> Result<Vec<u8>, Trouble>
-    ensures whole { IfOk result (λ bytes. IfSome (R.remaining input.old) (λ all. bytes.items ≡ all)) }
+    ensures whole { IfOk result (λ bytes. AreLeft (R.remaining input.old) bytes.items) }
     ensures short { IfOk result (λ bytes. vec_len bytes ≤ most_bytes) }
     ensures err { IfErr result (λ trouble. IsReadTrouble trouble (R.remaining input.old)) }
     ensures up_to { ReadsUpTo (most_bytes + 1) (R.remaining input.old) (R.remaining input.new) }

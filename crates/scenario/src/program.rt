@@ -1,12 +1,12 @@
 //! What the program does, over any reader and writers.
-ghost use Rattle.std.specs.Prelude.{◌≡◌, ◌⊎◌, ◌+◌, ◌≤◌, length, None, OnOk, IfErr, IfOk, IfSome, string_bytes};
+ghost use Rattle.std.specs.Prelude.{◌≡◌, ◌⊎◌, ◌+◌, ◌≤◌, List, ℕ, length, None, OnOk, IfErr, IfOk, string_bytes};
 ghost use Rattle.std.specs.Io.KnownBytes.{Keeps};
 ghost use Rattle.scenario.specs.declared.program.Trouble.TheVariants.{Refused};
 ghost use Rattle.scenario.specs.declared.fault.Fault.TheVariants.{NoMemory};
 ghost use Rattle.scenario.specs.Output.{AppendsFront, EndsBy, WritesAll};
-ghost use Rattle.scenario.specs.Input.{ReadsUpTo};
+ghost use Rattle.scenario.specs.Input.{AreLeft, ReadsUpTo};
 ghost use Rattle.scenario.specs.Limits.{most_bytes};
-ghost use Rattle.scenario.specs.Command.{ending_of, done, Ends, EndsAs, error_line, file_fault, FileLines, IsSilent, Reports, status_of};
+ghost use Rattle.scenario.specs.Command.{ending_in, ending_of, Ends, EndsAs, error_line, file_fault, FileLines, Reports, status_of};
 
 use crate::fault::Fault;
 use crate::input::read_file;
@@ -96,9 +96,7 @@ fn run<R: Read, W: Write>(
     input: &mut R,
     out: &mut W,
 ) -> Result<(), Trouble>
-    ensures ok { OnOk result (IfSome (R.remaining input.old) (λ bytes. EndsAs which bytes done (W.contents out.old) (W.contents out.new))) }
-    ensures err { IfErr result (λ trouble. IfSome (R.remaining input.old) (λ bytes. EndsAs which bytes (ending_of trouble) (W.contents out.old) (W.contents out.new))) }
-    ensures silent { IfErr result (λ trouble. IsSilent (ending_of trouble) (W.contents out.old) (W.contents out.new)) }
+    ensures ends { (bytes : List ℕ) × AreLeft (R.remaining input.old) bytes × EndsAs which bytes (ending_in result) (W.contents out.old) (W.contents out.new) }
     ensures read { ReadsUpTo (most_bytes + 1) (R.remaining input.old) (R.remaining input.new) }
 {
     let bytes = read_file(alloc, input)?;
@@ -136,8 +134,8 @@ pub fn command<R: Read, W: Write, E: Write>(
     out: &mut W,
     err: &mut E,
 ) -> u8
-    ensures ends { IfSome (R.remaining input.old) (λ bytes. Ends which file.now bytes result (W.contents out.old) (W.contents out.new)
-        (E.contents err.old) (E.contents err.new)) }
+    ensures ends { (bytes : List ℕ) × AreLeft (R.remaining input.old) bytes
+        × Ends which file.now bytes result (W.contents out.old) (W.contents out.new) (E.contents err.old) (E.contents err.new) }
     ensures silent { (result ≡ 2) ⊎ (result ≡ 3) → Keeps (W.contents out.old) (W.contents out.new) }
     ensures read { ReadsUpTo (most_bytes + 1) (R.remaining input.old) (R.remaining input.new) }
 {
