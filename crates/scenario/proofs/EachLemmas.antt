@@ -5,18 +5,10 @@ use Rattle.std.proofs.Math.Seq.{drop-length}
 use Rattle.toml.specs.Data.{Data, as_str, as_array}
 use Rattle.toml.specs.View.{view, items_of, array_view}
 use Rattle.toml.specs.declared.value.Value.{Value}
-use Rattle.steps.specs.declared.step.WalkStep.{WalkStep}
-use Rattle.steps.specs.declared.fault.StepFault.TheVariants.{NotStep}
-use Rattle.scenario.specs.Faults.{Failure, wrong_step, ◌>>=◌}
 use Rattle.scenario.specs.Keys.{each, listed, texts_of}
 use Rattle.spaces.specs.Limits.{max_harts, max_spaces}
-use Rattle.history.specs.declared.event.Event.{Event}
-use Rattle.steps.specs.declared.fault.StepFault.{StepFault}
-use Rattle.steps.specs.RunStep.{step_among}
-use Rattle.scenario.specs.RunFile.{events_from}
 use Rattle.scenario.specs.Settings.{few_spaces, space_of, spares_of, whole_of, wholes_of}
-use Rattle.scenario.specs.WalkFile.{ppn_of, ppns_of, steps_from}
-use Rattle.steps.specs.Step.{walk_step_of}
+use Rattle.scenario.specs.WalkFile.{ppn_of, ppns_of}
 
 -- what is read so far, and what each of the rest gives, is what each of them all gives
 abbrev pub EachSoFar : {X Y : Type 0} → (X → Option Y) → List X → ℕ → List Y → Type 0
@@ -62,67 +54,6 @@ texts_of_array values d is = rw (sym is, listed-items (map view values.items)) (
 -- what a read of texts gives past their end
 abbrev pub no_text : Bor (List ℕ)
 no_text = record { ref_ptr = (0, 0); now = [] }
-
--- ---- steps, which are numbered
-
-abbrev pub texts_from : List (Bor (List ℕ)) → ℕ → List (List ℕ)
-texts_from ts i = map (λ text. text.now) (drop i ts)
-
-abbrev pub StepsSoFar : List (Bor (List ℕ)) → ℕ → List WalkStep → Type 0
-StepsSoFar ts i front = steps_from 1 (map (λ text. text.now) ts) ≡ (steps_from (i + 1) (texts_from ts i) >>= λ rest. Ok (front ++ rest))
-
-bind-nil : (r : Result (List WalkStep) Failure) → r ≡ (r >>= λ rest. Ok ([] ++ rest))
-bind-nil (Ok steps) = refl
-bind-nil (Err e) = refl
-
-pub steps_start : (ts : List (Bor (List ℕ))) → StepsSoFar ts 0 []
-steps_start ts = bind-nil (steps_from 1 (map (λ text. text.now) ts))
-
-one_step_more : (front : List WalkStep) (step : WalkStep) (r : Result (List WalkStep) Failure)
-    → ((r >>= λ steps. Ok (step ∷ steps)) >>= λ rest. Ok (front ++ rest)) ≡ (r >>= λ rest. Ok ((front ++ step ∷ []) ++ rest))
-one_step_more front step (Ok steps) = ap Ok (sym (append_assoc front (step ∷ []) steps))
-one_step_more front step (Err e) = refl
-
-pub steps_more : (ts : List (Bor (List ℕ))) (i : ℕ) (front : List WalkStep) (d : Bor (List ℕ)) (step : WalkStep) → i < length ts → walk_step_of (get_or ts i d).now ≡ Some step
-    → StepsSoFar ts i front → StepsSoFar ts (i + 1) (front ++ step ∷ [])
-steps_more ts i front d step lt is so_far =
-    so_far ∙ rw (drop_more ts i d lt, is) (one_step_more front step (steps_from (i + 1 + 1) (texts_from ts (i + 1))))
-
-pub steps_refused : (ts : List (Bor (List ℕ))) (i : ℕ) (front : List WalkStep) (d : Bor (List ℕ)) → i < length ts → walk_step_of (get_or ts i d).now ≡ None
-    → StepsSoFar ts i front → steps_from 1 (map (λ text. text.now) ts) ≡ Err (wrong_step (i + 1) NotStep)
-steps_refused ts i front d lt is so_far = so_far ∙ rw (drop_more ts i d lt, is)
-
-pub steps_end : (ts : List (Bor (List ℕ))) (front : List WalkStep) → StepsSoFar ts (length ts) front → steps_from 1 (map (λ text. text.now) ts) ≡ Ok front
-steps_end ts front so_far = so_far ∙ rw (drop-length ts) (ap Ok (append-nil front))
-
--- ---- the steps of `run`
-
-abbrev pub EventsSoFar : ℕ → List (Bor (List ℕ)) → ℕ → List Event → Type 0
-EventsSoFar harts ts i front = events_from harts 1 (map (λ text. text.now) ts) ≡ (events_from harts (i + 1) (texts_from ts i) >>= λ rest. Ok (front ++ rest))
-
-bind-none : (r : Result (List Event) Failure) → r ≡ (r >>= λ rest. Ok ([] ++ rest))
-bind-none (Ok events) = refl
-bind-none (Err e) = refl
-
-pub events_start : (harts : ℕ) (ts : List (Bor (List ℕ))) → EventsSoFar harts ts 0 []
-events_start harts ts = bind-none (events_from harts 1 (map (λ text. text.now) ts))
-
-one_event_more : (front : List Event) (event : Event) (r : Result (List Event) Failure)
-    → ((r >>= λ events. Ok (event ∷ events)) >>= λ rest. Ok (front ++ rest)) ≡ (r >>= λ rest. Ok ((front ++ event ∷ []) ++ rest))
-one_event_more front event (Ok events) = ap Ok (sym (append_assoc front (event ∷ []) events))
-one_event_more front event (Err e) = refl
-
-pub events_more : (harts : ℕ) (ts : List (Bor (List ℕ))) (i : ℕ) (front : List Event) (d : Bor (List ℕ)) (event : Event) → i < length ts → step_among harts (get_or ts i d).now ≡ Ok event
-    → EventsSoFar harts ts i front → EventsSoFar harts ts (i + 1) (front ++ event ∷ [])
-events_more harts ts i front d event lt is so_far =
-    so_far ∙ rw (drop_more ts i d lt, is) (one_event_more front event (events_from harts (i + 1 + 1) (texts_from ts (i + 1))))
-
-pub events_refused : (harts : ℕ) (ts : List (Bor (List ℕ))) (i : ℕ) (front : List Event) (d : Bor (List ℕ)) (fault : StepFault) → i < length ts → step_among harts (get_or ts i d).now ≡ Err fault
-    → EventsSoFar harts ts i front → events_from harts 1 (map (λ text. text.now) ts) ≡ Err (wrong_step (i + 1) fault)
-events_refused harts ts i front d fault lt is so_far = so_far ∙ rw (drop_more ts i d lt, is)
-
-pub events_end : (harts : ℕ) (ts : List (Bor (List ℕ))) (front : List Event) → EventsSoFar harts ts (length ts) front → events_from harts 1 (map (λ text. text.now) ts) ≡ Ok front
-events_end harts ts front so_far = so_far ∙ rw (drop-length ts) (ap Ok (append-nil front))
 
 -- ---- the configuration
 

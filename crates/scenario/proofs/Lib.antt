@@ -8,3 +8,4 @@ pub mod OutputLemmas
 pub mod ReplyLemmas
 pub mod RunLemmas
 pub mod StepLemmas
+pub mod TextLemmas

@@ -3,6 +3,7 @@ pub mod Limits
 pub mod Keys
 pub mod Memory
 pub mod Settings
+pub mod StepTexts
 pub mod RunFile
 pub mod WalkFile
 pub mod Lines

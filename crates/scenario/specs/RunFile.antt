@@ -1,17 +1,16 @@
 -- The scenario that a text for `run` is, or its first fault.
-use Rattle.std.specs.Prelude.{ℕ, ◌+◌, codes, List, [], ◌∷◌, Result, Ok, Err, if◌then◌else◌}
+use Rattle.std.specs.Prelude.{ℕ, codes, List, [], ◌∷◌, Result, Ok, Err, if◌then◌else◌}
 use Rattle.std.specs.Option.{ok_or}
 use Rattle.std.specs.Str.{is_utf8}
 use Rattle.toml.specs.Data.{Members}
 use Rattle.toml.specs.Parse.{parse_document}
 use Rattle.spaces.specs.declared.configuration.Config.{Config}
 use Rattle.history.specs.declared.event.Event.{Event}
-use Rattle.steps.specs.declared.fault.StepFault.{StepFault}
-use Rattle.steps.specs.RunStep.{step_among}
 use Rattle.scenario.specs.declared.plan.RunScenario.{RunScenario}
-use Rattle.scenario.specs.Faults.{Failure, not_toml, wrong_step, ◌>>=◌}
+use Rattle.scenario.specs.Faults.{Failure, not_toml, ◌>>=◌}
 use Rattle.scenario.specs.Keys.{few, known_only, texts_at}
 use Rattle.scenario.specs.Settings.{checked, config_at}
+use Rattle.scenario.specs.StepTexts.{events_in}
 
 -- what the harts begin with, and their steps in order
 pub record RunPlan : Type 0 where
@@ -25,17 +24,6 @@ abbrev pub run_keys : List (List ℕ)
 run_keys =
     codes "harts" ∷ codes "window" ∷ codes "base" ∷ codes "capacity" ∷ codes "spares" ∷ codes "spaces" ∷ codes "steps" ∷ []
 
--- what is wrong with the step of this number, if something is
-abbrev pub numbered : {X : Type 0} → ℕ → Result X StepFault → Result X Failure
-numbered n (Ok x) = Ok x
-numbered n (Err fault) = Err (wrong_step n fault)
-
--- the steps of so many harts that the texts write, the first of which has this number
-abbrev pub events_from : ℕ → ℕ → List (List ℕ) → Result (List Event) Failure
-events_from harts n [] = Ok []
-events_from harts n (text ∷ texts) =
-    numbered n (step_among harts text) >>= λ event. events_from harts (n + 1) texts >>= λ events. Ok (event ∷ events)
-
 -- the whole, in the order of checking
 unfoldable pub run_plan_of : Members → Result RunPlan Failure
 run_plan_of ms = do
@@ -44,7 +32,7 @@ run_plan_of ms = do
   texts ← texts_at (codes "steps") ms
   _ ← checked config
   _ ← few texts
-  events ← events_from config.harts 1 texts
+  events ← events_in config.harts texts
   Ok (record { config = config; events = events })
 
 unfoldable pub run_scenario_of : List ℕ → Result RunPlan Failure

@@ -1,5 +1,5 @@
 -- The scenario that a text for `walk` is, or its first fault.
-use Rattle.std.specs.Prelude.{ℕ, ◌+◌, ◌^◌, ◌&&◌, Bool, nat_lt, nat_le, codes, List, [], ◌∷◌, length, Option, Some, None, option_and_then, option_map, Result, Ok, Err, if◌then◌else◌}
+use Rattle.std.specs.Prelude.{ℕ, ◌^◌, ◌&&◌, Bool, nat_lt, nat_le, codes, List, [], ◌∷◌, length, Option, Some, None, option_and_then, option_map, Result, Ok, Err, if◌then◌else◌}
 use Rattle.std.specs.Option.{ok_or}
 use Rattle.std.specs.Str.{is_utf8}
 use Rattle.toml.specs.Data.{Data, as_str, Members, get_member}
@@ -7,17 +7,16 @@ use Rattle.toml.specs.Parse.{parse_document}
 use Rattle.pte.specs.Address.{table_length}
 use Rattle.pte.specs.Entry.{ppn_bits}
 use Rattle.walk.specs.Leads.{Tables}
-use Rattle.steps.specs.declared.fault.StepFault.TheVariants.{NotStep}
 use Rattle.scenario.specs.declared.frames.TableWord.{TableWord}
 use Rattle.scenario.specs.declared.plan.WalkScenario.{WalkScenario}
 use Rattle.steps.specs.declared.step.WalkStep.{WalkStep}
 use Rattle.steps.specs.Num.{num_of}
-use Rattle.steps.specs.Step.{walk_step_of}
 use Rattle.steps.specs.Words.{words_of}
-use Rattle.scenario.specs.Faults.{Failure, not_toml, wrong_key, wrong_step, ◌>>=◌}
+use Rattle.scenario.specs.Faults.{Failure, not_toml, wrong_key, ◌>>=◌}
 use Rattle.scenario.specs.Keys.{below, each, few, known_only, one_number, texts_at, value_or}
 use Rattle.scenario.specs.Limits.{most_frames}
 use Rattle.scenario.specs.Memory.{is_listed, word_at, word_in}
+use Rattle.scenario.specs.StepTexts.{walk_steps_in}
 
 -- a root, the words of the table frames, and the accesses that are made from the root
 pub record WalkPlan : Type 0 where
@@ -71,14 +70,6 @@ words_at is_frame ms = texts_at (codes "words") ms >>= λ texts. ok_or (each (wo
 abbrev pub tables_at : (ℕ → Bool) → Members → Result Tables Failure
 tables_at is_frame ms = words_at is_frame ms >>= λ words. Ok (word_in is_frame words)
 
--- ---- steps
-
--- the steps of the texts, the first of which has this number
-abbrev pub steps_from : ℕ → List (List ℕ) → Result (List WalkStep) Failure
-steps_from n [] = Ok []
-steps_from n (text ∷ texts) =
-    ok_or (walk_step_of text) (wrong_step n NotStep) >>= λ step. steps_from (n + 1) texts >>= λ steps. Ok (step ∷ steps)
-
 -- ---- the whole, in the order of checking
 
 unfoldable pub walk_plan_of : Members → Result WalkPlan Failure
@@ -89,7 +80,7 @@ walk_plan_of ms = do
   tables ← tables_at is_frame ms
   texts ← texts_at (codes "steps") ms
   _ ← few texts
-  steps ← steps_from 1 texts
+  steps ← walk_steps_in texts
   Ok (record { root = root; tables = tables; steps = steps })
 
 unfoldable pub walk_scenario_of : List ℕ → Result WalkPlan Failure

@@ -20,7 +20,7 @@ mod settings;
 mod texts;
 
 pub use fault::Fault;
-pub use format_laws::{least_unknown_key, limits_are_checked, one_text};
+pub use format_laws::{first_wrong_step, least_unknown_key, limits_are_checked, one_text};
 pub use program::{Which, command};
 pub use steps::StepFault;
 pub use texts::{run_text, walk_text};

@@ -4,7 +4,8 @@ ghost use Rattle.toml.specs.View.{table_view};
 ghost use Rattle.spaces.specs.Limits.{max_harts};
 ghost use Rattle.scenario.specs.Faults.{Gives};
 ghost use Rattle.scenario.specs.Limits.{most_steps};
-ghost use Rattle.scenario.specs.RunFile.{events_from, run_plan_of, run_scenario_of, run_view};
+ghost use Rattle.scenario.specs.StepTexts.{events_in};
+ghost use Rattle.scenario.specs.RunFile.{run_plan_of, run_scenario_of, run_view};
 
 use crate::document::{check_keys, document, texts_of_key};
 use crate::fault::Fault;
@@ -23,7 +24,7 @@ const KEYS: [&str; 7] = [
 
 fn events(alloc: Global, harts: u8, texts: &[&str]) -> Result<Vec<Event>, Fault>
     requires { length texts.now ≤ most_steps }
-    ensures { Gives (λ v. v.items) result (events_from harts 1 (map (λ text. text.now) texts.now)) }
+    ensures { Gives (λ v. v.items) result (events_in harts (map (λ text. text.now) texts.now)) }
 {
     let mut events = Vec::new(alloc);
     for (index, text) in texts.iter().enumerate() {

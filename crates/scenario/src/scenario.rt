@@ -6,7 +6,8 @@ ghost use Rattle.scenario.specs.Keys.{each, text_views};
 ghost use Rattle.scenario.specs.Faults.{Gives};
 ghost use Rattle.scenario.specs.Limits.{most_frames, most_steps};
 ghost use Rattle.scenario.specs.Memory.{is_frame_of, is_listed, word_at};
-ghost use Rattle.scenario.specs.WalkFile.{frames_at, plan_view, ppn_of, ppns_of, root_at, steps_from, tables_at, walk_plan_of, walk_scenario_of, word_in_table, word_of, word_of_words, words_at};
+ghost use Rattle.scenario.specs.StepTexts.{walk_steps_in};
+ghost use Rattle.scenario.specs.WalkFile.{frames_at, plan_view, ppn_of, ppns_of, root_at, tables_at, walk_plan_of, walk_scenario_of, word_in_table, word_of, word_of_words, words_at};
 
 use crate::document::{check_keys, document, key_fault, number, texts_of_key, value_at};
 use crate::fault::Fault;
@@ -162,7 +163,7 @@ fn tables(alloc: Global, table: &Table, frames: Frames) -> Result<TableFrames, F
 
 fn steps(alloc: Global, texts: &[&str]) -> Result<Vec<WalkStep>, Fault>
     requires { length texts.now ≤ most_steps }
-    ensures { Gives (λ v. v.items) result (steps_from 1 (map (λ text. text.now) texts.now)) }
+    ensures { Gives (λ v. v.items) result (walk_steps_in (map (λ text. text.now) texts.now)) }
 {
     let mut steps = Vec::new(alloc);
     for (index, text) in texts.iter().enumerate() {

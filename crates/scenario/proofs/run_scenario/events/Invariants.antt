@@ -1,4 +1,4 @@
-use Rattle.scenario.proofs.EachLemmas.{EventsSoFar}
+use Rattle.scenario.proofs.TextLemmas.{EventsSoFar}
 use Rattle.scenario.proofs.run_scenario.events.Given as goal
 
 abbrev pub invariant-loop-index : goal.invariant-loop-index

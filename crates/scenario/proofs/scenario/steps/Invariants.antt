@@ -1,4 +1,4 @@
-use Rattle.scenario.proofs.EachLemmas.{StepsSoFar}
+use Rattle.scenario.proofs.TextLemmas.{StepsSoFar}
 use Rattle.scenario.proofs.scenario.steps.Given as goal
 
 abbrev pub invariant-loop-index : goal.invariant-loop-index

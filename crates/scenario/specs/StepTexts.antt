@@ -1,0 +1,46 @@
+-- The steps that the texts of a file write, or the first that is wrong.
+use Rattle.std.specs.Prelude.{◌≡◌, ℕ, ◌+◌, List, [], ◌∷◌, ◌++◌, length, map, Result, Ok, Err}
+use Rattle.std.specs.Option.{ok_or}
+use Rattle.history.specs.declared.event.Event.{Event}
+use Rattle.steps.specs.declared.fault.StepFault.{StepFault}
+use Rattle.steps.specs.declared.fault.StepFault.TheVariants.{NotStep}
+use Rattle.steps.specs.declared.step.WalkStep.{WalkStep}
+use Rattle.steps.specs.RunStep.{step_among}
+use Rattle.steps.specs.Step.{walk_step_of}
+use Rattle.scenario.specs.Faults.{Failure, wrong_step, ◌>>=◌}
+
+-- what is wrong with the step of this number, if something is
+abbrev pub numbered : {X : Type 0} → ℕ → Result X StepFault → Result X Failure
+numbered n (Ok x) = Ok x
+numbered n (Err fault) = Err (wrong_step n fault)
+
+-- the step of each text, the first of which has this number, or the first fault
+abbrev pub steps_from : {X : Type 0} → (List ℕ → Result X StepFault) → ℕ → List (List ℕ) → Result (List X) Failure
+steps_from read n [] = Ok []
+steps_from read n (text ∷ texts) = numbered n (read text) >>= λ step. steps_from read (n + 1) texts >>= λ steps. Ok (step ∷ steps)
+
+abbrev pub walk_step_in : List ℕ → Result WalkStep StepFault
+walk_step_in text = ok_or (walk_step_of text) NotStep
+
+-- the steps of a file for `walk`
+abbrev pub walk_steps_in : List (List ℕ) → Result (List WalkStep) Failure
+walk_steps_in texts = steps_from walk_step_in 1 texts
+
+-- the steps of a file for `run`, for so many harts
+abbrev pub events_in : ℕ → List (List ℕ) → Result (List Event) Failure
+events_in harts texts = steps_from (step_among harts) 1 texts
+
+-- each of the texts is read as the step in its place
+abbrev pub AreRead : {X : Type 0} → (List ℕ → Result X StepFault) → List (List ℕ) → List X → Type 0
+AreRead read texts steps = map read texts ≡ map Ok steps
+
+-- the text of this number is wrong, for this fault, and none before it
+pub record IsFirstWrong {X : Type 0} (read : List ℕ → Result X StepFault) (texts : List (List ℕ)) (n : ℕ) (fault : StepFault) : Type 0 where
+  pub before : List (List ℕ)
+  pub text : List ℕ
+  pub behind : List (List ℕ)
+  pub is : texts ≡ before ++ text ∷ behind
+  pub number : n ≡ length before + 1
+  pub steps : List X
+  pub read_before : AreRead read before steps
+  pub wrong : read text ≡ Err fault
