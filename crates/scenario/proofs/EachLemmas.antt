@@ -1,5 +1,5 @@
 -- A loop that reads each element, and stops at the first that it refuses.
-use Rattle.std.proofs.Common.{◌≡◌, ℕ, ◌+◌, ◌<◌, List, [], ◌∷◌, ◌++◌, length, get_or, drop, map, Option, Some, None, option_map, refl, sym, ap, ◌∙◌, append_assoc, append-nil, Bor, Vec, Global, ◌≤◌, le-leb, Result, Ok, Err}
+use Rattle.std.proofs.Common.{◌≡◌, ℕ, ◌+◌, ◌<◌, List, [], ◌∷◌, ◌++◌, length, get_or, drop, map, Option, Some, None, option_map, refl, sym, ap, ◌∙◌, append_assoc, append-nil, Bor, Vec, Global, ◌≤◌, le-leb}
 use Rattle.std.proofs.lemmas.List.{drop_more, length-map}
 use Rattle.std.proofs.Math.Seq.{drop-length}
 use Rattle.toml.specs.Data.{Data, as_str, as_array}

@@ -16,9 +16,8 @@ use Rattle.scenario.specs.Command.{done, Ending, ending_of, ending_of_fault, End
 use Rattle.scenario.specs.Faults.{Failure, fault_in, not_toml}
 use Rattle.scenario.specs.Input.{AreLeft, IsReadTrouble}
 use Rattle.scenario.specs.Limits.{most_bytes}
-use Rattle.scenario.specs.Lines.{LinesOf, Prints}
+use Rattle.scenario.specs.Prints.{LinesOf, Prints, PrintsReplies}
 use Rattle.scenario.specs.Output.{EndsBy}
-use Rattle.scenario.specs.ReplyLines.{PrintsReplies}
 use Rattle.scenario.specs.RunFile.{run_scenario_of}
 use Rattle.scenario.specs.WalkFile.{walk_scenario_of}
 

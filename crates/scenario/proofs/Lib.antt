@@ -2,10 +2,8 @@ pub mod EachLemmas
 pub mod FileLemmas
 pub mod KeyLemmas
 pub mod LimitLemmas
-pub mod LineLemmas
 pub mod MemoryLemmas
 pub mod OutputLemmas
-pub mod ReplyLemmas
 pub mod RunLemmas
 pub mod StepLemmas
 pub mod TextLemmas

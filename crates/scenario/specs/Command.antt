@@ -8,12 +8,11 @@ use Rattle.scenario.specs.declared.program.Trouble.TheVariants as troubles
 use Rattle.scenario.specs.declared.fault.Fault.{Fault}
 use Rattle.scenario.specs.declared.fault.Fault.TheVariants as faults
 use Rattle.scenario.specs.Faults.{Failure, not_toml, wrong_key, bad_layout, too_many, wrong_step, failure_text, fault_in}
-use Rattle.scenario.specs.Lines.{LinesOf, Prints}
+use Rattle.scenario.specs.Prints.{LinesOf, Prints, PrintsReplies}
 use Rattle.scenario.specs.Output.{AppendsFront, WritesAll, WritesFront}
 use Rattle.scenario.specs.Limits.{most_bytes}
 use Rattle.scenario.specs.WalkFile.{walk_file}
 use Rattle.scenario.specs.RunFile.{run_file}
-use Rattle.scenario.specs.ReplyLines.{PrintsReplies}
 
 -- the first fault of a file's bytes, if they have one
 abbrev pub file_fault : Which → List ℕ → Option Failure
@@ -57,6 +56,10 @@ reason file no_memory = codes "no memory"
 abbrev pub error_line : List ℕ → Ending → List ℕ
 error_line file done = []
 error_line file ending = codes "svsim: " ++ reason file ending ++ codes "\n"
+
+-- of a file named `f`, an ending has this status and this line
+abbrev pub IsTold : Ending → ℕ → List ℕ → Type 0
+IsTold ending status line = (status_of ending ≡ status) × (error_line (codes "f") ending ≡ line)
 
 -- when a file of these bytes may end so; each may be unreadable, or want memory
 abbrev pub Suits : Which → List ℕ → Ending → Type 0

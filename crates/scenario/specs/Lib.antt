@@ -6,8 +6,7 @@ pub mod Settings
 pub mod StepTexts
 pub mod RunFile
 pub mod WalkFile
-pub mod Lines
-pub mod ReplyLines
+pub mod Prints
 pub mod Output
 pub mod Input
 pub mod Command

@@ -1,5 +1,7 @@
 //! Laws of the formats: each call makes no step, and its clauses hold of the definitions alone.
-ghost use Rattle.std.specs.Prelude.{◌≡◌, ◌↔◌, List, ℕ, Some, None, Ok, Err, false, IsTrue};
+ghost use Rattle.std.specs.Prelude.{◌≡◌, ◌↔◌, List, [], ℕ, Some, None, Ok, Err, codes, false, IsTrue};
+ghost use Rattle.steps.specs.declared.fault.StepFault.TheVariants.{NotStep};
+ghost use Rattle.scenario.specs.Command.{done, IsTold, no_memory, output_failed, refused, too_large, unreadable};
 ghost use Rattle.history.specs.declared.event.Event.{Event};
 ghost use Rattle.spaces.specs.declared.configuration.Config.{Config};
 ghost use Rattle.spaces.specs.Limits.{max_frames, MeetsLimits};
@@ -7,12 +9,10 @@ ghost use Rattle.toml.specs.Data.{Members};
 ghost use Rattle.steps.specs.declared.fault.StepFault.{StepFault};
 ghost use Rattle.steps.specs.declared.step.WalkStep.{WalkStep};
 ghost use Rattle.steps.specs.RunStep.{step_among};
-ghost use Rattle.scenario.specs.Faults.{wrong_step};
+ghost use Rattle.scenario.specs.Faults.{bad_layout, not_toml, too_many, wrong_key, wrong_step};
 ghost use Rattle.scenario.specs.Keys.{HasKey, is_known, IsLeastUnknown, least_unknown};
-ghost use Rattle.scenario.specs.Lines.{Prints};
 ghost use Rattle.scenario.specs.Settings.{is_within_limits};
 ghost use Rattle.scenario.specs.StepTexts.{AreRead, events_in, IsFirstWrong, walk_step_in, walk_steps_in};
-ghost use Rattle.scenario.specs.WalkFile.{WalkPlan};
 
 /// The unknown key that is reported is the least by bytes, and none is reported only where all keys are known.
 pub fn least_unknown_key()
@@ -34,8 +34,16 @@ pub fn limits_are_checked()
     ensures { (config : Config) → IsTrue (is_within_limits config) ↔ MeetsLimits max_frames config }
 {}
 
-/// A scenario of `walk` prints one text, and only one.
-pub fn one_text()
-    ensures one { (plan : WalkPlan) (a b : List ℕ) → Prints plan a → Prints plan b → a ≡ b }
-    ensures some { (plan : WalkPlan) → (lines : List ℕ) × Prints plan lines }
+/// The status of each ending, and its line on standard error, written out.
+pub fn worked_endings()
+    ensures done { IsTold done 0 [] }
+    ensures unreadable { IsTold unreadable 2 (codes "svsim: cannot read f\n") }
+    ensures too_large { IsTold too_large 2 (codes "svsim: file too large\n") }
+    ensures not_toml { IsTold (refused not_toml) 2 (codes "svsim: not TOML\n") }
+    ensures wrong_key { IsTold (refused (wrong_key (codes "k"))) 3 (codes "svsim: key k: wrong\n") }
+    ensures bad_layout { IsTold (refused bad_layout) 3 (codes "svsim: layout refused\n") }
+    ensures too_many { IsTold (refused too_many) 3 (codes "svsim: too many steps\n") }
+    ensures wrong_step { IsTold (refused (wrong_step 12 NotStep)) 3 (codes "svsim: step 12: not a step\n") }
+    ensures output_failed { IsTold output_failed 4 (codes "svsim: output failed\n") }
+    ensures no_memory { IsTold no_memory 5 (codes "svsim: no memory\n") }
 {}

@@ -9,23 +9,26 @@ mod fault;
 mod format_laws;
 mod frames;
 mod input;
-mod lines;
 mod output;
 mod plan;
 mod program;
-mod reply_lines;
 mod run_scenario;
 mod scenario;
 mod settings;
 mod texts;
 
 pub use fault::Fault;
-pub use format_laws::{first_wrong_step, least_unknown_key, limits_are_checked, one_text};
+pub use format_laws::{first_wrong_step, least_unknown_key, limits_are_checked, worked_endings};
+pub use lines::one_text;
 pub use program::{Which, command};
 pub use steps::StepFault;
 pub use texts::{run_text, walk_text};
 
 #[cfg(test)]
+mod limit_tests;
+#[cfg(test)]
 mod run_tests;
 #[cfg(test)]
 mod tests;
+#[cfg(test)]
+mod walk_tests;

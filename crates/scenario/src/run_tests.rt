@@ -1,23 +1,7 @@
 //! What no clause says of `run`: texts of known files, whose lines were worked out by hand.
-use crate::{Which, command};
-use std::alloc::Global;
+use crate::Which;
+use crate::tests::{prints, refuses};
 use std::test::Fail;
-
-/// What the command ended with: the status, the output and standard error.
-#[derive(Drop)]
-struct Ended {
-    status: u8,
-    out: Vec<u8>,
-    err: Vec<u8>,
-}
-
-fn run(alloc: Global, text: &str) -> Ended {
-    let mut out = Vec::new(alloc);
-    let mut err = Vec::new(alloc);
-    let mut input = text.as_bytes();
-    let status = command(alloc, Which::Run, "a file", &mut input, &mut out, &mut err);
-    Ended { status, out, err }
-}
 
 /// A page of 2 MiB that hart 0 maps and unmaps, and that hart 1 fills, still hits and then drops.
 const SUPERPAGE: &str = r#"harts = 2
@@ -52,99 +36,186 @@ const SUPERPAGE_LINES: &str = "1 table 0x80002
 19 ok
 ";
 
+const ANSWERED: [(&str, &str); 6] = [
+    ("", ""),
+    (SUPERPAGE, SUPERPAGE_LINES),
+    ("steps = [\"0 load\"]", "1 refused NotWalking\n"),
+    (
+        "harts = 4\nsteps = [\"0 flush 0 0,2,3,1\", \"0 flush all 0,3\", \"0 ackself 0\", \"0 post 1 3\", \"3 take 0\"]",
+        "1 opened 0\n2 opened 1\n3 waiting 1,2,3\n4 ok\n5 taken 1 all\n",
+    ),
+    (
+        "harts = 2\nsteps = [\"0 flush all 0\", \"0 post 0 1\"]",
+        "1 opened 0\n2 refused NotNamed\n",
+    ),
+    (
+        "base = \"4096\"\nspares = [1]\nspaces = [\" 0\\t7 \"]\nsteps = [\"0 map 0 1G:0x0 0x40000 rad\", \"0 map 0 4K:0xffffffc000000000 0 r\", \"0 map k 2M:0xffffffffc0000000 0x200 rgad\", \"0 map 0 4K:0x40000000 1 r\", \"0 map 0 4K:0x40000000 1 r\"]",
+        "1 leaf\n2 refused WrongHalf\n3 leaf\n4 table 0x1002\n5 refused NoFrame\n",
+    ),
+];
+
 #[test]
 fn answered_runs(rt: HostRuntime) -> Result<(), Fail> {
-    for (text, lines) in [
-        ("", ""),
-        (SUPERPAGE, SUPERPAGE_LINES),
-        ("steps = [\"0 load\"]", "1 refused NotWalking\n"),
-        (
-            "harts = 4\nsteps = [\"0 flush 0 0,2,3,1\", \"0 flush all 0,3\", \"0 ackself 0\", \"0 post 1 3\", \"3 take 0\"]",
-            "1 opened 0\n2 opened 1\n3 waiting 1,2,3\n4 ok\n5 taken 1 all\n",
-        ),
-        (
-            "base = \"4096\"\nspares = [1]\nspaces = [\" 0\\t7 \"]\nsteps = [\"0 map 0 1G:0x0 0x40000 rad\", \"0 map 0 4K:0xffffffc000000000 0 r\", \"0 map k 2M:0xffffffffc0000000 0x200 rgad\", \"0 map 0 4K:0x40000000 1 r\", \"0 map 0 4K:0x40000000 1 r\"]",
-            "1 leaf\n2 refused WrongHalf\n3 leaf\n4 table 0x1002\n5 refused NoFrame\n",
-        ),
-    ] {
-        let ended = run(rt.alloc(), text);
-        assert_eq!(rt; ended.status, 0, "{text}");
-        assert_eq!(rt; ended.out.as_slice(), lines.as_bytes(), "{text}");
-        assert!(rt; ended.err.is_empty(), "{text}");
+    for (text, lines) in ANSWERED {
+        assert!(rt; prints(rt.alloc(), Which::Run, text, lines), "{text}");
     }
     Ok(())
 }
+
+/// Which frames the tables come from: the window's, the roots, the spare frames of hart 0 and those of hart 1.
+const TABLE_FRAMES: [(&str, &str); 4] = [
+    // the window's table and the root, and eight spare frames for hart 0
+    (
+        "harts = 2\nspaces = [\"0 1\", \"1 2\"]\nsteps = [\"0 map 0 4K:0 1 r\", \"1 map 1 4K:0 1 r\"]",
+        "1 table 0x80003\n2 table 0x8000b\n",
+    ),
+    (
+        "harts = 2\nspaces = [\"0 1\", \"1 2\"]\nspares = [1, 2]\nsteps = [\"1 map 1 4K:0 1 r\", \"1 map 1 4K:0 1 r\", \"0 map 0 4K:0 1 r\", \"0 map 0 4K:0 1 r\"]",
+        "1 table 0x80004\n2 table 0x80005\n3 table 0x80003\n4 refused NoFrame\n",
+    ),
+    (
+        "window = 2\nsteps = [\"0 map k 2M:0xffffffff80000000 0x200 rgad\", \"0 map 0 4K:0 1 r\"]",
+        "1 leaf\n2 table 0x80003\n",
+    ),
+    (
+        "steps = [\"0 map k 2M:0xffffffff80000000 0x200 rgad\", \"0 map 0 4K:0 1 r\"]",
+        "1 refused WrongHalf\n2 table 0x80002\n",
+    ),
+];
+
+#[test]
+fn tables_come_from_their_frames(rt: HostRuntime) -> Result<(), Fail> {
+    for (text, lines) in TABLE_FRAMES {
+        assert!(rt; prints(rt.alloc(), Which::Run, text, lines), "{text}");
+    }
+    Ok(())
+}
+
+/// Five orders for hart 1, which takes none.
+const ORDERS: &str = r#"harts = 2
+steps = [
+    "0 flush all 0,1", "0 flush all 0,1", "0 flush all 0,1", "0 flush all 0,1", "0 flush all 0,1",
+    "0 post 0 1", "0 post 1 1", "0 post 2 1", "0 post 3 1", "0 post 4 1",
+]
+"#;
+
+const ORDERS_LINES: &str = "1 opened 0
+2 opened 1
+3 opened 2
+4 opened 3
+5 opened 4
+6 ok
+7 ok
+8 ok
+9 ok
+10 refused Full
+";
+
+#[test]
+fn four_requests_wait_where_no_key_says_how_many(rt: HostRuntime) -> Result<(), Fail> {
+    assert!(rt; prints(rt.alloc(), Which::Run, ORDERS, ORDERS_LINES));
+    Ok(())
+}
+
+const WRONG_KEYS: [(&str, &str); 14] = [
+    ("zoo = 1\nroot = \"0\"", "key root: wrong"),
+    ("harts = \"1\"\nzoo = 1", "key zoo: wrong"),
+    ("harts = \"1\"", "key harts: wrong"),
+    ("harts = -1\nwindow = -1", "key harts: wrong"),
+    ("harts = 65536", "key harts: wrong"),
+    ("window = 1.0\nbase = 1", "key window: wrong"),
+    ("base = 1\ncapacity = true", "key base: wrong"),
+    ("capacity = [4]\nspares = 8", "key capacity: wrong"),
+    ("spares = [65536]\nspaces = 1", "key spares: wrong"),
+    ("spares = [1, 1, 1, 1, 1, 1, 1, 1, 1]", "key spares: wrong"),
+    ("spaces = [\"0\"]\nsteps = 1", "key spaces: wrong"),
+    ("spaces = [\"256 1\"]", "key spaces: wrong"),
+    ("spaces = [\"0 65536\"]", "key spaces: wrong"),
+    ("steps = [1]\nharts = 9", "key steps: wrong"),
+];
+
+const WRONG_LAYOUTS: [&str; 14] = [
+    "harts = 9\nsteps = [\"0 jump\"]",
+    "harts = 0",
+    "harts = 65535",
+    "window = 0",
+    "window = 5",
+    "base = \"0xFFFFFFFFFF7\"",
+    "base = \"0x100000000000\"",
+    "capacity = 0",
+    "capacity = 65",
+    "spares = [1, 1]",
+    "spares = [511]",
+    "spaces = []",
+    "spaces = [\"1 1\"]",
+    "spaces = [\"0 1\", \"0 1\"]",
+];
+
+const WRONG_STEPS: [(&str, &str); 4] = [
+    (
+        "harts = 8\nsteps = [\"0 load\", \"8 load\"]",
+        "step 2: no such hart",
+    ),
+    (
+        "steps = [\"0 unmap 0 4K:0x4000000000 0\", \"0 jump\"]",
+        "step 1: not a page",
+    ),
+    ("steps = [\"0 load\", \"u load 0x0\"]", "step 2: not a step"),
+    (
+        "steps = [\"0 load\", \"0 jump\", \"1 load\"]",
+        "step 2: not a step",
+    ),
+];
 
 #[test]
 fn refused_runs(rt: HostRuntime) -> Result<(), Fail> {
-    for (text, line) in [
-        ("zoo = 1\nroot = \"0\"", "key root: wrong"),
-        ("harts = \"1\"", "key harts: wrong"),
-        ("harts = -1\nwindow = -1", "key harts: wrong"),
-        ("harts = 65536", "key harts: wrong"),
-        ("window = 1.0\nbase = 1", "key window: wrong"),
-        ("base = 1\ncapacity = true", "key base: wrong"),
-        ("capacity = [4]\nspares = 8", "key capacity: wrong"),
-        ("spares = [65536]\nspaces = 1", "key spares: wrong"),
-        ("spares = [1, 1, 1, 1, 1, 1, 1, 1, 1]", "key spares: wrong"),
-        ("spaces = [\"0\"]\nsteps = 1", "key spaces: wrong"),
-        ("spaces = [\"256 1\"]", "key spaces: wrong"),
-        ("spaces = [\"0 65536\"]", "key spaces: wrong"),
-        ("steps = [1]\nharts = 9", "key steps: wrong"),
-        ("harts = 9\nsteps = [\"0 jump\"]", "layout refused"),
-        ("harts = 0", "layout refused"),
-        ("window = 5", "layout refused"),
-        ("base = \"0x100000000000\"", "layout refused"),
-        ("capacity = 65", "layout refused"),
-        ("spares = [1, 1]", "layout refused"),
-        ("spares = [511]", "layout refused"),
-        ("spaces = []", "layout refused"),
-        ("spaces = [\"1 1\"]", "layout refused"),
-        ("spaces = [\"0 1\", \"0 1\"]", "layout refused"),
-        (
-            "harts = 8\nsteps = [\"0 load\", \"8 load\"]",
-            "step 2: no such hart",
-        ),
-        (
-            "steps = [\"0 unmap 0 4K:0x4000000000 0\", \"0 jump\"]",
-            "step 1: not a page",
-        ),
-        ("steps = [\"0 load\", \"u load 0x0\"]", "step 2: not a step"),
-    ] {
-        let alloc = rt.alloc();
-        let ended = run(alloc, text);
-        let error = format!(in alloc; "svsim: {line}\n")?;
-        assert_eq!(rt; ended.status, 3, "{text}");
-        assert!(rt; ended.out.is_empty(), "{text}");
-        assert_eq!(rt; ended.err.as_slice(), error.as_bytes(), "{text}");
+    let alloc = rt.alloc();
+    for (text, reason) in WRONG_KEYS {
+        assert!(rt;
+            refuses(alloc, Which::Run, text.as_bytes(), 3, reason)?,
+            "{text}"
+        );
+    }
+    for text in WRONG_LAYOUTS {
+        assert!(rt;
+            refuses(alloc, Which::Run, text.as_bytes(), 3, "layout refused")?,
+            "{text}"
+        );
+    }
+    for (text, reason) in WRONG_STEPS {
+        assert!(rt;
+            refuses(alloc, Which::Run, text.as_bytes(), 3, reason)?,
+            "{text}"
+        );
     }
     Ok(())
 }
 
-/// A file whose only key is `steps`, with so many steps.
-fn steps_file(alloc: Global, count: usize) -> Result<String, Fail> {
-    let mut text = String::from_str(alloc, "steps = [")?;
-    for _ in 0..count {
-        text.push_str("\"0 load\",")?;
+/// Layouts at their limits: 512 frames, ten frames of which the last is the last below 2^44, and eight harts.
+#[test]
+fn layouts_at_their_limits(rt: HostRuntime) -> Result<(), Fail> {
+    for text in [
+        "spares = [510]",
+        "base = \"0xFFFFFFFFFF6\"",
+        "harts = 8\nspares = [0, 1, 2, 3, 4, 5, 6, 7]\nspaces = [\"7 65535\"]",
+        "window = 4\ncapacity = 64",
+        "capacity = 1",
+    ] {
+        assert!(rt; prints(rt.alloc(), Which::Run, text, ""), "{text}");
     }
-    text.push_str("]")?;
-    Ok(text)
+    Ok(())
 }
 
 #[test]
-fn most_steps(rt: HostRuntime) -> Result<(), Fail> {
+fn most_spaces(rt: HostRuntime) -> Result<(), Fail> {
     let alloc = rt.alloc();
-    let ended = run(alloc, steps_file(alloc, 65_536)?.as_str());
-    assert_eq!(rt; ended.status, 0);
-    assert!(rt;
-        ended
-            .out
-            .as_slice()
-            .ends_with(b"\n65536 refused NotWalking\n")
-    );
-    let ended = run(alloc, steps_file(alloc, 65_537)?.as_str());
-    assert_eq!(rt; ended.status, 3);
-    assert!(rt; ended.out.is_empty());
-    assert_eq!(rt; ended.err.as_slice(), b"svsim: too many steps\n".as_slice());
+    let mut text = String::from_str(alloc, "spaces = [")?;
+    for asid in 0..32_u32 {
+        write!(text, "\"0 {asid}\",")?;
+    }
+    let full = format!(in alloc; "{text}]")?;
+    assert!(rt; prints(alloc, Which::Run, full.as_str(), ""));
+    let over = format!(in alloc; "{text}\"0 32\"]")?;
+    assert!(rt; refuses(alloc, Which::Run, over.as_bytes(), 3, "key spaces: wrong")?);
     Ok(())
 }

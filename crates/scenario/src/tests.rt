@@ -1,18 +1,18 @@
-//! What no clause says: texts of known files, each public call with ample memory, and readers and writers that fail.
-use crate::{Fault, StepFault, Which, command, walk_text};
+//! What no clause says: each public call with ample memory, readers and writers that fail, and the limits of a file.
+use crate::{Fault, StepFault, Which, command, run_text, walk_text};
 use std::alloc::Global;
 use std::io;
 use std::io::{ErrorKind, Read, Write};
 use std::test::Fail;
 
 /// A root, two tables and a leaf: PPN 0x12345, with V, R, W, U, A and D.
-const FILE: &str = r#"root = "0x80000"
+pub const FILE: &str = r#"root = "0x80000"
 frames = ["0x80000", "0x80001", "0x80002"]
 words = ["0x80000 2 0x20000401", "0x80001 2 0x20000801", "0x80002 3 0x48D14D7"]
 steps = ["u load 0x80403ABC"]
 "#;
 
-const LINES: &str = "1 pa 0x12345abc 4K\n";
+pub const LINES: &str = "1 pa 0x12345abc 4K\n";
 
 /// A reader that gives pieces of at most `piece` bytes, and fails once it was read `reads` times.
 #[derive(Drop)]
@@ -70,97 +70,58 @@ impl Write for Narrow {
 
 /// What a command ended with: the status, the output and standard error.
 #[derive(Drop)]
-struct Ended {
-    status: u8,
-    out: Vec<u8>,
-    err: Vec<u8>,
+pub struct Ended {
+    pub status: u8,
+    pub out: Vec<u8>,
+    pub err: Vec<u8>,
 }
 
-fn walk<R: Read>(alloc: Global, input: &mut R) -> Ended {
+/// What a command on a file named `a file` ends with.
+pub fn ended<R: Read>(alloc: Global, which: Which, input: &mut R) -> Ended {
     let mut out = Vec::new(alloc);
     let mut err = Vec::new(alloc);
-    let status = command(alloc, Which::Walk, "a file", input, &mut out, &mut err);
+    let status = command(alloc, which, "a file", input, &mut out, &mut err);
     Ended { status, out, err }
 }
 
-#[test]
-fn refused_files(rt: HostRuntime) -> Result<(), Fail> {
-    for (text, status, line) in [
-        ("base = \"0x80", 2, "not TOML"),
-        ("harts = 1", 3, "key harts: wrong"),
-        ("zoo = 1\n\"\" = 2\nbeta = 3", 3, "key : wrong"),
-        ("zoo = 1\nharts = 2\nbeta = 3", 3, "key beta: wrong"),
-        ("[Steps]", 3, "key Steps: wrong"),
-        ("\"a\\nb\" = 1", 3, "key a\nb: wrong"),
-        ("root = 1", 3, "key root: wrong"),
-        ("root = \"0x100000000000\"", 3, "key root: wrong"),
-        ("root = \"1 1\"\nsteps = 3", 3, "key root: wrong"),
-        ("frames = [\"0x100000000000\"]", 3, "key frames: wrong"),
-        ("frames = \"0x80000\"", 3, "key frames: wrong"),
-        ("words = [\"0 0 0\"]", 3, "key words: wrong"),
-        (
-            "frames = [\"0\"]\nwords = [\"0 512 0\"]",
-            3,
-            "key words: wrong",
-        ),
-        ("frames = [\"0\"]\nwords = [\"0 1\"]", 3, "key words: wrong"),
-        ("steps = [\"u jump 0x0\", 1]", 3, "key steps: wrong"),
-        (
-            "steps = [\"u load 0x0\", \"u jump 0x0\"]",
-            3,
-            "step 2: not a step",
-        ),
-        (
-            "steps = [\"u load 18446744073709551616\"]",
-            3,
-            "step 1: not a step",
-        ),
-        (
-            "steps = [\"u load 0x00000000000000000\"]",
-            3,
-            "step 1: not a step",
-        ),
-        ("steps = [\"u load +1\"]", 3, "step 1: not a step"),
-        ("steps = [\"u load 0x\"]", 3, "step 1: not a step"),
-        ("steps = [\"u load 0X1\"]", 3, "step 1: not a step"),
-        ("steps = [\"u+mxr+sum load 0\"]", 3, "step 1: not a step"),
-        ("steps = [\"u load 0 \", \"\"]", 3, "step 2: not a step"),
-    ] {
-        let alloc = rt.alloc();
-        let ended = walk(alloc, &mut text.as_bytes());
-        let error = format!(in alloc; "svsim: {line}\n")?;
-        assert_eq!(rt; ended.status, status, "{text}");
-        assert!(rt; ended.out.is_empty(), "{text}");
-        assert_eq!(rt; ended.err.as_slice(), error.as_bytes(), "{text}");
-    }
-    Ok(())
+fn walk<R: Read>(alloc: Global, input: &mut R) -> Ended {
+    end_of(alloc, Which::Walk, input)
+}
+
+/// Whether a command is done, with these lines.
+pub fn prints(alloc: Global, which: Which, text: &str, lines: &str) -> bool {
+    let ended = end_of(alloc, which, &mut text.as_bytes());
+    ended.status == 0 && ended.out.as_slice() == lines.as_bytes() && ended.err.is_empty()
+}
+
+/// Whether a command ends with this status and reason, and prints nothing.
+pub fn refuses(
+    alloc: Global,
+    which: Which,
+    bytes: &[u8],
+    status: u8,
+    reason: &str,
+) -> Result<bool, Fail> {
+    let mut input = bytes;
+    let ended = end_of(alloc, which, &mut input);
+    let line = format!(in alloc; "svsim: {reason}\n")?;
+    Ok(ended.status == status && ended.out.is_empty() && ended.err.as_slice() == line.as_bytes())
 }
 
 #[test]
-fn answered_files(rt: HostRuntime) -> Result<(), Fail> {
-    for (text, lines) in [
-        (FILE, LINES),
-        ("", ""),
-        ("steps = []", ""),
-        ("frames = [\"0\"]\nwords = [\"0 511 0\"]", ""),
-        (
-            "steps = [\"\\tu  load\\t0x0 \", \"s+sum+mxr store 18446744073709551615\", \"u fetch 00274877906944\"]",
-            "1 trap 5 Outside\n2 trap 7 Outside\n3 trap 12 NotCanonical\n",
-        ),
-        (
-            "frames = [\" 0x80000 \", \"524288\"]\nwords = [\"0x80000 0 1\", \"0x80000 0 0x100000D7\", \"524288 0 0xD7\"]\nsteps = [\"u load 0x12\"]",
-            "1 pa 0x12 1G\n",
-        ),
-        (
-            "frames = [\"0x80000\"]\nsteps = [\"s fetch 0xFFFFFFC000000000\"]",
-            "1 trap 12 Invalid\n",
-        ),
-    ] {
-        let ended = walk(rt.alloc(), &mut text.as_bytes());
-        assert_eq!(rt; ended.status, 0, "{text}");
-        assert_eq!(rt; ended.out.as_slice(), lines.as_bytes(), "{text}");
-        assert!(rt; ended.err.is_empty(), "{text}");
-    }
+fn texts_are_answered(rt: HostRuntime) -> Result<(), Fail> {
+    let alloc = rt.alloc();
+    let mut out: Vec<u8> = Vec::new(alloc);
+    assert!(rt; matches!(walk_text(alloc, FILE, &mut out), Ok(())));
+    assert_eq!(rt; out.as_slice(), LINES.as_bytes());
+    let mut out: Vec<u8> = Vec::new(alloc);
+    assert!(rt;
+        matches!(
+            run_text(alloc, "steps = [\"0 flush all 0\"]", &mut out),
+            Ok(())
+        )
+    );
+    assert_eq!(rt; out.as_slice(), b"1 opened 0\n".as_slice());
     Ok(())
 }
 
@@ -188,12 +149,23 @@ fn faults_are_told(rt: HostRuntime) -> Result<(), Fail> {
     };
     assert!(rt; matches!(walk_text(alloc, FILE, &mut out), Err(Fault::Output)));
     assert_eq!(rt; out.held.as_slice(), b"1 p".as_slice());
-    let mut out: Vec<u8> = Vec::new(alloc);
-    assert!(rt; matches!(walk_text(alloc, FILE, &mut out), Ok(())));
-    assert_eq!(rt; out.as_slice(), LINES.as_bytes());
-    let fault = Fault::Step(7, StepFault::NotStep);
-    let told = format!(in alloc; "{fault}")?;
-    assert_eq!(rt; told.as_str(), "step 7: not a step");
+    Ok(())
+}
+
+#[test]
+fn each_fault_has_its_text(rt: HostRuntime) -> Result<(), Fail> {
+    let alloc = rt.alloc();
+    for (fault, shown) in [
+        (Fault::NotToml, "not TOML"),
+        (Fault::Layout, "layout refused"),
+        (Fault::TooMany, "too many steps"),
+        (Fault::Step(7, StepFault::NotStep), "step 7: not a step"),
+        (Fault::Output, "output failed"),
+        (Fault::NoMemory, "no memory"),
+    ] {
+        let told = format!(in alloc; "{fault}")?;
+        assert_eq!(rt; told.as_str(), shown);
+    }
     Ok(())
 }
 
@@ -297,45 +269,6 @@ fn longest_file(rt: HostRuntime) -> Result<(), Fail> {
         assert!(rt; ended.out.is_empty());
         assert_eq!(rt; ended.err.as_slice(), line);
         assert_eq!(rt; input.len(), left);
-    }
-    Ok(())
-}
-
-/// A file whose only key is `steps`, with so many steps.
-fn steps_file(alloc: Global, count: usize) -> Result<String, Fail> {
-    let mut text = String::from_str(alloc, "steps = [")?;
-    for _ in 0..count {
-        text.push_str("\"u load 0\",")?;
-    }
-    text.push_str("]")?;
-    Ok(text)
-}
-
-#[test]
-fn most_steps(rt: HostRuntime) -> Result<(), Fail> {
-    let alloc = rt.alloc();
-    let text = steps_file(alloc, 65_536)?;
-    let ended = walk(alloc, &mut text.as_bytes());
-    assert_eq!(rt; ended.status, 0);
-    assert!(rt; ended.out.as_slice().ends_with(b"\n65536 trap 5 Outside\n"));
-    let text = steps_file(alloc, 65_537)?;
-    let ended = walk(alloc, &mut text.as_bytes());
-    assert_eq!(rt; ended.status, 3);
-    assert!(rt; ended.out.is_empty());
-    assert_eq!(rt; ended.err.as_slice(), b"svsim: too many steps\n".as_slice());
-    Ok(())
-}
-
-#[test]
-fn most_frames(rt: HostRuntime) -> Result<(), Fail> {
-    let alloc = rt.alloc();
-    for (count, status) in [(512, 0), (513, 3)] {
-        let mut text = String::from_str(alloc, "frames = [")?;
-        for _ in 0..count {
-            text.push_str("\"7\",")?;
-        }
-        text.push_str("]")?;
-        assert_eq!(rt; walk(alloc, &mut text.as_bytes()).status, status);
     }
     Ok(())
 }

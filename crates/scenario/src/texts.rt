@@ -3,21 +3,19 @@ ghost use Rattle.std.specs.Prelude.{◌≡◌, [], None, OnOk, IfOk, IfErr};
 ghost use Rattle.history.specs.Setup.{setup_of};
 ghost use Rattle.history.specs.Runs.{due_replies};
 ghost use Rattle.scenario.specs.Faults.{fault_in};
-ghost use Rattle.scenario.specs.Lines.{LinesOf, Prints};
-ghost use Rattle.scenario.specs.ReplyLines.{PrintsReplies};
+ghost use Rattle.scenario.specs.Prints.{LinesOf, Prints, PrintsReplies};
 ghost use Rattle.scenario.specs.RunFile.{run_scenario_of};
 ghost use Rattle.scenario.specs.declared.fault.Fault.TheVariants.{NoMemory};
 ghost use Rattle.scenario.specs.Output.{EndsBy, WritesAll};
 ghost use Rattle.scenario.specs.WalkFile.{walk_scenario_of};
 
 use crate::fault::Fault;
-use crate::lines::lines;
 use crate::output::write_whole;
 use crate::plan::RunScenario;
-use crate::reply_lines::reply_lines;
 use crate::run_scenario::read_run;
 use crate::scenario::read_walk;
 use history::Reply;
+use lines::{reply_lines, walk_lines};
 use spaces::OpenFault;
 use std::alloc::Global;
 use std::io::Write;
@@ -33,7 +31,12 @@ pub fn walk_text<W: Write>(alloc: Global, text: &str, out: &mut W) -> Result<(),
         (W.contents out.old) (W.contents out.new)) }
 {
     let scenario = read_walk(alloc, text)?;
-    let text = lines(alloc, &scenario)?;
+    let text = walk_lines(
+        alloc,
+        &scenario.tables,
+        scenario.root,
+        scenario.steps.as_slice(),
+    )?;
     write_whole(out, text.as_bytes())
 }
 
@@ -63,6 +66,6 @@ pub fn run_text<W: Write>(alloc: Global, text: &str, out: &mut W) -> Result<(), 
 {
     let scenario = read_run(alloc, text)?;
     let replies = replies(alloc, &scenario)?;
-    let lines = reply_lines(alloc, replies.as_slice())?;
-    write_whole(out, lines.as_bytes())
+    let printed = reply_lines(alloc, replies.as_slice())?;
+    write_whole(out, printed.as_bytes())
 }

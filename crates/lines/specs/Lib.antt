@@ -1,0 +1,2 @@
+pub mod AnswerLines
+pub mod ReplyLines

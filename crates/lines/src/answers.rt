@@ -1,0 +1,83 @@
+//! The lines of the answers of translations.
+ghost use Rattle.std.specs.Prelude.{◌≡◌, ◌<◌, ◌^◌, ◌++◌, OnOk, IfOk, string_bytes};
+ghost use Rattle.pte.specs.Entry.{ppn_bits};
+ghost use Rattle.lines.specs.AnswerLines.{global_text, line_of, size_text, why_text, WritesLines};
+
+use pte::PageSize;
+use std::alloc::{AllocError, Global};
+use steps::WalkStep;
+use walk::{Found, Trap, Why, Words, translate};
+
+pub fn size_word(size: PageSize) -> &'static str
+    ensures { result.now ≡ size_text size }
+{
+    match size {
+        PageSize::Kib4 => "4K",
+        PageSize::Mib2 => "2M",
+        PageSize::Gib1 => "1G",
+    }
+}
+
+pub fn why_word(why: Why) -> &'static str
+    ensures { result.now ≡ why_text why }
+{
+    match why {
+        Why::NotCanonical => "NotCanonical",
+        Why::Outside => "Outside",
+        Why::Invalid => "Invalid",
+        Why::Reserved => "Reserved",
+        Why::TooDeep => "TooDeep",
+        Why::Denied => "Denied",
+        Why::Misaligned => "Misaligned",
+        Why::NotAccessed => "NotAccessed",
+        Why::NotDirty => "NotDirty",
+    }
+}
+
+fn global_word(global: bool) -> &'static str
+    ensures { result.now ≡ global_text global }
+{
+    if global { " global" } else { "" }
+}
+
+/// Adds the line of an answer.
+fn push_line(
+    text: &mut String,
+    number: usize,
+    answer: Result<Found, Trap>,
+) -> Result<(), AllocError>
+    ensures ok { OnOk result (string_bytes text.new ≡ string_bytes text.old ++ line_of number answer) }
+{
+    match answer {
+        Ok(found) => {
+            let pa = found.pa;
+            let size = size_word(found.page.size());
+            let end = global_word(found.global);
+            writeln!(text, "{number} pa 0x{pa:x} {size}{end}")
+        }
+        Err(trap) => {
+            let cause = trap.cause;
+            let why = why_word(trap.why);
+            writeln!(text, "{number} trap {cause} {why}")
+        }
+    }
+}
+
+/// The lines of `walk`: each step's number, from 1, and the answer of the translation from the root, which the caller keeps
+/// below 2^44.
+pub fn walk_lines<W: Words>(
+    alloc: Global,
+    words: &W,
+    root: u64,
+    steps: &[WalkStep],
+) -> Result<String, AllocError>
+    requires { root < 2 ^ ppn_bits }
+    ensures { IfOk result (λ text. WritesLines (W.words words.now) root 1 steps.now (string_bytes text)) }
+{
+    let mut text = String::new(alloc);
+    for (index, step) in steps.iter().enumerate() {
+        let answer = translate(words, root, step.va, step.access, step.ctx);
+        push_line(&mut text, index + 1, answer)?;
+    }
+    Ok(text)
+}

@@ -1,0 +1,7 @@
+use Rattle.std.proofs.Common.{refl}
+use Rattle.std.specs.Fmt.{digits}
+use Rattle.scenario.proofs.format_laws.worked_endings.Goals as goal
+
+pub returns-clause-wrong_step : goal.returns-clause-wrong_step
+unfolding digits
+returns-clause-wrong_step c = (refl, refl)

@@ -1,0 +1,63 @@
+//! The most steps of a file, and where their number stands in the order of checking.
+use crate::Which;
+use crate::tests::{end_of, refuses};
+use std::alloc::Global;
+use std::test::Fail;
+
+/// A file of these keys and of so many steps, the first of them another one.
+fn steps_file(
+    alloc: Global,
+    keys: &str,
+    first: &str,
+    step: &str,
+    count: usize,
+) -> Result<String, Fail> {
+    let mut text = format!(in alloc; "{keys}steps = [\"{first}\",")?;
+    for _ in 1..count {
+        text.push_str("\"")?;
+        text.push_str(step)?;
+        text.push_str("\",")?;
+    }
+    text.push_str("]")?;
+    Ok(text)
+}
+
+#[test]
+fn most_steps(rt: HostRuntime) -> Result<(), Fail> {
+    let alloc = rt.alloc();
+    for (which, step, line) in [
+        (Which::Walk, "u load 0", "\n65536 trap 5 Outside\n"),
+        (Which::Run, "0 load", "\n65536 refused NotWalking\n"),
+    ] {
+        let text = steps_file(alloc, "", step, step, 65_536)?;
+        let ended = end_of(alloc, which, &mut text.as_bytes());
+        assert_eq!(rt; ended.status, 0);
+        assert!(rt; ended.out.as_slice().ends_with(line.as_bytes()));
+    }
+    Ok(())
+}
+
+#[test]
+fn too_many_steps(rt: HostRuntime) -> Result<(), Fail> {
+    let alloc = rt.alloc();
+    for (which, keys, first, step, reason) in [
+        (Which::Walk, "", "u load 0", "u load 0", "too many steps"),
+        (Which::Walk, "", "u jump 0", "u load 0", "too many steps"),
+        (Which::Run, "", "0 load", "0 load", "too many steps"),
+        (Which::Run, "", "0 jump", "0 load", "too many steps"),
+        (
+            Which::Run,
+            "harts = 9\n",
+            "0 load",
+            "0 load",
+            "layout refused",
+        ),
+    ] {
+        let text = steps_file(alloc, keys, first, step, 65_537)?;
+        assert!(rt;
+            refuses(alloc, which, text.as_bytes(), 3, reason)?,
+            "{reason}"
+        );
+    }
+    Ok(())
+}
