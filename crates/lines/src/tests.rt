@@ -1,4 +1,6 @@
 //! The text of each answer and of each reply, with ample memory. The lines are those of the tables in README.md.
+ghost use Rattle.std.specs.Prelude.{◌<◌};
+
 use crate::{reply_lines, walk_lines};
 use history::{Refusal, Reply};
 use pte::{Access, Ctx, Mode, Page, PageSize, VirtAddr, What};
