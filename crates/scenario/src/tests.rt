@@ -77,7 +77,7 @@ pub struct Ended {
 }
 
 /// What a command on a file named `a file` ends with.
-pub fn ended<R: Read>(alloc: Global, which: Which, input: &mut R) -> Ended {
+pub fn end_of<R: Read>(alloc: Global, which: Which, input: &mut R) -> Ended {
     let mut out = Vec::new(alloc);
     let mut err = Vec::new(alloc);
     let status = command(alloc, which, "a file", input, &mut out, &mut err);
