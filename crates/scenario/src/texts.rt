@@ -50,7 +50,7 @@ fn replies(alloc: Global, scenario: &RunScenario) -> Result<Vec<Reply>, Fault>
         Err(OpenFault::NoMemory) => return Err(Fault::NoMemory),
         Err(OpenFault::BadLayout) => return Err(Fault::Layout),
     };
-    let mut replies = Vec::new(alloc);
+    let mut replies = Vec::with_capacity(alloc, scenario.events.len())?;
     machine.run(scenario.events.as_slice(), &mut replies)?;
     Ok(replies)
 }
