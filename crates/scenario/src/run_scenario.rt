@@ -28,7 +28,7 @@ fn events(alloc: Global, harts: u8, texts: &[&str]) -> Result<Vec<Event>, Fault>
 {
     let mut events = Vec::new(alloc);
     for (index, text) in texts.iter().enumerate() {
-        match run_step_among(alloc, harts, text)? {
+        match run_step_among(harts, text) {
             Ok(event) => events.push(event)?,
             Err(fault) => return Err(Fault::Step(index as u32 + 1, fault)),
         }

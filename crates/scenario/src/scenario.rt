@@ -167,7 +167,7 @@ fn steps(alloc: Global, texts: &[&str]) -> Result<Vec<WalkStep>, Fault>
 {
     let mut steps = Vec::new(alloc);
     for (index, text) in texts.iter().enumerate() {
-        match walk_step(alloc, text)? {
+        match walk_step(text) {
             Some(step) => steps.push(step)?,
             None => return Err(Fault::Step(index as u32 + 1, StepFault::NotStep)),
         }

@@ -1,5 +1,5 @@
 //! The steps of `run`.
-ghost use Rattle.std.specs.Prelude.{◌≡◌, Ok};
+ghost use Rattle.std.specs.Prelude.{◌≡◌};
 ghost use Rattle.steps.specs.Words.{words_of};
 ghost use Rattle.steps.specs.RunStep.{ack_in, ackself_in, begin_in, close_in, collect_in, fence_in, finish_in, flush_in, load_in, map_in, post_in, protect_in, run_step_of, servefence_in, step_among, step_of_words, switch_in, take_in, unmap_in, with_a_word, with_four_words, with_no_word, with_three_words, with_two_words};
 
@@ -10,7 +10,6 @@ use crate::step::translation;
 use crate::text::next_word;
 use history::Event;
 use shoot::MAX_HARTS;
-use std::alloc::{AllocError, Global};
 
 fn switch(harts: u8, hart: u64, word: &[u8]) -> Result<Event, StepFault>
     ensures { result ≡ switch_in harts hart word.now }
@@ -337,22 +336,16 @@ fn step_in(harts: u8, text: &[u8]) -> Result<Event, StepFault>
 ///
 /// `StepFault::NotStep`: the words are none of them. `NoSuchHart`: they are, and name a hart that is not there.
 /// `NotPage`: all harts are there, and the page's address is not canonical or no multiple of its size (privileged manual
-/// 4.4.1). `AllocError`: there was no room for the words.
-pub fn run_step_among(
-    _alloc: Global,
-    harts: u8,
-    text: &str,
-) -> Result<Result<Event, StepFault>, AllocError>
-    ensures { result ≡ Ok (step_among harts text.now) }
+/// 4.4.1).
+pub fn run_step_among(harts: u8, text: &str) -> Result<Event, StepFault>
+    ensures { result ≡ step_among harts text.now }
 {
-    Ok(step_in(harts, text.as_bytes()))
+    step_in(harts, text.as_bytes())
 }
 
 /// The step of `run` that a text writes where there are 8 harts, as many as there may be (`shoot::MAX_HARTS`); `None` where it has a fault.
-/// `AllocError`: there was no room for the words.
-pub fn run_step(alloc: Global, text: &str) -> Result<Option<Event>, AllocError>
-    ensures { result ≡ Ok (run_step_of text.now) }
+pub fn run_step(text: &str) -> Option<Event>
+    ensures { result ≡ run_step_of text.now }
 {
-    let step = run_step_among(alloc, MAX_HARTS as u8, text)?;
-    Ok(step.ok())
+    run_step_among(MAX_HARTS as u8, text).ok()
 }

@@ -1,11 +1,10 @@
 //! Step texts.
-ghost use Rattle.std.specs.Prelude.{◌≡◌, Ok};
+ghost use Rattle.std.specs.Prelude.{◌≡◌};
 ghost use Rattle.steps.specs.Step.{access_of, ctx_of, translation_of, walk_step_of};
 
 use crate::numbers::num;
 use crate::text::next_word;
 use pte::{Access, Ctx, Mode};
-use std::alloc::{AllocError, Global};
 
 /// One translation from the root.
 #[derive(Clone, Copy, Debug, PartialEq, Eq)]
@@ -18,17 +17,11 @@ pub struct WalkStep {
     pub va: u64,
 }
 
-/// The step of `walk` that a text writes, if it writes one. It takes no memory, so there is no `AllocError`.
-pub fn walk_step(_alloc: Global, text: &str) -> Result<Option<WalkStep>, AllocError>
-    ensures { result ≡ Ok (walk_step_of text.now) }
-{
-    Ok(step_in(text.as_bytes()))
-}
-
-fn step_in(text: &[u8]) -> Option<WalkStep>
+/// The step of `walk` that a text writes, if it writes one.
+pub fn walk_step(text: &str) -> Option<WalkStep>
     ensures { result ≡ walk_step_of text.now }
 {
-    let (mode, rest) = next_word(text)?;
+    let (mode, rest) = next_word(text.as_bytes())?;
     let (access, rest) = next_word(rest)?;
     let (address, rest) = next_word(rest)?;
     if next_word(rest).is_some() {

@@ -4,12 +4,11 @@ use bitflags::Flags;
 use history::{Event, Scope};
 use pte::{Access, Ctx, Mode, Page, PageSize, PteFlags, VirtAddr};
 use spaces::Place;
-use std::alloc::Global;
 use std::process::Abort;
 use std::test::Fail;
 
 #[test]
-fn numbers_of_words(rt: HostRuntime) -> Result<(), Fail> {
+fn numbers_of_words(rt: HostRuntime) {
     for (word, value) in [
         ("0", Some(0)),
         ("00274877906944", Some(274_877_906_944)),
@@ -33,7 +32,6 @@ fn numbers_of_words(rt: HostRuntime) -> Result<(), Fail> {
     ] {
         assert_eq!(rt; num(word.as_bytes()), value, "{word}");
     }
-    Ok(())
 }
 
 #[test]
@@ -56,8 +54,7 @@ fn words_of_texts(rt: HostRuntime) -> Result<(), Fail> {
 }
 
 #[test]
-fn steps_of_walk(rt: HostRuntime) -> Result<(), Fail> {
-    let alloc = rt.alloc();
+fn steps_of_walk(rt: HostRuntime) {
     let user = |sum, mxr| Ctx {
         mode: Mode::User,
         sum,
@@ -85,13 +82,12 @@ fn steps_of_walk(rt: HostRuntime) -> Result<(), Fail> {
         ("s+sum load 0", supervisor(true, false), Access::Load, 0),
     ] {
         let step = WalkStep { ctx, access, va };
-        assert_eq!(rt; walk_step(alloc, text)?, Some(step), "{text}");
+        assert_eq!(rt; walk_step(text), Some(step), "{text}");
     }
-    Ok(())
 }
 
 #[test]
-fn texts_that_are_no_steps_of_walk(rt: HostRuntime) -> Result<(), Fail> {
+fn texts_that_are_no_steps_of_walk(rt: HostRuntime) {
     for text in [
         "",
         "u jump 0",
@@ -104,9 +100,8 @@ fn texts_that_are_no_steps_of_walk(rt: HostRuntime) -> Result<(), Fail> {
         "u load +1",
         "u load 18446744073709551616",
     ] {
-        assert_eq!(rt; walk_step(rt.alloc(), text)?, None, "{text}");
+        assert_eq!(rt; walk_step(text), None, "{text}");
     }
-    Ok(())
 }
 
 fn page(base: u64, size: PageSize) -> Result<Page, Fail> {
@@ -120,16 +115,15 @@ fn page(base: u64, size: PageSize) -> Result<Page, Fail> {
 }
 
 /// Each text writes its event where there are 8 harts.
-fn assert_steps(rt: &impl Abort, alloc: Global, steps: &[(&str, Event)]) -> Result<(), Fail> {
+fn assert_steps(rt: &impl Abort, steps: &[(&str, Event)]) {
     for (text, event) in steps {
-        assert_eq!(rt; run_step_among(alloc, 8, text)?, Ok(*event), "{text}");
-        assert_eq!(rt; run_step(alloc, text)?, Some(*event), "{text}");
+        assert_eq!(rt; run_step_among(8, text), Ok(*event), "{text}");
+        assert_eq!(rt; run_step(text), Some(*event), "{text}");
     }
-    Ok(())
 }
 
 #[test]
-fn steps_of_walks_and_fences(rt: HostRuntime) -> Result<(), Fail> {
+fn steps_of_walks_and_fences(rt: HostRuntime) {
     let ctx = Ctx {
         mode: Mode::Super,
         sum: true,
@@ -144,7 +138,6 @@ fn steps_of_walks_and_fences(rt: HostRuntime) -> Result<(), Fail> {
     let fence = |hart, rs1, rs2| Event::Fence { hart, rs1, rs2 };
     assert_steps(
         &rt,
-        rt.alloc(),
         &[
             (
                 "1 begin s+sum load 0xFFFFFFFFC0000008",
@@ -159,7 +152,7 @@ fn steps_of_walks_and_fences(rt: HostRuntime) -> Result<(), Fail> {
             ),
             ("1 fence 0 x0", fence(1, Some(0), None)),
         ],
-    )
+    );
 }
 
 #[test]
@@ -181,7 +174,6 @@ fn steps_of_edits(rt: HostRuntime) -> Result<(), Fail> {
     };
     assert_steps(
         &rt,
-        rt.alloc(),
         &[
             (
                 "0 map 0 4K:0x1000 0x100 ruad",
@@ -193,7 +185,8 @@ fn steps_of_edits(rt: HostRuntime) -> Result<(), Fail> {
             ),
             ("0 unmap 255 2M:0x400000 0,1,7,1", unmap),
         ],
-    )
+    );
+    Ok(())
 }
 
 /// Each letter alone, by the name that the flag has in the manual.
@@ -210,7 +203,6 @@ fn letters_of_flags(rt: HostRuntime) -> Result<(), Fail> {
     let page = page(0, PageSize::Kib4)?;
     assert_steps(
         &rt,
-        rt.alloc(),
         &[
             ("0 protect 0 4K:0x0 - -", protect(page, none, 0)),
             ("0 protect 0 4K:0 r 0", protect(page, PteFlags::R, 1)),
@@ -221,11 +213,12 @@ fn letters_of_flags(rt: HostRuntime) -> Result<(), Fail> {
             ("0 protect 0 4K:0 a 0", protect(page, PteFlags::A, 1)),
             ("0 protect 0 4K:0 d 0", protect(page, PteFlags::D, 1)),
         ],
-    )
+    );
+    Ok(())
 }
 
 #[test]
-fn steps_of_shootdowns(rt: HostRuntime) -> Result<(), Fail> {
+fn steps_of_shootdowns(rt: HostRuntime) {
     let flush = |hart, scope, named| Event::Flush { hart, scope, named };
     let post = |hart, ticket, to| Event::Post { hart, ticket, to };
     let collect = |hart, ticket, from| Event::Collect { hart, ticket, from };
@@ -233,7 +226,6 @@ fn steps_of_shootdowns(rt: HostRuntime) -> Result<(), Fail> {
     let finish = |hart, ticket| Event::Finish { hart, ticket };
     assert_steps(
         &rt,
-        rt.alloc(),
         &[
             ("0 flush all 0,1", flush(0, Scope::All, 3)),
             ("0 flush 0x1 -", flush(0, Scope::Space(1), 0)),
@@ -247,26 +239,24 @@ fn steps_of_shootdowns(rt: HostRuntime) -> Result<(), Fail> {
             ("0 finish 64", finish(0, 64)),
             ("0 close 1", Event::Close { hart: 0, to: 1 }),
         ],
-    )
+    );
 }
 
 /// Each text writes no step, whatever harts there are.
-fn assert_no_steps(rt: &impl Abort, alloc: Global, texts: &[&str]) -> Result<(), Fail> {
+fn assert_no_steps(rt: &impl Abort, texts: &[&str]) {
     for text in texts {
         for harts in [0, 2, 8, 255] {
-            let step = run_step_among(alloc, harts, text)?;
+            let step = run_step_among(harts, text);
             assert_eq!(rt; step, Err(StepFault::NotStep), "{text}");
         }
-        assert_eq!(rt; run_step(alloc, text)?, None, "{text}");
+        assert_eq!(rt; run_step(text), None, "{text}");
     }
-    Ok(())
 }
 
 #[test]
-fn texts_of_no_form(rt: HostRuntime) -> Result<(), Fail> {
+fn texts_of_no_form(rt: HostRuntime) {
     assert_no_steps(
         &rt,
-        rt.alloc(),
         &[
             "",
             "0",
@@ -289,14 +279,13 @@ fn texts_of_no_form(rt: HostRuntime) -> Result<(), Fail> {
             "0 wait 0",
             "9 jump",
         ],
-    )
+    );
 }
 
 #[test]
-fn words_that_do_not_fit(rt: HostRuntime) -> Result<(), Fail> {
+fn words_that_do_not_fit(rt: HostRuntime) {
     assert_no_steps(
         &rt,
-        rt.alloc(),
         &[
             "0 flush k 0",
             "0 flush 256 0",
@@ -310,14 +299,13 @@ fn words_that_do_not_fit(rt: HostRuntime) -> Result<(), Fail> {
             "0 close -",
             "0 flush all 9,x",
         ],
-    )
+    );
 }
 
 #[test]
-fn edits_that_are_no_steps(rt: HostRuntime) -> Result<(), Fail> {
+fn edits_that_are_no_steps(rt: HostRuntime) {
     assert_no_steps(
         &rt,
-        rt.alloc(),
         &[
             "0 map 0 4K:0x1000 0x100",
             "0 map 0 4K:0x1000 0x100 ruad 0",
@@ -343,12 +331,11 @@ fn edits_that_are_no_steps(rt: HostRuntime) -> Result<(), Fail> {
             "0 unmap 0 4K:0x1000",
             "9 map 0 4K:0x1 0x1 rr",
         ],
-    )
+    );
 }
 
 #[test]
-fn steps_of_harts_and_pages_that_are_not_there(rt: HostRuntime) -> Result<(), Fail> {
-    let alloc = rt.alloc();
+fn steps_of_harts_and_pages_that_are_not_there(rt: HostRuntime) {
     for (text, fault) in [
         ("2 load", StepFault::NoSuchHart),
         ("18446744073709551615 load", StepFault::NoSuchHart),
@@ -366,14 +353,12 @@ fn steps_of_harts_and_pages_that_are_not_there(rt: HostRuntime) -> Result<(), Fa
         ("0 unmap 0 4K:0x4000000000 0", StepFault::NotPage),
         ("0 protect k 1G:0xffffffbfc0000000 r 0", StepFault::NotPage),
     ] {
-        assert_eq!(rt; run_step_among(alloc, 2, text)?, Err(fault), "{text}");
+        assert_eq!(rt; run_step_among(2, text), Err(fault), "{text}");
     }
-    Ok(())
 }
 
 #[test]
-fn run_step_is_for_eight_harts(rt: HostRuntime) -> Result<(), Fail> {
-    let alloc = rt.alloc();
+fn run_step_is_for_eight_harts(rt: HostRuntime) {
     for (text, event) in [
         ("7 ack", Some(Event::Ack { hart: 7 })),
         ("8 ack", None),
@@ -381,9 +366,8 @@ fn run_step_is_for_eight_harts(rt: HostRuntime) -> Result<(), Fail> {
         ("0 flush all 0,8", None),
         ("0 unmap 0 4K:0x1 0", None),
     ] {
-        assert_eq!(rt; run_step(alloc, text)?, event, "{text}");
+        assert_eq!(rt; run_step(text), event, "{text}");
     }
-    Ok(())
 }
 
 #[test]
