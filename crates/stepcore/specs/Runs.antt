@@ -1,12 +1,12 @@
 -- What a run of events appends to a history, and what a machine shows of its mailboxes and TLBs.
-use Rattle.std.specs.Prelude.{ℕ, ◌≡◌, ◌<◌, List, [], ◌∷◌, ◌++◌, drop, length}
+use Rattle.std.specs.Prelude.{ℕ, ◌<◌, List, [], ◌∷◌, drop, length}
 use Rattle.tlb.specs.declared.store.Entry.{Entry}
 use Rattle.shoot.specs.Request.{Message}
 use Rattle.history.specs.declared.event.Event.{Event}
 use Rattle.history.specs.declared.reply.Reply.{Reply}
 use Rattle.history.specs.Setup.{Setup}
 use Rattle.history.specs.Turns.{History}
-use Rattle.history.specs.Mailboxes.{accepted, taken, NoneAfterClose}
+use Rattle.history.specs.Mailboxes.{KeepsOrder, NoneAfterClose}
 use Rattle.history.specs.Staleness.{Clear, Coherent}
 use Rattle.history.specs.Runs.{with_turn}
 use Rattle.stepcore.specs.State.{State, hart_at, mailbox_at}
@@ -32,9 +32,9 @@ entries_in m hart = (hart_at m hart).entries
 abbrev pub after_run : List Event → List Reply → List Reply → History → History
 after_run events old new H = with_turns events (appended old new) H
 
--- each mailbox keeps its order: what was accepted is what was taken, followed by what waits
+-- each mailbox keeps its order: what was accepted is what was taken, followed by what waits in this machine
 abbrev pub MailboxesKeepOrder : Setup → History → State → Type 0
-MailboxesKeepOrder C H m = (s h : ℕ) → s < C.harts → h < C.harts → accepted C H s h ≡ taken H s h ++ waiting_in m s h
+MailboxesKeepOrder C H m = (s h : ℕ) → s < C.harts → h < C.harts → KeepsOrder C H s h (waiting_in m s h)
 
 -- no post is accepted after the close of its mailbox
 abbrev pub NothingAfterCloses : Setup → History → Type 0
