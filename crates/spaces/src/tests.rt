@@ -181,6 +181,16 @@ fn with_base(base: u64) -> Config {
     }
 }
 
+/// Whether there is a memory of this configuration, or it is none within the limits; nothing if there was no room for it.
+fn opens(alloc: Global, config: &Config) -> Option<bool> {
+    match Memory::open(alloc, config) {
+        Ok(_) => Some(true),
+        Err(OpenFault::BadLayout) => Some(false),
+        Err(OpenFault::NoMemory) => None,
+    }
+}
+
+/// With ample memory a memory is opened exactly within the limits.
 #[test]
 fn layouts_at_their_limits(rt: HostRuntime) {
     let rows = [
@@ -208,11 +218,7 @@ fn layouts_at_their_limits(rt: HostRuntime) {
     ];
     for (config, accepted) in &rows {
         assert!(rt; config.check() == *accepted);
-        let refused = match Memory::open(rt.alloc(), config) {
-            Ok(_) => false,
-            Err(fault) => fault == OpenFault::BadLayout,
-        };
-        assert!(rt; refused != *accepted);
+        assert!(rt; opens(rt.alloc(), config) == Some(*accepted));
     }
     assert!(rt; with_spares(&[94]).check_live());
     assert!(rt; !with_spares(&[95]).check_live());
@@ -255,6 +261,7 @@ fn homes_and_asids(rt: HostRuntime) {
     ];
     for (config, accepted) in &rows {
         assert!(rt; config.check() == *accepted);
+        assert!(rt; opens(rt.alloc(), config) == Some(*accepted));
     }
 }
 
