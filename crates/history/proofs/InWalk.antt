@@ -15,7 +15,7 @@ use Rattle.history.specs.Harts.{Walking, walk_of, walk_after, begun, loaded, wit
 use Rattle.history.specs.Occurrences.{Since, IsBegin, BeginsOrEnds, is_further_load, IsInWalk}
 use Rattle.history.proofs.Splits.{since-here, since-later}
 use Rattle.history.proofs.Occurred.{turn_of}
-use Rattle.history.proofs.OpenOrders.{by_test}
+use Rattle.shoot.proofs.HartSets.{by_test}
 use Rattle.history.proofs.Lasting.{and_false}
 
 -- the walk with another number of loads

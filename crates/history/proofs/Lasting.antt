@@ -23,7 +23,8 @@ use Rattle.history.specs.Tables.{words_of, words_after, with_store, used_spares,
 use Rattle.history.specs.Occurrences.{Since, SinceOr, IsSwitch, Switches, IsTake, TakesPost, TakesOrAcks, IsServeFence, IsEdit, IsStore, Stores, is_new_table}
 use Rattle.history.proofs.Splits.{not_sometime-empty, not_since-empty, sometime-here, sometime-later, sometime_cases, since-here, since-later, since_cases, read_since}
 use Rattle.history.proofs.Occurred.{turn_of, ok_is, opened_is}
-use Rattle.history.proofs.OpenOrders.{by_test, same_parts, same_with}
+use Rattle.history.proofs.OpenOrders.{same_parts, same_with}
+use Rattle.shoot.proofs.HartSets.{by_test}
 
 -- what is so at the opening, and then as the last turn that matters made it
 pub read_since_or : (P Q : Turn → History → Type 0) (R : History → Type 0) (opening : Type 0) → R [] ↔ opening

@@ -7,7 +7,7 @@ use Rattle.history.specs.Turns.{History}
 use Rattle.history.specs.Orders.{open_order}
 use Rattle.history.specs.Due.{least_free}
 use Rattle.history.specs.Occurrences.{IsLeastFree}
-use Rattle.history.proofs.OpenOrders.{by_test}
+use Rattle.shoot.proofs.HartSets.{by_test}
 
 is_none-None : {A : Type 0} (o : Option A) → is_none o ≡ true → o ≡ None
 is_none-None None e = refl

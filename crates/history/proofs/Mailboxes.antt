@@ -16,7 +16,7 @@ use Rattle.history.specs.Due.{next_reply, post_reply, due, Lawful}
 use Rattle.history.specs.Occurrences.{Sometime, IsPostAfterClose}
 use Rattle.history.proofs.Splits.{not_sometime-empty, sometime_cases}
 use Rattle.history.proofs.Occurred.{ok_is, closed}
-use Rattle.history.proofs.OpenOrders.{by_test}
+use Rattle.shoot.proofs.HartSets.{by_test}
 use Rattle.history.proofs.Passing.{passed}
 
 abbrev IsFront : {A : Type 0} → List A → List A → Type 0

@@ -45,8 +45,8 @@ pub order_is : (o : Option ℕ) (k : ℕ) → is_order o k ≡ true → o ≡ So
 order_is None k e = absurd (false≢true e)
 order_is (Some n) k e = ap Some (eqb-true n k e)
 
-pub order_from : (o : Option ℕ) (k : ℕ) → o ≡ Some k → is_order o k ≡ true
-order_from o k e = rw e (eq-eqb k k refl)
+pub is_order_of : (o : Option ℕ) (k : ℕ) → o ≡ Some k → is_order o k ≡ true
+is_order_of o k e = rw e (eq-eqb k k refl)
 
 pub served_is : (o : Option Sent) (k : ℕ) → is_served o k ≡ true → (sent : Sent) × (o ≡ Some sent) × (sent.order ≡ k)
 served_is None k e = absurd (false≢true e)
@@ -103,7 +103,7 @@ posted_stays (Post hart ticket to) r H k h old e = old_or _ old e
 posted_stays _ r H k h old e = e
 
 posted_by : (turn : Turn) (H : History) (k h : ℕ) (old : Bool) → IsPost k h turn H → posted_after turn.event turn.reply H k h old ≡ true
-posted_by turn H k h old p = rw (p.event, p.accepted) (all3 _ _ _ old refl (eq-eqb h h refl) (order_from (open_order H p.sender p.ticket) k p.order))
+posted_by turn H k h old p = rw (p.event, p.accepted) (all3 _ _ _ old refl (eq-eqb h h refl) (is_order_of (open_order H p.sender p.ticket) k p.order))
 
 pub posted : (H : History) (k h : ℕ) → (is_posted H k h ≡ true) ↔ Sometime (IsPost k h) H
 posted H k h = read_sometime (IsPost k h) (λ H. is_posted H k h ≡ true) (λ e. false≢true e)
@@ -149,7 +149,7 @@ acked_stays C _ r H k h old e = e
 acked_by : (C : Setup) (turn : Turn) (H : History) (k h : ℕ) (old : Bool) → Acknowledges C k h turn H → acked_after C turn.event turn.reply H k h old ≡ true
 acked_by C turn H k h old a = elim a [
   | inl p ↦ rw (p.event, p.accepted) (all3 _ _ _ old refl (eq-eqb h h refl) (rw p.serving (eq-eqb p.sent.order k p.order)))
-  | inr p ↦ rw p.event (all3 _ _ _ old (progress_from turn.reply p.accepted) (eq-eqb h h refl) (order_from (open_order H h p.ticket) k p.order))
+  | inr p ↦ rw p.event (all3 _ _ _ old (progress_from turn.reply p.accepted) (eq-eqb h h refl) (is_order_of (open_order H h p.ticket) k p.order))
 ]
 
 pub acked : (C : Setup) (H : History) (k h : ℕ) → (is_acked C H k h ≡ true) ↔ Sometime (Acknowledges C k h) H
@@ -188,8 +188,8 @@ collected_stays C _ r H k h old e = e
 
 collected_by : (C : Setup) (turn : Turn) (H : History) (k h : ℕ) (old : Bool) → Collects C k h turn H → collected_after C turn.event turn.reply H k h old ≡ true
 collected_by C turn H k h old a = elim a [
-  | inl p ↦ rw p.event (all4 _ _ _ _ old (progress_from turn.reply p.accepted) (eq-eqb h h refl) (order_from (open_order H p.sender p.ticket) k p.order) p.acked)
-  | inr p ↦ rw p.event (all3 _ _ _ old (progress_from turn.reply p.accepted) (eq-eqb h h refl) (order_from (open_order H h p.ticket) k p.order))
+  | inl p ↦ rw p.event (all4 _ _ _ _ old (progress_from turn.reply p.accepted) (eq-eqb h h refl) (is_order_of (open_order H p.sender p.ticket) k p.order) p.acked)
+  | inr p ↦ rw p.event (all3 _ _ _ old (progress_from turn.reply p.accepted) (eq-eqb h h refl) (is_order_of (open_order H h p.ticket) k p.order))
 ]
 
 pub collected : (C : Setup) (H : History) (k h : ℕ) → (is_collected C H k h ≡ true) ↔ Sometime (Collects C k h) H

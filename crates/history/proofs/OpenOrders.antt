@@ -2,6 +2,7 @@
 use Rattle.std.proofs.Common.{◌≡◌, ℕ, ◌<◌, Bool, true, false, cond, ◌&&◌, ◌⊎◌, inl, inr, [], ◌∷◌, length, Option, Some, None, refl, ap, sym, ◌∙◌, eqb, arith}
 use Rattle.std.proofs.lemmas.Bool.{and_parts, eqb-true, eq-eqb, cond-true, ne_eqb, false≢true, true≢false}
 use Rattle.std.specs.Prelude.{◌↔◌}
+use Rattle.shoot.proofs.HartSets.{by_test}
 use Rattle.history.specs.Setup.{Setup}
 use Rattle.history.specs.declared.event.Event.{Event}
 use Rattle.history.specs.declared.event.Event.TheVariants.{Unmap, Protect, Flush, Finish}
@@ -12,11 +13,6 @@ use Rattle.history.specs.Orders.{Order, order_or, opened_order, order_at, held_a
 use Rattle.history.specs.Occurrences.{Sometime, Since, OpensAt, IsOrderBy, OpensOrder, OpensOrFinishes}
 use Rattle.history.proofs.Splits.{read_sometime, read_since}
 use Rattle.history.proofs.Occurred.{turn_of, ok_is, same_from, and3}
-
--- a bool with the equation that it meets
-pub by_test : (P : Bool → Type 0) (b : Bool) → (b ≡ true → P true) → (b ≡ false → P false) → P b
-by_test P true f g = f refl
-by_test P false f g = g refl
 
 -- the order at a place is the new one, at the number of turns so far, or the old one
 pub order_cases : (o : Option Order) (place k : ℕ) (old : Option Order) (order : Order) → order_or o place k old ≡ Some order

@@ -14,7 +14,8 @@ use Rattle.history.specs.Mailboxes.{Sent, sent_of, posts, posts_after, taken, ta
 use Rattle.history.specs.Occurrences.{Sometime, IsNthPost, IsNthTake}
 use Rattle.history.proofs.Splits.{read_sometime}
 use Rattle.history.proofs.Occurred.{turn_of, ok_is, same_from}
-use Rattle.history.proofs.OpenOrders.{by_test, same_parts}
+use Rattle.history.proofs.OpenOrders.{same_parts}
+use Rattle.shoot.proofs.HartSets.{by_test}
 
 -- the members of a list with one more
 pub last_cases : {A : Type 0} (xs : List A) (x y : A) (n : ℕ) → slice_get (xs ++ x ∷ []) n ≡ Some y → ((length xs ≡ n) × (y ≡ x)) ⊎ (slice_get xs n ≡ Some y)

@@ -29,7 +29,7 @@ use Rattle.history.specs.Tables.{words_of}
 use Rattle.history.specs.Harts.{Walking as Walk, space_of, walk_of, walk_after, begun, loaded, with_load, entries_of, outcome_of}
 use Rattle.history.specs.Due.{goes_on, match_reply, begin_reply, due, Lawful}
 use Rattle.history.specs.Occurrences.{LeadsOn}
-use Rattle.history.proofs.OpenOrders.{by_test}
+use Rattle.shoot.proofs.HartSets.{by_test}
 use Rattle.history.proofs.Passing.{passed}
 
 -- so many pointers lead from the root

@@ -48,7 +48,7 @@ opened_is : (r : Reply) (t : ℕ) → opened_ticket r ≡ Some t → r ≡ reply
 opened_is (reply.Opened n) t e = let q : n ≡ t = cc in ap reply.Opened q
 opened_is _ t e = absurd (cc (e))
 
-pub opened_accepted : (r : Reply) (t : ℕ) → opened_ticket r ≡ Some t → is_accepted r ≡ true
+opened_accepted : (r : Reply) (t : ℕ) → opened_ticket r ≡ Some t → is_accepted r ≡ true
 opened_accepted (reply.Opened n) t e = refl
 opened_accepted _ t e = absurd (cc (e))
 
@@ -86,7 +86,7 @@ pub record EditFound (C : Setup) (H : History) (hart : ℕ) (w : Wish) : Type 0 
   pub store : Store
   pub is : edit_at C H hart w ≡ Ok store
 
-pub edit_made : (answer : Result Store MapFault) (opening r : Reply) (ticket : ℕ) → edit_reply answer opening ≡ r → opened_ticket r ≡ Some ticket
+edit_made : (answer : Result Store MapFault) (opening r : Reply) (ticket : ℕ) → edit_reply answer opening ≡ r → opened_ticket r ≡ Some ticket
     → (store : Store) × (answer ≡ Ok store) × (opening ≡ r)
 edit_made (Ok store) opening r ticket e t = (store, refl, e)
 edit_made (Err fault) opening r ticket e t = let z : None ≡ Some ticket = ap opened_ticket e ∙ t in absurd (cc (z))

@@ -19,7 +19,8 @@ use Rattle.history.specs.Due.{Lawful}
 use Rattle.history.specs.Staleness.{is_over_order, is_mapped_anew, anew_after, Clear}
 use Rattle.laws.specs.Kept.{HavePages, HasAsids, StaysUnmapped, UserPagesAreNotGlobal}
 use Rattle.laws.proofs.Orders.{orders_stay}
-use Rattle.laws.proofs.Holding.{lies_in, held_by, MappedSince, mapped_since}
+use Rattle.tlb.proofs.Translating.{lies_in, held_by}
+use Rattle.laws.proofs.Holding.{MappedSince, mapped_since}
 use Rattle.laws.proofs.Causes.{IsAsked, Follows, follows}
 
 -- what was mapped anew before still is

@@ -24,7 +24,8 @@ use Rattle.history.specs.Due.{Lawful}
 use Rattle.history.specs.Staleness.{is_superseded, superseded_after, IsChange, IsForPlace, Coherent, is_over_order, IsAsidOf, IsRootOf}
 use Rattle.laws.specs.Kept.{StaysMapped, WindowIsShared, HavePages, HasAsids, UserPagesAreNotGlobal}
 use Rattle.laws.proofs.Orders.{orders_stay}
-use Rattle.laws.proofs.Holding.{held_by, MappedSince, mapped_since}
+use Rattle.tlb.proofs.Translating.{held_by}
+use Rattle.laws.proofs.Holding.{MappedSince, mapped_since}
 use Rattle.laws.proofs.Causes.{IsAsked, Follows, follows}
 use Rattle.pte.specs.declared.flags.PteFlags.{PteFlags}
 use Rattle.laws.proofs.Fresh.{numbered}

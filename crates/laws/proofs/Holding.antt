@@ -1,13 +1,11 @@
 -- What a hart that has acknowledged an order holds of its page: only what it filled since, which was mapped then.
-use Rattle.std.proofs.Common.{◌≡◌, ℕ, ◌+◌, ◌*◌, ◌%◌, ◌^◌, ◌≤◌, ◌<◌, Bool, true, false, [], ◌∷◌, ◌++◌, length, Some, None, refl, ap, sym, ◌∙◌, subst, arith, ◌⊎◌, inl, inr, append_assoc}
+use Rattle.std.proofs.Common.{◌≡◌, ℕ, ◌%◌, ◌^◌, ◌<◌, Bool, true, false, [], ◌∷◌, ◌++◌, length, Some, None, refl, ap, sym, ◌∙◌, subst, arith, ◌⊎◌, inl, inr, append_assoc}
 use Rattle.std.specs.Prelude.{Contains}
 use Rattle.std.proofs.lemmas.Bool.{eq-eqb, false≢true, cases_Bool, ltb-true}
 use Rattle.std.proofs.lemmas.List.Elements.{All-contains}
-use Rattle.pte.specs.Address.{Span, Holds, IsPage, bytes_of}
-use Rattle.pte.specs.declared.address.PageSize.{PageSize}
-use Rattle.pte.specs.declared.address.PageSize.TheVariants.{Kib4, Mib2, Gib1}
+use Rattle.pte.specs.Address.{Span, IsPage}
 use Rattle.pte.specs.declared.address.What.{What}
-use Rattle.walk.specs.Maps.{Maps, page_number}
+use Rattle.walk.specs.Maps.{Maps}
 use Rattle.spaces.specs.declared.places.Place.{Place}
 use Rattle.spaces.specs.declared.places.Place.TheVariants.{Space, Kernel}
 use Rattle.spaces.specs.Layout.{root_ppn}
@@ -31,20 +29,6 @@ use Rattle.laws.proofs.Acknowledged.{acked_below}
 use Rattle.laws.proofs.Filling.{entries_filled, acknowledged_since, LeftOrFilled}
 use Rattle.laws.proofs.Fresh.{fill_maps}
 use Rattle.laws.proofs.Causes.{IsAsked, space_there}
-
--- the page of 4 KiB of an address of a page lies in the page
-lies : (base va : ℕ) (size : PageSize) → base % bytes_of size ≡ 0 → base ≤ va → va < base + bytes_of size
-    → (base ≤ page_number va * bytes_of Kib4) × ((page_number va + 1) * bytes_of Kib4 ≤ base + bytes_of size)
-lies base va Kib4 aligned from below = (omega arith, omega arith)
-lies base va Mib2 aligned from below = (omega arith, omega arith)
-lies base va Gib1 aligned from below = (omega arith, omega arith)
-
-pub lies_in : (page : Span) (va : ℕ) → IsPage page → Holds page va → LiesIn page (page_number va)
-lies_in page va is h = let l = lies page.base va page.size is.aligned h.from h.below in record { from = l.0; to = l.1 }
-
--- an address whose page of 4 KiB lies in a page is an address of it
-pub held_by : (page : Span) (va : ℕ) → LiesIn page (page_number va) → Holds page va
-held_by page va l = let from = l.from in let to = l.to in record { from = omega arith; below = omega arith }
 
 -- the parts of a history
 pub lawful_before : (C : Setup) (later before : History) → Lawful C (later ++ before) → Lawful C before

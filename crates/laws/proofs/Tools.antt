@@ -8,7 +8,7 @@ use Rattle.std.proofs.lemmas.Bool.Decides.{nat_tests}
 use Rattle.std.specs.List.{list_all, range_with_len}
 use Rattle.shoot.specs.HartSet.{contains, harts_where, is_empty}
 use Rattle.shoot.specs.declared.TheConstants.{MAX_HARTS}
-pub use Rattle.history.proofs.OpenOrders.{by_test}
+pub use Rattle.shoot.proofs.HartSets.{by_test}
 pub use Rattle.history.proofs.Occurred.{and3}
 
 pub or3 : (a b c old : Bool) → ((a && (b && c)) || old) ≡ true → ((a ≡ true) × (b ≡ true) × (c ≡ true)) ⊎ (old ≡ true)

@@ -1,5 +1,5 @@
 -- The tables of a lawful history are a tree, for its edits keep it.
-use Rattle.std.proofs.Common.{◌≡◌, ℕ, ◌+◌, ◌<◌, ◌^◌, arith, Bool, true, false, cond, ◌&&◌, ◌||◌, not, [], ◌∷◌, length, Option, Some, refl, ap, sym, ◌∙◌, subst, eqb, inl, inr}
+use Rattle.std.proofs.Common.{◌≡◌, ℕ, ◌+◌, ◌<◌, Bool, true, false, cond, ◌&&◌, ◌||◌, not, [], ◌∷◌, length, Option, Some, refl, ap, sym, ◌∙◌, subst, eqb, inl, inr}
 use Rattle.std.specs.Prelude.{Result, Ok, Err, is_some}
 use Rattle.std.proofs.lemmas.Bool.{ltb-true, eq-eqb, ne_eqb, cases_eq, false≢true, not-false, or_parts}
 use Rattle.pte.specs.Address.{IsPage}
@@ -10,6 +10,7 @@ use Rattle.spaces.specs.Layout.{HasPlace}
 use Rattle.spaces.specs.Held.{IsLayout, spare_after}
 use Rattle.spaces.specs.Edits.{Store, place_of, page_of}
 use Rattle.walk.specs.Pointers.{pointed, pointed_kind}
+use Rattle.walk.proofs.FoundMembers.{leaf-ppn}
 use Rattle.spaces.specs.Tree.{IsTree, IsHome}
 use Rattle.spaces.specs.Applied.{used_by_all}
 use Rattle.spaces.specs.Effects.{IsEdit}
@@ -19,8 +20,7 @@ use Rattle.spaces.specs.declared.wishes.Wish.TheVariants as wish
 use Rattle.spaces.specs.declared.faults.MapFault.{MapFault}
 use Rattle.spaces.proofs.EntryWords.{kind-stored}
 use Rattle.pte.specs.Address.{Span}
-use Rattle.pte.specs.Entry.{kind_of, ppn_bits}
-use Rattle.std.proofs.lemmas.Bool.Decides.{nat_tests}
+use Rattle.pte.specs.Entry.{kind_of}
 use Rattle.pte.specs.declared.entry.Kind.{Kind}
 use Rattle.pte.specs.declared.entry.Kind.TheVariants as kinds
 use Rattle.pte.specs.declared.flags.PteFlags.{PteFlags}
@@ -50,20 +50,17 @@ pub is_edit : (C : Setup) (H : History) (hart : ℕ) (w : Wish) (store : Store) 
 is_edit C H hart w store layout same tree there page is =
     record { layout = layout; tree = tree; has = has_place C same (place_of w) there; page = page; is = is }
 
--- a Map's reply tells whether its store is a pointer
-pub map_with : (answer : Result Store MapFault) (r : Reply) → map_reply answer ≡ r → is_accepted r ≡ true → (store : Store) × (answer ≡ Ok store) × (is_table r ≡ is_some (pointed (Some store.word)))
-map_with (Ok store) r e a = (store, refl, ap is_table (sym e) ∙ told (kind_of store.word))
-  where
-    told : (k : Kind) → is_table (stored_reply k) ≡ is_some (pointed_kind k)
-    told (kinds.Table ppn global) = refl
-    told kinds.Invalid = refl
-    told kinds.Reserved = refl
-    told (kinds.Leaf ppn flags) = refl
-map_with (Err fault) r e a = absurd (false≢true (ap is_accepted e ∙ a))
+-- the reply of a store tells whether its word is a pointer
+pub stored-table : (k : Kind) → is_table (stored_reply k) ≡ is_some (pointed_kind k)
+stored-table (kinds.Table ppn global) = refl
+stored-table kinds.Invalid = refl
+stored-table kinds.Reserved = refl
+stored-table (kinds.Leaf ppn flags) = refl
 
-leaf-ppn : (entry ppn : ℕ) (flags : PteFlags) → kind_of entry ≡ kinds.Leaf ppn flags → ppn < 2 ^ ppn_bits
-unfolding kind_of
-leaf-ppn entry ppn flags kind = grind (arith, nat_tests)
+-- a Map that is accepted has a store, and its reply tells whether that is a pointer
+map_with : (answer : Result Store MapFault) (r : Reply) → map_reply answer ≡ r → is_accepted r ≡ true → (store : Store) × (answer ≡ Ok store) × (is_table r ≡ is_some (pointed (Some store.word)))
+map_with (Ok store) r e a = (store, refl, ap is_table (sym e) ∙ stored-table (kind_of store.word))
+map_with (Err fault) r e a = absurd (false≢true (ap is_accepted e ∙ a))
 
 pub removed_unpointed : (spare : Option ℕ) (level old word : ℕ) (place : Place) (page : Span) → Writes spare level old (wish.Unmap place page) word → is_some (pointed (Some word)) ≡ false
 unfolding kind_of
@@ -90,7 +87,7 @@ used_same used store hart h table at t =
     none true n = refl
     none false n = refl
 
-pub stored_accepted : (r : Reply) → (is_table r || is_leaf r) ≡ true → is_accepted r ≡ true
+stored_accepted : (r : Reply) → (is_table r || is_leaf r) ≡ true → is_accepted r ≡ true
 stored_accepted (reply.Table ppn) e = refl
 stored_accepted reply.Leaf e = refl
 stored_accepted _ e = absurd (false≢true e)

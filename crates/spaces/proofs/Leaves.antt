@@ -7,10 +7,10 @@ use Rattle.pte.specs.declared.entry.Kind.TheVariants as kinds
 use Rattle.pte.specs.Address.{IsCanonical, top_level, level_pages, vpn_of}
 use Rattle.pte.specs.Entry.{kind_of, table_word, ppn_bits}
 use Rattle.pte.proofs.EntryKinds.{kind-table}
-use Rattle.walk.specs.Leads.{Tables, word_at, PointsTo, Leads, IsGlobalAt}
+use Rattle.walk.specs.Leads.{Tables, word_at, Leads, IsGlobalAt}
 use Rattle.walk.specs.Maps.{Maps, page_number}
 use Rattle.walk.proofs.Paths.{leads-start}
-use Rattle.walk.proofs.Downward.{points-to, leads-after, leads_by_pointers}
+use Rattle.walk.proofs.Downward.{leads-after, leads_by_pointers}
 use Rattle.walk.proofs.Unique.{same_bool}
 use Rattle.spaces.specs.declared.places.Place.{Place}
 use Rattle.spaces.specs.declared.places.Place.TheVariants.{Space, Kernel}
@@ -25,10 +25,6 @@ use Rattle.spaces.proofs.Trees.{kind-zero, pointed-zero}
 use Rattle.spaces.proofs.EntryWords.{global-table}
 use Rattle.spaces.proofs.EndPaths.{table_below-front}
 use Rattle.spaces.proofs.Accepting.{window-points}
-
--- a pointer is a word that points
-pub pointed-to : (o : Option ℕ) (t : ℕ) → PointsTo o t → pointed o ≡ Some t
-pointed-to o t p = points-to o t p
 
 module _ (words : Tables) (root va : ℕ) where
   -- a path of tables leads

@@ -1,13 +1,12 @@
 -- The store of an edit leaves the words and the used frames that its event asks for.
 use Rattle.std.proofs.Common.{◌≡◌, ℕ, true, false, ◌||◌, Ok, refl, ap, sym, ◌∙◌}
-use Rattle.std.specs.Prelude.{slice_index, slice_set, is_some}
+use Rattle.std.specs.Prelude.{slice_index, slice_set}
 use Rattle.pte.specs.Address.{Span, IsPage}
 use Rattle.pte.specs.declared.address.What.{What}
 use Rattle.pte.specs.Entry.{kind_of}
 use Rattle.pte.specs.declared.entry.Kind.{Kind}
 use Rattle.pte.specs.declared.entry.Kind.TheVariants as kinds
 use Rattle.pte.specs.declared.flags.PteFlags.{PteFlags}
-use Rattle.walk.specs.Pointers.{pointed_kind}
 use Rattle.spaces.specs.declared.places.Place.{Place}
 use Rattle.spaces.specs.declared.wishes.Wish.{Wish}
 use Rattle.spaces.specs.declared.wishes.Wish.TheVariants as wish
@@ -24,7 +23,7 @@ use Rattle.shoot.specs.Tickets.{after_open}
 use Rattle.history.specs.Orders.{page_request}
 use Rattle.history.specs.Tables.{with_store}
 use Rattle.history.specs.Due.{stored_reply}
-use Rattle.laws.proofs.TreeKept.{used_same, removed_unpointed, changed_unpointed}
+use Rattle.laws.proofs.TreeKept.{stored-table, used_same, removed_unpointed, changed_unpointed}
 use Rattle.stepcore.specs.State.{State, setup_in, tickets_at, words_in, used_in}
 use Rattle.stepcore.specs.Answers.{edit_in}
 use Rattle.stepcore.specs.Changes.{Follows}
@@ -35,12 +34,6 @@ stored (kinds.Table ppn global) = refl
 stored kinds.Invalid = refl
 stored kinds.Reserved = refl
 stored (kinds.Leaf ppn flags) = refl
-
-told : (k : Kind) → is_table (stored_reply k) ≡ is_some (pointed_kind k)
-told (kinds.Table ppn global) = refl
-told kinds.Invalid = refl
-told kinds.Reserved = refl
-told (kinds.Leaf ppn flags) = refl
 
 -- the memory after a store that is due
 pub record IsStored (m : State) (now : Held) (hart : ℕ) (w : Wish) (store : Store) : Type 0 where
@@ -71,7 +64,7 @@ module _ (m new : State) (hart : ℕ) (others : new ≡ record m { memory = new.
     words = λ p i. rw (stored (kind_of store.word)) (words m new.memory hart (wish.Map place page ppn flags) store is p i);
     used = λ h. is.used h
         ∙ used_same (used_in m) store hart h (is_table (stored_reply (kind_of store.word)))
-        (accepted m new.memory hart (wish.Map place page ppn flags) store is).by (told (kind_of store.word));
+        (accepted m new.memory hart (wish.Map place page ppn flags) store is).by (stored-table (kind_of store.word));
     harts = ap (λ (s : State). s.harts) others;
     tickets = ap (λ (s : State). s.tickets) others;
     mailboxes = ap (λ (s : State). s.mailboxes) others;

@@ -17,7 +17,7 @@ use Rattle.spaces.specs.Held.{spare_after}
 use Rattle.spaces.specs.Edits.{Store, place_of}
 use Rattle.spaces.proofs.Accepting.{accepted}
 use Rattle.spaces.proofs.Keeping.{leaf-or-pointer}
-use Rattle.spaces.proofs.Leaves.{pointed-to}
+use Rattle.walk.proofs.Downward.{points-to}
 use Rattle.spaces.proofs.Trees.{pointed-zero}
 use Rattle.history.specs.Setup.{Setup}
 use Rattle.history.specs.declared.event.Event.{Event}
@@ -62,7 +62,7 @@ module _ (C : Setup) (within : IsSetup C) where
         | inr pointer ↦ ap (λ word. pointed (Some word)) pointer.was ∙ pointed-zero
       ] in
       let none : (next : ℕ) → PointsTo (words store.ppn store.index) next → ⊥ = λ next point.
-      let bad : None ≡ Some next = sym was ∙ ap pointed (sym acc.word) ∙ pointed-to (words store.ppn store.index) next point in cc in
+      let bad : None ≡ Some next = sym was ∙ ap pointed (sym acc.word) ∙ points-to (words store.ppn store.index) next point in cc in
       let keeps = pointers-kept words (stored words store.ppn store.index store.word) store.ppn store.index (stored_agrees words store.ppn store.index store.word) none in
       subst (λ (answer : Result Store MapFault). KeepsPointers words (with_store words answer)) (sym e.is)
       keeps

@@ -16,6 +16,7 @@ use Rattle.history.specs.Due.{Lawful}
 use Rattle.history.specs.Runs.{with_turn}
 use Rattle.history.specs.declared.event.Event.TheVariants.{Post, Ack, AckSelf, Collect}
 use Rattle.history.specs.declared.reply.Reply.{Reply}
+use Rattle.history.proofs.Occurred.{is_order_of}
 use Rattle.laws.proofs.Orders.{open_known}
 use Rattle.laws.proofs.Posts.{order_is}
 use Rattle.stepcore.specs.Stands.{ticket_with, ticket_held, ticket_of}
@@ -38,10 +39,6 @@ mark_off true true true old f = absurd (f refl refl)
 and_first : (a b : Bool) → (a && b) ≡ true → a ≡ true
 and_first true b e = refl
 and_first false b e = absurd cc
-
-pub is_order_of : (o : Option ℕ) (k : ℕ) → o ≡ Some k → is_order o k ≡ true
-is_order_of None k e = absurd cc
-is_order_of (Some n) k e = let same : n ≡ k = cc in eq-eqb n k same
 
 -- a hart that is put into a set of harts
 marked : (f g : ℕ → Bool) (hart : ℕ) → ((n : ℕ) → n < MAX_HARTS → (eqb hart n || f n) ≡ g n) → slice_set (harts_where f) hart true ≡ harts_where g

@@ -64,7 +64,7 @@ pub record FoundAt (words : Tables) (root va : ℕ) (found : Found) : Type 0 whe
   pub page : found.page ≡ page_around va (size_at level)
 
 -- a leaf's PPN fits its bits
-leaf-ppn : (entry ppn : ℕ) (flags : PteFlags) → kind_of entry ≡ kinds.Leaf ppn flags → ppn < 2 ^ ppn_bits
+pub leaf-ppn : (entry ppn : ℕ) (flags : PteFlags) → kind_of entry ≡ kinds.Leaf ppn flags → ppn < 2 ^ ppn_bits
 unfolding kind_of
 leaf-ppn entry ppn flags kind = grind (arith, nat_tests)
 
