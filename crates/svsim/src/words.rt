@@ -69,7 +69,8 @@ mod tests {
     use super::*;
     use std::test::Fail;
 
-    /// What is read from the words behind the program's name, which stand apart by blanks: the command and the FILE.
+    /// What is read, with ample memory, from the words behind the program's name, which stand apart by blanks: the command
+    /// and the FILE.
     fn read(alloc: Global, line: &str) -> Result<Option<(Which, bool)>, Fail> {
         let mut words = Vec::new(alloc);
         words.push(format!(in alloc; "svsim")?)?;
@@ -78,7 +79,8 @@ mod tests {
         }
         Ok(match read_words(alloc, words.as_slice()) {
             Ok(ask) => Some((ask.which, ask.file == "FILE")),
-            Err(_) => None,
+            Err(Refusal::Usage) => None,
+            Err(Refusal::NoMemory) => return Err(Fail::new("no memory")),
         })
     }
 
