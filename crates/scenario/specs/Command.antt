@@ -3,8 +3,8 @@ use Rattle.std.specs.Prelude.{◌≡◌, ℕ, ◌<◌, ◌≤◌, ◌⊎◌, ◌
 use Rattle.std.specs.Io.KnownBytes.{Keeps}
 use Rattle.scenario.specs.declared.program.Which.{Which}
 use Rattle.scenario.specs.declared.program.Which.TheVariants.{Walk, Run}
-use Rattle.scenario.specs.declared.program.Trouble.{Trouble}
-use Rattle.scenario.specs.declared.program.Trouble.TheVariants as troubles
+use Rattle.scenario.specs.declared.trouble.Trouble.{Trouble}
+use Rattle.scenario.specs.declared.trouble.Trouble.TheVariants as troubles
 use Rattle.scenario.specs.declared.fault.Fault.{Fault}
 use Rattle.scenario.specs.declared.fault.Fault.TheVariants as faults
 use Rattle.scenario.specs.Faults.{Failure, not_toml, wrong_key, bad_layout, too_many, wrong_step, failure_text, fault_in}

@@ -2,8 +2,8 @@
 use Rattle.std.specs.Prelude.{◌≡◌, ℕ, ◌≤◌, ◌<◌, List, ◌++◌, length, Option, IfSome}
 use Rattle.std.specs.Io.KnownBytes.{Consumes, IsAtEnd}
 use Rattle.scenario.specs.Limits.{most_bytes}
-use Rattle.scenario.specs.declared.program.Trouble.{Trouble}
-use Rattle.scenario.specs.declared.program.Trouble.TheVariants.{Unreadable, TooLarge, Refused}
+use Rattle.scenario.specs.declared.trouble.Trouble.{Trouble}
+use Rattle.scenario.specs.declared.trouble.Trouble.TheVariants.{Unreadable, TooLarge, Refused}
 use Rattle.scenario.specs.declared.fault.Fault.TheVariants.{NoMemory}
 
 -- these are the bytes that a reader has, where they are known

@@ -8,9 +8,6 @@ use pte::TABLE_LENGTH;
 use std::alloc::{AllocError, Global};
 use walk::Words;
 
-/// The frames that a file may list.
-pub const MOST_FRAMES: usize = 512;
-
 /// The words of a table.
 const TABLE_WORDS: usize = TABLE_LENGTH as usize;
 

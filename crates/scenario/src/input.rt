@@ -3,12 +3,10 @@ ghost use Rattle.std.specs.Prelude.{◌≤◌, ◌+◌, length, vec_len, IfOk, I
 ghost use Rattle.scenario.specs.Input.{AreLeft, IsPieceTrouble, IsReadTrouble, ReadsPiece, ReadsUpTo};
 ghost use Rattle.scenario.specs.Limits.{most_bytes};
 
-use crate::program::Trouble;
+use crate::limits::MOST_BYTES;
+use crate::trouble::Trouble;
 use std::alloc::Global;
 use std::io::Read;
-
-/// The bytes that a scenario file may have.
-const MOST_BYTES: usize = 1_048_576;
 
 /// The bytes of one read.
 const PIECE: usize = 4096;

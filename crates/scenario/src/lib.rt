@@ -9,6 +9,7 @@ mod fault;
 mod format_laws;
 mod frames;
 mod input;
+mod limits;
 mod output;
 mod plan;
 mod program;
@@ -16,6 +17,7 @@ mod run_scenario;
 mod scenario;
 mod settings;
 mod texts;
+mod trouble;
 
 pub use fault::Fault;
 pub use format_laws::{first_wrong_step, least_unknown_key, limits_are_checked, worked_endings};

@@ -1,8 +1,6 @@
 //! What the program does, over any reader and writers.
 ghost use Rattle.std.specs.Prelude.{◌≡◌, ◌⊎◌, ◌+◌, ◌≤◌, List, ℕ, length, None, OnOk, IfErr, IfOk, string_bytes};
 ghost use Rattle.std.specs.Io.KnownBytes.{Keeps};
-ghost use Rattle.scenario.specs.declared.program.Trouble.TheVariants.{Refused};
-ghost use Rattle.scenario.specs.declared.fault.Fault.TheVariants.{NoMemory};
 ghost use Rattle.scenario.specs.Output.{AppendsFront, EndsBy, WritesAll};
 ghost use Rattle.scenario.specs.Input.{AreLeft, ReadsUpTo};
 ghost use Rattle.scenario.specs.Limits.{most_bytes};
@@ -12,6 +10,7 @@ use crate::fault::Fault;
 use crate::input::read_file;
 use crate::output::write_whole;
 use crate::texts::{run_text, walk_text};
+use crate::trouble::Trouble;
 use std::alloc::{AllocError, Global};
 use std::io::{Read, Write};
 
@@ -22,22 +21,6 @@ pub enum Which {
     Walk,
     /// Runs the steps of the harts.
     Run,
-}
-
-/// Why a command was not done.
-#[derive(Debug, Drop)]
-pub enum Trouble {
-    Unreadable,
-    TooLarge,
-    Refused(Fault),
-}
-
-impl From<AllocError> for Trouble {
-    ghost from_gives = { λ _ e. e ≡ Refused NoMemory };
-
-    fn from(_e: AllocError) -> Trouble {
-        Trouble::Refused(Fault::NoMemory)
-    }
 }
 
 const DONE: u8 = 0;

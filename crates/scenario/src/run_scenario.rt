@@ -9,8 +9,8 @@ ghost use Rattle.scenario.specs.RunFile.{run_plan_of, run_scenario_of, run_view}
 
 use crate::document::{check_keys, document, texts_of_key};
 use crate::fault::Fault;
+use crate::limits::MOST_STEPS;
 use crate::plan::RunScenario;
-use crate::scenario::MOST_STEPS;
 use crate::settings::{check_layout, config};
 use history::Event;
 use std::alloc::Global;

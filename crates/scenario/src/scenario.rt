@@ -11,7 +11,8 @@ ghost use Rattle.scenario.specs.WalkFile.{frames_at, plan_view, ppn_of, ppns_of,
 
 use crate::document::{check_keys, document, key_fault, number, texts_of_key, value_at};
 use crate::fault::Fault;
-use crate::frames::{Frames, MOST_FRAMES, TableFrames, TableWord};
+use crate::frames::{Frames, TableFrames, TableWord};
+use crate::limits::{MOST_FRAMES, MOST_STEPS};
 use crate::plan::WalkScenario;
 use pte::{PPN_BITS, TABLE_LENGTH};
 use std::alloc::{AllocError, Global};
@@ -25,9 +26,6 @@ const KEYS: [&str; 4] = ["root", "frames", "words", "steps"];
 const PPN_LIMIT: u64 = 1 << PPN_BITS;
 
 const DEFAULT_ROOT: u64 = 0x80000;
-
-/// The steps that a file may have.
-pub const MOST_STEPS: usize = 65_536;
 
 fn ppn(alloc: Global, text: &str) -> Result<Option<u64>, AllocError>
     ensures value { IfOk result (λ n. n ≡ ppn_of text.now) }
