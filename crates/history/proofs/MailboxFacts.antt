@@ -6,7 +6,7 @@ use Rattle.history.specs.Mailboxes.{Mailboxes, NoneAfterClose, KeepsOrder}
 use Rattle.history.specs.WorkedRuns.{history_of, two_harts}
 use Rattle.history.specs.MailboxRuns as mailboxes
 use Rattle.history.specs.UnlawfulRuns as unlawful
-use Rattle.history.specs.Counterexamples.{request}
+use Rattle.history.specs.Counterexamples.{request_of}
 
 -- lists of requests with different tickets are different
 abbrev tickets : List Message → List ℕ
@@ -24,28 +24,28 @@ distinct a b itself other e = true≢false (sym itself ∙ ap (λ ms. same (tick
 not_closed : {A : Type 0} → false ≡ true → A
 not_closed e = absurd (true≢false (sym e))
 
-pub kept : KeepsOrder mailboxes.mailboxes_of_two (history_of mailboxes.two_requests_wait) 0 1 (request 1 ∷ request 2 ∷ [])
+pub kept : KeepsOrder mailboxes.mailboxes_of_two (history_of mailboxes.two_requests_wait) 0 1 (request_of 1 ∷ request_of 2 ∷ [])
 kept = refl
 
-pub swapped : ¬ KeepsOrder mailboxes.mailboxes_of_two (history_of mailboxes.two_requests_wait) 0 1 (request 2 ∷ request 1 ∷ [])
+pub swapped : ¬ KeepsOrder mailboxes.mailboxes_of_two (history_of mailboxes.two_requests_wait) 0 1 (request_of 2 ∷ request_of 1 ∷ [])
 swapped = distinct _ _ refl refl
 
-pub first_lost : ¬ KeepsOrder mailboxes.mailboxes_of_two (history_of mailboxes.two_requests_wait) 0 1 (request 2 ∷ [])
+pub first_lost : ¬ KeepsOrder mailboxes.mailboxes_of_two (history_of mailboxes.two_requests_wait) 0 1 (request_of 2 ∷ [])
 first_lost = distinct _ _ refl refl
 
-pub last_lost : ¬ KeepsOrder mailboxes.mailboxes_of_two (history_of mailboxes.two_requests_wait) 0 1 (request 1 ∷ [])
+pub last_lost : ¬ KeepsOrder mailboxes.mailboxes_of_two (history_of mailboxes.two_requests_wait) 0 1 (request_of 1 ∷ [])
 last_lost = distinct _ _ refl refl
 
-pub doubled : ¬ KeepsOrder mailboxes.mailboxes_of_two (history_of mailboxes.two_requests_wait) 0 1 (request 1 ∷ request 1 ∷ request 2 ∷ [])
+pub doubled : ¬ KeepsOrder mailboxes.mailboxes_of_two (history_of mailboxes.two_requests_wait) 0 1 (request_of 1 ∷ request_of 1 ∷ request_of 2 ∷ [])
 doubled = distinct _ _ refl refl
 
-pub back_again : ¬ KeepsOrder mailboxes.mailboxes_of_two (history_of mailboxes.two_requests_wait) 0 1 (request 0 ∷ request 1 ∷ request 2 ∷ [])
+pub back_again : ¬ KeepsOrder mailboxes.mailboxes_of_two (history_of mailboxes.two_requests_wait) 0 1 (request_of 0 ∷ request_of 1 ∷ request_of 2 ∷ [])
 back_again = distinct _ _ refl refl
 
-pub never_posted : ¬ KeepsOrder mailboxes.mailboxes_of_two (history_of mailboxes.two_requests_wait) 0 1 (request 1 ∷ request 2 ∷ request 3 ∷ [])
+pub never_posted : ¬ KeepsOrder mailboxes.mailboxes_of_two (history_of mailboxes.two_requests_wait) 0 1 (request_of 1 ∷ request_of 2 ∷ request_of 3 ∷ [])
 never_posted = distinct _ _ refl refl
 
-pub other_direction : ¬ KeepsOrder mailboxes.mailboxes_of_two (history_of mailboxes.two_requests_wait) 1 0 (request 1 ∷ request 2 ∷ [])
+pub other_direction : ¬ KeepsOrder mailboxes.mailboxes_of_two (history_of mailboxes.two_requests_wait) 1 0 (request_of 1 ∷ request_of 2 ∷ [])
 other_direction = distinct _ _ refl refl
 
 pub out_of_order : ¬ Mailboxes two_harts (history_of unlawful.taken_out_of_order)

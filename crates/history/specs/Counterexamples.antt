@@ -37,5 +37,5 @@ abbrev pub global_read_only_entry : Span → ℕ → Entry
 global_read_only_entry page ppn = record { asid = 0; global = true; page = page; ppn = ppn; flags = flags (R + U + A + D) }
 
 -- the request of a ticket that asks for everything
-abbrev pub request : ℕ → Message
-request ticket = record { ticket = ticket; what = All }
+abbrev pub request_of : ℕ → Message
+request_of ticket = record { ticket = ticket; what = All }

@@ -1,4 +1,5 @@
--- Runs whose last replies are not due: mailboxes that give out what they should not, or accept what they should refuse.
+-- Runs with replies that are not due: mailboxes that give out what they should not, or accept what they should refuse; and, to
+-- compare, one whose replies are due.
 use Rattle.std.specs.Prelude.{◌+◌, List, [], ◌∷◌, ◌++◌}
 use Rattle.pte.specs.declared.address.What.TheVariants.{All}
 use Rattle.history.specs.declared.event.Event.TheVariants.{Flush, Post, Take, Close}

@@ -8,7 +8,7 @@ ghost use Rattle.history.specs.Harts.{entries_of};
 ghost use Rattle.history.specs.Mailboxes.{KeepsOrder, Mailboxes, NoneAfterClose};
 ghost use Rattle.history.specs.Staleness.{Clear};
 ghost use Rattle.history.specs.WorkedRuns.{history_of, large_page, small_page, three_harts, two_harts};
-ghost use Rattle.history.specs.Counterexamples.{ClearAllowsAll, ClearForbids, CoherentAllowsAll, CoherentForbids, entry, global_entry, global_read_only_entry, read_only_entry, request};
+ghost use Rattle.history.specs.Counterexamples.{ClearAllowsAll, ClearForbids, CoherentAllowsAll, CoherentForbids, entry, global_entry, global_read_only_entry, read_only_entry, request_of};
 ghost use Rattle.history.specs.EditRuns.{huge_page};
 ghost use Rattle.history.specs.ShootdownRuns as shootdowns;
 ghost use Rattle.history.specs.KernelRuns as kernel;
@@ -26,15 +26,15 @@ pub fn acknowledged_hart_holds_no_entry_of_the_page()
     ensures global { ClearForbids two_harts (history_of shootdowns.superpage_until_acknowledged) 5 1 (global_entry (small_page 0x401000) 0x100) }
 {}
 
-/// The same of the hart that asked, once it has acknowledged its own order, and of hart 1 also when the ticket is finished and
-/// its number given to another order.
+/// The hart that asked holds no entry of the page either, once it has acknowledged its own order; nor does hart 1 when the
+/// ticket is finished and its number given to another order.
 #[tactic(auto, using(crate::proofs::ClearFacts::sender, crate::proofs::ClearFacts::ticket_used_again))]
 pub fn each_acknowledged_hart_holds_none()
     ensures sender { ClearForbids two_harts (history_of shootdowns.superpage_shootdown) 5 0 (entry 1 (large_page 0x400000) 0x200) }
     ensures ticket_used_again { ClearForbids two_harts (history_of shootdowns.ticket_used_again) 5 1 (entry 1 (large_page 0x400000) 0x200) }
 {}
 
-/// It lasts until a leaf is mapped there: neither a pointer to a new table, nor the same page of another space, nor what is
+/// Clear lasts until a leaf is mapped in the page: neither a pointer to a new table, nor the same page of another space, nor what is
 /// refused ends it.
 #[tactic(auto, using(crate::proofs::ClearFacts::pointer_stored, crate::proofs::ClearFacts::other_space, crate::proofs::ClearFacts::refused_changes))]
 pub fn no_entry_is_held_until_a_leaf_is_mapped()
@@ -69,7 +69,7 @@ pub fn clear_lets_other_pages_be_held()
     ensures other_space { Clear shootdowns.spaces_of_one_home (history_of staleness.same_page_of_another_space) (entries_of shootdowns.spaces_of_one_home (history_of staleness.same_page_of_another_space) 1) 15 1 }
 {}
 
-/// There the hart does translate, in runs of which each reply is due: without being named, once a leaf is mapped anew, in the
+/// Where Clear or Coherent says nothing, the hart does translate, in runs of which each reply is due: without being named, once a leaf is mapped anew, in the
 /// other space, after a change of flags, before its acknowledgement of one, and after one more change.
 #[tactic(auto, using(crate::proofs::StillTranslated::unnamed, crate::proofs::StillTranslated::mapped_anew, crate::proofs::StillTranslated::of_another_space, crate::proofs::StillTranslated::protected, crate::proofs::StillTranslated::unacknowledged, crate::proofs::StillTranslated::protected_once_more, crate::proofs::StillTranslated::unmapped_once_more))]
 pub fn such_a_hart_still_translates()
@@ -94,14 +94,15 @@ pub fn acknowledged_hart_holds_only_what_is_mapped()
     ensures kernel_page { (asid : ℕ) → CoherentForbids kernel.spaces_of_two_homes (history_of kernel.kernel_page_until_acknowledged) 10 1 (entry asid (small_page 0xffffffffc0000000) 0x300) }
 {}
 
-/// The same of a small page of a page of 2 MiB that lost W; and what is mapped for one ASID is not held for every one.
+/// A hart that has acknowledged that a page of 2 MiB lost W holds no small page of it with W; and what is mapped for one ASID
+/// it does not hold for every one.
 #[tactic(auto, using(crate::proofs::CoherentFacts::last_part, crate::proofs::CoherentFacts::for_every_asid))]
 pub fn acknowledged_hart_holds_it_as_it_is_mapped()
     ensures for_every_asid { CoherentForbids two_harts (history_of shootdowns.read_only_until_acknowledged) 5 1 (global_read_only_entry (large_page 0x400000) 0x200) }
     ensures last_part { CoherentForbids two_harts (history_of shootdowns.read_only_until_acknowledged) 5 1 (entry 1 (small_page 0x5ff000) 0x3ff) }
 {}
 
-/// It lasts until the page is unmapped or changed once more: neither a flush, nor what is refused, nor the same page of another
+/// Coherent lasts until the page is unmapped or changed once more: neither a flush, nor what is refused, nor the same page of another
 /// space ends it.
 #[tactic(auto, using(crate::proofs::CoherentFacts::flushed, crate::proofs::CoherentFacts::refused_changes, crate::proofs::CoherentFacts::other_space))]
 pub fn only_what_is_mapped_is_held_until_a_change()
@@ -125,14 +126,14 @@ pub fn coherent_says_nothing_here()
 /// the mailbox of the other direction with them.
 #[tactic(auto, using(crate::proofs::MailboxFacts::kept, crate::proofs::MailboxFacts::swapped, crate::proofs::MailboxFacts::first_lost, crate::proofs::MailboxFacts::last_lost, crate::proofs::MailboxFacts::doubled, crate::proofs::MailboxFacts::back_again, crate::proofs::MailboxFacts::never_posted, crate::proofs::MailboxFacts::other_direction))]
 pub fn mailbox_keeps_each_request_once_and_in_order()
-    ensures kept { KeepsOrder mailboxes.mailboxes_of_two (history_of mailboxes.two_requests_wait) 0 1 (request 1 ∷ request 2 ∷ []) }
-    ensures swapped { ¬ KeepsOrder mailboxes.mailboxes_of_two (history_of mailboxes.two_requests_wait) 0 1 (request 2 ∷ request 1 ∷ []) }
-    ensures first_lost { ¬ KeepsOrder mailboxes.mailboxes_of_two (history_of mailboxes.two_requests_wait) 0 1 (request 2 ∷ []) }
-    ensures last_lost { ¬ KeepsOrder mailboxes.mailboxes_of_two (history_of mailboxes.two_requests_wait) 0 1 (request 1 ∷ []) }
-    ensures doubled { ¬ KeepsOrder mailboxes.mailboxes_of_two (history_of mailboxes.two_requests_wait) 0 1 (request 1 ∷ request 1 ∷ request 2 ∷ []) }
-    ensures back_again { ¬ KeepsOrder mailboxes.mailboxes_of_two (history_of mailboxes.two_requests_wait) 0 1 (request 0 ∷ request 1 ∷ request 2 ∷ []) }
-    ensures never_posted { ¬ KeepsOrder mailboxes.mailboxes_of_two (history_of mailboxes.two_requests_wait) 0 1 (request 1 ∷ request 2 ∷ request 3 ∷ []) }
-    ensures other_direction { ¬ KeepsOrder mailboxes.mailboxes_of_two (history_of mailboxes.two_requests_wait) 1 0 (request 1 ∷ request 2 ∷ []) }
+    ensures kept { KeepsOrder mailboxes.mailboxes_of_two (history_of mailboxes.two_requests_wait) 0 1 (request_of 1 ∷ request_of 2 ∷ []) }
+    ensures swapped { ¬ KeepsOrder mailboxes.mailboxes_of_two (history_of mailboxes.two_requests_wait) 0 1 (request_of 2 ∷ request_of 1 ∷ []) }
+    ensures first_lost { ¬ KeepsOrder mailboxes.mailboxes_of_two (history_of mailboxes.two_requests_wait) 0 1 (request_of 2 ∷ []) }
+    ensures last_lost { ¬ KeepsOrder mailboxes.mailboxes_of_two (history_of mailboxes.two_requests_wait) 0 1 (request_of 1 ∷ []) }
+    ensures doubled { ¬ KeepsOrder mailboxes.mailboxes_of_two (history_of mailboxes.two_requests_wait) 0 1 (request_of 1 ∷ request_of 1 ∷ request_of 2 ∷ []) }
+    ensures back_again { ¬ KeepsOrder mailboxes.mailboxes_of_two (history_of mailboxes.two_requests_wait) 0 1 (request_of 0 ∷ request_of 1 ∷ request_of 2 ∷ []) }
+    ensures never_posted { ¬ KeepsOrder mailboxes.mailboxes_of_two (history_of mailboxes.two_requests_wait) 0 1 (request_of 1 ∷ request_of 2 ∷ request_of 3 ∷ []) }
+    ensures other_direction { ¬ KeepsOrder mailboxes.mailboxes_of_two (history_of mailboxes.two_requests_wait) 1 0 (request_of 1 ∷ request_of 2 ∷ []) }
 {}
 
 /// Mailboxes is false of runs, none of them lawful, in which the second request is taken first, the first one twice, or one that

@@ -58,6 +58,15 @@ other_request is = let same : 0 ≡ 1 = ap asks_all is.what in omega (arith, sam
 pub to_itself : ¬ IsAcceptedPost two_harts (history_of two_posts) 0 0 (post_of 0 0 All)
 to_itself is = is.apart refl
 
+pub not_of_its_sender : ¬ IsAcceptedPost two_harts (history_of two_posts) 1 0 (post_of 0 0 All)
+not_of_its_sender is = let same : 0 ≡ 1 = is.sender in omega (arith, same)
+
+pub not_under_its_ticket : ¬ IsAcceptedPost two_harts (history_of two_posts) 0 1 (post_of 0 1 All)
+not_under_its_ticket is = other_ticket is.opened
+
+pub not_named : ¬ IsAcceptedPost two_harts (history_of two_posts) 0 2 (post_of 0 0 All)
+not_named is = true≢false (sym is.named)
+
 pub not_posted : ¬ IsAcceptedPost two_harts (history_of two_orders) 0 1 (post_of 0 0 All)
 not_posted is = true≢false (sym is.posted)
 

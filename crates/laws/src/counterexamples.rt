@@ -1,5 +1,5 @@
-//! What the definitions of this crate refuse: a law whose words say less than their names would say less too. Each function does
-//! nothing, and its clauses are the facts, computed from the histories of worked runs.
+//! What the definitions of this crate refuse, so that none of them says less than its name. Each function does nothing, and its
+//! clauses are the facts, computed from the histories of worked runs.
 
 ghost use Rattle.std.specs.Prelude.{ℕ, [], ◌∷◌, false, true};
 ghost use Rattle.pte.specs.declared.address.What.TheVariants.{All, SpaceOf};
@@ -17,7 +17,7 @@ ghost use Rattle.laws.specs.Fills.{Fills};
 ghost use Rattle.laws.specs.Orders.{IsOpenedBy, IsOrder};
 ghost use Rattle.laws.specs.Posts.{IsAcceptedPost, IsLive, IsOwn, StandsIn};
 
-/// An order names its sender, has a ticket below 64, is one of the turns, and names no hart from 8 on.
+/// An order names its sender, has a ticket below 64, stands at the place of a turn, and names no hart from 8 on.
 #[tactic(auto, using(crate::proofs::Refuted::without_sender, crate::proofs::Refuted::ticket_64, crate::proofs::Refuted::no_turn, crate::proofs::Refuted::hart_8))]
 pub fn what_is_no_order()
     ensures without_sender { ¬ IsOrder (history_of two_posts) 0 (order_to 0 (false ∷ true ∷ [])) }
@@ -34,12 +34,16 @@ pub fn what_another_opened()
     ensures own { ¬ IsOwn two_harts (history_of two_posts) 0 1 }
 {}
 
-/// A post asks what its order asks, goes to another hart, and was posted.
-#[tactic(auto, using(crate::proofs::Refuted::other_request, crate::proofs::Refuted::to_itself, crate::proofs::Refuted::not_posted))]
+/// A post is of an order of its sender, under its ticket; it asks what that order asks, goes to another hart, which the order
+/// names, and was posted.
+#[tactic(auto, using(crate::proofs::Refuted::other_request, crate::proofs::Refuted::to_itself, crate::proofs::Refuted::not_posted, crate::proofs::Refuted::not_under_its_ticket, crate::proofs::Refuted::not_of_its_sender, crate::proofs::Refuted::not_named))]
 pub fn what_is_no_accepted_post()
     ensures other_request { ¬ IsAcceptedPost two_harts (history_of two_posts) 0 1 (post_of 0 0 (SpaceOf 1)) }
     ensures to_itself { ¬ IsAcceptedPost two_harts (history_of two_posts) 0 0 (post_of 0 0 All) }
     ensures not_posted { ¬ IsAcceptedPost two_harts (history_of two_orders) 0 1 (post_of 0 0 All) }
+    ensures other_sender { ¬ IsAcceptedPost two_harts (history_of two_posts) 1 0 (post_of 0 0 All) }
+    ensures other_ticket { ¬ IsAcceptedPost two_harts (history_of two_posts) 0 1 (post_of 0 1 All) }
+    ensures not_named { ¬ IsAcceptedPost two_harts (history_of two_posts) 0 2 (post_of 0 0 All) }
 {}
 
 /// A post is live no more once its receiver has acknowledged its order, nor once the ticket is finished; and a list in which an

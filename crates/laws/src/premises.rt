@@ -25,7 +25,7 @@ pub fn premises_of_clear_are_met()
     ensures not_anew { is_mapped_anew two_harts (history_of shootdowns.superpage_shootdown) 5 ≡ false }
 {}
 
-/// The same of a kernel page, at place 10.
+/// What Clear asks is met of a kernel page too, whose unmapping stands at place 10.
 pub fn premises_of_clear_are_met_by_a_kernel_page()
     ensures lawful { Lawful kernel.spaces_of_two_homes (history_of kernel.kernel_page_outlives_an_asid_fence) }
     ensures pages { HavePages (history_of kernel.kernel_page_outlives_an_asid_fence) }
