@@ -1,5 +1,5 @@
 -- The ticket that an opening takes is the least that is not open.
-use Rattle.std.proofs.Common.{◌≡◌, ℕ, zero, suc, ◌+◌, ◌<◌, ◌≤◌, ◌⊎◌, ◌==◌, true, false, cond, Option, Some, None, refl, sym, ap, subst, ◌∙◌, arith, inl, inr}
+use Rattle.std.proofs.Common.{◌≡◌, ℕ, zero, suc, ◌+◌, ◌<◌, ◌≤◌, ◌⊎◌, ◌==◌, true, false, cond, Some, None, refl, sym, ap, subst, ◌∙◌, arith, inl, inr}
 use Rattle.std.specs.Prelude.{◌↔◌, is_none}
 use Rattle.std.proofs.lemmas.Bool.{true≢false, eqb-true, eqb-false}
 use Rattle.shoot.specs.declared.TheConstants.{MAX_TICKETS}
@@ -8,10 +8,7 @@ use Rattle.history.specs.Orders.{open_order}
 use Rattle.history.specs.Due.{least_free}
 use Rattle.history.specs.Occurrences.{IsLeastFree}
 use Rattle.shoot.proofs.HartSets.{by_test}
-
-is_none-None : {A : Type 0} (o : Option A) → is_none o ≡ true → o ≡ None
-is_none-None None e = refl
-is_none-None (Some a) e = absurd (true≢false (sym e))
+use Rattle.history.proofs.Occurred.{none_by}
 
 above : (from m : ℕ) → from ≤ m → (from == m) ≡ false → from + 1 ≤ m
 above from m up other = omega (arith, up, eqb-false from m other)
@@ -31,14 +28,14 @@ module _ (H : History) (hart : ℕ) where
   at_first n from ticket free same = record {
     first = omega (arith, same);
     below = omega (arith, same);
-    free = subst (λ t. open_order H hart t ≡ None) same (is_none-None (open_order H hart from) free);
+    free = subst (λ t. open_order H hart t ≡ None) same (none_by (open_order H hart from) free);
     least = λ m up down. absurd (omega (arith, same, up, down));
   }
 
   some_open : (ticket : ℕ) → ¬ (open_order H hart ticket ≡ None) → is_none (open_order H hart ticket) ≡ false
   some_open ticket busy =
       by_test (λ v. is_none (open_order H hart ticket) ≡ v → v ≡ false) (is_none (open_order H hart ticket))
-      (λ _ free. absurd (busy (is_none-None (open_order H hart ticket) free))) (λ _ _. refl) refl
+      (λ _ free. absurd (busy (none_by (open_order H hart ticket) free))) (λ _ _. refl) refl
 
   first_or_later : (from m : ℕ) → from ≤ m → (from ≡ m) ⊎ (from + 1 ≤ m)
   first_or_later from m up =

@@ -129,7 +129,8 @@ no_post_after_close C (turn ∷ H) s h l p = elim (sometime_cases (IsPostAfterCl
   | inr old ↦ no_post_after_close C H s h l.0 old
 ]
 
-get_front : {A : Type 0} (ts ws : List A) (n : ℕ) (x : A) → slice_get ts n ≡ Some x → slice_get (ts ++ ws) n ≡ Some x
+-- the members of a list stay where they are when others are put behind it
+pub get_front : {A : Type 0} (ts ws : List A) (n : ℕ) (x : A) → slice_get ts n ≡ Some x → slice_get (ts ++ ws) n ≡ Some x
 get_front [] ws n x e = absurd cc
 get_front (t ∷ ts) ws zero x e = e
 get_front (t ∷ ts) ws (suc n) x e = get_front ts ws n x e

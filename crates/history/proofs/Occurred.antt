@@ -1,7 +1,7 @@
 -- What is marked once something happened: posted, acknowledged, collected, mapped anew, superseded, closed.
 use Rattle.std.proofs.Common.{◌≡◌, ℕ, Bool, true, false, ◌&&◌, ◌||◌, ◌⊎◌, inl, inr, Option, Some, None, refl, ap, sym, ◌∙◌, eqb}
 use Rattle.std.proofs.lemmas.Bool.{or_cases, and_parts, eqb-true, eq-eqb, false≢true}
-use Rattle.std.specs.Prelude.{◌↔◌}
+use Rattle.std.specs.Prelude.{◌↔◌, is_none}
 use Rattle.pte.specs.Address.{Span}
 use Rattle.spaces.specs.declared.places.Place.{Place}
 use Rattle.spaces.specs.declared.places.Place.TheVariants.{Space, Kernel}
@@ -40,6 +40,10 @@ leaf_is _ e = absurd (false≢true e)
 pub opened_is : (r : Reply) → is_opened r ≡ true → (ticket : ℕ) × (r ≡ Opened ticket)
 opened_is (Opened ticket) e = (ticket, refl)
 opened_is _ e = absurd (false≢true e)
+
+pub none_by : {A : Type 0} (o : Option A) → is_none o ≡ true → o ≡ None
+none_by None e = refl
+none_by (Some x) e = absurd cc
 
 pub order_is : (o : Option ℕ) (k : ℕ) → is_order o k ≡ true → o ≡ Some k
 order_is None k e = absurd (false≢true e)

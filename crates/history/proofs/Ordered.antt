@@ -15,6 +15,7 @@ use Rattle.history.specs.Occurrences.{Sometime, IsNthPost, IsNthTake}
 use Rattle.history.proofs.Splits.{read_sometime}
 use Rattle.history.proofs.Occurred.{turn_of, ok_is, same_from}
 use Rattle.history.proofs.OpenOrders.{same_parts}
+use Rattle.history.proofs.Mailboxes.{get_front}
 use Rattle.shoot.proofs.HartSets.{by_test}
 
 -- the members of a list with one more
@@ -27,11 +28,6 @@ last_cases (z ∷ xs) x y (suc n) e = elim (last_cases xs x y n e) [ inl p ↦ i
 pub last_here : {A : Type 0} (xs : List A) (x : A) → slice_get (xs ++ x ∷ []) (length xs) ≡ Some x
 last_here [] x = refl
 last_here (z ∷ xs) x = last_here xs x
-
-pub last_old : {A : Type 0} (xs ys : List A) (n : ℕ) (y : A) → slice_get xs n ≡ Some y → slice_get (xs ++ ys) n ≡ Some y
-last_old [] ys n y e = absurd cc
-last_old (x ∷ xs) ys zero y e = e
-last_old (x ∷ xs) ys (suc n) y e = last_old xs ys n y e
 
 pub none_more : {A : Type 0} (xs : List A) (n : ℕ) (y : A) → slice_get (xs ++ []) n ≡ Some y → slice_get xs n ≡ Some y
 none_more [] n y e = e
@@ -74,7 +70,7 @@ module _ (C : Setup) (s h n : ℕ) (sent : Sent) where
   post_stays : (e : Event) (r : Reply) (H : History) → slice_get (posts C H s h) n ≡ Some sent → slice_get (posts_after C e r H s h (posts C H s h)) n ≡ Some sent
   post_stays (Post hart ticket to) r H e =
       by_test (λ t. slice_get (cond t (posts C H s h ++ sent_of C H hart ticket (open_order H hart ticket)) (posts C H s h)) n ≡ Some sent) (is_ok r && are_same hart to s h)
-      (λ _. last_old (posts C H s h) _ n sent e) (λ _. e)
+      (λ _. get_front (posts C H s h) _ n sent e) (λ _. e)
   post_stays _ r H e = e
 
   post_by : (turn : Turn) (H : History) → IsNthPost C s h n sent turn H → slice_get (posts_after C turn.event turn.reply H s h (posts C H s h)) n ≡ Some sent
@@ -111,7 +107,7 @@ module _ (s h n : ℕ) (request : Message) where
   take_stays : (e : Event) (r : Reply) (H : History) → slice_get (taken H s h) n ≡ Some request → slice_get (taken_after e r s h (taken H s h)) n ≡ Some request
   take_stays (Take hart from) r H e =
       by_test (λ t. slice_get (cond t (taken H s h ++ taken_request r) (taken H s h)) n ≡ Some request) (are_same from hart s h)
-      (λ _. last_old (taken H s h) _ n request e) (λ _. e)
+      (λ _. get_front (taken H s h) _ n request e) (λ _. e)
   take_stays _ r H e = e
 
   take_by : (turn : Turn) (H : History) → IsNthTake s h n request turn H → slice_get (taken_after turn.event turn.reply s h (taken H s h)) n ≡ Some request

@@ -1,6 +1,6 @@
 -- Tests, options and lists.
 use Rattle.std.proofs.Common.{◌≡◌, ℕ, zero, suc, ◌+◌, ◌<◌, ◌≤◌, Bool, true, false, ◌&&◌, ◌||◌, not, List, [], ◌∷◌, drop, map, Option, Some, None, slice_get, refl, ap, subst, arith, ◌⊎◌, inl, inr, eqb, ltb}
-use Rattle.std.specs.Prelude.{All, is_some, is_none}
+use Rattle.std.specs.Prelude.{All, is_some}
 use Rattle.std.proofs.lemmas.Bool.{and_parts, or_cases, eqb-true, false≢true, not-true, ltb-true, ltb-false}
 use Rattle.std.proofs.lemmas.Option.{slice_get_past}
 use Rattle.std.proofs.lemmas.List.Elements.{All-head, All-tail}
@@ -9,7 +9,7 @@ use Rattle.std.specs.List.{list_all, range_with_len}
 use Rattle.shoot.specs.HartSet.{contains, harts_where, is_empty}
 use Rattle.shoot.specs.declared.TheConstants.{MAX_HARTS}
 pub use Rattle.shoot.proofs.HartSets.{by_test}
-pub use Rattle.history.proofs.Occurred.{and3}
+pub use Rattle.history.proofs.Occurred.{and3, none_by}
 
 pub or3 : (a b c old : Bool) → ((a && (b && c)) || old) ≡ true → ((a ≡ true) × (b ≡ true) × (c ≡ true)) ⊎ (old ≡ true)
 or3 a b c old e = elim (or_cases (a && (b && c)) old e) [ inl n ↦ inl (and3 a b c n) | inr y ↦ inr y ]
@@ -17,10 +17,6 @@ or3 a b c old e = elim (or_cases (a && (b && c)) old e) [ inl n ↦ inl (and3 a 
 pub none_since : {A : Type 0} (o : Option A) → is_some o ≡ false → o ≡ None
 none_since None e = refl
 none_since (Some x) e = absurd cc
-
-pub none_by : {A : Type 0} (o : Option A) → is_none o ≡ true → o ≡ None
-none_by None e = refl
-none_by (Some x) e = absurd cc
 
 -- lists
 pub All-slice_get : {A : Type 0} (P : A → Type 0) (xs : List A) (i : ℕ) (x : A) → All P xs → slice_get xs i ≡ Some x → P x

@@ -85,6 +85,7 @@ entry-zero old is e = subst (IsEntryOf old) e is
 entry-reserved : (old : ℕ) → IsEntryOf old (kind_of old) → kind_of old ≡ kinds.Reserved → ⊥
 entry-reserved old is e = subst (IsEntryOf old) e is
 
+-- the levels of pages are those of the tree
 pub level-top : (size : PageSize) → level_of size ≤ top_level
 level-top Kib4 = omega arith
 level-top Mib2 = omega arith

@@ -21,7 +21,9 @@ use Rattle.spaces.specs.Held.{IsLayout}
 use Rattle.spaces.specs.Tree.{start_table, IsIn}
 use Rattle.spaces.proofs.Ends.{path_end-below}
 use Rattle.spaces.proofs.Leaves.{member-of, window-word, window-fits}
-use Rattle.spaces.proofs.Numbers.{number-part, same-vpns}
+use Rattle.walk.proofs.Pages.{same_vpn}
+use Rattle.walk.proofs.FoundMembers.{leaf-ppn}
+use Rattle.spaces.proofs.Numbers.{number-part}
 use Rattle.std.proofs.Common.{◌*◌, ◌/◌, IsTrue, ◌↔◌}
 use Rattle.walk.specs.Maps.{Maps}
 use Rattle.spaces.specs.Layout.{Layout, home_of, root_ppn}
@@ -36,7 +38,7 @@ use Rattle.spaces.proofs.Trees.{kind-zero}
 use Rattle.spaces.proofs.EntryWords.{kind-stored, pointed-table}
 use Rattle.spaces.proofs.EndPaths.{ends-on, EndsOn}
 use Rattle.spaces.proofs.Accepting.{accepted}
-use Rattle.spaces.proofs.Keeping.{keeps-tree, there, leaf-or-pointer, leaf-range, fresh-of, fresh-range, IsLeafStore, IsPointerStore}
+use Rattle.spaces.proofs.Keeping.{keeps-tree, there, leaf-or-pointer, fresh-of, fresh-range, IsLeafStore, IsPointerStore}
 use Rattle.spaces.proofs.Leaves.{leads-path, path-leads}
 use Rattle.spaces.proofs.Effecting.{adds-page, removes-page, changes-flags, same-maps, ends}
 
@@ -78,7 +80,7 @@ effect-by l words used hart wish store e acc new is (removes_leaf place page q f
     absurd (let bad : kinds.Leaf q f ≡ kinds.Invalid = sym kind ∙ ap kind_of p.was ∙ kind-zero in cc)
 effect-by l words used hart wish store e acc new is (changes_leaf place page flags q f at kind ok) (inl leaf) =
     changes-flags l e.layout words used e.tree (Protect place page flags) e.has e.page store acc at leaf q f flags kind
-    (ap kind_of (sym is) ∙ kind-stored q flags (leaf-range acc.old q f kind) ok.byte ok.leaf)
+    (ap kind_of (sym is) ∙ kind-stored q flags (leaf-ppn acc.old q f kind) ok.byte ok.leaf)
 effect-by l words used hart wish store e acc new is (changes_leaf place page flags q f at kind ok) (inr p) =
     absurd (let bad : kinds.Leaf q f ≡ kinds.Invalid = sym kind ∙ ap kind_of p.was ∙ kind-zero in cc)
 
@@ -166,7 +168,7 @@ pub global-window : (l : Layout) (words : Tables) (used : ℕ → ℕ) → IsLay
 global-window l words used fits tree s number ppn flags global has mapped =
     let m = member-of l fits words used tree s number ppn flags global has mapped in
     let page : m.va / level_bytes 0 ≡ number * 4096 / level_bytes 0 = m.of_page ∙ sym (number-part number) in
-    let slot : vpn_of m.va top_level ≡ vpn_of (number * 4096) top_level = same-vpns m.va (number * 4096) 0 top_level (omega arith) page in
+    let slot : vpn_of m.va top_level ≡ vpn_of (number * 4096) top_level = same_vpn m.va (number * 4096) 0 top_level (omega arith) page in
     by_place m.on.place (vpn_of m.va top_level) (vpn_of (number * 4096) top_level) slot m.reach (in-part m.on.place m.va m.on.within)
   where
     in-part : (place : Place) (va : ℕ) → IsIn l place va → InPart l place (vpn_of va top_level)

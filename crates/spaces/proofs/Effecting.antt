@@ -3,8 +3,6 @@ use Rattle.std.proofs.Common.{◌≡◌, ℕ, zero, suc, ◌+◌, ◌-◌, ◌<�
 use Rattle.std.proofs.lemmas.Bool.{cases_lt, cases_order}
 use Rattle.pte.specs.declared.flags.PteFlags.{PteFlags}
 use Rattle.pte.specs.declared.entry.Kind.TheVariants as kinds
-use Rattle.pte.specs.declared.address.PageSize.{PageSize}
-use Rattle.pte.specs.declared.address.PageSize.TheVariants.{Kib4, Mib2, Gib1}
 use Rattle.pte.specs.Address.{IsCanonical, IsPage, top_level, level_of, level_pages, vpn_of}
 use Rattle.pte.specs.Entry.{kind_of}
 use Rattle.walk.specs.Leads.{Tables, word_at}
@@ -24,16 +22,11 @@ use Rattle.spaces.proofs.Homes.{home-unique}
 use Rattle.spaces.proofs.Paths.{above, on, some-same, paths-agree, table_below-like, SamePath, vpn-below}
 use Rattle.spaces.proofs.Stored.{is-word, stored-here, stored-there, pointed-stored}
 use Rattle.spaces.proofs.Trees.{IsPlace, kind-zero, pointed-zero, table_on-pointer, table_on-kept, fresh-empty}
-use Rattle.spaces.proofs.Accepting.{home-there}
+use Rattle.spaces.proofs.Accepting.{home-there, level-top}
 use Rattle.spaces.proofs.Keeping.{IsLeafStore, IsPointerStore, there, reaches, keeps-tree, is-place, high}
-use Rattle.spaces.proofs.Numbers.{same-vpns, same-page, part-of, of-part, place-of-part, canonical-part, number-part}
+use Rattle.walk.proofs.Pages.{same_vpn}
+use Rattle.spaces.proofs.Numbers.{same-page, part-of, of-part, place-of-part, canonical-part, number-part}
 use Rattle.spaces.proofs.Leaves.{LeafOn, member-of, maps-of, moved, leaf-carried}
-
--- a page's level fits its place: what hangs in both
-size-level : (size : PageSize) → level_of size ≤ top_level
-size-level Kib4 = omega arith
-size-level Mib2 = omega arith
-size-level Gib1 = omega arith
 
 leaf-no-table : (q r : ℕ) (f : PteFlags) (g : Bool) → kinds.Leaf q f ≡ kinds.Table r g → ⊥
 leaf-no-table q r f g e = cc
@@ -102,8 +95,8 @@ module _ (l : Layout) (fits : IsLayout l) (words : Tables) (used : ℕ → ℕ) 
         → (table_on l words (place_of wish) va acc.depth ≡ Some store.ppn) × (store.index ≡ vpn_of va (level_of (page_of wish).size)) × IsIn l (place_of wish) va
     same-path-in s va number of-page part =
         let quotient = of-part (page_of wish).base (page_of wish).size va number is-page.aligned of-page part in
-        let vpns : (j : ℕ) → level_of (page_of wish).size ≤ j → vpn_of va j ≡ vpn_of (page_of wish).base j = λ j from. same-vpns va (page_of wish).base (level_of (page_of wish).size) j from quotient in
-        let top = vpns top_level (size-level (page_of wish).size) in (
+        let vpns : (j : ℕ) → level_of (page_of wish).size ≤ j → vpn_of va j ≡ vpn_of (page_of wish).base j = λ j from. same_vpn va (page_of wish).base (level_of (page_of wish).size) j from quotient in
+        let top = vpns top_level (level-top (page_of wish).size) in (
           paths-agree l fits words (place_of wish) va (page_of wish).base acc.depth acc.deep (start-top (place_of wish)) (λ j more less. vpns j (omega arith)) (start-same (place_of wish) va (page_of wish).base top) ∙ acc.on,
           acc.index ∙ ap (vpn_of (page_of wish).base) at-level ∙ sym (vpns (level_of (page_of wish).size) (omega arith)),
           in-same (place_of wish) va (page_of wish).base top acc.within,

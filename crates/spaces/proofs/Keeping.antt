@@ -7,7 +7,7 @@ use Rattle.pte.specs.declared.flags.PteFlags.{PteFlags}
 use Rattle.pte.specs.declared.entry.Kind.{Kind}
 use Rattle.pte.specs.declared.entry.Kind.TheVariants as kinds
 use Rattle.pte.specs.Address.{top_level, vpn_of}
-use Rattle.pte.specs.Entry.{kind_of, is_global, ppn_of, ppn_bits}
+use Rattle.pte.specs.Entry.{kind_of, is_global, ppn_bits}
 use Rattle.walk.specs.Leads.{Tables}
 use Rattle.spaces.specs.declared.places.Place.{Place}
 use Rattle.spaces.specs.declared.places.Place.TheVariants.{Space, Kernel}
@@ -19,6 +19,7 @@ use Rattle.spaces.specs.Tree.{start_level, start_table, IsIn, table_on, IsAtHome
 use Rattle.walk.specs.Pointers.{pointed, pointed_kind}
 use Rattle.spaces.specs.Accepted.{Accepted, Writes, adds_table, adds_leaf, removes_leaf, changes_leaf}
 use Rattle.spaces.specs.Applied.{words_after, used_after, used_by_all, seven}
+use Rattle.walk.proofs.FoundMembers.{leaf-ppn}
 use Rattle.spaces.proofs.Homes.{home-unique, sum-within}
 use Rattle.spaces.proofs.Paths.{on, On, same-path, SamePath, vpn-below}
 use Rattle.spaces.proofs.Stored.{stored-there}
@@ -26,10 +27,6 @@ use Rattle.spaces.proofs.Trees.{IsPlace, home-leaf, home-pointer, home-same, kin
 use Rattle.pte.proofs.EntryKinds.{kind-table}
 use Rattle.spaces.proofs.EntryWords.{kind-stored, global-stored, pointed-table, global-table}
 use Rattle.spaces.proofs.Accepting.{home-there}
-
-pub leaf-range : (word q : ℕ) (f : PteFlags) → kind_of word ≡ kinds.Leaf q f → q < 2 ^ ppn_bits
-unfolding kind_of
-leaf-range word q f e = let is : q ≡ ppn_of word = grind (arith, nat_tests, e) in omega arith
 
 -- a spare frame that is not in use
 pub record Fresh (l : Layout) (h used frame : ℕ) : Type 0 where
@@ -83,7 +80,7 @@ module _ (l : Layout) (fits : IsLayout l) (h used level old : ℕ) where
       plain-by place _ (global-stored ppn flags fit ok.byte ok.leaf ∙ global-flags place flags ok.global)
   plain-written wish new (removes_leaf place page q f at is) = λ s e. is_global-zero
   plain-written wish new (changes_leaf place page flags q f at is ok) =
-      plain-by place _ (global-stored q flags (leaf-range old q f is) ok.byte ok.leaf ∙ global-flags place flags ok.global)
+      plain-by place _ (global-stored q flags (leaf-ppn old q f is) ok.byte ok.leaf ∙ global-flags place flags ok.global)
 
   pub leaf-or-pointer : (wish : Wish) (new : ℕ) → Writes (spare_after l h used) level old wish new → IsLeafStore old new ⊎ IsPointerStore l h used level old new
   leaf-or-pointer wish new (adds_table place page ppn flags frame above zero-word spare) =
@@ -106,7 +103,7 @@ module _ (l : Layout) (fits : IsLayout l) (h used level old : ℕ) where
   leaf-or-pointer wish new (removes_leaf place page q f at is) =
       inl (record { was = ap pointed_kind is; now = pointed-zero; entry = entry-of 0 kinds.Invalid kind-zero refl })
   leaf-or-pointer wish new (changes_leaf place page flags q f at is ok) =
-      let kind = kind-stored q flags (leaf-range old q f is) ok.byte ok.leaf in
+      let kind = kind-stored q flags (leaf-ppn old q f is) ok.byte ok.leaf in
       inl (record { was = ap pointed_kind is; now = ap pointed_kind kind; entry = entry-of _ (kinds.Leaf q (seven flags)) kind tt })
 
 module _ (l : Layout) (fits : IsLayout l) (words : Tables) (used : ℕ → ℕ) (tree : IsTree l words used) (wish : Wish) (has : HasPlace l (place_of wish))

@@ -1,18 +1,10 @@
 -- Addresses, their indices, and the pages that they lie in.
-use Rattle.std.proofs.Common.{◌≡◌, ℕ, ◌+◌, ◌-◌, ◌*◌, ◌/◌, ◌%◌, ◌^◌, ◌≤◌, ap, sym, ◌∙◌, inl, inr, arith}
-use Rattle.std.proofs.lemmas.Nat.{shr-shr}
+use Rattle.std.proofs.Common.{◌≡◌, ℕ, ◌-◌, ◌*◌, ◌/◌, ◌%◌, ◌^◌, ◌≤◌, inl, inr, arith}
 use Rattle.pte.specs.declared.address.PageSize.{PageSize}
 use Rattle.pte.specs.declared.address.PageSize.TheVariants.{Kib4, Mib2, Gib1}
-use Rattle.pte.specs.Address.{IsCanonical, top_level, level_bytes, level_pages, level_of, bytes_of, vpn_of}
+use Rattle.pte.specs.Address.{IsCanonical, top_level, level_pages, level_of, bytes_of, vpn_of}
 use Rattle.walk.specs.Maps.{page_number}
 use Rattle.spaces.specs.Effects.{IsPart}
-
--- addresses of one page have the same indices from its level on
-pub same-vpns : (a b i j : ℕ) → i ≤ j → a / level_bytes i ≡ b / level_bytes i → vpn_of a j ≡ vpn_of b j
-same-vpns a b i j less e =
-    let bits : 12 + 9 * i + 9 * (j - i) ≡ 12 + 9 * j = omega arith in
-    ap (λ k. a / 2 ^ k % 512) (sym bits) ∙ ap (λ n. n % 512) (sym (shr-shr a (12 + 9 * i) (9 * (j - i))) ∙ ap (λ n. n / 2 ^ (9 * (j - i))) e ∙ shr-shr b (12 + 9 * i) (9 * (j - i)))
-    ∙ ap (λ k. b / 2 ^ k % 512) bits
 
 -- the indices of a canonical address tell it
 top-same : (a b : ℕ) → IsCanonical a → IsCanonical b → a / 2 ^ 30 % 512 ≡ b / 2 ^ 30 % 512 → a / 2 ^ 30 ≡ b / 2 ^ 30

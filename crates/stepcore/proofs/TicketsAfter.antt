@@ -15,6 +15,7 @@ use Rattle.shoot.specs.declared.tickets.Ticket.{Ticket}
 use Rattle.shoot.specs.declared.tickets.TicketFault.{TicketFault}
 use Rattle.shoot.specs.declared.tickets.TicketFault.TheVariants as ticket_fault
 use Rattle.shoot.proofs.HartSets.{by_test, where_agree}
+use Rattle.history.proofs.Occurred.{same_from}
 use Rattle.history.specs.declared.event.Event.{Event}
 use Rattle.history.specs.declared.event.Event.TheVariants.{Unmap, Protect, Flush, Post, Ack, AckSelf, Collect, Finish}
 use Rattle.history.specs.declared.event.Scope.{Scope}
@@ -69,9 +70,6 @@ record Opens (C : Setup) (H G : History) (a n : ℕ) (new : Order) : Type 0 wher
   pub acked : (k h : ℕ) → is_acked C H k h ≡ is_acked C G k h
   pub collected : (k h : ℕ) → is_collected C H k h ≡ is_collected C G k h
 
-same_numbers : (a n : ℕ) → are_same a n a n ≡ true
-same_numbers a n = rw (eq-eqb a a refl, eq-eqb n n refl) refl
-
 other_numbers : (a n s t : ℕ) → (a ≡ s → n ≡ t → ⊥) → are_same a n s t ≡ false
 other_numbers a n s t f = false_from_ne_true (are_same a n s t) (λ e. let p = and_parts (eqb a s) (eqb n t) e in f (eqb-true a s p.0) (eqb-true n t p.1))
 
@@ -92,7 +90,7 @@ new_held : (C : Setup) (H G : History) (a n named : ℕ) (what : What) (cause : 
     → ticket_of C G a n ≡ Some (new_ticket what named)
 new_held C H G a n named what cause l o =
     let k = length H in
-    let place : open_order G a n ≡ Some k = o.opened a n ∙ ap (λ v. cond v (Some k) (open_order H a n)) (same_numbers a n) in
+    let place : open_order G a n ≡ Some k = o.opened a n ∙ ap (λ v. cond v (Some k) (open_order H a n)) (same_from a n) in
     let order : order_at C G k ≡ Some (new_order a n named what cause) = o.order k ∙ ap (λ v. cond v (Some (new_order a n named what cause)) (order_at C H k)) (eq-eqb k k refl) in
     ap (ticket_held C G) place ∙ (ap (ticket_with C G k) order
     ∙ ticket_parts what (harts_in named) _ no_harts _ no_harts _ no_harts
@@ -325,7 +323,7 @@ module _ (C : Setup) (m : State) (H : History) (st : Stands C m H) (machine : Is
       (λ z _ at.
       let f = finished_is C H a n r d z in
       let done : is_done_at (tickets_of C H a) n ≡ true = done_told C H a n f.0 st.lawful f.1 ∙ f.2 in
-      let free : ticket_of C G a n ≡ None = rw (z, same_numbers a n) refl in
+      let free : ticket_of C G a n ≡ None = rw (z, same_from a n) refl in
       ap (λ (x : TicketTable). after_finish x n) at
       ∙ (ap (λ v. cond v (with_ticket (tickets_of C H a) n None) (tickets_of C H a)) done
       ∙ held_with C H G a n None free (λ t other. finish_others a n r a t (λ _ _ q. other (sym q)))))

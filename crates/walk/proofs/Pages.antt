@@ -13,7 +13,7 @@ same_high a b j k le e =
     ap (λ x. a / 2 ^ x) (sym whole) ∙ sym (shr-shr a j (k - j)) ∙ ap (λ n. n / 2 ^ (k - j)) e ∙ shr-shr b j (k - j) ∙ ap (λ x. b / 2 ^ x) whole
 
 -- addresses of one page of level i have one index at each level from i up
-same_vpn : (a b i j : ℕ) → i ≤ j → a / level_bytes i ≡ b / level_bytes i → vpn_of a j ≡ vpn_of b j
+pub same_vpn : (a b i j : ℕ) → i ≤ j → a / level_bytes i ≡ b / level_bytes i → vpn_of a j ≡ vpn_of b j
 same_vpn a b i j le e = ap (λ n. n % table_length) (same_high a b (12 + 9 * i) (12 + 9 * j) (omega arith) e)
 
 canonical-high : (a b : ℕ) → a / 2 ^ (address_bits - 1) ≡ b / 2 ^ (address_bits - 1) → IsCanonical a → IsCanonical b
