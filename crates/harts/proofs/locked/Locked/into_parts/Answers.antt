@@ -1,4 +1,4 @@
-use Rattle.std.proofs.Common.{◌≡◌, ◌∙◌, sym, length}
+use Rattle.std.proofs.Common.{◌∙◌, sym}
 use Rattle.harts.proofs.locked.Locked.into_parts.Goals as goal
 
 pub returns-clause-counted : goal.returns-clause-counted
