@@ -1,16 +1,8 @@
 -- Texts by the count of their words.
-use Rattle.std.proofs.Common.{◌≡◌, ◌≢◌, ℕ, Bool, List, [], ◌∷◌, length, Bor, None, refl}
+use Rattle.std.proofs.Common.{◌≡◌, ◌≢◌, ℕ, List, [], ◌∷◌, length, Bor, None, refl}
 use Rattle.steps.proofs.StepLemmas.{texts}
 use Rattle.scenario.specs.Keys.{one_word}
 use Rattle.scenario.specs.Settings.{space_of_words}
-use Rattle.scenario.specs.WalkFile.{word_of_words}
-
-pub not_three_numbers : (is_frame : ℕ → Bool) (ws : List (Bor (List ℕ))) → length ws ≢ 3 → None ≡ word_of_words is_frame (texts ws)
-not_three_numbers is_frame [] h = refl
-not_three_numbers is_frame (a ∷ []) h = refl
-not_three_numbers is_frame (a ∷ b ∷ []) h = refl
-not_three_numbers is_frame (a ∷ b ∷ c ∷ []) h = absurd (h refl)
-not_three_numbers is_frame (a ∷ b ∷ c ∷ d ∷ ws) h = refl
 
 pub not_one : (ws : List (Bor (List ℕ))) → length ws ≢ 1 → None ≡ one_word (texts ws)
 not_one [] h = refl

@@ -7,7 +7,7 @@ ghost use Rattle.scenario.specs.Faults.{Gives};
 ghost use Rattle.scenario.specs.Limits.{most_frames, most_steps};
 ghost use Rattle.scenario.specs.Memory.{is_frame_of, is_listed, word_at};
 ghost use Rattle.scenario.specs.StepTexts.{walk_steps_in};
-ghost use Rattle.scenario.specs.WalkFile.{frames_at, plan_view, ppn_of, ppns_of, root_at, tables_at, walk_plan_of, walk_scenario_of, word_in_table, word_of, word_of_words, words_at};
+ghost use Rattle.scenario.specs.WalkFile.{frames_at, plan_view, ppn_of, ppns_of, root_at, tables_at, walk_plan_of, walk_scenario_of, word_in_table, word_of, words_at};
 
 use crate::document::{check_keys, document, key_fault, number, texts_of_key, value_at};
 use crate::fault::Fault;
@@ -16,7 +16,7 @@ use crate::limits::{MOST_FRAMES, MOST_STEPS};
 use crate::plan::WalkScenario;
 use pte::{PPN_BITS, TABLE_LENGTH};
 use std::alloc::{AllocError, Global};
-use steps::{StepFault, WalkStep, num, walk_step, words};
+use steps::{StepFault, WalkStep, next_word, num, walk_step};
 use toml::Table;
 
 /// The keys that `walk` knows.
@@ -95,23 +95,16 @@ fn word_in(frames: &Frames, ppn: u64, index: u64, word: u64) -> Option<TableWord
     Some(TableWord { ppn, index, word })
 }
 
-fn table_word_in(frames: &Frames, words: &[&[u8]]) -> Option<TableWord>
-    ensures { result ≡ word_of_words (is_frame_of frames.now) (map (λ word. word.now) words.now) }
+fn table_word(frames: &Frames, text: &str) -> Option<TableWord>
+    ensures { result ≡ word_of (is_frame_of frames.now) text.now }
 {
-    if words.len() != 3 {
+    let (ppn, rest) = next_word(text.as_bytes())?;
+    let (index, rest) = next_word(rest)?;
+    let (word, rest) = next_word(rest)?;
+    if next_word(rest).is_some() {
         return None;
     }
-    let ppn = num(words[0])?;
-    let index = num(words[1])?;
-    let word = num(words[2])?;
-    word_in(frames, ppn, index, word)
-}
-
-fn table_word(alloc: Global, frames: &Frames, text: &str) -> Result<Option<TableWord>, AllocError>
-    ensures { IfOk result (λ word. word ≡ word_of (is_frame_of frames.now) text.now) }
-{
-    let words = words(alloc, text)?;
-    Ok(table_word_in(frames, words.as_slice()))
+    word_in(frames, num(ppn)?, num(index)?, num(word)?)
 }
 
 fn table_words(
@@ -123,7 +116,7 @@ fn table_words(
 {
     let mut words = Vec::new(alloc);
     for text in texts {
-        match table_word(alloc, frames, text)? {
+        match table_word(frames, text) {
             Some(word) => words.push(word)?,
             None => return Ok(None),
         }

@@ -20,7 +20,7 @@ pub use laws::{
 pub use numbers::num;
 pub use run::{run_step, run_step_among};
 pub use step::{WalkStep, walk_step};
-pub use text::words;
+pub use text::{next_word, words};
 
 #[cfg(test)]
 mod tests;

@@ -8,4 +8,4 @@ pub loop-text-preserved : goal.loop-text-preserved
 loop-text-preserved c =
     rw c.in_ok-push-in-Some.ensures.items
     (each_more (λ (text : Bor (List ℕ)). word_of (is_frame_of c.args.frames.now) text.now) c.args.texts.now c.loop-text.text-index c.loop-text.words.items no_text c.in-Some.word
-    c.loop-text-test.true (sym c.in_ok-word.ensures ∙ c.in-Some.is) c.loop-text.invariant)
+    c.loop-text-test.true (sym c.table_word.ensures ∙ c.in-Some.is) c.loop-text.invariant)
