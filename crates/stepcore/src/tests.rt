@@ -251,6 +251,17 @@ fn superpage_is_shot_down(rt: HostRuntime) {
     assert!(rt; translated(&rt, &machine) == 0);
 }
 
+/// The events of these rows, and the replies.
+fn columns(alloc: Global, rows: &[(Event, Reply)]) -> Result<(Vec<Event>, Vec<Reply>), Fail> {
+    let mut events = Vec::new(alloc);
+    let mut replies = Vec::new(alloc);
+    for (event, reply) in rows {
+        events.push(*event)?;
+        replies.push(*reply)?;
+    }
+    Ok((events, replies))
+}
+
 /// A mailbox of capacity 2 takes a third request once the acknowledgement of the first is collected. What waits at its close
 /// is still taken, in the order of the posts.
 #[test]
@@ -285,13 +296,8 @@ fn mailbox_is_bounded_and_closed(rt: HostRuntime) -> Result<(), Fail> {
         (ack(), Reply::Ok),
         (take(), refused(Refusal::Empty)),
     ];
+    let (events, expected) = columns(rt.alloc(), &rows)?;
     let mut replies = Vec::new(rt.alloc());
-    let mut expected = Vec::new(rt.alloc());
-    let mut events = Vec::new(rt.alloc());
-    for (event, reply) in rows {
-        events.push(event)?;
-        expected.push(reply)?;
-    }
     machine.run(&events, &mut replies)?;
     assert!(&rt; replies == expected);
     Ok(())
