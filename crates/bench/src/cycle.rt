@@ -65,6 +65,7 @@ fn config() -> Config {
         });
     }
     Config {
+        scheme: pte::Scheme::Sv39,
         harts: u16::from(HARTS),
         spaces,
         window: 1,

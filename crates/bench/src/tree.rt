@@ -41,6 +41,7 @@ fn config() -> Config {
     let mut spares = ArrayVec::new();
     spares.push(510);
     Config {
+        scheme: pte::Scheme::Sv39,
         harts: 1,
         spaces,
         window: 1,

@@ -12,6 +12,7 @@ pub trait Named: Ledger {
 
 impl Named for std::marker::Brand {
     ghost use Rattle.std.specs.Prelude.{[]};
+    ghost use Rattle.pte.specs.declared.scheme.Scheme.TheVariants.{Sv39};
 
-    ghost config = { record { harts = 0; spaces = record { items = [] }; window = 0; base = 0; spares = record { items = [] }; capacity = 0 } };
+    ghost config = { record { scheme = Sv39; harts = 0; spaces = record { items = [] }; window = 0; base = 0; spares = record { items = [] }; capacity = 0 } };
 }

@@ -24,6 +24,7 @@ fn two_harts() -> Config
     spares.push(8);
     spares.push(8);
     Config {
+        scheme: pte::Scheme::Sv39,
         harts: 2,
         spaces,
         window: 1,

@@ -1,4 +1,5 @@
 -- What Coherent forbids a TLB to hold after the worked runs, and where it says nothing.
+use Rattle.pte.specs.declared.scheme.Scheme.TheVariants.{Sv39}
 use Rattle.std.proofs.Common.{ℕ, ◌+◌, Option, Some, None, refl, arith, inl, inr}
 use Rattle.pte.specs.declared.permission.Access.TheVariants as access
 use Rattle.pte.specs.Entry.{kind_of}
@@ -23,7 +24,7 @@ mapping asid page ppn bits = record { asid = asid; page = page; ppn = ppn; flags
 writable_gone : ¬ IsMapped two_harts (history_of shootdowns.read_only_until_acknowledged) 0x80001 (mapping (Some 1) 0x400 0x200 (R + W + U + A + D))
 unfolding kind_of wish_fault path_end edit_of
 writable_gone m =
-    not_mapped (words_of two_harts (history_of shootdowns.read_only_until_acknowledged)) 0x80001 0x400000 0x200 access.Store user (flags (R + W + U + A + D)) _
+    not_mapped Sv39 (words_of two_harts (history_of shootdowns.read_only_until_acknowledged)) 0x80001 0x400000 0x200 access.Store user (flags (R + W + U + A + D)) _
     (inl (omega arith)) refl refl m
 
 pub old_flags : CoherentForbids two_harts (history_of shootdowns.read_only_until_acknowledged) 5 1 (entry 1 (large_page 0x400000) 0x200)
@@ -38,7 +39,7 @@ old_flags =
 old_frame_gone : ¬ IsMapped three_harts (history_of shootdowns.mapped_anew_until_acknowledged) 0x80001 (mapping (Some 1) 1 0x100 (R + U + A + D))
 unfolding kind_of wish_fault path_end edit_of
 old_frame_gone m =
-    not_mapped (words_of three_harts (history_of shootdowns.mapped_anew_until_acknowledged)) 0x80001 0x1000 0x100 access.Load user (flags (R + U + A + D)) _
+    not_mapped Sv39 (words_of three_harts (history_of shootdowns.mapped_anew_until_acknowledged)) 0x80001 0x1000 0x100 access.Load user (flags (R + U + A + D)) _
     (inl (omega arith)) refl refl m
 
 pub old_ppn : CoherentForbids three_harts (history_of shootdowns.mapped_anew_until_acknowledged) 7 2 (read_only_entry 1 (small_page 0x1000) 0x100)
@@ -53,7 +54,7 @@ old_ppn =
 superpage_gone : (asid : Option ℕ) → ¬ IsMapped two_harts (history_of shootdowns.superpage_shootdown) 0x80001 (mapping asid 0x400 0x200 (R + W + U + A + D))
 unfolding kind_of wish_fault path_end edit_of
 superpage_gone asid m =
-    not_mapped (words_of two_harts (history_of shootdowns.superpage_shootdown)) 0x80001 0x400000 0x200 access.Load user (flags (R + W + U + A + D)) _
+    not_mapped Sv39 (words_of two_harts (history_of shootdowns.superpage_shootdown)) 0x80001 0x400000 0x200 access.Load user (flags (R + W + U + A + D)) _
     (inl (omega arith)) refl refl m
 
 pub nothing_mapped : CoherentForbids two_harts (history_of shootdowns.superpage_shootdown) 5 1 (entry 1 (large_page 0x400000) 0x200)
@@ -85,7 +86,7 @@ kernel_page_gone : (asid : Option ℕ)
     → ¬ IsMapped kernel.spaces_of_two_homes (history_of kernel.kernel_page_until_acknowledged) 0x80002 (mapping asid 0xffffffffc0000 0x300 (R + W + U + A + D))
 unfolding kind_of wish_fault path_end edit_of
 kernel_page_gone asid m =
-    not_mapped (words_of kernel.spaces_of_two_homes (history_of kernel.kernel_page_until_acknowledged)) 0x80002 0xffffffffc0000000 0x300 access.Load user
+    not_mapped Sv39 (words_of kernel.spaces_of_two_homes (history_of kernel.kernel_page_until_acknowledged)) 0x80002 0xffffffffc0000000 0x300 access.Load user
     (flags (R + W + U + A + D)) _ (inr (omega arith, omega arith)) refl refl m
 
 pub kernel_page : (asid : ℕ) → CoherentForbids kernel.spaces_of_two_homes (history_of kernel.kernel_page_until_acknowledged) 10 1 (entry asid (small_page 0xffffffffc0000000) 0x300)
@@ -100,7 +101,7 @@ kernel_page asid =
 last_writable_gone : ¬ IsMapped two_harts (history_of shootdowns.read_only_until_acknowledged) 0x80001 (mapping (Some 1) 0x5ff 0x3ff (R + W + U + A + D))
 unfolding kind_of wish_fault path_end edit_of
 last_writable_gone m =
-    not_mapped (words_of two_harts (history_of shootdowns.read_only_until_acknowledged)) 0x80001 0x5ff000 0x3ff access.Store user (flags (R + W + U + A + D)) _
+    not_mapped Sv39 (words_of two_harts (history_of shootdowns.read_only_until_acknowledged)) 0x80001 0x5ff000 0x3ff access.Store user (flags (R + W + U + A + D)) _
     (inl (omega arith)) refl refl m
 
 pub last_part : CoherentForbids two_harts (history_of shootdowns.read_only_until_acknowledged) 5 1 (entry 1 (small_page 0x5ff000) 0x3ff)
@@ -115,7 +116,7 @@ last_part =
 gone_after_flush : ¬ IsMapped two_harts (history_of shootdowns.ticket_used_again) 0x80001 (mapping (Some 1) 0x400 0x200 (R + W + U + A + D))
 unfolding kind_of wish_fault path_end edit_of
 gone_after_flush m =
-    not_mapped (words_of two_harts (history_of shootdowns.ticket_used_again)) 0x80001 0x400000 0x200 access.Load user (flags (R + W + U + A + D)) _
+    not_mapped Sv39 (words_of two_harts (history_of shootdowns.ticket_used_again)) 0x80001 0x400000 0x200 access.Load user (flags (R + W + U + A + D)) _
     (inl (omega arith)) refl refl m
 
 pub flushed : CoherentForbids two_harts (history_of shootdowns.ticket_used_again) 5 1 (entry 1 (large_page 0x400000) 0x200)
@@ -129,7 +130,7 @@ flushed =
 gone_after_refusals : ¬ IsMapped two_harts (history_of staleness.refused_changes) 0x80001 (mapping (Some 1) 0x400 0x200 (R + W + U + A + D))
 unfolding kind_of wish_fault path_end edit_of
 gone_after_refusals m =
-    not_mapped (words_of two_harts (history_of staleness.refused_changes)) 0x80001 0x400000 0x200 access.Load user (flags (R + W + U + A + D)) _
+    not_mapped Sv39 (words_of two_harts (history_of staleness.refused_changes)) 0x80001 0x400000 0x200 access.Load user (flags (R + W + U + A + D)) _
     (inl (omega arith)) refl refl m
 
 pub refused_changes : CoherentForbids two_harts (history_of staleness.refused_changes) 5 1 (entry 1 (large_page 0x400000) 0x200)
@@ -144,7 +145,7 @@ refused_changes =
 gone_in_space_0 : ¬ IsMapped shootdowns.spaces_of_one_home (history_of staleness.same_page_of_another_space) 0x80001 (mapping (Some 1) 1 0x100 (R + U + A + D))
 unfolding kind_of wish_fault path_end edit_of
 gone_in_space_0 m =
-    not_mapped (words_of shootdowns.spaces_of_one_home (history_of staleness.same_page_of_another_space)) 0x80001 0x1000 0x100 access.Load user (flags (R + U + A + D)) _
+    not_mapped Sv39 (words_of shootdowns.spaces_of_one_home (history_of staleness.same_page_of_another_space)) 0x80001 0x1000 0x100 access.Load user (flags (R + U + A + D)) _
     (inl (omega arith)) refl refl m
 
 pub other_space : CoherentForbids shootdowns.spaces_of_one_home (history_of staleness.same_page_of_another_space) 15 1 (read_only_entry 1 (small_page 0x1000) 0x100)
@@ -159,7 +160,7 @@ other_space =
 local_alone : ¬ IsMapped two_harts (history_of shootdowns.read_only_until_acknowledged) 0x80001 (mapping None 0x400 0x200 (R + U + A + D))
 unfolding kind_of wish_fault path_end edit_of
 local_alone m =
-    not_global (words_of two_harts (history_of shootdowns.read_only_until_acknowledged)) 0x80001 0x400000 0x200 access.Load user (flags (R + U + A + D)) (inl (omega arith)) refl refl m
+    not_global Sv39 (words_of two_harts (history_of shootdowns.read_only_until_acknowledged)) 0x80001 0x400000 0x200 access.Load user (flags (R + U + A + D)) (inl (omega arith)) refl refl m
 
 pub for_every_asid : CoherentForbids two_harts (history_of shootdowns.read_only_until_acknowledged) 5 1 (global_read_only_entry (large_page 0x400000) 0x200)
 for_every_asid =

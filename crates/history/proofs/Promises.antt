@@ -1,4 +1,5 @@
 -- What an acknowledgement forbids a TLB to hold, and where it says nothing, computed from the histories of worked runs.
+use Rattle.pte.specs.declared.scheme.Scheme.{Scheme}
 use Rattle.std.proofs.Common.{◌≡◌, ℕ, zero, suc, ◌+◌, ◌*◌, ◌%◌, Bool, true, false, List, [], ◌∷◌, Some, None, Ok, Err, ◌==◌, IsTrue, refl, sym, ap, subst, ◌∙◌, arith}
 use Rattle.std.specs.Prelude.{Contains, Result}
 use Rattle.std.proofs.lemmas.Bool.{true≢false, eq-eqb}
@@ -31,21 +32,21 @@ use Rattle.history.specs.Staleness.{is_mapped_anew, is_superseded, HasAnswered, 
 use Rattle.history.specs.Counterexamples.{ClearForbids, ClearAllowsAll, CoherentForbids, CoherentAllowsAll}
 
 -- what an access of a mapped page finds
-found_mapped : (words : Tables) (root va ppn : ℕ) (access : Access) (ctx : Ctx) (flags : PteFlags) (global : Bool) → IsCanonical va → flags_fault access ctx flags ≡ None
-    → Maps words root (page_number va) ppn flags global
-    → (found : Found) × (answer_after level_count words (start_of root va access ctx) ≡ Ok found) × (found.pa ≡ ppn * bytes_of Kib4 + va % bytes_of Kib4) × (found.global ≡ global)
-found_mapped words root va ppn access ctx flags global canonical none maps =
-    let m = mapped_answer words root va ppn access ctx flags global maps in
+found_mapped : (scheme : Scheme) (words : Tables) (root va ppn : ℕ) (access : Access) (ctx : Ctx) (flags : PteFlags) (global : Bool) → IsCanonical scheme va → flags_fault access ctx flags ≡ None
+    → Maps scheme words root (page_number va) ppn flags global
+    → (found : Found) × (answer_after (level_count scheme) words (start_of scheme root va access ctx) ≡ Ok found) × (found.pa ≡ ppn * bytes_of Kib4 + va % bytes_of Kib4) × (found.global ≡ global)
+found_mapped scheme words root va ppn access ctx flags global canonical none maps =
+    let m = mapped_answer scheme words root va ppn access ctx flags global maps in
     let found : Found = m.0 in
-    let is : found_unless (flags_fault access ctx flags) access found ≡ answer_after level_count words (start_of root va access ctx) =
-    (level_count_loads words root va access ctx (found_unless (flags_fault access ctx flags) access found) canonical).0 m.1 in
+    let is : found_unless (flags_fault access ctx flags) access found ≡ answer_after (level_count scheme) words (start_of scheme root va access ctx) =
+    (level_count_loads scheme words root va access ctx (found_unless (flags_fault access ctx flags) access found) canonical).0 m.1 in
     (found, sym is ∙ ap (λ why. found_unless why access found) none, m.2, m.4)
 
-mapped_address : (words : Tables) (root va ppn : ℕ) (access : Access) (ctx : Ctx) (flags : PteFlags) (global : Bool) → IsCanonical va → flags_fault access ctx flags ≡ None
-    → Maps words root (page_number va) ppn flags global
-    → address_found (answer_after level_count words (start_of root va access ctx)) ≡ Ok (ppn * bytes_of Kib4 + va % bytes_of Kib4)
-mapped_address words root va ppn access ctx flags global canonical none maps =
-    let f = found_mapped words root va ppn access ctx flags global canonical none maps in
+mapped_address : (scheme : Scheme) (words : Tables) (root va ppn : ℕ) (access : Access) (ctx : Ctx) (flags : PteFlags) (global : Bool) → IsCanonical scheme va → flags_fault access ctx flags ≡ None
+    → Maps scheme words root (page_number va) ppn flags global
+    → address_found (answer_after (level_count scheme) words (start_of scheme root va access ctx)) ≡ Ok (ppn * bytes_of Kib4 + va % bytes_of Kib4)
+mapped_address scheme words root va ppn access ctx flags global canonical none maps =
+    let f = found_mapped scheme words root va ppn access ctx flags global canonical none maps in
     ap address_found f.1 ∙ ap Ok f.2
 
 -- what is found as not global is not mapped global
@@ -53,10 +54,10 @@ abbrev finds_global : Result Found Trap → Bool
 finds_global (Ok found) = found.global
 finds_global (Err trap) = false
 
-pub not_global : (words : Tables) (root va ppn : ℕ) (access : Access) (ctx : Ctx) (flags : PteFlags) → IsCanonical va → flags_fault access ctx flags ≡ None
-    → finds_global (answer_after level_count words (start_of root va access ctx)) ≡ false → ¬ Maps words root (page_number va) ppn flags true
-not_global words root va ppn access ctx flags canonical none local maps =
-    let f = found_mapped words root va ppn access ctx flags true canonical none maps in
+pub not_global : (scheme : Scheme) (words : Tables) (root va ppn : ℕ) (access : Access) (ctx : Ctx) (flags : PteFlags) → IsCanonical scheme va → flags_fault access ctx flags ≡ None
+    → finds_global (answer_after (level_count scheme) words (start_of scheme root va access ctx)) ≡ false → ¬ Maps scheme words root (page_number va) ppn flags true
+not_global scheme words root va ppn access ctx flags canonical none local maps =
+    let f = found_mapped scheme words root va ppn access ctx flags true canonical none maps in
     true≢false (sym f.3 ∙ sym (ap finds_global f.1) ∙ local)
 
 -- what an access does not find is not mapped
@@ -64,12 +65,12 @@ abbrev finds : Result ℕ Trap → ℕ → Bool
 finds (Ok address) pa = address == pa
 finds (Err trap) pa = false
 
-pub not_mapped : (words : Tables) (root va ppn : ℕ) (access : Access) (ctx : Ctx) (flags : PteFlags) (global : Bool) → IsCanonical va → flags_fault access ctx flags ≡ None
-    → finds (address_found (answer_after level_count words (start_of root va access ctx))) (ppn * bytes_of Kib4 + va % bytes_of Kib4) ≡ false
-    → ¬ Maps words root (page_number va) ppn flags global
-not_mapped words root va ppn access ctx flags global canonical none other maps =
+pub not_mapped : (scheme : Scheme) (words : Tables) (root va ppn : ℕ) (access : Access) (ctx : Ctx) (flags : PteFlags) (global : Bool) → IsCanonical scheme va → flags_fault access ctx flags ≡ None
+    → finds (address_found (answer_after (level_count scheme) words (start_of scheme root va access ctx))) (ppn * bytes_of Kib4 + va % bytes_of Kib4) ≡ false
+    → ¬ Maps scheme words root (page_number va) ppn flags global
+not_mapped scheme words root va ppn access ctx flags global canonical none other maps =
     let pa = ppn * bytes_of Kib4 + va % bytes_of Kib4 in
-    true≢false (sym (eq-eqb pa pa refl) ∙ sym (ap (λ r. finds r pa) (mapped_address words root va ppn access ctx flags global canonical none maps)) ∙ other)
+    true≢false (sym (eq-eqb pa pa refl) ∙ sym (ap (λ r. finds r pa) (mapped_address scheme words root va ppn access ctx flags global canonical none maps)) ∙ other)
 
 abbrev cause_of : Order → Cause
 cause_of order = order.cause

@@ -5,7 +5,7 @@ use Rattle.pte.specs.declared.permission.Access.{Access}
 use Rattle.pte.specs.declared.permission.Ctx.{Ctx}
 use Rattle.pte.specs.declared.entry.Kind.{Kind}
 use Rattle.pte.specs.declared.entry.Kind.TheVariants as kinds
-use Rattle.pte.specs.Address.{top_level}
+use Rattle.pte.specs.Address.{top_level, is_canonical}
 use Rattle.pte.specs.Entry.{kind_of}
 use Rattle.walk.specs.declared.found_or_trap.Found.{Found}
 use Rattle.walk.specs.declared.found_or_trap.Trap.{Trap}
@@ -25,7 +25,6 @@ use Rattle.shoot.specs.Request.{Message}
 use Rattle.shoot.specs.declared.TheConstants.{MAX_TICKETS}
 use Rattle.tlb.specs.declared.store.Entry.{Entry}
 use Rattle.tlb.specs.Entries.{first_match}
-use Rattle.tlb.specs.Fence.{is_canonical}
 use Rattle.tlb.specs.Answer.{answer_of}
 use Rattle.history.specs.declared.event.Event.{Event}
 use Rattle.history.specs.declared.event.Event.TheVariants.{Begin, Load, Map, Unmap, Protect, Flush, Switch, Fence, Post, Take, ServeFence, Ack, AckSelf, Collect, Finish, Close}
@@ -81,14 +80,14 @@ match_reply va access ctx (Some entry) = access_reply (answer_of entry va access
 
 abbrev pub begin_reply : Setup → History → ℕ → ℕ → Access → Ctx → Reply
 begin_reply C H hart va access ctx =
-    if is_canonical va then match_reply va access ctx (first_match (entries_of C H hart) (asid_of C (space_of H hart)) va)
+    if is_canonical C.layout.scheme va then match_reply va access ctx (first_match (entries_of C H hart) (asid_of C (space_of H hart)) va)
     else reply.Trap (page_trap access NotCanonical)
 
 -- Load: a pointer above the lowest level leads at the level that the walk has come to, or it ends with the outcome of now
 abbrev pub goes_on : Setup → History → ℕ → Walk → Bool
 goes_on C H hart walk =
-    nat_lt walk.loads top_level
-    && is_some (table_after (words_of C H) (root_ppn C.layout (space_of H hart)) walk.va (suc walk.loads))
+    nat_lt walk.loads (top_level C.layout.scheme)
+    && is_some (table_after C.layout.scheme (words_of C H) (root_ppn C.layout (space_of H hart)) walk.va (suc walk.loads))
 
 abbrev pub end_reply : Result Found Trap → Reply
 end_reply (Ok found) = reply.Filled found.pa

@@ -66,7 +66,7 @@ walk_of (turn ∷ H) h = walk_after turn.event turn.reply h (walk_of H h)
 -- what the walk of a hart finds in the words of now
 abbrev pub outcome_of : Setup → History → ℕ → Walking → Result Found Trap
 outcome_of C H space walk =
-    answer_after level_count (words_of C H) (start_of (root_ppn C.layout space) walk.va walk.access walk.ctx)
+    answer_after (level_count C.layout.scheme) (words_of C H) (start_of C.layout.scheme (root_ppn C.layout space) walk.va walk.access walk.ctx)
 
 -- a fill: the entry of what was found, with the ASID of the space
 abbrev pub with_found : ℕ → Result Found Trap → List Entry → List Entry
@@ -79,7 +79,7 @@ with_fill C H space (Some walk) old = with_found (asid_of C space) (outcome_of C
 
 abbrev pub entries_after : Setup → Event → Reply → History → ℕ → List Entry → List Entry
 entries_after C (Load hart) reply H h old = if is_filled reply && (hart == h) then with_fill C H (space_of H h) (walk_of H h) old else old
-entries_after C (Fence hart rs1 rs2) reply H h old = if is_ok reply && (hart == h) then fenced old rs1 rs2 else old
+entries_after C (Fence hart rs1 rs2) reply H h old = if is_ok reply && (hart == h) then fenced C.layout.scheme old rs1 rs2 else old
 entries_after C (ServeFence hart) reply H h old = if is_ok reply && (hart == h) then with_service old (what_served (served C H h)) else old
 entries_after C (AckSelf hart ticket) reply H h old =
     if is_progress reply && (hart == h) then with_service old (what_of C H (open_order H hart ticket)) else old

@@ -1,5 +1,6 @@
 -- When something happened: facts about one turn of a history and the turns before it, in plain words. The laws of
 -- src/occurrences.rt say that what a history leaves is read off such turns.
+use Rattle.pte.specs.declared.scheme.Scheme.{Scheme}
 use Rattle.std.specs.Prelude.{ℕ, suc, ◌-◌, ◌<◌, ◌≡◌, ◌⊎◌, Bool, true, false, ◌==◌, ◌&&◌, ◌∷◌, ◌++◌, length, slice_get, Some, None, Ok}
 use Rattle.pte.specs.Address.{Span, top_level}
 use Rattle.pte.specs.declared.flags.PteFlags.{PteFlags}
@@ -190,10 +191,10 @@ pub record IsNthTake (sender receiver n : ℕ) (request : Message) (turn : Turn)
 
 -- at the level that the walk has come to, which is not the lowest, the address leads to a pointer: the next table leads
 -- one level below
-abbrev pub LeadsOn : Tables → ℕ → Walking → Type 0
-LeadsOn words root walk =
-    (walk.loads < top_level)
-    × ((table : ℕ) × Leads words root walk.va (top_level - suc walk.loads) table (word_at words walk.va (top_level - suc walk.loads) table))
+abbrev pub LeadsOn : Scheme → Tables → ℕ → Walking → Type 0
+LeadsOn scheme words root walk =
+    (walk.loads < top_level scheme)
+    × ((table : ℕ) × Leads scheme words root walk.va (top_level scheme - suc walk.loads) table (word_at words walk.va (top_level scheme - suc walk.loads) table))
 
 -- at some turn P held, and at no later one Q; or Q never held, and this is so at the opening
 abbrev pub SinceOr : (Turn → History → Type 0) → (Turn → History → Type 0) → Type 0 → History → Type 0

@@ -85,7 +85,7 @@ IsForPlace C place m = (m.asid ≡ None) ⊎ ((asid : ℕ) × (m.asid ≡ Some a
 
 -- the tables of the root map the page to the mapping's PPN with its flags, as global exactly if the mapping is for every ASID
 abbrev pub IsMapped : Setup → History → ℕ → Mapping → Type 0
-IsMapped C H root m = Maps (words_of C H) root m.page m.ppn m.flags (is_none m.asid)
+IsMapped C H root m = Maps C.layout.scheme (words_of C H) root m.page m.ppn m.flags (is_none m.asid)
 
 -- Coherent: once h has acknowledged the unmapping or the change k, each mapping of the page that these entries of its TLB
 -- hold for its address space is mapped now, until the page is unmapped or changed once more

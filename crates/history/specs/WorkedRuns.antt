@@ -1,5 +1,6 @@
 -- Worked runs: steps of harts, each with the reply that the manual and the rules of docs/PROTOCOL.md give by hand. Here is
 -- what a worked run is, and the harts, pages and accesses of which the runs speak.
+use Rattle.pte.specs.declared.scheme.Scheme.TheVariants.{Sv39}
 use Rattle.std.specs.Prelude.{ℕ, ◌≡◌, false, List, [], ◌∷◌, map}
 use Rattle.pte.specs.Address.{Span}
 use Rattle.pte.specs.declared.address.PageSize.TheVariants.{Kib4, Mib2}
@@ -48,7 +49,7 @@ IsEachDueAfter C before steps = map (due C (history_of before)) (events steps) �
 -- one space, of ASID 1, at home on hart 0, one slot of window, and 8 spare frames for each hart: the window's table is frame
 -- 0x80000, the root 0x80001, and the first spare frame 0x80002
 abbrev pub one_space : List ℕ → Layout
-one_space spares = record { window = 1; base = 0x80000; homes = 0 ∷ []; spares = spares }
+one_space spares = record { scheme = Sv39; window = 1; base = 0x80000; homes = 0 ∷ []; spares = spares }
 
 abbrev pub with_spares : ℕ → List ℕ → Setup
 with_spares harts spares = record { harts = harts; capacity = 4; asids = 1 ∷ []; layout = one_space spares }
@@ -64,6 +65,7 @@ three_harts = with_spares 3 (8 ∷ 8 ∷ 8 ∷ [])
 
 -- the numbers of a configuration that gives three harts
 pub record IsOfThreeHarts (c : Config) : Type 0 where
+  pub scheme : c.scheme ≡ Sv39
   pub harts : c.harts ≡ 3
   pub capacity : c.capacity ≡ 4
   pub spaces : c.spaces.items ≡ record { home = 0; asid = 1 } ∷ []
@@ -74,7 +76,7 @@ pub record IsOfThreeHarts (c : Config) : Type 0 where
 -- two harts and two spaces, with these homes and ASIDs: the roots are frames 0x80001 and 0x80002, the first spare is 0x80003
 abbrev pub two_spaces : List ℕ → List ℕ → Setup
 two_spaces homes asids =
-    record { harts = 2; capacity = 4; asids = asids; layout = record { window = 1; base = 0x80000; homes = homes; spares = 8 ∷ 8 ∷ [] } }
+    record { harts = 2; capacity = 4; asids = asids; layout = record { scheme = Sv39; window = 1; base = 0x80000; homes = homes; spares = 8 ∷ 8 ∷ [] } }
 
 -- pages by their first address
 abbrev pub small_page : ℕ → Span

@@ -124,18 +124,18 @@ pub fn nth_taken_is_an_answered_take()
 /// A Load goes on exactly if the address leads to one more table below the level that the walk has come to.
 pub fn load_goes_on_over_a_pointer()
     ensures { (C : Setup) (H : History) (hart : ℕ) (walk : Walking) → (goes_on C H hart walk ≡ true)
-        ↔ LeadsOn (words_of C H) (root_ppn C.layout (space_of H hart)) walk }
+        ↔ LeadsOn C.layout.scheme (words_of C H) (root_ppn C.layout (space_of H hart)) walk }
 {}
 
 /// A walk of a lawful history is for a canonical address.
 pub fn lawful_walk_is_canonical()
-    ensures { (C : Setup) (H : History) (hart : ℕ) (walk : Walking) → Lawful C H → walk_of H hart ≡ Some walk → IsCanonical walk.va }
+    ensures { (C : Setup) (H : History) (hart : ℕ) (walk : Walking) → Lawful C H → walk_of H hart ≡ Some walk → IsCanonical C.layout.scheme walk.va }
 {}
 
 /// What a walk of a lawful history finds is the outcome of its access in the words of now.
 pub fn lawful_walk_finds_the_outcome()
     ensures { (C : Setup) (H : History) (hart space : ℕ) (walk : Walking) (answer : Result Found Trap) → Lawful C H → walk_of H hart ≡ Some walk
-        → (answer ≡ outcome_of C H space walk) ↔ Outcome (words_of C H) (root_ppn C.layout space) walk.va walk.access walk.ctx answer }
+        → (answer ≡ outcome_of C H space walk) ↔ Outcome C.layout.scheme (words_of C H) (root_ppn C.layout space) walk.va walk.access walk.ctx answer }
 {}
 
 /// The space of a hart is that of its last accepted Switch, or space 0 if there was none.

@@ -75,7 +75,7 @@ module _ (l : Layout) (fits : IsLayout l) where
       first : kind_of (first_word l f i) ≡ kinds.Leaf q flags → ⊥
       first = by_test (λ v. kind_of (cond v (root_word l i) 0) ≡ kinds.Leaf q flags → ⊥) (is_root l f) (λ _. root_no_leaf i q flags less) (λ _. zero_no_leaf q flags)
 
-  pub opening_maps_nothing : (root n ppn : ℕ) (flags : PteFlags) (global : Bool) → Maps (opening l) root n ppn flags global → ⊥
+  pub opening_maps_nothing : (root n ppn : ℕ) (flags : PteFlags) (global : Bool) → Maps l.scheme (opening l) root n ppn flags global → ⊥
   opening_maps_nothing root n ppn flags global m =
       no_leaf m.table (vpn_of m.va m.level) m.entry m.leaf flags (vpn-below m.va m.level) m.leads.here m.kind
 

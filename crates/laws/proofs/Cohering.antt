@@ -62,7 +62,7 @@ module _ (C : Setup) (has : HasAsids C) (user : (H : History) → Lawful C H →
   carried : (later before : History) (k : ℕ) (order : Order) (place : Place) (page : Span) (root n ppn : ℕ) (flags : PteFlags) (global : Bool)
       → Lawful C (later ++ before) → HavePages (later ++ before) → k < length before → order_at C before k ≡ Some order → IsChange order.cause place page
       → is_superseded C (later ++ before) k ≡ false → IsRootOf C place root → LiesIn page n
-      → Maps (words_of C before) root n ppn flags global → Maps (words_of C (later ++ before)) root n ppn flags global
+      → Maps C.layout.scheme (words_of C before) root n ppn flags global → Maps C.layout.scheme (words_of C (later ++ before)) root n ppn flags global
   carried [] before k order place page root n ppn flags global l pages below is change fresh of at maps = maps
   carried (turn ∷ later) before k order place page root n ppn flags global l pages below is change fresh of at maps =
       let old = superseded_step C turn.event turn.reply (later ++ before) k (is_superseded C (later ++ before) k) fresh in
@@ -72,24 +72,24 @@ module _ (C : Setup) (has : HasAsids C) (user : (H : History) → Lawful C H →
 
   -- mapped from one root of the place, mapped from each
   each_root : (H : History) (place : Place) (page : Span) (what : What) (a b : ℕ) (m : Mapping) (global : Bool) → Lawful C H → HavePages H → IsAsked C place page what → LiesIn page m.page
-      → IsRootOf C place a → IsRootOf C place b → Maps (words_of C H) a m.page m.ppn m.flags global → Maps (words_of C H) b m.page m.ppn m.flags global
+      → IsRootOf C place a → IsRootOf C place b → Maps C.layout.scheme (words_of C H) a m.page m.ppn m.flags global → Maps C.layout.scheme (words_of C H) b m.page m.ppn m.flags global
   each_root H (Space s) page what a b m global l pages asked at of_a of_b maps =
-      subst (λ (r : ℕ). Maps (words_of C H) r m.page m.ppn m.flags global) (of_a ∙ sym of_b) maps
+      subst (λ (r : ℕ). Maps C.layout.scheme (words_of C H) r m.page m.ppn m.flags global) (of_a ∙ sym of_b) maps
   each_root H Kernel page what a b m global l pages asked at of_a of_b maps =
-      subst (λ (r : ℕ). Maps (words_of C H) r m.page m.ppn m.flags global) (sym of_b.2)
+      subst (λ (r : ℕ). Maps C.layout.scheme (words_of C H) r m.page m.ppn m.flags global) (sym of_b.2)
       (shared H l pages page of_a.0 of_b.0 m.page m.ppn m.flags global asked.is_page asked.right_half of_a.1 of_b.1 at
-      (subst (λ (r : ℕ). Maps (words_of C H) r m.page m.ppn m.flags global) of_a.2 maps))
+      (subst (λ (r : ℕ). Maps C.layout.scheme (words_of C H) r m.page m.ppn m.flags global) of_a.2 maps))
 
   still_mapped : (H : History) (k : ℕ) (order : Order) (place : Place) (page : Span) (e : Entry) (m : Mapping) (root : ℕ) → Lawful C H → HavePages H
       → order_at C H k ≡ Some order → IsChange order.cause place page → IsAsked C place page order.what → is_superseded C H k ≡ false → LiesIn page m.page
-      → MappedSince C H k place e m → IsRootOf C place root → Maps (words_of C H) root m.page m.ppn m.flags e.global
+      → MappedSince C H k place e m → IsRootOf C place root → Maps C.layout.scheme (words_of C H) root m.page m.ppn m.flags e.global
   still_mapped H k order place page e m root l pages ordered change asked fresh at s of =
       let then_ : order_at C s.earlier k ≡ Some order =
       sym (orders_stay C s.later s.earlier k s.below) ∙ (ap (λ (G : History). order_at C G k) (sym s.split) ∙ ordered) in
       let still = carried s.later s.earlier k order place page (root_ppn C.layout s.space) m.page m.ppn m.flags e.global
       (subst (Lawful C) s.split l) (subst HavePages s.split pages) s.below then_ change (ap (λ (G : History). is_superseded C G k) (sym s.split) ∙ fresh) s.root at s.maps in
-      let now : Maps (words_of C H) (root_ppn C.layout s.space) m.page m.ppn m.flags e.global =
-      subst (λ (G : History). Maps (words_of C G) (root_ppn C.layout s.space) m.page m.ppn m.flags e.global) (sym s.split) still in
+      let now : Maps C.layout.scheme (words_of C H) (root_ppn C.layout s.space) m.page m.ppn m.flags e.global =
+      subst (λ (G : History). Maps C.layout.scheme (words_of C G) (root_ppn C.layout s.space) m.page m.ppn m.flags e.global) (sym s.split) still in
       each_root H place page order.what (root_ppn C.layout s.space) root m e.global l pages asked at s.root of now
 
   pub coherent : (H : History) (k h : ℕ) → Lawful C H → HavePages H → Coherent C H (entries_of C H h) k h
@@ -103,6 +103,6 @@ module _ (C : Setup) (has : HasAsids C) (user : (H : History) → Lawful C H →
       let over = (overlaps-Overlap page e.page).1 (va, held_by page va (subst (LiesIn page) same at), held_by e.page va (subst (LiesIn e.page) same is.page)) in
       let some = for_some C place m for in
       let global : e.global ≡ is_none m.asid = sym (ap is_none is.asid ∙ none_if e.global e.asid) in
-      subst (λ (g : Bool). Maps (words_of C H) root m.page m.ppn m.flags g) global
+      subst (λ (g : Bool). Maps C.layout.scheme (words_of C H) root m.page m.ppn m.flags g) global
       (still_mapped H k a.order place page e m root l pages a.is changed asked fresh at
       (mapped_since C has user H k h a.order place page some.0 e m l pages a.is a.acked asked some.1 over at by.1 is some.2) of)

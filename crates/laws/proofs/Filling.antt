@@ -56,7 +56,7 @@ entries_each C (Load b) r H h P all new =
     (λ w found is finds. new (entry_of (asid_of C (space_of H h)) found)
     (record { walk = w; found = found; event = ap Load bh; accepted = y.0; walking = is; finds = finds; is = refl })))
     (λ _. all)
-entries_each C (Fence b rs1 rs2) r H h P all new = filter_each P (λ e. not (is_fenced rs1 rs2 e)) (is_ok r && eqb b h) (entries_of C H h) all
+entries_each C (Fence b rs1 rs2) r H h P all new = filter_each P (λ e. not (is_fenced C.layout.scheme rs1 rs2 e)) (is_ok r && eqb b h) (entries_of C H h) all
 entries_each C (ServeFence b) r H h P all new = filter_each P (λ e. not (is_served (what_served (served C H h)) e)) (is_ok r && eqb b h) (entries_of C H h) all
 entries_each C (AckSelf b t) r H h P all new =
     filter_each P (λ e. not (is_served (what_of C H (open_order H b t)) e)) (is_progress r && eqb b h) (entries_of C H h) all

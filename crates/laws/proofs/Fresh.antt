@@ -1,4 +1,5 @@
 -- What a Load fills is what the tables map at that moment.
+use Rattle.pte.specs.declared.scheme.Scheme.{Scheme}
 use Rattle.std.proofs.Common.{◌≡◌, ℕ, ◌+◌, ◌*◌, ◌%◌, sym, arith}
 use Rattle.std.specs.Prelude.{Ok}
 use Rattle.pte.specs.Address.{Holds, bytes_of, pages_of}
@@ -25,19 +26,19 @@ use Rattle.laws.specs.Fills.{Fills}
 pub numbered : (n : ℕ) → page_number (n * bytes_of Kib4) ≡ n
 numbered n = omega arith
 
-found_maps : (words : Tables) (root va asid : ℕ) (access : Access) (ctx : Ctx) (found : Found) (m : Mapping) → Outcome words root va access ctx (Ok found)
-    → IsMappingOf (entry_of asid found) m → Maps words root m.page m.ppn m.flags found.global
-found_maps words root va asid access ctx found m is of =
+found_maps : (scheme : Scheme) (words : Tables) (root va asid : ℕ) (access : Access) (ctx : Ctx) (found : Found) (m : Mapping) → Outcome scheme words root va access ctx (Ok found)
+    → IsMappingOf (entry_of asid found) m → Maps scheme words root m.page m.ppn m.flags found.global
+found_maps scheme words root va asid access ctx found m is of =
     let at = m.page * bytes_of Kib4 in
     let below = of.page.to in
     let holds : Holds found.page at = record { from = of.page.from; below = omega arith } in
-    let member = found_page_member words root va access ctx found is at holds in
+    let member = found_page_member scheme words root va access ctx found is at holds in
     let same : m.ppn ≡ found.ppn + m.page % pages_of found.page.size = of.ppn in
     rw (same, of.flags) (rw (numbered m.page) at member)
 
 pub fill_maps : (C : Setup) (turn : Turn) (H : History) (h : ℕ) (e : Entry) (m : Mapping) → Lawful C H → Fills C h e turn H → IsMappingOf e m
-    → Maps (words_of C H) (root_ppn C.layout (space_of H h)) m.page m.ppn m.flags e.global
+    → Maps C.layout.scheme (words_of C H) (root_ppn C.layout (space_of H h)) m.page m.ppn m.flags e.global
 fill_maps C turn H h e m l f of =
     let out = (walk_outcome C H h (space_of H h) f.walk (Ok f.found) l f.walking).0 (sym f.finds) in
     let is : e ≡ entry_of (asid_of C (space_of H h)) f.found = f.is in
-    rw is (found_maps (words_of C H) (root_ppn C.layout (space_of H h)) f.walk.va (asid_of C (space_of H h)) f.walk.access f.walk.ctx f.found m out (rw is at of))
+    rw is (found_maps C.layout.scheme (words_of C H) (root_ppn C.layout (space_of H h)) f.walk.va (asid_of C (space_of H h)) f.walk.access f.walk.ctx f.found m out (rw is at of))

@@ -2,9 +2,12 @@
 use Rattle.std.proofs.Common.{◌≡◌, ℕ, ◌+◌, ◌-◌, ◌*◌, ◌%◌, ◌^◌, ◌≤◌, ◌<◌, true, false, ◌&&◌, eqb, sym, ◌∙◌, inl, inr, arith}
 use Rattle.std.proofs.lemmas.Bool.{eq-eqb, leb-false, ltb-false, and_from}
 use Rattle.pte.specs.declared.address.PageSize.{PageSize}
-use Rattle.pte.specs.declared.address.PageSize.TheVariants.{Kib4, Mib2, Gib1}
+use Rattle.pte.specs.declared.address.PageSize.TheVariants.{Kib4, Mib2, Gib1, Gib512}
+use Rattle.pte.specs.declared.scheme.Scheme.{Scheme}
+use Rattle.pte.specs.declared.scheme.Scheme.TheVariants.{Sv39, Sv48}
+use Rattle.spaces.proofs.Accepting.{fit-page, within}
 use Rattle.pte.specs.declared.address.What.{What}
-use Rattle.pte.specs.Address.{Span, Holds, IsPage, IsCanonical, address_bits, top_level, bytes_of, pages_of, vpn_of}
+use Rattle.pte.specs.Address.{Span, Holds, IsPage, IsCanonical, address_bits, level_of, top_level, bytes_of, pages_of, vpn_of}
 use Rattle.walk.specs.Maps.{page_number}
 use Rattle.spaces.specs.declared.places.Place.{Place}
 use Rattle.spaces.specs.declared.places.Place.TheVariants.{Space, Kernel}
@@ -24,6 +27,7 @@ lies_part : (base : ℕ) (size : PageSize) (n : ℕ) → base ≤ n * bytes_of K
 lies_part base Kib4 n from to = record { from = omega arith; below = omega arith }
 lies_part base Mib2 n from to = record { from = omega arith; below = omega arith }
 lies_part base Gib1 n from to = record { from = omega arith; below = omega arith }
+lies_part base Gib512 n from to = record { from = omega arith; below = omega arith }
 
 pub part : (page : Span) (n : ℕ) → LiesIn page n → IsPart page n
 part page n l = lies_part page.base page.size n l.from l.to
@@ -34,6 +38,7 @@ part_bounds : (base : ℕ) (size : PageSize) (n : ℕ) → base % bytes_of size 
 part_bounds base Kib4 n aligned from below = (omega arith, omega arith)
 part_bounds base Mib2 n aligned from below = (omega arith, omega arith)
 part_bounds base Gib1 n aligned from below = (omega arith, omega arith)
+part_bounds base Gib512 n aligned from below = (omega arith, omega arith)
 
 holds_part : (page : Span) (n : ℕ) → IsPage page → IsPart page n → Holds page (n * bytes_of Kib4)
 holds_part page n is at = let b = part_bounds page.base page.size n is.aligned at.from at.below in record { from = b.0; below = b.1 }
@@ -42,27 +47,43 @@ both_hold : (p q : Span) (n : ℕ) → IsPage p → IsPage q → IsPart p n → 
 both_hold p q n is_p is_q at_p at_q = (overlaps-Overlap p q).1 (n * bytes_of Kib4, holds_part p n is_p at_p, holds_part q n is_q at_q)
 
 -- the pages of the user's half have lower numbers than those of the window
-abbrev pub half_end : ℕ
-half_end = page_number (2 ^ (address_bits - 1))
+abbrev pub half_end : Scheme → ℕ
+half_end scheme = page_number (2 ^ (address_bits scheme - 1))
 
-low_part : (base : ℕ) (size : PageSize) (n : ℕ) → IsCanonical base → base % bytes_of size ≡ 0 → vpn_of base top_level < user_slots → n < page_number base + pages_of size → n < half_end
-low_part base Kib4 n (inl low) aligned slot below = omega arith
-low_part base Mib2 n (inl low) aligned slot below = omega arith
-low_part base Gib1 n (inl low) aligned slot below = omega arith
-low_part base size n (inr high) aligned slot below = absurd (omega (arith, high.0, high.1))
+low_part : (scheme : Scheme) (base : ℕ) (size : PageSize) (n : ℕ) → level_of size ≤ top_level scheme → IsCanonical scheme base → base % bytes_of size ≡ 0
+    → vpn_of base (top_level scheme) < user_slots → n < page_number base + pages_of size → n < half_end scheme
+low_part Sv39 base Kib4 n level (inl low) aligned slot below = omega arith
+low_part Sv39 base Mib2 n level (inl low) aligned slot below = omega arith
+low_part Sv39 base Gib1 n level (inl low) aligned slot below = omega arith
+low_part Sv39 base Gib512 n level (inl low) aligned slot below = absurd (omega arith)
+low_part Sv39 base size n level (inr high) aligned slot below = absurd (omega (arith, high.0, high.1))
+low_part Sv48 base Kib4 n level (inl low) aligned slot below = omega arith
+low_part Sv48 base Mib2 n level (inl low) aligned slot below = omega arith
+low_part Sv48 base Gib1 n level (inl low) aligned slot below = omega arith
+low_part Sv48 base Gib512 n level (inl low) aligned slot below = omega arith
+low_part Sv48 base size n level (inr high) aligned slot below = absurd (omega (arith, high.0, high.1))
 
-high_part : (base n : ℕ) → IsCanonical base → user_slots ≤ vpn_of base top_level → page_number base ≤ n → half_end ≤ n
-high_part base n (inl low) slot from = absurd (omega arith)
-high_part base n (inr high) slot from = omega (arith, high.0, high.1)
+pub low_slot : (scheme : Scheme) (n : ℕ) → n < half_end scheme → vpn_of (n * bytes_of Kib4) (top_level scheme) < user_slots
+low_slot Sv39 n below = omega arith
+low_slot Sv48 n below = omega arith
+
+high_part : (scheme : Scheme) (base n : ℕ) → IsCanonical scheme base → user_slots ≤ vpn_of base (top_level scheme) → page_number base ≤ n → half_end scheme ≤ n
+high_part Sv39 base n (inl low) slot from = absurd (omega arith)
+high_part Sv39 base n (inr high) slot from = omega (arith, high.0, high.1)
+high_part Sv48 base n (inl low) slot from = absurd (omega arith)
+high_part Sv48 base n (inr high) slot from = omega (arith, high.0, high.1)
 
 module _ (C : Setup) (layout : IsLayout C.layout) where
-  pub in_user : (s : ℕ) (page : Span) (n : ℕ) → IsPage page → is_wrong_half C.layout (Space s) page ≡ false → IsPart page n → n < half_end
-  in_user s page n is half at = low_part page.base page.size n is.canonical is.aligned (leb-false user_slots (root_slot page) half) at.below
+  pub in_user : (s : ℕ) (page : Span) (n : ℕ) → IsPage page → is_wrong_half C.layout (Space s) page ≡ false → IsPart page n → n < half_end C.layout.scheme
+  in_user s page n is half at =
+      let of = fit-page C.layout (Space s) page half is in
+      low_part C.layout.scheme page.base page.size n of.level of.canonical of.aligned (within C.layout (Space s) page half) at.below
 
-  pub in_window : (page : Span) (n : ℕ) → IsPage page → is_wrong_half C.layout Kernel page ≡ false → IsPart page n → half_end ≤ n
+  pub in_window : (page : Span) (n : ℕ) → IsPage page → is_wrong_half C.layout Kernel page ≡ false → IsPart page n → half_end C.layout.scheme ≤ n
   in_window page n is half at =
-      let slot : first_window_slot C.layout ≤ root_slot page = ltb-false (root_slot page) (first_window_slot C.layout) half in
-      high_part page.base n is.canonical (omega (arith, layout.window, slot)) at.from
+      let of = fit-page C.layout Kernel page half is in
+      let slot = within C.layout Kernel page half in
+      high_part C.layout.scheme page.base n of.canonical (omega (arith, layout.window, slot)) at.from
 
   -- no page is in both
   pub apart : (s : ℕ) (page window : Span) (what what' : What) (n : ℕ) → IsAsked C (Space s) page what → IsAsked C Kernel window what' → IsPart page n → IsPart window n → ⊥

@@ -50,14 +50,14 @@ pub record MappedSince (C : Setup) (H : History) (k : ℕ) (place : Place) (e : 
   pub space : ℕ
   pub there : space < length C.asids
   pub root : IsRootOf C place (root_ppn C.layout space)
-  pub maps : Maps (words_of C earlier) (root_ppn C.layout space) m.page m.ppn m.flags e.global
+  pub maps : Maps C.layout.scheme (words_of C earlier) (root_ppn C.layout space) m.page m.ppn m.flags e.global
 
 module _ (C : Setup) (has : HasAsids C) (user : (H : History) → Lawful C H → HavePages H → UserPagesAreNotGlobal C H) where
   -- a filled mapping is mapped from the root of a space that is there
   record Mapped (H : History) (e : Entry) (m : Mapping) (space : ℕ) : Type 0 where
     there : space < length C.asids
     asid : e.asid ≡ asid_of C space
-    maps : Maps (words_of C H) (root_ppn C.layout space) m.page m.ppn m.flags e.global
+    maps : Maps C.layout.scheme (words_of C H) (root_ppn C.layout space) m.page m.ppn m.flags e.global
 
   fill_mapped : (turn : Turn) (H : History) (h : ℕ) (e : Entry) (m : Mapping) → Lawful C H → Fills C h e turn H → IsMappingOf e m → Mapped H e m (space_of H h)
   fill_mapped turn H h e m l f of = record {
@@ -71,7 +71,7 @@ module _ (C : Setup) (has : HasAsids C) (user : (H : History) → Lawful C H →
       → LiesIn page m.page → Mapped H e m space → e.global ≡ true → ⊥
   user_not_global H s space page e m l pages is half at f g =
       user H l pages s space page m.page m.ppn m.flags is half f.there at
-      (subst (λ (b : Bool). Maps (words_of C H) (root_ppn C.layout space) m.page m.ppn m.flags b) g f.maps)
+      (subst (λ (b : Bool). Maps C.layout.scheme (words_of C H) (root_ppn C.layout space) m.page m.ppn m.flags b) g f.maps)
 
   -- the ASID of an entry that is not global and translates for an ASID
   own_asid : (e : Entry) (m : Mapping) (asid : ℕ) → e.global ≡ false → IsMappingOf e m → (m.asid ≡ None) ⊎ (m.asid ≡ Some asid) → e.asid ≡ asid

@@ -33,7 +33,7 @@ use Rattle.laws.proofs.Causes.{IsAsked, follows}
 use Rattle.laws.proofs.TreeKept.{tree}
 use Rattle.laws.proofs.Clearing.{anew_step}
 use Rattle.laws.proofs.Cohering.{follows_change}
-use Rattle.laws.proofs.Halves.{half_end, part, in_user, in_window, about_over}
+use Rattle.laws.proofs.Halves.{half_end, low_slot, part, in_user, in_window, about_over}
 use Rattle.laws.proofs.Changing.{IsEdited, Changes, keeps, adds, removes, changes_flags, opening_maps_nothing, unmap_removes, changes}
 
 -- a root of a place is that of some space below which the place's tables hang
@@ -79,20 +79,20 @@ module _ (C : Setup) (setup : IsSetup C) where
   -- no page of the user's half is global: what is global is in the window
   pub user_plain : (H : History) → Lawful C H → HavePages H → UserPagesAreNotGlobal C H
   user_plain H l has = λ s space page n ppn flags is half there at m.
-      let low : n < half_end = in_user C setup.layout s page n is half (part page n at) in
-      let high : first_window_slot C.layout ≤ vpn_of (n * bytes_of Kib4) top_level =
+      let low = low_slot C.layout.scheme n (in_user C setup.layout s page n is half (part page n at)) in
+      let high : first_window_slot C.layout ≤ vpn_of (n * bytes_of Kib4) (top_level C.layout.scheme) =
       (global-window C.layout (words_of C H) (used_spares H) setup.layout (tree C setup.layout setup.homes H l has) space n ppn flags true (in_layout space there) m).0 refl in
       omega (arith, setup.layout.window, low, high)
 
   -- the window is the same in all roots
-  module _ (s t n : ℕ) (there_s : s < length C.layout.homes) (there_t : t < length C.layout.homes) (high : half_end ≤ n) where
+  module _ (s t n : ℕ) (there_s : s < length C.layout.homes) (there_t : t < length C.layout.homes) (high : half_end C.layout.scheme ≤ n) where
     about_each : (a b : ℕ) (place : Place) (page : Span) → IsEdited C place page → IsAbout place page a n → IsAbout place page b n
     about_each a b (Space u) page e about = let low = in_user C setup.layout u page n e.is_page e.right_half about.1 in absurd (omega arith)
     about_each a b Kernel page e about = (tt, about.1)
 
     shared_step : (event : Event) (r : Reply) (old new : Tables) → Changes C r old new event
-        → ((ppn : ℕ) (flags : PteFlags) (global : Bool) → Maps old (root_ppn C.layout s) n ppn flags global → Maps old (root_ppn C.layout t) n ppn flags global)
-        → (ppn : ℕ) (flags : PteFlags) (global : Bool) → Maps new (root_ppn C.layout s) n ppn flags global → Maps new (root_ppn C.layout t) n ppn flags global
+        → ((ppn : ℕ) (flags : PteFlags) (global : Bool) → Maps C.layout.scheme old (root_ppn C.layout s) n ppn flags global → Maps C.layout.scheme old (root_ppn C.layout t) n ppn flags global)
+        → (ppn : ℕ) (flags : PteFlags) (global : Bool) → Maps C.layout.scheme new (root_ppn C.layout s) n ppn flags global → Maps C.layout.scheme new (root_ppn C.layout t) n ppn flags global
     shared_step event r old new (keeps _ same) each ppn flags global m = (same t n ppn flags global there_t).1 (each ppn flags global ((same s n ppn flags global there_s).0 m))
     shared_step event r old new (adds hart place page first f leaf e does) each ppn flags global m =
         (does t n ppn flags global there_t).1
@@ -130,7 +130,7 @@ module _ (C : Setup) (setup : IsSetup C) where
         (about_over C setup.layout place other page span order.what (page_request C other span) s n asked e hangs at about))
 
     mapped_step : (event : Event) (r : Reply) (old new : Tables) → Changes C r old new event → superseded_after C event r H k (is_superseded C H k) ≡ false
-        → (ppn : ℕ) (flags : PteFlags) (global : Bool) → Maps old (root_ppn C.layout s) n ppn flags global → Maps new (root_ppn C.layout s) n ppn flags global
+        → (ppn : ℕ) (flags : PteFlags) (global : Bool) → Maps C.layout.scheme old (root_ppn C.layout s) n ppn flags global → Maps C.layout.scheme new (root_ppn C.layout s) n ppn flags global
     mapped_step event r old new (keeps _ same) fresh ppn flags global m = (same s n ppn flags global there).1 m
     mapped_step event r old new (adds hart other span first f leaf e does) fresh ppn flags global m = (does s n ppn flags global there).1 (inl m)
     mapped_step event r old new (removes hart other span named opened e does) fresh ppn flags global m =
@@ -139,8 +139,8 @@ module _ (C : Setup) (setup : IsSetup C) where
         (does s n ppn flags global there).1 (inl (m, untouched other span (is_opened r) (is_superseded C H k) e opened fresh))
 
     unmapped_step : (event : Event) (r : Reply) (old new : Tables) → Changes C r old new event → anew_after C event r H k (is_mapped_anew C H k) ≡ false
-        → ((ppn : ℕ) (flags : PteFlags) (global : Bool) → ¬ Maps old (root_ppn C.layout s) n ppn flags global)
-        → (ppn : ℕ) (flags : PteFlags) (global : Bool) → ¬ Maps new (root_ppn C.layout s) n ppn flags global
+        → ((ppn : ℕ) (flags : PteFlags) (global : Bool) → ¬ Maps C.layout.scheme old (root_ppn C.layout s) n ppn flags global)
+        → (ppn : ℕ) (flags : PteFlags) (global : Bool) → ¬ Maps C.layout.scheme new (root_ppn C.layout s) n ppn flags global
     unmapped_step event r old new (keeps _ same) fresh none ppn flags global m = none ppn flags global ((same s n ppn flags global there).0 m)
     unmapped_step event r old new (adds hart other span first f leaf e does) fresh none ppn flags global m =
         elim ((does s n ppn flags global there).0 m) [
@@ -156,15 +156,15 @@ module _ (C : Setup) (setup : IsSetup C) where
   stays_mapped turn H l has = λ k order place page is change fresh root n ppn flags global of at m.
       let asked = follows_change C order.cause place page order.what change (follows C H k order l.0 has.0 is) in
       let r = root_of C place root asked.there of in
-      subst (λ (x : ℕ). Maps (words_of C (turn ∷ H)) x n ppn flags global) (sym r.is)
+      subst (λ (x : ℕ). Maps C.layout.scheme (words_of C (turn ∷ H)) x n ppn flags global) (sym r.is)
       (mapped_step H k order place page r.space n is change asked (in_layout r.space r.there) r.hangs (part page n at) turn.event turn.reply (words_of C H) (words_of C (turn ∷ H))
       (changes C setup H l.0 has.0 turn.event turn.reply l.1 has.1) fresh ppn flags global
-      (subst (λ (x : ℕ). Maps (words_of C H) x n ppn flags global) r.is m))
+      (subst (λ (x : ℕ). Maps C.layout.scheme (words_of C H) x n ppn flags global) r.is m))
 
   -- the turn that unmaps a page leaves nothing of it
   gone : (event : Event) (r : Reply) (H : History) (order : Order) (place : Place) (page : Span) → Lawful C H → HavePages H → r ≡ due C H event → HasPage event
       → opened_order C event r ≡ Some order → order.cause ≡ Unmapped place page
-      → (root n ppn : ℕ) (flags : PteFlags) (global : Bool) → IsRootOf C place root → IsPart page n → ¬ Maps (words_of C (turn_of event r ∷ H)) root n ppn flags global
+      → (root n ppn : ℕ) (flags : PteFlags) (global : Bool) → IsRootOf C place root → IsPart page n → ¬ Maps C.layout.scheme (words_of C (turn_of event r ∷ H)) root n ppn flags global
   gone (Unmap hart other span named) r H order place page l pages d has is cause root n ppn flags global of at =
       let w = with_cause hart named (page_request C other span) (Unmapped other span) (opened_ticket r) order is in
       let z = opened_is r w.0 w.1 in
@@ -174,8 +174,8 @@ module _ (C : Setup) (setup : IsSetup C) where
       let same_page : span ≡ page = cc in
       let q = root_of C other root u.0.there (subst (λ (p : Place). IsRootOf C p root) (sym same_place) of) in
       let part_of : IsPart span n = subst (λ (p : Span). IsPart p n) (sym same_page) at in
-      by_test (λ v. Maps (cond v (with_store (words_of C H) (edit_at C H hart (wish.Unmap other span))) (words_of C H)) root n ppn flags global → ⊥) (is_opened r)
-      (λ _ m. ((u.1 q.space n ppn flags global (in_layout q.space q.there)).0 (subst (λ (x : ℕ). Maps (with_store (words_of C H) (edit_at C H hart (wish.Unmap other span))) x n ppn flags global) q.is m)).1
+      by_test (λ v. Maps C.layout.scheme (cond v (with_store (words_of C H) (edit_at C H hart (wish.Unmap other span))) (words_of C H)) root n ppn flags global → ⊥) (is_opened r)
+      (λ _ m. ((u.1 q.space n ppn flags global (in_layout q.space q.there)).0 (subst (λ (x : ℕ). Maps C.layout.scheme (with_store (words_of C H) (edit_at C H hart (wish.Unmap other span))) x n ppn flags global) q.is m)).1
       (q.hangs, part_of))
       (λ f. absurd (false≢true (sym f ∙ z)))
   gone (Protect hart other span f named) r H order place page l pages d has is cause root n ppn flags global of at =
@@ -198,6 +198,6 @@ module _ (C : Setup) (setup : IsSetup C) where
             λ m. unmapped_step H k order place page r.space n old (inl cause) asked (in_layout r.space r.there) r.hangs (part page n at) turn.event turn.reply (words_of C H) (words_of C (turn ∷ H))
             (changes C setup H l.0 has.0 turn.event turn.reply l.1 has.1) fresh
             (λ ppn flags global w. stays_unmapped H l.0 has.0 k order place page old cause before root n ppn flags global of at
-            (subst (λ (x : ℕ). Maps (words_of C H) x n ppn flags global) (sym r.is) w))
-            ppn flags global (subst (λ (x : ℕ). Maps (words_of C (turn ∷ H)) x n ppn flags global) r.is m)
+            (subst (λ (x : ℕ). Maps C.layout.scheme (words_of C H) x n ppn flags global) (sym r.is) w))
+            ppn flags global (subst (λ (x : ℕ). Maps C.layout.scheme (words_of C (turn ∷ H)) x n ppn flags global) r.is m)
       ]

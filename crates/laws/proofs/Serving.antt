@@ -79,7 +79,7 @@ fenced_step : (C : Setup) (event : Event) (r : Reply) (H : History) (h : ℕ) (x
 fenced_step C (Load b) r H h x l old e f =
     rw (no_fill C H (space_of H h) (walk_of H h) (is_filled r && eqb b h) (entries_of C H h) (idle C H h x l e)) (old e f)
 fenced_step C (Fence b rs1 rs2) r H h x l old e f =
-    filtered_none x.request.what (λ y. not (is_fenced rs1 rs2 y)) (is_ok r && eqb b h) (entries_of C H h) (old e f)
+    filtered_none x.request.what (λ y. not (is_fenced C.layout.scheme rs1 rs2 y)) (is_ok r && eqb b h) (entries_of C H h) (old e f)
 fenced_step C (Take b a) r H h x l old e f =
     by_test (λ v. cond v (slice_get (posts C H a b) (length (taken H a b))) (served C H h) ≡ Some x → cond v false (has_fenced H h) ≡ true → DropsNone x.request.what (entries_of C H h)) (is_taken r && eqb b h)
     (λ _ _ g. absurd (false≢true g)) (λ _ q g. old q g) e f

@@ -45,13 +45,13 @@ pub record IsSetup (C : Setup) : Type 0 where
 abbrev pub StaysUnmapped : Setup → History → Type 0
 StaysUnmapped C H =
     (k : ℕ) (order : Order) (place : Place) (page : Span) → order_at C H k ≡ Some order → order.cause ≡ Unmapped place page → is_mapped_anew C H k ≡ false
-    → (root n ppn : ℕ) (flags : PteFlags) (global : Bool) → IsRootOf C place root → LiesIn page n → ¬ Maps (words_of C H) root n ppn flags global
+    → (root n ppn : ℕ) (flags : PteFlags) (global : Bool) → IsRootOf C place root → LiesIn page n → ¬ Maps C.layout.scheme (words_of C H) root n ppn flags global
 
 -- no page of the user's half is mapped global, from the root of any space
 abbrev pub UserPagesAreNotGlobal : Setup → History → Type 0
 UserPagesAreNotGlobal C H =
     (s space : ℕ) (page : Span) (n ppn : ℕ) (flags : PteFlags) → IsPage page → is_wrong_half C.layout (Space s) page ≡ false → space < length C.asids → LiesIn page n
-    → ¬ Maps (words_of C H) (root_ppn C.layout space) n ppn flags true
+    → ¬ Maps C.layout.scheme (words_of C H) (root_ppn C.layout space) n ppn flags true
 
 -- what is mapped in the page of an unmapping or a change of flags stays mapped, over one more turn, until the page is unmapped
 -- or changed once more
@@ -59,10 +59,10 @@ abbrev pub StaysMapped : Setup → Turn → History → Type 0
 StaysMapped C turn H =
     (k : ℕ) (order : Order) (place : Place) (page : Span) → order_at C H k ≡ Some order → IsChange order.cause place page → is_superseded C (turn ∷ H) k ≡ false
     → (root n ppn : ℕ) (flags : PteFlags) (global : Bool) → IsRootOf C place root → LiesIn page n
-    → Maps (words_of C H) root n ppn flags global → Maps (words_of C (turn ∷ H)) root n ppn flags global
+    → Maps C.layout.scheme (words_of C H) root n ppn flags global → Maps C.layout.scheme (words_of C (turn ∷ H)) root n ppn flags global
 
 -- what is mapped in the window from one root is mapped from each
 abbrev pub WindowIsShared : Setup → History → Type 0
 WindowIsShared C H =
     (page : Span) (s t n ppn : ℕ) (flags : PteFlags) (global : Bool) → IsPage page → is_wrong_half C.layout Kernel page ≡ false → s < length C.asids → t < length C.asids
-    → LiesIn page n → Maps (words_of C H) (root_ppn C.layout s) n ppn flags global → Maps (words_of C H) (root_ppn C.layout t) n ppn flags global
+    → LiesIn page n → Maps C.layout.scheme (words_of C H) (root_ppn C.layout s) n ppn flags global → Maps C.layout.scheme (words_of C H) (root_ppn C.layout t) n ppn flags global

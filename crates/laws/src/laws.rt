@@ -138,7 +138,7 @@ pub fn entries_were_filled()
 /// if it is global, for every one.
 pub fn filled_pages_are_mapped()
     ensures { (C : Setup) (turn : Turn) (H : History) (h : ℕ) (e : Entry) (m : Mapping) → Lawful C H → Fills C h e turn H → IsMappingOf e m
-        → Maps (words_of C H) (root_ppn C.layout (space_of H h)) m.page m.ppn m.flags e.global }
+        → Maps C.layout.scheme (words_of C H) (root_ppn C.layout (space_of H h)) m.page m.ppn m.flags e.global }
 {}
 
 /// The turn by which a hart acknowledges an order leaves no entry in its TLB that the order drops.

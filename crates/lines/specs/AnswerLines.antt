@@ -1,8 +1,9 @@
 -- The lines that `walk` prints: that of each step has its number and the answer of the translation.
+use Rattle.pte.specs.declared.scheme.Scheme.{Scheme}
 use Rattle.std.specs.Prelude.{◌≡◌, ℕ, ◌+◌, Bool, Result, Ok, Err, codes, List, [], ◌∷◌, ◌++◌, if◌then◌else◌, false}
 use Rattle.std.specs.Fmt.{decimal, digits}
 use Rattle.pte.specs.declared.address.PageSize.{PageSize}
-use Rattle.pte.specs.declared.address.PageSize.TheVariants.{Kib4, Mib2, Gib1}
+use Rattle.pte.specs.declared.address.PageSize.TheVariants.{Kib4, Mib2, Gib1, Gib512}
 use Rattle.walk.specs.Leads.{Tables}
 use Rattle.walk.specs.Outcome.{Outcome}
 use Rattle.walk.specs.declared.found_or_trap.Found.{Found}
@@ -15,6 +16,7 @@ abbrev pub size_text : PageSize → List ℕ
 size_text Kib4 = codes "4K"
 size_text Mib2 = codes "2M"
 size_text Gib1 = codes "1G"
+size_text Gib512 = codes "512G"
 
 abbrev pub why_text : Why → List ℕ
 why_text whys.NotCanonical = codes "NotCanonical"
@@ -45,8 +47,8 @@ abbrev pub line_of : ℕ → Result Found Trap → List ℕ
 line_of number answer = decimal number ++ codes " " ++ answer_text answer ++ codes "\n"
 
 -- the lines of the steps, the first of which has this number: that of its outcome, and then the lines of the rest
-abbrev pub WritesLines : Tables → ℕ → ℕ → List WalkStep → List ℕ → Type 0
-WritesLines words root n [] lines = lines ≡ []
-WritesLines words root n (step ∷ steps) lines =
-    (answer : Result Found Trap) × (rest : List ℕ) × Outcome words root step.va step.access step.ctx answer
-    × (lines ≡ line_of n answer ++ rest) × WritesLines words root (n + 1) steps rest
+abbrev pub WritesLines : Scheme → Tables → ℕ → ℕ → List WalkStep → List ℕ → Type 0
+WritesLines scheme words root n [] lines = lines ≡ []
+WritesLines scheme words root n (step ∷ steps) lines =
+    (answer : Result Found Trap) × (rest : List ℕ) × Outcome scheme words root step.va step.access step.ctx answer
+    × (lines ≡ line_of n answer ++ rest) × WritesLines scheme words root (n + 1) steps rest

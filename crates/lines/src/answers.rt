@@ -3,10 +3,10 @@ ghost use Rattle.std.specs.Prelude.{◌≡◌, ◌<◌, ◌^◌, ◌++◌, OnOk,
 ghost use Rattle.pte.specs.Entry.{ppn_bits};
 ghost use Rattle.lines.specs.AnswerLines.{global_text, line_of, size_text, why_text, WritesLines};
 
-use pte::PageSize;
+use pte::{PageSize, Scheme};
 use std::alloc::{AllocError, Global};
 use steps::WalkStep;
-use walk::{Found, Trap, Why, Words, translate};
+use walk::{Found, Trap, Why, Words, translate_in};
 
 pub fn size_word(size: PageSize) -> &'static str
     ensures { result.now ≡ size_text size }
@@ -15,6 +15,7 @@ pub fn size_word(size: PageSize) -> &'static str
         PageSize::Kib4 => "4K",
         PageSize::Mib2 => "2M",
         PageSize::Gib1 => "1G",
+        PageSize::Gib512 => "512G",
     }
 }
 
@@ -63,20 +64,21 @@ fn push_line(
     }
 }
 
-/// The lines of `walk`: each step's number, from 1, and the answer of the translation from the root, which the caller keeps
+/// The lines of `walk`: each step's number, from 1, and the answer of the scheme's translation from the root, which the caller keeps
 /// below 2^44.
 pub fn walk_lines<W: Words>(
     alloc: Global,
+    scheme: Scheme,
     words: &W,
     root: u64,
     steps: &[WalkStep],
 ) -> Result<String, AllocError>
     requires { root < 2 ^ ppn_bits }
-    ensures { IfOk result (λ text. WritesLines (W.words words.now) root 1 steps.now (string_bytes text)) }
+    ensures { IfOk result (λ text. WritesLines scheme (W.words words.now) root 1 steps.now (string_bytes text)) }
 {
     let mut text = String::new(alloc);
     for (index, step) in steps.iter().enumerate() {
-        let answer = translate(words, root, step.va, step.access, step.ctx);
+        let answer = translate_in(scheme, words, root, step.va, step.access, step.ctx);
         push_line(&mut text, index + 1, answer)?;
     }
     Ok(text)

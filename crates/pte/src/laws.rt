@@ -1,18 +1,25 @@
-//! A law of the numbers: the function does nothing, and its contract is the law.
+//! Laws of the numbers: each function does nothing, and its contract is the law.
 
-ghost use Rattle.std.specs.Prelude.{◌≡◌};
+ghost use Rattle.std.specs.Prelude.{ℕ, ◌≡◌, ◌+◌, ◌*◌, ◌≤◌};
+ghost use Rattle.pte.specs.declared.scheme.Scheme.{Scheme};
 ghost use Rattle.pte.specs.declared.address.PageSize.TheVariants.{Kib4};
-ghost use Rattle.pte.specs.Address.{address_bits, bytes_of, table_length, top_level};
+ghost use Rattle.pte.specs.Address.{IsCanonical, address_bits, bytes_of, level_count, table_length, top_level, widest};
 ghost use Rattle.pte.specs.Entry.{ppn_bits};
 
-use crate::address::{ADDRESS_BITS, PAGE_BYTES, TABLE_LENGTH, TOP_LEVEL};
+use crate::address::{PAGE_BYTES, TABLE_LENGTH};
 use crate::entry::PPN_BITS;
 
 /// The constants are the numbers of the definitions.
 pub fn constants_are_as_defined()
-    ensures address { ADDRESS_BITS ≡ address_bits }
-    ensures level { TOP_LEVEL ≡ top_level }
     ensures table { TABLE_LENGTH ≡ table_length }
     ensures page { PAGE_BYTES ≡ bytes_of Kib4 }
     ensures ppn { PPN_BITS ≡ ppn_bits }
+{}
+
+/// The schemes differ in their number of levels alone, and each address and level of a scheme is one of the widest.
+#[tactic(auto, using(crate::proofs::Schemes::bits_levels, crate::proofs::Schemes::levels_widest, crate::proofs::Schemes::canonical_widest))]
+pub fn schemes_differ_in_their_levels()
+    ensures bits { (scheme : Scheme) → address_bits scheme ≡ 12 + 9 * level_count scheme }
+    ensures levels { (scheme : Scheme) → top_level scheme ≤ top_level widest }
+    ensures addresses { (scheme : Scheme) (va : ℕ) → IsCanonical scheme va → IsCanonical widest va }
 {}

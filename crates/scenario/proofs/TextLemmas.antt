@@ -1,4 +1,5 @@
 -- The steps of the texts of a file: a loop that reads them, and what is read in other words.
+use Rattle.pte.specs.declared.scheme.Scheme.{Scheme}
 use Rattle.std.proofs.Common.{◌≡◌, ℕ, ◌+◌, ◌<◌, List, [], ◌∷◌, ◌++◌, length, get_or, drop, map, Some, None, refl, sym, ap, ◌∙◌, append_assoc, append-nil, Bor, Result, Ok, Err, arith}
 use Rattle.std.specs.Result.{result_ok}
 use Rattle.std.proofs.lemmas.List.{drop_more}
@@ -65,22 +66,22 @@ steps_end ts front so_far = all_read walk_step_in ts front so_far
 
 -- ---- the loop of `run`
 
-abbrev pub EventsSoFar : ℕ → List (Bor (List ℕ)) → ℕ → List Event → Type 0
-EventsSoFar harts ts i front = SoFar (step_among harts) ts i front
+abbrev pub EventsSoFar : Scheme → ℕ → List (Bor (List ℕ)) → ℕ → List Event → Type 0
+EventsSoFar scheme harts ts i front = SoFar (step_among scheme harts) ts i front
 
-pub events_start : (harts : ℕ) (ts : List (Bor (List ℕ))) → EventsSoFar harts ts 0 []
-events_start harts ts = bind-nil (events_in harts (map (λ text. text.now) ts))
+pub events_start : (scheme : Scheme) (harts : ℕ) (ts : List (Bor (List ℕ))) → EventsSoFar scheme harts ts 0 []
+events_start scheme harts ts = bind-nil (events_in scheme harts (map (λ text. text.now) ts))
 
-pub events_more : (harts : ℕ) (ts : List (Bor (List ℕ))) (i : ℕ) (front : List Event) (d : Bor (List ℕ)) (event : Event) → i < length ts → step_among harts (get_or ts i d).now ≡ Ok event
-    → EventsSoFar harts ts i front → EventsSoFar harts ts (i + 1) (front ++ event ∷ [])
-events_more harts ts i front d event lt is so_far = some_more (step_among harts) ts i front d event lt is so_far
+pub events_more : (scheme : Scheme) (harts : ℕ) (ts : List (Bor (List ℕ))) (i : ℕ) (front : List Event) (d : Bor (List ℕ)) (event : Event) → i < length ts → step_among scheme harts (get_or ts i d).now ≡ Ok event
+    → EventsSoFar scheme harts ts i front → EventsSoFar scheme harts ts (i + 1) (front ++ event ∷ [])
+events_more scheme harts ts i front d event lt is so_far = some_more (step_among scheme harts) ts i front d event lt is so_far
 
-pub events_refused : (harts : ℕ) (ts : List (Bor (List ℕ))) (i : ℕ) (front : List Event) (d : Bor (List ℕ)) (fault : StepFault) → i < length ts → step_among harts (get_or ts i d).now ≡ Err fault
-    → EventsSoFar harts ts i front → events_in harts (map (λ text. text.now) ts) ≡ Err (wrong_step (i + 1) fault)
-events_refused harts ts i front d fault lt is so_far = some_wrong (step_among harts) ts i front d fault lt is so_far
+pub events_refused : (scheme : Scheme) (harts : ℕ) (ts : List (Bor (List ℕ))) (i : ℕ) (front : List Event) (d : Bor (List ℕ)) (fault : StepFault) → i < length ts → step_among scheme harts (get_or ts i d).now ≡ Err fault
+    → EventsSoFar scheme harts ts i front → events_in scheme harts (map (λ text. text.now) ts) ≡ Err (wrong_step (i + 1) fault)
+events_refused scheme harts ts i front d fault lt is so_far = some_wrong (step_among scheme harts) ts i front d fault lt is so_far
 
-pub events_end : (harts : ℕ) (ts : List (Bor (List ℕ))) (front : List Event) → EventsSoFar harts ts (length ts) front → events_in harts (map (λ text. text.now) ts) ≡ Ok front
-events_end harts ts front so_far = all_read (step_among harts) ts front so_far
+pub events_end : (scheme : Scheme) (harts : ℕ) (ts : List (Bor (List ℕ))) (front : List Event) → EventsSoFar scheme harts ts (length ts) front → events_in scheme harts (map (λ text. text.now) ts) ≡ Ok front
+events_end scheme harts ts front so_far = all_read (step_among scheme harts) ts front so_far
 
 -- ---- each text is read as the step in its place
 

@@ -10,7 +10,7 @@ use Rattle.scenario.specs.WalkFile.{WalkPlan}
 
 -- what `walk` prints: the lines of the answers of its steps, over the memory that the file describes
 abbrev pub Prints : WalkPlan → List ℕ → Type 0
-Prints plan lines = WritesLines plan.tables plan.root 1 plan.steps lines
+Prints plan lines = WritesLines plan.scheme plan.tables plan.root 1 plan.steps lines
 
 -- what `run` prints: the lines of the replies that are due to its steps, from the opening on
 abbrev pub PrintsReplies : RunPlan → List ℕ → Type 0

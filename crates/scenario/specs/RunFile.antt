@@ -4,12 +4,13 @@ use Rattle.std.specs.Option.{ok_or}
 use Rattle.std.specs.Str.{is_utf8}
 use Rattle.toml.specs.Data.{Members}
 use Rattle.toml.specs.Parse.{parse_document}
+use Rattle.pte.specs.declared.scheme.Scheme.{Scheme}
 use Rattle.spaces.specs.declared.configuration.Config.{Config}
 use Rattle.history.specs.declared.event.Event.{Event}
 use Rattle.scenario.specs.declared.plan.RunScenario.{RunScenario}
 use Rattle.scenario.specs.Faults.{Failure, not_toml, ◌>>=◌}
 use Rattle.scenario.specs.Keys.{few, known_only, texts_at}
-use Rattle.scenario.specs.Settings.{checked, config_at}
+use Rattle.scenario.specs.Settings.{checked, config_at, mode_at}
 use Rattle.scenario.specs.StepTexts.{events_in}
 
 -- what the harts begin with, and their steps in order
@@ -22,7 +23,10 @@ run_view s = record { config = s.config; events = s.events.items }
 
 abbrev pub run_keys : List (List ℕ)
 run_keys =
-    codes "harts" ∷ codes "window" ∷ codes "base" ∷ codes "capacity" ∷ codes "spares" ∷ codes "spaces" ∷ codes "steps" ∷ []
+    codes "harts" ∷ codes "window" ∷ codes "base" ∷ codes "capacity" ∷ codes "spares" ∷ codes "spaces" ∷ codes "steps" ∷ codes "mode" ∷ []
+
+abbrev pub in_scheme : Scheme → Config → Config
+in_scheme scheme config = record config { scheme = scheme }
 
 -- the whole, in the order of checking
 unfoldable pub run_plan_of : Members → Result RunPlan Failure
@@ -30,10 +34,11 @@ run_plan_of ms = do
   _ ← known_only run_keys ms
   config ← config_at ms
   texts ← texts_at (codes "steps") ms
-  _ ← checked config
+  scheme ← mode_at ms
+  _ ← checked (in_scheme scheme config)
   _ ← few texts
-  events ← events_in config.harts texts
-  Ok (record { config = config; events = events })
+  events ← events_in scheme config.harts texts
+  Ok (record { config = in_scheme scheme config; events = events })
 
 unfoldable pub run_scenario_of : List ℕ → Result RunPlan Failure
 run_scenario_of text = ok_or (parse_document text) not_toml >>= run_plan_of

@@ -2,6 +2,9 @@
 use Rattle.std.specs.Prelude.{ℕ, ℤ, pos, negsuc, ◌+◌, ◌^◌, ◌&&◌, ◌==◌, Bool, replicate, take, nat_lt, nat_le, codes, List, [], ◌∷◌, length, Option, Some, None, option_and_then, option_map, Result, Ok, Err, if◌then◌else◌}
 use Rattle.std.specs.List.{list_all}
 use Rattle.toml.specs.Data.{Data, as_str, as_integer, as_array, Members, get_member}
+use Rattle.std.specs.Str.{bytes_eq}
+use Rattle.pte.specs.declared.scheme.Scheme.{Scheme}
+use Rattle.pte.specs.declared.scheme.Scheme.TheVariants.{Sv39, Sv48}
 use Rattle.pte.specs.Entry.{ppn_bits}
 use Rattle.spaces.specs.declared.configuration.Config.{Config}
 use Rattle.spaces.specs.declared.configuration.Space.{Space}
@@ -10,7 +13,7 @@ use Rattle.spaces.specs.Limits.{asids_differ, max_capacity, max_frames, max_hart
 use Rattle.steps.specs.Num.{num_of}
 use Rattle.steps.specs.Words.{words_of}
 use Rattle.scenario.specs.Faults.{Failure, bad_layout, ◌>>=◌}
-use Rattle.scenario.specs.Keys.{below, each, listed, one_number, texts_of, value_or}
+use Rattle.scenario.specs.Keys.{below, each, listed, one_number, one_word, texts_of, value_or}
 
 -- ---- the values of the keys
 
@@ -24,6 +27,20 @@ whole_of d = option_and_then small (as_integer d)
 
 abbrev pub whole_at : List ℕ → ℕ → Members → Result ℕ Failure
 whole_at key default ms = value_or key default whole_of (get_member key ms)
+
+-- the scheme that a word names
+abbrev pub scheme_named : List ℕ → Option Scheme
+scheme_named word =
+    if bytes_eq word (codes "sv39") then Some Sv39
+    else if bytes_eq word (codes "sv48") then Some Sv48
+    else None
+
+-- the scheme of translation
+abbrev pub mode_of : Data → Option Scheme
+mode_of d = option_and_then (λ text. option_and_then scheme_named (one_word (words_of text))) (as_str d)
+
+abbrev pub mode_at : Members → Result Scheme Failure
+mode_at ms = value_or (codes "mode") Sv39 mode_of (get_member (codes "mode") ms)
 
 -- the PPN of the first table frame
 abbrev pub base_of : Data → Option ℕ
@@ -71,7 +88,7 @@ spaces_of d = option_and_then few_spaces (texts_of d)
 abbrev pub spaces_at : Members → Result (List Space) Failure
 spaces_at ms = value_or (codes "spaces") (space 0 1 ∷ []) spaces_of (get_member (codes "spaces") ms)
 
--- ---- the configuration, in the order of checking
+-- ---- the configuration, in the order of checking, but for the scheme, whose key comes after the steps
 
 unfoldable pub config_at : Members → Result Config Failure
 config_at ms = do
@@ -82,6 +99,7 @@ config_at ms = do
   spares ← spares_at harts ms
   spaces ← spaces_at ms
   Ok (record {
+    scheme = Sv39;
     harts = harts;
     spaces = record { items = spaces };
     window = window;

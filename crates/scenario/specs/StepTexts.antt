@@ -1,6 +1,7 @@
 -- The steps that the texts of a file write, or the first that is wrong.
 use Rattle.std.specs.Prelude.{◌≡◌, ℕ, ◌+◌, List, [], ◌∷◌, ◌++◌, length, map, Result, Ok, Err}
 use Rattle.std.specs.Option.{ok_or}
+use Rattle.pte.specs.declared.scheme.Scheme.{Scheme}
 use Rattle.history.specs.declared.event.Event.{Event}
 use Rattle.steps.specs.declared.fault.StepFault.{StepFault}
 use Rattle.steps.specs.declared.fault.StepFault.TheVariants.{NotStep}
@@ -26,9 +27,9 @@ walk_step_in text = ok_or (walk_step_of text) NotStep
 abbrev pub walk_steps_in : List (List ℕ) → Result (List WalkStep) Failure
 walk_steps_in texts = steps_from walk_step_in 1 texts
 
--- the steps of a file for `run`, for so many harts
-abbrev pub events_in : ℕ → List (List ℕ) → Result (List Event) Failure
-events_in harts texts = steps_from (step_among harts) 1 texts
+-- the steps of a file for `run`, in a scheme and for so many harts
+abbrev pub events_in : Scheme → ℕ → List (List ℕ) → Result (List Event) Failure
+events_in scheme harts texts = steps_from (step_among scheme harts) 1 texts
 
 -- each of the texts is read as the step in its place
 abbrev pub AreRead : {X : Type 0} → (List ℕ → Result X StepFault) → List (List ℕ) → List X → Type 0

@@ -5,6 +5,7 @@ use Rattle.std.specs.Str.{is_utf8}
 use Rattle.toml.specs.Data.{Data, as_str, Members, get_member}
 use Rattle.toml.specs.Parse.{parse_document}
 use Rattle.pte.specs.Address.{table_length}
+use Rattle.pte.specs.declared.scheme.Scheme.{Scheme}
 use Rattle.pte.specs.Entry.{ppn_bits}
 use Rattle.walk.specs.Leads.{Tables}
 use Rattle.scenario.specs.declared.frames.TableWord.{TableWord}
@@ -16,19 +17,21 @@ use Rattle.scenario.specs.Faults.{Failure, not_toml, wrong_key, ◌>>=◌}
 use Rattle.scenario.specs.Keys.{below, each, few, known_only, one_number, texts_at, value_or}
 use Rattle.scenario.specs.Limits.{most_frames}
 use Rattle.scenario.specs.Memory.{is_listed, word_at, word_in}
+use Rattle.scenario.specs.Settings.{mode_at}
 use Rattle.scenario.specs.StepTexts.{walk_steps_in}
 
--- a root, the words of the table frames, and the accesses that are made from the root
+-- a scheme, a root, the words of the table frames, and the accesses that are made from the root
 pub record WalkPlan : Type 0 where
+  pub scheme : Scheme
   pub root : ℕ
   pub tables : Tables
   pub steps : List WalkStep
 
 abbrev pub plan_view : WalkScenario → WalkPlan
-plan_view s = record { root = s.root; tables = word_at s.tables; steps = s.steps.items }
+plan_view s = record { scheme = s.scheme; root = s.root; tables = word_at s.tables; steps = s.steps.items }
 
 abbrev pub walk_keys : List (List ℕ)
-walk_keys = codes "root" ∷ codes "frames" ∷ codes "words" ∷ codes "steps" ∷ []
+walk_keys = codes "root" ∷ codes "frames" ∷ codes "words" ∷ codes "steps" ∷ codes "mode" ∷ []
 
 -- ---- the root and the frames
 
@@ -79,9 +82,10 @@ walk_plan_of ms = do
   is_frame ← frames_at ms
   tables ← tables_at is_frame ms
   texts ← texts_at (codes "steps") ms
+  scheme ← mode_at ms
   _ ← few texts
   steps ← walk_steps_in texts
-  Ok (record { root = root; tables = tables; steps = steps })
+  Ok (record { scheme = scheme; root = root; tables = tables; steps = steps })
 
 unfoldable pub walk_scenario_of : List ℕ → Result WalkPlan Failure
 walk_scenario_of text = ok_or (parse_document text) not_toml >>= walk_plan_of

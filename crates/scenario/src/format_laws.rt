@@ -1,4 +1,5 @@
 //! Laws of the formats: each call makes no step, and its clauses hold of the definitions alone.
+ghost use Rattle.pte.specs.declared.scheme.Scheme.{Scheme};
 ghost use Rattle.std.specs.Prelude.{◌≡◌, ◌↔◌, List, [], ℕ, Some, None, Ok, Err, codes, false, IsTrue};
 ghost use Rattle.steps.specs.declared.fault.StepFault.TheVariants.{NotStep};
 ghost use Rattle.scenario.specs.Command.{done, IsTold, no_memory, output_failed, refused, too_large, unreadable};
@@ -25,8 +26,8 @@ pub fn least_unknown_key()
 pub fn first_wrong_step()
     ensures walk { (texts : List (List ℕ)) (steps : List WalkStep) → walk_steps_in texts ≡ Ok steps ↔ AreRead walk_step_in texts steps }
     ensures walk_wrong { (texts : List (List ℕ)) (n : ℕ) (fault : StepFault) → walk_steps_in texts ≡ Err (wrong_step n fault) ↔ IsFirstWrong walk_step_in texts n fault }
-    ensures run { (harts : ℕ) (texts : List (List ℕ)) (events : List Event) → events_in harts texts ≡ Ok events ↔ AreRead (step_among harts) texts events }
-    ensures run_wrong { (harts : ℕ) (texts : List (List ℕ)) (n : ℕ) (fault : StepFault) → events_in harts texts ≡ Err (wrong_step n fault) ↔ IsFirstWrong (step_among harts) texts n fault }
+    ensures run { (scheme : Scheme) (harts : ℕ) (texts : List (List ℕ)) (events : List Event) → events_in scheme harts texts ≡ Ok events ↔ AreRead (step_among scheme harts) texts events }
+    ensures run_wrong { (scheme : Scheme) (harts : ℕ) (texts : List (List ℕ)) (n : ℕ) (fault : StepFault) → events_in scheme harts texts ≡ Err (wrong_step n fault) ↔ IsFirstWrong (step_among scheme harts) texts n fault }
 {}
 
 /// The test of a configuration's limits holds exactly where the configuration is within them.

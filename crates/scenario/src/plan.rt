@@ -5,6 +5,7 @@ ghost use Rattle.spaces.specs.Limits.{max_frames, MeetsLimits};
 
 use crate::frames::TableFrames;
 use history::Event;
+use pte::Scheme;
 use spaces::Config;
 use steps::WalkStep;
 
@@ -19,6 +20,7 @@ pub struct RunScenario {
 /// A scenario of `walk`, read and checked.
 #[derive(Debug, Drop)]
 pub struct WalkScenario {
+    pub scheme: Scheme,
     pub root: u64,
     pub tables: TableFrames,
     pub steps: Vec<WalkStep>,

@@ -11,24 +11,25 @@ use crate::document::{check_keys, document, texts_of_key};
 use crate::fault::Fault;
 use crate::limits::MOST_STEPS;
 use crate::plan::RunScenario;
-use crate::settings::{check_layout, config};
+use crate::settings::{check_layout, config, mode};
 use history::Event;
+use pte::Scheme;
 use std::alloc::Global;
 use steps::run_step_among;
 use toml::Table;
 
 /// The keys that `run` knows.
-const KEYS: [&str; 7] = [
-    "harts", "window", "base", "capacity", "spares", "spaces", "steps",
+const KEYS: [&str; 8] = [
+    "harts", "window", "base", "capacity", "spares", "spaces", "steps", "mode",
 ];
 
-fn events(alloc: Global, harts: u8, texts: &[&str]) -> Result<Vec<Event>, Fault>
+fn events(alloc: Global, scheme: Scheme, harts: u8, texts: &[&str]) -> Result<Vec<Event>, Fault>
     requires { length texts.now ≤ most_steps }
-    ensures { Gives (λ v. v.items) result (events_in harts (map (λ text. text.now) texts.now)) }
+    ensures { Gives (λ v. v.items) result (events_in scheme harts (map (λ text. text.now) texts.now)) }
 {
     let mut events = Vec::new(alloc);
     for (index, text) in texts.iter().enumerate() {
-        match run_step_among(harts, text) {
+        match run_step_among(scheme, harts, text) {
             Ok(event) => events.push(event)?,
             Err(fault) => return Err(Fault::Step(index as u32 + 1, fault)),
         }
@@ -42,13 +43,14 @@ fn scenario(alloc: Global, table: &Table) -> Result<RunScenario, Fault>
     ensures { Gives run_view result (run_plan_of (table_view table.now)) }
 {
     check_keys(alloc, table, &KEYS)?;
-    let config = config(alloc, table)?;
+    let mut config = config(alloc, table)?;
     let texts = texts_of_key(alloc, table, "steps")?;
+    config.scheme = mode(alloc, table)?;
     check_layout(&config)?;
     if texts.len() > MOST_STEPS {
         return Err(Fault::TooMany);
     }
-    let events = events(alloc, config.harts as u8, texts.as_slice())?;
+    let events = events(alloc, config.scheme, config.harts as u8, texts.as_slice())?;
     Ok(RunScenario { config, events })
 }
 

@@ -14,13 +14,14 @@ use crate::fault::Fault;
 use crate::frames::{Frames, TableFrames, TableWord};
 use crate::limits::{MOST_FRAMES, MOST_STEPS};
 use crate::plan::WalkScenario;
+use crate::settings::mode;
 use pte::{PPN_BITS, TABLE_LENGTH};
 use std::alloc::{AllocError, Global};
 use steps::{StepFault, WalkStep, next_word, num, walk_step};
 use toml::Table;
 
 /// The keys that `walk` knows.
-const KEYS: [&str; 4] = ["root", "frames", "words", "steps"];
+const KEYS: [&str; 5] = ["root", "frames", "words", "steps", "mode"];
 
 /// PPNs are below this.
 const PPN_LIMIT: u64 = 1 << PPN_BITS;
@@ -176,11 +177,13 @@ fn scenario(alloc: Global, table: &Table) -> Result<WalkScenario, Fault>
     let frames = frames(alloc, table)?;
     let tables = tables(alloc, table, frames)?;
     let texts = texts_of_key(alloc, table, "steps")?;
+    let scheme = mode(alloc, table)?;
     if texts.len() > MOST_STEPS {
         return Err(Fault::TooMany);
     }
     let steps = steps(alloc, texts.as_slice())?;
     Ok(WalkScenario {
+        scheme,
         root,
         tables,
         steps,

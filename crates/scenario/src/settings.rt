@@ -1,14 +1,16 @@
 //! The harts, the spaces and the table memory that the keys of a document ask for.
-ghost use Rattle.std.specs.Prelude.{◌≡◌, ◌≤◌, IfOk, OnOk, [], ◌∷◌, length, map, option_map};
+ghost use Rattle.std.specs.Prelude.{◌≡◌, ◌≤◌, IfOk, OnOk, [], ◌∷◌, length, map, option_and_then, option_map};
 ghost use Rattle.toml.specs.View.{table_view, view};
 ghost use Rattle.spaces.specs.Limits.{max_frames, MeetsLimits};
 ghost use Rattle.scenario.specs.Faults.{Gives};
-ghost use Rattle.scenario.specs.Keys.{each};
-ghost use Rattle.scenario.specs.Settings.{base_at, checked, config_at, default_spares, few_spaces, space, space_of, space_of_words, spaces_at, spaces_of, spares_at, spares_of, whole_at, whole_of, wholes_of};
+ghost use Rattle.steps.specs.Words.{words_of};
+ghost use Rattle.scenario.specs.Keys.{each, one_word};
+ghost use Rattle.scenario.specs.Settings.{base_at, checked, config_at, default_spares, few_spaces, mode_at, scheme_named, space, space_of, space_of_words, spaces_at, spaces_of, spares_at, spares_of, whole_at, whole_of, wholes_of};
 
 use crate::document::{key_fault, number, texts_in, value_at};
 use crate::fault::Fault;
 use arrayvec::ArrayVec;
+use pte::Scheme;
 use spaces::{Config, MAX_HARTS, MAX_SPACES, Space};
 use std::alloc::{AllocError, Global};
 use steps::{num, words};
@@ -51,6 +53,52 @@ fn base(alloc: Global, table: &Table) -> Result<u64, Fault>
     match number(alloc, text)? {
         Some(base) => Ok(base),
         None => Err(key_fault(alloc, "base")),
+    }
+}
+
+/// The scheme that a word names.
+fn scheme_named(word: &[u8]) -> Option<Scheme>
+    ensures { result ≡ scheme_named word.now }
+{
+    if word == b"sv39".as_slice() {
+        Some(Scheme::Sv39)
+    } else if word == b"sv48".as_slice() {
+        Some(Scheme::Sv48)
+    } else {
+        None
+    }
+}
+
+fn scheme_in(words: &[&[u8]]) -> Option<Scheme>
+    ensures { result ≡ option_and_then scheme_named (one_word (map (λ word. word.now) words.now)) }
+{
+    if words.len() != 1 {
+        return None;
+    }
+    scheme_named(words[0])
+}
+
+/// The scheme that a text of one word names.
+fn scheme(alloc: Global, text: &str) -> Result<Option<Scheme>, AllocError>
+    ensures { IfOk result (λ scheme. scheme ≡ option_and_then scheme_named (one_word (words_of text.now))) }
+{
+    let words = words(alloc, text)?;
+    Ok(scheme_in(words.as_slice()))
+}
+
+/// The scheme of translation that the keys of a document ask for.
+pub fn mode(alloc: Global, table: &Table) -> Result<Scheme, Fault>
+    ensures { Gives (λ scheme. scheme) result (mode_at (table_view table.now)) }
+{
+    let Some(value) = value_at(table, "mode") else {
+        return Ok(Scheme::Sv39);
+    };
+    let Some(text) = value.as_str() else {
+        return Err(key_fault(alloc, "mode"));
+    };
+    match scheme(alloc, text)? {
+        Some(scheme) => Ok(scheme),
+        None => Err(key_fault(alloc, "mode")),
     }
 }
 
@@ -182,7 +230,8 @@ fn spaces(alloc: Global, table: &Table) -> Result<ArrayVec<Space, MAX_SPACES>, F
     }
 }
 
-/// The configuration that the keys of a document ask for, within the limits or not.
+/// The configuration that the keys of a document ask for, within the limits or not, but for the scheme, whose key comes after
+/// the steps.
 #[tactic(auto, unfolding(crate::specs::Settings::config_at))]
 pub fn config(alloc: Global, table: &Table) -> Result<Config, Fault>
     ensures { Gives (λ config. config) result (config_at (table_view table.now)) }
@@ -194,6 +243,7 @@ pub fn config(alloc: Global, table: &Table) -> Result<Config, Fault>
     let spares = spares(alloc, table, harts)?;
     let spaces = spaces(alloc, table)?;
     Ok(Config {
+        scheme: Scheme::Sv39,
         harts,
         spaces,
         window,

@@ -33,6 +33,7 @@ pub fn walk_text<W: Write>(alloc: Global, text: &str, out: &mut W) -> Result<(),
     let scenario = read_walk(alloc, text)?;
     let text = walk_lines(
         alloc,
+        scenario.scheme,
         &scenario.tables,
         scenario.root,
         scenario.steps.as_slice(),

@@ -1,14 +1,13 @@
 -- An accepted edit writes on its page's path.
 use Rattle.std.proofs.Common.{◌≡◌, ℕ, suc, ◌+◌, ◌-◌, ◌<◌, ◌≤◌, ◌%◌, ◌^◌, ◌==◌, ◌||◌, not, cond, Bool, true, false, Option, Some, None, Result, Ok, Err, length, ap, sym, ◌∙◌, subst, refl, inl, inr, arith, IsSome}
 use Rattle.std.specs.Prelude.{slice_index, unwrap_or, nat_le}
-use Rattle.std.proofs.lemmas.Bool.{eqb-true, cases_lt}
+use Rattle.std.proofs.lemmas.Bool.{and_parts, eqb-true, cases_lt, leb-true}
 use Rattle.std.proofs.lemmas.Bool.Decides.{nat_tests}
 use Rattle.pte.specs.declared.flags.PteFlags.{PteFlags}
 use Rattle.pte.specs.declared.entry.Kind.{Kind}
 use Rattle.pte.specs.declared.entry.Kind.TheVariants as kinds
-use Rattle.pte.specs.declared.address.PageSize.{PageSize}
-use Rattle.pte.specs.declared.address.PageSize.TheVariants.{Kib4, Mib2, Gib1}
-use Rattle.pte.specs.Address.{Span, top_level, level_of, pages_of, vpn_of}
+use Rattle.pte.specs.Address.{IsPage, IsPageOf, Span, fits, is_canonical, top_level, level_of, pages_of, vpn_of}
+use Rattle.pte.proofs.Schemes.{fits-IsPageOf}
 use Rattle.pte.specs.Entry.{kind_of, is_no_leaf, leaf_word, ppn_bits, table_word}
 use Rattle.walk.specs.Leads.{Tables, word_at}
 use Rattle.spaces.specs.declared.places.Place.{Place}
@@ -20,7 +19,7 @@ use Rattle.spaces.specs.declared.faults.MapFault.{MapFault}
 use Rattle.spaces.specs.declared.faults.MapFault.TheVariants.{NotHome, WrongHalf, BadFlags, PpnTooLarge, Misaligned}
 use Rattle.spaces.specs.Layout.{Layout, HasPlace, home_of, root_ppn, first_window_slot}
 use Rattle.spaces.specs.Held.{IsLayout}
-use Rattle.spaces.specs.Edits.{Store, place_of, page_of, is_kernel, is_wrong_half, is_bad, is_wrong_global, is_misaligned, leaf_fault, wish_fault, path_root, page_word, upper_word, pointer_word, due_word, store_at, unless, wish_end, edit_of}
+use Rattle.spaces.specs.Edits.{Store, place_of, page_of, is_kernel, is_outside, is_wrong_half, is_bad, is_wrong_global, is_misaligned, leaf_fault, wish_fault, path_root, page_word, upper_word, pointer_word, due_word, store_at, unless, wish_end, edit_of}
 use Rattle.spaces.specs.Tree.{start_level, start_table, IsIn, table_on, IsEntryOf, IsTree}
 use Rattle.walk.specs.Pointers.{pointed, pointed_kind, table_below}
 use Rattle.spaces.specs.Accepted.{Accepted, IsFlags, Writes, adds_table, adds_leaf, removes_leaf, changes_leaf}
@@ -69,9 +68,18 @@ unfaulted l hart wish e =
       leaf = second.1;
     }
 
-within : (l : Layout) (place : Place) (page : Span) → is_wrong_half l place page ≡ false → IsIn l place page.base
-within l (Space s) page e = grind (arith, nat_tests)
-within l Kernel page e = grind (arith, nat_tests)
+pub within : (l : Layout) (place : Place) (page : Span) → is_wrong_half l place page ≡ false → IsIn l place page.base
+within l place page e = by_place place (or-false (not (fits l.scheme page)) (is_outside l place page) e).1
+  where
+    by_place : (place : Place) → is_outside l place page ≡ false → IsIn l place page.base
+    by_place (Space s) e = grind (arith, nat_tests)
+    by_place Kernel e = grind (arith, nat_tests)
+
+-- its page is one of the scheme
+pub fit-level : (l : Layout) (place : Place) (page : Span) → is_wrong_half l place page ≡ false → level_of page.size ≤ top_level l.scheme
+fit-level l place page e =
+    let fit = not-false (fits l.scheme page) (or-false (not (fits l.scheme page)) (is_outside l place page) e).0 in
+    leb-true _ _ (and_parts (nat_le (level_of page.size) (top_level l.scheme)) (is_canonical l.scheme page.base) fit).0
 
 flags-of : (place : Place) (flags : PteFlags) → is_bad place flags ≡ false → IsFlags place flags
 flags-of place flags e =
@@ -85,11 +93,8 @@ entry-zero old is e = subst (IsEntryOf old) e is
 entry-reserved : (old : ℕ) → IsEntryOf old (kind_of old) → kind_of old ≡ kinds.Reserved → ⊥
 entry-reserved old is e = subst (IsEntryOf old) e is
 
--- the levels of pages are those of the tree
-pub level-top : (size : PageSize) → level_of size ≤ top_level
-level-top Kib4 = omega arith
-level-top Mib2 = omega arith
-level-top Gib1 = omega arith
+pub fit-page : (l : Layout) (place : Place) (page : Span) → is_wrong_half l place page ≡ false → IsPage page → IsPageOf l.scheme page
+fit-page l place page e is = (fits-IsPageOf l.scheme page is).0 (not-false (fits l.scheme page) (or-false (not (fits l.scheme page)) (is_outside l place page) e).0)
 
 module _ (spare : Option ℕ) (level old : ℕ) (entry : IsEntryOf old (kind_of old)) where
   -- the new word at the page's level
@@ -171,9 +176,9 @@ module _ (wish : Wish) (spare : Option ℕ) (end : PathEnd) (new : ℕ) (due : d
 -- a table of a path from a root, as one of a path in the place
 pub record Depth (l : Layout) (words : Tables) (place : Place) (va : ℕ) (end : PathEnd) : Type 0 where
   pub depth : ℕ
-  pub deep : depth ≤ start_level place
+  pub deep : depth ≤ start_level l place
   pub on : table_on l words place va depth ≡ Some end.table
-  pub level : start_level place - depth ≡ end.level
+  pub level : start_level l place - depth ≡ end.level
 
 some-of : (o : Option ℕ) → IsSome o → (n : ℕ) × (o ≡ Some n)
 some-of (Some n) e = (n, refl)
@@ -185,41 +190,41 @@ module _ (l : Layout) (fits : IsLayout l) (words : Tables) (used : ℕ → ℕ) 
   home-there Kernel has = let h = fits.homes 0 0 fits.some_space in omega arith
 
   -- every root's slot of the window points to the window's table
-  pub window-points : (s va : ℕ) → s < length l.homes → IsIn l Kernel va → pointed (word_at words va top_level (root_ppn l s)) ≡ Some (start_table l Kernel va)
+  pub window-points : (s va : ℕ) → s < length l.homes → IsIn l Kernel va → pointed (word_at words va (top_level l.scheme) (root_ppn l s)) ≡ Some (start_table l Kernel va)
   window-points s va has in-window =
-      let slot = vpn-below va top_level in
-      let k : vpn_of va top_level - first_window_slot l < l.window = omega (arith, fits.window) in
-      let same : first_window_slot l + (vpn_of va top_level - first_window_slot l) ≡ vpn_of va top_level = omega (arith, fits.window) in
-      let word = (tree (slice_index l.homes s) (fits.homes s 0 has)).window s (vpn_of va top_level - first_window_slot l) has refl k in
+      let slot = vpn-below va (top_level l.scheme) in
+      let k : vpn_of va (top_level l.scheme) - first_window_slot l < l.window = omega (arith, fits.window) in
+      let same : first_window_slot l + (vpn_of va (top_level l.scheme) - first_window_slot l) ≡ vpn_of va (top_level l.scheme) = omega (arith, fits.window) in
+      let word = (tree (slice_index l.homes s) (fits.homes s 0 has)).window s (vpn_of va (top_level l.scheme) - first_window_slot l) has refl k in
       ap (λ i. pointed (words (root_ppn l s) i)) (sym same) ∙ ap pointed word ∙ pointed-table (start_table l Kernel va) true (omega (arith, fits.ppns_fit))
 
-  depth-on : (place : Place) (va lowest : ℕ) (end : PathEnd) → EndsOn words va lowest top_level (path_root l place) end → IsIn l place va → HasPlace l place
+  depth-on : (place : Place) (va lowest : ℕ) (end : PathEnd) → EndsOn words va lowest (top_level l.scheme) (path_root l place) end → IsIn l place va → HasPlace l place
       → ((q : ℕ) (g : Bool) → kind_of end.entry ≡ kinds.Table q g → ⊥) → Depth l words place va end
   depth-on (Space s) va lowest end ends in-half has no-pointer = record {
-    depth = top_level - end.level;
+    depth = top_level l.scheme - end.level;
     deep = omega arith;
     on = ends.on;
     level = omega (arith, ends.to);
   }
   depth-on Kernel va lowest end ends in-window has no-pointer =
-      elim (cases_lt end.level top_level) [
+      elim (cases_lt end.level (top_level l.scheme)) [
         | inl lower ↦
-            let steps : top_level - end.level ≡ suc (top_level - 1 - end.level) = omega arith in
+            let steps : top_level l.scheme - end.level ≡ suc (top_level l.scheme - 1 - end.level) = omega arith in
             record {
-              depth = top_level - 1 - end.level;
+              depth = top_level l.scheme - 1 - end.level;
               deep = omega arith;
               on =
-                  sym (table_below-front words va top_level (root_ppn l 0) (start_table l Kernel va) (top_level - 1 - end.level) (window-points 0 va fits.some_space in-window))
-                  ∙ ap (table_below words va top_level (root_ppn l 0)) (sym steps) ∙ ends.on;
+                  sym (table_below-front words va (top_level l.scheme) (root_ppn l 0) (start_table l Kernel va) (top_level l.scheme - 1 - end.level) (window-points 0 va fits.some_space in-window))
+                  ∙ ap (table_below words va (top_level l.scheme) (root_ppn l 0)) (sym steps) ∙ ends.on;
               level = omega arith;
             }
         | inr top ↦
-            let at : end.level ≡ top_level = omega (arith, ends.to) in
-            let steps : top_level - end.level ≡ 0 = omega arith in
-            let root : Some (root_ppn l 0) ≡ Some end.table = ap (table_below words va top_level (root_ppn l 0)) (sym steps) ∙ ends.on in
+            let at : end.level ≡ top_level l.scheme = omega (arith, ends.to) in
+            let steps : top_level l.scheme - end.level ≡ 0 = omega arith in
+            let root : Some (root_ppn l 0) ≡ Some end.table = ap (table_below words va (top_level l.scheme) (root_ppn l 0)) (sym steps) ∙ ends.on in
             let is : end.table ≡ root_ppn l 0 = cc in
             let points : pointed (word_at words va end.level end.table) ≡ Some (start_table l Kernel va) =
-            ap (λ k. pointed (word_at words va k end.table)) at ∙ ap (λ t. pointed (word_at words va top_level t)) is ∙ window-points 0 va fits.some_space in-window
+            ap (λ k. pointed (word_at words va k end.table)) at ∙ ap (λ t. pointed (word_at words va (top_level l.scheme) t)) is ∙ window-points 0 va fits.some_space in-window
             in
             absurd (pointed-no (word_at words va end.level end.table) (start_table l Kernel va) points (λ q g k. no-pointer q g (ap kind_of ends.entry ∙ k)))
       ]
@@ -238,9 +243,9 @@ module _ (l : Layout) (fits : IsLayout l) (words : Tables) (used : ℕ → ℕ) 
       → Stored hart (page_of wish).base (wish_end l words wish) (due_word wish spare (wish_end l words wish)) store → Accepted l words spare hart wish store
   accepted-end spare hart wish store has unf stored =
       let end : PathEnd = wish_end l words wish in
-      let lowest = level-top (page_of wish).size in
-      let ends : EndsOn words (page_of wish).base (level_of (page_of wish).size) top_level (path_root l (place_of wish)) (wish_end l words wish) =
-      ends-on words (page_of wish).base (level_of (page_of wish).size) (top_level - level_of (page_of wish).size) top_level (path_root l (place_of wish)) (omega arith)
+      let lowest = fit-level l (place_of wish) (page_of wish) unf.half in
+      let ends : EndsOn words (page_of wish).base (level_of (page_of wish).size) (top_level l.scheme) (path_root l (place_of wish)) (wish_end l words wish) =
+      ends-on words (page_of wish).base (level_of (page_of wish).size) (top_level l.scheme - level_of (page_of wish).size) (top_level l.scheme) (path_root l (place_of wish)) (omega arith)
       in
       let in-half = within l (place_of wish) (page_of wish) unf.half in
       let free = no-table wish spare (wish_end l words wish) stored.new stored.due ends.stops ends.from in
@@ -274,3 +279,8 @@ module _ (l : Layout) (fits : IsLayout l) (words : Tables) (used : ℕ → ℕ) 
       let parts = unless-ok (wish_fault l hart wish) _ store e in
       accepted-end spare hart wish store has (unfaulted l hart wish parts.0)
       (store_at-ok hart (page_of wish).base (wish_end l words wish) (due_word wish spare (wish_end l words wish)) store parts.1)
+
+-- the page of an edit that is due is one of the scheme
+pub edit-fits : (l : Layout) (words : Tables) (spare : Option ℕ) (hart : ℕ) (wish : Wish) (store : Store) → edit_of l words spare hart wish ≡ Ok store → IsPage (page_of wish) → IsPageOf l.scheme (page_of wish)
+unfolding edit_of
+edit-fits l words spare hart wish store e is = fit-page l (place_of wish) (page_of wish) (unfaulted l hart wish (unless-ok (wish_fault l hart wish) _ store e).0).half is

@@ -50,7 +50,7 @@ module _ (m : Held) (held : IsMemory m) (store : Store) (due : IsDue m store) wh
   pub word-there : is_word m.layout store.ppn store.index ≡ true
   word-there =
       let on = there m.layout held.layout (words_of m) (λ h. slice_index m.used h) held.tree due.wish due.has store at-home in
-      let vpn = vpn-below (page_of due.wish).base (start_level (place_of due.wish) - at-home.depth) in
+      let vpn = vpn-below (page_of due.wish).base (start_level m.layout (place_of due.wish) - at-home.depth) in
       word-is m.layout (home_of m.layout (place_of due.wish)) store.ppn store.index on.home (omega (arith, at-home.index))
 
   pub place-there : InMemory m.layout store.ppn store.index

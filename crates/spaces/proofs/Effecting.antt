@@ -3,7 +3,7 @@ use Rattle.std.proofs.Common.{◌≡◌, ℕ, zero, suc, ◌+◌, ◌-◌, ◌<�
 use Rattle.std.proofs.lemmas.Bool.{cases_lt, cases_order}
 use Rattle.pte.specs.declared.flags.PteFlags.{PteFlags}
 use Rattle.pte.specs.declared.entry.Kind.TheVariants as kinds
-use Rattle.pte.specs.Address.{IsCanonical, IsPage, top_level, level_of, level_pages, vpn_of}
+use Rattle.pte.specs.Address.{IsCanonical, IsPageOf, top_level, level_of, level_pages, vpn_of}
 use Rattle.pte.specs.Entry.{kind_of}
 use Rattle.walk.specs.Leads.{Tables, word_at}
 use Rattle.walk.specs.Maps.{Maps, page_number}
@@ -22,7 +22,7 @@ use Rattle.spaces.proofs.Homes.{home-unique}
 use Rattle.spaces.proofs.Paths.{above, on, some-same, paths-agree, table_below-like, SamePath, vpn-below}
 use Rattle.spaces.proofs.Stored.{is-word, stored-here, stored-there, pointed-stored}
 use Rattle.spaces.proofs.Trees.{IsPlace, kind-zero, pointed-zero, table_on-pointer, table_on-kept, fresh-empty}
-use Rattle.spaces.proofs.Accepting.{home-there, level-top}
+use Rattle.spaces.proofs.Accepting.{home-there}
 use Rattle.spaces.proofs.Keeping.{IsLeafStore, IsPointerStore, there, reaches, keeps-tree, is-place, high}
 use Rattle.walk.proofs.Pages.{same_vpn}
 use Rattle.spaces.proofs.Numbers.{same-page, part-of, of-part, place-of-part, canonical-part, number-part}
@@ -52,31 +52,31 @@ one-place-in l fits (Space a) Kernel s va p q within within' = absurd (omega (ar
 one-place-in l fits Kernel (Space b) s va p q within within' = absurd (omega (arith, fits.window))
 one-place-in l fits Kernel Kernel s va p q within within' = refl
 
-module _ (l : Layout) (fits : IsLayout l) (words : Tables) (used : ℕ → ℕ) (tree : IsTree l words used) (wish : Wish) (has : HasPlace l (place_of wish)) (is-page : IsPage (page_of wish))
+module _ (l : Layout) (fits : IsLayout l) (words : Tables) (used : ℕ → ℕ) (tree : IsTree l words used) (wish : Wish) (has : HasPlace l (place_of wish)) (is-page : IsPageOf l.scheme (page_of wish))
     (store : Store) (acc : Accepted l words (spare_after l (home_of l (place_of wish)) (used (home_of l (place_of wish)))) (home_of l (place_of wish)) wish store) where
   new-tree : IsTree l (words_after words store) (used_by_all used store)
   new-tree = keeps-tree l fits words used tree wish has store acc
 
   -- a path that reaches the word is the page's, also if it is of another home
   reaches-any : (place : Place) (va n : ℕ) → HasPlace l place → IsIn l place va → table_on l words place va n ≡ Some store.ppn
-      → SamePath place (place_of wish) va (page_of wish).base n acc.depth
+      → SamePath l place (place_of wish) va (page_of wish).base n acc.depth
   reaches-any place va n has' within e =
       let here = there l fits words used tree wish has store acc in
       let other = on l fits words _ _ (tree _ (home-there l fits words used tree place has')) place va n store.ppn has' refl within e in
       reaches l fits words used tree wish has store acc place va n has' (home-unique l _ _ store.ppn other.home here.home) within e
 
   -- where the word stands at the page's level
-  module _ (at-level : start_level (place_of wish) - acc.depth ≡ level_of (page_of wish).size) where
+  module _ (at-level : start_level l (place_of wish) - acc.depth ≡ level_of (page_of wish).size) where
     -- a path to that word is about the page
-    about : (s va level t number : ℕ) (place : Place) → HangsBelow place s → HasPlace l place → IsIn l place va → level ≤ start_level place
-        → table_on l words place va (start_level place - level) ≡ Some t → IsCanonical va → page_number va ≡ number
+    about : (s va level t number : ℕ) (place : Place) → HangsBelow place s → HasPlace l place → IsIn l place va → level ≤ start_level l place
+        → table_on l words place va (start_level l place - level) ≡ Some t → IsCanonical l.scheme va → page_number va ≡ number
         → store.ppn ≡ t → store.index ≡ vpn_of va level
         → IsAbout (place_of wish) (page_of wish) s number × (level ≡ level_of (page_of wish).size) × (place ≡ place_of wish)
     about s va level t number place hangs has' within low on-path canonical of-page same-table same-index =
-        let path = reaches-any place va (start_level place - level) has' within (on-path ∙ ap Some (sym same-table)) in
-        let levels : start_level place ≡ start_level (place_of wish) = ap start_level path.same_place in
+        let path = reaches-any place va (start_level l place - level) has' within (on-path ∙ ap Some (sym same-table)) in
+        let levels : start_level l place ≡ start_level l (place_of wish) = ap (start_level l) path.same_place in
         let at : level ≡ level_of (page_of wish).size = omega (arith, path.same_depth, acc.deep) in
-        let vpns : (j : ℕ) → level_of (page_of wish).size ≤ j → j ≤ top_level → vpn_of va j ≡ vpn_of (page_of wish).base j =
+        let vpns : (j : ℕ) → level_of (page_of wish).size ≤ j → j ≤ top_level l.scheme → vpn_of va j ≡ vpn_of (page_of wish).base j =
         λ j from to. elim (cases_lt (level_of (page_of wish).size) j) [
           | inl further ↦ path.same_vpns j (omega arith) to
           | inr last ↦
@@ -86,7 +86,7 @@ module _ (l : Layout) (fits : IsLayout l) (words : Tables) (used : ℕ → ℕ) 
         ]
         in
         let part = part-of (page_of wish).base (page_of wish).size va number is-page.aligned of-page
-        (same-page va (page_of wish).base (page_of wish).size canonical is-page.canonical vpns)
+        (same-page l.scheme va (page_of wish).base (page_of wish).size is-page.level canonical is-page.canonical vpns)
         in
         ((subst (λ p. HangsBelow p s) path.same_place hangs, part), at, path.same_place)
 
@@ -96,41 +96,41 @@ module _ (l : Layout) (fits : IsLayout l) (words : Tables) (used : ℕ → ℕ) 
     same-path-in s va number of-page part =
         let quotient = of-part (page_of wish).base (page_of wish).size va number is-page.aligned of-page part in
         let vpns : (j : ℕ) → level_of (page_of wish).size ≤ j → vpn_of va j ≡ vpn_of (page_of wish).base j = λ j from. same_vpn va (page_of wish).base (level_of (page_of wish).size) j from quotient in
-        let top = vpns top_level (level-top (page_of wish).size) in (
+        let top = vpns (top_level l.scheme) is-page.level in (
           paths-agree l fits words (place_of wish) va (page_of wish).base acc.depth acc.deep (start-top (place_of wish)) (λ j more less. vpns j (omega arith)) (start-same (place_of wish) va (page_of wish).base top) ∙ acc.on,
           acc.index ∙ ap (vpn_of (page_of wish).base) at-level ∙ sym (vpns (level_of (page_of wish).size) (omega arith)),
           in-same (place_of wish) va (page_of wish).base top acc.within,
         )
       where
-        start-top : (place : Place) → start_level place ≤ top_level
+        start-top : (place : Place) → start_level l place ≤ top_level l.scheme
         start-top (Space s) = omega arith
         start-top Kernel = omega arith
 
-        start-same : (place : Place) (a b : ℕ) → vpn_of a top_level ≡ vpn_of b top_level → start_table l place a ≡ start_table l place b
+        start-same : (place : Place) (a b : ℕ) → vpn_of a (top_level l.scheme) ≡ vpn_of b (top_level l.scheme) → start_table l place a ≡ start_table l place b
         start-same (Space s) a b e = refl
         start-same Kernel a b e = ap (λ v. l.base + (v - first_window_slot l)) e
 
-        in-same : (place : Place) (a b : ℕ) → vpn_of a top_level ≡ vpn_of b top_level → IsIn l place b → IsIn l place a
+        in-same : (place : Place) (a b : ℕ) → vpn_of a (top_level l.scheme) ≡ vpn_of b (top_level l.scheme) → IsIn l place b → IsIn l place a
         in-same (Space s) a b e h = subst (λ v. v < user_slots) (sym e) h
         in-same Kernel a b e h = subst (λ v. first_window_slot l ≤ v) (sym e) h
 
     module _ (leaf-store : IsLeafStore acc.old store.word) where
       same-tables : (place : Place) (va n : ℕ) → table_on l (words_after words store) place va n ≡ table_on l words place va n
       same-tables place va n =
-          table_below-like words (words_after words store) va (start_level place) (start_table l place va) n
+          table_below-like words (words_after words store) va (start_level l place) (start_table l place va) n
           (pointed-stored words store.ppn store.index store.word (leaf-store.now ∙ sym (ap pointed acc.word ∙ leaf-store.was)))
 
       -- a leaf elsewhere is in both
       new-old : (s va level t entry leaf : ℕ) (flags : PteFlags) → (store.ppn ≡ t → store.index ≡ vpn_of va level → ⊥)
           → LeafOn l (words_after words store) s va level t entry leaf flags → LeafOn l words s va level t entry leaf flags
       new-old s va level t entry leaf flags apart o =
-          leaf-carried l (words_after words store) words s va level t entry leaf flags o (sym (same-tables o.place va (start_level o.place - level)))
+          leaf-carried l (words_after words store) words s va level t entry leaf flags o (sym (same-tables o.place va (start_level l o.place - level)))
           (sym (stored-there words store.ppn store.index store.word t (vpn_of va level) apart))
 
       old-new : (s va level t entry leaf : ℕ) (flags : PteFlags) → (store.ppn ≡ t → store.index ≡ vpn_of va level → ⊥)
           → LeafOn l words s va level t entry leaf flags → LeafOn l (words_after words store) s va level t entry leaf flags
       old-new s va level t entry leaf flags apart o =
-          leaf-carried l words (words_after words store) s va level t entry leaf flags o (same-tables o.place va (start_level o.place - level))
+          leaf-carried l words (words_after words store) s va level t entry leaf flags o (same-tables o.place va (start_level l o.place - level))
           (stored-there words store.ppn store.index store.word t (vpn_of va level) apart)
 
       -- a leaf of the page in the old words is the one in that word
@@ -139,25 +139,25 @@ module _ (l : Layout) (fits : IsLayout l) (words : Tables) (used : ℕ → ℕ) 
       the-word s va level t entry leaf number flags o of-page is-about =
           let inside = same-path-in s va number of-page is-about.1 in
           let same-place : o.place ≡ place_of wish = one-place-in l fits o.place (place_of wish) s va o.hangs is-about.0 o.within inside.2 in
-          let path : table_on l words (place_of wish) va (start_level (place_of wish) - level) ≡ Some t = subst (λ p. table_on l words p va (start_level p - level) ≡ Some t) same-place o.on in
-          let low : level ≤ start_level (place_of wish) = subst (λ p. level ≤ start_level p) same-place o.low in
-          let back : start_level (place_of wish) - (start_level (place_of wish) - level) ≡ level = omega arith in
-          let leaf-points : pointed (word_at words va (start_level (place_of wish) - (start_level (place_of wish) - level)) t) ≡ None =
+          let path : table_on l words (place_of wish) va (start_level l (place_of wish) - level) ≡ Some t = subst (λ p. table_on l words p va (start_level l p - level) ≡ Some t) same-place o.on in
+          let low : level ≤ start_level l (place_of wish) = subst (λ p. level ≤ start_level l p) same-place o.low in
+          let back : start_level l (place_of wish) - (start_level l (place_of wish) - level) ≡ level = omega arith in
+          let leaf-points : pointed (word_at words va (start_level l (place_of wish) - (start_level l (place_of wish) - level)) t) ≡ None =
           ap (λ k. pointed (word_at words va k t)) back ∙ ap pointed o.word ∙ ap pointed_kind o.kind
           in
-          let word-points : pointed (word_at words va (start_level (place_of wish) - acc.depth) store.ppn) ≡ None =
+          let word-points : pointed (word_at words va (start_level l (place_of wish) - acc.depth) store.ppn) ≡ None =
           ap (λ k. pointed (word_at words va k store.ppn)) at-level ∙ ap (λ i. pointed (words store.ppn i)) (sym inside.1) ∙ ap pointed acc.word ∙ leaf-store.was
           in
-          elim (cases_order acc.depth (start_level (place_of wish) - level)) [
+          elim (cases_order acc.depth (start_level l (place_of wish) - level)) [
             | inl same ↦
                 let table : store.ppn ≡ t = some-same _ _ (sym inside.0 ∙ ap (table_on l words (place_of wish) va) same ∙ path) in
                 let at : level ≡ level_of (page_of wish).size = omega (arith, acc.deep) in
                 (table, inside.1 ∙ ap (vpn_of va) (sym at))
             | inr apart ↦ elim apart [
               | inl less ↦
-                  absurd (ends words va (start_level (place_of wish)) (start_table l (place_of wish) va) (start_level (place_of wish) - level) acc.depth store.ppn t less inside.0 word-points path)
+                  absurd (ends words va (start_level l (place_of wish)) (start_table l (place_of wish) va) (start_level l (place_of wish) - level) acc.depth store.ppn t less inside.0 word-points path)
               | inr more ↦
-                  absurd (ends words va (start_level (place_of wish)) (start_table l (place_of wish) va) acc.depth (start_level (place_of wish) - level) t store.ppn more path leaf-points inside.0)
+                  absurd (ends words va (start_level l (place_of wish)) (start_table l (place_of wish) va) acc.depth (start_level l (place_of wish) - level) t store.ppn more path leaf-points inside.0)
             ]
           ]
 
@@ -166,14 +166,14 @@ module _ (l : Layout) (fits : IsLayout l) (words : Tables) (used : ℕ → ℕ) 
           → entry ≡ store.word → kind_of entry ≡ kinds.Leaf leaf flags → LeafOn l (words_after words store) s va (level_of (page_of wish).size) store.ppn entry leaf flags
       leaf-here s va number entry leaf flags of-page is-about is kind =
           let inside = same-path-in s va number of-page is-about.1 in
-          let depth : acc.depth ≡ start_level (place_of wish) - level_of (page_of wish).size = omega (arith, acc.deep) in
+          let depth : acc.depth ≡ start_level l (place_of wish) - level_of (page_of wish).size = omega (arith, acc.deep) in
           record {
             place = place_of wish;
             hangs = is-about.0;
             has = has;
             within = inside.2;
             low = omega (arith, acc.deep);
-            on = same-tables (place_of wish) va (start_level (place_of wish) - level_of (page_of wish).size) ∙ ap (table_on l words (place_of wish) va) (sym depth) ∙ inside.0;
+            on = same-tables (place_of wish) va (start_level l (place_of wish) - level_of (page_of wish).size) ∙ ap (table_on l words (place_of wish) va) (sym depth) ∙ inside.0;
             word = stored-here words store.ppn store.index store.word store.ppn (vpn_of va (level_of (page_of wish).size)) refl inside.1 ∙ ap Some (sym is);
             kind = kind;
           }
@@ -188,8 +188,8 @@ module _ (l : Layout) (fits : IsLayout l) (words : Tables) (used : ℕ → ℕ) 
       entry-was s va level t entry leaf flags o same-table same-index =
           some-same _ _ (sym o.word ∙ ap (λ u. word_at words va level u) (sym same-table) ∙ ap (words store.ppn) (sym same-index) ∙ acc.word)
 
-      on-old : (s va level t entry leaf : ℕ) (flags : PteFlags) (o : LeafOn l (words_after words store) s va level t entry leaf flags) → table_on l words o.place va (start_level o.place - level) ≡ Some t
-      on-old s va level t entry leaf flags o = sym (same-tables o.place va (start_level o.place - level)) ∙ o.on
+      on-old : (s va level t entry leaf : ℕ) (flags : PteFlags) (o : LeafOn l (words_after words store) s va level t entry leaf flags) → table_on l words o.place va (start_level l o.place - level) ≡ Some t
+      on-old s va level t entry leaf flags o = sym (same-tables o.place va (start_level l o.place - level)) ∙ o.on
 
       -- a leaf in place of 0
       pub adds-page : (first : ℕ) (fl : PteFlags) → acc.old ≡ 0 → kind_of store.word ≡ kinds.Leaf first (seven fl) → first % level_pages (level_of (page_of wish).size) ≡ 0
@@ -197,8 +197,8 @@ module _ (l : Layout) (fits : IsLayout l) (words : Tables) (used : ℕ → ℕ) 
       unfolding new-old old-new leaf-here
       adds-page first fl zero-old kind aligned s number ppn f global root = (forward, backward)
         where
-          forward : Maps (words_after words store) (root_ppn l s) number ppn f global
-              → Maps words (root_ppn l s) number ppn f global
+          forward : Maps l.scheme (words_after words store) (root_ppn l s) number ppn f global
+              → Maps l.scheme words (root_ppn l s) number ppn f global
               ⊎ (IsAbout (place_of wish) (page_of wish) s number × (ppn ≡ first + (number - page_number (page_of wish).base)) × (f ≡ seven fl) × (global ≡ is_kernel (place_of wish)))
           forward mapped =
               let m = member-of l fits (words_after words store) (used_by_all used store) new-tree s number ppn f global root mapped in
@@ -217,9 +217,9 @@ module _ (l : Layout) (fits : IsLayout l) (words : Tables) (used : ℕ → ℕ) 
                     inl (maps-of l fits words used tree s number ppn f global root (moved l (words_after words store) words s number ppn f global m (new-old s m.va m.level m.table m.entry m.leaf f apart m.on) refl))
               ]
 
-          backward : Maps words (root_ppn l s) number ppn f global
+          backward : Maps l.scheme words (root_ppn l s) number ppn f global
               ⊎ (IsAbout (place_of wish) (page_of wish) s number × (ppn ≡ first + (number - page_number (page_of wish).base)) × (f ≡ seven fl) × (global ≡ is_kernel (place_of wish)))
-              → Maps (words_after words store) (root_ppn l s) number ppn f global
+              → Maps l.scheme (words_after words store) (root_ppn l s) number ppn f global
           backward (inl mapped) =
               let m = member-of l fits words used tree s number ppn f global root mapped in
               let apart : store.ppn ≡ m.table → store.index ≡ vpn_of m.va m.level → ⊥ = λ p q.
@@ -236,7 +236,7 @@ module _ (l : Layout) (fits : IsLayout l) (words : Tables) (used : ℕ → ℕ) 
                 table = store.ppn;
                 entry = store.word;
                 leaf = first;
-                canonical = canonical-part (page_of wish).base (page_of wish).size number is-page.canonical is-page.aligned new.0.1;
+                canonical = canonical-part l.scheme (page_of wish).base (page_of wish).size number is-page.level is-page.canonical is-page.aligned new.0.1;
                 of_page = number-part number;
                 on = leaf-here s (number * 4096) number store.word first f (number-part number) new.0 refl (kind ∙ ap (kinds.Leaf first) (sym new.2));
                 aligned = aligned;
@@ -249,7 +249,7 @@ module _ (l : Layout) (fits : IsLayout l) (words : Tables) (used : ℕ → ℕ) 
       unfolding new-old old-new
       removes-page zero-new s number ppn f global root = (forward, backward)
         where
-          forward : Maps (words_after words store) (root_ppn l s) number ppn f global → Maps words (root_ppn l s) number ppn f global × (IsAbout (place_of wish) (page_of wish) s number → ⊥)
+          forward : Maps l.scheme (words_after words store) (root_ppn l s) number ppn f global → Maps l.scheme words (root_ppn l s) number ppn f global × (IsAbout (place_of wish) (page_of wish) s number → ⊥)
           forward mapped =
               let m = member-of l fits (words_after words store) (used_by_all used store) new-tree s number ppn f global root mapped in
               let apart : store.ppn ≡ m.table → store.index ≡ vpn_of m.va m.level → ⊥ = λ p q.
@@ -262,7 +262,7 @@ module _ (l : Layout) (fits : IsLayout l) (words : Tables) (used : ℕ → ℕ) 
                 (λ is-about. let same = the-word s m.va m.level m.table m.entry m.leaf number f old m.of_page is-about in apart same.0 same.1),
               )
 
-          backward : Maps words (root_ppn l s) number ppn f global × (IsAbout (place_of wish) (page_of wish) s number → ⊥) → Maps (words_after words store) (root_ppn l s) number ppn f global
+          backward : Maps l.scheme words (root_ppn l s) number ppn f global × (IsAbout (place_of wish) (page_of wish) s number → ⊥) → Maps l.scheme (words_after words store) (root_ppn l s) number ppn f global
           backward (mapped, not-about) =
               let m = member-of l fits words used tree s number ppn f global root mapped in
               let apart : store.ppn ≡ m.table → store.index ≡ vpn_of m.va m.level → ⊥ = λ p q.
@@ -276,9 +276,9 @@ module _ (l : Layout) (fits : IsLayout l) (words : Tables) (used : ℕ → ℕ) 
       unfolding new-old old-new leaf-here
       changes-flags q was fl kind-was kind s number ppn f global root = (forward, backward)
         where
-          forward : Maps (words_after words store) (root_ppn l s) number ppn f global
-              → (Maps words (root_ppn l s) number ppn f global × (IsAbout (place_of wish) (page_of wish) s number → ⊥))
-              ⊎ (IsAbout (place_of wish) (page_of wish) s number × (f ≡ seven fl) × ((w : PteFlags) × Maps words (root_ppn l s) number ppn w global))
+          forward : Maps l.scheme (words_after words store) (root_ppn l s) number ppn f global
+              → (Maps l.scheme words (root_ppn l s) number ppn f global × (IsAbout (place_of wish) (page_of wish) s number → ⊥))
+              ⊎ (IsAbout (place_of wish) (page_of wish) s number × (f ≡ seven fl) × ((w : PteFlags) × Maps l.scheme words (root_ppn l s) number ppn w global))
           forward mapped =
               let m = member-of l fits (words_after words store) (used_by_all used store) new-tree s number ppn f global root mapped in
               elim (is-word store.ppn store.index m.table (vpn_of m.va m.level)) [
@@ -332,9 +332,9 @@ module _ (l : Layout) (fits : IsLayout l) (words : Tables) (used : ℕ → ℕ) 
                     )
               ]
 
-          backward : (Maps words (root_ppn l s) number ppn f global × (IsAbout (place_of wish) (page_of wish) s number → ⊥))
-              ⊎ (IsAbout (place_of wish) (page_of wish) s number × (f ≡ seven fl) × ((w : PteFlags) × Maps words (root_ppn l s) number ppn w global))
-              → Maps (words_after words store) (root_ppn l s) number ppn f global
+          backward : (Maps l.scheme words (root_ppn l s) number ppn f global × (IsAbout (place_of wish) (page_of wish) s number → ⊥))
+              ⊎ (IsAbout (place_of wish) (page_of wish) s number × (f ≡ seven fl) × ((w : PteFlags) × Maps l.scheme words (root_ppn l s) number ppn w global))
+              → Maps l.scheme (words_after words store) (root_ppn l s) number ppn f global
           backward (inl (mapped, not-about)) =
               let m = member-of l fits words used tree s number ppn f global root mapped in
               let apart : store.ppn ≡ m.table → store.index ≡ vpn_of m.va m.level → ⊥ = λ p q.
@@ -364,7 +364,7 @@ module _ (l : Layout) (fits : IsLayout l) (words : Tables) (used : ℕ → ℕ) 
               })
 
   -- a pointer in place of 0
-  pub same-maps : IsPointerStore l (home_of l (place_of wish)) (used (home_of l (place_of wish))) (start_level (place_of wish) - acc.depth) acc.old store.word → SameMaps l words (words_after words store)
+  pub same-maps : IsPointerStore l (home_of l (place_of wish)) (used (home_of l (place_of wish))) (start_level l (place_of wish) - acc.depth) acc.old store.word → SameMaps l words (words_after words store)
   same-maps p s number ppn f global root = (forward, backward)
     where
       home-tree : IsHome l words (home_of l (place_of wish)) (used (home_of l (place_of wish)))
@@ -374,13 +374,13 @@ module _ (l : Layout) (fits : IsLayout l) (words : Tables) (used : ℕ → ℕ) 
       place-is = is-place l fits words used tree wish has store acc (ap (λ w. pointed (Some w)) p.was ∙ pointed-zero) p.entry
 
       up : (place : Place) (va n : ℕ) → HasPlace l place → home_of l place ≡ home_of l (place_of wish) → IsIn l place va → table_on l words place va n ≡ Some store.ppn
-          → vpn_of va (start_level place - n) ≡ store.index → n < start_level place
+          → vpn_of va (start_level l place - n) ≡ store.index → n < start_level l place
       up = high l fits words used tree wish has store acc p.high
 
-      forward : Maps (words_after words store) (root_ppn l s) number ppn f global → Maps words (root_ppn l s) number ppn f global
+      forward : Maps l.scheme (words_after words store) (root_ppn l s) number ppn f global → Maps l.scheme words (root_ppn l s) number ppn f global
       forward mapped =
           let m = member-of l fits (words_after words store) (used_by_all used store) new-tree s number ppn f global root mapped in
-          elim (table_on-pointer l fits words _ _ home-tree store.ppn store.index store.word place-is p.room p.now up m.on.place m.va (start_level m.on.place - m.level) m.table m.on.on) [
+          elim (table_on-pointer l fits words _ _ home-tree store.ppn store.index store.word place-is p.room p.now up m.on.place m.va (start_level l m.on.place - m.level) m.table m.on.on) [
             | inr fresh ↦
                 let empty : Some m.entry ≡ Some 0 =
                 sym m.on.word ∙ ap (λ u. word_at (words_after words store) m.va m.level u) fresh
@@ -405,7 +405,7 @@ module _ (l : Layout) (fits : IsLayout l) (words : Tables) (used : ℕ → ℕ) 
                 }) refl)
           ]
 
-      backward : Maps words (root_ppn l s) number ppn f global → Maps (words_after words store) (root_ppn l s) number ppn f global
+      backward : Maps l.scheme words (root_ppn l s) number ppn f global → Maps l.scheme (words_after words store) (root_ppn l s) number ppn f global
       backward mapped =
           let m = member-of l fits words used tree s number ppn f global root mapped in
           let apart : store.ppn ≡ m.table → store.index ≡ vpn_of m.va m.level → ⊥ = λ a b.
@@ -419,7 +419,7 @@ module _ (l : Layout) (fits : IsLayout l) (words : Tables) (used : ℕ → ℕ) 
             has = m.on.has;
             within = m.on.within;
             low = m.on.low;
-            on = table_on-kept l fits words _ _ home-tree store.ppn store.index store.word place-is p.room p.now up m.on.place m.va (start_level m.on.place - m.level) m.table m.on.on;
+            on = table_on-kept l fits words _ _ home-tree store.ppn store.index store.word place-is p.room p.now up m.on.place m.va (start_level l m.on.place - m.level) m.table m.on.on;
             word = stored-there words store.ppn store.index store.word m.table (vpn_of m.va m.level) apart ∙ m.on.word;
             kind = m.on.kind;
           }) refl)

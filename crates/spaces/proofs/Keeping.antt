@@ -113,7 +113,7 @@ module _ (l : Layout) (fits : IsLayout l) (words : Tables) (used : ℕ → ℕ) 
 
   -- a path of the same home that reaches the word is the page's
   pub reaches : (place : Place) (va n : ℕ) → HasPlace l place → home_of l place ≡ home_of l (place_of wish) → IsIn l place va → table_on l words place va n ≡ Some store.ppn
-      → SamePath place (place_of wish) va (page_of wish).base n acc.depth
+      → SamePath l place (place_of wish) va (page_of wish).base n acc.depth
   reaches place va n has' at within e =
       same-path l fits words _ _ (tree _ (home-there l fits words used tree (place_of wish) has)) place (place_of wish) va (page_of wish).base n acc.depth store.ppn has' has at refl within acc.within e acc.on
 
@@ -125,7 +125,7 @@ module _ (l : Layout) (fits : IsLayout l) (words : Tables) (used : ℕ → ℕ) 
     where
       start-spare : (place : Place) (va : ℕ) → HasPlace l place → IsIn l place va → start_table l place va ≡ spare_ppn l (home_of l (place_of wish)) + n → ⊥
       start-spare (Space s) va has' within e = omega arith
-      start-spare Kernel va has' within e = let slot = vpn-below va top_level in omega (arith, fits.window)
+      start-spare Kernel va has' within e = let slot = vpn-below va (top_level l.scheme) in omega (arith, fits.window)
 
   pub is-place : pointed (Some acc.old) ≡ None → IsEntryOf store.word (kind_of store.word) → IsPlace l words (home_of l (place_of wish)) (used (home_of l (place_of wish))) store.ppn store.index store.word
   is-place was entry = record {
@@ -139,11 +139,11 @@ module _ (l : Layout) (fits : IsLayout l) (words : Tables) (used : ℕ → ℕ) 
         plain-written l fits _ _ _ _ wish store.word acc.writes s (sym same.same_place);
   }
 
-  pub high : 0 < start_level (place_of wish) - acc.depth → (place : Place) (va n : ℕ) → HasPlace l place → home_of l place ≡ home_of l (place_of wish) → IsIn l place va
-      → table_on l words place va n ≡ Some store.ppn → vpn_of va (start_level place - n) ≡ store.index → n < start_level place
+  pub high : 0 < start_level l (place_of wish) - acc.depth → (place : Place) (va n : ℕ) → HasPlace l place → home_of l place ≡ home_of l (place_of wish) → IsIn l place va
+      → table_on l words place va n ≡ Some store.ppn → vpn_of va (start_level l place - n) ≡ store.index → n < start_level l place
   high above place va n has' at within e i =
       let same = reaches place va n has' at within e in
-      let levels : start_level place ≡ start_level (place_of wish) = ap start_level same.same_place in
+      let levels : start_level l place ≡ start_level l (place_of wish) = ap (start_level l) same.same_place in
       omega (arith, same.same_depth)
 
   used-leaf : pointed (Some store.word) ≡ None → used_after (used (home_of l (place_of wish))) store ≡ used (home_of l (place_of wish))

@@ -1,4 +1,5 @@
 -- The leaves that lead from a root, as leaves on the paths of places, and the pages that they map.
+use Rattle.pte.specs.declared.scheme.Scheme.{Scheme}
 use Rattle.std.proofs.Common.{◌≡◌, ℕ, zero, suc, ◌+◌, ◌-◌, ◌<◌, ◌≤◌, ◌%◌, ◌^◌, Bool, true, false, Option, Some, None, length, ap, sym, ◌∙◌, subst, refl, inl, inr, arith, IsTrue}
 use Rattle.std.specs.Prelude.{slice_index, ◌↔◌}
 use Rattle.std.proofs.lemmas.Bool.{cases_lt}
@@ -7,6 +8,7 @@ use Rattle.pte.specs.declared.entry.Kind.TheVariants as kinds
 use Rattle.pte.specs.Address.{IsCanonical, top_level, level_pages, vpn_of}
 use Rattle.pte.specs.Entry.{kind_of, table_word, ppn_bits}
 use Rattle.pte.proofs.EntryKinds.{kind-table}
+use Rattle.pte.proofs.Schemes.{levels_two}
 use Rattle.walk.specs.Leads.{Tables, word_at, Leads, IsGlobalAt}
 use Rattle.walk.specs.Maps.{Maps, page_number}
 use Rattle.walk.proofs.Paths.{leads-start}
@@ -26,27 +28,27 @@ use Rattle.spaces.proofs.EntryWords.{global-table}
 use Rattle.spaces.proofs.EndPaths.{table_below-front}
 use Rattle.spaces.proofs.Accepting.{window-points}
 
-module _ (words : Tables) (root va : ℕ) where
+module _ (scheme : Scheme) (words : Tables) (root va : ℕ) where
   -- a path of tables leads
-  pub leads-path : (n t : ℕ) → n ≤ top_level → table_below words va top_level root n ≡ Some t → Leads words root va (top_level - n) t (word_at words va (top_level - n) t)
-  leads-path n t deep e = leads-after words root va n (top_level - n) t (omega arith) e
+  pub leads-path : (n t : ℕ) → n ≤ top_level scheme → table_below words va (top_level scheme) root n ≡ Some t → Leads scheme words root va (top_level scheme - n) t (word_at words va (top_level scheme - n) t)
+  leads-path n t deep e = leads-after scheme words root va n (top_level scheme - n) t (omega arith) e
 
   -- and what leads has a path of tables
-  pub path-leads : (i t : ℕ) (w : Option ℕ) → Leads words root va i t w → table_below words va top_level root (top_level - i) ≡ Some t
-  path-leads i t w p = ((leads_by_pointers words root va i t w).0 p).1
+  pub path-leads : (i t : ℕ) (w : Option ℕ) → Leads scheme words root va i t w → table_below words va (top_level scheme) root (top_level scheme - i) ≡ Some t
+  path-leads i t w p = ((leads_by_pointers scheme words root va i t w).0 p).1
 
   -- where the first word is no pointer the path has one table
-  pub path-none : (n t : ℕ) → pointed (word_at words va top_level root) ≡ None → table_below words va top_level root n ≡ Some t → n ≡ 0
+  pub path-none : (n t : ℕ) → pointed (word_at words va (top_level scheme) root) ≡ None → table_below words va (top_level scheme) root n ≡ Some t → n ≡ 0
   path-none zero t e path = refl
   path-none (suc n) t e path =
-      let up = above words va top_level root n t path in
+      let up = above words va (top_level scheme) root n t path in
       let first = path-none n up.table_above e up.on in
-      let at : root ≡ up.table_above = some-same _ _ (ap (λ k. table_below words va top_level root k) (sym first) ∙ up.on) in
-      let level : top_level - n ≡ top_level = omega (arith, first) in
+      let at : root ≡ up.table_above = some-same _ _ (ap (λ k. table_below words va (top_level scheme) root k) (sym first) ∙ up.on) in
+      let level : top_level scheme - n ≡ top_level scheme = omega (arith, first) in
       absurd (let bad : None ≡ Some t = sym e ∙ ap (word-points) at ∙ ap (λ k. pointed (word_at words va k up.table_above)) (sym level) ∙ up.points in cc)
     where
       word-points : ℕ → Option ℕ
-      word-points u = pointed (word_at words va top_level u)
+      word-points u = pointed (word_at words va (top_level scheme) u)
 
 -- a leaf on the path of a place
 pub record LeafOn (l : Layout) (words : Tables) (s va level t entry leaf : ℕ) (flags : PteFlags) : Type 0 where
@@ -54,14 +56,14 @@ pub record LeafOn (l : Layout) (words : Tables) (s va level t entry leaf : ℕ) 
   pub hangs : HangsBelow place s
   pub has : HasPlace l place
   pub within : IsIn l place va
-  pub low : level ≤ start_level place
-  pub on : table_on l words place va (start_level place - level) ≡ Some t
+  pub low : level ≤ start_level l place
+  pub on : table_on l words place va (start_level l place - level) ≡ Some t
   pub word : word_at words va level t ≡ Some entry
   pub kind : kind_of entry ≡ kinds.Leaf leaf flags
 
 -- it is one in any memory whose tables lead there and whose word is the same
 abbrev pub leaf-carried : (l : Layout) (old new : Tables) (s va level t entry leaf : ℕ) (flags : PteFlags) → (o : LeafOn l old s va level t entry leaf flags)
-    → table_on l new o.place va (start_level o.place - level) ≡ table_on l old o.place va (start_level o.place - level)
+    → table_on l new o.place va (start_level l o.place - level) ≡ table_on l old o.place va (start_level l o.place - level)
     → word_at new va level t ≡ word_at old va level t → LeafOn l new s va level t entry leaf flags
 leaf-carried l old new s va level t entry leaf flags o tables word = record {
   place = o.place;
@@ -78,34 +80,34 @@ module _ (l : Layout) (fits : IsLayout l) (words : Tables) (used : ℕ → ℕ) 
   root-home : (s : ℕ) → s < length l.homes → IsHome l words (slice_index l.homes s) (used (slice_index l.homes s))
   root-home s has = tree (slice_index l.homes s) (fits.homes s 0 has)
 
-  pub window-word : (s va : ℕ) → s < length l.homes → IsIn l Kernel va → word_at words va top_level (root_ppn l s) ≡ Some (table_word (start_table l Kernel va) true)
+  pub window-word : (s va : ℕ) → s < length l.homes → IsIn l Kernel va → word_at words va (top_level l.scheme) (root_ppn l s) ≡ Some (table_word (start_table l Kernel va) true)
   window-word s va has in-window =
-      let slot = vpn-below va top_level in
-      let k : vpn_of va top_level - first_window_slot l < l.window = omega (arith, fits.window) in
-      let same : first_window_slot l + (vpn_of va top_level - first_window_slot l) ≡ vpn_of va top_level = omega (arith, fits.window) in
-      ap (words (root_ppn l s)) (sym same) ∙ (root-home s has).window s (vpn_of va top_level - first_window_slot l) has refl k
+      let slot = vpn-below va (top_level l.scheme) in
+      let k : vpn_of va (top_level l.scheme) - first_window_slot l < l.window = omega (arith, fits.window) in
+      let same : first_window_slot l + (vpn_of va (top_level l.scheme) - first_window_slot l) ≡ vpn_of va (top_level l.scheme) = omega (arith, fits.window) in
+      ap (words (root_ppn l s)) (sym same) ∙ (root-home s has).window s (vpn_of va (top_level l.scheme) - first_window_slot l) has refl k
 
   pub window-fits : (va : ℕ) → IsIn l Kernel va → start_table l Kernel va < 2 ^ ppn_bits
-  window-fits va in-window = let slot = vpn-below va top_level in omega (arith, fits.ppns_fit, fits.window)
+  window-fits va in-window = let slot = vpn-below va (top_level l.scheme) in omega (arith, fits.ppns_fit, fits.window)
 
-  pub leaf-place : (s va level t entry leaf : ℕ) (flags : PteFlags) → s < length l.homes → Leads words (root_ppn l s) va level t (Some entry) → kind_of entry ≡ kinds.Leaf leaf flags
+  pub leaf-place : (s va level t entry leaf : ℕ) (flags : PteFlags) → s < length l.homes → Leads l.scheme words (root_ppn l s) va level t (Some entry) → kind_of entry ≡ kinds.Leaf leaf flags
       → LeafOn l words s va level t entry leaf flags
   leaf-place s va level t entry leaf flags has leads kind =
-      let path = path-leads words (root_ppn l s) va level t (Some entry) leads in
-      elim (cases_lt (vpn_of va top_level) user_slots) [
+      let path = path-leads l.scheme words (root_ppn l s) va level t (Some entry) leads in
+      elim (cases_lt (vpn_of va (top_level l.scheme)) user_slots) [
         | inl user ↦
             record { place = Space s; hangs = refl; has = has; within = user; low = leads.level; on = path; word = sym leads.here; kind = kind }
-        | inr upper ↦ elim (cases_lt (vpn_of va top_level) (first_window_slot l)) [
+        | inr upper ↦ elim (cases_lt (vpn_of va (top_level l.scheme)) (first_window_slot l)) [
           | inl outside ↦
-              let zero-word : word_at words va top_level (root_ppn l s) ≡ Some 0 = (root-home s has).upper s (vpn_of va top_level) has refl upper outside in
-              let depth = path-none words (root_ppn l s) va (top_level - level) t (ap pointed zero-word ∙ pointed-zero) path in
-              let at : root_ppn l s ≡ t = some-same _ _ (ap (λ k. table_below words va top_level (root_ppn l s) k) (sym depth) ∙ path) in
-              let top : level ≡ top_level = omega (arith, leads.level) in
-              let is : Some 0 ≡ Some entry = sym zero-word ∙ ap (word_at words va top_level) at ∙ ap (λ k. word_at words va k t) (sym top) ∙ sym leads.here in
+              let zero-word : word_at words va (top_level l.scheme) (root_ppn l s) ≡ Some 0 = (root-home s has).upper s (vpn_of va (top_level l.scheme)) has refl upper outside in
+              let depth = path-none l.scheme words (root_ppn l s) va (top_level l.scheme - level) t (ap pointed zero-word ∙ pointed-zero) path in
+              let at : root_ppn l s ≡ t = some-same _ _ (ap (λ k. table_below words va (top_level l.scheme) (root_ppn l s) k) (sym depth) ∙ path) in
+              let top : level ≡ top_level l.scheme = omega (arith, leads.level) in
+              let is : Some 0 ≡ Some entry = sym zero-word ∙ ap (word_at words va (top_level l.scheme)) at ∙ ap (λ k. word_at words va k t) (sym top) ∙ sym leads.here in
               absurd (let bad : kinds.Invalid ≡ kinds.Leaf leaf flags = sym kind-zero ∙ ap kind_of (some-same _ _ is) ∙ kind in cc)
-          | inr inside ↦ elim (cases_lt level top_level) [
+          | inr inside ↦ elim (cases_lt level (top_level l.scheme)) [
             | inl lower ↦
-                let steps : top_level - level ≡ suc (top_level - 1 - level) = omega arith in
+                let steps : top_level l.scheme - level ≡ suc (top_level l.scheme - 1 - level) = omega arith in
                 record {
                   place = Kernel;
                   hangs = tt;
@@ -113,64 +115,65 @@ module _ (l : Layout) (fits : IsLayout l) (words : Tables) (used : ℕ → ℕ) 
                   within = inside;
                   low = omega arith;
                   on =
-                      sym (table_below-front words va top_level (root_ppn l s) (start_table l Kernel va) (top_level - 1 - level) (window-points l fits words used tree s va has inside))
-                      ∙ ap (table_below words va top_level (root_ppn l s)) (sym steps) ∙ path;
+                      sym (table_below-front words va (top_level l.scheme) (root_ppn l s) (start_table l Kernel va) (top_level l.scheme - 1 - level) (window-points l fits words used tree s va has inside))
+                      ∙ ap (table_below words va (top_level l.scheme) (root_ppn l s)) (sym steps) ∙ path;
                   word = sym leads.here;
                   kind = kind;
                 }
             | inr high ↦
-                let top : level ≡ top_level = omega (arith, leads.level) in
-                let depth : top_level - level ≡ 0 = omega arith in
-                let at : root_ppn l s ≡ t = some-same _ _ (ap (λ k. table_below words va top_level (root_ppn l s) k) (sym depth) ∙ path) in
+                let top : level ≡ top_level l.scheme = omega (arith, leads.level) in
+                let depth : top_level l.scheme - level ≡ 0 = omega arith in
+                let at : root_ppn l s ≡ t = some-same _ _ (ap (λ k. table_below words va (top_level l.scheme) (root_ppn l s) k) (sym depth) ∙ path) in
                 let is : Some (table_word (start_table l Kernel va) true) ≡ Some entry =
-                sym (window-word s va has inside) ∙ ap (word_at words va top_level) at ∙ ap (λ k. word_at words va k t) (sym top) ∙ sym leads.here
+                sym (window-word s va has inside) ∙ ap (word_at words va (top_level l.scheme)) at ∙ ap (λ k. word_at words va k t) (sym top) ∙ sym leads.here
                 in
                 absurd (let bad : kinds.Table (start_table l Kernel va) true ≡ kinds.Leaf leaf flags = sym (kind-table (start_table l Kernel va) true (window-fits va inside)) ∙ ap kind_of (some-same _ _ is) ∙ kind in cc)
           ]
         ]
       ]
 
-  root-path : (s va level t : ℕ) (place : Place) → s < length l.homes → HangsBelow place s → IsIn l place va → level ≤ start_level place
-      → table_on l words place va (start_level place - level) ≡ Some t → table_below words va top_level (root_ppn l s) (top_level - level) ≡ Some t
-  root-path s va level t (Space s') has hangs within low path = ap (λ k. table_below words va top_level (root_ppn l k) (top_level - level)) (sym hangs) ∙ path
+  root-path : (s va level t : ℕ) (place : Place) → s < length l.homes → HangsBelow place s → IsIn l place va → level ≤ start_level l place
+      → table_on l words place va (start_level l place - level) ≡ Some t → table_below words va (top_level l.scheme) (root_ppn l s) (top_level l.scheme - level) ≡ Some t
+  root-path s va level t (Space s') has hangs within low path = ap (λ k. table_below words va (top_level l.scheme) (root_ppn l k) (top_level l.scheme - level)) (sym hangs) ∙ path
   root-path s va level t Kernel has hangs within low path =
-      let steps : top_level - level ≡ suc (top_level - 1 - level) = omega arith in
-      ap (table_below words va top_level (root_ppn l s)) steps
-      ∙ table_below-front words va top_level (root_ppn l s) (start_table l Kernel va) (top_level - 1 - level) (window-points l fits words used tree s va has within)
+      let levels = levels_two l.scheme in
+      let steps : top_level l.scheme - level ≡ suc (top_level l.scheme - 1 - level) = omega arith in
+      ap (table_below words va (top_level l.scheme) (root_ppn l s)) steps
+      ∙ table_below-front words va (top_level l.scheme) (root_ppn l s) (start_table l Kernel va) (top_level l.scheme - 1 - level) (window-points l fits words used tree s va has within)
       ∙ path
 
-  start-top : (place : Place) → start_level place ≤ top_level
+  start-top : (place : Place) → start_level l place ≤ top_level l.scheme
   start-top (Space s) = omega arith
   start-top Kernel = omega arith
 
-  pub place-leaf : (s va level t entry leaf : ℕ) (flags : PteFlags) → s < length l.homes → LeafOn l words s va level t entry leaf flags → Leads words (root_ppn l s) va level t (Some entry)
+  pub place-leaf : (s va level t entry leaf : ℕ) (flags : PteFlags) → s < length l.homes → LeafOn l words s va level t entry leaf flags → Leads l.scheme words (root_ppn l s) va level t (Some entry)
   place-leaf s va level t entry leaf flags has o =
-      let deep : level ≤ top_level = let top = start-top o.place in omega (arith, o.low) in
-      let back : top_level - (top_level - level) ≡ level = omega arith in
-      let path = leads-path words (root_ppn l s) va (top_level - level) t (omega arith) (root-path s va level t o.place has o.hangs o.within o.low o.on) in
-      subst (Leads words (root_ppn l s) va level t) o.word (subst (λ k. Leads words (root_ppn l s) va k t (word_at words va k t)) back path)
+      let deep : level ≤ top_level l.scheme = let top = start-top o.place in omega (arith, o.low) in
+      let back : top_level l.scheme - (top_level l.scheme - level) ≡ level = omega arith in
+      let path = leads-path l.scheme words (root_ppn l s) va (top_level l.scheme - level) t (omega arith) (root-path s va level t o.place has o.hangs o.within o.low o.on) in
+      subst (Leads l.scheme words (root_ppn l s) va level t) o.word (subst (λ k. Leads l.scheme words (root_ppn l s) va k t (word_at words va k t)) back path)
 
   -- G on a path is the kernel's
-  global-user : (s va level : ℕ) → s < length l.homes → IsIn l (Space s) va → IsGlobalAt words (root_ppn l s) va level → ⊥
+  global-user : (s va level : ℕ) → s < length l.homes → IsIn l (Space s) va → IsGlobalAt l.scheme words (root_ppn l s) va level → ⊥
   global-user s va level has user g =
-      let path = path-leads words (root_ppn l s) va g.level g.table (Some g.entry) g.leads in
-      let back : top_level - (top_level - g.level) ≡ g.level = omega (arith, g.leads.level) in
-      let plain = (root-home s has).plain s va (top_level - g.level) g.table g.entry has refl user (omega arith) path (ap (λ k. word_at words va k g.table) back ∙ sym g.leads.here) in
+      let path = path-leads l.scheme words (root_ppn l s) va g.level g.table (Some g.entry) g.leads in
+      let back : top_level l.scheme - (top_level l.scheme - g.level) ≡ g.level = omega (arith, g.leads.level) in
+      let plain = (root-home s has).plain s va (top_level l.scheme - g.level) g.table g.entry has refl user (omega arith) path (ap (λ k. word_at words va k g.table) back ∙ sym g.leads.here) in
       let bad : true ≡ false = sym g.global ∙ plain in
       cc
 
-  global-kernel : (s va level : ℕ) → s < length l.homes → IsIn l Kernel va → level ≤ top_level → IsGlobalAt words (root_ppn l s) va level
+  global-kernel : (s va level : ℕ) → s < length l.homes → IsIn l Kernel va → level ≤ top_level l.scheme → IsGlobalAt l.scheme words (root_ppn l s) va level
   global-kernel s va level has inside low = record {
-    level = top_level;
+    level = top_level l.scheme;
     table = root_ppn l s;
     entry = table_word (start_table l Kernel va) true;
     from = low;
-    leads = subst (Leads words (root_ppn l s) va top_level (root_ppn l s)) (window-word s va has inside) (leads-start words (root_ppn l s) va);
+    leads = subst (Leads l.scheme words (root_ppn l s) va (top_level l.scheme) (root_ppn l s)) (window-word s va has inside) (leads-start l.scheme words (root_ppn l s) va);
     global = global-table (start_table l Kernel va) true (window-fits va inside);
   }
 
-  pub global-place : (s va level : ℕ) (place : Place) → s < length l.homes → HangsBelow place s → IsIn l place va → level ≤ start_level place
-      → IsTrue (is_kernel place) ↔ IsGlobalAt words (root_ppn l s) va level
+  pub global-place : (s va level : ℕ) (place : Place) → s < length l.homes → HangsBelow place s → IsIn l place va → level ≤ start_level l place
+      → IsTrue (is_kernel place) ↔ IsGlobalAt l.scheme words (root_ppn l s) va level
   global-place s va level (Space s') has hangs within low = (
     (λ e. let bad : false ≡ true = e in absurd cc),
     (λ g. absurd (global-user s va level has within g)),
@@ -184,7 +187,7 @@ pub record Member (l : Layout) (words : Tables) (s number ppn : ℕ) (flags : Pt
   pub table : ℕ
   pub entry : ℕ
   pub leaf : ℕ
-  pub canonical : IsCanonical va
+  pub canonical : IsCanonical l.scheme va
   pub of_page : page_number va ≡ number
   pub on : LeafOn l words s va level table entry leaf flags
   pub aligned : leaf % level_pages level ≡ 0
@@ -209,7 +212,7 @@ moved l old new s number ppn flags global m on same = record {
 }
 
 module _ (l : Layout) (fits : IsLayout l) (words : Tables) (used : ℕ → ℕ) (tree : IsTree l words used) (s number ppn : ℕ) (flags : PteFlags) (global : Bool) (has : s < length l.homes) where
-  pub member-of : Maps words (root_ppn l s) number ppn flags global → Member l words s number ppn flags global
+  pub member-of : Maps l.scheme words (root_ppn l s) number ppn flags global → Member l words s number ppn flags global
   member-of m =
       let on = leaf-place l fits words used tree s m.va m.level m.table m.entry m.leaf flags has m.leads m.kind in
       let same = global-place l fits words used tree s m.va m.level on.place has on.hangs on.within on.low in
@@ -227,7 +230,7 @@ module _ (l : Layout) (fits : IsLayout l) (words : Tables) (used : ℕ → ℕ) 
         reach = same_bool global (is_kernel on.place) ((λ h. same.1 (m.is_global.0 h)), (λ h. m.is_global.1 (same.0 h)));
       }
 
-  pub maps-of : Member l words s number ppn flags global → Maps words (root_ppn l s) number ppn flags global
+  pub maps-of : Member l words s number ppn flags global → Maps l.scheme words (root_ppn l s) number ppn flags global
   maps-of m =
       let same = global-place l fits words used tree s m.va m.level m.on.place has m.on.hangs m.on.within m.on.low in
       record {

@@ -65,7 +65,7 @@ layout-meets c h = record {
 }
 
 abbrev pub made : Config → List ℕ → List ℕ → List ℕ → List ℕ → Held
-made c homes spares words used = record { layout = record { window = c.window; base = c.base; homes = homes; spares = spares }; words = words; used = used }
+made c homes spares words used = record { layout = record { scheme = c.scheme; window = c.window; base = c.base; homes = homes; spares = spares }; words = words; used = used }
 
 abbrev pub opened : Config → Held
 opened c = record { layout = layout_of c; words = first_words (layout_of c) (frame_count (layout_of c) * table_length); used = replicate (length c.spares.items) 0 }

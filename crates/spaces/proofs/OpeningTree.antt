@@ -6,6 +6,7 @@ use Rattle.std.proofs.lemmas.Bool.Decides.{nat_tests}
 use Rattle.pte.specs.Address.{top_level, table_length, vpn_of}
 use Rattle.pte.specs.Entry.{kind_of, is_global, table_word}
 use Rattle.pte.proofs.EntryKinds.{kind-table}
+use Rattle.pte.proofs.Schemes.{levels_two}
 use Rattle.walk.specs.Leads.{word_at}
 use Rattle.spaces.specs.declared.places.Place.{Place}
 use Rattle.spaces.specs.declared.places.Place.TheVariants.{Space, Kernel}
@@ -72,37 +73,37 @@ module _ (l : Layout) (fits : IsLayout l) where
       by_root true = by_slot (nat_le (first_window_slot l) i) refl
       by_root false = zero-entry
 
-  start-own : (place : Place) (va : ℕ) → HasPlace l place → IsIn l place va → IsOwn l (start_table l place va) (vpn_of va (start_level place))
+  start-own : (place : Place) (va : ℕ) → HasPlace l place → IsIn l place va → IsOwn l (start_table l place va) (vpn_of va (start_level l place))
   start-own (Space s) va has within = λ _. within
-  start-own Kernel va has within = let slot = vpn-below va top_level in window-own l (vpn_of va top_level - first_window_slot l) _ (omega (arith, fits.window))
+  start-own Kernel va has within = let slot = vpn-below va (top_level l.scheme) in window-own l (vpn_of va (top_level l.scheme) - first_window_slot l) _ (omega (arith, fits.window))
 
   -- no path goes further than its first table
   only-start : (place : Place) (va n t : ℕ) → HasPlace l place → IsIn l place va → table_on l (opening l) place va n ≡ Some t → (n ≡ 0) × (t ≡ start_table l place va)
   only-start place va zero t has within e = (refl, sym (some-same _ _ e))
   only-start place va (suc n) t has within e =
-      let up = above (opening l) va (start_level place) (start_table l place va) n t e in
+      let up = above (opening l) va (start_level l place) (start_table l place va) n t e in
       let first = only-start place va n up.table_above has within up.on in
-      let level : start_level place - n ≡ start_level place = omega (arith, first.0) in
-      let points : pointed (word_at (opening l) va (start_level place) (start_table l place va)) ≡ Some t =
-      ap (λ u. pointed (word_at (opening l) va (start_level place) u)) (sym first.1) ∙ ap (λ k. pointed (word_at (opening l) va k up.table_above)) (sym level) ∙ up.points
+      let level : start_level l place - n ≡ start_level l place = omega (arith, first.0) in
+      let points : pointed (word_at (opening l) va (start_level l place) (start_table l place va)) ≡ Some t =
+      ap (λ u. pointed (word_at (opening l) va (start_level l place) u)) (sym first.1) ∙ ap (λ k. pointed (word_at (opening l) va k up.table_above)) (sym level) ∙ up.points
       in
-      let nothing = own-pointed (start_table l place va) (vpn_of va (start_level place)) (start-own place va has within) in
+      let nothing = own-pointed (start_table l place va) (vpn_of va (start_level l place)) (start-own place va has within) in
       absurd (let bad : None ≡ Some t = sym nothing ∙ points in cc)
 
-  bottom-first : (place : Place) (va t : ℕ) → HasPlace l place → IsIn l place va → table_on l (opening l) place va (start_level place) ≡ Some t → pointed (word_at (opening l) va 0 t) ≡ None
-  bottom-first (Space s) va t has within e = let first = only-start (Space s) va (start_level (Space s)) t has within e in absurd (omega (arith, first.0))
-  bottom-first Kernel va t has within e = let first = only-start Kernel va (start_level Kernel) t has within e in absurd (omega (arith, first.0))
+  bottom-first : (place : Place) (va t : ℕ) → HasPlace l place → IsIn l place va → table_on l (opening l) place va (start_level l place) ≡ Some t → pointed (word_at (opening l) va 0 t) ≡ None
+  bottom-first (Space s) va t has within e = let first = only-start (Space s) va (start_level l (Space s)) t has within e in absurd (omega (arith, first.0, levels_two l.scheme))
+  bottom-first Kernel va t has within e = let first = only-start Kernel va (start_level l Kernel) t has within e in absurd (omega (arith, first.0, levels_two l.scheme))
 
-  plain-first : (s va n t word : ℕ) → s < length l.homes → slice_index l.homes s < length l.spares → IsIn l (Space s) va → n ≤ top_level
-      → table_on l (opening l) (Space s) va n ≡ Some t → word_at (opening l) va (top_level - n) t ≡ Some word → is_global word ≡ false
+  plain-first : (s va n t word : ℕ) → s < length l.homes → slice_index l.homes s < length l.spares → IsIn l (Space s) va → n ≤ top_level l.scheme
+      → table_on l (opening l) (Space s) va n ≡ Some t → word_at (opening l) va (top_level l.scheme - n) t ≡ Some word → is_global word ≡ false
   plain-first s va n t word has home within deep e w =
       let first = only-start (Space s) va n t has within e in
-      let level : top_level - n ≡ top_level = omega (arith, first.0) in
-      let at : opening l (root_ppn l s) (vpn_of va top_level) ≡ Some word =
-      ap (λ u. word_at (opening l) va top_level u) (sym first.1) ∙ ap (λ k. word_at (opening l) va k t) (sym level) ∙ w
+      let level : top_level l.scheme - n ≡ top_level l.scheme = omega (arith, first.0) in
+      let at : opening l (root_ppn l s) (vpn_of va (top_level l.scheme)) ≡ Some word =
+      ap (λ u. word_at (opening l) va (top_level l.scheme) u) (sym first.1) ∙ ap (λ k. word_at (opening l) va k t) (sym level) ∙ w
       in
       let zero-word : Some 0 ≡ Some word =
-      ap Some (sym (own-word (root_ppn l s) (vpn_of va top_level) (λ _. within))) ∙ sym (opening-at _ (root_ppn l s) (vpn_of va top_level) (of_root s has refl refl) (vpn-below va top_level)) ∙ at
+      ap Some (sym (own-word (root_ppn l s) (vpn_of va (top_level l.scheme)) (λ _. within))) ∙ sym (opening-at _ (root_ppn l s) (vpn_of va (top_level l.scheme)) (of_root s has refl refl) (vpn-below va (top_level l.scheme))) ∙ at
       in
       ap is_global (sym (some-same _ _ zero-word)) ∙ is_global-zero
 

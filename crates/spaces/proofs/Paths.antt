@@ -6,7 +6,7 @@ use Rattle.walk.specs.Leads.{Tables, word_at}
 use Rattle.walk.specs.Pointers.{next_table}
 use Rattle.spaces.specs.declared.places.Place.{Place}
 use Rattle.spaces.specs.declared.places.Place.TheVariants.{Space, Kernel}
-use Rattle.spaces.specs.Layout.{Layout, HasPlace, home_of, root_ppn, first_window_slot}
+use Rattle.spaces.specs.Layout.{Layout, HasPlace, home_of, root_ppn, first_window_slot, user_slots}
 use Rattle.spaces.specs.Held.{IsLayout}
 use Rattle.spaces.specs.Tree.{start_level, start_table, IsIn, table_on, IsAtHome, of_root, of_window, IsUsed, IsOwn, IsHome}
 use Rattle.walk.specs.Pointers.{pointed, table_below}
@@ -49,7 +49,7 @@ table_below-like words words' va level table (suc n) like =
 -- where a table of a path stands
 pub record On (l : Layout) (h used : ℕ) (place : Place) (va n t : ℕ) : Type 0 where
   pub home : IsAtHome l h t
-  pub own : IsOwn l t (vpn_of va (start_level place - n))
+  pub own : IsOwn l t (vpn_of va (start_level l place - n))
   pub from : ((n ≡ 0) × (t ≡ start_table l place va)) ⊎ ((0 < n) × IsUsed l h used t)
 
 pub vpn-below : (va i : ℕ) → vpn_of va i < table_length
@@ -62,35 +62,35 @@ module _ (l : Layout) (fits : IsLayout l) (words : Tables) (h used : ℕ) (tree 
   on-start : (place : Place) (va t : ℕ) → HasPlace l place → home_of l place ≡ h → IsIn l place va → t ≡ start_table l place va → On l h used place va 0 t
   on-start (Space s) va t has home within is = record {
     home = of_root s has home is;
-    own = λ _. within;
+    own = λ _. let level : top_level l.scheme - 0 ≡ top_level l.scheme = omega arith in subst (λ k. vpn_of va k < user_slots) (sym level) within;
     from = inl (refl, is);
   }
   on-start Kernel va t has home within is =
-      let slot = vpn-below va top_level in
-      let k : vpn_of va top_level - first_window_slot l < l.window = omega (arith, fits.window) in
+      let slot = vpn-below va (top_level l.scheme) in
+      let k : vpn_of va (top_level l.scheme) - first_window_slot l < l.window = omega (arith, fits.window) in
       record {
-        home = of_window (vpn_of va top_level - first_window_slot l) k (sym home) is;
-        own = subst (λ f. IsOwn l f (vpn_of va (start_level Kernel - 0))) (sym is) (window-own l _ _ k);
+        home = of_window (vpn_of va (top_level l.scheme) - first_window_slot l) k (sym home) is;
+        own = subst (λ f. IsOwn l f (vpn_of va (start_level l Kernel - 0))) (sym is) (window-own l _ _ k);
         from = inl (refl, is);
       }
 
   pub on : (place : Place) (va n t : ℕ) → HasPlace l place → home_of l place ≡ h → IsIn l place va → table_on l words place va n ≡ Some t → On l h used place va n t
   on place va zero t has home within e = on-start place va t has home within (sym (some-same _ _ e))
   on place va (suc n) t has home within e =
-      let up = above words va (start_level place) (start_table l place va) n t e in
+      let up = above words va (start_level l place) (start_table l place va) n t e in
       let there = on place va n up.table_above has home within up.on in
-      let u = tree.closed up.table_above (vpn_of va (start_level place - n)) t there.home there.own up.points in
+      let u = tree.closed up.table_above (vpn_of va (start_level l place - n)) t there.home there.own up.points in
       record {
         home = used-home l h used t tree.room u;
-        own = subst (λ f. IsOwn l f (vpn_of va (start_level place - suc n))) (sym u.is) (spare-own l h u.number _);
+        own = subst (λ f. IsOwn l f (vpn_of va (start_level l place - suc n))) (sym u.is) (spare-own l h u.number _);
         from = inr (omega arith, u);
       }
 
 -- two paths to one table are one path as far as it
-pub record SamePath (place place' : Place) (va va' n n' : ℕ) : Type 0 where
+pub record SamePath (l : Layout) (place place' : Place) (va va' n n' : ℕ) : Type 0 where
   pub same_place : place ≡ place'
   pub same_depth : n ≡ n'
-  pub same_vpns : (j : ℕ) → start_level place < j + n → j ≤ top_level → vpn_of va j ≡ vpn_of va' j
+  pub same_vpns : (j : ℕ) → start_level l place < j + n → j ≤ top_level l.scheme → vpn_of va j ≡ vpn_of va' j
 
 root-used : (l : Layout) (h used s t : ℕ) → s < length l.homes → t ≡ root_ppn l s → IsUsed l h used t → ⊥
 root-used l h used s t has is u = omega (arith, u.is)
@@ -98,65 +98,65 @@ root-used l h used s t has is u = omega (arith, u.is)
 module _ (l : Layout) (fits : IsLayout l) where
   -- the topmost tables differ
   same-start : (place place' : Place) (va va' : ℕ) → HasPlace l place → HasPlace l place' → IsIn l place va → IsIn l place' va'
-      → start_table l place va ≡ start_table l place' va' → SamePath place place' va va' 0 0
+      → start_table l place va ≡ start_table l place' va' → SamePath l place place' va va' 0 0
   same-start (Space s) (Space s') va va' has has' within within' e =
       record { same_place = ap Space (let same : s ≡ s' = omega arith in same); same_depth = refl; same_vpns = λ j more less. absurd (omega arith) }
   same-start (Space s) Kernel va va' has has' within within' e =
-      let slot = vpn-below va' top_level in absurd (omega (arith, fits.window))
+      let slot = vpn-below va' (top_level l.scheme) in absurd (omega (arith, fits.window))
   same-start Kernel (Space s) va va' has has' within within' e =
-      let slot = vpn-below va top_level in absurd (omega (arith, fits.window))
+      let slot = vpn-below va (top_level l.scheme) in absurd (omega (arith, fits.window))
   same-start Kernel Kernel va va' has has' within within' e =
-      let slots : vpn_of va top_level ≡ vpn_of va' top_level = omega arith in
+      let slots : vpn_of va (top_level l.scheme) ≡ vpn_of va' (top_level l.scheme) = omega arith in
       record {
         same_place = refl;
         same_depth = refl;
-        same_vpns = λ j more less. let top : j ≡ top_level = omega arith in subst (λ k. vpn_of va k ≡ vpn_of va' k) (sym top) slots;
+        same_vpns = λ j more less. let top : j ≡ top_level l.scheme = omega arith in subst (λ k. vpn_of va k ≡ vpn_of va' k) (sym top) slots;
       }
 
   start-used : (place : Place) (va h used t : ℕ) → HasPlace l place → IsIn l place va → t ≡ start_table l place va → IsUsed l h used t → ⊥
   start-used (Space s) va h used t has within is u = omega (arith, u.is)
-  start-used Kernel va h used t has within is u = let slot = vpn-below va top_level in omega (arith, u.is, fits.window)
+  start-used Kernel va h used t has within is u = let slot = vpn-below va (top_level l.scheme) in omega (arith, u.is, fits.window)
 
   module _ (words : Tables) (h used : ℕ) (tree : IsHome l words h used) where
     pub same-path : (place place' : Place) (va va' n n' t : ℕ) → HasPlace l place → HasPlace l place' → home_of l place ≡ h → home_of l place' ≡ h
         → IsIn l place va → IsIn l place' va' → table_on l words place va n ≡ Some t → table_on l words place' va' n' ≡ Some t
-        → SamePath place place' va va' n n'
+        → SamePath l place place' va va' n n'
     same-path place place' va va' zero zero t has has' home home' within within' e e' =
         same-start place place' va va' has has' within within' (some-same _ _ e ∙ sym (some-same _ _ e'))
     same-path place place' va va' zero (suc n') t has has' home home' within within' e e' =
-        let up = above words va' (start_level place') (start_table l place' va') n' t e' in
+        let up = above words va' (start_level l place') (start_table l place' va') n' t e' in
         let there = on l fits words h used tree place' va' n' up.table_above has' home' within' up.on in
         absurd (start-used place va h used t has within (sym (some-same _ _ e)) (tree.closed up.table_above _ t there.home there.own up.points))
     same-path place place' va va' (suc n) zero t has has' home home' within within' e e' =
-        let up = above words va (start_level place) (start_table l place va) n t e in
+        let up = above words va (start_level l place) (start_table l place va) n t e in
         let there = on l fits words h used tree place va n up.table_above has home within up.on in
         absurd (start-used place' va' h used t has' within' (sym (some-same _ _ e')) (tree.closed up.table_above _ t there.home there.own up.points))
     same-path place place' va va' (suc n) (suc n') t has has' home home' within within' e e' =
-        let up = above words va (start_level place) (start_table l place va) n t e in
-        let up' = above words va' (start_level place') (start_table l place' va') n' t e' in
+        let up = above words va (start_level l place) (start_table l place va) n t e in
+        let up' = above words va' (start_level l place') (start_table l place' va') n' t e' in
         let there = on l fits words h used tree place va n up.table_above has home within up.on in
         let there' = on l fits words h used tree place' va' n' up'.table_above has' home' within' up'.on in
         let one = tree.once up.table_above _ up'.table_above _ t there.home there'.home there.own there'.own up.points up'.points in
         let same = same-path place place' va va' n n' up.table_above has has' home home' within within' up.on (up'.on ∙ ap Some (sym one.0)) in
-        let level : start_level place - n ≡ start_level place' - n' = ap (λ p. start_level p - n) same.same_place ∙ ap (λ m. start_level place' - m) same.same_depth in
+        let level : start_level l place - n ≡ start_level l place' - n' = ap (λ p. start_level l p - n) same.same_place ∙ ap (λ m. start_level l place' - m) same.same_depth in
         record {
           same_place = same.same_place;
           same_depth = ap suc same.same_depth;
           same_vpns = λ j more less.
-              elim (cases_lt (start_level place) (j + n)) [
+              elim (cases_lt (start_level l place) (j + n)) [
                 | inl further ↦ same.same_vpns j further less
                 | inr last ↦
-                    let at : start_level place - n ≡ j = omega arith in
+                    let at : start_level l place - n ≡ j = omega arith in
                     subst (λ k. vpn_of va k ≡ vpn_of va' k) at (one.1 ∙ ap (vpn_of va') (sym level))
               ];
         }
 
   -- addresses with the same indices above a level have one path down to it
-  pub paths-agree : (words : Tables) (place : Place) (va va' n : ℕ) → n ≤ start_level place → start_level place ≤ top_level
-      → ((j : ℕ) → start_level place < j + n → j ≤ top_level → vpn_of va j ≡ vpn_of va' j)
+  pub paths-agree : (words : Tables) (place : Place) (va va' n : ℕ) → n ≤ start_level l place → start_level l place ≤ top_level l.scheme
+      → ((j : ℕ) → start_level l place < j + n → j ≤ top_level l.scheme → vpn_of va j ≡ vpn_of va' j)
       → start_table l place va ≡ start_table l place va' → table_on l words place va n ≡ table_on l words place va' n
   paths-agree words place va va' zero deep top same start = ap Some start
   paths-agree words place va va' (suc n) deep top same start =
       let rest = paths-agree words place va va' n (omega arith) top (λ j more less. same j (omega arith) less) start in
-      let at : vpn_of va (start_level place - n) ≡ vpn_of va' (start_level place - n) = same (start_level place - n) (omega arith) (omega arith) in
-      ap (next_table words va (start_level place - n)) rest ∙ next-same words va va' (start_level place - n) at (table_on l words place va' n)
+      let at : vpn_of va (start_level l place - n) ≡ vpn_of va' (start_level l place - n) = same (start_level l place - n) (omega arith) (omega arith) in
+      ap (next_table words va (start_level l place - n)) rest ∙ next-same words va va' (start_level l place - n) at (table_on l words place va' n)

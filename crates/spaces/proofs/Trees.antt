@@ -34,10 +34,10 @@ module _ (l : Layout) (fits : IsLayout l) (words words' : Tables) (h used : ℕ)
   back : (place : Place) (va n t : ℕ) → HasPlace l place → home_of l place ≡ h → IsIn l place va → table_on l words' place va n ≡ Some t → table_on l words place va n ≡ Some t
   back place va zero t has home within e = e
   back place va (suc n) t has home within e =
-      let up = above words' va (start_level place) (start_table l place va) n t e in
+      let up = above words' va (start_level l place) (start_table l place va) n t e in
       let old = back place va n up.table_above has home within up.on in
       let there = on l fits words h used tree place va n up.table_above has home within old in
-      below words va (start_level place) (start_table l place va) n up.table_above old ∙ ap pointed (sym (same _ _ there.home)) ∙ up.points
+      below words va (start_level l place) (start_table l place va) n up.table_above old ∙ ap pointed (sym (same _ _ there.home)) ∙ up.points
 
   pub home-same : IsHome l words' h used
   home-same = record {
@@ -50,8 +50,8 @@ module _ (l : Layout) (fits : IsLayout l) (words words' : Tables) (h used : ℕ)
     once = λ f i f' i' g home home' own own' e e'. tree.once f i f' i' g home home' own own' (ap pointed (sym (same f i home)) ∙ e) (ap pointed (sym (same f' i' home')) ∙ e');
     unused = λ n i from to less. same _ _ (of_spare n to refl) ∙ tree.unused n i from to less;
     bottom = λ place va t has home within e.
-        let old = back place va (start_level place) t has home within e in
-        let there = on l fits words h used tree place va (start_level place) t has home within old in
+        let old = back place va (start_level l place) t has home within e in
+        let there = on l fits words h used tree place va (start_level l place) t has home within old in
         ap pointed (same _ _ there.home) ∙ tree.bottom place va t has home within old;
     plain = λ s va n t word has home within deep e w.
         let old = back (Space s) va n t has home within e in
@@ -70,8 +70,8 @@ pub record IsPlace (l : Layout) (words : Tables) (h used f i x : ℕ) : Type 0 w
   pub in_use : (n : ℕ) → used ≤ n → f ≡ spare_ppn l h + n → ⊥
   pub old : pointed (words f i) ≡ None
   pub entry : IsEntryOf x (kind_of x)
-  pub plain : (s va n : ℕ) → s < length l.homes → slice_index l.homes s ≡ h → IsIn l (Space s) va → n ≤ top_level
-      → table_on l words (Space s) va n ≡ Some f → vpn_of va (top_level - n) ≡ i → is_global x ≡ false
+  pub plain : (s va n : ℕ) → s < length l.homes → slice_index l.homes s ≡ h → IsIn l (Space s) va → n ≤ top_level l.scheme
+      → table_on l words (Space s) va n ≡ Some f → vpn_of va (top_level l.scheme - n) ≡ i → is_global x ≡ false
 
 module _ (l : Layout) (fits : IsLayout l) (words : Tables) (h used : ℕ) (tree : IsHome l words h used) (f i x : ℕ) (here : IsPlace l words h used f i x) where
   present-stored : (g j : ℕ) → IsAtHome l h g → j < table_length → IsSome (stored words f i x g j)
@@ -103,11 +103,11 @@ module _ (l : Layout) (fits : IsLayout l) (words : Tables) (h used : ℕ) (tree 
     like = pointed-stored words f i x (new ∙ sym here.old)
 
     pub table_on-leaf : (place : Place) (va n : ℕ) → table_on l (stored words f i x) place va n ≡ table_on l words place va n
-    table_on-leaf place va n = table_below-like words (stored words f i x) va (start_level place) (start_table l place va) n like
+    table_on-leaf place va n = table_below-like words (stored words f i x) va (start_level l place) (start_table l place va) n like
 
-    plain-leaf : (s va n t word : ℕ) → s < length l.homes → slice_index l.homes s ≡ h → IsIn l (Space s) va → n ≤ top_level
-        → table_on l words (Space s) va n ≡ Some t → word_at (stored words f i x) va (top_level - n) t ≡ Some word → is_global word ≡ false
-    plain-leaf s va n t word has home within deep e w = elim (is-word f i t (vpn_of va (top_level - n))) [
+    plain-leaf : (s va n t word : ℕ) → s < length l.homes → slice_index l.homes s ≡ h → IsIn l (Space s) va → n ≤ top_level l.scheme
+        → table_on l words (Space s) va n ≡ Some t → word_at (stored words f i x) va (top_level l.scheme - n) t ≡ Some word → is_global word ≡ false
+    plain-leaf s va n t word has home within deep e w = elim (is-word f i t (vpn_of va (top_level l.scheme - n))) [
       | inl same ↦
           let is : x ≡ word = let e' = sym (stored-here words f i x t _ same.0 same.1) ∙ w in cc in
           ap is_global (sym is) ∙ here.plain s va n has home within deep (e ∙ ap Some (sym same.0)) (sym same.1)
@@ -124,14 +124,14 @@ module _ (l : Layout) (fits : IsLayout l) (words : Tables) (h used : ℕ) (tree 
       closed = λ g j p home own e. tree.closed g j p home own (sym (like g j) ∙ e);
       once = λ g j g' j' p home home' own own' e e'. tree.once g j g' j' p home home' own own' (sym (like g j) ∙ e) (sym (like g' j') ∙ e');
       unused = unused-stored;
-      bottom = λ place va t has home within e. like t _ ∙ tree.bottom place va t has home within (sym (table_on-leaf place va (start_level place)) ∙ e);
+      bottom = λ place va t has home within e. like t _ ∙ tree.bottom place va t has home within (sym (table_on-leaf place va (start_level l place)) ∙ e);
       plain = λ s va n t word has home within deep e w. plain-leaf s va n t word has home within deep (sym (table_on-leaf (Space s) va n) ∙ e) w;
     }
 
   -- a store of a pointer to the lowest unused spare frame, above the lowest level
   module _ (room : used < slice_index l.spares h) (new : pointed (Some x) ≡ Some (spare_ppn l h + used))
       (high : (place : Place) (va n : ℕ) → HasPlace l place → home_of l place ≡ h → IsIn l place va → table_on l words place va n ≡ Some f
-      → vpn_of va (start_level place - n) ≡ i → n < start_level place) where
+      → vpn_of va (start_level l place - n) ≡ i → n < start_level l place) where
     fresh : ℕ
     fresh = spare_ppn l h + used
 
@@ -145,16 +145,16 @@ module _ (l : Layout) (fits : IsLayout l) (words : Tables) (h used : ℕ) (tree 
     pub table_on-pointer : (place : Place) (va n t : ℕ) → table_on l (stored words f i x) place va n ≡ Some t → (table_on l words place va n ≡ Some t) ⊎ (t ≡ spare_ppn l h + used)
     table_on-pointer place va zero t e = inl e
     table_on-pointer place va (suc n) t e =
-        let up = above (stored words f i x) va (start_level place) (start_table l place va) n t e in
+        let up = above (stored words f i x) va (start_level l place) (start_table l place va) n t e in
         elim (table_on-pointer place va n up.table_above up.on) [
           | inr new-table ↦
-              absurd (fresh-points (vpn_of va (start_level place - n)) t (vpn-below va (start_level place - n))
-              (subst (λ g. pointed (stored words f i x g (vpn_of va (start_level place - n))) ≡ Some t) new-table up.points))
-          | inl old ↦ elim (is-word f i up.table_above (vpn_of va (start_level place - n))) [
+              absurd (fresh-points (vpn_of va (start_level l place - n)) t (vpn-below va (start_level l place - n))
+              (subst (λ g. pointed (stored words f i x g (vpn_of va (start_level l place - n))) ≡ Some t) new-table up.points))
+          | inl old ↦ elim (is-word f i up.table_above (vpn_of va (start_level l place - n))) [
             | inl same ↦
                 inr (let is : Some (spare_ppn l h + used) ≡ Some t = sym new ∙ ap pointed (sym (stored-here words f i x _ _ same.0 same.1)) ∙ up.points in sym (some-same _ _ is))
             | inr apart ↦
-                inl (below words va (start_level place) (start_table l place va) n up.table_above old ∙ ap pointed (sym (stored-there words f i x _ _ apart)) ∙ up.points)
+                inl (below words va (start_level l place) (start_table l place va) n up.table_above old ∙ ap pointed (sym (stored-there words f i x _ _ apart)) ∙ up.points)
           ]
         ]
 
@@ -162,36 +162,36 @@ module _ (l : Layout) (fits : IsLayout l) (words : Tables) (h used : ℕ) (tree 
     pub table_on-kept : (place : Place) (va n t : ℕ) → table_on l words place va n ≡ Some t → table_on l (stored words f i x) place va n ≡ Some t
     table_on-kept place va zero t e = e
     table_on-kept place va (suc n) t e =
-        let up = above words va (start_level place) (start_table l place va) n t e in
+        let up = above words va (start_level l place) (start_table l place va) n t e in
         let now = table_on-kept place va n up.table_above up.on in
-        elim (is-word f i up.table_above (vpn_of va (start_level place - n))) [
+        elim (is-word f i up.table_above (vpn_of va (start_level l place - n))) [
           | inl same ↦
               let no-table : None ≡ Some t = sym here.old ∙ ap (λ g. pointed (words g i)) same.0 ∙ ap (λ j. pointed (words up.table_above j)) same.1 ∙ up.points in absurd cc
           | inr apart ↦
-              below (stored words f i x) va (start_level place) (start_table l place va) n up.table_above now ∙ ap pointed (stored-there words f i x _ _ apart) ∙ up.points
+              below (stored words f i x) va (start_level l place) (start_table l place va) n up.table_above now ∙ ap pointed (stored-there words f i x _ _ apart) ∙ up.points
         ]
 
     bottom-pointer : (place : Place) (va t : ℕ) → HasPlace l place → home_of l place ≡ h → IsIn l place va
-        → table_on l (stored words f i x) place va (start_level place) ≡ Some t → pointed (word_at (stored words f i x) va 0 t) ≡ None
+        → table_on l (stored words f i x) place va (start_level l place) ≡ Some t → pointed (word_at (stored words f i x) va 0 t) ≡ None
     bottom-pointer place va t has home within e =
-        elim (table_on-pointer place va (start_level place) t e) [
+        elim (table_on-pointer place va (start_level l place) t e) [
           | inr new-table ↦ ap (λ g. pointed (stored words f i x g (vpn_of va 0))) new-table ∙ ap pointed (fresh-empty (vpn_of va 0) (vpn-below va 0)) ∙ pointed-zero
           | inl old ↦ elim (is-word f i t (vpn_of va 0)) [
             | inl same ↦
-                let zero-level : start_level place - start_level place ≡ 0 = omega arith in
-                absurd (omega (arith, high place va (start_level place) has home within (old ∙ ap Some (sym same.0)) (ap (vpn_of va) zero-level ∙ sym same.1)))
+                let zero-level : start_level l place - start_level l place ≡ 0 = omega arith in
+                absurd (omega (arith, high place va (start_level l place) has home within (old ∙ ap Some (sym same.0)) (ap (vpn_of va) zero-level ∙ sym same.1)))
             | inr apart ↦ ap pointed (stored-there words f i x _ _ apart) ∙ tree.bottom place va t has home within old
           ]
         ]
 
-    plain-pointer : (s va n t word : ℕ) → s < length l.homes → slice_index l.homes s ≡ h → IsIn l (Space s) va → n ≤ top_level
-        → table_on l (stored words f i x) (Space s) va n ≡ Some t → word_at (stored words f i x) va (top_level - n) t ≡ Some word → is_global word ≡ false
+    plain-pointer : (s va n t word : ℕ) → s < length l.homes → slice_index l.homes s ≡ h → IsIn l (Space s) va → n ≤ top_level l.scheme
+        → table_on l (stored words f i x) (Space s) va n ≡ Some t → word_at (stored words f i x) va (top_level l.scheme - n) t ≡ Some word → is_global word ≡ false
     plain-pointer s va n t word has home within deep e w =
         elim (table_on-pointer (Space s) va n t e) [
           | inr new-table ↦
-              let empty : Some 0 ≡ Some word = sym (fresh-empty (vpn_of va (top_level - n)) (vpn-below va (top_level - n))) ∙ ap (λ g. stored words f i x g (vpn_of va (top_level - n))) (sym new-table) ∙ w in
+              let empty : Some 0 ≡ Some word = sym (fresh-empty (vpn_of va (top_level l.scheme - n)) (vpn-below va (top_level l.scheme - n))) ∙ ap (λ g. stored words f i x g (vpn_of va (top_level l.scheme - n))) (sym new-table) ∙ w in
               ap is_global (sym (some-same _ _ empty)) ∙ is_global-zero
-          | inl old ↦ elim (is-word f i t (vpn_of va (top_level - n))) [
+          | inl old ↦ elim (is-word f i t (vpn_of va (top_level l.scheme - n))) [
             | inl same ↦
                 let is : x ≡ word = some-same _ _ (sym (stored-here words f i x t _ same.0 same.1) ∙ w) in
                 ap is_global (sym is) ∙ here.plain s va n has home within deep (old ∙ ap Some (sym same.0)) (sym same.1)

@@ -38,9 +38,9 @@ pub record Accepted (l : Layout) (words : Tables) (spare : Option ℕ) (hart : �
   pub within : IsIn l (place_of wish) (page_of wish).base
   pub by : store.hart ≡ hart
   pub depth : ℕ
-  pub deep : depth ≤ start_level (place_of wish)
+  pub deep : depth ≤ start_level l (place_of wish)
   pub on : table_on l words (place_of wish) (page_of wish).base depth ≡ Some store.ppn
-  pub index : store.index ≡ vpn_of (page_of wish).base (start_level (place_of wish) - depth)
+  pub index : store.index ≡ vpn_of (page_of wish).base (start_level l (place_of wish) - depth)
   pub old : ℕ
   pub word : words store.ppn store.index ≡ Some old
-  pub writes : Writes spare (start_level (place_of wish) - depth) old wish store.word
+  pub writes : Writes spare (start_level l (place_of wish) - depth) old wish store.word

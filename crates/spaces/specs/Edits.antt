@@ -3,7 +3,7 @@ use Rattle.std.specs.Prelude.{ℕ, Bool, zero, suc, ◌+◌, ◌-◌, ◌%◌, �
 use Rattle.pte.specs.declared.flags.PteFlags.{PteFlags}
 use Rattle.pte.specs.declared.entry.Kind.{Kind}
 use Rattle.pte.specs.declared.entry.Kind.TheVariants as kinds
-use Rattle.pte.specs.Address.{Span, top_level, level_of, pages_of, vpn_of}
+use Rattle.pte.specs.Address.{Span, fits, top_level, level_of, pages_of, vpn_of}
 use Rattle.pte.specs.Entry.{kind_of, ppn_bits, table_word, leaf_word, is_no_leaf, is_global}
 use Rattle.walk.specs.Leads.{Tables, word_at}
 use Rattle.spaces.specs.declared.places.Place.{Place}
@@ -37,13 +37,16 @@ is_kernel (Space s) = false
 is_kernel Kernel = true
 
 -- the slot of the root that the page lies in
-abbrev pub root_slot : Span → ℕ
-root_slot page = vpn_of page.base top_level
+abbrev pub root_slot : Layout → Span → ℕ
+root_slot l page = vpn_of page.base (top_level l.scheme)
 
--- a page of a space outside the user's half, or of the kernel outside the window
+-- a page that is none of the scheme, or of a space outside the user's half, or of the kernel outside the window
+abbrev pub is_outside : Layout → Place → Span → Bool
+is_outside l (Space s) page = nat_le user_slots (root_slot l page)
+is_outside l Kernel page = nat_lt (root_slot l page) (first_window_slot l)
+
 abbrev pub is_wrong_half : Layout → Place → Span → Bool
-is_wrong_half l (Space s) page = nat_le user_slots (root_slot page)
-is_wrong_half l Kernel page = nat_lt (root_slot page) (first_window_slot l)
+is_wrong_half l place page = not (fits l.scheme page) || is_outside l place page
 
 -- flags of no leaf, or G set for a space or clear for the kernel
 abbrev pub is_wrong_global : Place → PteFlags → Bool
@@ -151,7 +154,7 @@ unless (Some fault) r = Err fault
 -- the end of the path of the wished page
 abbrev pub wish_end : Layout → Tables → Wish → PathEnd
 wish_end l words wish =
-    path_end words (page_of wish).base (level_of (page_of wish).size) (top_level - level_of (page_of wish).size) (path_root l (place_of wish))
+    path_end words (page_of wish).base (level_of (page_of wish).size) (top_level l.scheme - level_of (page_of wish).size) (path_root l (place_of wish))
 
 -- the store that is due, or the first fault
 unfoldable pub edit_of : Layout → Tables → Option ℕ → ℕ → Wish → Result Store MapFault

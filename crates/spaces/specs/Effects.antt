@@ -1,6 +1,7 @@
 -- What an edit does to the pages that the roots map.
 use Rattle.std.specs.Prelude.{ℕ, Bool, ◌≡◌, ◌+◌, ◌-◌, ◌<◌, ◌≤◌, ◌⊎◌, ◌↔◌, length, Option, Some, IsSome, IsNone, Ok, unwrap_or}
 use Rattle.pte.specs.declared.flags.PteFlags.{PteFlags}
+use Rattle.pte.specs.declared.scheme.Scheme.{Scheme}
 use Rattle.pte.specs.Address.{Span, IsPage, pages_of}
 use Rattle.walk.specs.Leads.{Tables, Leads, word_at}
 use Rattle.walk.specs.Maps.{Maps, page_number}
@@ -33,27 +34,27 @@ IsAbout place page s number = HangsBelow place s × IsPart page number
 -- every root maps what it mapped
 abbrev pub SameMaps : Layout → Tables → Tables → Type 0
 SameMaps l old new = (s number ppn : ℕ) (flags : PteFlags) (global : Bool) → s < length l.homes
-    → Maps new (root_ppn l s) number ppn flags global ↔ Maps old (root_ppn l s) number ppn flags global
+    → Maps l.scheme new (root_ppn l s) number ppn flags global ↔ Maps l.scheme old (root_ppn l s) number ppn flags global
 
 -- the page's members are added, with PPNs from this one on, and nothing else changes in any root
 abbrev pub AddsPage : Layout → Place → Span → ℕ → PteFlags → Tables → Tables → Type 0
 AddsPage l place page first flags old new = (s number ppn : ℕ) (f : PteFlags) (global : Bool) → s < length l.homes
-    → Maps new (root_ppn l s) number ppn f global
-    ↔ (Maps old (root_ppn l s) number ppn f global
+    → Maps l.scheme new (root_ppn l s) number ppn f global
+    ↔ (Maps l.scheme old (root_ppn l s) number ppn f global
     ⊎ (IsAbout place page s number × (ppn ≡ first + (number - page_number page.base)) × (f ≡ seven flags) × (global ≡ is_kernel place)))
 
 -- the page's members are taken away, and nothing else changes in any root
 abbrev pub RemovesPage : Layout → Place → Span → Tables → Tables → Type 0
 RemovesPage l place page old new = (s number ppn : ℕ) (f : PteFlags) (global : Bool) → s < length l.homes
-    → Maps new (root_ppn l s) number ppn f global
-    ↔ (Maps old (root_ppn l s) number ppn f global × (IsAbout place page s number → ⊥))
+    → Maps l.scheme new (root_ppn l s) number ppn f global
+    ↔ (Maps l.scheme old (root_ppn l s) number ppn f global × (IsAbout place page s number → ⊥))
 
 -- the flags of the page's members change, and nothing else in any root
 abbrev pub ChangesFlags : Layout → Place → Span → PteFlags → Tables → Tables → Type 0
 ChangesFlags l place page flags old new = (s number ppn : ℕ) (f : PteFlags) (global : Bool) → s < length l.homes
-    → Maps new (root_ppn l s) number ppn f global
-    ↔ ((Maps old (root_ppn l s) number ppn f global × (IsAbout place page s number → ⊥))
-    ⊎ (IsAbout place page s number × (f ≡ seven flags) × ((was : PteFlags) × Maps old (root_ppn l s) number ppn was global)))
+    → Maps l.scheme new (root_ppn l s) number ppn f global
+    ↔ ((Maps l.scheme old (root_ppn l s) number ppn f global × (IsAbout place page s number → ⊥))
+    ⊎ (IsAbout place page s number × (f ≡ seven flags) × ((was : PteFlags) × Maps l.scheme old (root_ppn l s) number ppn was global)))
 
 -- an edit of a tree that is accepted
 pub record IsEdit (l : Layout) (words : Tables) (used : ℕ → ℕ) (hart : ℕ) (wish : Wish) (store : Store) : Type 0 where
@@ -71,8 +72,8 @@ HasEffect l (Unmap place page) store old new = RemovesPage l place page old new
 HasEffect l (Protect place page flags) store old new = ChangesFlags l place page flags old new
 
 -- where a path ends anything leads, and nothing leads lower, down to the lowest level that is looked at
-pub record IsEnd (words : Tables) (root va lowest : ℕ) (end : PathEnd) : Type 0 where
+pub record IsEnd (scheme : Scheme) (words : Tables) (root va lowest : ℕ) (end : PathEnd) : Type 0 where
   pub from : lowest ≤ end.level
-  pub leads : Leads words root va end.level end.table (word_at words va end.level end.table)
+  pub leads : Leads scheme words root va end.level end.table (word_at words va end.level end.table)
   pub entry : end.entry ≡ unwrap_or (word_at words va end.level end.table) 0
-  pub is_lowest : (j table : ℕ) (word : Option ℕ) → lowest ≤ j → Leads words root va j table word → end.level ≤ j
+  pub is_lowest : (j table : ℕ) (word : Option ℕ) → lowest ≤ j → Leads scheme words root va j table word → end.level ≤ j

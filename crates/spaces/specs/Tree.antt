@@ -11,22 +11,22 @@ use Rattle.spaces.specs.declared.places.Place.TheVariants.{Space, Kernel}
 use Rattle.spaces.specs.Layout.{Layout, HasPlace, home_of, is_root, root_ppn, window_ppn, spare_ppn, user_slots, first_window_slot}
 
 -- the topmost table of a place on the path of an address, and its level: a space's root, or a table of the window
-abbrev pub start_level : Place → ℕ
-start_level (Space s) = top_level
-start_level Kernel = top_level - 1
+abbrev pub start_level : Layout → Place → ℕ
+start_level l (Space s) = top_level l.scheme
+start_level l Kernel = top_level l.scheme - 1
 
 abbrev pub start_table : Layout → Place → ℕ → ℕ
 start_table l (Space s) va = root_ppn l s
-start_table l Kernel va = window_ppn l (vpn_of va top_level - first_window_slot l)
+start_table l Kernel va = window_ppn l (vpn_of va (top_level l.scheme) - first_window_slot l)
 
 -- the address lies in the place's part of a root
 abbrev pub IsIn : Layout → Place → ℕ → Type 0
-IsIn l (Space s) va = vpn_of va top_level < user_slots
-IsIn l Kernel va = first_window_slot l ≤ vpn_of va top_level
+IsIn l (Space s) va = vpn_of va (top_level l.scheme) < user_slots
+IsIn l Kernel va = first_window_slot l ≤ vpn_of va (top_level l.scheme)
 
 -- the table so many levels below the topmost, on the path of an address in a place
 abbrev pub table_on : Layout → Tables → Place → ℕ → ℕ → Option ℕ
-table_on l words place va n = table_below words va (start_level place) (start_table l place va) n
+table_on l words place va n = table_below words va (start_level l place) (start_table l place va) n
 
 -- the frame is at home on the hart: a root of its spaces, a table of the window, or a spare frame
 pub data IsAtHome (l : Layout) (h f : ℕ) : Type 0 where
@@ -68,10 +68,10 @@ pub record IsHome (l : Layout) (words : Tables) (h used : ℕ) : Type 0 where
   pub unused : (n i : ℕ) → used ≤ n → n < slice_index l.spares h → i < table_length → words (spare_ppn l h + n) i ≡ Some 0
   -- pointers lead down level by level: at the lowest there is none
   pub bottom : (place : Place) (va t : ℕ) → HasPlace l place → home_of l place ≡ h → IsIn l place va
-      → table_on l words place va (start_level place) ≡ Some t → pointed (word_at words va 0 t) ≡ None
+      → table_on l words place va (start_level l place) ≡ Some t → pointed (word_at words va 0 t) ≡ None
   -- no word of a space has G
-  pub plain : (s va n t word : ℕ) → s < length l.homes → slice_index l.homes s ≡ h → IsIn l (Space s) va → n ≤ top_level
-      → table_on l words (Space s) va n ≡ Some t → word_at words va (top_level - n) t ≡ Some word → is_global word ≡ false
+  pub plain : (s va n t word : ℕ) → s < length l.homes → slice_index l.homes s ≡ h → IsIn l (Space s) va → n ≤ top_level l.scheme
+      → table_on l words (Space s) va n ≡ Some t → word_at words va (top_level l.scheme - n) t ≡ Some word → is_global word ≡ false
 
 -- the frames of all homes
 abbrev pub IsTree : Layout → Tables → (ℕ → ℕ) → Type 0

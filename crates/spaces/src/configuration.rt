@@ -5,7 +5,7 @@ ghost use Rattle.std.specs.List.{list_any};
 ghost use Rattle.spaces.specs.Limits.{asids_differ, max_harts};
 
 use arrayvec::ArrayVec;
-use pte::PPN_BITS;
+use pte::{PPN_BITS, Scheme};
 pub use pte::{MAX_CAPACITY, MAX_HARTS};
 
 /// How many spaces there may be.
@@ -32,6 +32,8 @@ pub struct Space {
 /// What memory is opened with.
 #[derive(Drop)]
 pub struct Config {
+    /// The scheme of translation.
+    pub scheme: Scheme,
     /// The number of harts, from 1 to 8.
     pub harts: u16,
     /// The spaces, at least one, with homes below the number of harts and different ASIDs.

@@ -1,21 +1,21 @@
 //! Edits: the one store that maps, unmaps or protects a page.
 
 ghost use Rattle.std.specs.Prelude.{◌≡◌, ◌<◌, ◌^◌, ◌-◌, ◌≤◌, IfNone, IfOk, None, ℕ, slice_index};
-ghost use Rattle.pte.specs.Address.{table_length, top_level};
+ghost use Rattle.pte.specs.Address.{table_length, level_of, top_level, widest};
 ghost use Rattle.pte.specs.Entry.{ppn_bits};
 ghost use Rattle.spaces.specs.Layout.{HasPlace};
 ghost use Rattle.spaces.specs.Held.{IsDue, spare_of, words_of};
 ghost use Rattle.spaces.specs.Applied.{used_by_all, words_after};
 ghost use Rattle.spaces.specs.Effects.{HasEffect, IsEdit};
 ghost use Rattle.spaces.specs.declared.wishes.Wish.{Wish as WishOf};
-ghost use Rattle.spaces.specs.Edits.{edit_of, leaf_fault, path_end, path_root, place_of, wish_fault};
+ghost use Rattle.spaces.specs.Edits.{edit_of, leaf_fault, path_end, page_of, path_root, place_of, wish_fault};
 ghost use Rattle.spaces.specs.declared.wishes.Wish.TheVariants as wish;
 
 use crate::faults::MapFault;
 use crate::frames::Memory;
 use crate::places::Place;
 use crate::wishes::{PathEnd, Wish};
-use pte::{Kind, Page, Pte, PteFlags, TOP_LEVEL, VirtAddr};
+use pte::{Kind, Page, Pte, PteFlags, VirtAddr};
 use std::marker::Model;
 use walk::Words;
 
@@ -63,11 +63,11 @@ impl Edit {
 
 /// Where the path of an address ends, which is looked at down to a level.
 fn path_end(memory: &Memory, va: VirtAddr, lowest: u8, root: u64) -> PathEnd
-    requires { lowest ≤ top_level }
-    ensures value { result ≡ path_end (words_of memory.now) va lowest (top_level - lowest) root }
-    ensures range { result.level ≤ top_level }
+    requires { lowest ≤ top_level memory.now.layout.scheme }
+    ensures value { result ≡ path_end (words_of memory.now) va lowest (top_level memory.now.layout.scheme - lowest) root }
+    ensures range { result.level ≤ top_level widest }
 {
-    let mut level = TOP_LEVEL;
+    let mut level = memory.scheme().top_level();
     let mut table = root;
     loop {
         let entry = memory.word(table, va.vpn(level)).unwrap_or(0);
@@ -99,6 +99,7 @@ fn path_end(memory: &Memory, va: VirtAddr, lowest: u8, root: u64) -> PathEnd
 fn wish_fault(memory: &Memory, hart: u8, wish: &Wish) -> Option<MapFault>
     requires { HasPlace memory.now.layout (place_of wish.now) }
     ensures value { result ≡ wish_fault memory.now.layout hart wish.now }
+    ensures page { IfNone result (level_of (page_of wish.now).size ≤ top_level memory.now.layout.scheme) }
     ensures leaf { IfNone result (leaf_fault wish.now ≡ None) }
 {
     if hart != memory.home(wish.place()) {

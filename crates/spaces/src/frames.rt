@@ -14,7 +14,7 @@ use crate::configuration::{Config, MAX_HARTS, MAX_SPACES, Space, total};
 use crate::faults::OpenFault;
 use crate::places::Place;
 use arrayvec::ArrayVec;
-use pte::{Kind, Page, Pte, TABLE_LENGTH, TOP_LEVEL};
+use pte::{Kind, Page, Pte, Scheme, TABLE_LENGTH};
 use std::alloc::{AllocError, Global};
 use std::marker::Model;
 use walk::Words;
@@ -25,6 +25,7 @@ const USER_SLOTS: u16 = TABLE_LENGTH / 2;
 /// Table memory: the words of the tables of all spaces, which are at home on the harts.
 #[derive(Drop)]
 pub struct Memory {
+    scheme: Scheme,
     window: u16,
     base: u64,
     homes: ArrayVec<u8, MAX_SPACES>,
@@ -39,13 +40,13 @@ impl Model for Memory {
     ghost Value = { Held };
 
     ghost view = { λ m. record {
-      layout = record { window = m.window; base = m.base; homes = m.homes.items; spares = m.spares.items };
+      layout = record { scheme = m.scheme; window = m.window; base = m.base; homes = m.homes.items; spares = m.spares.items };
       words = m.words.items;
       used = m.used.items;
     } };
 
     ghost invariant = { λ m. IsMemory (record {
-      layout = record { window = m.window; base = m.base; homes = m.homes.items; spares = m.spares.items };
+      layout = record { scheme = m.scheme; window = m.window; base = m.base; homes = m.homes.items; spares = m.spares.items };
       words = m.words.items;
       used = m.used.items;
     }) };
@@ -135,6 +136,7 @@ impl Memory {
         }
         let words = first_words(alloc, config)?;
         Ok(Memory {
+            scheme: config.scheme,
             window: config.window,
             base: config.base,
             homes: homes_of(&config.spaces),
@@ -177,6 +179,13 @@ impl Memory {
         }
     }
 
+    /// The scheme of translation.
+    pub fn scheme(&self) -> Scheme
+        ensures { result ≡ self.now.layout.scheme }
+    {
+        self.scheme
+    }
+
     /// The PPN of the root of a space.
     pub fn root(&self, space: u8) -> u64
         requires { space < length self.now.layout.homes }
@@ -197,16 +206,17 @@ impl Memory {
         }
     }
 
-    /// Whether the page lies outside the half of the root that the place has.
+    /// Whether the page is none of the scheme, or lies outside the half of the root that the place has.
     pub(crate) fn is_wrong_half(&self, place: Place, page: Page) -> bool
         ensures { result ≡ is_wrong_half self.now.layout place page }
     {
         let base = page.base();
-        let slot = base.vpn(TOP_LEVEL);
-        match place {
+        let slot = base.vpn(self.scheme.top_level());
+        let is_outside = match place {
             Place::Space(_) => slot >= USER_SLOTS,
             Place::Kernel => slot < TABLE_LENGTH - self.window,
-        }
+        };
+        !page.fits(self.scheme) || is_outside
     }
 
     /// The root that the path of a page starts at.

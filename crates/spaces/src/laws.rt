@@ -3,6 +3,7 @@
 ghost use Rattle.std.specs.Prelude.{◌≡◌, ◌-◌, ◌<◌, ◌≤◌, ◌↔◌, ◌*◌, ℕ, Bool, IsTrue, length};
 ghost use Rattle.pte.specs.declared.flags.PteFlags.{PteFlags};
 ghost use Rattle.pte.specs.Address.{bytes_of, Span, top_level, vpn_of};
+ghost use Rattle.pte.specs.declared.scheme.Scheme.{Scheme};
 ghost use Rattle.walk.specs.Leads.{Tables};
 ghost use Rattle.walk.specs.Maps.{Maps};
 ghost use Rattle.spaces.specs.declared.configuration.Config.{Config as Configuration};
@@ -33,7 +34,8 @@ pub fn opening_is_tree()
 
 /// Where a path ends is the lowest level, down to the one that is looked at, at which anything leads.
 pub fn path_ends_lowest()
-    ensures { (words : Tables) (root va lowest : ℕ) → lowest ≤ top_level → IsEnd words root va lowest (path_end words va lowest (top_level - lowest) root) }
+    ensures { (scheme : Scheme) (words : Tables) (root va lowest : ℕ) → lowest ≤ top_level scheme
+        → IsEnd scheme words root va lowest (path_end words va lowest (top_level scheme - lowest) root) }
 {}
 
 /// An accepted edit writes on its page's path: a pointer or a leaf in place of 0, 0 in place of a leaf, or a leaf with the
@@ -72,7 +74,7 @@ pub fn unmapped_page_is_gone()
     ensures { (l : Layout) (words : Tables) (used : ℕ → ℕ) (hart : ℕ) (place : PlaceOf) (page : Span) (store : Store)
         → IsEdit l words used hart (wish.Unmap place page) store
         → (s number ppn : ℕ) (flags : PteFlags) (global : Bool) → s < length l.homes → IsAbout place page s number
-        → Maps (words_after words store) (root_ppn l s) number ppn flags global → ⊥ }
+        → Maps l.scheme (words_after words store) (root_ppn l s) number ppn flags global → ⊥ }
 {}
 
 /// An accepted map keeps every mapping of every root.
@@ -80,20 +82,20 @@ pub fn map_keeps_mappings()
     ensures { (l : Layout) (words : Tables) (used : ℕ → ℕ) (hart : ℕ) (place : PlaceOf) (page : Span) (first : ℕ) (f : PteFlags) (store : Store)
         → IsEdit l words used hart (wish.Map place page first f) store
         → (s number ppn : ℕ) (flags : PteFlags) (global : Bool) → s < length l.homes
-        → Maps words (root_ppn l s) number ppn flags global → Maps (words_after words store) (root_ppn l s) number ppn flags global }
+        → Maps l.scheme words (root_ppn l s) number ppn flags global → Maps l.scheme (words_after words store) (root_ppn l s) number ppn flags global }
 {}
 
 /// In a tree a path of the kernel, of a page that is no top-level one, may be read from the window's own table: it ends
 /// where the path from any root ends.
 pub fn kernel_path_starts_in_the_window()
     ensures { (l : Layout) (words : Tables) (used : ℕ → ℕ) → IsLayout l → IsTree l words used → (s va lowest : ℕ) → s < length l.homes
-        → IsIn l kernel va → lowest < top_level
-        → path_end words va lowest (top_level - lowest) (root_ppn l s) ≡ path_end words va lowest (top_level - 1 - lowest) (start_table l kernel va) }
+        → IsIn l kernel va → lowest < top_level l.scheme
+        → path_end words va lowest (top_level l.scheme - lowest) (root_ppn l s) ≡ path_end words va lowest (top_level l.scheme - 1 - lowest) (start_table l kernel va) }
 {}
 
 /// In a tree what is mapped is global exactly in the window.
 pub fn window_is_global()
     ensures { (l : Layout) (words : Tables) (used : ℕ → ℕ) → IsLayout l → IsTree l words used
-        → (s number ppn : ℕ) (flags : PteFlags) (global : Bool) → s < length l.homes → Maps words (root_ppn l s) number ppn flags global
-        → IsTrue global ↔ (first_window_slot l ≤ vpn_of (number * bytes_of Kib4) top_level) }
+        → (s number ppn : ℕ) (flags : PteFlags) (global : Bool) → s < length l.homes → Maps l.scheme words (root_ppn l s) number ppn flags global
+        → IsTrue global ↔ (first_window_slot l ≤ vpn_of (number * bytes_of Kib4) (top_level l.scheme)) }
 {}

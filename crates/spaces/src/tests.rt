@@ -57,6 +57,7 @@ fn spaces_of(list: &[(u8, u16)]) -> ArrayVec<Space, 32> {
 /// One hart with 8 spare frames, one space of ASID 1, one slot of the window.
 fn default_config() -> Config {
     Config {
+        scheme: pte::Scheme::Sv39,
         harts: 1,
         spaces: spaces_of(&[(0, 1)]),
         window: 1,

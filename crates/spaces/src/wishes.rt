@@ -73,7 +73,7 @@ impl Place {
 }
 
 impl Wish {
-    ghost use Rattle.pte.specs.Address.{level_of, top_level};
+    ghost use Rattle.pte.specs.Address.{level_of, top_level, widest};
     ghost use Rattle.pte.specs.Entry.{kind_of};
     ghost use Rattle.spaces.specs.Edits.{due_word, leaf_fault, page_of, page_word, place_of, upper_word};
 
@@ -98,7 +98,7 @@ impl Wish {
     /// The level of the page's leaf.
     pub(crate) fn level(&self) -> u8
         ensures level { result ≡ level_of (page_of self.now).size }
-        ensures range { result ≤ top_level }
+        ensures range { result ≤ top_level widest }
     {
         let page = self.page();
         page.size().level()

@@ -75,7 +75,7 @@ module _ (C : Setup) (m : State) (H : History) (st : Stands C m H) (is : IsMachi
   pub take_reply_due : (h s : ℕ) → reply_to m (Take h s) ≡ due C H (Take h s)
   take_reply_due h s = pair_there C m h s _ _ st.setup (λ lh ls.
       let hart = st.harts h lh in
-      ap (λ (v : Bool). refuse v Walking (refuse (is_some (hart_at m h).serving) Serving (next_answer (slice_get (mailbox_at m s h).waiting 0)))) (walks_alike _ _ _ _ hart.walk)
+      ap (λ (v : Bool). refuse v Walking (refuse (is_some (hart_at m h).serving) Serving (next_answer (slice_get (mailbox_at m s h).waiting 0)))) (walks_alike C.layout.scheme _ _ _ _ hart.walk)
       ∙ ap (λ (v : Option Service). refuse (is_some (walk_of H h)) Walking (refuse (is_some v) Serving (next_answer (slice_get (mailbox_at m s h).waiting 0)))) hart.serving
       ∙ ap (λ (v : Bool). refuse (is_some (walk_of H h)) Walking (refuse v Serving (next_answer (slice_get (mailbox_at m s h).waiting 0)))) (serves_alike (has_fenced H h) (served C H h))
       ∙ ap (λ (mailbox : MailboxState). refuse (is_some (walk_of H h)) Walking (refuse (is_some (served C H h)) Serving (next_answer (slice_get mailbox.waiting 0)))) (st.mailboxes s h ls lh)

@@ -1,8 +1,9 @@
 -- What a machine that stands at a history answers to the events of its harts and tables is what is due.
+use Rattle.pte.specs.declared.scheme.Scheme.{Scheme}
 use Rattle.std.proofs.Common.{◌≡◌, ℕ, ◌+◌, ◌<◌, Bool, true, false, cond, not, List, Option, Some, None, refl, ap, ◌∙◌}
 use Rattle.std.specs.Prelude.{is_some, is_none, slice_index, Result, Ok, Err}
 use Rattle.std.proofs.Math.Path.{fun_ext}
-use Rattle.pte.specs.Address.{Span, level_count}
+use Rattle.pte.specs.Address.{Span, level_count, is_canonical}
 use Rattle.pte.specs.declared.flags.PteFlags.{PteFlags}
 use Rattle.pte.specs.declared.permission.Access.{Access}
 use Rattle.pte.specs.declared.permission.Ctx.{Ctx}
@@ -20,10 +21,9 @@ use Rattle.walk.proofs.Loads.{load_goes_on, load_ends}
 use Rattle.spaces.specs.declared.places.Place.{Place}
 use Rattle.spaces.specs.declared.wishes.Wish.{Wish}
 use Rattle.spaces.specs.declared.wishes.Wish.TheVariants as wish
-use Rattle.spaces.specs.Layout.{root_ppn}
+use Rattle.spaces.specs.Layout.{Layout, root_ppn}
 use Rattle.tlb.specs.declared.store.Entry.{Entry}
 use Rattle.tlb.specs.Entries.{first_match}
-use Rattle.tlb.specs.Fence.{is_canonical}
 use Rattle.history.specs.Setup.{Setup, asid_of}
 use Rattle.history.specs.declared.event.Event.TheVariants.{Begin, Load, Map, Unmap, Protect, Switch, Fence, ServeFence, Ack}
 use Rattle.history.specs.declared.refusal.Refusal.TheVariants.{NoSpace, NotFenced, Walking as Walks, Serving as Serves, NotServing as NotServes}
@@ -47,14 +47,14 @@ idles_alike fenced None = refl
 idles_alike fenced (Some sent) = refl
 
 -- what a load makes of a walk that holds what the history says
-pub record LoadMakes (words : Tables) (root : ℕ) (stage : Stage) (walk : Walking) : Type 0 where
-  pub more : goes_on words root walk.va walk.loads ≡ true → (next : Stage) × (next_of words stage ≡ progress.More next) × IsStageOf words root next (record { va = walk.va; access = walk.access; ctx = walk.ctx; loads = walk.loads + 1 })
-  pub ends : goes_on words root walk.va walk.loads ≡ false → next_of words stage ≡ ended (answer_after level_count words (start_of root walk.va walk.access walk.ctx))
+pub record LoadMakes (scheme : Scheme) (words : Tables) (root : ℕ) (stage : Stage) (walk : Walking) : Type 0 where
+  pub more : goes_on scheme words root walk.va walk.loads ≡ true → (next : Stage) × (next_of words stage ≡ progress.More next) × IsStageOf scheme words root next (record { va = walk.va; access = walk.access; ctx = walk.ctx; loads = walk.loads + 1 })
+  pub ends : goes_on scheme words root walk.va walk.loads ≡ false → next_of words stage ≡ ended (answer_after (level_count scheme) words (start_of scheme root walk.va walk.access walk.ctx))
 
-pub load_makes : (words : Tables) (root : ℕ) (stage : Stage) (walk : Walking) → IsStageOf words root stage walk → LoadMakes words root stage walk
-load_makes words root stage walk same = record {
+pub load_makes : (scheme : Scheme) (words : Tables) (root : ℕ) (stage : Stage) (walk : Walking) → IsStageOf scheme words root stage walk → LoadMakes scheme words root stage walk
+load_makes scheme words root stage walk same = record {
   more = λ goes.
-      let m = load_goes_on words root walk.loads stage same.on same.level (ap (λ va. goes_on words root va walk.loads) same.va ∙ goes) in (
+      let m = load_goes_on scheme words root walk.loads stage same.on same.level (ap (λ va. goes_on scheme words root va walk.loads) same.va ∙ goes) in (
         m.0,
         m.1,
         record {
@@ -66,32 +66,32 @@ load_makes words root stage walk same = record {
         },
       );
   ends = λ stops.
-      load_ends words root walk.loads stage same.on same.level (ap (λ va. goes_on words root va walk.loads) same.va ∙ stops)
-      ∙ ap (λ va. ended (answer_after level_count words (start_of root va stage.access stage.ctx))) same.va
-      ∙ ap (λ access. ended (answer_after level_count words (start_of root walk.va access stage.ctx))) same.access
-      ∙ ap (λ ctx. ended (answer_after level_count words (start_of root walk.va walk.access ctx))) same.ctx;
+      load_ends scheme words root walk.loads stage same.on same.level (ap (λ va. goes_on scheme words root va walk.loads) same.va ∙ stops)
+      ∙ ap (λ va. ended (answer_after (level_count scheme) words (start_of scheme root va stage.access stage.ctx))) same.va
+      ∙ ap (λ access. ended (answer_after (level_count scheme) words (start_of scheme root walk.va access stage.ctx))) same.access
+      ∙ ap (λ ctx. ended (answer_after (level_count scheme) words (start_of scheme root walk.va walk.access ctx))) same.ctx;
 }
 
 ended_answer : (outcome : Result Found Fault) → progress_answer (ended outcome) ≡ end_reply outcome
 ended_answer (Ok found) = refl
 ended_answer (Err trap) = refl
 
-load_same : (C : Setup) (H : History) (hart : ℕ) (stage : Option Stage) (walk : Option Walking) → AreSameWalk (words_of C H) (root_ppn C.layout (space_of H hart)) stage walk
+load_same : (C : Setup) (H : History) (hart : ℕ) (stage : Option Stage) (walk : Option Walking) → AreSameWalk C.layout.scheme (words_of C H) (root_ppn C.layout (space_of H hart)) stage walk
     → load_answer (words_of C H) stage ≡ load_reply C H hart walk
 load_same C H hart None None same = refl
 load_same C H hart None (Some walk) same = absurd same
 load_same C H hart (Some stage) None same = absurd same
 load_same C H hart (Some stage) (Some walk) same =
-    let makes = load_makes (words_of C H) (root_ppn C.layout (space_of H hart)) stage walk same in
-    by_test (λ v. progress_answer (next_of (words_of C H) stage) ≡ cond v reply.More (end_reply (outcome_of C H (space_of H hart) walk))) (goes_on (words_of C H) (root_ppn C.layout (space_of H hart)) walk.va walk.loads)
+    let makes = load_makes C.layout.scheme (words_of C H) (root_ppn C.layout (space_of H hart)) stage walk same in
+    by_test (λ v. progress_answer (next_of (words_of C H) stage) ≡ cond v reply.More (end_reply (outcome_of C H (space_of H hart) walk))) (goes_on C.layout.scheme (words_of C H) (root_ppn C.layout (space_of H hart)) walk.va walk.loads)
     (λ goes. ap progress_answer (makes.more goes).1)
     (λ stops. ap progress_answer (makes.ends stops) ∙ ended_answer (outcome_of C H (space_of H hart) walk))
 
 -- Begin and Ack over plain values
-begin_form : (w w' s s' : Bool) (a a' : ℕ) (es es' : List Entry) (va : ℕ) (access : Access) (ctx : Ctx) → w ≡ w' → s ≡ s' → a ≡ a' → es ≡ es'
-    → refuse w Walks (refuse s Serves (cond (is_canonical va) (match_reply va access ctx (first_match es a va)) (reply.Trap (page_trap access NotCanonical))))
-    ≡ refuse w' Walks (refuse s' Serves (cond (is_canonical va) (match_reply va access ctx (first_match es' a' va)) (reply.Trap (page_trap access NotCanonical))))
-begin_form w w' s s' a a' es es' va access ctx e f g h = rw (e, f, g, h) refl
+begin_form : (scheme scheme' : Scheme) (w w' s s' : Bool) (a a' : ℕ) (es es' : List Entry) (va : ℕ) (access : Access) (ctx : Ctx) → scheme ≡ scheme' → w ≡ w' → s ≡ s' → a ≡ a' → es ≡ es'
+    → refuse w Walks (refuse s Serves (cond (is_canonical scheme va) (match_reply va access ctx (first_match es a va)) (reply.Trap (page_trap access NotCanonical))))
+    ≡ refuse w' Walks (refuse s' Serves (cond (is_canonical scheme' va) (match_reply va access ctx (first_match es' a' va)) (reply.Trap (page_trap access NotCanonical))))
+begin_form scheme scheme' w w' s s' a a' es es' va access ctx c e f g h = rw (c, e, f, g, h) refl
 
 ack_form : (fenced : Bool) (sent : Option Sent) → ack_answer (service_with fenced sent) ≡ refuse (is_none sent) NotServes (refuse (not fenced) NotFenced reply.Ok)
 ack_form fenced None = refl
@@ -119,14 +119,14 @@ module _ (C : Setup) (m : State) (H : History) (st : Stands C m H) where
   serving_none hart below = ap is_none (st.harts hart below).serving ∙ idles_alike (has_fenced H hart) (served C H hart)
 
   pub walking_some : (hart : ℕ) → hart < C.harts → is_some (hart_at m hart).walk ≡ is_some (walk_of H hart)
-  walking_some hart below = walks_alike _ _ (hart_at m hart).walk (walk_of H hart) (st.harts hart below).walk
+  walking_some hart below = walks_alike C.layout.scheme _ _ (hart_at m hart).walk (walk_of H hart) (st.harts hart below).walk
 
   begin_at : (hart va : ℕ) (access : Access) (ctx : Ctx) → hart < C.harts → begin_answer m (hart_at m hart) va access ctx
       ≡ refuse (is_some (walk_of H hart)) Walks (refuse (is_some (served C H hart)) Serves (begin_reply C H hart va access ctx))
   begin_at hart va access ctx below =
-      begin_form (is_some (hart_at m hart).walk) (is_some (walk_of H hart)) (is_some (hart_at m hart).serving) (is_some (served C H hart))
+      begin_form m.memory.layout.scheme C.layout.scheme (is_some (hart_at m hart).walk) (is_some (walk_of H hart)) (is_some (hart_at m hart).serving) (is_some (served C H hart))
       (asid_in m (hart_at m hart)) (asid_of C (space_of H hart)) (hart_at m hart).entries (entries_of C H hart) va access ctx
-      (walking_some hart below) (serving_some hart below) (asid_same hart below) (st.harts hart below).entries
+      (ap (λ (l : Layout). l.scheme) layout_same) (walking_some hart below) (serving_some hart below) (asid_same hart below) (st.harts hart below).entries
 
   -- the events of harts
   pub begin_due : (hart va : ℕ) (access : Access) (ctx : Ctx) → reply_to m (Begin hart va access ctx) ≡ due C H (Begin hart va access ctx)

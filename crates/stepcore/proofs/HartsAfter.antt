@@ -1,5 +1,6 @@
 -- The harts that an event leaves are those of the history.
-use Rattle.std.proofs.Common.{◌≡◌, ℕ, zero, suc, ◌+◌, ◌<◌, Bool, true, false, cond, ◌&&◌, List, [], ◌∷◌, length, drop, map, Option, Some, None, slice_get, refl, ap, sym, ◌∙◌, subst, eqb}
+use Rattle.pte.specs.declared.scheme.Scheme.{Scheme}
+use Rattle.std.proofs.Common.{arith, ◌≡◌, ℕ, zero, suc, ◌+◌, ◌<◌, Bool, true, false, cond, ◌&&◌, List, [], ◌∷◌, length, drop, map, Option, Some, None, slice_get, refl, ap, sym, ◌∙◌, subst, eqb}
 use Rattle.std.specs.Prelude.{unwrap_or, is_none, Result, Ok, Err}
 use Rattle.std.proofs.lemmas.Bool.{and_parts, eqb-true, eq-eqb, false≢true}
 use Rattle.pte.specs.declared.address.What.{What}
@@ -53,12 +54,13 @@ use Rattle.stepcore.proofs.PointersKept.{same_walk_kept, pointers_kept}
 -- a hart by the parts that a history leaves of it
 record HartIs (words : Tables) (layout : Layout) (space : ℕ) (walk : Option Walking) (serving : Option Service) (entries : List Entry) (hart : HartState) : Type 0 where
   space_is : hart.space ≡ space
-  walk_is : AreSameWalk words (root_ppn layout space) hart.walk walk
+  walk_is : AreSameWalk layout.scheme words (root_ppn layout space) hart.walk walk
   serving_is : hart.serving ≡ serving
+  scheme_is : hart.scheme ≡ layout.scheme
   entries_are : hart.entries ≡ entries
 
 stands_of : (C : Setup) (H : History) (h : ℕ) (hart : HartState) → HartIs (words_of C H) C.layout (space_of H h) (walk_of H h) (service_of C H h) (entries_of C H h) hart → HartStands C H h hart
-stands_of C H h hart parts = record { space = parts.space_is; walk = parts.walk_is; serving = parts.serving_is; entries = parts.entries_are }
+stands_of C H h hart parts = record { space = parts.space_is; walk = parts.walk_is; serving = parts.serving_is; scheme = parts.scheme_is; entries = parts.entries_are }
 
 -- a Begin changes the walk only if it answers More, and a Load only if it is accepted
 begun_is : (r : Reply) (va : ℕ) (access : Access) (ctx : Ctx) (test : Bool) (old : Option Walking)
@@ -82,43 +84,43 @@ accepted_is (reply.Refused refusal) e = e
 accepted_is _ e = refl
 
 -- a walk that is not there is in no tables
-no_walk : (old new : Tables) (root other : ℕ) (stage : Option Stage) (walk : Option Walking) → walk ≡ None → AreSameWalk old root stage walk → AreSameWalk new other stage walk
-no_walk old new root other None None e same = tt
-no_walk old new root other (Some stage) None e same = absurd same
-no_walk old new root other stage (Some walk) e same = absurd cc
+no_walk : (scheme : Scheme) (old new : Tables) (root other : ℕ) (stage : Option Stage) (walk : Option Walking) → walk ≡ None → AreSameWalk scheme old root stage walk → AreSameWalk scheme new other stage walk
+no_walk scheme old new root other None None e same = tt
+no_walk scheme old new root other (Some stage) None e same = absurd same
+no_walk scheme old new root other stage (Some walk) e same = absurd cc
 
 -- a load of a hart
 load_ended : (words : Tables) (layout : Layout) (space asid : ℕ) (walk : Walking) (serving : Option Service) (entries : List Entry) (hart : HartState) (outcome : Result Found Fault)
-    → hart.space ≡ space → hart.serving ≡ serving → hart.entries ≡ entries
+    → hart.space ≡ space → hart.serving ≡ serving → hart.scheme ≡ layout.scheme → hart.entries ≡ entries
     → HartIs words layout space (loaded (end_reply outcome) (Some walk)) serving (cond (is_filled (end_reply outcome)) (with_found asid outcome entries) entries) (with_progress asid (ended outcome) hart)
-load_ended words layout space asid walk serving entries hart (Ok found) s v e = record { space_is = s; walk_is = tt; serving_is = v; entries_are = ap (λ (es : List Entry). filled es (entry_of asid found)) e }
-load_ended words layout space asid walk serving entries hart (Err trap) s v e = record { space_is = s; walk_is = tt; serving_is = v; entries_are = e }
+load_ended words layout space asid walk serving entries hart (Ok found) s v c e = record { space_is = s; walk_is = tt; serving_is = v; scheme_is = c; entries_are = ap (λ (es : List Entry). filled es (entry_of asid found)) e }
+load_ended words layout space asid walk serving entries hart (Err trap) s v c e = record { space_is = s; walk_is = tt; serving_is = v; scheme_is = c; entries_are = e }
 
 load_left : (C : Setup) (H : History) (h : ℕ) (r : Reply) (stage : Option Stage) (walk : Option Walking) (serving : Option Service) (entries : List Entry) (hart : HartState)
-    → AreSameWalk (words_of C H) (root_ppn C.layout (space_of H h)) stage walk → hart.space ≡ space_of H h → hart.serving ≡ serving → hart.entries ≡ entries
+    → AreSameWalk C.layout.scheme (words_of C H) (root_ppn C.layout (space_of H h)) stage walk → hart.space ≡ space_of H h → hart.serving ≡ serving → hart.scheme ≡ C.layout.scheme → hart.entries ≡ entries
     → load_reply C H h walk ≡ r → is_accepted r ≡ true
     → HartIs (words_of C H) C.layout (space_of H h) (loaded r walk) serving (cond (is_filled r) (with_fill C H (space_of H h) walk entries) entries) (with_load (words_of C H) (asid_of C (space_of H h)) stage hart)
-load_left C H h r None None serving entries hart same s v e d a = absurd (false≢true (ap is_accepted d ∙ a))
-load_left C H h r None (Some walk) serving entries hart same s v e d a = absurd same
-load_left C H h r (Some stage) None serving entries hart same s v e d a = absurd same
-load_left C H h r (Some stage) (Some walk) serving entries hart same s v e d a =
+load_left C H h r None None serving entries hart same s v c e d a = absurd (false≢true (ap is_accepted d ∙ a))
+load_left C H h r None (Some walk) serving entries hart same s v c e d a = absurd same
+load_left C H h r (Some stage) None serving entries hart same s v c e d a = absurd same
+load_left C H h r (Some stage) (Some walk) serving entries hart same s v c e d a =
     let words = words_of C H in
     let space = space_of H h in
     let outcome = outcome_of C H space walk in
     let asid = asid_of C space in
-    let makes = load_makes words (root_ppn C.layout space) stage walk same in
+    let makes = load_makes C.layout.scheme words (root_ppn C.layout space) stage walk same in
     subst (λ (x : Reply). HartIs words C.layout space (loaded x (Some walk)) serving (cond (is_filled x) (with_found asid outcome entries) entries) (with_progress asid (next_of words stage) hart)) d
     (by_test
     (λ t. HartIs words C.layout space (loaded (cond t reply.More (end_reply outcome)) (Some walk)) serving (cond (is_filled (cond t reply.More (end_reply outcome))) (with_found asid outcome entries) entries)
     (with_progress asid (next_of words stage) hart))
-    (goes_on words (root_ppn C.layout space) walk.va walk.loads)
+    (goes_on C.layout.scheme words (root_ppn C.layout space) walk.va walk.loads)
     (λ goes.
     let made = makes.more goes in
     subst (λ (p : Progress). HartIs words C.layout space (Some (record { va = walk.va; access = walk.access; ctx = walk.ctx; loads = walk.loads + 1 })) serving entries (with_progress asid p hart)) (sym made.1)
-    (record { space_is = s; walk_is = made.2; serving_is = v; entries_are = e }))
+    (record { space_is = s; walk_is = made.2; serving_is = v; scheme_is = c; entries_are = e }))
     (λ stops.
     subst (λ (p : Progress). HartIs words C.layout space (loaded (end_reply outcome) (Some walk)) serving (cond (is_filled (end_reply outcome)) (with_found asid outcome entries) entries) (with_progress asid p hart))
-    (sym (makes.ends stops)) (load_ended words C.layout space asid walk serving entries hart outcome s v e)))
+    (sym (makes.ends stops)) (load_ended words C.layout space asid walk serving entries hart outcome s v c e)))
 
 -- a hart that fences for what it serves
 fence_left : (words : Tables) (layout : Layout) (space : ℕ) (walk : Option Walking) (has : Bool) (sent : Option Sent) (entries : List Entry) (hart : HartState)
@@ -127,7 +129,7 @@ fence_left : (words : Tables) (layout : Layout) (space : ℕ) (walk : Option Wal
 fence_left words layout space walk has None entries hart some parts = absurd cc
 fence_left words layout space walk has (Some sent) entries hart some parts =
     subst (λ (o : Option Service). HartIs words layout space walk (service_with true (Some sent)) (with_service entries sent.request.what) (with_served o hart)) (sym parts.serving_is)
-    (record { space_is = parts.space_is; walk_is = parts.walk_is; serving_is = refl; entries_are = ap (λ (es : List Entry). with_service es sent.request.what) parts.entries_are })
+    (record { space_is = parts.space_is; walk_is = parts.walk_is; serving_is = refl; scheme_is = parts.scheme_is; entries_are = ap (λ (es : List Entry). with_service es sent.request.what) parts.entries_are })
 
 -- the request that a Take takes is that of the first post that waits
 first_post : (xs : List Sent) (n : ℕ) (first : Message) (rest : List Message) → drop n (map (λ (x : Sent). x.request) xs) ≡ first ∷ rest → (x : Sent) × (slice_get xs n ≡ Some x) × (x.request ≡ first)
@@ -139,7 +141,7 @@ first_post (x ∷ xs) (suc n) first rest e = first_post xs n first rest e
 module _ (C : Setup) (m : State) (H : History) (st : Stands C m H) where
   -- before the event
   parts : (h : ℕ) → h < C.harts → HartIs (words_of C H) C.layout (space_of H h) (walk_of H h) (service_of C H h) (entries_of C H h) (hart_at m h)
-  parts h below = let hart = st.harts h below in record { space_is = hart.space; walk_is = hart.walk; serving_is = hart.serving; entries_are = hart.entries }
+  parts h below = let hart = st.harts h below in record { space_is = hart.space; walk_is = hart.walk; serving_is = hart.serving; scheme_is = hart.scheme; entries_are = hart.entries }
 
   -- an event that puts one hart, where it is accepted
   placed : (P : Bool → HartState → Type 0) (hart h : ℕ) (test : Bool) (new : ℕ → HartState) → h < C.harts → (test ≡ true → hart ≡ h → P true (new h)) → P false (hart_at m h)
@@ -164,7 +166,7 @@ module _ (C : Setup) (m : State) (H : History) (st : Stands C m H) where
       let p = passed _ NoHart _ r (sym d) a in
       let q = passed _ NoSpace _ r p.1 a in
       let w = none_since (walk_of H hart) (passed _ Walks _ r q.1 a).0 in
-      record { space_is = refl; walk_is = no_walk _ _ _ _ (hart_at m h).walk (walk_of H h) (subst (λ x. walk_of H x ≡ None) same w) old.walk_is; serving_is = old.serving_is; entries_are = old.entries_are })
+      record { space_is = refl; walk_is = no_walk C.layout.scheme _ _ _ _ (hart_at m h).walk (walk_of H h) (subst (λ x. walk_of H x ≡ None) same w) old.walk_is; serving_is = old.serving_is; scheme_is = old.scheme_is; entries_are = old.entries_are })
       old)
 
   fence_after : (hart : ℕ) (rs1 rs2 : Option ℕ) (r : Reply) (h : ℕ) → h < C.harts
@@ -172,9 +174,10 @@ module _ (C : Setup) (m : State) (H : History) (st : Stands C m H) where
   fence_after hart rs1 rs2 r h below =
       let old = parts h below in
       stands_of C (with_turn (Fence hart rs1 rs2) r H) h _
-      (placed (λ v x. HartIs (words_of C H) C.layout (space_of H h) (walk_of H h) (service_of C H h) (cond v (fenced (entries_of C H h) rs1 rs2) (entries_of C H h)) x) hart h (is_ok r)
-      (λ x. record (hart_at m x) { entries = fenced (hart_at m x).entries rs1 rs2 }) below
-      (λ ok same. record { space_is = old.space_is; walk_is = old.walk_is; serving_is = old.serving_is; entries_are = ap (λ (es : List Entry). fenced es rs1 rs2) old.entries_are })
+      (placed (λ v x. HartIs (words_of C H) C.layout (space_of H h) (walk_of H h) (service_of C H h) (cond v (fenced C.layout.scheme (entries_of C H h) rs1 rs2) (entries_of C H h)) x) hart h (is_ok r)
+      (λ x. record (hart_at m x) { entries = fenced (hart_at m x).scheme (hart_at m x).entries rs1 rs2 }) below
+      (λ ok same. record { space_is = old.space_is; walk_is = old.walk_is; serving_is = old.serving_is; scheme_is = old.scheme_is;
+        entries_are = ap (λ (scheme : Scheme). fenced scheme (hart_at m h).entries rs1 rs2) old.scheme_is ∙ ap (λ (es : List Entry). fenced C.layout.scheme es rs1 rs2) old.entries_are })
       old)
 
   ack_after : (hart : ℕ) (r : Reply) (h : ℕ) → h < C.harts → HartStands C (with_turn (Ack hart) r H) h (unwrap_or (slice_get (harts_after m (Ack hart) r) h) idle_hart)
@@ -183,7 +186,7 @@ module _ (C : Setup) (m : State) (H : History) (st : Stands C m H) where
       stands_of C (with_turn (Ack hart) r H) h _
       (placed (λ v x. HartIs (words_of C H) C.layout (space_of H h) (walk_of H h) (service_with (has_fenced H h) (cond v None (served C H h))) (entries_of C H h) x) hart h (is_ok r)
       (λ x. record (hart_at m x) { serving = None }) below
-      (λ ok same. record { space_is = old.space_is; walk_is = old.walk_is; serving_is = refl; entries_are = old.entries_are })
+      (λ ok same. record { space_is = old.space_is; walk_is = old.walk_is; serving_is = refl; scheme_is = old.scheme_is; entries_are = old.entries_are })
       old)
 
   serve_fence_after : (hart : ℕ) (r : Reply) → r ≡ due C H (ServeFence hart) → (h : ℕ) → h < C.harts
@@ -211,16 +214,17 @@ module _ (C : Setup) (m : State) (H : History) (st : Stands C m H) where
       stands_of C now h _
       (subst (λ (w : Option Walking). HartIs (words_of C H) C.layout (space_of H h) w (service_of C H h) (entries_of C H h) (unwrap_or (slice_get (harts_after m (Begin hart va access ctx) r) h) idle_hart)) (sym is)
       (placed (λ v x. HartIs (words_of C H) C.layout (space_of H h) (cond v (Some begins) (walk_of H h)) (service_of C H h) (entries_of C H h) x) hart h (is_more r)
-      (λ x. record (hart_at m x) { walk = Some (start_of (root_ppn m.memory.layout (hart_at m x).space) va access ctx) }) below
-      (λ more same. let root : root_ppn m.memory.layout (hart_at m h).space ≡ root_ppn C.layout (space_of H h) =
-      ap (λ (l : Layout). root_ppn l (hart_at m h).space) (layout_same C m H st) ∙ ap (λ (s : ℕ). root_ppn C.layout s) old.space_is in
+      (λ x. record (hart_at m x) { walk = Some (start_of m.memory.layout.scheme (root_ppn m.memory.layout (hart_at m x).space) va access ctx) }) below
+      (λ more same. let start : start_of m.memory.layout.scheme (root_ppn m.memory.layout (hart_at m h).space) va access ctx ≡ start_of C.layout.scheme (root_ppn C.layout (space_of H h)) va access ctx =
+      ap (λ (l : Layout). start_of l.scheme (root_ppn l (hart_at m h).space) va access ctx) (layout_same C m H st) ∙ ap (λ (s : ℕ). start_of C.layout.scheme (root_ppn C.layout s) va access ctx) old.space_is in
       let both : (is_more r && eqb hart h) ≡ true = rw (more, eq-eqb hart h same) refl in
       let canonical = canonical_walk C now h (st.lawful, d) begins (is ∙ ap (λ v. cond v (Some begins) (walk_of H h)) both) in
       record {
         space_is = old.space_is;
-        walk_is = subst (λ (table : ℕ). AreSameWalk (words_of C H) (root_ppn C.layout (space_of H h)) (Some (start_of table va access ctx)) (Some begins)) (sym root)
-            (record { va = refl; access = refl; ctx = refl; level = refl; on = on_path-start (words_of C H) (root_ppn C.layout (space_of H h)) va access ctx canonical });
+        walk_is = subst (λ (stage : Stage). AreSameWalk C.layout.scheme (words_of C H) (root_ppn C.layout (space_of H h)) (Some stage) (Some begins)) (sym start)
+            (record { va = refl; access = refl; ctx = refl; level = omega arith; on = on_path-start C.layout.scheme (words_of C H) (root_ppn C.layout (space_of H h)) va access ctx canonical });
         serving_is = old.serving_is;
+        scheme_is = old.scheme_is;
         entries_are = old.entries_are;
       })
       old))
@@ -245,7 +249,7 @@ module _ (C : Setup) (m : State) (H : History) (st : Stands C m H) where
       (subst (λ (words : Tables). HartIs (words_of C H) C.layout (space_of H h) (loaded r (walk_of H h)) (service_of C H h) (cond (is_filled r) fills (entries_of C H h))
       (with_load words (asid_of C (space_of H h)) (hart_at m h).walk (hart_at m h)))
       (sym (words_same C m H st))
-      (load_left C H h r (hart_at m h).walk (walk_of H h) (service_of C H h) (entries_of C H h) (hart_at m h) old.walk_is old.space_is old.serving_is old.entries_are made a)))
+      (load_left C H h r (hart_at m h).walk (walk_of H h) (service_of C H h) (entries_of C H h) (hart_at m h) old.walk_is old.space_is old.serving_is old.scheme_is old.entries_are made a)))
       old)))
 
   take_after : (hart from : ℕ) (r : Reply) → r ≡ due C H (Take hart from) → (h : ℕ) → h < C.harts
@@ -271,6 +275,7 @@ module _ (C : Setup) (m : State) (H : History) (st : Stands C m H) where
             ap (λ (request : Message). Some (record { from = from; request = request; fenced = false })) (sym post.2)
             ∙ ap (λ (s : ℕ). Some (record { from = s; request = post.0.request; fenced = false })) (sym known.sender)
             ∙ ap (service_with false) (sym post.1);
+        scheme_is = old.scheme_is;
         entries_are = old.entries_are;
       }))
       old)
@@ -292,6 +297,7 @@ module _ (C : Setup) (m : State) (H : History) (st : Stands C m H) where
         space_is = old.space_is;
         walk_is = old.walk_is;
         serving_is = old.serving_is;
+        scheme_is = old.scheme_is;
         entries_are = ap (λ (es : List Entry). with_service es (what_in (tickets_at m h) ticket)) old.entries_are ∙ ap (λ (w : What). with_service (entries_of C H h) w) what;
       })
       old)
@@ -310,7 +316,8 @@ module _ (C : Setup) (m : State) (H : History) (st : Stands C m H) where
       let old = st.harts h below in
       record {
         space = old.space;
-        walk = same_walk_kept (words_of C H) (words_of C (with_turn event r H)) (root_ppn C.layout (space_of H h)) (hart_at m h).walk (walk_of H h) (pointers_kept C st.within event r H st.lawful st.pages d) old.walk;
+        walk = same_walk_kept C.layout.scheme (words_of C H) (words_of C (with_turn event r H)) (root_ppn C.layout (space_of H h)) (hart_at m h).walk (walk_of H h) (pointers_kept C st.within event r H st.lawful st.pages d) old.walk;
         serving = old.serving;
+        scheme = old.scheme;
         entries = old.entries;
       }

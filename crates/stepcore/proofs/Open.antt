@@ -15,7 +15,7 @@ use Rattle.shoot.specs.Mailbox.{empty_mailbox}
 use Rattle.shoot.specs.Tickets.{no_tickets}
 use Rattle.history.specs.Setup.{setup_of}
 use Rattle.laws.specs.Kept.{IsSetup}
-use Rattle.stepcore.specs.State.{State, HartState, IsMachine, idle_hart, setup_in, hart_at, tickets_at, mailbox_at, mailbox_index}
+use Rattle.stepcore.specs.State.{State, HartState, IsMachine, idle_hart, new_hart, setup_in, hart_at, tickets_at, mailbox_at, mailbox_index}
 use Rattle.stepcore.specs.Stands.{Stands}
 
 -- what an opened machine has
@@ -25,13 +25,13 @@ pub record IsOpened (c : Config) (m : State) : Type 0 where
   pub words : (ppn i : ℕ) → words_of m.memory ppn i ≡ opening (layout_of c) ppn i
   pub used : m.memory.used ≡ replicate (length c.spares.items) 0
   pub asids : m.asids ≡ map (λ s. s.asid) c.spaces.items
-  pub harts : m.harts ≡ replicate c.harts idle_hart
+  pub harts : m.harts ≡ replicate c.harts (new_hart c.scheme)
   pub tickets : m.tickets ≡ map no_tickets (range_with_len 0 c.harts)
   pub mailboxes : m.mailboxes ≡ replicate 64 (empty_mailbox c.capacity)
 
 module _ (c : Config) (m : State) (is : IsOpened c m) where
-  hart : (h : ℕ) → h < c.harts → hart_at m h ≡ idle_hart
-  hart h less = rw is.harts (unwrap_or-slice_get (replicate c.harts idle_hart) h idle_hart ∙ get_or-replicate c.harts h idle_hart idle_hart less)
+  hart : (h : ℕ) → h < c.harts → hart_at m h ≡ new_hart c.scheme
+  hart h less = rw is.harts (unwrap_or-slice_get (replicate c.harts (new_hart c.scheme)) h idle_hart ∙ get_or-replicate c.harts h (new_hart c.scheme) idle_hart less)
 
   tickets : (h : ℕ) → h < c.harts → tickets_at m h ≡ no_tickets h
   tickets h less =
@@ -45,7 +45,7 @@ module _ (c : Config) (m : State) (is : IsOpened c m) where
       ∙ get_or-replicate 64 (mailbox_index s h) (empty_mailbox c.capacity) (empty_mailbox 0) (omega (arith, less, less')))
 
   same_setup : setup_in m ≡ setup_of c
-  same_setup = rw (mailbox 0 0 (omega arith) (omega arith), is.asids, is.layout, is.harts, length-replicate c.harts idle_hart) refl
+  same_setup = rw (mailbox 0 0 (omega arith) (omega arith), is.asids, is.layout, is.harts, length-replicate c.harts (new_hart c.scheme)) refl
 
   used_none : (n h : ℕ) → slice_index (replicate n 0) h ≡ 0
   used_none zero h = refl
@@ -60,7 +60,7 @@ module _ (c : Config) (m : State) (is : IsOpened c m) where
     setup = same_setup;
     words = is.words;
     used = λ h. rw is.used (used_none (length c.spares.items) h);
-    harts = λ h less. rw (hart h less) (record { space = refl; walk = tt; serving = refl; entries = refl });
+    harts = λ h less. rw (hart h less) (record { space = refl; walk = tt; serving = refl; scheme = refl; entries = refl });
     tickets = tickets;
     mailboxes = λ s h less less'. mailbox s h (omega (arith, less, is.meets.harts)) (omega (arith, less', is.meets.harts));
   }
@@ -68,12 +68,12 @@ module _ (c : Config) (m : State) (is : IsOpened c m) where
   pub machine : IsMachine m
   machine = record {
     few = omega (arith, is.meets.harts, count);
-    tickets = rw (is.tickets, is.harts) (length-map-range_with_len no_tickets 0 c.harts ∙ sym (length-replicate c.harts idle_hart));
+    tickets = rw (is.tickets, is.harts) (length-map-range_with_len no_tickets 0 c.harts ∙ sym (length-replicate c.harts (new_hart c.scheme)));
     mailboxes = rw is.mailboxes (length-replicate 64 (empty_mailbox c.capacity));
     asids = rw (is.asids, is.layout) (length-map c.spaces.items (λ s. s.asid) ∙ sym (length-map c.spaces.items (λ s. s.home)));
-    spaces = rw (is.harts, is.asids) (All-replicate (λ (h : HartState). h.space < length (map (λ s. s.asid) c.spaces.items)) c.harts idle_hart
+    spaces = rw (is.harts, is.asids) (All-replicate (λ (h : HartState). h.space < length (map (λ s. s.asid) c.spaces.items)) c.harts (new_hart c.scheme)
         (omega (arith, is.meets.some_space, length-map c.spaces.items (λ s. s.asid))));
   }
     where
       count : length m.harts ≡ c.harts
-      count = rw is.harts (length-replicate c.harts idle_hart)
+      count = rw is.harts (length-replicate c.harts (new_hart c.scheme))

@@ -1,4 +1,5 @@
 -- An edit that is due replaces a word that is no pointer: the tables stay that pointers lead to, and a walk in flight stays on its path.
+use Rattle.pte.specs.declared.scheme.Scheme.{Scheme}
 use Rattle.std.proofs.Common.{◌≡◌, ℕ, ◌<◌, true, cond, ◌||◌, length, Option, Some, None, refl, ap, sym, ◌∙◌, subst, inl, inr}
 use Rattle.std.specs.Prelude.{Result}
 use Rattle.std.proofs.lemmas.Bool.{ltb-true}
@@ -35,12 +36,12 @@ use Rattle.laws.proofs.TreeKept.{tree, map_edit, opened_some}
 use Rattle.stepcore.specs.Stands.{AreSameWalk}
 
 -- a walk stays what the history says where the pointers stay
-pub same_walk_kept : (old new : Tables) (root : ℕ) (stage : Option Stage) (walk : Option Walking) → KeepsPointers old new → AreSameWalk old root stage walk → AreSameWalk new root stage walk
-same_walk_kept old new root None None keeps same = same
-same_walk_kept old new root None (Some walk) keeps same = absurd same
-same_walk_kept old new root (Some stage) None keeps same = absurd same
-same_walk_kept old new root (Some stage) (Some walk) keeps same =
-    record { va = same.va; access = same.access; ctx = same.ctx; level = same.level; on = on_path_kept old new root stage keeps same.on }
+pub same_walk_kept : (scheme : Scheme) (old new : Tables) (root : ℕ) (stage : Option Stage) (walk : Option Walking) → KeepsPointers old new → AreSameWalk scheme old root stage walk → AreSameWalk scheme new root stage walk
+same_walk_kept scheme old new root None None keeps same = same
+same_walk_kept scheme old new root None (Some walk) keeps same = absurd same
+same_walk_kept scheme old new root (Some stage) None keeps same = absurd same
+same_walk_kept scheme old new root (Some stage) (Some walk) keeps same =
+    record { va = same.va; access = same.access; ctx = same.ctx; level = same.level; on = on_path_kept scheme old new root stage keeps same.on }
 
 pub pointers_stay : (words : Tables) → KeepsPointers words words
 pointers_stay words = record { kept = λ t n next point. refl }

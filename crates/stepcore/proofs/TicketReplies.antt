@@ -113,7 +113,7 @@ module _ (C : Setup) (m : State) (H : History) (st : Stands C m H) where
   ack_self_due hart ticket =
       hart_there C m hart _ _ st.setup (λ below.
       ap (λ (x : TicketTable). ack_self_answer (hart_at m hart) x ticket hart) (st.tickets hart below)
-      ∙ self_with C H (hart_at m hart) hart ticket (open_order H hart ticket) st.lawful (walks_alike _ _ _ _ (st.harts hart below).walk) refl)
+      ∙ self_with C H (hart_at m hart) hart ticket (open_order H hart ticket) st.lawful (walks_alike C.layout.scheme _ _ _ _ (st.harts hart below).walk) refl)
 
   pub collect_due : (hart ticket from : ℕ) → reply_to m (Collect hart ticket from) ≡ due C H (Collect hart ticket from)
   collect_due hart ticket from =

@@ -1,4 +1,5 @@
 -- Small tools: which harts and places are there for a machine and its setup alike, and whether a hart walks or serves.
+use Rattle.pte.specs.declared.scheme.Scheme.{Scheme}
 use Rattle.std.proofs.Common.{◌≡◌, ℕ, ◌<◌, Bool, true, false, ◌&&◌, not, Option, Some, None, refl, ap, ◌∙◌, eqb}
 use Rattle.std.specs.Prelude.{is_some}
 use Rattle.std.proofs.lemmas.Bool.{and_parts, not-false, ltb-true}
@@ -16,11 +17,11 @@ use Rattle.stepcore.specs.State.{State, setup_in}
 use Rattle.stepcore.specs.Stands.{AreSameWalk, service_with}
 
 -- whether a hart walks and serves
-pub walks_alike : (words : Tables) (root : ℕ) (stage : Option Stage) (walk : Option Walking) → AreSameWalk words root stage walk → is_some stage ≡ is_some walk
-walks_alike words root None None same = refl
-walks_alike words root None (Some walk) same = absurd same
-walks_alike words root (Some stage) None same = absurd same
-walks_alike words root (Some stage) (Some walk) same = refl
+pub walks_alike : (scheme : Scheme) (words : Tables) (root : ℕ) (stage : Option Stage) (walk : Option Walking) → AreSameWalk scheme words root stage walk → is_some stage ≡ is_some walk
+walks_alike scheme words root None None same = refl
+walks_alike scheme words root None (Some walk) same = absurd same
+walks_alike scheme words root (Some stage) None same = absurd same
+walks_alike scheme words root (Some stage) (Some walk) same = refl
 
 pub serves_alike : (fenced : Bool) (sent : Option Sent) → is_some (service_with fenced sent) ≡ is_some sent
 serves_alike fenced None = refl

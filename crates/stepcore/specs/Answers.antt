@@ -14,7 +14,7 @@ use Rattle.spaces.specs.declared.wishes.Wish.TheVariants as wish
 use Rattle.spaces.specs.declared.faults.MapFault.{MapFault}
 use Rattle.spaces.specs.Edits.{Store}
 use Rattle.tlb.specs.Entries.{first_match}
-use Rattle.tlb.specs.Fence.{is_canonical}
+use Rattle.pte.specs.Address.{is_canonical}
 use Rattle.shoot.specs.Request.{Message}
 use Rattle.shoot.specs.Mailbox.{MailboxState, post_fault, first_waiting}
 use Rattle.shoot.specs.Tickets.{TicketTable, is_open, names, is_posted, is_done_at, open_answer, progress_at, after_acked, after_collect}
@@ -42,7 +42,7 @@ abbrev pub begin_answer : State → HartState → ℕ → Access → Ctx → Rep
 begin_answer m hart va access ctx =
     refuse (is_some hart.walk) Walking
     (refuse (is_some hart.serving) Serving
-    (if is_canonical va then match_reply va access ctx (first_match hart.entries (asid_in m hart) va)
+    (if is_canonical m.memory.layout.scheme va then match_reply va access ctx (first_match hart.entries (asid_in m hart) va)
     else reply.Trap (page_trap access NotCanonical)))
 
 -- Load: what the word of now makes of the walk

@@ -66,11 +66,11 @@ put_hart m number test hart = if test then slice_set m.harts number hart else m.
 
 abbrev pub harts_after : State → Event → Reply → List HartState
 harts_after m (Begin hart va access ctx) reply =
-    put_hart m hart (is_more reply) (record (hart_at m hart) { walk = Some (start_of (root_ppn m.memory.layout (hart_at m hart).space) va access ctx) })
+    put_hart m hart (is_more reply) (record (hart_at m hart) { walk = Some (start_of m.memory.layout.scheme (root_ppn m.memory.layout (hart_at m hart).space) va access ctx) })
 harts_after m (Load hart) reply =
     put_hart m hart (is_accepted reply) (with_load (words_in m) (asid_in m (hart_at m hart)) (hart_at m hart).walk (hart_at m hart))
 harts_after m (Switch hart space) reply = put_hart m hart (is_ok reply) (record (hart_at m hart) { space = space })
-harts_after m (Fence hart rs1 rs2) reply = put_hart m hart (is_ok reply) (record (hart_at m hart) { entries = fenced (hart_at m hart).entries rs1 rs2 })
+harts_after m (Fence hart rs1 rs2) reply = put_hart m hart (is_ok reply) (record (hart_at m hart) { entries = fenced (hart_at m hart).scheme (hart_at m hart).entries rs1 rs2 })
 harts_after m (Take hart from) reply = put_hart m hart (is_taken reply) (with_taken from reply (hart_at m hart))
 harts_after m (ServeFence hart) reply = put_hart m hart (is_ok reply) (with_served (hart_at m hart).serving (hart_at m hart))
 harts_after m (Ack hart) reply = put_hart m hart (is_ok reply) (record (hart_at m hart) { serving = None })

@@ -1,5 +1,6 @@
 -- When a machine stands at a history: the history is lawful under what the machine was opened with, and its table words, harts,
 -- tickets and mailboxes are those that the history leaves.
+use Rattle.pte.specs.declared.scheme.Scheme.{Scheme}
 use Rattle.std.specs.Prelude.{ℕ, ◌≡◌, ◌+◌, ◌<◌, Bool, map, Option, Some, None}
 use Rattle.std.specs.List.{range_with_len}
 use Rattle.pte.specs.Address.{top_level}
@@ -25,18 +26,18 @@ use Rattle.stepcore.specs.declared.serving.Serving.{Serving}
 use Rattle.stepcore.specs.State.{State, HartState, setup_in, words_in, used_in, hart_at, tickets_at, mailbox_at}
 
 -- the walk of a machine has made these loads: it holds the table that as many pointers lead to
-pub record IsStageOf (words : Tables) (root : ℕ) (stage : Stage) (walk : Walking) : Type 0 where
+pub record IsStageOf (scheme : Scheme) (words : Tables) (root : ℕ) (stage : Stage) (walk : Walking) : Type 0 where
   pub va : stage.va ≡ walk.va
   pub access : stage.access ≡ walk.access
   pub ctx : stage.ctx ≡ walk.ctx
-  pub level : stage.level + walk.loads ≡ top_level
-  pub on : OnPath words root stage
+  pub level : stage.level + walk.loads ≡ top_level scheme
+  pub on : OnPath scheme words root stage
 
-abbrev pub AreSameWalk : Tables → ℕ → Option Stage → Option Walking → Type 0
-AreSameWalk words root None None = Unit {0}
-AreSameWalk words root None (Some walk) = ⊥
-AreSameWalk words root (Some stage) None = ⊥
-AreSameWalk words root (Some stage) (Some walk) = IsStageOf words root stage walk
+abbrev pub AreSameWalk : Scheme → Tables → ℕ → Option Stage → Option Walking → Type 0
+AreSameWalk scheme words root None None = Unit {0}
+AreSameWalk scheme words root None (Some walk) = ⊥
+AreSameWalk scheme words root (Some stage) None = ⊥
+AreSameWalk scheme words root (Some stage) (Some walk) = IsStageOf scheme words root stage walk
 
 -- what a hart serves
 abbrev pub service_with : Bool → Option Sent → Option Serving
@@ -49,8 +50,9 @@ service_of C H h = service_with (has_fenced H h) (served C H h)
 -- the hart is what the history leaves of hart h
 pub record HartStands (C : Setup) (H : History) (h : ℕ) (hart : HartState) : Type 0 where
   pub space : hart.space ≡ space_of H h
-  pub walk : AreSameWalk (words_of C H) (root_ppn C.layout (space_of H h)) hart.walk (walk_of H h)
+  pub walk : AreSameWalk C.layout.scheme (words_of C H) (root_ppn C.layout (space_of H h)) hart.walk (walk_of H h)
   pub serving : hart.serving ≡ service_of C H h
+  pub scheme : hart.scheme ≡ C.layout.scheme
   pub entries : hart.entries ≡ entries_of C H h
 
 -- the ticket of an order, the open ticket of a number, and all tickets of a hart

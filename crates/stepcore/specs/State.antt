@@ -1,5 +1,7 @@
 -- What contracts see of a machine: its table memory, and its harts, tickets and mailboxes by the numbers of the harts.
 use Rattle.std.specs.Prelude.{ℕ, ◌≡◌, ◌+◌, ◌*◌, ◌<◌, ◌≤◌, List, [], length, Option, None, slice_get, slice_index, unwrap_or, All}
+use Rattle.pte.specs.declared.scheme.Scheme.{Scheme}
+use Rattle.pte.specs.declared.scheme.Scheme.TheVariants.{Sv39}
 use Rattle.walk.specs.Leads.{Tables}
 use Rattle.walk.specs.Stage.{Stage}
 use Rattle.spaces.specs.Held.{Held, words_of}
@@ -10,8 +12,9 @@ use Rattle.shoot.specs.Tickets.{TicketTable, no_tickets}
 use Rattle.history.specs.Setup.{Setup}
 use Rattle.stepcore.specs.declared.serving.Serving.{Serving}
 
--- a hart: its space, the walk in flight, the request that it serves, and the entries of its TLB
+-- a hart: its space, the walk in flight, the request that it serves, and the scheme and the entries of its TLB
 pub record HartState : Type 0 where
+  pub scheme : Scheme
   pub space : ℕ
   pub walk : Option Stage
   pub serving : Option Serving
@@ -33,8 +36,12 @@ abbrev pub used_in : State → ℕ → ℕ
 used_in m hart = slice_index m.memory.used hart
 
 -- a hart that was just opened
+abbrev pub new_hart : Scheme → HartState
+new_hart scheme = record { scheme = scheme; space = 0; walk = None; serving = None; entries = [] }
+
+-- one that stands for a hart that is not there
 abbrev pub idle_hart : HartState
-idle_hart = record { space = 0; walk = None; serving = None; entries = [] }
+idle_hart = new_hart Sv39
 
 -- the hart of a number, its tickets, and the mailbox from one hart to another
 abbrev pub hart_at : State → ℕ → HartState

@@ -34,7 +34,7 @@ impl Machine {
     fn first_walk(&self, hart: u8, va: u64, access: Access, ctx: Ctx) -> Result<Walk, Reply>
         ensures walks { IfOk result (λ walk. (reply_to self.now (Begin hart va access ctx) ≡ More)
             × (hart < length self.now.harts)
-            × (walk ≡ start_of (root_ppn self.now.memory.layout (hart_at self.now hart).space) va access ctx)) }
+            × (walk ≡ start_of self.now.memory.layout.scheme (root_ppn self.now.memory.layout (hart_at self.now hart).space) va access ctx)) }
         ensures answers { IfErr result (λ reply. (reply ≡ reply_to self.now (Begin hart va access ctx)) × (is_more reply ≡ false)) }
     {
         if !self.is_hart(hart) {
@@ -47,13 +47,15 @@ impl Machine {
         if this.is_serving() {
             return Err(Reply::Refused(Refusal::Serving));
         }
-        let Some(address) = VirtAddr::new(va) else {
+        let scheme = self.memory.scheme();
+        let Some(address) = VirtAddr::new_in(scheme, va) else {
             return Err(Reply::Trap(Trap::page(access, Why::NotCanonical)));
         };
         match this.access(self.asid(hart), address, access, ctx) {
             Some(reply) => Err(reply),
             None => {
-                Walk::begin(self.memory.root(this.space()), va, access, ctx).map_err(Reply::Trap)
+                let root = self.memory.root(this.space());
+                Walk::begin_in(scheme, root, va, access, ctx).map_err(Reply::Trap)
             }
         }
     }

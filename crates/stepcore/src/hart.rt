@@ -8,12 +8,12 @@ ghost use Rattle.tlb.specs.Service.{served};
 ghost use Rattle.history.specs.Due.{match_reply};
 ghost use Rattle.history.specs.Turns.{is_more};
 ghost use Rattle.history.specs.declared.reply.Reply.TheVariants.{More};
-ghost use Rattle.stepcore.specs.State.{idle_hart};
+ghost use Rattle.stepcore.specs.State.{new_hart};
 ghost use Rattle.stepcore.specs.Changes.{with_progress, with_served};
 
 use crate::serving::Serving;
 use history::Reply;
-use pte::{Access, Ctx, VirtAddr, What};
+use pte::{Access, Ctx, Scheme, VirtAddr, What};
 use shoot::Request;
 use std::marker::Model;
 use tlb::{Entry, Tlb};
@@ -33,19 +33,19 @@ impl Model for Hart {
 
     ghost Value = { HartState };
 
-    ghost view = { λ h. record { space = h.space; walk = h.walk; serving = h.serving; entries = h.tlb } };
+    ghost view = { λ h. record { space = h.space; walk = h.walk; serving = h.serving; scheme = h.tlb.scheme; entries = h.tlb.entries } };
 }
 
 impl Hart {
     /// A hart in space 0 that neither walks nor serves, with an empty TLB.
-    pub(crate) fn new() -> Hart
-        ensures { result ≡ idle_hart }
+    pub(crate) fn new(scheme: Scheme) -> Hart
+        ensures { result ≡ new_hart scheme }
     {
         Hart {
             space: 0,
             walk: None,
             serving: None,
-            tlb: Tlb::new(),
+            tlb: Tlb::new_in(scheme),
         }
     }
 
@@ -128,7 +128,7 @@ impl Hart {
 
     /// SFENCE.VMA (privileged manual 4.2.1).
     pub(crate) fn fence(&mut self, rs1: Option<u64>, rs2: Option<u64>)
-        ensures { self.new ≡ record self.old { entries = fenced self.old.entries rs1 rs2 } }
+        ensures { self.new ≡ record self.old { entries = fenced self.old.scheme self.old.entries rs1 rs2 } }
     {
         self.tlb.fence(rs1, rs2);
     }

@@ -8,13 +8,14 @@ ghost use Rattle.spaces.specs.Limits.{MeetsLimits, max_frames, max_harts, max_ca
 ghost use Rattle.spaces.specs.declared.faults.OpenFault.TheVariants as fault;
 ghost use Rattle.tlb.specs.Fence.{asid_bits};
 ghost use Rattle.history.specs.Setup.{setup_of};
-ghost use Rattle.stepcore.specs.State.{idle_hart};
+ghost use Rattle.stepcore.specs.State.{new_hart};
 ghost use Rattle.stepcore.specs.Stands.{Stands};
 
 use crate::hart::Hart;
 use crate::machine::Machine;
 use arrayvec::ArrayVec;
 use laws::limits_give_setup;
+use pte::Scheme;
 use shoot::{MAX_HARTS, Mailbox, Tickets};
 use spaces::{Config, MAX_SPACES, Memory, OpenFault, Space};
 use std::alloc::{AllocError, Global};
@@ -44,12 +45,12 @@ fn asids_of(spaces: &[Space]) -> ArrayVec<u16, MAX_SPACES>
 }
 
 /// Harts that neither walk nor serve.
-fn idle_harts(alloc: Global, count: u8) -> Result<Vec<Hart>, AllocError>
-    ensures { IfOk result (λ harts. harts.items ≡ replicate count idle_hart) }
+fn idle_harts(alloc: Global, scheme: Scheme, count: u8) -> Result<Vec<Hart>, AllocError>
+    ensures { IfOk result (λ harts. harts.items ≡ replicate count (new_hart scheme)) }
 {
     let mut harts = Vec::with_capacity(alloc, usize::from(count))?;
     for _ in 0..count {
-        harts.push(Hart::new())?;
+        harts.push(Hart::new(scheme))?;
     }
     Ok(harts)
 }
@@ -90,7 +91,7 @@ impl Machine {
         let memory = Memory::open(alloc, config)?;
         let asids = asids_of(&config.spaces);
         let count = config.harts as u8;
-        let harts = idle_harts(alloc, count)?;
+        let harts = idle_harts(alloc, config.scheme, count)?;
         let tickets = free_tickets(alloc, count)?;
         let mailboxes = empty_mailboxes(alloc, usize::from(config.capacity))?;
         limits_give_setup();

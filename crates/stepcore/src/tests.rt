@@ -51,6 +51,7 @@ fn spaces_of(list: &[(u8, u16)]) -> ArrayVec<Space, 32> {
 /// Two harts with 8 spare frames each, one space of ASID 1, one slot of the window.
 fn two_harts() -> Config {
     Config {
+        scheme: pte::Scheme::Sv39,
         harts: 2,
         spaces: spaces_of(&[(0, 1)]),
         window: 1,

@@ -1,15 +1,17 @@
 -- The words of the steps of `run`: what the readers find is what the grammar says.
-use Rattle.std.proofs.Common.{◌≡◌, ◌⊎◌, ℕ, ◌-◌, ◌<◌, ◌^◌, ◌%◌, ◌==◌, ◌||◌, ◌&&◌, Bool, true, false, nat_lt, nat_le, bit_and, bit_or, codes, List, [], ◌∷◌, ◌++◌, length, take, drop, Option, Some, None, option_and_then, option_map, Result, Ok, Err, refl, sym, ap, subst, ◌∙◌, inl, inr, arith, if◌then◌else◌, eqb}
+use Rattle.std.proofs.Common.{◌≤◌, ◌≡◌, ◌⊎◌, ℕ, ◌-◌, ◌<◌, ◌^◌, ◌%◌, ◌==◌, ◌||◌, ◌&&◌, Bool, true, false, nat_lt, nat_le, bit_and, bit_or, codes, List, [], ◌∷◌, ◌++◌, length, take, drop, Option, Some, None, option_and_then, option_map, Result, Ok, Err, refl, sym, ap, subst, ◌∙◌, inl, inr, arith, if◌then◌else◌, eqb}
 use Rattle.std.specs.Option.{option_or}
 use Rattle.std.specs.Str.{bytes_eq}
-use Rattle.std.proofs.lemmas.Bool.{and_parts, eqb-true}
+use Rattle.std.proofs.lemmas.Bool.{and_parts, eqb-true, and_from, cond-true, eq-eqb, le-leb, leb-true}
 use Rattle.std.proofs.lemmas.Bool.Decides.{Decides-ltb, nat_tests}
 use Rattle.std.proofs.lemmas.Slice.Eq.{bytes_eq-Decides}
 use Rattle.std.proofs.lemmas.List.{take-append-drop}
 use Rattle.std.proofs.lemmas.Option.{cond_some, same_Some}
-use Rattle.pte.specs.Address.{address_bits, bytes_of, IsCanonical, IsPage, Span}
+use Rattle.pte.specs.Address.{bytes_of, IsCanonical, IsPageOf, level_of, Span, top_level}
+use Rattle.pte.specs.declared.scheme.Scheme.{Scheme}
+use Rattle.pte.proofs.Schemes.{is_canonical-IsCanonical}
 use Rattle.pte.specs.declared.address.PageSize.{PageSize}
-use Rattle.pte.specs.declared.address.PageSize.TheVariants.{Kib4, Mib2, Gib1}
+use Rattle.pte.specs.declared.address.PageSize.TheVariants.{Kib4, Mib2, Gib1, Gib512}
 use Rattle.pte.specs.declared.flags.PteFlags.{PteFlags}
 use Rattle.spaces.specs.declared.places.Place.{Place}
 use Rattle.spaces.specs.declared.places.Place.TheVariants as places
@@ -18,7 +20,7 @@ use Rattle.history.specs.declared.event.Scope.TheVariants as scopes
 use Rattle.steps.specs.declared.fault.StepFault.{StepFault}
 use Rattle.steps.specs.declared.fault.StepFault.TheVariants.{NotPage}
 use Rattle.steps.specs.declared.fields.PageWord.{PageWord}
-use Rattle.steps.specs.Fields.{bits_of, flag_of, flags_of, is_page, number_below, page_after, page_at, page_of, place_of, register_of, scope_of, space_of, with_letters}
+use Rattle.steps.specs.Fields.{bits_of, flag_of, flags_of, has_size, is_page, sized_page_of, number_below, page_after, page_at, page_of, place_of, register_of, scope_of, space_of, with_letters}
 use Rattle.steps.specs.Grammar.{WritesNumber}
 use Rattle.steps.specs.Num.{num_of}
 use Rattle.steps.specs.RunGrammar.{AddLetters, size_text, WritesBelow, WritesFlags, WritesPage, WritesPlace, WritesRegister, WritesScope}
@@ -93,13 +95,20 @@ writes-register word register h = elim (named_or (codes "x0") word None register
 
 -- ---- pages
 
-page_read : (size : PageSize) (base : ℕ) (digits : List ℕ) → num_of digits ≡ Some base → page_of (size_text size ++ digits) ≡ Some (record { base = base; size = size })
+page_read : (size : PageSize) (base : ℕ) (digits : List ℕ) → num_of digits ≡ Some base → sized_page_of (size_text size ++ digits) ≡ Some (record { base = base; size = size })
 page_read Kib4 base digits h = rw h refl
 page_read Mib2 base digits h = rw h refl
 page_read Gib1 base digits h = rw h refl
+page_read Gib512 base digits h = rw h refl
 
-pub page-writes : (word : List ℕ) (page : Span) → WritesPage word page → page_of word ≡ Some (record { base = page.base; size = page.size })
-page-writes word page h = ap page_of h.1 ∙ page_read page.size page.base h.0 (num_of-writes h.0 page.base h.2)
+sized : Scheme → PageWord → Option PageWord
+sized scheme page = if has_size scheme page then Some page else None
+
+pub page-writes : (scheme : Scheme) (word : List ℕ) (page : Span) → WritesPage scheme word page → page_of scheme word ≡ Some (record { base = page.base; size = page.size })
+unfolding sized
+page-writes scheme word page h =
+    ap (option_and_then (sized scheme)) (ap sized_page_of h.1 ∙ page_read page.size page.base h.0 (num_of-writes h.0 page.base h.2))
+    ∙ cond-true (has_size scheme (record { base = page.base; size = page.size })) _ _ (le-leb (level_of page.size) (top_level scheme) h.3.level)
 
 pub same_Ok : {X : Type 0} (r : Result X StepFault) (a b : X) → r ≡ Ok a → r ≡ Ok b → a ≡ b
 same_Ok r a b e h = cc
@@ -107,31 +116,28 @@ same_Ok r a b e h = cc
 pub not_Ok : {X : Type 0} (r : Result X StepFault) (e : StepFault) (a : X) → r ≡ Err e → r ≡ Ok a → ⊥
 not_Ok r e a is h = cc
 
-is_page_test : (base : ℕ) (size : PageSize) → IsCanonical base → base % bytes_of size ≡ 0 → is_page (record { base = base; size = size }) ≡ true
-is_page_test base size (inl low) aligned = grind (arith, nat_tests)
-is_page_test base size (inr high) aligned = grind (arith, nat_tests)
+is_page_test : (scheme : Scheme) (base : ℕ) (size : PageSize) → IsCanonical scheme base → base % bytes_of size ≡ 0 → is_page scheme (record { base = base; size = size }) ≡ true
+is_page_test scheme base size canonical aligned = and_from _ _ ((is_canonical-IsCanonical scheme base).1 canonical) (eq-eqb _ _ aligned)
 
-is_page_from_test : (base : ℕ) (size : PageSize) → is_page (record { base = base; size = size }) ≡ true → IsCanonical base × (base % bytes_of size ≡ 0)
-is_page_from_test base size h = (canonical base (and_parts _ _ h).0, eqb-true _ _ (and_parts _ _ h).1)
-  where
-    canonical : (va : ℕ) → (nat_lt va (2 ^ (address_bits - 1)) || (nat_le (2 ^ 64 - 2 ^ (address_bits - 1)) va && nat_lt va (2 ^ 64))) ≡ true → IsCanonical va
-    canonical va h = grind (arith, nat_tests)
+is_page_from_test : (scheme : Scheme) (base : ℕ) (size : PageSize) → is_page scheme (record { base = base; size = size }) ≡ true → IsCanonical scheme base × (base % bytes_of size ≡ 0)
+is_page_from_test scheme base size h = ((is_canonical-IsCanonical scheme base).0 (and_parts _ _ h).0, eqb-true _ _ (and_parts _ _ h).1)
 
-pub page_is_there : (page : Span) → IsPage page → page_at (record { base = page.base; size = page.size }) ≡ Ok page
-page_is_there page h = rw (is_page_test page.base page.size h.canonical h.aligned) refl
+pub page_is_there : (scheme : Scheme) (page : Span) → IsPageOf scheme page → page_at scheme (record { base = page.base; size = page.size }) ≡ Ok page
+page_is_there scheme page h = rw (is_page_test scheme page.base page.size h.canonical h.aligned) refl
 
 abbrev span_of : PageWord → Span
 span_of word = record { base = word.base; size = word.size }
 
-there_by : (word : PageWord) (r : Result Span StepFault) (page : Span) (b : Bool) → is_page word ≡ b → r ≡ (if b then Ok (span_of word) else Err NotPage) → r ≡ Ok page → IsPage page × (page ≡ span_of word)
-there_by word r page true e h is =
+there_by : (scheme : Scheme) (word : PageWord) (r : Result Span StepFault) (page : Span) (b : Bool) → level_of word.size ≤ top_level scheme → is_page scheme word ≡ b
+    → r ≡ (if b then Ok (span_of word) else Err NotPage) → r ≡ Ok page → IsPageOf scheme page × (page ≡ span_of word)
+there_by scheme word r page true level e h is =
     let same : span_of word ≡ page = same_Ok r (span_of word) page h is in
-    let parts = is_page_from_test word.base word.size e in
-    (subst IsPage same (record { canonical = parts.0; aligned = parts.1 }), sym same)
-there_by word r page false e h is = absurd (not_Ok r NotPage page h is)
+    let parts = is_page_from_test scheme word.base word.size e in
+    (subst (IsPageOf scheme) same (record { level = level; canonical = parts.0; aligned = parts.1 }), sym same)
+there_by scheme word r page false level e h is = absurd (not_Ok r NotPage page h is)
 
-pub there-is_page : (word : PageWord) (page : Span) → page_at word ≡ Ok page → IsPage page × (page ≡ span_of word)
-there-is_page word page h = there_by word (page_at word) page (is_page word) refl refl h
+pub there-is_page : (scheme : Scheme) (word : PageWord) (page : Span) → level_of word.size ≤ top_level scheme → page_at scheme word ≡ Ok page → IsPageOf scheme page × (page ≡ span_of word)
+there-is_page scheme word page level h = there_by scheme word (page_at scheme word) page (is_page scheme word) level refl refl h
 
 or_Some : {X : Type 0} (a b : Option X) (y : X) → option_or a b ≡ Some y → (a ≡ Some y) ⊎ (b ≡ Some y)
 or_Some None b y h = inr h
@@ -161,11 +167,32 @@ after_by size word page false e h = cc
 after : (size : PageSize) (word : List ℕ) (page : PageWord) → page_after (size_text size) size word ≡ Some page → IsPageWord size word page
 after size word page h = after_by size word page (bytes_eq (take (length (size_text size)) word) (size_text size)) refl h
 
-pub writes-page_word : (word : List ℕ) (page : PageWord) → page_of word ≡ Some page → (digits : List ℕ) × (word ≡ size_text page.size ++ digits) × WritesNumber digits page.base
-writes-page_word word page h = elim (or_Some (option_or (page_after (codes "4K:") Kib4 word) (page_after (codes "2M:") Mib2 word)) (page_after (codes "1G:") Gib1 word) page h) [
-  | inl small ↦ elim (or_Some (page_after (codes "4K:") Kib4 word) (page_after (codes "2M:") Mib2 word) page small) [ inl k ↦ after Kib4 word page k | inr m ↦ after Mib2 word page m ]
-  | inr g ↦ after Gib1 word page g
-]
+writes-sized : (word : List ℕ) (page : PageWord) → sized_page_of word ≡ Some page → IsPageWord page.size word page
+writes-sized word page h =
+    elim (or_Some (option_or (option_or (page_after (codes "4K:") Kib4 word) (page_after (codes "2M:") Mib2 word)) (page_after (codes "1G:") Gib1 word)) (page_after (codes "512G:") Gib512 word) page h) [
+      | inl most ↦ elim (or_Some (option_or (page_after (codes "4K:") Kib4 word) (page_after (codes "2M:") Mib2 word)) (page_after (codes "1G:") Gib1 word) page most) [
+        | inl small ↦ elim (or_Some (page_after (codes "4K:") Kib4 word) (page_after (codes "2M:") Mib2 word) page small) [ inl k ↦ after Kib4 word page k | inr m ↦ after Mib2 word page m ]
+        | inr g ↦ after Gib1 word page g
+      ]
+      | inr g ↦ after Gib512 word page g
+    ]
+
+-- a page that is read is of a size that the scheme has
+pub writes-page_word : (scheme : Scheme) (word : List ℕ) (page : PageWord) → page_of scheme word ≡ Some page
+    → (level_of page.size ≤ top_level scheme) × ((digits : List ℕ) × (word ≡ size_text page.size ++ digits) × WritesNumber digits page.base)
+writes-page_word scheme word page h = by_option (sized_page_of word) refl h
+  where
+    by_test : (other : PageWord) (b : Bool) → sized_page_of word ≡ Some other → has_size scheme other ≡ b → (if b then Some other else None) ≡ Some page
+        → (level_of page.size ≤ top_level scheme) × ((digits : List ℕ) × (word ≡ size_text page.size ++ digits) × WritesNumber digits page.base)
+    by_test other true is e h =
+        let same : other ≡ page = same_Some _ _ h in
+        (subst (λ (p : PageWord). level_of p.size ≤ top_level scheme) same (leb-true _ _ e), writes-sized word page (is ∙ ap Some same))
+    by_test other false is e h = cc
+
+    by_option : (o : Option PageWord) → sized_page_of word ≡ o → option_and_then (λ (p : PageWord). if has_size scheme p then Some p else None) o ≡ Some page
+        → (level_of page.size ≤ top_level scheme) × ((digits : List ℕ) × (word ≡ size_text page.size ++ digits) × WritesNumber digits page.base)
+    by_option None is h = cc
+    by_option (Some other) is h = by_test other (has_size scheme other) is refl h
 
 -- ---- flags
 

@@ -1,4 +1,5 @@
 -- Where there are more harts a text says the same, unless it named one that was not there; and then it is a step still.
+use Rattle.pte.specs.declared.scheme.Scheme.{Scheme}
 use Rattle.std.proofs.Common.{◌≡◌, ◌⊎◌, ℕ, ◌<◌, ◌≤◌, Bool, true, false, nat_lt, codes, List, [], ◌∷◌, Option, Some, None, Result, Ok, Err, refl, sym, ◌∙◌, inl, inr, arith, if◌then◌else◌}
 use Rattle.std.specs.List.{list_all}
 use Rattle.std.specs.Str.{bytes_eq}
@@ -65,22 +66,22 @@ no_page_is_step e = cc
 abbrev span_of : PageWord → Span
 span_of word = record { base = word.base; size = word.size }
 
-page_keeps : (word : PageWord) (f g : Span → Reading) → ((x : Span) → Keeps (f x) (g x)) → Keeps (page_at word >>= f) (page_at word >>= g)
-page_keeps word f g h = by_test (is_page word)
+page_keeps : (scheme : Scheme) (word : PageWord) (f g : Span → Reading) → ((x : Span) → Keeps (f x) (g x)) → Keeps (page_at scheme word >>= f) (page_at scheme word >>= g)
+page_keeps scheme word f g h = by_test (is_page scheme word)
   where
     by_test : (b : Bool) → Keeps ((if b then Ok (span_of word) else Err NotPage) >>= f) ((if b then Ok (span_of word) else Err NotPage) >>= g)
     by_test true = h (span_of word)
     by_test false = inl refl
 
-module _ (m n : ℕ) (less : m ≤ n) where
+module _ (scheme : Scheme) (m n : ℕ) (less : m ≤ n) where
   hart_step : (hart : ℕ) (f : ℕ → Event) → IsStep (among n hart >>= λ h. Ok (f h))
   hart_step hart f = there_is_step hart (λ h. Ok (f h)) NoSuchHart (nat_lt hart n) no_hart_is_step (read_is_step (f hart))
 
-  page_step : (word : PageWord) (f : Span → Event) → IsStep (page_at word >>= λ s. Ok (f s))
-  page_step word f = there_is_step (span_of word) (λ s. Ok (f s)) NotPage (is_page word) no_page_is_step (read_is_step (f (span_of word)))
+  page_step : (word : PageWord) (f : Span → Event) → IsStep (page_at scheme word >>= λ s. Ok (f s))
+  page_step word f = there_is_step (span_of word) (λ s. Ok (f s)) NotPage (is_page scheme word) no_page_is_step (read_is_step (f (span_of word)))
 
-  edit_step : (hart : ℕ) (word : PageWord) (f : ℕ → Span → Event) → IsStep (among n hart >>= λ h. page_at word >>= λ s. Ok (f h s))
-  edit_step hart word f = there_is_step hart (λ h. page_at word >>= λ s. Ok (f h s)) NoSuchHart (nat_lt hart n) no_hart_is_step (page_step word (f hart))
+  edit_step : (hart : ℕ) (word : PageWord) (f : ℕ → Span → Event) → IsStep (among n hart >>= λ h. page_at scheme word >>= λ s. Ok (f h s))
+  edit_step hart word f = there_is_step hart (λ h. page_at scheme word >>= λ s. Ok (f h s)) NoSuchHart (nat_lt hart n) no_hart_is_step (page_step word (f hart))
 
   among_keeps : (hart : ℕ) (f g : ℕ → Reading) → Keeps (f hart) (g hart) → IsStep (g hart) → Keeps (among m hart >>= f) (among n hart >>= g)
   among_keeps hart f g h k = if_there hart f g (nat_lt hart m) (nat_lt hart n) (lt_more m n hart less) h k
@@ -112,8 +113,8 @@ module _ (m n : ℕ) (less : m ≤ n) where
   harts_keep : (hart other : ℕ) (f : ℕ → ℕ → Event) → Keeps (among m hart >>= λ h. among m other >>= λ o. Ok (f h o)) (among n hart >>= λ h. among n other >>= λ o. Ok (f h o))
   harts_keep hart other f = among_keeps hart _ _ (hart_keeps other (f hart)) (hart_step other (f hart))
 
-  edit_keeps : (hart : ℕ) (word : PageWord) (f : ℕ → Span → Event) → Keeps (among m hart >>= λ h. page_at word >>= λ s. Ok (f h s)) (among n hart >>= λ h. page_at word >>= λ s. Ok (f h s))
-  edit_keeps hart word f = among_keeps hart _ _ (page_keeps word (λ s. Ok (f hart s)) (λ s. Ok (f hart s)) (λ s. inl refl)) (page_step word (f hart))
+  edit_keeps : (hart : ℕ) (word : PageWord) (f : ℕ → Span → Event) → Keeps (among m hart >>= λ h. page_at scheme word >>= λ s. Ok (f h s)) (among n hart >>= λ h. page_at scheme word >>= λ s. Ok (f h s))
+  edit_keeps hart word f = among_keeps hart _ _ (page_keeps scheme word (λ s. Ok (f hart s)) (λ s. Ok (f hart s)) (λ s. inl refl)) (page_step word (f hart))
 
   if_keeps : (x x' y y' : Reading) (b : Bool) → Keeps x x' → Keeps y y' → Keeps (if b then x else y) (if b then x' else y')
   if_keeps x x' y y' true h k = h
@@ -122,7 +123,7 @@ module _ (m n : ℕ) (less : m ≤ n) where
   none_keeps : Keeps (Err NotStep) (Err NotStep)
   none_keeps = inl refl
 
-  words_keep : (h : ℕ) (name : List ℕ) (rest : List (List ℕ)) → Keeps (step_of_words m h name rest) (step_of_words n h name rest)
+  words_keep : (h : ℕ) (name : List ℕ) (rest : List (List ℕ)) → Keeps (step_of_words scheme m h name rest) (step_of_words scheme n h name rest)
   words_keep h name [] =
       if_keeps _ _ _ _ (bytes_eq name (codes "load")) (hart_keeps h _)
       (if_keeps _ _ _ _ (bytes_eq name (codes "servefence")) (hart_keeps h _) (if_keeps _ _ _ _ (bytes_eq name (codes "ack")) (hart_keeps h _) none_keeps))
@@ -140,29 +141,29 @@ module _ (m n : ℕ) (less : m ≤ n) where
   words_keep h name (a ∷ b ∷ c ∷ []) =
       if_keeps _ _ _ _ (bytes_eq name (codes "begin")) (asked_keeps (translation_of a b c) _ _ (λ t. hart_keeps h _))
       (if_keeps _ _ _ _ (bytes_eq name (codes "unmap"))
-      (asked_keeps (place_of a) _ _ (λ p. asked_keeps (page_of b) _ _ (λ w. named_keeps c _ _ (λ d. edit_keeps h w _) (λ d. edit_step h w _)))) none_keeps)
+      (asked_keeps (place_of a) _ _ (λ p. asked_keeps (page_of scheme b) _ _ (λ w. named_keeps c _ _ (λ d. edit_keeps h w _) (λ d. edit_step h w _)))) none_keeps)
   words_keep h name (a ∷ b ∷ c ∷ d ∷ []) =
       if_keeps _ _ _ _ (bytes_eq name (codes "map"))
-      (asked_keeps (place_of a) _ _ (λ p. asked_keeps (page_of b) _ _ (λ w. asked_keeps (num_of c) _ _ (λ o. asked_keeps (flags_of d) _ _ (λ f. edit_keeps h w _)))))
+      (asked_keeps (place_of a) _ _ (λ p. asked_keeps (page_of scheme b) _ _ (λ w. asked_keeps (num_of c) _ _ (λ o. asked_keeps (flags_of d) _ _ (λ f. edit_keeps h w _)))))
       (if_keeps _ _ _ _ (bytes_eq name (codes "protect"))
-      (asked_keeps (place_of a) _ _ (λ p. asked_keeps (page_of b) _ _ (λ w. asked_keeps (flags_of c) _ _ (λ f. named_keeps d _ _ (λ s. edit_keeps h w _) (λ s. edit_step h w _))))) none_keeps)
+      (asked_keeps (place_of a) _ _ (λ p. asked_keeps (page_of scheme b) _ _ (λ w. asked_keeps (flags_of c) _ _ (λ f. named_keeps d _ _ (λ s. edit_keeps h w _) (λ s. edit_step h w _))))) none_keeps)
   words_keep h name (a ∷ b ∷ c ∷ d ∷ e ∷ rest) = none_keeps
 
-  step_keeps : (words : List (List ℕ)) → Keeps (step_in m words) (step_in n words)
+  step_keeps : (words : List (List ℕ)) → Keeps (step_in scheme m words) (step_in scheme n words)
   step_keeps [] = none_keeps
   step_keeps (hart ∷ []) = none_keeps
   step_keeps (hart ∷ name ∷ rest) = asked_keeps (num_of hart) _ _ (λ h. words_keep h name rest)
 
-pub more_harts : (m n : ℕ) (text : List ℕ) → m ≤ n → ¬ (step_among m text ≡ Err NoSuchHart) → step_among n text ≡ step_among m text
-more_harts m n text less h = elim (step_keeps m n less (words_of text)) [ inl same ↦ same | inr other ↦ absurd (h other.0) ]
+pub more_harts : (scheme : Scheme) (m n : ℕ) (text : List ℕ) → m ≤ n → ¬ (step_among scheme m text ≡ Err NoSuchHart) → step_among scheme n text ≡ step_among scheme m text
+more_harts scheme m n text less h = elim (step_keeps scheme m n less (words_of text)) [ inl same ↦ same | inr other ↦ absurd (h other.0) ]
 
 -- a text that is no step for some harts is none for any
-pub no_step_for_any : (m n : ℕ) (text : List ℕ) → step_among m text ≡ Err NotStep → step_among n text ≡ Err NotStep
-no_step_for_any m n text h = by_order (cases_lt m n)
+pub no_step_for_any : (scheme : Scheme) (m n : ℕ) (text : List ℕ) → step_among scheme m text ≡ Err NotStep → step_among scheme n text ≡ Err NotStep
+no_step_for_any scheme m n text h = by_order (cases_lt m n)
   where
     two_faults : (r : Reading) → r ≡ Err NotStep → r ≡ Err NoSuchHart → ⊥
     two_faults r e f = cc
 
-    by_order : (m < n) ⊎ (n ≤ m) → step_among n text ≡ Err NotStep
-    by_order (inl less) = elim (step_keeps m n (omega arith) (words_of text)) [ inl same ↦ same ∙ h | inr other ↦ absurd (two_faults (step_among m text) h other.0) ]
-    by_order (inr less) = elim (step_keeps n m less (words_of text)) [ inl same ↦ sym same ∙ h | inr other ↦ absurd (other.1 h) ]
+    by_order : (m < n) ⊎ (n ≤ m) → step_among scheme n text ≡ Err NotStep
+    by_order (inl less) = elim (step_keeps scheme m n (omega arith) (words_of text)) [ inl same ↦ same ∙ h | inr other ↦ absurd (two_faults (step_among scheme m text) h other.0) ]
+    by_order (inr less) = elim (step_keeps scheme n m less (words_of text)) [ inl same ↦ sym same ∙ h | inr other ↦ absurd (other.1 h) ]

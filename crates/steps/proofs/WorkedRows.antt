@@ -1,4 +1,5 @@
 -- Worked rows: what was worked out by hand, computed from the definitions alone.
+use Rattle.pte.specs.declared.scheme.Scheme.TheVariants.{Sv39}
 use Rattle.std.proofs.Common.{◌≡◌, ℕ, Bool, true, false, codes, List, [], ◌∷◌, Option, Some, None, option_map, Err, refl}
 use Rattle.pte.specs.Entry.{is_accessed, is_dirty, is_global, is_user, may_execute, may_read, may_write}
 use Rattle.pte.specs.declared.address.PageSize.TheVariants.{Mib2}
@@ -64,29 +65,29 @@ blanks = refl
 walk : walk_step_of (codes "s+sum store 0x1F") ≡ Some (record { ctx = record { mode = Super; sum = true; mxr = false }; access = Store; va = 31 })
 walk = refl
 
-begin : run_step_of (codes "7 begin u+mxr load 10") ≡ Some (events.Begin 7 10 Load (record { mode = User; sum = false; mxr = true }))
+begin : run_step_of Sv39 (codes "7 begin u+mxr load 10") ≡ Some (events.Begin 7 10 Load (record { mode = User; sum = false; mxr = true }))
 begin = refl
 
-fence : run_step_of (codes "0 fence x0 2") ≡ Some (events.Fence 0 None (Some 2))
+fence : run_step_of Sv39 (codes "0 fence x0 2") ≡ Some (events.Fence 0 None (Some 2))
 fence = refl
 
-unmap : run_step_of (codes "1 unmap k 2M:0x400000 1,7,1") ≡ Some (events.Unmap 1 places.Kernel (record { base = 0x400000; size = Mib2 }) 0x82)
+unmap : run_step_of Sv39 (codes "1 unmap k 2M:0x400000 1,7,1") ≡ Some (events.Unmap 1 places.Kernel (record { base = 0x400000; size = Mib2 }) 0x82)
 unfolding byte_of
 unmap = refl
 
-flush : run_step_of (codes "0 flush all -") ≡ Some (events.Flush 0 scopes.All 0)
+flush : run_step_of Sv39 (codes "0 flush all -") ≡ Some (events.Flush 0 scopes.All 0)
 flush = refl
 
-take : run_step_of (codes "1 take 0") ≡ Some (events.Take 1 0)
+take : run_step_of Sv39 (codes "1 take 0") ≡ Some (events.Take 1 0)
 take = refl
 
 -- ---- the first fault of several
 
-no_step : step_among 1 (codes "9 flush all 9,x") ≡ Err NotStep
+no_step : step_among Sv39 1 (codes "9 flush all 9,x") ≡ Err NotStep
 no_step = refl
 
-no_hart : step_among 8 (codes "8 unmap 0 4K:0x1 0") ≡ Err NoSuchHart
+no_hart : step_among Sv39 8 (codes "8 unmap 0 4K:0x1 0") ≡ Err NoSuchHart
 no_hart = refl
 
-no_page : step_among 8 (codes "7 unmap 0 4K:0x1 0") ≡ Err NotPage
+no_page : step_among Sv39 8 (codes "7 unmap 0 4K:0x1 0") ≡ Err NotPage
 no_page = refl

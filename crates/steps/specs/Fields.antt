@@ -3,9 +3,10 @@ use Rattle.std.specs.Prelude.{ℕ, ◌-◌, ◌^◌, ◌%◌, ◌==◌, ◌&&◌
 use Rattle.std.specs.List.{list_all, slice_split}
 use Rattle.std.specs.Option.{option_or}
 use Rattle.std.specs.Str.{bytes_eq}
-use Rattle.pte.specs.Address.{address_bits, bytes_of, Span}
+use Rattle.pte.specs.Address.{bytes_of, is_canonical, level_of, Span, top_level}
 use Rattle.pte.specs.declared.address.PageSize.{PageSize}
-use Rattle.pte.specs.declared.address.PageSize.TheVariants.{Kib4, Mib2, Gib1}
+use Rattle.pte.specs.declared.address.PageSize.TheVariants.{Kib4, Mib2, Gib1, Gib512}
+use Rattle.pte.specs.declared.scheme.Scheme.{Scheme}
 use Rattle.pte.specs.declared.flags.PteFlags.{PteFlags}
 use Rattle.spaces.specs.declared.places.Place.{Place}
 use Rattle.spaces.specs.declared.places.Place.TheVariants as places
@@ -50,17 +51,24 @@ page_after prefix size word =
     if bytes_eq (take (length prefix) word) prefix then option_map (λ base. record { base = base; size = size }) (num_of (drop (length prefix) word)) else None
 
 -- a size, a colon and the address, whatever it is
-abbrev pub page_of : List ℕ → Option PageWord
-page_of word = option_or (option_or (page_after (codes "4K:") Kib4 word) (page_after (codes "2M:") Mib2 word)) (page_after (codes "1G:") Gib1 word)
+abbrev pub sized_page_of : List ℕ → Option PageWord
+sized_page_of word =
+    option_or (option_or (option_or (page_after (codes "4K:") Kib4 word) (page_after (codes "2M:") Mib2 word)) (page_after (codes "1G:") Gib1 word)) (page_after (codes "512G:") Gib512 word)
 
--- the address is canonical and a multiple of the size (privileged manual 4.4.1)
-abbrev pub is_page : PageWord → Bool
-is_page page =
-    (nat_lt page.base (2 ^ (address_bits - 1)) || (nat_le (2 ^ 64 - 2 ^ (address_bits - 1)) page.base && nat_lt page.base (2 ^ 64)))
-    && (page.base % bytes_of page.size == 0)
+-- the scheme has pages of that size
+abbrev pub has_size : Scheme → PageWord → Bool
+has_size scheme page = nat_le (level_of page.size) (top_level scheme)
 
-abbrev pub page_at : PageWord → Result Span StepFault
-page_at page = if is_page page then Ok (record { base = page.base; size = page.size }) else Err NotPage
+-- the same of a size that the scheme has
+abbrev pub page_of : Scheme → List ℕ → Option PageWord
+page_of scheme word = option_and_then (λ page. if has_size scheme page then Some page else None) (sized_page_of word)
+
+-- the address is canonical and a multiple of the size (privileged manual 4.4.1 and 4.5.1)
+abbrev pub is_page : Scheme → PageWord → Bool
+is_page scheme page = is_canonical scheme page.base && (page.base % bytes_of page.size == 0)
+
+abbrev pub page_at : Scheme → PageWord → Result Span StepFault
+page_at scheme page = if is_page scheme page then Ok (record { base = page.base; size = page.size }) else Err NotPage
 
 -- ---- flags
 

@@ -1,9 +1,10 @@
 -- How the steps of `run` are written, as relations between a text and what it stands for.
 use Rattle.std.specs.Prelude.{ℕ, ◌≡◌, ◌⊎◌, ◌<◌, ◌^◌, ◌==◌, false, bit_and, bit_or, codes, List, [], ◌∷◌, ◌++◌, length, Option, Some, None}
 use Rattle.std.specs.List.{AllByRecursion}
-use Rattle.pte.specs.Address.{IsPage, Span}
+use Rattle.pte.specs.Address.{IsPageOf, Span}
 use Rattle.pte.specs.declared.address.PageSize.{PageSize}
-use Rattle.pte.specs.declared.address.PageSize.TheVariants.{Kib4, Mib2, Gib1}
+use Rattle.pte.specs.declared.address.PageSize.TheVariants.{Kib4, Mib2, Gib1, Gib512}
+use Rattle.pte.specs.declared.scheme.Scheme.{Scheme}
 use Rattle.pte.specs.declared.flags.PteFlags.{PteFlags}
 use Rattle.spaces.specs.declared.places.Place.{Place}
 use Rattle.spaces.specs.declared.places.Place.TheVariants as places
@@ -47,10 +48,11 @@ abbrev pub size_text : PageSize → List ℕ
 size_text Kib4 = codes "4K:"
 size_text Mib2 = codes "2M:"
 size_text Gib1 = codes "1G:"
+size_text Gib512 = codes "512G:"
 
--- the size, and the address of its first byte
-abbrev pub WritesPage : List ℕ → Span → Type 0
-WritesPage word page = (digits : List ℕ) × (word ≡ size_text page.size ++ digits) × WritesNumber digits page.base × IsPage page
+-- the size, and the address of its first byte: a page of the scheme
+abbrev pub WritesPage : Scheme → List ℕ → Span → Type 0
+WritesPage scheme word page = (digits : List ℕ) × (word ≡ size_text page.size ++ digits) × WritesNumber digits page.base × IsPageOf scheme page
 
 -- each letter adds its bit, which is not set yet
 abbrev pub AddLetters : ℕ → List ℕ → ℕ → Type 0
@@ -99,39 +101,39 @@ hart_of (Collect hart ticket from) = hart
 hart_of (Finish hart ticket) = hart
 hart_of (Close hart to) = hart
 
--- the words after the hart's, for so many harts
-abbrev pub Tells : ℕ → List (List ℕ) → Event → Type 0
-Tells harts words (Begin hart va access ctx) = (a : List ℕ) × (words ≡ codes "begin" ∷ ctx_text ctx ∷ access_text access ∷ a ∷ []) × WritesNumber a va
-Tells harts words (Load hart) = words ≡ codes "load" ∷ []
-Tells harts words (Map hart place page ppn flags) =
+-- the words after the hart's, in a scheme and for so many harts
+abbrev pub Tells : Scheme → ℕ → List (List ℕ) → Event → Type 0
+Tells scheme harts words (Begin hart va access ctx) = (a : List ℕ) × (words ≡ codes "begin" ∷ ctx_text ctx ∷ access_text access ∷ a ∷ []) × WritesNumber a va
+Tells scheme harts words (Load hart) = words ≡ codes "load" ∷ []
+Tells scheme harts words (Map hart place page ppn flags) =
     (a : List ℕ) × (b : List ℕ) × (c : List ℕ) × (d : List ℕ) × (words ≡ codes "map" ∷ a ∷ b ∷ c ∷ d ∷ [])
-    × WritesPlace a place × WritesPage b page × WritesNumber c ppn × WritesFlags d flags
-Tells harts words (Unmap hart place page named) =
+    × WritesPlace a place × WritesPage scheme b page × WritesNumber c ppn × WritesFlags d flags
+Tells scheme harts words (Unmap hart place page named) =
     (a : List ℕ) × (b : List ℕ) × (c : List ℕ) × (words ≡ codes "unmap" ∷ a ∷ b ∷ c ∷ [])
-    × WritesPlace a place × WritesPage b page × WritesNamed harts c named
-Tells harts words (Protect hart place page flags named) =
+    × WritesPlace a place × WritesPage scheme b page × WritesNamed harts c named
+Tells scheme harts words (Protect hart place page flags named) =
     (a : List ℕ) × (b : List ℕ) × (c : List ℕ) × (d : List ℕ) × (words ≡ codes "protect" ∷ a ∷ b ∷ c ∷ d ∷ [])
-    × WritesPlace a place × WritesPage b page × WritesFlags c flags × WritesNamed harts d named
-Tells harts words (Flush hart scope named) =
+    × WritesPlace a place × WritesPage scheme b page × WritesFlags c flags × WritesNamed harts d named
+Tells scheme harts words (Flush hart scope named) =
     (a : List ℕ) × (b : List ℕ) × (words ≡ codes "flush" ∷ a ∷ b ∷ []) × WritesScope a scope × WritesNamed harts b named
-Tells harts words (Switch hart space) = (a : List ℕ) × (words ≡ codes "switch" ∷ a ∷ []) × WritesSpace a space
-Tells harts words (Fence hart rs1 rs2) =
+Tells scheme harts words (Switch hart space) = (a : List ℕ) × (words ≡ codes "switch" ∷ a ∷ []) × WritesSpace a space
+Tells scheme harts words (Fence hart rs1 rs2) =
     (a : List ℕ) × (b : List ℕ) × (words ≡ codes "fence" ∷ a ∷ b ∷ []) × WritesRegister a rs1 × WritesRegister b rs2
-Tells harts words (Post hart ticket to) =
+Tells scheme harts words (Post hart ticket to) =
     (a : List ℕ) × (b : List ℕ) × (words ≡ codes "post" ∷ a ∷ b ∷ []) × WritesTicket a ticket × WritesBelow harts b to
-Tells harts words (Take hart from) = (a : List ℕ) × (words ≡ codes "take" ∷ a ∷ []) × WritesBelow harts a from
-Tells harts words (ServeFence hart) = words ≡ codes "servefence" ∷ []
-Tells harts words (Ack hart) = words ≡ codes "ack" ∷ []
-Tells harts words (AckSelf hart ticket) = (a : List ℕ) × (words ≡ codes "ackself" ∷ a ∷ []) × WritesTicket a ticket
-Tells harts words (Collect hart ticket from) =
+Tells scheme harts words (Take hart from) = (a : List ℕ) × (words ≡ codes "take" ∷ a ∷ []) × WritesBelow harts a from
+Tells scheme harts words (ServeFence hart) = words ≡ codes "servefence" ∷ []
+Tells scheme harts words (Ack hart) = words ≡ codes "ack" ∷ []
+Tells scheme harts words (AckSelf hart ticket) = (a : List ℕ) × (words ≡ codes "ackself" ∷ a ∷ []) × WritesTicket a ticket
+Tells scheme harts words (Collect hart ticket from) =
     (a : List ℕ) × (b : List ℕ) × (words ≡ codes "collect" ∷ a ∷ b ∷ []) × WritesTicket a ticket × WritesBelow harts b from
-Tells harts words (Finish hart ticket) = (a : List ℕ) × (words ≡ codes "finish" ∷ a ∷ []) × WritesTicket a ticket
-Tells harts words (Close hart to) = (a : List ℕ) × (words ≡ codes "close" ∷ a ∷ []) × WritesBelow harts a to
+Tells scheme harts words (Finish hart ticket) = (a : List ℕ) × (words ≡ codes "finish" ∷ a ∷ []) × WritesTicket a ticket
+Tells scheme harts words (Close hart to) = (a : List ℕ) × (words ≡ codes "close" ∷ a ∷ []) × WritesBelow harts a to
 
 -- the hart's number and the words after it, for so many harts
-pub record WritesRunStep (harts : ℕ) (text : List ℕ) (event : Event) : Type 0 where
+pub record WritesRunStep (scheme : Scheme) (harts : ℕ) (text : List ℕ) (event : Event) : Type 0 where
   pub hart : List ℕ
   pub words : List (List ℕ)
   pub text_has : HasWords text (hart ∷ words)
   pub number : WritesBelow harts hart (hart_of event)
-  pub tells : Tells harts words event
+  pub tells : Tells scheme harts words event

@@ -2,6 +2,7 @@
 use Rattle.std.specs.Prelude.{ℕ, codes, List, [], ◌∷◌, Option, Result, Ok, Err, if◌then◌else◌}
 use Rattle.std.specs.Result.{result_ok}
 use Rattle.std.specs.Str.{bytes_eq}
+use Rattle.pte.specs.declared.scheme.Scheme.{Scheme}
 use Rattle.history.specs.declared.event.Event.{Event}
 use Rattle.history.specs.declared.event.Event.TheVariants.{Begin, Load, Map, Unmap, Protect, Flush, Switch, Fence, Post, Take, ServeFence, Ack, AckSelf, Collect, Finish, Close}
 use Rattle.shoot.specs.declared.TheConstants.{MAX_HARTS}
@@ -93,33 +94,33 @@ begin_in harts hart mode access address = do
   h ← among harts hart
   Ok (Begin h step.va step.access step.ctx)
 
-abbrev pub unmap_in : ℕ → ℕ → List ℕ → List ℕ → List ℕ → Result Event StepFault
-unmap_in harts hart place page named = do
+abbrev pub unmap_in : Scheme → ℕ → ℕ → List ℕ → List ℕ → List ℕ → Result Event StepFault
+unmap_in scheme harts hart place page named = do
   p ← asked (place_of place)
-  w ← asked (page_of page)
+  w ← asked (page_of scheme page)
   set ← named_in harts named
   h ← among harts hart
-  span ← page_at w
+  span ← page_at scheme w
   Ok (Unmap h p span set)
 
-abbrev pub map_in : ℕ → ℕ → List ℕ → List ℕ → List ℕ → List ℕ → Result Event StepFault
-map_in harts hart place page ppn flags = do
+abbrev pub map_in : Scheme → ℕ → ℕ → List ℕ → List ℕ → List ℕ → List ℕ → Result Event StepFault
+map_in scheme harts hart place page ppn flags = do
   p ← asked (place_of place)
-  w ← asked (page_of page)
+  w ← asked (page_of scheme page)
   n ← asked (num_of ppn)
   f ← asked (flags_of flags)
   h ← among harts hart
-  span ← page_at w
+  span ← page_at scheme w
   Ok (Map h p span n f)
 
-abbrev pub protect_in : ℕ → ℕ → List ℕ → List ℕ → List ℕ → List ℕ → Result Event StepFault
-protect_in harts hart place page flags named = do
+abbrev pub protect_in : Scheme → ℕ → ℕ → List ℕ → List ℕ → List ℕ → List ℕ → Result Event StepFault
+protect_in scheme harts hart place page flags named = do
   p ← asked (place_of place)
-  w ← asked (page_of page)
+  w ← asked (page_of scheme page)
   f ← asked (flags_of flags)
   set ← named_in harts named
   h ← among harts hart
-  span ← page_at w
+  span ← page_at scheme w
   Ok (Protect h p span f set)
 
 -- ---- the names
@@ -148,34 +149,34 @@ with_two_words harts hart name a b =
     else if bytes_eq name (codes "collect") then collect_in harts hart a b
     else Err NotStep
 
-abbrev pub with_three_words : ℕ → ℕ → List ℕ → List ℕ → List ℕ → List ℕ → Result Event StepFault
-with_three_words harts hart name a b c =
+abbrev pub with_three_words : Scheme → ℕ → ℕ → List ℕ → List ℕ → List ℕ → List ℕ → Result Event StepFault
+with_three_words scheme harts hart name a b c =
     if bytes_eq name (codes "begin") then begin_in harts hart a b c
-    else if bytes_eq name (codes "unmap") then unmap_in harts hart a b c
+    else if bytes_eq name (codes "unmap") then unmap_in scheme harts hart a b c
     else Err NotStep
 
-abbrev pub with_four_words : ℕ → ℕ → List ℕ → List ℕ → List ℕ → List ℕ → List ℕ → Result Event StepFault
-with_four_words harts hart name a b c d =
-    if bytes_eq name (codes "map") then map_in harts hart a b c d
-    else if bytes_eq name (codes "protect") then protect_in harts hart a b c d
+abbrev pub with_four_words : Scheme → ℕ → ℕ → List ℕ → List ℕ → List ℕ → List ℕ → List ℕ → Result Event StepFault
+with_four_words scheme harts hart name a b c d =
+    if bytes_eq name (codes "map") then map_in scheme harts hart a b c d
+    else if bytes_eq name (codes "protect") then protect_in scheme harts hart a b c d
     else Err NotStep
 
-abbrev pub step_of_words : ℕ → ℕ → List ℕ → List (List ℕ) → Result Event StepFault
-step_of_words harts hart name [] = with_no_word harts hart name
-step_of_words harts hart name (a ∷ []) = with_a_word harts hart name a
-step_of_words harts hart name (a ∷ b ∷ []) = with_two_words harts hart name a b
-step_of_words harts hart name (a ∷ b ∷ c ∷ []) = with_three_words harts hart name a b c
-step_of_words harts hart name (a ∷ b ∷ c ∷ d ∷ []) = with_four_words harts hart name a b c d
-step_of_words harts hart name _ = Err NotStep
+abbrev pub step_of_words : Scheme → ℕ → ℕ → List ℕ → List (List ℕ) → Result Event StepFault
+step_of_words scheme harts hart name [] = with_no_word harts hart name
+step_of_words scheme harts hart name (a ∷ []) = with_a_word harts hart name a
+step_of_words scheme harts hart name (a ∷ b ∷ []) = with_two_words harts hart name a b
+step_of_words scheme harts hart name (a ∷ b ∷ c ∷ []) = with_three_words scheme harts hart name a b c
+step_of_words scheme harts hart name (a ∷ b ∷ c ∷ d ∷ []) = with_four_words scheme harts hart name a b c d
+step_of_words scheme harts hart name _ = Err NotStep
 
-abbrev pub step_in : ℕ → List (List ℕ) → Result Event StepFault
-step_in harts (hart ∷ name ∷ words) = asked (num_of hart) >>= λ h. step_of_words harts h name words
-step_in harts _ = Err NotStep
+abbrev pub step_in : Scheme → ℕ → List (List ℕ) → Result Event StepFault
+step_in scheme harts (hart ∷ name ∷ words) = asked (num_of hart) >>= λ h. step_of_words scheme harts h name words
+step_in scheme harts _ = Err NotStep
 
--- what a text writes for so many harts: an event, or what is wrong with it
-abbrev pub step_among : ℕ → List ℕ → Result Event StepFault
-step_among harts text = step_in harts (words_of text)
+-- what a text writes in a scheme, for so many harts: an event, or what is wrong with it
+abbrev pub step_among : Scheme → ℕ → List ℕ → Result Event StepFault
+step_among scheme harts text = step_in scheme harts (words_of text)
 
 -- what a text writes for as many harts as there may be
-abbrev pub run_step_of : List ℕ → Option Event
-run_step_of text = result_ok (step_among MAX_HARTS text)
+abbrev pub run_step_of : Scheme → List ℕ → Option Event
+run_step_of scheme text = result_ok (step_among scheme MAX_HARTS text)

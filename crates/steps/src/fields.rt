@@ -1,12 +1,12 @@
 //! The words of a step.
 ghost use Rattle.std.specs.Prelude.{◌≡◌};
-ghost use Rattle.steps.specs.Fields.{among, bits_of, flag_of, flags_of, named_in, page_after, page_at, page_of, place_of, register_of, scope_of, set_in, space_of, ticket_of, with_letters, with_part};
+ghost use Rattle.steps.specs.Fields.{among, bits_of, flag_of, flags_of, named_in, page_after, page_at, page_of, place_of, register_of, scope_of, set_in, sized_page_of, space_of, ticket_of, with_letters, with_part};
 
 use crate::fault::StepFault;
 use crate::numbers::num;
 use bitflags::Flags;
 use history::Scope;
-use pte::{Page, PageSize, PteFlags, VirtAddr};
+use pte::{Page, PageSize, PteFlags, Scheme, VirtAddr};
 use shoot::HartSet;
 use spaces::Place;
 
@@ -83,19 +83,32 @@ fn page_after(prefix: &[u8], size: PageSize, word: &[u8]) -> Option<PageWord>
     Some(PageWord { base, size })
 }
 
-/// `4K`, `2M` or `1G`, a colon, and an address.
-pub fn page_word(word: &[u8]) -> Option<PageWord>
-    ensures { result ≡ page_of word.now }
+/// `4K`, `2M`, `1G` or `512G`, a colon, and an address.
+fn sized_page(word: &[u8]) -> Option<PageWord>
+    ensures { result ≡ sized_page_of word.now }
 {
     page_after(b"4K:".as_slice(), PageSize::Kib4, word)
         .or(page_after(b"2M:".as_slice(), PageSize::Mib2, word))
         .or(page_after(b"1G:".as_slice(), PageSize::Gib1, word))
+        .or(page_after(b"512G:".as_slice(), PageSize::Gib512, word))
 }
 
-pub fn page(word: PageWord) -> Result<Page, StepFault>
-    ensures { result ≡ page_at word }
+/// A size that the scheme has, a colon, and an address.
+pub fn page_word(scheme: Scheme, word: &[u8]) -> Option<PageWord>
+    ensures { result ≡ page_of scheme word.now }
 {
-    let Some(base) = VirtAddr::new(word.base) else {
+    let page = sized_page(word)?;
+    if page.size.level() <= scheme.top_level() {
+        Some(page)
+    } else {
+        None
+    }
+}
+
+pub fn page(scheme: Scheme, word: PageWord) -> Result<Page, StepFault>
+    ensures { result ≡ page_at scheme word }
+{
+    let Some(base) = VirtAddr::new_in(scheme, word.base) else {
         return Err(StepFault::NotPage);
     };
     match Page::new(base, word.size) {

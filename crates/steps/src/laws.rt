@@ -1,5 +1,6 @@
 //! Laws of the texts: each call makes no step, and its clauses hold of the definitions alone.
 ghost use Rattle.std.specs.Prelude.{◌≡◌, ◌≤◌, List, ℕ, Ok, Err, Some, ◌↔◌};
+ghost use Rattle.pte.specs.declared.scheme.Scheme.{Scheme};
 ghost use Rattle.history.specs.declared.event.Event.{Event};
 ghost use Rattle.shoot.specs.declared.TheConstants.{MAX_HARTS};
 ghost use Rattle.steps.specs.declared.fault.StepFault.TheVariants.{NoSuchHart, NotStep};
@@ -24,15 +25,15 @@ pub fn walk_step_is_written()
 
 /// For each number of harts, a text writes at most one step of `run`, and the reader finds just the step that is written.
 pub fn run_step_is_written()
-    ensures one { (harts : ℕ) (text : List ℕ) (a b : Event) → WritesRunStep harts text a → WritesRunStep harts text b → a ≡ b }
-    ensures found { (harts : ℕ) (text : List ℕ) (event : Event) → WritesRunStep harts text event ↔ (step_among harts text ≡ Ok event) }
-    ensures found_of_all { (text : List ℕ) (event : Event) → WritesRunStep MAX_HARTS text event ↔ (run_step_of text ≡ Some event) }
+    ensures one { (scheme : Scheme) (harts : ℕ) (text : List ℕ) (a b : Event) → WritesRunStep scheme harts text a → WritesRunStep scheme harts text b → a ≡ b }
+    ensures found { (scheme : Scheme) (harts : ℕ) (text : List ℕ) (event : Event) → WritesRunStep scheme harts text event ↔ (step_among scheme harts text ≡ Ok event) }
+    ensures found_of_all { (scheme : Scheme) (text : List ℕ) (event : Event) → WritesRunStep scheme MAX_HARTS text event ↔ (run_step_of scheme text ≡ Some event) }
 {}
 
 /// Whether a text is a step of `run` does not depend on how many harts there are: that it is none is told before anything
 /// else. With more harts it stays the same step, or has the same fault, unless it named a hart that was not there: that its
 /// page is none is told last.
 pub fn harts_are_told_between_steps_and_pages()
-    ensures not_step { (m n : ℕ) (text : List ℕ) → step_among m text ≡ Err NotStep → step_among n text ≡ Err NotStep }
-    ensures more_harts { (m n : ℕ) (text : List ℕ) → m ≤ n → ¬ (step_among m text ≡ Err NoSuchHart) → step_among n text ≡ step_among m text }
+    ensures not_step { (scheme : Scheme) (m n : ℕ) (text : List ℕ) → step_among scheme m text ≡ Err NotStep → step_among scheme n text ≡ Err NotStep }
+    ensures more_harts { (scheme : Scheme) (m n : ℕ) (text : List ℕ) → m ≤ n → ¬ (step_among scheme m text ≡ Err NoSuchHart) → step_among scheme n text ≡ step_among scheme m text }
 {}

@@ -9,6 +9,7 @@ use crate::numbers::num;
 use crate::step::translation;
 use crate::text::next_word;
 use history::Event;
+use pte::Scheme;
 use shoot::MAX_HARTS;
 
 fn switch(harts: u8, hart: u64, word: &[u8]) -> Result<Event, StepFault>
@@ -111,19 +112,20 @@ fn begin(
 }
 
 fn unmap(
+    scheme: Scheme,
     harts: u8,
     hart: u64,
     at: &[u8],
     span: &[u8],
     harts_named: &[u8],
 ) -> Result<Event, StepFault>
-    ensures { result ≡ unmap_in harts hart at.now span.now harts_named.now }
+    ensures { result ≡ unmap_in scheme harts hart at.now span.now harts_named.now }
 {
     let place = place(at).ok_or(StepFault::NotStep)?;
-    let word = page_word(span).ok_or(StepFault::NotStep)?;
+    let word = page_word(scheme, span).ok_or(StepFault::NotStep)?;
     let named = named(harts, harts_named)?;
     let hart = among(harts, hart)?;
-    let page = page(word)?;
+    let page = page(scheme, word)?;
     Ok(Event::Unmap {
         hart,
         place,
@@ -133,6 +135,7 @@ fn unmap(
 }
 
 fn map(
+    scheme: Scheme,
     harts: u8,
     hart: u64,
     at: &[u8],
@@ -140,14 +143,14 @@ fn map(
     frame: &[u8],
     letters: &[u8],
 ) -> Result<Event, StepFault>
-    ensures { result ≡ map_in harts hart at.now span.now frame.now letters.now }
+    ensures { result ≡ map_in scheme harts hart at.now span.now frame.now letters.now }
 {
     let place = place(at).ok_or(StepFault::NotStep)?;
-    let word = page_word(span).ok_or(StepFault::NotStep)?;
+    let word = page_word(scheme, span).ok_or(StepFault::NotStep)?;
     let ppn = num(frame).ok_or(StepFault::NotStep)?;
     let flags = flags(letters).ok_or(StepFault::NotStep)?;
     let hart = among(harts, hart)?;
-    let page = page(word)?;
+    let page = page(scheme, word)?;
     Ok(Event::Map {
         hart,
         place,
@@ -158,6 +161,7 @@ fn map(
 }
 
 fn protect(
+    scheme: Scheme,
     harts: u8,
     hart: u64,
     at: &[u8],
@@ -165,14 +169,14 @@ fn protect(
     letters: &[u8],
     harts_named: &[u8],
 ) -> Result<Event, StepFault>
-    ensures { result ≡ protect_in harts hart at.now span.now letters.now harts_named.now }
+    ensures { result ≡ protect_in scheme harts hart at.now span.now letters.now harts_named.now }
 {
     let place = place(at).ok_or(StepFault::NotStep)?;
-    let word = page_word(span).ok_or(StepFault::NotStep)?;
+    let word = page_word(scheme, span).ok_or(StepFault::NotStep)?;
     let flags = flags(letters).ok_or(StepFault::NotStep)?;
     let named = named(harts, harts_named)?;
     let hart = among(harts, hart)?;
-    let page = page(word)?;
+    let page = page(scheme, word)?;
     Ok(Event::Protect {
         hart,
         place,
@@ -252,6 +256,7 @@ fn with_two_words(harts: u8, hart: u64, name: &[u8], a: &[u8], b: &[u8]) -> Resu
 }
 
 fn with_three_words(
+    scheme: Scheme,
     harts: u8,
     hart: u64,
     name: &[u8],
@@ -259,18 +264,19 @@ fn with_three_words(
     b: &[u8],
     c: &[u8],
 ) -> Result<Event, StepFault>
-    ensures { result ≡ with_three_words harts hart name.now a.now b.now c.now }
+    ensures { result ≡ with_three_words scheme harts hart name.now a.now b.now c.now }
 {
     if name == b"begin".as_slice() {
         begin(harts, hart, a, b, c)
     } else if name == b"unmap".as_slice() {
-        unmap(harts, hart, a, b, c)
+        unmap(scheme, harts, hart, a, b, c)
     } else {
         Err(StepFault::NotStep)
     }
 }
 
 fn with_four_words(
+    scheme: Scheme,
     harts: u8,
     hart: u64,
     name: &[u8],
@@ -279,20 +285,20 @@ fn with_four_words(
     c: &[u8],
     d: &[u8],
 ) -> Result<Event, StepFault>
-    ensures { result ≡ with_four_words harts hart name.now a.now b.now c.now d.now }
+    ensures { result ≡ with_four_words scheme harts hart name.now a.now b.now c.now d.now }
 {
     if name == b"map".as_slice() {
-        map(harts, hart, a, b, c, d)
+        map(scheme, harts, hart, a, b, c, d)
     } else if name == b"protect".as_slice() {
-        protect(harts, hart, a, b, c, d)
+        protect(scheme, harts, hart, a, b, c, d)
     } else {
         Err(StepFault::NotStep)
     }
 }
 
 /// The step of a hart with this name and the words of the text after it.
-fn step_of_words(harts: u8, hart: u64, name: &[u8], rest: &[u8]) -> Result<Event, StepFault>
-    ensures { result ≡ step_of_words harts hart name.now (words_of rest.now) }
+fn step_of_words(scheme: Scheme, harts: u8, hart: u64, name: &[u8], rest: &[u8]) -> Result<Event, StepFault>
+    ensures { result ≡ step_of_words scheme harts hart name.now (words_of rest.now) }
 {
     let Some((a, rest)) = next_word(rest) else {
         return with_no_word(harts, hart, name);
@@ -304,27 +310,28 @@ fn step_of_words(harts: u8, hart: u64, name: &[u8], rest: &[u8]) -> Result<Event
         return with_two_words(harts, hart, name, a, b);
     };
     let Some((d, rest)) = next_word(rest) else {
-        return with_three_words(harts, hart, name, a, b, c);
+        return with_three_words(scheme, harts, hart, name, a, b, c);
     };
     if next_word(rest).is_some() {
         return Err(StepFault::NotStep);
     }
-    with_four_words(harts, hart, name, a, b, c, d)
+    with_four_words(scheme, harts, hart, name, a, b, c, d)
 }
 
-fn step_in(harts: u8, text: &[u8]) -> Result<Event, StepFault>
-    ensures { result ≡ step_among harts text.now }
+fn step_in(scheme: Scheme, harts: u8, text: &[u8]) -> Result<Event, StepFault>
+    ensures { result ≡ step_among scheme harts text.now }
 {
     let (hart, rest) = next_word(text).ok_or(StepFault::NotStep)?;
     let (name, rest) = next_word(rest).ok_or(StepFault::NotStep)?;
     let hart = num(hart).ok_or(StepFault::NotStep)?;
-    step_of_words(harts, hart, name, rest)
+    step_of_words(scheme, harts, hart, name, rest)
 }
 
-/// The step of `run` that a text writes where there are so many harts, with numbers from 0, or the first of its faults.
+/// The step of `run` in a scheme that a text writes where there are so many harts, with numbers from 0, or the first of its
+/// faults.
 ///
 /// The words are one of these lines, where H, G are harts, T a ticket below 2^32, S a space below 256, PL a space or `k`,
-/// PAGE a size and an address such as `4K:0x1000`, FLAGS letters of `rwxugad` or `-`, NAMED harts such as `0,1` or `-`, SCOPE
+/// PAGE a size of the scheme and an address such as `4K:0x1000`, FLAGS letters of `rwxugad` or `-`, NAMED harts such as `0,1` or `-`, SCOPE
 /// a space or `all`, R a number or `x0`, M a mode such as `s+sum`, A an access, and VA, PPN numbers:
 ///
 /// ```text
@@ -337,15 +344,15 @@ fn step_in(harts: u8, text: &[u8]) -> Result<Event, StepFault>
 /// `StepFault::NotStep`: the words are none of them. `NoSuchHart`: they are, and name a hart that is not there.
 /// `NotPage`: all harts are there, and the page's address is not canonical or no multiple of its size (privileged manual
 /// 4.4.1).
-pub fn run_step_among(harts: u8, text: &str) -> Result<Event, StepFault>
-    ensures { result ≡ step_among harts text.now }
+pub fn run_step_among(scheme: Scheme, harts: u8, text: &str) -> Result<Event, StepFault>
+    ensures { result ≡ step_among scheme harts text.now }
 {
-    step_in(harts, text.as_bytes())
+    step_in(scheme, harts, text.as_bytes())
 }
 
-/// The step of `run` that a text writes where there are 8 harts, as many as there may be (`shoot::MAX_HARTS`); `None` where it has a fault.
-pub fn run_step(text: &str) -> Option<Event>
-    ensures { result ≡ run_step_of text.now }
+/// The step of `run` in a scheme that a text writes where there are 8 harts, as many as there may be (`shoot::MAX_HARTS`); `None` where it has a fault.
+pub fn run_step(scheme: Scheme, text: &str) -> Option<Event>
+    ensures { result ≡ run_step_of scheme text.now }
 {
-    run_step_among(MAX_HARTS as u8, text).ok()
+    run_step_among(scheme, MAX_HARTS as u8, text).ok()
 }

@@ -1,4 +1,5 @@
 -- What a fence, a service and a fill keep of what holds of each entry.
+use Rattle.pte.specs.declared.scheme.Scheme.{Scheme}
 use Rattle.std.proofs.Common.{◌≡◌, ap, ℕ, ◌+◌, ◌-◌, ◌<◌, ◌≤◌, Bool, true, Option, List, [], ◌∷◌, ◌++◌, length, drop, filter, arith, length-append, length-drop}
 use Rattle.std.specs.Prelude.{◌⊎◌, not, All, Contains, IsTrue}
 use Rattle.std.specs.List.{AllPass}
@@ -40,8 +41,8 @@ IsTlb-filled entries e tlb page = record {
   pages = All-filled (λ x. IsPage x.page) entries e tlb.pages page;
 }
 
-pub AllPass-fenced : (p : Entry → Bool) (entries : List Entry) (rs1 rs2 : Option ℕ) → AllPass p entries → AllPass p (fenced entries rs1 rs2)
-AllPass-fenced p entries rs1 rs2 all = All-filter (λ e. not (is_fenced rs1 rs2 e)) (λ e. p e ≡ true) entries all
+pub AllPass-fenced : (scheme : Scheme) (p : Entry → Bool) (entries : List Entry) (rs1 rs2 : Option ℕ) → AllPass p entries → AllPass p (fenced scheme entries rs1 rs2)
+AllPass-fenced scheme p entries rs1 rs2 all = All-filter (λ e. not (is_fenced scheme rs1 rs2 e)) (λ e. p e ≡ true) entries all
 
 pub AllPass-served : (p : Entry → Bool) (entries : List Entry) (what : What) → AllPass p entries → AllPass p (served entries what)
 AllPass-served p entries what all = All-filter (λ e. not (is_served what e)) (λ e. p e ≡ true) entries all
@@ -49,8 +50,8 @@ AllPass-served p entries what all = All-filter (λ e. not (is_served what e)) (�
 pub AllPass-filled : (p : Entry → Bool) (entries : List Entry) (e : Entry) → AllPass p entries → IsTrue (p e) → AllPass p (filled entries e)
 AllPass-filled p entries e all new = All-filled (λ x. p x ≡ true) entries e all new
 
-pub fenced_are_gone : (entries : List Entry) (rs1 rs2 : Option ℕ) → AllPass (λ e. not (is_fenced rs1 rs2 e)) (fenced entries rs1 rs2)
-fenced_are_gone entries rs1 rs2 = filter_passes (λ e. not (is_fenced rs1 rs2 e)) entries
+pub fenced_are_gone : (scheme : Scheme) (entries : List Entry) (rs1 rs2 : Option ℕ) → AllPass (λ e. not (is_fenced scheme rs1 rs2 e)) (fenced scheme entries rs1 rs2)
+fenced_are_gone scheme entries rs1 rs2 = filter_passes (λ e. not (is_fenced scheme rs1 rs2 e)) entries
 
 pub served_are_gone : (entries : List Entry) (what : What) → AllPass (λ e. not (is_served what e)) (served entries what)
 served_are_gone entries what = filter_passes (λ e. not (is_served what e)) entries

@@ -1,4 +1,5 @@
 -- The mappings that are left after a fence, a service or a fill, and the pages that they reach.
+use Rattle.pte.specs.declared.scheme.Scheme.{Scheme}
 use Rattle.std.proofs.Common.{◌≡◌, ℕ, ◌%◌, ◌^◌, ◌<◌, Bool, true, false, Some, None, Option, IsTrue, List, sym, ◌∙◌, ap, subst, refl, inl, inr, arith}
 use Rattle.std.specs.Prelude.{◌⊎◌, ◌==◌, ◌&&◌, ◌||◌, not, Contains, slice_index_or}
 use Rattle.std.specs.List.{AllPass}
@@ -16,8 +17,8 @@ use Rattle.tlb.proofs.Keeping.{Contains-filter, Contains-filled, served_are_gone
 use Rattle.tlb.proofs.Overlapping.{holds-Holds, overlaps-Overlap}
 use Rattle.tlb.proofs.Translating.{translated_match}
 
-pub IsMappedBy-fenced : (entries : List Entry) (rs1 rs2 : Option ℕ) (m : Mapping) → IsMappedBy (fenced entries rs1 rs2) m → IsMappedBy entries m
-IsMappedBy-fenced entries rs1 rs2 m by = (by.0, Contains-filter (λ e. not (is_fenced rs1 rs2 e)) entries by.0 by.1, by.2)
+pub IsMappedBy-fenced : (scheme : Scheme) (entries : List Entry) (rs1 rs2 : Option ℕ) (m : Mapping) → IsMappedBy (fenced scheme entries rs1 rs2) m → IsMappedBy entries m
+IsMappedBy-fenced scheme entries rs1 rs2 m by = (by.0, Contains-filter (λ e. not (is_fenced scheme rs1 rs2 e)) entries by.0 by.1, by.2)
 
 pub IsMappedBy-served : (entries : List Entry) (what : What) (m : Mapping) → IsMappedBy (served entries what) m → IsMappedBy entries m
 IsMappedBy-served entries what m by = (by.0, Contains-filter (λ e. not (is_served what e)) entries by.0 by.1, by.2)

@@ -1,18 +1,26 @@
 -- Pages that overlap, and the addresses that they hold.
-use Rattle.std.proofs.Common.{◌≡◌, ℕ, ◌+◌, ◌*◌, ◌-◌, ◌%◌, ◌^◌, ◌<◌, ◌≤◌, Bool, IsTrue, inl, inr, arith}
+use Rattle.pte.specs.declared.scheme.Scheme.{Scheme}
+use Rattle.std.proofs.Common.{◌≡◌, ℕ, ap, sym, ◌∙◌, ◌/◌, ◌+◌, ◌*◌, ◌-◌, ◌%◌, ◌^◌, ◌<◌, ◌≤◌, Bool, IsTrue, inl, inr, arith}
 use Rattle.std.specs.Prelude.{◌↔◌, ◌&&◌, nat_lt, nat_le}
 use Rattle.std.proofs.lemmas.Bool.{cases_lt, and_parts, and_from, or_left, or_right, or_cases, lt-ltb, le-leb, ltb-true, leb-true}
-use Rattle.std.proofs.lemmas.Nat.{pow_pos}
+use Rattle.std.proofs.lemmas.Nat.{div-mul-add, pow_pos, shr_split}
 use Rattle.pte.specs.declared.address.PageSize.{PageSize}
-use Rattle.pte.specs.declared.address.PageSize.TheVariants.{Kib4, Mib2, Gib1}
-use Rattle.pte.specs.Address.{Span, IsPage, Holds, Overlap, IsCanonical, address_bits, bytes_of, level_of}
+use Rattle.pte.specs.declared.address.PageSize.TheVariants.{Kib4}
+use Rattle.pte.specs.Address.{Span, IsPageOf, Holds, Overlap, IsCanonical, bytes_of, level_of, top_level}
 use Rattle.walk.proofs.Unique.{same_bool}
+use Rattle.walk.proofs.Pages.{same_canonical}
 use Rattle.tlb.specs.Entries.{holds}
-use Rattle.tlb.specs.Fence.{is_canonical}
 use Rattle.tlb.specs.Service.{overlaps}
 
 has_bytes : (size : PageSize) → 0 < bytes_of size
 has_bytes size = pow_pos (12 + 9 * level_of size)
+
+-- an address of a page that begins at a multiple of its size lies in the same row as its base
+same_row : (base va k : ℕ) → base % 2 ^ k ≡ 0 → base ≤ va → va < base + 2 ^ k → base / 2 ^ k ≡ va / 2 ^ k
+same_row base va k aligned from below =
+    let whole : base / 2 ^ k * 2 ^ k + base % 2 ^ k ≡ base = shr_split base k in
+    let rest : base / 2 ^ k * 2 ^ k + (va - base) ≡ va = omega arith in
+    sym (div-mul-add (base / 2 ^ k) (2 ^ k) (va - base) (omega arith)) ∙ ap (λ n. n / 2 ^ k) rest
 
 -- the two tests are the two facts
 pub holds-Holds : (p : Span) (va : ℕ) → IsTrue (holds p va) ↔ Holds p va
@@ -21,19 +29,6 @@ holds-Holds p va = (
       let both = and_parts (nat_le p.base va) (nat_lt va (p.base + bytes_of p.size)) h in
       record { from = leb-true _ _ both.0; below = ltb-true _ _ both.1 }),
   (λ h. and_from _ _ (le-leb p.base va h.from) (lt-ltb va (p.base + bytes_of p.size) h.below)),
-)
-
-pub is_canonical-IsCanonical : (va : ℕ) → IsTrue (is_canonical va) ↔ IsCanonical va
-is_canonical-IsCanonical va = (
-  (λ on.
-      elim (or_cases (nat_lt va (2 ^ (address_bits - 1))) (nat_le (2 ^ 64 - 2 ^ (address_bits - 1)) va && nat_lt va (2 ^ 64)) on) [
-        | inl low ↦ inl (ltb-true _ _ low)
-        | inr high ↦ let both = and_parts (nat_le (2 ^ 64 - 2 ^ (address_bits - 1)) va) (nat_lt va (2 ^ 64)) high in inr (leb-true _ _ both.0, ltb-true _ _ both.1)
-      ]),
-  (λ is. elim is [
-    | inl low ↦ or_left _ _ (lt-ltb _ _ low)
-    | inr high ↦ or_right _ _ (and_from _ _ (le-leb _ _ high.0) (lt-ltb _ _ high.1))
-  ]),
 )
 
 pub overlaps-Overlap : (p q : Span) → IsTrue (overlaps p q) ↔ Overlap p q
@@ -56,14 +51,9 @@ overlaps-Overlap p q = (
 pub overlaps_same : (r : Bool) (p q : Span) → (IsTrue r ↔ Overlap p q) → r ≡ overlaps p q
 overlaps_same r p q h = same_bool r (overlaps p q) ((λ on. (overlaps-Overlap p q).1 (h.0 on)), (λ on. h.1 ((overlaps-Overlap p q).0 on)))
 
--- each address of a page is canonical
-all_canonical : (size : PageSize) (base va : ℕ) → IsCanonical base → base % bytes_of size ≡ 0 → base ≤ va → va < base + bytes_of size → IsCanonical va
-all_canonical Kib4 base va (inl low) aligned from below = inl (omega arith)
-all_canonical Kib4 base va (inr high) aligned from below = inr (omega arith, omega arith)
-all_canonical Mib2 base va (inl low) aligned from below = inl (omega arith)
-all_canonical Mib2 base va (inr high) aligned from below = inr (omega arith, omega arith)
-all_canonical Gib1 base va (inl low) aligned from below = inl (omega arith)
-all_canonical Gib1 base va (inr high) aligned from below = inr (omega arith, omega arith)
+-- each address of a page of a scheme is canonical
+all_canonical : (scheme : Scheme) (size : PageSize) (base va : ℕ) → level_of size ≤ top_level scheme → IsCanonical scheme base → base % bytes_of size ≡ 0 → base ≤ va → va < base + bytes_of size → IsCanonical scheme va
+all_canonical scheme size base va level canonical aligned from below = same_canonical scheme base va (level_of size) level (same_row base va (12 + 9 * level_of size) aligned from below) canonical
 
-pub Holds-canonical : (p : Span) (va : ℕ) → IsPage p → Holds p va → IsCanonical va
-Holds-canonical p va page h = all_canonical p.size p.base va page.canonical page.aligned h.from h.below
+pub Holds-canonical : (scheme : Scheme) (p : Span) (va : ℕ) → IsPageOf scheme p → Holds p va → IsCanonical scheme va
+Holds-canonical scheme p va page h = all_canonical scheme p.size p.base va page.level page.canonical page.aligned h.from h.below

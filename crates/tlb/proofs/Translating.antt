@@ -6,7 +6,7 @@ use Rattle.std.proofs.lemmas.Bool.{and_parts, and_from, cases_Bool, true≢false
 use Rattle.std.proofs.lemmas.List.Elements.{All-from_recursion, recursion_from_All, All-contains, All-contains_itself}
 use Rattle.std.proofs.lemmas.Option.{none-some}
 use Rattle.pte.specs.declared.address.PageSize.{PageSize}
-use Rattle.pte.specs.declared.address.PageSize.TheVariants.{Kib4, Mib2, Gib1}
+use Rattle.pte.specs.declared.address.PageSize.TheVariants.{Kib4, Mib2, Gib1, Gib512}
 use Rattle.pte.specs.Address.{Span, IsPage, Holds, bytes_of, pages_of}
 use Rattle.walk.specs.Maps.{page_number}
 use Rattle.tlb.specs.declared.store.Entry.{Entry}
@@ -43,6 +43,7 @@ part_of : (size : PageSize) (base va : ℕ) → base % bytes_of size ≡ 0 → b
 part_of Kib4 base va aligned from below = record { from = omega arith; to = omega arith }
 part_of Mib2 base va aligned from below = record { from = omega arith; to = omega arith }
 part_of Gib1 base va aligned from below = record { from = omega arith; to = omega arith }
+part_of Gib512 base va aligned from below = record { from = omega arith; to = omega arith }
 
 pub lies_in : (page : Span) (va : ℕ) → IsPage page → Holds page va → LiesIn page (page_number va)
 lies_in page va is h = part_of page.size page.base va is.aligned h.from h.below

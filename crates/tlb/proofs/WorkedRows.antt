@@ -1,5 +1,6 @@
 -- Worked rows, computed from the definitions alone; in the first part whatever the entries' PPNs and flags are.
 use Rattle.std.proofs.Common.{◌≡◌, ℕ, zero, suc, ◌+◌, ◌*◌, Bool, true, false, Some, None, Ok, Err, List, [], ◌∷◌, refl}
+use Rattle.pte.specs.declared.scheme.Scheme.TheVariants.{Sv39}
 use Rattle.pte.specs.declared.flags.PteFlags.{PteFlags}
 use Rattle.pte.specs.declared.address.PageSize.{PageSize}
 use Rattle.pte.specs.declared.address.PageSize.TheVariants.{Kib4, Mib2, Gib1}
@@ -39,29 +40,29 @@ module _ (ppn : ℕ) (flags : PteFlags) where
   abbrev four : List Entry
   four = a ∷ b ∷ c ∷ d ∷ []
 
-  form_3 : fenced four (Some 0) None ≡ b ∷ []
+  form_3 : fenced Sv39 four (Some 0) None ≡ b ∷ []
   form_3 = refl
 
-  form_2 : fenced four None (Some 0) ≡ c ∷ d ∷ []
+  form_2 : fenced Sv39 four None (Some 0) ≡ c ∷ d ∷ []
   form_2 = refl
 
-  form_2_high_bits : fenced four None (Some 0x10000) ≡ c ∷ d ∷ []
+  form_2_high_bits : fenced Sv39 four None (Some 0x10000) ≡ c ∷ d ∷ []
   form_2_high_bits = refl
 
-  form_4 : fenced four (Some 0) (Some 0) ≡ b ∷ c ∷ d ∷ []
+  form_4 : fenced Sv39 four (Some 0) (Some 0) ≡ b ∷ c ∷ d ∷ []
   form_4 = refl
 
-  form_4_inside_the_page : fenced four (Some 0xFFF) (Some 1) ≡ a ∷ b ∷ d ∷ []
+  form_4_inside_the_page : fenced Sv39 four (Some 0xFFF) (Some 1) ≡ a ∷ b ∷ d ∷ []
   form_4_inside_the_page = refl
 
-  not_canonical : fenced four (Some 0x4000000000) None ≡ four
+  not_canonical : fenced Sv39 four (Some 0x4000000000) None ≡ four
   not_canonical = refl
 
-  form_1 : fenced four None None ≡ []
+  form_1 : fenced Sv39 four None None ≡ []
   form_1 = refl
 
   -- the first address behind a page is none of it
-  form_3_behind_the_page : fenced four (Some 0x1000) None ≡ a ∷ c ∷ d ∷ []
+  form_3_behind_the_page : fenced Sv39 four (Some 0x1000) None ≡ a ∷ c ∷ d ∷ []
   form_3_behind_the_page = refl
 
   -- a kernel page, by its last address; what is not canonical lies between the last address below and the first above
@@ -74,23 +75,23 @@ module _ (ppn : ℕ) (flags : PteFlags) where
   abbrev above : Entry
   above = entry 1 false (page Gib1 0xFFFFFFC000000000)
 
-  form_3_kernel_page : fenced (k ∷ a ∷ []) (Some 0xFFFFFFFFC0000FFF) None ≡ a ∷ []
+  form_3_kernel_page : fenced Sv39 (k ∷ a ∷ []) (Some 0xFFFFFFFFC0000FFF) None ≡ a ∷ []
   form_3_kernel_page = refl
 
-  last_canonical_below : fenced (below ∷ above ∷ []) (Some 0x3FFFFFFFFF) None ≡ above ∷ []
+  last_canonical_below : fenced Sv39 (below ∷ above ∷ []) (Some 0x3FFFFFFFFF) None ≡ above ∷ []
   last_canonical_below = refl
 
-  first_canonical_above : fenced (below ∷ above ∷ []) (Some 0xFFFFFFC000000000) None ≡ below ∷ []
+  first_canonical_above : fenced Sv39 (below ∷ above ∷ []) (Some 0xFFFFFFC000000000) None ≡ below ∷ []
   first_canonical_above = refl
 
-  not_canonical_above : fenced (below ∷ above ∷ []) (Some 0xFFFFFFBFFFFFFFFF) None ≡ below ∷ above ∷ []
+  not_canonical_above : fenced Sv39 (below ∷ above ∷ []) (Some 0xFFFFFFBFFFFFFFFF) None ≡ below ∷ above ∷ []
   not_canonical_above = refl
 
   -- all 16 bits of an ASID count
   abbrev last_asid : Entry
   last_asid = entry 0xFFFF false (page Kib4 0)
 
-  form_2_all_bits : fenced (last_asid ∷ entry 0x7FFF false (page Kib4 0) ∷ []) None (Some 0xFFFF) ≡ entry 0x7FFF false (page Kib4 0) ∷ []
+  form_2_all_bits : fenced Sv39 (last_asid ∷ entry 0x7FFF false (page Kib4 0) ∷ []) None (Some 0xFFFF) ≡ entry 0x7FFF false (page Kib4 0) ∷ []
   form_2_all_bits = refl
 
   -- ASID 0 is an address space as any other
@@ -131,10 +132,10 @@ module _ (ppn : ℕ) (flags : PteFlags) where
   none_matches : first_match six 3 0x600000 ≡ None
   none_matches = refl
 
-  form_3_superpages : fenced six (Some 0x5FFFFF) None ≡ C ∷ F ∷ []
+  form_3_superpages : fenced Sv39 six (Some 0x5FFFFF) None ≡ C ∷ F ∷ []
   form_3_superpages = refl
 
-  form_4_superpages : fenced six (Some 0x401FFF) (Some 1) ≡ B ∷ C ∷ D ∷ F ∷ []
+  form_4_superpages : fenced Sv39 six (Some 0x401FFF) (Some 1) ≡ B ∷ C ∷ D ∷ F ∷ []
   form_4_superpages = refl
 
   superpage_of_space : served six (PageOf (page Mib2 0x400000) (Some 1)) ≡ C ∷ D ∷ F ∷ []

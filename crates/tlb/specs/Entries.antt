@@ -1,5 +1,6 @@
 -- The entries of a TLB, a list with the oldest first: which of them an address matches, and what a fill leaves.
 use Rattle.std.specs.Prelude.{ℕ, Bool, ◌+◌, ◌-◌, ◌≤◌, ◌==◌, ◌&&◌, ◌||◌, nat_lt, nat_le, Option, List, [], ◌∷◌, ◌++◌, length, drop, find, All}
+use Rattle.pte.specs.declared.scheme.Scheme.{Scheme}
 use Rattle.pte.specs.Address.{Span, bytes_of, IsPage}
 use Rattle.tlb.specs.declared.store.Entry.{Entry}
 
@@ -26,6 +27,11 @@ youngest entries = drop (length entries - tlb_size) entries
 -- what a fill leaves: the new entry is the youngest, and of one entry too many the oldest goes
 abbrev pub filled : List Entry → Entry → List Entry
 filled entries e = youngest (entries ++ e ∷ [])
+
+-- a TLB: the scheme of the addresses that it is asked about, and its entries
+pub record TlbState : Type 0 where
+  pub scheme : Scheme
+  pub entries : List Entry
 
 -- what every TLB keeps
 pub record IsTlb (entries : List Entry) : Type 0 where

@@ -1,6 +1,7 @@
 //! The entries of a TLB, oldest first.
 
 ghost use Rattle.std.specs.Prelude.{◌≡◌, ◌↔◌, [], IsSome};
+ghost use Rattle.pte.specs.declared.scheme.Scheme.TheVariants.{Sv39};
 ghost use Rattle.tlb.specs.Answer.{answer_of, entry_of};
 ghost use Rattle.tlb.specs.Entries.{IsTlb, filled, first_match, is_match};
 ghost use Rattle.tlb.specs.Fence.{fenced, is_fenced, is_of_space};
@@ -8,7 +9,7 @@ ghost use Rattle.tlb.specs.Mappings.{IsMappedBy, Translates};
 ghost use Rattle.tlb.specs.Service.{is_served, overlaps, served, Served};
 
 use arrayvec::ArrayVec;
-use pte::{Access, Ctx, PAGE_BYTES, PPN_BITS, Page, PteFlags, VirtAddr, What, page_cause};
+use pte::{Access, Ctx, PAGE_BYTES, PPN_BITS, Page, PteFlags, Scheme, VirtAddr, What, page_cause};
 use std::marker::Model;
 use walk::{Found, Trap, flags_fault};
 
@@ -67,17 +68,16 @@ impl Entry {
 /// full TLB takes an entry out, whatever becomes of the page tables meanwhile.
 #[derive(Drop)]
 pub struct Tlb {
+    scheme: Scheme,
     entries: ArrayVec<Entry, TLB_SIZE>,
 }
 
 impl Model for Tlb {
-    ghost use Rattle.std.specs.Prelude.{List};
-    ghost use Rattle.tlb.specs.declared.store.Entry.{Entry};
-    ghost use Rattle.tlb.specs.Entries.{IsTlb};
+    ghost use Rattle.tlb.specs.Entries.{IsTlb, TlbState};
 
-    ghost Value = { List Entry };
+    ghost Value = { TlbState };
 
-    ghost view = { λ t. t.entries.items };
+    ghost view = { λ t. record { scheme = t.scheme; entries = t.entries.items } };
 
     ghost invariant = { λ t. IsTlb t.entries.items };
 }
@@ -97,12 +97,12 @@ fn is_of_space(entry: &Entry, rs2: u64) -> bool
 }
 
 // The fence takes the entry out.
-fn is_fenced(entry: &Entry, rs1: Option<u64>, rs2: Option<u64>) -> bool
-    ensures { result ≡ is_fenced rs1 rs2 entry.now }
+fn is_fenced(scheme: Scheme, entry: &Entry, rs1: Option<u64>, rs2: Option<u64>) -> bool
+    ensures { result ≡ is_fenced scheme rs1 rs2 entry.now }
 {
     let by_address = match rs1 {
         None => true,
-        Some(va) => match VirtAddr::new(va) {
+        Some(va) => match VirtAddr::new_in(scheme, va) {
             None => return false,
             Some(va) => entry.page.contains(va),
         },
@@ -140,10 +140,15 @@ fn first_match(entries: &[Entry], asid: u16, va: VirtAddr) -> Option<Entry>
 }
 
 // Leaves what the fence does not take out.
-fn drop_fenced(entries: &mut ArrayVec<Entry, TLB_SIZE>, rs1: Option<u64>, rs2: Option<u64>)
-    ensures { entries.new.items ≡ fenced entries.old.items rs1 rs2 }
+fn drop_fenced(
+    scheme: Scheme,
+    entries: &mut ArrayVec<Entry, TLB_SIZE>,
+    rs1: Option<u64>,
+    rs2: Option<u64>,
+)
+    ensures { entries.new.items ≡ fenced scheme entries.old.items rs1 rs2 }
 {
-    entries.retain(|e| !is_fenced(e, rs1, rs2));
+    entries.retain(|e| !is_fenced(scheme, e, rs1, rs2));
 }
 
 // Leaves what the service of a page does not take out.
@@ -164,7 +169,7 @@ fn push_youngest(entries: &mut ArrayVec<Entry, TLB_SIZE>, entry: Entry)
 }
 
 impl Default for Tlb {
-    ghost is_default = { λ t. t ≡ [] };
+    ghost is_default = { λ t. t ≡ record { scheme = Sv39; entries = [] } };
 
     fn default() -> Tlb {
         Tlb::new()
@@ -172,11 +177,21 @@ impl Default for Tlb {
 }
 
 impl Tlb {
-    /// A TLB without entries.
+    ghost use Rattle.tlb.specs.Service.{IsRequest};
+
+    /// A TLB of Sv39 without entries.
     pub fn new() -> Tlb
-        ensures { result ≡ [] }
+        ensures { result ≡ record { scheme = Sv39; entries = [] } }
+    {
+        Tlb::new_in(Scheme::Sv39)
+    }
+
+    /// A TLB of a scheme without entries.
+    pub fn new_in(scheme: Scheme) -> Tlb
+        ensures { result ≡ record { scheme = scheme; entries = [] } }
     {
         Tlb {
+            scheme,
             entries: ArrayVec::new(),
         }
     }
@@ -184,16 +199,16 @@ impl Tlb {
     /// The oldest entry whose page has the address and that is global or of the ASID. There is one exactly if the mappings
     /// of the entries translate the address for that ASID.
     pub fn lookup(&self, asid: u16, va: VirtAddr) -> Option<Entry>
-        ensures oldest { result ≡ first_match self.now asid va }
-        ensures kept { IsTlb self.now }
-        ensures translates { IsSome result ↔ Translates (IsMappedBy self.now) asid va }
+        ensures oldest { result ≡ first_match self.now.entries asid va }
+        ensures kept { IsTlb self.now.entries }
+        ensures translates { IsSome result ↔ Translates (IsMappedBy self.now.entries) asid va }
     {
         first_match(&self.entries, asid, va)
     }
 
     /// Adds an entry as the youngest. A full TLB drops its oldest entry; no other entry goes, be it of the same page.
     pub fn fill(&mut self, entry: Entry)
-        ensures { self.new ≡ filled self.old entry }
+        ensures { self.new ≡ record self.old { entries = filled self.old.entries entry } }
     {
         // A page tells here that it is aligned and canonical, which the TLB keeps of each entry.
         let _base = entry.page.base();
@@ -201,17 +216,18 @@ impl Tlb {
     }
 
     /// SFENCE.VMA with the registers rs1, for an address, and rs2, for an ASID, each `None` for x0 (privileged manual 4.2.1).
-    /// Of rs2 the low 16 bits count. Where rs1 is not canonical nothing is dropped.
+    /// Of rs2 the low 16 bits count. Where rs1 is not canonical in the TLB's scheme nothing is dropped.
     pub fn fence(&mut self, rs1: Option<u64>, rs2: Option<u64>)
-        ensures { self.new ≡ fenced self.old rs1 rs2 }
+        ensures { self.new ≡ record self.old { entries = fenced self.old.scheme self.old.entries rs1 rs2 } }
     {
-        drop_fenced(&mut self.entries, rs1, rs2);
+        drop_fenced(self.scheme, &mut self.entries, rs1, rs2);
     }
 
     /// Serves a request: drops each entry that a fence for some address of its page would drop, or for its space, or for all.
+    /// The page is one of the TLB's scheme: a fence for an address that is not canonical drops nothing.
     pub fn serve(&mut self, what: &What)
-        ensures list { self.new ≡ served self.old what.now }
-        ensures meaning { Served self.old what.now self.new }
+        ensures list { self.new ≡ record self.old { entries = served self.old.entries what.now } }
+        ensures meaning { IsRequest self.old.scheme what.now → Served self.old.scheme self.old.entries what.now self.new.entries }
     {
         match what {
             What::PageOf(page, asid) => self.serve_page(page, *asid),
@@ -222,11 +238,9 @@ impl Tlb {
 
     // The service of a page: one test an entry, in place of a fence for each address.
     fn serve_page(&mut self, page: &Page, asid: Option<u16>)
-        ensures list { self.new ≡ served self.old (What.PageOf page.now asid) }
-        ensures meaning { Served self.old (What.PageOf page.now asid) self.new }
+        ensures list { self.new ≡ record self.old { entries = served self.old.entries (What.PageOf page.now asid) } }
+        ensures meaning { IsRequest self.old.scheme (What.PageOf page.now asid) → Served self.old.scheme self.old.entries (What.PageOf page.now asid) self.new.entries }
     {
-        // A page tells here that it is aligned and canonical, so that a fence for each of its addresses counts.
-        let _base = page.base();
         drop_served(&mut self.entries, page, asid);
     }
 }

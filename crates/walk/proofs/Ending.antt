@@ -1,4 +1,5 @@
 -- A walk that stands on the path answers what the path leads to.
+use Rattle.pte.specs.declared.scheme.Scheme.{Scheme}
 use Rattle.std.proofs.Common.{◌≡◌, ℕ, ◌+◌, ◌-◌, Bool, Option, Some, None, Result, Ok, Err, IsTrue, ap, sym, ◌∙◌, subst, refl, inl, inr, arith}
 use Rattle.std.specs.Prelude.{◌↔◌, ◌||◌, ◌==◌}
 use Rattle.std.proofs.lemmas.Bool.{cases_lt, eqb-true, eqb-false, cond_both}
@@ -20,15 +21,15 @@ use Rattle.walk.specs.Leads.{Tables, word_at, PointsTo, Leads, IsGlobalAt}
 use Rattle.walk.specs.Outcome.{Outcome}
 use Rattle.walk.proofs.Paths.{leads-start, leads-below, through, none_above, global-here, global-none}
 
-module _ (words : Tables) (root : ℕ) where
-  goes-ended : (s : Stage) (answer : Result Found Trap) → Outcome words root s.va s.access s.ctx answer → GoesOn words root s (ended answer)
+module _ (scheme : Scheme) (words : Tables) (root : ℕ) where
+  goes-ended : (s : Stage) (answer : Result Found Trap) → Outcome scheme words root s.va s.access s.ctx answer → GoesOn scheme words root s (ended answer)
   goes-ended s (Ok found) h = h
   goes-ended s (Err trap) h = h
 
   -- a word that is no pointer, or stands at level 0, ends the path
-  ends-at : (s : Stage) (w : Option ℕ) (global : Bool) → OnPath words root s → w ≡ word_at words s.va s.level s.table → ((next : ℕ) → PointsTo w next → s.level ≡ 0) → (IsTrue global ↔ IsGlobalAt words root s.va s.level) → Outcome words root s.va s.access s.ctx (answer_at s.va s.access s.ctx s.level global w)
+  ends-at : (s : Stage) (w : Option ℕ) (global : Bool) → OnPath scheme words root s → w ≡ word_at words s.va s.level s.table → ((next : ℕ) → PointsTo w next → s.level ≡ 0) → (IsTrue global ↔ IsGlobalAt scheme words root s.va s.level) → Outcome scheme words root s.va s.access s.ctx (answer_at s.va s.access s.ctx s.level global w)
   ends-at s w global on is last known =
-      let path = subst (Leads words root s.va s.level s.table) (sym is) on.leads in
+      let path = subst (Leads scheme words root s.va s.level s.table) (sym is) on.leads in
       inr (
         on.canonical,
         record {
@@ -40,7 +41,7 @@ module _ (words : Tables) (root : ℕ) where
           lowest = λ j b v other.
               elim (cases_lt j s.level) [
                 | inl lower ↦
-                    let next = through words root s.va s.level j s.table b w v lower path other in
+                    let next = through scheme words root s.va s.level j s.table b w v lower path other in
                     omega (arith, last next.0 next.1)
                 | inr not_lower ↦ not_lower
               ];
@@ -49,67 +50,67 @@ module _ (words : Tables) (root : ℕ) where
         },
       )
 
-  goes-none : (s : Stage) → OnPath words root s → None ≡ word_at words s.va s.level s.table → GoesOn words root s (load_of s None)
+  goes-none : (s : Stage) → OnPath scheme words root s → None ≡ word_at words s.va s.level s.table → GoesOn scheme words root s (load_of s None)
   goes-none s on is =
-      ends-at s None s.global on is (λ next p. let e = p.is in cc) (global-none words root s.va s.level s.table s.global (subst (Leads words root s.va s.level s.table) (sym is) on.leads) on.global)
+      ends-at s None s.global on is (λ next p. let e = p.is in cc) (global-none scheme words root s.va s.level s.table s.global (subst (Leads scheme words root s.va s.level s.table) (sym is) on.leads) on.global)
 
-  module _ (s : Stage) (entry : ℕ) (on : OnPath words root s) (is : Some entry ≡ word_at words s.va s.level s.table) where
-    path_here : Leads words root s.va s.level s.table (Some entry)
-    path_here = subst (Leads words root s.va s.level s.table) (sym is) on.leads
+  module _ (s : Stage) (entry : ℕ) (on : OnPath scheme words root s) (is : Some entry ≡ word_at words s.va s.level s.table) where
+    path_here : Leads scheme words root s.va s.level s.table (Some entry)
+    path_here = subst (Leads scheme words root s.va s.level s.table) (sym is) on.leads
 
     -- the answer for a word of this kind, where that is no pointer to go to
-    ends-kind : (kind : Kind) → kind_of entry ≡ kind → ((next : ℕ) (g : Bool) → kind ≡ kinds.Table next g → s.level ≡ 0) → Outcome words root s.va s.access s.ctx (kind_answer s.va s.access s.ctx s.level (s.global || is_global entry) kind)
+    ends-kind : (kind : Kind) → kind_of entry ≡ kind → ((next : ℕ) (g : Bool) → kind ≡ kinds.Table next g → s.level ≡ 0) → Outcome scheme words root s.va s.access s.ctx (kind_answer s.va s.access s.ctx s.level (s.global || is_global entry) kind)
     ends-kind kind of last =
-        subst (λ k. Outcome words root s.va s.access s.ctx (kind_answer s.va s.access s.ctx s.level (s.global || is_global entry) k)) of
+        subst (λ k. Outcome scheme words root s.va s.access s.ctx (kind_answer s.va s.access s.ctx s.level (s.global || is_global entry) k)) of
         (ends-at s (Some entry) (s.global || is_global entry) on is
         (λ next p. let same : entry ≡ p.entry = let e = p.is in cc in last next p.global (sym of ∙ ap kind_of same ∙ p.kind))
-        (global-here words root s.va s.level s.table entry s.global path_here on.global))
+        (global-here scheme words root s.va s.level s.table entry s.global path_here on.global))
 
-    goes-table : (ppn : ℕ) (global : Bool) (level : ℕ) → s.level ≡ level + 1 → kind_of entry ≡ kinds.Table ppn global → OnPath words root (record s { level = level; table = ppn; global = s.global || global })
+    goes-table : (ppn : ℕ) (global : Bool) (level : ℕ) → s.level ≡ level + 1 → kind_of entry ≡ kinds.Table ppn global → OnPath scheme words root (record s { level = level; table = ppn; global = s.global || global })
     goes-table ppn global level at of =
-        let path : Leads words root s.va (level + 1) s.table (Some entry) = subst (λ k. Leads words root s.va k s.table (Some entry)) at path_here in
-        let known : IsTrue (s.global || is_global entry) ↔ IsGlobalAt words root s.va s.level = global-here words root s.va s.level s.table entry s.global path_here on.global in
+        let path : Leads scheme words root s.va (level + 1) s.table (Some entry) = subst (λ k. Leads scheme words root s.va k s.table (Some entry)) at path_here in
+        let known : IsTrue (s.global || is_global entry) ↔ IsGlobalAt scheme words root s.va s.level = global-here scheme words root s.va s.level s.table entry s.global path_here on.global in
         let named = Table-global entry ppn global of in
         record {
           canonical = on.canonical;
-          leads = leads-below words root s.va level s.table entry ppn global path of;
-          global = subst (λ g. IsTrue (s.global || g) ↔ IsGlobalAt words root s.va (level + 1)) named (subst (λ k. IsTrue (s.global || is_global entry) ↔ IsGlobalAt words root s.va k) at known);
+          leads = leads-below scheme words root s.va level s.table entry ppn global path of;
+          global = subst (λ g. IsTrue (s.global || g) ↔ IsGlobalAt scheme words root s.va (level + 1)) named (subst (λ k. IsTrue (s.global || is_global entry) ↔ IsGlobalAt scheme words root s.va k) at known);
         }
 
-    goes-kind : (kind : Kind) → kind_of entry ≡ kind → GoesOn words root s (step_of s kind)
+    goes-kind : (kind : Kind) → kind_of entry ≡ kind → GoesOn scheme words root s (step_of s kind)
     goes-kind kinds.Invalid of = ends-kind kinds.Invalid of (λ next g e. cc)
     goes-kind kinds.Reserved of = ends-kind kinds.Reserved of (λ next g e. cc)
     goes-kind (kinds.Table ppn global) of =
-        cond_both (s.level == 0) _ _ (GoesOn words root s)
+        cond_both (s.level == 0) _ _ (GoesOn scheme words root s)
         (λ e. ends-kind (kinds.Table ppn global) of (λ next g k. eqb-true s.level 0 e))
         (λ e.
         let up : s.level ≡ s.level - 1 + 1 = let ne = eqb-false s.level 0 e in omega arith in
         (goes-table ppn global (s.level - 1) up of, omega arith, record { same_va = refl; same_access = refl; same_ctx = refl }))
     goes-kind (kinds.Leaf ppn flags) of =
-        subst (λ g. GoesOn words root s (ended (leaf_answer s.va s.access s.ctx s.level (s.global || g) ppn flags))) (sym (Leaf-global entry ppn flags of))
+        subst (λ g. GoesOn scheme words root s (ended (leaf_answer s.va s.access s.ctx s.level (s.global || g) ppn flags))) (sym (Leaf-global entry ppn flags of))
         (goes-ended s _ (ends-kind (kinds.Leaf ppn flags) of (λ next g e. cc)))
 
-  pub goes-on : (s : Stage) (w : Option ℕ) → OnPath words root s → w ≡ word_at words s.va s.level s.table → GoesOn words root s (load_of s w)
+  pub goes-on : (s : Stage) (w : Option ℕ) → OnPath scheme words root s → w ≡ word_at words s.va s.level s.table → GoesOn scheme words root s (load_of s w)
   goes-on s None on is = goes-none s on is
   goes-on s (Some entry) on is = goes-kind s entry on is (kind_of entry) refl
 
-  pub on_path-start : (va : ℕ) (access : Access) (ctx : Ctx) → IsCanonical va → OnPath words root (start_of root va access ctx)
+  pub on_path-start : (va : ℕ) (access : Access) (ctx : Ctx) → IsCanonical scheme va → OnPath scheme words root (start_of scheme root va access ctx)
   on_path-start va access ctx canonical = record {
     canonical = canonical;
-    leads = leads-start words root va;
-    global = ((λ h. cc), (λ g. absurd (none_above words root va g)));
+    leads = leads-start scheme words root va;
+    global = ((λ h. cc), (λ g. absurd (none_above scheme words root va g)));
   }
 
 -- what a load makes of the word that a walk asked for
-pub goes-load : (words : Tables) (root : ℕ) (s : Stage) (w : Option ℕ) (ppn index : ℕ) (made : Progress) → OnPath words root s → w ≡ words ppn index → ppn ≡ s.table → index ≡ vpn_of s.va s.level → made ≡ load_of s w → GoesOn words root s made
-goes-load words root s w ppn index made on told at by is =
-    subst (GoesOn words root s) (sym is) (goes-on words root s w on (told ∙ ap (λ p. words p index) at ∙ ap (words s.table) by))
+pub goes-load : (scheme : Scheme) (words : Tables) (root : ℕ) (s : Stage) (w : Option ℕ) (ppn index : ℕ) (made : Progress) → OnPath scheme words root s → w ≡ words ppn index → ppn ≡ s.table → index ≡ vpn_of s.va s.level → made ≡ load_of s w → GoesOn scheme words root s made
+goes-load scheme words root s w ppn index made on told at by is =
+    subst (GoesOn scheme words root s) (sym is) (goes-on scheme words root s w on (told ∙ ap (λ p. words p index) at ∙ ap (words s.table) by))
 
-pub outcome-same : (words : Tables) (root : ℕ) (s : Stage) (va : ℕ) (access : Access) (ctx : Ctx) (answer : Result Found Trap) → IsFor s va access ctx → Outcome words root s.va s.access s.ctx answer → Outcome words root va access ctx answer
-outcome-same words root s va access ctx answer same h =
-    subst (λ c. Outcome words root va access c answer) same.same_ctx
-    (subst (λ a. Outcome words root va a s.ctx answer) same.same_access
-    (subst (λ v. Outcome words root v s.access s.ctx answer) same.same_va h))
+pub outcome-same : (scheme : Scheme) (words : Tables) (root : ℕ) (s : Stage) (va : ℕ) (access : Access) (ctx : Ctx) (answer : Result Found Trap) → IsFor s va access ctx → Outcome scheme words root s.va s.access s.ctx answer → Outcome scheme words root va access ctx answer
+outcome-same scheme words root s va access ctx answer same h =
+    subst (λ c. Outcome scheme words root va access c answer) same.same_ctx
+    (subst (λ a. Outcome scheme words root va a s.ctx answer) same.same_access
+    (subst (λ v. Outcome scheme words root v s.access s.ctx answer) same.same_va h))
 
 pub same-access : (next s : Stage) (va : ℕ) (access : Access) (ctx : Ctx) → IsFor next s.va s.access s.ctx → IsFor s va access ctx → IsFor next va access ctx
 same-access next s va access ctx a b = record { same_va = a.same_va ∙ b.same_va; same_access = a.same_access ∙ b.same_access; same_ctx = a.same_ctx ∙ b.same_ctx }

@@ -1,4 +1,5 @@
 -- What a load makes of a walk on its path, by the number of loads that it has made.
+use Rattle.pte.specs.declared.scheme.Scheme.{Scheme}
 use Rattle.std.proofs.Common.{◌≡◌, ℕ, suc, ◌+◌, ◌-◌, ◌<◌, ◌⊎◌, true, false, ltb, Option, Some, None, Result, Ok, Err, ap, sym, ◌∙◌, subst, refl, inl, inr, arith}
 use Rattle.std.specs.Prelude.{◌==◌, ◌&&◌, ◌||◌, is_some}
 use Rattle.std.proofs.lemmas.Bool.{cases_lt, cond_both, eqb-true, eqb-false, and_left, and_right, le-ltb, lt-ltb}
@@ -54,46 +55,46 @@ load-cases : (s : Stage) (w : Option ℕ) → IsMore s (pointed w) (load_of s w)
 load-cases s None = inr (record { answer = Err (outside_trap s.access); is = refl; stops = and_right (ltb 0 s.level) false refl })
 load-cases s (Some entry) = step-cases s (kind_of entry)
 
-module _ (words : Tables) (root loads : ℕ) (s : Stage) (on : OnPath words root s) (made_so_far : s.level + loads ≡ top_level) where
+module _ (scheme : Scheme) (words : Tables) (root loads : ℕ) (s : Stage) (on : OnPath scheme words root s) (made_so_far : s.level + loads ≡ top_level scheme) where
   abbrev here : Option ℕ
   here = word_at words s.va s.level s.table
 
-  points-next : table_after words root s.va (suc loads) ≡ pointed here
+  points-next : table_after scheme words root s.va (suc loads) ≡ pointed here
   points-next =
-      let level : top_level - loads ≡ s.level = omega arith in
-      ap (next_table words s.va (top_level - loads)) (after-leads words root s.va loads s.level s.table here made_so_far on.leads ∙ ap Some on.leads.last)
+      let level : top_level scheme - loads ≡ s.level = omega arith in
+      ap (next_table words s.va (top_level scheme - loads)) (after-leads scheme words root s.va loads s.level s.table here made_so_far on.leads ∙ ap Some on.leads.last)
       ∙ ap (λ k. pointed (word_at words s.va k s.table)) level
 
-  loads-left : ltb loads top_level ≡ ltb 0 s.level
+  loads-left : ltb loads (top_level scheme) ≡ ltb 0 s.level
   loads-left =
       elim (cases_lt 0 s.level) [
-        | inl more ↦ lt-ltb loads top_level (omega arith) ∙ sym (lt-ltb 0 s.level more)
-        | inr done ↦ le-ltb loads top_level (omega arith) ∙ sym (le-ltb 0 s.level done)
+        | inl more ↦ lt-ltb loads (top_level scheme) (omega arith) ∙ sym (lt-ltb 0 s.level more)
+        | inr done ↦ le-ltb loads (top_level scheme) (omega arith) ∙ sym (le-ltb 0 s.level done)
       ]
 
-  goes_on-here : goes_on words root s.va loads ≡ (ltb 0 s.level && is_some (pointed here))
-  goes_on-here = ap (λ b. b && is_some (table_after words root s.va (suc loads))) loads-left ∙ ap (λ o. ltb 0 s.level && is_some o) points-next
+  goes_on-here : goes_on scheme words root s.va loads ≡ (ltb 0 s.level && is_some (pointed here))
+  goes_on-here = ap (λ b. b && is_some (table_after scheme words root s.va (suc loads))) loads-left ∙ ap (λ o. ltb 0 s.level && is_some o) points-next
 
-  made-outcome : (answer : Result Found Trap) → GoesOn words root s (ended answer) → Outcome words root s.va s.access s.ctx answer
+  made-outcome : (answer : Result Found Trap) → GoesOn scheme words root s (ended answer) → Outcome scheme words root s.va s.access s.ctx answer
   made-outcome (Ok found) h = h
   made-outcome (Err trap) h = h
 
-  end-answer : IsEnd s (pointed here) (load_of s here) → load_of s here ≡ ended (answer_after level_count words (start_of root s.va s.access s.ctx))
+  end-answer : IsEnd s (pointed here) (load_of s here) → load_of s here ≡ ended (answer_after (level_count scheme) words (start_of scheme root s.va s.access s.ctx))
   end-answer e =
-      let outcome = made-outcome e.answer (subst (GoesOn words root s) e.is (goes-on words root s here on refl)) in
-      e.is ∙ ap ended ((level_count_loads words root s.va s.access s.ctx e.answer on.canonical).0 outcome)
+      let outcome = made-outcome e.answer (subst (GoesOn scheme words root s) e.is (goes-on scheme words root s here on refl)) in
+      e.is ∙ ap ended ((level_count_loads scheme words root s.va s.access s.ctx e.answer on.canonical).0 outcome)
 
-  pub load_goes_on : goes_on words root s.va loads ≡ true → (next : Stage) × (load_of s here ≡ progress.More next) × OnPath words root next × (next.level + (loads + 1) ≡ top_level) × IsFor next s.va s.access s.ctx
+  pub load_goes_on : goes_on scheme words root s.va loads ≡ true → (next : Stage) × (load_of s here ≡ progress.More next) × OnPath scheme words root next × (next.level + (loads + 1) ≡ top_level scheme) × IsFor next s.va s.access s.ctx
   load_goes_on goes =
       elim (load-cases s here) [
         | inl m ↦
-            let on_from = subst (GoesOn words root s) m.is (goes-on words root s here on refl) in
+            let on_from = subst (GoesOn scheme words root s) m.is (goes-on scheme words root s here on refl) in
             let level = on_from.1 in
             (m.next, m.is, on_from.0, omega arith, on_from.2)
         | inr e ↦ let no : true ≡ false = sym goes ∙ goes_on-here ∙ e.stops in cc
       ]
 
-  pub load_ends : goes_on words root s.va loads ≡ false → load_of s here ≡ ended (answer_after level_count words (start_of root s.va s.access s.ctx))
+  pub load_ends : goes_on scheme words root s.va loads ≡ false → load_of s here ≡ ended (answer_after (level_count scheme) words (start_of scheme root s.va s.access s.ctx))
   load_ends stops =
       elim (load-cases s here) [
         | inl m ↦

@@ -1,4 +1,7 @@
 -- The addresses of one page: they have one path down to the page's level, and are canonical alike.
+use Rattle.pte.specs.declared.scheme.Scheme.{Scheme}
+use Rattle.pte.specs.declared.scheme.Scheme.TheVariants.{Sv39, Sv48}
+use Rattle.pte.proofs.Schemes.{bits_levels}
 use Rattle.std.proofs.Common.{◌≡◌, ℕ, ◌+◌, ◌-◌, ◌*◌, ◌/◌, ◌%◌, ◌^◌, ◌<◌, ◌≤◌, Option, Some, ap, sym, ◌∙◌, subst, inl, inr, refl, arith}
 use Rattle.std.proofs.lemmas.Nat.{shr-shr, div-mul-add, field_of}
 use Rattle.pte.specs.declared.address.PageSize.{PageSize}
@@ -16,17 +19,19 @@ same_high a b j k le e =
 pub same_vpn : (a b i j : ℕ) → i ≤ j → a / level_bytes i ≡ b / level_bytes i → vpn_of a j ≡ vpn_of b j
 same_vpn a b i j le e = ap (λ n. n % table_length) (same_high a b (12 + 9 * i) (12 + 9 * j) (omega arith) e)
 
-canonical-high : (a b : ℕ) → a / 2 ^ (address_bits - 1) ≡ b / 2 ^ (address_bits - 1) → IsCanonical a → IsCanonical b
-canonical-high a b e (inl low) = inl (omega arith)
-canonical-high a b e (inr high) = let from = high.0 in let below = high.1 in inr (omega arith, omega arith)
+canonical-high : (scheme : Scheme) (a b : ℕ) → a / 2 ^ (address_bits scheme - 1) ≡ b / 2 ^ (address_bits scheme - 1) → IsCanonical scheme a → IsCanonical scheme b
+canonical-high Sv39 a b e (inl low) = inl (omega arith)
+canonical-high Sv39 a b e (inr high) = let from = high.0 in let below = high.1 in inr (omega arith, omega arith)
+canonical-high Sv48 a b e (inl low) = inl (omega arith)
+canonical-high Sv48 a b e (inr high) = let from = high.0 in let below = high.1 in inr (omega arith, omega arith)
 
 -- and they are canonical together
-pub same_canonical : (a b i : ℕ) → i ≤ top_level → a / level_bytes i ≡ b / level_bytes i → IsCanonical a → IsCanonical b
-same_canonical a b i le e = canonical-high a b (same_high a b (12 + 9 * i) (address_bits - 1) (omega arith) e)
+pub same_canonical : (scheme : Scheme) (a b i : ℕ) → i ≤ top_level scheme → a / level_bytes i ≡ b / level_bytes i → IsCanonical scheme a → IsCanonical scheme b
+same_canonical scheme a b i le e = canonical-high scheme a b (same_high a b (12 + 9 * i) (address_bits scheme - 1) (let bits = bits_levels scheme in omega arith) e)
 
-module _ (words : Tables) (root a b i : ℕ) (same : a / level_bytes i ≡ b / level_bytes i) where
+module _ (scheme : Scheme) (words : Tables) (root a b i : ℕ) (same : a / level_bytes i ≡ b / level_bytes i) where
   -- what leads for one of them, at the page's level or above, leads for the others
-  pub leads_page : (j t : ℕ) (w : Option ℕ) → i ≤ j → Leads words root a j t w → Leads words root b j t w
+  pub leads_page : (j t : ℕ) (w : Option ℕ) → i ≤ j → Leads scheme words root a j t w → Leads scheme words root b j t w
   leads_page j t w le p = record {
     tables = p.tables;
     level = p.level;
@@ -36,7 +41,7 @@ module _ (words : Tables) (root a b i : ℕ) (same : a / level_bytes i ≡ b / l
     here = p.here ∙ ap (words t) (same_vpn a b i j le same);
   }
 
-  pub global_page : (j : ℕ) → i ≤ j → IsGlobalAt words root a j → IsGlobalAt words root b j
+  pub global_page : (j : ℕ) → i ≤ j → IsGlobalAt scheme words root a j → IsGlobalAt scheme words root b j
   global_page j le g = record {
     level = g.level;
     table = g.table;

@@ -1,4 +1,5 @@
 -- What leads in two memories that differ little.
+use Rattle.pte.specs.declared.scheme.Scheme.{Scheme}
 use Rattle.std.proofs.Common.{◌≡◌, ℕ, zero, suc, ◌+◌, ◌-◌, ◌≤◌, ◌⊎◌, Bool, Option, Some, ap, sym, ◌∙◌, subst, refl, inl, inr, arith}
 use Rattle.std.specs.Prelude.{◌↔◌, ◌==◌, ◌&&◌}
 use Rattle.std.proofs.lemmas.Bool.{cases_lt, cases_eq, cond-true, cond-false, false_from_ne_true, and_parts, and_from, eqb-true, eq-eqb}
@@ -11,13 +12,13 @@ use Rattle.walk.specs.Stores.{AgreeBut, KeepsPointers, PassesThrough, stored}
 use Rattle.walk.proofs.Paths.{leads-above, same_table, same_word}
 use Rattle.walk.proofs.Members.{nothing_below}
 
-module _ (old new : Tables) (root va : ℕ) where
+module _ (scheme : Scheme) (old new : Tables) (root va : ℕ) where
   -- both memories have one word on a path, at level k and above
   abbrev pub Agree : (ℕ → ℕ) → ℕ → Type 0
-  Agree tables k = (j : ℕ) → k ≤ j → j ≤ top_level → word_at new va j (tables j) ≡ word_at old va j (tables j)
+  Agree tables k = (j : ℕ) → k ≤ j → j ≤ top_level scheme → word_at new va j (tables j) ≡ word_at old va j (tables j)
 
   -- so the path leads there in the other memory too
-  pub leads-carried : (i k t : ℕ) (w : Option ℕ) → i ≤ k → k ≤ top_level → (path : Leads old root va i t w) → Agree path.tables (k + 1) → Leads new root va k (path.tables k) (word_at new va k (path.tables k))
+  pub leads-carried : (i k t : ℕ) (w : Option ℕ) → i ≤ k → k ≤ top_level scheme → (path : Leads scheme old root va i t w) → Agree path.tables (k + 1) → Leads scheme new root va k (path.tables k) (word_at new va k (path.tables k))
   leads-carried i k t w from level path agree = record {
     tables = path.tables;
     level = level;
@@ -30,25 +31,25 @@ module _ (old new : Tables) (root va : ℕ) where
   }
 
   -- and G stands on it there too
-  pub leads-same : (i t : ℕ) (w : Option ℕ) → (path : Leads old root va i t w) → Agree path.tables i → Leads new root va i t w
+  pub leads-same : (i t : ℕ) (w : Option ℕ) → (path : Leads scheme old root va i t w) → Agree path.tables i → Leads scheme new root va i t w
   leads-same i t w path agree =
       let moved = leads-carried i i t w (omega arith) path.level path (λ j above below. agree j (omega arith) below) in
       let word : word_at new va i (path.tables i) ≡ w = agree i (omega arith) path.level ∙ ap (word_at old va i) path.last ∙ sym path.here in
-      subst (λ n. Leads new root va i n w) path.last (subst (Leads new root va i (path.tables i)) word moved)
+      subst (λ n. Leads scheme new root va i n w) path.last (subst (Leads scheme new root va i (path.tables i)) word moved)
 
-  pub global-carried : (i k t : ℕ) (w : Option ℕ) → i ≤ k → (path : Leads old root va i t w) → Agree path.tables k → IsGlobalAt old root va k → IsGlobalAt new root va k
+  pub global-carried : (i k t : ℕ) (w : Option ℕ) → i ≤ k → (path : Leads scheme old root va i t w) → Agree path.tables k → IsGlobalAt scheme old root va k → IsGlobalAt scheme new root va k
   global-carried i k t w from path agree g =
       let reach : k ≤ g.level = g.from in
-      let level : g.level ≤ top_level = g.leads.level in
-      let there = leads-above old root va i g.level t w (omega arith) level path in
-      let word : Some g.entry ≡ word_at old va g.level (path.tables g.level) = same_word old root va g.level g.table (path.tables g.level) (Some g.entry) _ g.leads there in
+      let level : g.level ≤ top_level scheme = g.leads.level in
+      let there = leads-above scheme old root va i g.level t w (omega arith) level path in
+      let word : Some g.entry ≡ word_at old va g.level (path.tables g.level) = same_word scheme old root va g.level g.table (path.tables g.level) (Some g.entry) _ g.leads there in
       let moved = leads-carried i g.level t w (omega arith) level path (λ j above below. agree j (omega arith) below) in
       record {
         level = g.level;
         table = path.tables g.level;
         entry = g.entry;
         from = reach;
-        leads = subst (Leads new root va g.level (path.tables g.level)) (agree g.level reach level ∙ sym word) moved;
+        leads = subst (Leads scheme new root va g.level (path.tables g.level)) (agree g.level reach level ∙ sym word) moved;
         global = g.global;
       }
 
@@ -64,26 +65,26 @@ at_place old new table index but t n =
       | inr a ↦ inr (but.elsewhere t n (λ h. a h.0))
     ]
 
-module _ (old new : Tables) (root va table index : ℕ) (but : AgreeBut old new table index) where
-  place : (words : Tables) (k t : ℕ) → (t ≡ table) × (vpn_of va k ≡ index) → Leads words root va k t (word_at words va k t) → Leads words root va k table (words table index)
-  place words k t here path = subst (λ n. Leads words root va k table (words table n)) here.1 (subst (λ m. Leads words root va k m (word_at words va k m)) here.0 path)
+module _ (scheme : Scheme) (old new : Tables) (root va table index : ℕ) (but : AgreeBut old new table index) where
+  place : (words : Tables) (k t : ℕ) → (t ≡ table) × (vpn_of va k ≡ index) → Leads scheme words root va k t (word_at words va k t) → Leads scheme words root va k table (words table index)
+  place words k t here path = subst (λ n. Leads scheme words root va k table (words table n)) here.1 (subst (λ m. Leads scheme words root va k m (word_at words va k m)) here.0 path)
 
   -- from the top down to level k the words on a path are the same, or it passes through the word that differs
-  agree_or_pass : (d i k t : ℕ) (w : Option ℕ) → k + d ≡ top_level + 1 → i ≤ k → (path : Leads old root va i t w) → Agree old new root va path.tables k ⊎ PassesThrough old new root va i table index
+  agree_or_pass : (d i k t : ℕ) (w : Option ℕ) → k + d ≡ top_level scheme + 1 → i ≤ k → (path : Leads scheme old root va i t w) → Agree scheme old new root va path.tables k ⊎ PassesThrough scheme old new root va i table index
   agree_or_pass zero i k t w at from path = inl (λ j above below. absurd (omega arith))
   agree_or_pass (suc d) i k t w at from path =
       elim (agree_or_pass d i (k + 1) t w (omega arith) (omega arith) path) [
         | inr passes ↦ inr passes
         | inl agree ↦
-            let level : k ≤ top_level = omega arith in
+            let level : k ≤ top_level scheme = omega arith in
             elim (at_place old new table index but (path.tables k) (vpn_of va k)) [
               | inl here ↦
                   inr (record {
                     level = k;
                     from = from;
                     asked = here.1;
-                    before = place old k (path.tables k) here (leads-above old root va i k t w from level path);
-                    after = place new k (path.tables k) here (leads-carried old new root va i k t w from level path agree);
+                    before = place old k (path.tables k) here (leads-above scheme old root va i k t w from level path);
+                    after = place new k (path.tables k) here (leads-carried scheme old new root va i k t w from level path agree);
                   })
               | inr same ↦
                   inl (λ j above below.
@@ -94,26 +95,26 @@ module _ (old new : Tables) (root va table index : ℕ) (but : AgreeBut old new 
             ]
       ]
 
-  all_or_pass : (i t : ℕ) (w : Option ℕ) → (path : Leads old root va i t w) → Agree old new root va path.tables i ⊎ PassesThrough old new root va i table index
-  all_or_pass i t w path = agree_or_pass (top_level + 1 - i) i i t w (omega (arith, path.level)) (omega arith) path
+  all_or_pass : (i t : ℕ) (w : Option ℕ) → (path : Leads scheme old root va i t w) → Agree scheme old new root va path.tables i ⊎ PassesThrough scheme old new root va i table index
+  all_or_pass i t w path = agree_or_pass (top_level scheme + 1 - i) i i t w (omega (arith, path.level)) (omega arith) path
 
   -- what leads in one memory leads in the other, or passes through the word that differs
-  pub leads_or_pass : (i t : ℕ) (w : Option ℕ) → Leads old root va i t w → Leads new root va i t w ⊎ PassesThrough old new root va i table index
+  pub leads_or_pass : (i t : ℕ) (w : Option ℕ) → Leads scheme old root va i t w → Leads scheme new root va i t w ⊎ PassesThrough scheme old new root va i table index
   leads_or_pass i t w path =
       elim (all_or_pass i t w path) [
-        | inl agree ↦ inl (leads-same old new root va i t w path agree)
+        | inl agree ↦ inl (leads-same scheme old new root va i t w path agree)
         | inr passes ↦ inr passes
       ]
 
-module _ (old new : Tables) (root page ppn table index : ℕ) (flags : PteFlags) (global : Bool) (but : AgreeBut old new table index) (m : Maps old root page ppn flags global) where
+module _ (scheme : Scheme) (old new : Tables) (root page ppn table index : ℕ) (flags : PteFlags) (global : Bool) (but : AgreeBut old new table index) (m : Maps scheme old root page ppn flags global) where
   -- and so does what is mapped
-  pub maps_or_pass : Maps new root page ppn flags global ⊎ PassesThrough old new root m.va m.level table index
+  pub maps_or_pass : Maps scheme new root page ppn flags global ⊎ PassesThrough scheme old new root m.va m.level table index
   unfolding leads-same leads-carried
   maps_or_pass =
-      elim (all_or_pass old new root m.va table index but m.level m.table (Some m.entry) m.leads) [
+      elim (all_or_pass scheme old new root m.va table index but m.level m.table (Some m.entry) m.leads) [
         | inr passes ↦ inr passes
         | inl agree ↦
-            let there = leads-same old new root m.va m.level m.table (Some m.entry) m.leads agree in
+            let there = leads-same scheme old new root m.va m.level m.table (Some m.entry) m.leads agree in
             inl (record {
               va = m.va;
               level = m.level;
@@ -127,8 +128,8 @@ module _ (old new : Tables) (root page ppn table index : ℕ) (flags : PteFlags)
               aligned = m.aligned;
               place = m.place;
               is_global = (
-                (λ h. global-carried old new root m.va m.level m.level m.table (Some m.entry) (omega arith) m.leads agree (m.is_global.0 h)),
-                (λ g. m.is_global.1 (global-carried new old root m.va m.level m.level m.table (Some m.entry) (omega arith) there (λ j above below. sym (agree j above below)) g)),
+                (λ h. global-carried scheme old new root m.va m.level m.level m.table (Some m.entry) (omega arith) m.leads agree (m.is_global.0 h)),
+                (λ g. m.is_global.1 (global-carried scheme new old root m.va m.level m.level m.table (Some m.entry) (omega arith) there (λ j above below. sym (agree j above below)) g)),
               );
             })
       ]
@@ -137,29 +138,29 @@ module _ (old new : Tables) (root page ppn table index : ℕ) (flags : PteFlags)
 pub AgreeBut-turned : (old new : Tables) (table index : ℕ) → AgreeBut old new table index → AgreeBut new old table index
 AgreeBut-turned old new table index but = record { elsewhere = λ t n apart. sym (but.elsewhere t n apart) }
 
-module _ (old new : Tables) (root va : ℕ) (keeps : KeepsPointers old new) where
-  agree-above : (i t : ℕ) (w : Option ℕ) → (path : Leads old root va i t w) → Agree old new root va path.tables (i + 1)
+module _ (scheme : Scheme) (old new : Tables) (root va : ℕ) (keeps : KeepsPointers old new) where
+  agree-above : (i t : ℕ) (w : Option ℕ) → (path : Leads scheme old root va i t w) → Agree scheme old new root va path.tables (i + 1)
   agree-above i t w path j above below = keeps.kept (path.tables j) (vpn_of va j) (path.tables (j - 1)) (path.pointers j (omega arith) below)
 
   -- where pointers stay, the same tables lead
-  pub leads_kept : (i t : ℕ) (w : Option ℕ) → Leads old root va i t w → Leads new root va i t (word_at new va i t)
-  leads_kept i t w path = subst (λ n. Leads new root va i n (word_at new va i n)) path.last (leads-carried old new root va i i t w (omega arith) path.level path (agree-above i t w path))
+  pub leads_kept : (i t : ℕ) (w : Option ℕ) → Leads scheme old root va i t w → Leads scheme new root va i t (word_at new va i t)
+  leads_kept i t w path = subst (λ n. Leads scheme new root va i n (word_at new va i n)) path.last (leads-carried scheme old new root va i i t w (omega arith) path.level path (agree-above i t w path))
 
-  pub global_kept : (i t : ℕ) (w : Option ℕ) → Leads old root va i t w → IsGlobalAt old root va (i + 1) ↔ IsGlobalAt new root va (i + 1)
+  pub global_kept : (i t : ℕ) (w : Option ℕ) → Leads scheme old root va i t w → IsGlobalAt scheme old root va (i + 1) ↔ IsGlobalAt scheme new root va (i + 1)
   unfolding leads-carried
   global_kept i t w path = (
-    global-carried old new root va i (i + 1) t w (omega arith) path (agree-above i t w path),
-    global-carried new old root va i (i + 1) (path.tables i) _ (omega arith) (leads-carried old new root va i i t w (omega arith) path.level path (agree-above i t w path))
+    global-carried scheme old new root va i (i + 1) t w (omega arith) path (agree-above i t w path),
+    global-carried scheme new old root va i (i + 1) (path.tables i) _ (omega arith) (leads-carried scheme old new root va i i t w (omega arith) path.level path (agree-above i t w path))
         (λ j above below. sym (agree-above i t w path j above below)),
   )
 
 -- and a walk stays on its path
-pub on_path_kept : (old new : Tables) (root : ℕ) (s : Stage) → KeepsPointers old new → OnPath old root s → OnPath new root s
-on_path_kept old new root s keeps on =
-    let same = global_kept old new root s.va keeps s.level s.table _ on.leads in
+pub on_path_kept : (scheme : Scheme) (old new : Tables) (root : ℕ) (s : Stage) → KeepsPointers old new → OnPath scheme old root s → OnPath scheme new root s
+on_path_kept scheme old new root s keeps on =
+    let same = global_kept scheme old new root s.va keeps s.level s.table _ on.leads in
     record {
       canonical = on.canonical;
-      leads = leads_kept old new root s.va keeps s.level s.table _ on.leads;
+      leads = leads_kept scheme old new root s.va keeps s.level s.table _ on.leads;
       global = ((λ h. same.0 (on.global.0 h)), (λ g. on.global.1 (same.1 g)));
     }
 
@@ -175,21 +176,21 @@ pub stored-here : (words : Tables) (table index word : ℕ) → stored words tab
 stored-here words table index word = cond-true ((table == table) && (index == index)) _ _ (and_from (table == table) (index == index) (eq-eqb table table refl) (eq-eqb index index refl))
 
 -- and back, from the new memory to the old
-passes-turned : (old new : Tables) (root va i table index : ℕ) → PassesThrough new old root va i table index → PassesThrough old new root va i table index
-passes-turned old new root va i table index p = record { level = p.level; from = p.from; asked = p.asked; before = p.after; after = p.before }
+passes-turned : (scheme : Scheme) (old new : Tables) (root va i table index : ℕ) → PassesThrough scheme new old root va i table index → PassesThrough scheme old new root va i table index
+passes-turned scheme old new root va i table index p = record { level = p.level; from = p.from; asked = p.asked; before = p.after; after = p.before }
 
-either_turned : (A : Type 0) (old new : Tables) (root va i table index : ℕ) → A ⊎ PassesThrough new old root va i table index → A ⊎ PassesThrough old new root va i table index
-either_turned A old new root va i table index (inl a) = inl a
-either_turned A old new root va i table index (inr p) = inr (passes-turned old new root va i table index p)
+either_turned : (scheme : Scheme) (A : Type 0) (old new : Tables) (root va i table index : ℕ) → A ⊎ PassesThrough scheme new old root va i table index → A ⊎ PassesThrough scheme old new root va i table index
+either_turned scheme A old new root va i table index (inl a) = inl a
+either_turned scheme A old new root va i table index (inr p) = inr (passes-turned scheme old new root va i table index p)
 
-pub leads_or_pass-back : (old new : Tables) (root va table index i t : ℕ) (w : Option ℕ) → AgreeBut old new table index → Leads new root va i t w → Leads old root va i t w ⊎ PassesThrough old new root va i table index
-leads_or_pass-back old new root va table index i t w but path =
-    either_turned _ old new root va i table index (leads_or_pass new old root va table index (AgreeBut-turned old new table index but) i t w path)
+pub leads_or_pass-back : (scheme : Scheme) (old new : Tables) (root va table index i t : ℕ) (w : Option ℕ) → AgreeBut old new table index → Leads scheme new root va i t w → Leads scheme old root va i t w ⊎ PassesThrough scheme old new root va i table index
+leads_or_pass-back scheme old new root va table index i t w but path =
+    either_turned scheme _ old new root va i table index (leads_or_pass scheme new old root va table index (AgreeBut-turned old new table index but) i t w path)
 
-pub maps_or_pass-back : (old new : Tables) (root page ppn table index : ℕ) (flags : PteFlags) (global : Bool) → AgreeBut old new table index
-    → (m : Maps new root page ppn flags global) → Maps old root page ppn flags global ⊎ PassesThrough old new root m.va m.level table index
-maps_or_pass-back old new root page ppn table index flags global but m =
-    either_turned _ old new root m.va m.level table index (maps_or_pass new old root page ppn table index flags global (AgreeBut-turned old new table index but) m)
+pub maps_or_pass-back : (scheme : Scheme) (old new : Tables) (root page ppn table index : ℕ) (flags : PteFlags) (global : Bool) → AgreeBut old new table index
+    → (m : Maps scheme new root page ppn flags global) → Maps scheme old root page ppn flags global ⊎ PassesThrough scheme old new root m.va m.level table index
+maps_or_pass-back scheme old new root page ppn table index flags global but m =
+    either_turned scheme _ old new root m.va m.level table index (maps_or_pass scheme new old root page ppn table index flags global (AgreeBut-turned old new table index but) m)
 
 -- a store over a word that is no pointer keeps the pointers
 pub pointers-kept : (old new : Tables) (table index : ℕ) → AgreeBut old new table index → ((next : ℕ) → PointsTo (old table index) next → ⊥) → KeepsPointers old new
@@ -204,15 +205,15 @@ pointers-kept old new table index but none = record {
 }
 
 -- and a path that passes through that word ends there
-pub passes_at_end : (old new : Tables) (root va table index i t : ℕ) (w : Option ℕ) → Leads old root va i t w → ((next : ℕ) → PointsTo (old table index) next → ⊥)
-    → PassesThrough old new root va i table index → (t ≡ table) × (vpn_of va i ≡ index) × (w ≡ old table index) × Leads new root va i table (new table index)
-passes_at_end old new root va table index i t w path none p =
+pub passes_at_end : (scheme : Scheme) (old new : Tables) (root va table index i t : ℕ) (w : Option ℕ) → Leads scheme old root va i t w → ((next : ℕ) → PointsTo (old table index) next → ⊥)
+    → PassesThrough scheme old new root va i table index → (t ≡ table) × (vpn_of va i ≡ index) × (w ≡ old table index) × Leads scheme new root va i table (new table index)
+passes_at_end scheme old new root va table index i t w path none p =
     let from : i ≤ p.level = p.from in
-    let up = nothing_below old root va p.level i table t (old table index) w p.before none path in
+    let up = nothing_below scheme old root va p.level i table t (old table index) w p.before none path in
     let level : p.level ≡ i = omega arith in
-    let here : Leads old root va i table (old table index) = subst (λ k. Leads old root va k table (old table index)) level p.before in (
-      same_table old root va i t table w (old table index) path here,
+    let here : Leads scheme old root va i table (old table index) = subst (λ k. Leads scheme old root va k table (old table index)) level p.before in (
+      same_table scheme old root va i t table w (old table index) path here,
       ap (vpn_of va) (sym level) ∙ p.asked,
-      same_word old root va i t table w (old table index) path here,
-      subst (λ k. Leads new root va k table (new table index)) level p.after,
+      same_word scheme old root va i t table w (old table index) path here,
+      subst (λ k. Leads scheme new root va k table (new table index)) level p.after,
     )

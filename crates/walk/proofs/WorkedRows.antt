@@ -5,6 +5,7 @@ use Rattle.pte.specs.declared.permission.Access.TheVariants.{Fetch, Load, Store}
 use Rattle.pte.specs.declared.permission.Mode.TheVariants.{User, Super}
 use Rattle.pte.specs.declared.permission.Ctx.{Ctx}
 use Rattle.pte.specs.declared.address.PageSize.TheVariants.{Kib4, Mib2, Gib1}
+use Rattle.pte.specs.declared.scheme.Scheme.TheVariants.{Sv39}
 use Rattle.pte.specs.Address.{level_count}
 use Rattle.pte.specs.Entry.{kind_of}
 use Rattle.walk.specs.declared.found_or_trap.Found.{Found}
@@ -31,12 +32,12 @@ with_sum = record { mode = Super; sum = true; mxr = false }
 
 -- from the root at 0x80000 an access of 0x80403ABC has this answer and no other
 abbrev Gives : ℕ → ℕ → ℕ → Access → Ctx → Result Found Trap → Type 0
-Gives root middle low access ctx answer = (given : Result Found Trap) → Outcome (three_frames root middle low) 0x80000 0x80403ABC access ctx given → given ≡ answer
+Gives root middle low access ctx answer = (given : Result Found Trap) → Outcome Sv39 (three_frames root middle low) 0x80000 0x80403ABC access ctx given → given ≡ answer
 
 computed : (root middle low : ℕ) (access : Access) (ctx : Ctx) (answer : Result Found Trap)
-    → answer_after level_count (three_frames root middle low) (start_of 0x80000 0x80403ABC access ctx) ≡ answer → Gives root middle low access ctx answer
+    → answer_after (level_count Sv39) (three_frames root middle low) (start_of Sv39 0x80000 0x80403ABC access ctx) ≡ answer → Gives root middle low access ctx answer
 computed root middle low access ctx answer is given outcome =
-    (level_count_loads (three_frames root middle low) 0x80000 0x80403ABC access ctx given (inl (omega arith))).0 outcome ∙ is
+    (level_count_loads Sv39 (three_frames root middle low) 0x80000 0x80403ABC access ctx given (inl (omega arith))).0 outcome ∙ is
 
 abbrev trap : ℕ → Why → Result Found Trap
 trap cause why = Err (record { cause = cause; why = why })

@@ -6,7 +6,7 @@ use Rattle.pte.specs.declared.permission.Access.TheVariants.{Fetch, Load, Store}
 use Rattle.pte.specs.declared.permission.Ctx.{Ctx}
 use Rattle.pte.specs.declared.flags.PteFlags.{PteFlags}
 use Rattle.pte.specs.declared.address.PageSize.{PageSize}
-use Rattle.pte.specs.declared.address.PageSize.TheVariants.{Kib4, Mib2, Gib1}
+use Rattle.pte.specs.declared.address.PageSize.TheVariants.{Kib4, Mib2, Gib1, Gib512}
 use Rattle.pte.specs.declared.entry.Kind.{Kind}
 use Rattle.pte.specs.declared.entry.Kind.TheVariants as kinds
 use Rattle.pte.specs.Address.{bytes_of, level_bytes, level_of, level_pages, page_around}
@@ -26,7 +26,7 @@ outside_trap access = record { cause = access_cause_of access; why = Outside }
 
 -- the size of the page of a leaf at level i
 abbrev pub size_at : ℕ → PageSize
-size_at i = if i == level_of Kib4 then Kib4 else if i == level_of Mib2 then Mib2 else Gib1
+size_at i = if i == level_of Kib4 then Kib4 else if i == level_of Mib2 then Mib2 else if i == level_of Gib1 then Gib1 else Gib512
 
 -- what a leaf at level i gives for an address: the low bits of the physical address are those of the virtual one
 abbrev pub found_at : ℕ → ℕ → Bool → ℕ → PteFlags → Found

@@ -1,4 +1,5 @@
 -- What a walk computes that is fed the words of one memory.
+use Rattle.pte.specs.declared.scheme.Scheme.{Scheme}
 use Rattle.std.specs.Prelude.{ℕ, zero, suc, ◌≡◌, ◌+◌, Result, Ok, Err}
 use Rattle.walk.specs.declared.found_or_trap.Found.{Found}
 use Rattle.walk.specs.declared.found_or_trap.Trap.{Trap}
@@ -22,7 +23,7 @@ answer_after zero words s = Err (page_trap s.access TooDeep)
 answer_after (suc n) words s = finish (answer_after n words) (load_of s (word_at words s.va s.level s.table))
 
 -- what the word of a memory makes of a walk on its path: a walk on the path one level below, or the outcome
-abbrev pub GoesOn : Tables → ℕ → Stage → Progress → Type 0
-GoesOn words root s (progress.More next) = OnPath words root next × (next.level + 1 ≡ s.level) × IsFor next s.va s.access s.ctx
-GoesOn words root s (progress.Found found) = Outcome words root s.va s.access s.ctx (Ok found)
-GoesOn words root s (progress.Trap trap) = Outcome words root s.va s.access s.ctx (Err trap)
+abbrev pub GoesOn : Scheme → Tables → ℕ → Stage → Progress → Type 0
+GoesOn scheme words root s (progress.More next) = OnPath scheme words root next × (next.level + 1 ≡ s.level) × IsFor next s.va s.access s.ctx
+GoesOn scheme words root s (progress.Found found) = Outcome scheme words root s.va s.access s.ctx (Ok found)
+GoesOn scheme words root s (progress.Trap trap) = Outcome scheme words root s.va s.access s.ctx (Err trap)

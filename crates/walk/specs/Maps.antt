@@ -1,4 +1,5 @@
 -- The pages of 4 KiB that the tables of a root map (privileged manual 4.3.2, step 8; 4.3.1, G).
+use Rattle.pte.specs.declared.scheme.Scheme.{Scheme}
 use Rattle.std.specs.Prelude.{ℕ, Bool, ◌≡◌, ◌+◌, ◌/◌, ◌%◌, ◌↔◌, Some, IsTrue}
 use Rattle.pte.specs.declared.address.PageSize.TheVariants.{Kib4}
 use Rattle.pte.specs.declared.flags.PteFlags.{PteFlags}
@@ -13,16 +14,16 @@ page_number address = address / bytes_of Kib4
 
 -- Maps is the set of these: for a canonical address of the page an aligned leaf leads; the PPN is the leaf's and the page's
 -- place in the leaf's page, the flags are the leaf's, and global says whether G is on the leaf or on a pointer above it
-pub record Maps (words : Tables) (root page ppn : ℕ) (flags : PteFlags) (global : Bool) : Type 0 where
+pub record Maps (scheme : Scheme) (words : Tables) (root page ppn : ℕ) (flags : PteFlags) (global : Bool) : Type 0 where
   pub va : ℕ
   pub level : ℕ
   pub table : ℕ
   pub entry : ℕ
   pub leaf : ℕ
-  pub canonical : IsCanonical va
+  pub canonical : IsCanonical scheme va
   pub of_page : page_number va ≡ page
-  pub leads : Leads words root va level table (Some entry)
+  pub leads : Leads scheme words root va level table (Some entry)
   pub kind : kind_of entry ≡ Leaf leaf flags
   pub aligned : leaf % level_pages level ≡ 0
   pub place : ppn ≡ leaf + page % level_pages level
-  pub is_global : IsTrue global ↔ IsGlobalAt words root va level
+  pub is_global : IsTrue global ↔ IsGlobalAt scheme words root va level

@@ -1,5 +1,6 @@
 -- What the translation of an address answers
 -- (privileged manual 4.3.2, virtual address translation process; 4.4.1, canonical addresses).
+use Rattle.pte.specs.declared.scheme.Scheme.{Scheme}
 use Rattle.std.specs.Prelude.{ℕ, Bool, ◌≡◌, ◌≤◌, ◌⊎◌, ◌↔◌, Option, Result, Err, IsTrue}
 use Rattle.pte.specs.declared.permission.Access.{Access}
 use Rattle.pte.specs.declared.permission.Ctx.{Ctx}
@@ -11,18 +12,18 @@ use Rattle.walk.specs.Answer.{answer_at, page_trap}
 use Rattle.walk.specs.Leads.{Tables, Leads, IsGlobalAt}
 
 -- the answer for what leads at the lowest level at which anything leads
-pub record Ends (words : Tables) (root va : ℕ) (access : Access) (ctx : Ctx) (answer : Result Found Trap) : Type 0 where
+pub record Ends (scheme : Scheme) (words : Tables) (root va : ℕ) (access : Access) (ctx : Ctx) (answer : Result Found Trap) : Type 0 where
   pub level : ℕ
   pub table : ℕ
   pub word : Option ℕ
   pub global : Bool
-  pub leads : Leads words root va level table word
-  pub lowest : (j b : ℕ) (v : Option ℕ) → Leads words root va j b v → level ≤ j
-  pub is_global : IsTrue global ↔ IsGlobalAt words root va level
+  pub leads : Leads scheme words root va level table word
+  pub lowest : (j b : ℕ) (v : Option ℕ) → Leads scheme words root va j b v → level ≤ j
+  pub is_global : IsTrue global ↔ IsGlobalAt scheme words root va level
   pub is : answer ≡ answer_at va access ctx level global word
 
 -- the address is not canonical, or the path of its tables ends
-abbrev pub Outcome : Tables → ℕ → ℕ → Access → Ctx → Result Found Trap → Type 0
-Outcome words root va access ctx answer =
-    ((¬ IsCanonical va) × (answer ≡ Err (page_trap access NotCanonical)))
-    ⊎ (IsCanonical va × Ends words root va access ctx answer)
+abbrev pub Outcome : Scheme → Tables → ℕ → ℕ → Access → Ctx → Result Found Trap → Type 0
+Outcome scheme words root va access ctx answer =
+    ((¬ IsCanonical scheme va) × (answer ≡ Err (page_trap access NotCanonical)))
+    ⊎ (IsCanonical scheme va × Ends scheme words root va access ctx answer)

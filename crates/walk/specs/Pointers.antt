@@ -1,4 +1,5 @@
 -- The tables of an address, computed pointer by pointer.
+use Rattle.pte.specs.declared.scheme.Scheme.{Scheme}
 use Rattle.std.specs.Prelude.{ℕ, Bool, zero, suc, ◌-◌, ◌&&◌, nat_lt, is_some, Option, Some, None}
 use Rattle.pte.specs.declared.entry.Kind.{Kind}
 use Rattle.pte.specs.declared.entry.Kind.TheVariants as kinds
@@ -27,9 +28,9 @@ table_below words va level table zero = Some table
 table_below words va level table (suc n) = next_table words va (level - n) (table_below words va level table n)
 
 -- and from the root
-abbrev pub table_after : Tables → ℕ → ℕ → ℕ → Option ℕ
-table_after words root va n = table_below words va top_level root n
+abbrev pub table_after : Scheme → Tables → ℕ → ℕ → ℕ → Option ℕ
+table_after scheme words root va n = table_below words va (top_level scheme) root n
 
 -- after this many loads of a walk a pointer above level 0 leads
-abbrev pub goes_on : Tables → ℕ → ℕ → ℕ → Bool
-goes_on words root va loads = nat_lt loads top_level && is_some (table_after words root va (suc loads))
+abbrev pub goes_on : Scheme → Tables → ℕ → ℕ → ℕ → Bool
+goes_on scheme words root va loads = nat_lt loads (top_level scheme) && is_some (table_after scheme words root va (suc loads))

@@ -1,8 +1,9 @@
 -- Where a walk stands between two loads (privileged manual 4.3.2: a and i, the table and the level).
+use Rattle.pte.specs.declared.scheme.Scheme.{Scheme}
 use Rattle.std.specs.Prelude.{ℕ, Bool, false, ◌≡◌, ◌+◌, ◌<◌, ◌≤◌, ◌^◌, ◌↔◌, IsTrue}
 use Rattle.pte.specs.declared.permission.Access.{Access}
 use Rattle.pte.specs.declared.permission.Ctx.{Ctx}
-use Rattle.pte.specs.Address.{IsCanonical, top_level}
+use Rattle.pte.specs.Address.{IsCanonical, top_level, widest}
 use Rattle.pte.specs.Entry.{ppn_bits}
 use Rattle.walk.specs.Leads.{Tables, word_at, Leads, IsGlobalAt}
 
@@ -16,20 +17,20 @@ pub record Stage : Type 0 where
   pub global : Bool
 
 -- a walk that waits for a word of the root
-abbrev pub start_of : ℕ → ℕ → Access → Ctx → Stage
-start_of root va access ctx = record { va = va; access = access; ctx = ctx; level = top_level; table = root; global = false }
+abbrev pub start_of : Scheme → ℕ → ℕ → Access → Ctx → Stage
+start_of scheme root va access ctx = record { va = va; access = access; ctx = ctx; level = top_level scheme; table = root; global = false }
 
--- what every walk keeps
+-- what every walk keeps, in any scheme
 pub record IsInLimits (s : Stage) : Type 0 where
-  pub canonical : IsCanonical s.va
-  pub level : s.level ≤ top_level
+  pub canonical : IsCanonical widest s.va
+  pub level : s.level ≤ top_level widest
   pub table : s.table < 2 ^ ppn_bits
 
 -- the walk stands on the path: its table is the one that pointers lead to, and it knows whether one of them has G
-pub record OnPath (words : Tables) (root : ℕ) (s : Stage) : Type 0 where
-  pub canonical : IsCanonical s.va
-  pub leads : Leads words root s.va s.level s.table (word_at words s.va s.level s.table)
-  pub global : IsTrue s.global ↔ IsGlobalAt words root s.va (s.level + 1)
+pub record OnPath (scheme : Scheme) (words : Tables) (root : ℕ) (s : Stage) : Type 0 where
+  pub canonical : IsCanonical scheme s.va
+  pub leads : Leads scheme words root s.va s.level s.table (word_at words s.va s.level s.table)
+  pub global : IsTrue s.global ↔ IsGlobalAt scheme words root s.va (s.level + 1)
 
 -- the walk is for this access
 pub record IsFor (s : Stage) (va : ℕ) (access : Access) (ctx : Ctx) : Type 0 where

@@ -1,4 +1,5 @@
 -- What a store to a word of a table leaves, and what it can change.
+use Rattle.pte.specs.declared.scheme.Scheme.{Scheme}
 use Rattle.std.specs.Prelude.{ℕ, ◌≡◌, ◌≤◌, ◌==◌, ◌&&◌, if◌then◌else◌, Some}
 use Rattle.pte.specs.Address.{vpn_of}
 use Rattle.walk.specs.Leads.{Tables, PointsTo, Leads}
@@ -16,9 +17,9 @@ pub record KeepsPointers (old new : Tables) : Type 0 where
   pub kept : (t n next : ℕ) → PointsTo (old t n) next → new t n ≡ old t n
 
 -- the path of an address, at level i or above, leads to the word of this index of this table, in both memories
-pub record PassesThrough (old new : Tables) (root va i table index : ℕ) : Type 0 where
+pub record PassesThrough (scheme : Scheme) (old new : Tables) (root va i table index : ℕ) : Type 0 where
   pub level : ℕ
   pub from : i ≤ level
   pub asked : vpn_of va level ≡ index
-  pub before : Leads old root va level table (old table index)
-  pub after : Leads new root va level table (new table index)
+  pub before : Leads scheme old root va level table (old table index)
+  pub after : Leads scheme new root va level table (new table index)

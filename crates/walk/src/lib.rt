@@ -1,5 +1,5 @@
-//! The walk of Sv39 from a virtual address to its leaf, one word of a table at a time
-//! (privileged manual 4.3.2, virtual address translation process, and 4.4.1, Sv39).
+//! The walk of Sv39 and of Sv48 from a virtual address to its leaf, one word of a table at a time
+//! (privileged manual 4.3.2, virtual address translation process, 4.4.1, Sv39, and 4.5.1, Sv48).
 #![tactic(auto)]
 
 mod found_or_trap;
@@ -21,7 +21,7 @@ pub use laws::{
     what_leads_passes_through_a_change,
 };
 pub use memory::Words;
-pub use translation::translate;
+pub use translation::{translate, translate_in};
 pub use walking::{Progress, Walk};
 
 #[cfg(test)]

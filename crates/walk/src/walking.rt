@@ -4,7 +4,7 @@ ghost use Rattle.std.specs.Prelude.{◌≡◌, ◌<◌, ◌^◌};
 
 use crate::found_or_trap::{Found, Trap, Why, accessed_fault};
 use pte::{
-    Access, Ctx, Kind, PAGE_BYTES, Page, PageSize, Pte, PteFlags, TOP_LEVEL, VirtAddr, allowed,
+    Access, Ctx, Kind, PAGE_BYTES, Page, PageSize, Pte, PteFlags, Scheme, VirtAddr, allowed,
 };
 use std::marker::Model;
 
@@ -48,6 +48,7 @@ pub enum Progress {
 impl Walk {
     ghost use Rattle.std.specs.Prelude.{◌||◌, Err, OnErr};
     ghost use Rattle.std.specs.Result.{OkIff};
+    ghost use Rattle.pte.specs.declared.scheme.Scheme.TheVariants.{Sv39};
     ghost use Rattle.pte.specs.Address.{IsCanonical, vpn_of};
     ghost use Rattle.pte.specs.Entry.{is_global, ppn_bits};
     ghost use Rattle.walk.specs.Answer.{leaf_answer, leaf_fault, page_trap};
@@ -55,21 +56,37 @@ impl Walk {
     ghost use Rattle.walk.specs.Stage.{IsInLimits, start_of};
     ghost use Rattle.walk.specs.declared.found_or_trap.Why.TheVariants as why;
 
-    /// The walk for an access of a virtual address from the root table at a PPN, which the caller keeps below 2^44. It
-    /// waits for a word of the root. Refused with `NotCanonical` exactly if the address is not canonical.
+    /// The walk of Sv39 for an access of a virtual address, as `begin_in` has it.
     pub fn begin(root: u64, va: u64, access: Access, ctx: Ctx) -> Result<Walk, Trap>
         requires { root < 2 ^ ppn_bits }
-        ensures ok { OkIff result (IsCanonical va) (start_of root va access ctx) }
+        ensures ok { OkIff result (IsCanonical Sv39 va) (start_of Sv39 root va access ctx) }
         ensures err { OnErr result (result ≡ Err (page_trap access Why.NotCanonical)) }
     {
-        let Some(va) = VirtAddr::new(va) else {
+        Walk::begin_in(Scheme::Sv39, root, va, access, ctx)
+    }
+
+    /// The walk of a scheme for an access of a virtual address from the root table at a PPN, which the caller keeps below
+    /// 2^44. It waits for a word of the root. Refused with `NotCanonical` exactly if the address is not canonical in the
+    /// scheme.
+    pub fn begin_in(
+        scheme: Scheme,
+        root: u64,
+        va: u64,
+        access: Access,
+        ctx: Ctx,
+    ) -> Result<Walk, Trap>
+        requires { root < 2 ^ ppn_bits }
+        ensures ok { OkIff result (IsCanonical scheme va) (start_of scheme root va access ctx) }
+        ensures err { OnErr result (result ≡ Err (page_trap access Why.NotCanonical)) }
+    {
+        let Some(va) = VirtAddr::new_in(scheme, va) else {
             return Err(Trap::page(access, Why::NotCanonical));
         };
         Ok(Walk {
             va,
             access,
             ctx,
-            level: TOP_LEVEL,
+            level: scheme.top_level(),
             table: root,
             global: false,
         })

@@ -5,6 +5,6 @@ pub returns : goal.returns
 returns c =
     record {
       one = one_run_step;
-      found = λ harts text event. (step-writes harts text event, writes-step harts text event);
-      found_of_all = λ text event. (of_all-writes text event, writes-of_all text event);
+      found = λ scheme harts text event. (step-writes scheme harts text event, writes-step scheme harts text event);
+      found_of_all = λ scheme text event. (of_all-writes scheme text event, writes-of_all scheme text event);
     }

@@ -1,8 +1,5 @@
-use Rattle.tlb.proofs.Overlapping.{is_canonical-IsCanonical, holds-Holds, overlaps-Overlap}
+use Rattle.tlb.proofs.Overlapping.{holds-Holds, overlaps-Overlap}
 use Rattle.tlb.proofs.laws.tests_are_facts.Goals as goal
-
-pub returns-clause-canonical : goal.returns-clause-canonical
-returns-clause-canonical c = is_canonical-IsCanonical
 
 pub returns-clause-holds : goal.returns-clause-holds
 returns-clause-holds c = holds-Holds

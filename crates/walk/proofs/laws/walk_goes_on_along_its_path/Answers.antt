@@ -4,4 +4,4 @@ use Rattle.walk.proofs.Ending.{goes-on}
 use Rattle.walk.proofs.laws.walk_goes_on_along_its_path.Goals as goal
 
 pub returns : goal.returns
-returns c = λ words root s on. goes-on words root s (word_at words s.va s.level s.table) on refl
+returns c = λ scheme words root s on. goes-on scheme words root s (word_at words s.va s.level s.table) on refl

@@ -7,9 +7,9 @@ use Rattle.tlb.proofs.store.Tlb.lookup.Goals as goal
 
 pub returns-clause-translates : goal.returns-clause-translates
 returns-clause-translates c =
-    let pages : All (λ e. IsPage e.page) c.args.self.now = rw (← c.self.view_is) c.self.invariant.pages in
-    let is : c.first_match.result ≡ first_match c.args.self.now c.args.asid c.args.va = search rules in
-    rw is (first_match_translates c.args.self.now c.args.asid c.args.va pages)
+    let pages : All (λ e. IsPage e.page) c.args.self.now.entries = rw (← c.self.view_is) c.self.invariant.pages in
+    let is : c.first_match.result ≡ first_match c.args.self.now.entries c.args.asid c.args.va = search rules in
+    rw is (first_match_translates c.args.self.now.entries c.args.asid c.args.va pages)
 
 pub returns-clause-kept : goal.returns-clause-kept
 returns-clause-kept c = rw (← c.self.view_is) c.self.invariant

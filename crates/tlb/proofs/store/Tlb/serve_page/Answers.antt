@@ -1,6 +1,7 @@
 use Rattle.std.proofs.Common.{◌∙◌, ap}
 use Rattle.std.specs.Prelude.{filter, not}
 use Rattle.pte.specs.declared.address.What.TheVariants.{PageOf}
+use Rattle.tlb.specs.Entries.{TlbState}
 use Rattle.tlb.specs.Service.{is_served}
 use Rattle.tlb.proofs.Keeping.{IsTlb-filter}
 use Rattle.tlb.proofs.Serving.{served_is_meant}
@@ -11,5 +12,5 @@ invariant_of-self c = rw c.drop_served.ensures (IsTlb-filter (λ e. not (is_serv
 
 pub returns-clause-meaning : goal.returns-clause-meaning
 returns-clause-meaning c =
-    served_is_meant _ _ (PageOf c.args.page.now c.args.asid) c.base-base.ensures.page
-    (c.drop_served.ensures ∙ ap (filter (λ e. not (is_served (PageOf c.args.page.now c.args.asid) e))) c.self.view_is)
+    λ asked. served_is_meant _ _ _ (PageOf c.args.page.now c.args.asid) asked
+    (c.drop_served.ensures ∙ ap (λ (t : TlbState). filter (λ e. not (is_served (PageOf c.args.page.now c.args.asid) e)) t.entries) c.self.view_is)
