@@ -1,5 +1,5 @@
 -- What Clear forbids a TLB to hold after the worked runs, and where it says nothing.
-use Rattle.std.proofs.Common.{◌≡◌, ℕ, ◌+◌, ◌≤◌, ◌⊎◌, ◌==◌, ◌||◌, false, [], ◌∷◌, IsTrue, refl, subst, arith, inl, inr}
+use Rattle.std.proofs.Common.{◌≡◌, ℕ, ◌+◌, ◌≤◌, ◌⊎◌, ◌==◌, ◌||◌, false, [], ◌∷◌, IsTrue, refl, subst, arith, inl, inr, Some, None}
 use Rattle.std.proofs.lemmas.Bool.{and_parts, eq-eqb, eqb-true}
 use Rattle.pte.specs.Address.{IsPage, Holds, bytes_of}
 use Rattle.pte.specs.declared.address.PageSize.TheVariants.{Kib4}
@@ -8,7 +8,6 @@ use Rattle.spaces.specs.Edits.{wish_fault, path_end, edit_of}
 use Rattle.tlb.specs.Mappings.{IsMappedBy, Translates}
 use Rattle.tlb.proofs.Overlapping.{holds-Holds}
 use Rattle.history.specs.Harts.{entries_of}
-use Rattle.spaces.specs.declared.places.Place.TheVariants.{Space, Kernel}
 use Rattle.tlb.specs.declared.store.Entry.{Entry}
 use Rattle.tlb.specs.Entries.{holds, is_match}
 use Rattle.history.specs.Turns.{History}
@@ -29,11 +28,11 @@ by_side base va held there (inr behind) = omega (arith, held.below, there.from, 
 
 -- the page of 2 MiB that hart 0 unmapped
 module _ (H : History) (h : ℕ) where
-  superpage_forbids : HasAnswered two_harts H 5 h (Unmapped (Space 0) (large_page 0x400000)) → is_mapped_anew two_harts H 5 ≡ false
+  superpage_forbids : HasAnswered two_harts H 5 h (Unmapped (Some 1) (large_page 0x400000)) → is_mapped_anew two_harts H 5 ≡ false
       → (va : ℕ) → Holds (large_page 0x400000) va → (e : Entry) → IsPage e.page → IsTrue (is_match 1 va e) → ClearForbids two_harts H 5 h e
-  superpage_forbids answered old va held e aligned on = clear_forbids two_harts H 5 h (Space 0) (large_page 0x400000) answered old 1 va refl held e aligned on
+  superpage_forbids answered old va held e aligned on = clear_forbids two_harts H 5 h (Some 1) (large_page 0x400000) answered old 1 va refl held e aligned on
 
-  superpage_itself : HasAnswered two_harts H 5 h (Unmapped (Space 0) (large_page 0x400000)) → is_mapped_anew two_harts H 5 ≡ false
+  superpage_itself : HasAnswered two_harts H 5 h (Unmapped (Some 1) (large_page 0x400000)) → is_mapped_anew two_harts H 5 ≡ false
       → ClearForbids two_harts H 5 h (entry 1 (large_page 0x400000) 0x200)
   superpage_itself answered old =
       superpage_forbids answered old 0x400000 (record { from = omega arith; below = omega arith }) (entry 1 (large_page 0x400000) 0x200)
@@ -42,7 +41,7 @@ module _ (H : History) (h : ℕ) where
 abbrev acknowledged : History
 acknowledged = history_of shootdowns.superpage_until_acknowledged
 
-answered : HasAnswered two_harts acknowledged 5 1 (Unmapped (Space 0) (large_page 0x400000))
+answered : HasAnswered two_harts acknowledged 5 1 (Unmapped (Some 1) (large_page 0x400000))
 answered = record { order = _; is = refl; same_cause = refl; named = refl; acked = refl }
 
 pub page_itself : ClearForbids two_harts (history_of shootdowns.superpage_until_acknowledged) 5 1 (entry 1 (large_page 0x400000) 0x200)
@@ -79,7 +78,7 @@ refused_changes = superpage_itself _ 1 (record { order = _; is = refl; same_caus
 -- the page of space 0 is unmapped, and that of space 1 is mapped anew
 pub other_space : ClearForbids shootdowns.spaces_of_one_home (history_of staleness.same_page_of_another_space) 15 1 (entry 1 (small_page 0x1000) 0x100)
 other_space =
-    clear_forbids shootdowns.spaces_of_one_home (history_of staleness.same_page_of_another_space) 15 1 (Space 0) (small_page 0x1000)
+    clear_forbids shootdowns.spaces_of_one_home (history_of staleness.same_page_of_another_space) 15 1 (Some 1) (small_page 0x1000)
     (record { order = _; is = refl; same_cause = refl; named = refl; acked = refl }) refl 1 0x1000 refl (record { from = omega arith; below = omega arith })
     (entry 1 (small_page 0x1000) 0x100) (record { canonical = inl (omega arith); aligned = refl }) refl
 
@@ -87,7 +86,7 @@ other_space =
 kernel_page_forbids : (e : Entry) → IsPage e.page → (asid : ℕ) → IsTrue (is_match asid 0xffffffffc0000000 e)
     → ClearForbids kernel.spaces_of_two_homes (history_of kernel.kernel_page_until_acknowledged) 10 1 e
 kernel_page_forbids e aligned asid on =
-    clear_forbids kernel.spaces_of_two_homes (history_of kernel.kernel_page_until_acknowledged) 10 1 Kernel (small_page 0xffffffffc0000000)
+    clear_forbids kernel.spaces_of_two_homes (history_of kernel.kernel_page_until_acknowledged) 10 1 None (small_page 0xffffffffc0000000)
     (record { order = _; is = refl; same_cause = refl; named = refl; acked = refl }) refl asid 0xffffffffc0000000 tt
     (record { from = omega arith; below = omega arith }) e aligned on
 
@@ -119,7 +118,7 @@ protected = other_cause_clear two_harts (history_of staleness.held_read_only) 5 
 -- a page right before the superpage, and one right behind it
 neighbour : (base : ℕ) → (base + bytes_of Kib4 ≤ 0x400000) ⊎ (0x600000 ≤ base) → Clear two_harts acknowledged (entry 1 (small_page base) 0x100 ∷ []) 5 1
 neighbour base apart =
-    clear_allows two_harts acknowledged 5 1 _ (Space 0) (large_page 0x400000) refl refl (entry 1 (small_page base) 0x100 ∷ [])
+    clear_allows two_harts acknowledged 5 1 _ (Some 1) (large_page 0x400000) refl refl (entry 1 (small_page base) 0x100 ∷ [])
     (λ asid va for held t.
     let on = and_parts (holds (small_page base) va) (false || (1 == asid)) (one_match (entry 1 (small_page base) 0x100) asid va t) in
     let there = (holds-Holds (small_page base) va).0 on.0 in
@@ -142,7 +141,7 @@ space_1_held = refl
 pub other_asid : Clear shootdowns.spaces_of_one_home (history_of staleness.same_page_of_another_space)
     (entries_of shootdowns.spaces_of_one_home (history_of staleness.same_page_of_another_space) 1) 15 1
 other_asid =
-    clear_allows shootdowns.spaces_of_one_home (history_of staleness.same_page_of_another_space) 15 1 _ (Space 0) (small_page 0x1000) refl refl
+    clear_allows shootdowns.spaces_of_one_home (history_of staleness.same_page_of_another_space) 15 1 _ (Some 1) (small_page 0x1000) refl refl
     (entries_of shootdowns.spaces_of_one_home (history_of staleness.same_page_of_another_space) 1)
     (λ asid va for held t.
     let one = subst (λ es. Translates (IsMappedBy es) asid va) space_1_held t in

@@ -3,7 +3,6 @@ use Rattle.pte.specs.declared.scheme.Scheme.TheVariants.{Sv39}
 use Rattle.std.proofs.Common.{ℕ, ◌+◌, Option, Some, None, refl, arith, inl, inr}
 use Rattle.pte.specs.declared.permission.Access.TheVariants as access
 use Rattle.pte.specs.Entry.{kind_of}
-use Rattle.spaces.specs.declared.places.Place.TheVariants.{Space, Kernel}
 use Rattle.spaces.specs.Edits.{wish_fault, path_end, edit_of}
 use Rattle.tlb.specs.Mappings.{Mapping}
 use Rattle.history.specs.Orders.{Unmapped, Protected}
@@ -29,11 +28,11 @@ writable_gone m =
 
 pub old_flags : CoherentForbids two_harts (history_of shootdowns.read_only_until_acknowledged) 5 1 (entry 1 (large_page 0x400000) 0x200)
 old_flags =
-    coherent_forbids two_harts (history_of shootdowns.read_only_until_acknowledged) 5 1 (Protected (Space 0) (large_page 0x400000)) (Space 0) (large_page 0x400000) (inr refl)
+    coherent_forbids two_harts (history_of shootdowns.read_only_until_acknowledged) 5 1 (Protected (Some 1) (large_page 0x400000)) (Some 1) (large_page 0x400000) (inr refl)
     (record { order = _; is = refl; same_cause = refl; named = refl; acked = refl }) refl (entry 1 (large_page 0x400000) 0x200)
     (mapping (Some 1) 0x400 0x200 (R + W + U + A + D))
     (record { asid = refl; page = record { from = omega arith; to = omega arith }; ppn = refl; flags = refl })
-    (inr (1, refl, refl)) (record { from = omega arith; to = omega arith }) 0x80001 refl writable_gone
+    (inr (1, refl, refl)) (record { from = omega arith; to = omega arith }) 0x80001 (0, record { there = omega arith; kept = refl; same = refl }, refl) writable_gone
 
 -- the page is mapped anew, to another PPN
 old_frame_gone : ¬ IsMapped three_harts (history_of shootdowns.mapped_anew_until_acknowledged) 0x80001 (mapping (Some 1) 1 0x100 (R + U + A + D))
@@ -44,11 +43,11 @@ old_frame_gone m =
 
 pub old_ppn : CoherentForbids three_harts (history_of shootdowns.mapped_anew_until_acknowledged) 7 2 (read_only_entry 1 (small_page 0x1000) 0x100)
 old_ppn =
-    coherent_forbids three_harts (history_of shootdowns.mapped_anew_until_acknowledged) 7 2 (Unmapped (Space 0) (small_page 0x1000)) (Space 0) (small_page 0x1000) (inl refl)
+    coherent_forbids three_harts (history_of shootdowns.mapped_anew_until_acknowledged) 7 2 (Unmapped (Some 1) (small_page 0x1000)) (Some 1) (small_page 0x1000) (inl refl)
     (record { order = _; is = refl; same_cause = refl; named = refl; acked = refl }) refl (read_only_entry 1 (small_page 0x1000) 0x100)
     (mapping (Some 1) 1 0x100 (R + U + A + D))
     (record { asid = refl; page = record { from = omega arith; to = omega arith }; ppn = refl; flags = refl })
-    (inr (1, refl, refl)) (record { from = omega arith; to = omega arith }) 0x80001 refl old_frame_gone
+    (inr (1, refl, refl)) (record { from = omega arith; to = omega arith }) 0x80001 (0, record { there = omega arith; kept = refl; same = refl }, refl) old_frame_gone
 
 -- the page is unmapped: nothing of it is mapped, for no ASID
 superpage_gone : (asid : Option ℕ) → ¬ IsMapped two_harts (history_of shootdowns.superpage_shootdown) 0x80001 (mapping asid 0x400 0x200 (R + W + U + A + D))
@@ -59,27 +58,27 @@ superpage_gone asid m =
 
 pub nothing_mapped : CoherentForbids two_harts (history_of shootdowns.superpage_shootdown) 5 1 (entry 1 (large_page 0x400000) 0x200)
 nothing_mapped =
-    coherent_forbids two_harts (history_of shootdowns.superpage_shootdown) 5 1 (Unmapped (Space 0) (large_page 0x400000)) (Space 0) (large_page 0x400000) (inl refl)
+    coherent_forbids two_harts (history_of shootdowns.superpage_shootdown) 5 1 (Unmapped (Some 1) (large_page 0x400000)) (Some 1) (large_page 0x400000) (inl refl)
     (record { order = _; is = refl; same_cause = refl; named = refl; acked = refl }) refl (entry 1 (large_page 0x400000) 0x200)
     (mapping (Some 1) 0x400 0x200 (R + W + U + A + D))
     (record { asid = refl; page = record { from = omega arith; to = omega arith }; ppn = refl; flags = refl })
-    (inr (1, refl, refl)) (record { from = omega arith; to = omega arith }) 0x80001 refl (superpage_gone (Some 1))
+    (inr (1, refl, refl)) (record { from = omega arith; to = omega arith }) 0x80001 (0, record { there = omega arith; kept = refl; same = refl }, refl) (superpage_gone (Some 1))
 
 pub global : CoherentForbids two_harts (history_of shootdowns.superpage_shootdown) 5 1 (global_entry (large_page 0x400000) 0x200)
 global =
-    coherent_forbids two_harts (history_of shootdowns.superpage_shootdown) 5 1 (Unmapped (Space 0) (large_page 0x400000)) (Space 0) (large_page 0x400000) (inl refl)
+    coherent_forbids two_harts (history_of shootdowns.superpage_shootdown) 5 1 (Unmapped (Some 1) (large_page 0x400000)) (Some 1) (large_page 0x400000) (inl refl)
     (record { order = _; is = refl; same_cause = refl; named = refl; acked = refl }) refl (global_entry (large_page 0x400000) 0x200)
     (mapping None 0x400 0x200 (R + W + U + A + D))
     (record { asid = refl; page = record { from = omega arith; to = omega arith }; ppn = refl; flags = refl })
-    (inl refl) (record { from = omega arith; to = omega arith }) 0x80001 refl (superpage_gone None)
+    (inl refl) (record { from = omega arith; to = omega arith }) 0x80001 (0, record { there = omega arith; kept = refl; same = refl }, refl) (superpage_gone None)
 
 pub sender : CoherentForbids two_harts (history_of shootdowns.superpage_shootdown) 5 0 (entry 1 (large_page 0x400000) 0x200)
 sender =
-    coherent_forbids two_harts (history_of shootdowns.superpage_shootdown) 5 0 (Unmapped (Space 0) (large_page 0x400000)) (Space 0) (large_page 0x400000) (inl refl)
+    coherent_forbids two_harts (history_of shootdowns.superpage_shootdown) 5 0 (Unmapped (Some 1) (large_page 0x400000)) (Some 1) (large_page 0x400000) (inl refl)
     (record { order = _; is = refl; same_cause = refl; named = refl; acked = refl }) refl (entry 1 (large_page 0x400000) 0x200)
     (mapping (Some 1) 0x400 0x200 (R + W + U + A + D))
     (record { asid = refl; page = record { from = omega arith; to = omega arith }; ppn = refl; flags = refl })
-    (inr (1, refl, refl)) (record { from = omega arith; to = omega arith }) 0x80001 refl (superpage_gone (Some 1))
+    (inr (1, refl, refl)) (record { from = omega arith; to = omega arith }) 0x80001 (0, record { there = omega arith; kept = refl; same = refl }, refl) (superpage_gone (Some 1))
 
 -- a kernel page is unmapped, for every ASID: from the root of space 1 too nothing of it is mapped
 kernel_page_gone : (asid : Option ℕ)
@@ -91,7 +90,7 @@ kernel_page_gone asid m =
 
 pub kernel_page : (asid : ℕ) → CoherentForbids kernel.spaces_of_two_homes (history_of kernel.kernel_page_until_acknowledged) 10 1 (entry asid (small_page 0xffffffffc0000000) 0x300)
 kernel_page asid =
-    coherent_forbids kernel.spaces_of_two_homes (history_of kernel.kernel_page_until_acknowledged) 10 1 (Unmapped Kernel (small_page 0xffffffffc0000000)) Kernel
+    coherent_forbids kernel.spaces_of_two_homes (history_of kernel.kernel_page_until_acknowledged) 10 1 (Unmapped None (small_page 0xffffffffc0000000)) None
     (small_page 0xffffffffc0000000) (inl refl) (record { order = _; is = refl; same_cause = refl; named = refl; acked = refl }) refl
     (entry asid (small_page 0xffffffffc0000000) 0x300) (mapping (Some asid) 0xffffffffc0000 0x300 (R + W + U + A + D))
     (record { asid = refl; page = record { from = omega arith; to = omega arith }; ppn = refl; flags = refl })
@@ -106,11 +105,11 @@ last_writable_gone m =
 
 pub last_part : CoherentForbids two_harts (history_of shootdowns.read_only_until_acknowledged) 5 1 (entry 1 (small_page 0x5ff000) 0x3ff)
 last_part =
-    coherent_forbids two_harts (history_of shootdowns.read_only_until_acknowledged) 5 1 (Protected (Space 0) (large_page 0x400000)) (Space 0) (large_page 0x400000) (inr refl)
+    coherent_forbids two_harts (history_of shootdowns.read_only_until_acknowledged) 5 1 (Protected (Some 1) (large_page 0x400000)) (Some 1) (large_page 0x400000) (inr refl)
     (record { order = _; is = refl; same_cause = refl; named = refl; acked = refl }) refl (entry 1 (small_page 0x5ff000) 0x3ff)
     (mapping (Some 1) 0x5ff 0x3ff (R + W + U + A + D))
     (record { asid = refl; page = record { from = omega arith; to = omega arith }; ppn = refl; flags = refl })
-    (inr (1, refl, refl)) (record { from = omega arith; to = omega arith }) 0x80001 refl last_writable_gone
+    (inr (1, refl, refl)) (record { from = omega arith; to = omega arith }) 0x80001 (0, record { there = omega arith; kept = refl; same = refl }, refl) last_writable_gone
 
 -- neither a flush nor what is refused ends the promise
 gone_after_flush : ¬ IsMapped two_harts (history_of shootdowns.ticket_used_again) 0x80001 (mapping (Some 1) 0x400 0x200 (R + W + U + A + D))
@@ -121,11 +120,11 @@ gone_after_flush m =
 
 pub flushed : CoherentForbids two_harts (history_of shootdowns.ticket_used_again) 5 1 (entry 1 (large_page 0x400000) 0x200)
 flushed =
-    coherent_forbids two_harts (history_of shootdowns.ticket_used_again) 5 1 (Unmapped (Space 0) (large_page 0x400000)) (Space 0) (large_page 0x400000) (inl refl)
+    coherent_forbids two_harts (history_of shootdowns.ticket_used_again) 5 1 (Unmapped (Some 1) (large_page 0x400000)) (Some 1) (large_page 0x400000) (inl refl)
     (record { order = _; is = refl; same_cause = refl; named = refl; acked = refl }) refl (entry 1 (large_page 0x400000) 0x200)
     (mapping (Some 1) 0x400 0x200 (R + W + U + A + D))
     (record { asid = refl; page = record { from = omega arith; to = omega arith }; ppn = refl; flags = refl })
-    (inr (1, refl, refl)) (record { from = omega arith; to = omega arith }) 0x80001 refl (gone_after_flush)
+    (inr (1, refl, refl)) (record { from = omega arith; to = omega arith }) 0x80001 (0, record { there = omega arith; kept = refl; same = refl }, refl) (gone_after_flush)
 
 gone_after_refusals : ¬ IsMapped two_harts (history_of staleness.refused_changes) 0x80001 (mapping (Some 1) 0x400 0x200 (R + W + U + A + D))
 unfolding kind_of wish_fault path_end edit_of
@@ -135,11 +134,11 @@ gone_after_refusals m =
 
 pub refused_changes : CoherentForbids two_harts (history_of staleness.refused_changes) 5 1 (entry 1 (large_page 0x400000) 0x200)
 refused_changes =
-    coherent_forbids two_harts (history_of staleness.refused_changes) 5 1 (Unmapped (Space 0) (large_page 0x400000)) (Space 0) (large_page 0x400000) (inl refl)
+    coherent_forbids two_harts (history_of staleness.refused_changes) 5 1 (Unmapped (Some 1) (large_page 0x400000)) (Some 1) (large_page 0x400000) (inl refl)
     (record { order = _; is = refl; same_cause = refl; named = refl; acked = refl }) refl (entry 1 (large_page 0x400000) 0x200)
     (mapping (Some 1) 0x400 0x200 (R + W + U + A + D))
     (record { asid = refl; page = record { from = omega arith; to = omega arith }; ppn = refl; flags = refl })
-    (inr (1, refl, refl)) (record { from = omega arith; to = omega arith }) 0x80001 refl (gone_after_refusals)
+    (inr (1, refl, refl)) (record { from = omega arith; to = omega arith }) 0x80001 (0, record { there = omega arith; kept = refl; same = refl }, refl) (gone_after_refusals)
 
 -- nor does a change of the same page of another space
 gone_in_space_0 : ¬ IsMapped shootdowns.spaces_of_one_home (history_of staleness.same_page_of_another_space) 0x80001 (mapping (Some 1) 1 0x100 (R + U + A + D))
@@ -150,11 +149,11 @@ gone_in_space_0 m =
 
 pub other_space : CoherentForbids shootdowns.spaces_of_one_home (history_of staleness.same_page_of_another_space) 15 1 (read_only_entry 1 (small_page 0x1000) 0x100)
 other_space =
-    coherent_forbids shootdowns.spaces_of_one_home (history_of staleness.same_page_of_another_space) 15 1 (Unmapped (Space 0) (small_page 0x1000)) (Space 0) (small_page 0x1000) (inl refl)
+    coherent_forbids shootdowns.spaces_of_one_home (history_of staleness.same_page_of_another_space) 15 1 (Unmapped (Some 1) (small_page 0x1000)) (Some 1) (small_page 0x1000) (inl refl)
     (record { order = _; is = refl; same_cause = refl; named = refl; acked = refl }) refl (read_only_entry 1 (small_page 0x1000) 0x100)
     (mapping (Some 1) 1 0x100 (R + U + A + D))
     (record { asid = refl; page = record { from = omega arith; to = omega arith }; ppn = refl; flags = refl })
-    (inr (1, refl, refl)) (record { from = omega arith; to = omega arith }) 0x80001 refl gone_in_space_0
+    (inr (1, refl, refl)) (record { from = omega arith; to = omega arith }) 0x80001 (0, record { there = omega arith; kept = refl; same = refl }, refl) gone_in_space_0
 
 -- what is mapped for one ASID is not held for every one
 local_alone : ¬ IsMapped two_harts (history_of shootdowns.read_only_until_acknowledged) 0x80001 (mapping None 0x400 0x200 (R + U + A + D))
@@ -164,11 +163,11 @@ local_alone m =
 
 pub for_every_asid : CoherentForbids two_harts (history_of shootdowns.read_only_until_acknowledged) 5 1 (global_read_only_entry (large_page 0x400000) 0x200)
 for_every_asid =
-    coherent_forbids two_harts (history_of shootdowns.read_only_until_acknowledged) 5 1 (Protected (Space 0) (large_page 0x400000)) (Space 0) (large_page 0x400000) (inr refl)
+    coherent_forbids two_harts (history_of shootdowns.read_only_until_acknowledged) 5 1 (Protected (Some 1) (large_page 0x400000)) (Some 1) (large_page 0x400000) (inr refl)
     (record { order = _; is = refl; same_cause = refl; named = refl; acked = refl }) refl (global_read_only_entry (large_page 0x400000) 0x200)
     (mapping None 0x400 0x200 (R + U + A + D))
     (record { asid = refl; page = record { from = omega arith; to = omega arith }; ppn = refl; flags = refl })
-    (inl refl) (record { from = omega arith; to = omega arith }) 0x80001 refl local_alone
+    (inl refl) (record { from = omega arith; to = omega arith }) 0x80001 (0, record { there = omega arith; kept = refl; same = refl }, refl) local_alone
 
 -- where Coherent says nothing
 pub unacknowledged : CoherentAllowsAll two_harts (history_of shootdowns.read_only_until_service) 5 1

@@ -7,20 +7,23 @@ use Rattle.spaces.specs.declared.wishes.Wish.TheVariants as wish
 use Rattle.spaces.specs.declared.faults.MapFault.{MapFault}
 use Rattle.spaces.specs.Edits.{Store}
 use Rattle.spaces.specs.Opening.{opening}
+use Rattle.spaces.specs.declared.places.Place.{Place}
+use Rattle.spaces.specs.declared.places.Place.TheVariants.{Space, Kernel}
+use Rattle.spaces.specs.Holders.{is_held_for, is_word_of, zero_word, emptied, given_back}
 use Rattle.walk.specs.Leads.{Tables}
 use Rattle.shoot.specs.Request.{Message}
 use Rattle.history.specs.Setup.{Setup}
 use Rattle.history.specs.declared.event.Event.{Event}
-use Rattle.history.specs.declared.event.Event.TheVariants.{Map, Unmap, Protect, Switch, Take, ServeFence, Ack}
+use Rattle.history.specs.declared.event.Event.TheVariants.{Map, Unmap, Protect, Switch, Take, ServeFence, Ack, Reclaim}
 use Rattle.history.specs.declared.reply.Reply.{Reply}
 use Rattle.history.specs.declared.reply.Reply.TheVariants.{Leaf, Table, Ok, Taken}
-use Rattle.history.specs.Turns.{Turn, History, is_ok, is_taken, is_leaf, is_table, is_opened, are_same}
+use Rattle.history.specs.Turns.{Turn, History, is_ok, is_taken, is_leaf, is_table, is_table_at, is_opened, are_same}
 use Rattle.history.specs.Mailboxes.{Sent, posts, taken}
-use Rattle.history.specs.Acknowledgements.{count_where}
 use Rattle.history.specs.Service.{served, served_after, has_fenced, fenced_after}
 use Rattle.history.specs.Harts.{space_of, space_after}
-use Rattle.history.specs.Tables.{words_of, words_after, with_store, used_spares, used_after, edit_due}
-use Rattle.history.specs.Occurrences.{Since, SinceOr, IsSwitch, Switches, IsTake, TakesPost, TakesOrAcks, IsServeFence, IsEdit, IsStore, Stores, is_new_table}
+use Rattle.history.specs.Tables.{words_of, words_after, with_store, edit_due}
+use Rattle.history.specs.Spaces.{holder_of, holder_after}
+use Rattle.history.specs.Occurrences.{Since, SinceOr, IsSwitch, Switches, IsTake, TakesPost, TakesOrAcks, IsServeFence, IsEdit, IsStore, Empties, Puts, Stores, IsNewTable, TakesOrGivesBack}
 use Rattle.history.proofs.Splits.{not_sometime-empty, not_since-empty, sometime-here, sometime-later, sometime_cases, since-here, since-later, since_cases, read_since}
 use Rattle.history.proofs.Occurred.{turn_of, ok_is, opened_is}
 use Rattle.history.proofs.OpenOrders.{same_parts, same_with}
@@ -186,6 +189,14 @@ pub fences : (H : History) (h : ℕ) → (has_fenced H h ≡ true) ↔ Since (Is
 fences H h = read_since (IsServeFence h) (IsTake h) (λ H. has_fenced H h ≡ true) false≢true (λ turn H. fenced_step turn.event turn.reply H h (has_fenced H h)) H
 
 -- the words
+abbrev is_map : Event → Bool
+is_map (Map hart place page ppn flags) = true
+is_map _ = false
+
+abbrev is_reclaim : Event → Bool
+is_reclaim (Reclaim hart space) = true
+is_reclaim _ = false
+
 stored_or : (words : Tables) (o : Result Store MapFault) (ppn index word : ℕ) (P Q : Type 0)
     → ((store : Store) → o ≡ Good store → store.ppn ≡ ppn → store.index ≡ index → store.word ≡ word → P)
     → (P → (store : Store) × (o ≡ Good store) × (store.ppn ≡ ppn) × (store.index ≡ index) × (store.word ≡ word))
@@ -208,18 +219,18 @@ stored_or words (Good store) ppn index word P Q new back is must =
 
 module _ (C : Setup) (ppn index word : ℕ) where
   abbrev Stays : Event → Reply → History → Type 0 → Type 0
-  Stays e r H now = now ↔ (IsStore C ppn index word (turn_of e r) H ⊎ ((Stores C ppn index (turn_of e r) H → ⊥) × (words_of C H ppn index ≡ Some word)))
+  Stays e r H now = now ↔ (Puts C ppn index word (turn_of e r) H ⊎ ((Stores C ppn index (turn_of e r) H → ⊥) × (words_of C H ppn index ≡ Some word)))
 
-  same_edit : (H : History) (hart : ℕ) (w : Wish) (h : ℕ) (v : Wish) (o : Result Store MapFault) → hart ≡ h → v ≡ w → edit_due C (words_of C H) (used_spares H h) h v ≡ o
-      → edit_due C (words_of C H) (used_spares H hart) hart w ≡ o
-  same_edit H hart w h v o a b d = ap (λ x. edit_due C (words_of C H) (used_spares H x) x w) a ∙ ap (edit_due C (words_of C H) (used_spares H h) h) (sym b) ∙ d
+  same_edit : (H : History) (hart : ℕ) (w : Wish) (h : ℕ) (v : Wish) (o : Result Store MapFault) → hart ≡ h → v ≡ w → edit_due C (words_of C H) (holder_of H) h v ≡ o
+      → edit_due C (words_of C H) (holder_of H) hart w ≡ o
+  same_edit H hart w h v o a b d = ap (λ x. edit_due C (words_of C H) (holder_of H) x w) a ∙ ap (edit_due C (words_of C H) (holder_of H) h) (sym b) ∙ d
 
-  edit_step : (e : Event) (r : Reply) (H : History) (hart : ℕ) (w : Wish) (t : Bool) → (t ≡ true → IsEdit hart w e r)
+  edit_step : (e : Event) (r : Reply) (H : History) (hart : ℕ) (w : Wish) (t : Bool) → is_reclaim e ≡ false → (t ≡ true → IsEdit hart w e r)
       → ((h : ℕ) (v : Wish) → IsEdit h v e r → (hart ≡ h) × (v ≡ w) × (t ≡ true))
-      → Stays e r H (cond t (with_store (words_of C H) (edit_due C (words_of C H) (used_spares H hart) hart w)) (words_of C H) ppn index ≡ Some word)
-  edit_step e r H hart w true edit back =
-      stored_or (words_of C H) (edit_due C (words_of C H) (used_spares H hart) hart w) ppn index word (IsStore C ppn index word (turn_of e r) H) (Stores C ppn index (turn_of e r) H)
-      (λ store due a b c. record {
+      → Stays e r H (cond t (with_store (words_of C H) (edit_due C (words_of C H) (holder_of H) hart w)) (words_of C H) ppn index ≡ Some word)
+  edit_step e r H hart w true other edit back =
+      stored_or (words_of C H) (edit_due C (words_of C H) (holder_of H) hart w) ppn index word (Puts C ppn index word (turn_of e r) H) (Stores C ppn index (turn_of e r) H)
+      (λ store due a b c. inl (record {
         hart = hart;
         wanted = w;
         store = store;
@@ -228,9 +239,12 @@ module _ (C : Setup) (ppn index word : ℕ) where
         same_table = a;
         same_index = b;
         same_word = c;
-      })
-      (λ p. let b = back p.hart p.wanted p.edit in (p.store, same_edit H hart w p.hart p.wanted _ b.0 b.1 p.due, p.same_table, p.same_index, p.same_word))
-      (λ store due a b. (
+      }))
+      (λ q. elim q [
+        | inl p ↦ let b = back p.hart p.wanted p.edit in (p.store, same_edit H hart w p.hart p.wanted _ b.0 b.1 p.due, p.same_table, p.same_index, p.same_word)
+        | inr p ↦ absurd (false≢true (sym other ∙ ap is_reclaim p.0.event))
+      ])
+      (λ store due a b. inl (
         store.word,
         record {
           hart = hart;
@@ -243,10 +257,36 @@ module _ (C : Setup) (ppn index word : ℕ) where
           same_word = refl;
         },
       ))
-      (λ q. let p = q.1 in let b = back p.hart p.wanted p.edit in (p.store, same_edit H hart w p.hart p.wanted _ b.0 b.1 p.due, p.same_table, p.same_index))
-  edit_step e r H hart w false edit back =
-      by_old (words_of C H ppn index) (Some word) (IsStore C ppn index word (turn_of e r) H) (Stores C ppn index (turn_of e r) H)
-      (λ p. false≢true (back p.hart p.wanted p.edit).2) (λ q. false≢true (back q.1.hart q.1.wanted q.1.edit).2)
+      (λ q. elim q [
+        | inl x ↦ let p = x.1 in let b = back p.hart p.wanted p.edit in (p.store, same_edit H hart w p.hart p.wanted _ b.0 b.1 p.due, p.same_table, p.same_index)
+        | inr p ↦ absurd (false≢true (sym other ∙ ap is_reclaim p.event))
+      ])
+  edit_step e r H hart w false other edit back =
+      by_old (words_of C H ppn index) (Some word) (Puts C ppn index word (turn_of e r) H) (Stores C ppn index (turn_of e r) H)
+      (λ q. elim q [ inl p ↦ false≢true (back p.hart p.wanted p.edit).2 | inr p ↦ false≢true (sym other ∙ ap is_reclaim p.0.event) ])
+      (λ q. elim q [ inl x ↦ false≢true (back x.1.hart x.1.wanted x.1.edit).2 | inr p ↦ false≢true (sym other ∙ ap is_reclaim p.event) ])
+
+  empty_step : (hart s : ℕ) (r : Reply) (H : History) (t : Bool) → is_ok r ≡ t
+      → Stays (Reclaim hart s) r H (cond t (emptied C.layout (holder_of H) s (words_of C H)) (words_of C H) ppn index ≡ Some word)
+  empty_step hart s r H true o =
+      by_cond (is_word_of C.layout (holder_of H) s ppn index) (zero_word (words_of C H ppn index)) (words_of C H ppn index) (Some word)
+      (Puts C ppn index word (turn_of (Reclaim hart s) r) H) (Stores C ppn index (turn_of (Reclaim hart s) r) H)
+      (λ t e. inr (record { hart = hart; space = s; event = refl; accepted = ok_is r o; own = t }, e))
+      (λ q. elim q [
+        | inl p ↦ absurd p.edit
+        | inr p ↦ (own_of p.0, p.1)
+      ])
+      (λ t. inr (inr (record { hart = hart; space = s; event = refl; accepted = ok_is r o; own = t })))
+      (λ q. elim q [ inl x ↦ absurd x.1.edit | inr p ↦ own_of p ])
+    where
+      own_of : Empties C ppn index (turn_of (Reclaim hart s) r) H → is_word_of C.layout (holder_of H) s ppn index ≡ true
+      own_of p = let same : Reclaim hart s ≡ Reclaim p.hart p.space = p.event in
+          let at : s ≡ p.space = cc in
+          ap (λ x. is_word_of C.layout (holder_of H) x ppn index) at ∙ p.own
+  empty_step hart s r H false o =
+      by_old (words_of C H ppn index) (Some word) (Puts C ppn index word (turn_of (Reclaim hart s) r) H) (Stores C ppn index (turn_of (Reclaim hart s) r) H)
+      (λ q. elim q [ inl p ↦ p.edit | inr p ↦ false≢true (sym o ∙ ap is_ok p.0.accepted) ])
+      (λ q. elim q [ inl x ↦ x.1.edit | inr p ↦ false≢true (sym o ∙ ap is_ok p.accepted) ])
 
   mapped_is : (r : Reply) → (is_table r || is_leaf r) ≡ true → (r ≡ Leaf) ⊎ ((table : ℕ) × (r ≡ Table table))
   mapped_is Leaf e = inl refl
@@ -256,26 +296,78 @@ module _ (C : Setup) (ppn index word : ℕ) where
   mapped_from : (r : Reply) → (r ≡ Leaf) ⊎ ((table : ℕ) × (r ≡ Table table)) → (is_table r || is_leaf r) ≡ true
   mapped_from r m = elim m [ inl l ↦ ap (λ r. is_table r || is_leaf r) l | inr t ↦ ap (λ r. is_table r || is_leaf r) t.1 ]
 
-  word_step : (e : Event) (r : Reply) (H : History) → Stays e r H (words_after C e r (words_of C H) (used_spares H) ppn index ≡ Some word)
+  word_step : (e : Event) (r : Reply) (H : History) → Stays e r H (words_after C e r (words_of C H) (holder_of H) ppn index ≡ Some word)
   word_step (Map hart place page ppn' flags) r H =
-      edit_step (Map hart place page ppn' flags) r H hart (wish.Map place page ppn' flags) (is_table r || is_leaf r) (λ t. (refl, refl, mapped_is r t)) (λ h v p. (p.0, p.1, mapped_from r p.2))
+      edit_step (Map hart place page ppn' flags) r H hart (wish.Map place page ppn' flags) (is_table r || is_leaf r) refl (λ t. (refl, refl, mapped_is r t)) (λ h v p. (p.0, p.1, mapped_from r p.2))
   word_step (Unmap hart place page named) r H =
-      edit_step (Unmap hart place page named) r H hart (wish.Unmap place page) (is_opened r) (λ t. (refl, refl, opened_is r t)) (λ h v p. (p.0, p.1, ap is_opened p.2.1))
+      edit_step (Unmap hart place page named) r H hart (wish.Unmap place page) (is_opened r) refl (λ t. (refl, refl, opened_is r t)) (λ h v p. (p.0, p.1, ap is_opened p.2.1))
   word_step (Protect hart place page flags named) r H =
-      edit_step (Protect hart place page flags named) r H hart (wish.Protect place page flags) (is_opened r) (λ t. (refl, refl, opened_is r t)) (λ h v p. (p.0, p.1, ap is_opened p.2.1))
+      edit_step (Protect hart place page flags named) r H hart (wish.Protect place page flags) (is_opened r) refl (λ t. (refl, refl, opened_is r t)) (λ h v p. (p.0, p.1, ap is_opened p.2.1))
+  word_step (Reclaim hart s) r H = empty_step hart s r H (is_ok r) refl
   word_step e r H =
-      by_old (words_of C H ppn index) (Some word) (IsStore C ppn index word (turn_of e r) H) (Stores C ppn index (turn_of e r) H) (λ p. p.edit) (λ q. q.1.edit)
+      by_old (words_of C H ppn index) (Some word) (Puts C ppn index word (turn_of e r) H) (Stores C ppn index (turn_of e r) H)
+      (λ q. elim q [ inl p ↦ p.edit | inr p ↦ false≢true (ap is_reclaim p.0.event) ])
+      (λ q. elim q [ inl x ↦ x.1.edit | inr p ↦ false≢true (ap is_reclaim p.event) ])
 
-  pub word_of : (H : History) → (words_of C H ppn index ≡ Some word) ↔ SinceOr (IsStore C ppn index word) (Stores C ppn index) (opening C.layout ppn index ≡ Some word) H
-  word_of H = read_since_or (IsStore C ppn index word) (Stores C ppn index) (λ H. words_of C H ppn index ≡ Some word) (opening C.layout ppn index ≡ Some word)
+  pub word_of : (H : History) → (words_of C H ppn index ≡ Some word) ↔ SinceOr (Puts C ppn index word) (Stores C ppn index) (opening C.layout ppn index ≡ Some word) H
+  word_of H = read_since_or (Puts C ppn index word) (Stores C ppn index) (λ H. words_of C H ppn index ≡ Some word) (opening C.layout ppn index ≡ Some word)
       (λ e. e, λ e. e) (λ turn H. word_step turn.event turn.reply H) H
 
 -- the spare frames in use
-used_step : (e : Event) (r : Reply) (h old : ℕ) → used_after e r h old ≡ cond (is_new_table h (turn_of e r)) 1 0 + old
-used_step (Map hart place page ppn flags) r h old =
-    by_test (λ t. cond t (old + 1) old ≡ cond t 1 0 + old) (is_table r && eqb hart h) (λ _. omega arith) (λ _. omega arith)
-used_step e r h old = rw (and_false (is_table r)) (omega arith)
+abbrev HeldOr : ℕ → Place → Event → Reply → History → Type 0 → Type 0
+HeldOr ppn place e r H now = now ↔ (IsNewTable ppn place (turn_of e r) H ⊎ ((TakesOrGivesBack ppn (turn_of e r) H → ⊥) × (holder_of H ppn ≡ Some place)))
 
-pub used : (H : History) (h : ℕ) → used_spares H h ≡ count_where (is_new_table h) H
-used [] h = refl
-used (turn ∷ H) h = used_step turn.event turn.reply h (used_spares H h) ∙ ap (λ n. cond (is_new_table h turn) 1 0 + n) (used H h)
+table_is : (r : Reply) (ppn : ℕ) → is_table_at r ppn ≡ true → r ≡ Table ppn
+table_is (Table q) ppn e = ap Table (eqb-true q ppn e)
+table_is _ ppn e = absurd (false≢true e)
+
+table_at : (r : Reply) (ppn : ℕ) → r ≡ Table ppn → is_table_at r ppn ≡ true
+table_at r ppn e = rw e (eq-eqb ppn ppn refl)
+
+held_is : (o : Option Place) (s : ℕ) → is_held_for o (Space s) ≡ true → o ≡ Some (Space s)
+held_is None s e = absurd (false≢true e)
+held_is (Some (Space t)) s e = ap (λ x. Some (Space x)) (eqb-true t s e)
+held_is (Some Kernel) s e = absurd (false≢true e)
+
+held_for : (o : Option Place) (s : ℕ) → o ≡ Some (Space s) → is_held_for o (Space s) ≡ true
+held_for o s e = rw e (eq-eqb s s refl)
+
+back_step : (hart s : ℕ) (r : Reply) (H : History) (ppn : ℕ) (place : Place) (t : Bool) → is_ok r ≡ t
+    → HeldOr ppn place (Reclaim hart s) r H (cond t (given_back (holder_of H ppn) s) (holder_of H ppn) ≡ Some place)
+back_step hart s r H ppn place true o =
+    by_cond (is_held_for (holder_of H ppn) (Space s)) None (holder_of H ppn) (Some place)
+    (IsNewTable ppn place (turn_of (Reclaim hart s) r) H) (TakesOrGivesBack ppn (turn_of (Reclaim hart s) r) H)
+    (λ t e. cc)
+    (λ p. absurd (false≢true (ap is_map p.event)))
+    (λ t. inr (inr (record { hart = hart; space = s; event = refl; accepted = ok_is r o; was = held_is (holder_of H ppn) s t })))
+    (λ q. elim q [
+      | inl n ↦ absurd (false≢true (ap is_map n.1.event))
+      | inr g ↦ let same : Reclaim hart s ≡ Reclaim g.hart g.space = g.event in
+          let at : g.space ≡ s = cc in
+          held_for (holder_of H ppn) s (g.was ∙ ap (λ x. Some (Space x)) at)
+    ])
+back_step hart s r H ppn place false o =
+    by_old (holder_of H ppn) (Some place) (IsNewTable ppn place (turn_of (Reclaim hart s) r) H) (TakesOrGivesBack ppn (turn_of (Reclaim hart s) r) H)
+    (λ p. false≢true (ap is_map p.event))
+    (λ q. elim q [ inl n ↦ false≢true (ap is_map n.1.event) | inr g ↦ false≢true (sym o ∙ ap is_ok g.accepted) ])
+
+held_step : (e : Event) (r : Reply) (H : History) (ppn : ℕ) (place : Place) → HeldOr ppn place e r H (holder_after e r ppn (holder_of H ppn) ≡ Some place)
+held_step (Map hart other page to flags) r H ppn place =
+    by_cond (is_table_at r ppn) (Some other) (holder_of H ppn) (Some place)
+    (IsNewTable ppn place (turn_of (Map hart other page to flags) r) H) (TakesOrGivesBack ppn (turn_of (Map hart other page to flags) r) H)
+    (λ t e. let same : other ≡ place = cc in
+    record { hart = hart; page = page; to = to; flags = flags; event = ap (λ x. Map hart x page to flags) same; answer = table_is r ppn t })
+    (λ p. let same : Map hart other page to flags ≡ Map p.hart place p.page p.to p.flags = p.event in
+    let at : other ≡ place = cc in
+    (table_at r ppn p.answer, ap Some at))
+    (λ t. inr (inl (other, record { hart = hart; page = page; to = to; flags = flags; event = refl; answer = table_is r ppn t })))
+    (λ q. elim q [ inl n ↦ table_at r ppn n.1.answer | inr g ↦ absurd (false≢true (ap is_reclaim g.event)) ])
+held_step (Reclaim hart s) r H ppn place = back_step hart s r H ppn place (is_ok r) refl
+held_step e r H ppn place =
+    by_old (holder_of H ppn) (Some place) (IsNewTable ppn place (turn_of e r) H) (TakesOrGivesBack ppn (turn_of e r) H)
+    (λ p. false≢true (ap is_map p.event))
+    (λ q. elim q [ inl n ↦ false≢true (ap is_map n.1.event) | inr g ↦ false≢true (ap is_reclaim g.event) ])
+
+pub held : (H : History) (ppn : ℕ) (place : Place) → (holder_of H ppn ≡ Some place) ↔ Since (IsNewTable ppn place) (TakesOrGivesBack ppn) H
+held H ppn place = read_since (IsNewTable ppn place) (TakesOrGivesBack ppn) (λ H. holder_of H ppn ≡ Some place) (λ e. cc)
+    (λ turn H. held_step turn.event turn.reply H ppn place) H

@@ -24,3 +24,4 @@ mod StillTranslated
 mod SetupFacts
 mod LeastFree
 mod Lawfully
+mod RetireRows

@@ -3,8 +3,6 @@ use Rattle.std.proofs.Common.{◌≡◌, ℕ, Bool, true, false, ◌&&◌, ◌||
 use Rattle.std.proofs.lemmas.Bool.{or_cases, and_parts, eqb-true, eq-eqb, false≢true}
 use Rattle.std.specs.Prelude.{◌↔◌, is_none}
 use Rattle.pte.specs.Address.{Span}
-use Rattle.spaces.specs.declared.places.Place.{Place}
-use Rattle.spaces.specs.declared.places.Place.TheVariants.{Space, Kernel}
 use Rattle.tlb.specs.Service.{overlaps}
 use Rattle.history.specs.Setup.{Setup}
 use Rattle.history.specs.declared.event.Event.{Event}
@@ -12,11 +10,12 @@ use Rattle.history.specs.declared.event.Event.TheVariants.{Map, Unmap, Protect, 
 use Rattle.history.specs.declared.reply.Reply.{Reply}
 use Rattle.history.specs.declared.reply.Reply.TheVariants.{Leaf, Opened, Ok, Done, Waiting}
 use Rattle.history.specs.Turns.{Turn, History, is_ok, is_progress, is_leaf, is_opened, are_same}
+use Rattle.history.specs.Spaces.{asid_in}
 use Rattle.history.specs.Orders.{Order, Cause, Unmapped, Protected, Flushed, open_order, is_order, order_at}
 use Rattle.history.specs.Mailboxes.{Sent, is_closed, closed_after}
 use Rattle.history.specs.Service.{served, is_served}
 use Rattle.history.specs.Acknowledgements.{is_posted, posted_after, is_acked, acked_after, is_collected, collected_after}
-use Rattle.history.specs.Staleness.{IsChange, is_same_place, is_over, is_over_order, is_mapped_anew, anew_after, is_superseded, superseded_after}
+use Rattle.history.specs.Staleness.{IsChange, is_same_asid, is_over, is_over_order, is_mapped_anew, anew_after, is_superseded, superseded_after}
 use Rattle.history.specs.Occurrences.{Sometime, IsPost, IsProgress, IsAckSelf, Acknowledges, Collects, IsOfPage, IsMapOver, Supersedes, IsClose}
 use Rattle.history.proofs.Splits.{read_sometime}
 
@@ -230,45 +229,45 @@ closed H s h = read_sometime (IsClose s h) (λ H. is_closed H s h ≡ true) (λ 
     )) H
 
 -- the page of an order
-place_is : (a b : Place) → is_same_place a b ≡ true → a ≡ b
-place_is (Space s) (Space t) e = ap Space (eqb-true s t e)
-place_is (Space s) Kernel e = absurd (false≢true e)
-place_is Kernel (Space t) e = absurd (false≢true e)
-place_is Kernel Kernel e = refl
+asid_is : (a b : Option ℕ) → is_same_asid a b ≡ true → a ≡ b
+asid_is (Some s) (Some t) e = ap Some (eqb-true s t e)
+asid_is (Some s) None e = absurd (false≢true e)
+asid_is None (Some t) e = absurd (false≢true e)
+asid_is None None e = refl
 
-place_same : (a : Place) → is_same_place a a ≡ true
-place_same (Space s) = eq-eqb s s refl
-place_same Kernel = refl
+asid_same : (a : Option ℕ) → is_same_asid a a ≡ true
+asid_same (Some s) = eq-eqb s s refl
+asid_same None = refl
 
-over_is : (cause : Cause) (place : Place) (page : Span) → is_over cause place page ≡ true → (changed : Span) × IsChange cause place changed × (overlaps changed page ≡ true)
-over_is (Unmapped other changed) place page e =
-    let p = and_parts (is_same_place other place) (overlaps changed page) e in
-    (changed, inl (ap (λ x. Unmapped x changed) (place_is other place p.0)), p.1)
-over_is (Protected other changed) place page e =
-    let p = and_parts (is_same_place other place) (overlaps changed page) e in
-    (changed, inr (ap (λ x. Protected x changed) (place_is other place p.0)), p.1)
-over_is Flushed place page e = absurd (false≢true e)
+over_is : (cause : Cause) (of : Option ℕ) (page : Span) → is_over cause of page ≡ true → (changed : Span) × IsChange cause of changed × (overlaps changed page ≡ true)
+over_is (Unmapped other changed) of page e =
+    let p = and_parts (is_same_asid other of) (overlaps changed page) e in
+    (changed, inl (ap (λ x. Unmapped x changed) (asid_is other of p.0)), p.1)
+over_is (Protected other changed) of page e =
+    let p = and_parts (is_same_asid other of) (overlaps changed page) e in
+    (changed, inr (ap (λ x. Protected x changed) (asid_is other of p.0)), p.1)
+over_is Flushed of page e = absurd (false≢true e)
 
-over_from : (cause : Cause) (place : Place) (page changed : Span) → IsChange cause place changed → overlaps changed page ≡ true → is_over cause place page ≡ true
-over_from cause place page changed c o = elim c [ inl u ↦ rw (u, place_same place) o | inr p ↦ rw (p, place_same place) o ]
+over_from : (cause : Cause) (of : Option ℕ) (page changed : Span) → IsChange cause of changed → overlaps changed page ≡ true → is_over cause of page ≡ true
+over_from cause of page changed c o = elim c [ inl u ↦ rw (u, asid_same of) o | inr p ↦ rw (p, asid_same of) o ]
 
-page_at : (C : Setup) (k : ℕ) (place : Place) (page : Span) (H : History) (o : Option Order) → order_at C H k ≡ o → is_over_order o place page ≡ true → IsOfPage C k place page H
-page_at C k place page H None q e = absurd (false≢true e)
-page_at C k place page H (Some order) q e =
-    let p = over_is order.cause place page e in
+page_at : (C : Setup) (k : ℕ) (of : Option ℕ) (page : Span) (H : History) (o : Option Order) → order_at C H k ≡ o → is_over_order o of page ≡ true → IsOfPage C k of page H
+page_at C k of page H None q e = absurd (false≢true e)
+page_at C k of page H (Some order) q e =
+    let p = over_is order.cause of page e in
     record { order = order; changed = p.0; is = q; cause = p.1; over = p.2 }
 
-page_is : (C : Setup) (k : ℕ) (place : Place) (page : Span) (H : History) → is_over_order (order_at C H k) place page ≡ true → IsOfPage C k place page H
-page_is C k place page H e = page_at C k place page H (order_at C H k) refl e
+page_is : (C : Setup) (k : ℕ) (of : Option ℕ) (page : Span) (H : History) → is_over_order (order_at C H k) of page ≡ true → IsOfPage C k of page H
+page_is C k of page H e = page_at C k of page H (order_at C H k) refl e
 
-page_from : (C : Setup) (k : ℕ) (place : Place) (page : Span) (H : History) → IsOfPage C k place page H → is_over_order (order_at C H k) place page ≡ true
-page_from C k place page H p = rw p.is (over_from p.order.cause place page p.changed p.cause p.over)
+page_from : (C : Setup) (k : ℕ) (of : Option ℕ) (page : Span) (H : History) → IsOfPage C k of page H → is_over_order (order_at C H k) of page ≡ true
+page_from C k of page H p = rw p.is (over_from p.order.cause of page p.changed p.cause p.over)
 
 -- mapped anew
 anew_to : (C : Setup) (e : Event) (r : Reply) (H : History) (k : ℕ) (old : Bool) → anew_after C e r H k old ≡ true → IsMapOver C k (turn_of e r) H ⊎ (old ≡ true)
 anew_to C (Map hart place page ppn flags) r H k old e =
-    elim (or_cases (is_leaf r && is_over_order (order_at C H k) place page) old e) [
-      | inl n ↦ let p = and_parts (is_leaf r) (is_over_order (order_at C H k) place page) n in
+    elim (or_cases (is_leaf r && is_over_order (order_at C H k) (asid_in C H place) page) old e) [
+      | inl n ↦ let p = and_parts (is_leaf r) (is_over_order (order_at C H k) (asid_in C H place) page) n in
           inl (record {
             hart = hart;
             place = place;
@@ -277,7 +276,7 @@ anew_to C (Map hart place page ppn flags) r H k old e =
             flags = flags;
             event = refl;
             stored = leaf_is r p.0;
-            of_page = page_is C k place page H p.1;
+            of_page = page_is C k (asid_in C H place) page H p.1;
           })
       | inr o ↦ inr o
     ]
@@ -288,7 +287,7 @@ anew_stays C (Map hart place page ppn flags) r H k old e = old_or _ old e
 anew_stays C _ r H k old e = e
 
 anew_by : (C : Setup) (turn : Turn) (H : History) (k : ℕ) (old : Bool) → IsMapOver C k turn H → anew_after C turn.event turn.reply H k old ≡ true
-anew_by C turn H k old p = rw (p.event, p.stored, page_from C k p.place p.page H p.of_page) refl
+anew_by C turn H k old p = rw (p.event, p.stored, page_from C k (asid_in C H p.place) p.page H p.of_page) refl
 
 pub mapped_anew : (C : Setup) (H : History) (k : ℕ) → (is_mapped_anew C H k ≡ true) ↔ Sometime (IsMapOver C k) H
 mapped_anew C H k = read_sometime (IsMapOver C k) (λ H. is_mapped_anew C H k ≡ true) (λ e. false≢true e)
@@ -300,8 +299,8 @@ mapped_anew C H k = read_sometime (IsMapOver C k) (λ H. is_mapped_anew C H k �
 -- superseded
 superseded_to : (C : Setup) (e : Event) (r : Reply) (H : History) (k : ℕ) (old : Bool) → superseded_after C e r H k old ≡ true → Supersedes C k (turn_of e r) H ⊎ (old ≡ true)
 superseded_to C (Unmap hart place page named) r H k old e =
-    elim (or_cases (is_opened r && is_over_order (order_at C H k) place page) old e) [
-      | inl n ↦ let p = and_parts (is_opened r) (is_over_order (order_at C H k) place page) n in
+    elim (or_cases (is_opened r && is_over_order (order_at C H k) (asid_in C H place) page) old e) [
+      | inl n ↦ let p = and_parts (is_opened r) (is_over_order (order_at C H k) (asid_in C H place) page) n in
           let o = opened_is r p.0 in
           inl (inl (record {
             hart = hart;
@@ -311,13 +310,13 @@ superseded_to C (Unmap hart place page named) r H k old e =
             ticket = o.0;
             event = refl;
             accepted = o.1;
-            of_page = page_is C k place page H p.1;
+            of_page = page_is C k (asid_in C H place) page H p.1;
           }))
       | inr o ↦ inr o
     ]
 superseded_to C (Protect hart place page flags named) r H k old e =
-    elim (or_cases (is_opened r && is_over_order (order_at C H k) place page) old e) [
-      | inl n ↦ let p = and_parts (is_opened r) (is_over_order (order_at C H k) place page) n in
+    elim (or_cases (is_opened r && is_over_order (order_at C H k) (asid_in C H place) page) old e) [
+      | inl n ↦ let p = and_parts (is_opened r) (is_over_order (order_at C H k) (asid_in C H place) page) n in
           let o = opened_is r p.0 in
           inl (inr (record {
             hart = hart;
@@ -328,7 +327,7 @@ superseded_to C (Protect hart place page flags named) r H k old e =
             ticket = o.0;
             event = refl;
             accepted = o.1;
-            of_page = page_is C k place page H p.1;
+            of_page = page_is C k (asid_in C H place) page H p.1;
           }))
       | inr o ↦ inr o
     ]
@@ -341,8 +340,8 @@ superseded_stays C _ r H k old e = e
 
 superseded_by : (C : Setup) (turn : Turn) (H : History) (k : ℕ) (old : Bool) → Supersedes C k turn H → superseded_after C turn.event turn.reply H k old ≡ true
 superseded_by C turn H k old s = elim s [
-  | inl p ↦ rw (p.event, p.accepted, page_from C k p.place p.page H p.of_page) refl
-  | inr p ↦ rw (p.event, p.accepted, page_from C k p.place p.page H p.of_page) refl
+  | inl p ↦ rw (p.event, p.accepted, page_from C k (asid_in C H p.place) p.page H p.of_page) refl
+  | inr p ↦ rw (p.event, p.accepted, page_from C k (asid_in C H p.place) p.page H p.of_page) refl
 ]
 
 pub superseded : (C : Setup) (H : History) (k : ℕ) → (is_superseded C H k ≡ true) ↔ Sometime (Supersedes C k) H

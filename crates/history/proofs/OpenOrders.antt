@@ -5,7 +5,7 @@ use Rattle.std.specs.Prelude.{◌↔◌}
 use Rattle.shoot.proofs.HartSets.{by_test}
 use Rattle.history.specs.Setup.{Setup}
 use Rattle.history.specs.declared.event.Event.{Event}
-use Rattle.history.specs.declared.event.Event.TheVariants.{Unmap, Protect, Flush, Finish}
+use Rattle.history.specs.declared.event.Event.TheVariants.{Unmap, Protect, Flush, Retire, Finish}
 use Rattle.history.specs.declared.reply.Reply.{Reply}
 use Rattle.history.specs.declared.reply.Reply.TheVariants.{Opened, Ok}
 use Rattle.history.specs.Turns.{History, is_ok, opened_ticket, are_same}
@@ -24,7 +24,7 @@ order_cases (Some new) place k old order e =
 
 pub order_below : (C : Setup) (H : History) (k : ℕ) (order : Order) → order_at C H k ≡ Some order → k < length H
 order_below C [] k order e = absurd cc
-order_below C (turn ∷ H) k order e = elim (order_cases (opened_order C turn.event turn.reply) (length H) k (order_at C H k) order e) [
+order_below C (turn ∷ H) k order e = elim (order_cases (opened_order C turn.event turn.reply H) (length H) k (order_at C H k) order e) [
   | inl n ↦ let at : length H ≡ k = n.0 in omega arith
   | inr old ↦ let l = order_below C H k order old in omega arith
 ]
@@ -39,7 +39,7 @@ order_new o place k old order at is = rw (is, at, eq-eqb k k refl) refl
 pub placed : (C : Setup) (H : History) (k : ℕ) (order : Order) → (order_at C H k ≡ Some order) ↔ Sometime (OpensAt C k order) H
 placed C H k order = read_sometime (OpensAt C k order) (λ H. order_at C H k ≡ Some order) (λ e. cc)
     (λ turn H. (
-      λ e. elim (order_cases (opened_order C turn.event turn.reply) (length H) k (order_at C H k) order e) [
+      λ e. elim (order_cases (opened_order C turn.event turn.reply H) (length H) k (order_at C H k) order e) [
         | inl n ↦ inl (record { place = n.0; opened = n.1 })
         | inr old ↦ inr old
       ],
@@ -122,6 +122,7 @@ open_to : (e : Event) (r : Reply) (H : History) (sender ticket k : ℕ) (old : O
 open_to (Unmap hart place page named) r H sender ticket k old h = order_to (Unmap hart place page named) r H hart sender ticket k old (λ e. e) (λ e. e) refl h
 open_to (Protect hart place page flags named) r H sender ticket k old h = order_to (Protect hart place page flags named) r H hart sender ticket k old (λ e. e) (λ e. e) refl h
 open_to (Flush hart scope named) r H sender ticket k old h = order_to (Flush hart scope named) r H hart sender ticket k old (λ e. e) (λ e. e) refl h
+open_to (Retire hart space) r H sender ticket k old h = order_to (Retire hart space) r H hart sender ticket k old (λ e. e) (λ e. e) refl h
 open_to (Finish hart number) r H sender ticket k old h =
     by_test (λ t. cond t None old ≡ Some k → Case (Finish hart number) r H sender ticket k old) (is_ok r && are_same hart number sender ticket)
     (λ _ h. absurd cc)
@@ -138,6 +139,7 @@ open_from : (e : Event) (r : Reply) (H : History) (sender ticket k : ℕ) (old :
 open_from (Unmap hart place page named) r H sender ticket k old c = order_from (Unmap hart place page named) r H hart sender ticket k old (λ e. e) (λ e. e) c
 open_from (Protect hart place page flags named) r H sender ticket k old c = order_from (Protect hart place page flags named) r H hart sender ticket k old (λ e. e) (λ e. e) c
 open_from (Flush hart scope named) r H sender ticket k old c = order_from (Flush hart scope named) r H hart sender ticket k old (λ e. e) (λ e. e) c
+open_from (Retire hart space) r H sender ticket k old c = order_from (Retire hart space) r H hart sender ticket k old (λ e. e) (λ e. e) c
 open_from (Finish hart number) r H sender ticket k old c = elim c [
   | inl p ↦ absurd p.0.by_sender
   | inr o ↦ by_test (λ t. cond t None old ≡ Some k) (is_ok r && are_same hart number sender ticket)

@@ -1,6 +1,6 @@
 -- What an acknowledgement forbids a TLB to hold, and where it says nothing, computed from the histories of worked runs.
 use Rattle.pte.specs.declared.scheme.Scheme.{Scheme}
-use Rattle.std.proofs.Common.{◌≡◌, ℕ, zero, suc, ◌+◌, ◌*◌, ◌%◌, Bool, true, false, List, [], ◌∷◌, Some, None, Ok, Err, ◌==◌, IsTrue, refl, sym, ap, subst, ◌∙◌, arith}
+use Rattle.std.proofs.Common.{◌≡◌, ℕ, zero, suc, ◌+◌, ◌*◌, ◌%◌, Bool, true, false, List, [], ◌∷◌, Some, None, Ok, Err, ◌==◌, IsTrue, refl, sym, ap, subst, ◌∙◌, arith, Option}
 use Rattle.std.specs.Prelude.{Contains, Result}
 use Rattle.std.proofs.lemmas.Bool.{true≢false, eq-eqb}
 use Rattle.pte.specs.Address.{Span, IsPage, IsCanonical, Holds, bytes_of, level_count}
@@ -17,7 +17,6 @@ use Rattle.walk.specs.Stage.{start_of}
 use Rattle.walk.specs.Loads.{answer_after}
 use Rattle.walk.proofs.MappedAnswers.{mapped_answer}
 use Rattle.walk.proofs.Unique.{level_count_loads}
-use Rattle.spaces.specs.declared.places.Place.{Place}
 use Rattle.tlb.specs.declared.store.Entry.{Entry}
 use Rattle.tlb.specs.Entries.{is_match}
 use Rattle.tlb.specs.Answer.{address_found}
@@ -28,7 +27,7 @@ use Rattle.history.specs.Turns.{History}
 use Rattle.history.specs.Orders.{Order, Cause, Unmapped, order_at}
 use Rattle.history.specs.Acknowledgements.{is_acked}
 use Rattle.history.specs.Due.{names}
-use Rattle.history.specs.Staleness.{is_mapped_anew, is_superseded, HasAnswered, IsAsidOf, IsForPlace, IsRootOf, IsMapped, IsChange, Clear}
+use Rattle.history.specs.Staleness.{is_mapped_anew, is_superseded, HasAnswered, IsAsidOf, IsForAsid, IsRootOf, IsMapped, IsChange, Clear}
 use Rattle.history.specs.Counterexamples.{ClearForbids, ClearAllowsAll, CoherentForbids, CoherentAllowsAll}
 
 -- what an access of a mapped page finds
@@ -92,49 +91,49 @@ one_translates entries e asid va is aligned on =
 
 module _ (C : Setup) (H : History) (k h : ℕ) where
   -- where h has answered the unmapping and the page is not mapped anew, no entry of the page may be held
-  pub clear_forbids : (place : Place) (page : Span) → HasAnswered C H k h (Unmapped place page) → is_mapped_anew C H k ≡ false
-      → (asid va : ℕ) → IsAsidOf C place asid → Holds page va → (e : Entry) → IsPage e.page → IsTrue (is_match asid va e) → ClearForbids C H k h e
-  clear_forbids place page answered old asid va for held e aligned on entries at clear =
-      clear place page answered old asid va for held (match_translates entries asid va e aligned at on)
+  pub clear_forbids : (of : Option ℕ) (page : Span) → HasAnswered C H k h (Unmapped of page) → is_mapped_anew C H k ≡ false
+      → (asid va : ℕ) → IsAsidOf of asid → Holds page va → (e : Entry) → IsPage e.page → IsTrue (is_match asid va e) → ClearForbids C H k h e
+  clear_forbids of page answered old asid va for held e aligned on entries at clear =
+      clear of page answered old asid va for held (match_translates entries asid va e aligned at on)
 
   pub unacked_clear : is_acked C H k h ≡ false → ClearAllowsAll C H k h
-  unacked_clear none entries place page answered = absurd (true≢false (sym answered.acked ∙ none))
+  unacked_clear none entries of page answered = absurd (true≢false (sym answered.acked ∙ none))
 
   -- an order that followed no unmapping
-  pub other_cause_clear : (order : Order) → order_at C H k ≡ Some order → ((place : Place) (page : Span) → order.cause ≡ Unmapped place page → ⊥) → ClearAllowsAll C H k h
-  other_cause_clear order is other entries place page answered =
-      absurd (other place page (ap cause_of (some-inj (sym is ∙ answered.is)) ∙ answered.same_cause))
+  pub other_cause_clear : (order : Order) → order_at C H k ≡ Some order → ((of : Option ℕ) (page : Span) → order.cause ≡ Unmapped of page → ⊥) → ClearAllowsAll C H k h
+  other_cause_clear order is other entries of page answered =
+      absurd (other of page (ap cause_of (some-inj (sym is ∙ answered.is)) ∙ answered.same_cause))
 
   -- entries that translate nothing of the page for its address space may be held
-  pub clear_allows : (order : Order) (place : Place) (page : Span) → order_at C H k ≡ Some order → order.cause ≡ Unmapped place page → (entries : List Entry)
-      → ((asid va : ℕ) → IsAsidOf C place asid → Holds page va → ¬ Translates (IsMappedBy entries) asid va) → Clear C H entries k h
-  clear_allows order place page is cause entries none place' page' answered old asid va for held =
-      let causes : Unmapped place page ≡ Unmapped place' page' = sym cause ∙ ap cause_of (some-inj (sym is ∙ answered.is)) ∙ answered.same_cause in
-      let places : place' ≡ place = cc in
+  pub clear_allows : (order : Order) (of : Option ℕ) (page : Span) → order_at C H k ≡ Some order → order.cause ≡ Unmapped of page → (entries : List Entry)
+      → ((asid va : ℕ) → IsAsidOf of asid → Holds page va → ¬ Translates (IsMappedBy entries) asid va) → Clear C H entries k h
+  clear_allows order of page is cause entries none of' page' answered old asid va for held =
+      let causes : Unmapped of page ≡ Unmapped of' page' = sym cause ∙ ap cause_of (some-inj (sym is ∙ answered.is)) ∙ answered.same_cause in
+      let places : of' ≡ of = cc in
       let pages : page' ≡ page = cc in
-      none asid va (subst (λ p. IsAsidOf C p asid) places for) (subst (λ p. Holds p va) pages held)
+      none asid va (subst (λ p. IsAsidOf p asid) places for) (subst (λ p. Holds p va) pages held)
 
   pub unacked_coherent : is_acked C H k h ≡ false → CoherentAllowsAll C H k h
-  unacked_coherent none entries cause place page change answered = absurd (true≢false (sym answered.acked ∙ none))
+  unacked_coherent none entries cause of page change answered = absurd (true≢false (sym answered.acked ∙ none))
 
   pub anew_clear : is_mapped_anew C H k ≡ true → ClearAllowsAll C H k h
-  anew_clear anew entries place page answered old = absurd (true≢false (sym anew ∙ old))
+  anew_clear anew entries of page answered old = absurd (true≢false (sym anew ∙ old))
 
   pub superseded_coherent : is_superseded C H k ≡ true → CoherentAllowsAll C H k h
-  superseded_coherent changed entries cause place page change answered old = absurd (true≢false (sym changed ∙ old))
+  superseded_coherent changed entries cause of page change answered old = absurd (true≢false (sym changed ∙ old))
 
   not_named : (cause : Cause) → names (order_at C H k) h ≡ false → HasAnswered C H k h cause → ⊥
   not_named cause none answered = true≢false (sym answered.named ∙ sym (ap (λ o. names o h) answered.is) ∙ none)
 
   pub unnamed_clear : names (order_at C H k) h ≡ false → ClearAllowsAll C H k h
-  unnamed_clear none entries place page answered = absurd (not_named (Unmapped place page) none answered)
+  unnamed_clear none entries of page answered = absurd (not_named (Unmapped of page) none answered)
 
   pub unnamed_coherent : names (order_at C H k) h ≡ false → CoherentAllowsAll C H k h
-  unnamed_coherent none entries cause place page change answered = absurd (not_named cause none answered)
+  unnamed_coherent none entries cause of page change answered = absurd (not_named cause none answered)
 
   -- a mapping that the tables do not have now may not be held
-  pub coherent_forbids : (cause : Cause) (place : Place) (page : Span) → IsChange cause place page → HasAnswered C H k h cause → is_superseded C H k ≡ false
-      → (e : Entry) (m : Mapping) → IsMappingOf e m → IsForPlace C place m → LiesIn page m.page → (root : ℕ) → IsRootOf C place root → ¬ IsMapped C H root m
+  pub coherent_forbids : (cause : Cause) (of : Option ℕ) (page : Span) → IsChange cause of page → HasAnswered C H k h cause → is_superseded C H k ≡ false
+      → (e : Entry) (m : Mapping) → IsMappingOf e m → IsForAsid of m → LiesIn page m.page → (root : ℕ) → IsRootOf C H of root → ¬ IsMapped C H root m
       → CoherentForbids C H k h e
-  coherent_forbids cause place page change answered old e m of for lies root is_root none entries at coherent =
-      none (coherent cause place page change answered old m (e, at, of) for lies root is_root)
+  coherent_forbids cause of page change answered old e m is for lies root is_root none entries at coherent =
+      none ((coherent cause of page change answered old m (e, at, is) for lies).each root is_root)

@@ -18,7 +18,8 @@ use Rattle.walk.proofs.Unique.{level_count_loads}
 use Rattle.spaces.specs.Layout.{root_ppn}
 use Rattle.tlb.specs.Entries.{first_match}
 use Rattle.pte.proofs.Schemes.{is_canonical-IsCanonical}
-use Rattle.history.specs.Setup.{Setup, asid_of}
+use Rattle.history.specs.Setup.{Setup}
+use Rattle.history.specs.Spaces.{asid_of}
 use Rattle.history.specs.declared.event.Event.{Event}
 use Rattle.history.specs.declared.event.Event.TheVariants.{Begin, Load}
 use Rattle.history.specs.declared.refusal.Refusal.TheVariants.{NoHart, Walking, Serving}
@@ -74,7 +75,7 @@ va_of (Some walk) old = walk.va
 module _ (C : Setup) where
   begun_canonical : (H : History) (hart va : ℕ) (access : Access) (ctx : Ctx) → begin_reply C H hart va access ctx ≡ More → IsCanonical C.layout.scheme va
   begun_canonical H hart va access ctx e =
-      by_test (λ t. is_canonical C.layout.scheme va ≡ t → cond t (match_reply va access ctx (first_match (entries_of C H hart) (asid_of C (space_of H hart)) va)) (Trap (page_trap access NotCanonical)) ≡ More → IsCanonical C.layout.scheme va)
+      by_test (λ t. is_canonical C.layout.scheme va ≡ t → cond t (match_reply va access ctx (first_match (entries_of C H hart) (asid_of C H (space_of H hart)) va)) (Trap (page_trap access NotCanonical)) ≡ More → IsCanonical C.layout.scheme va)
       (is_canonical C.layout.scheme va) (λ _ t _. (is_canonical-IsCanonical C.layout.scheme va).0 t) (λ _ _ e. absurd cc) refl e
 
   due_canonical : (H : History) (hart va : ℕ) (access : Access) (ctx : Ctx) → More ≡ due C H (Begin hart va access ctx) → IsCanonical C.layout.scheme va

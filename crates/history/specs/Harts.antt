@@ -8,7 +8,7 @@ use Rattle.walk.specs.declared.found_or_trap.Found.{Found}
 use Rattle.walk.specs.declared.found_or_trap.Trap.{Trap}
 use Rattle.walk.specs.Stage.{start_of}
 use Rattle.walk.specs.Loads.{answer_after}
-use Rattle.history.specs.Setup.{Setup, asid_of}
+use Rattle.history.specs.Setup.{Setup}
 use Rattle.spaces.specs.Layout.{root_ppn}
 use Rattle.tlb.specs.declared.store.Entry.{Entry}
 use Rattle.tlb.specs.Entries.{filled}
@@ -20,6 +20,7 @@ use Rattle.history.specs.declared.event.Event.TheVariants.{Begin, Load, Switch, 
 use Rattle.history.specs.declared.reply.Reply.{Reply}
 use Rattle.history.specs.declared.reply.Reply.TheVariants as reply
 use Rattle.history.specs.Turns.{History, is_ok, is_filled, is_progress}
+use Rattle.history.specs.Spaces.{asid_of}
 use Rattle.history.specs.Orders.{open_order, what_of}
 use Rattle.history.specs.Service.{served, what_served}
 use Rattle.history.specs.Tables.{words_of}
@@ -75,7 +76,7 @@ with_found asid (Err trap) old = old
 
 abbrev pub with_fill : Setup → History → ℕ → Option Walking → List Entry → List Entry
 with_fill C H space None old = old
-with_fill C H space (Some walk) old = with_found (asid_of C space) (outcome_of C H space walk) old
+with_fill C H space (Some walk) old = with_found (asid_of C H space) (outcome_of C H space walk) old
 
 abbrev pub entries_after : Setup → Event → Reply → History → ℕ → List Entry → List Entry
 entries_after C (Load hart) reply H h old = if is_filled reply && (hart == h) then with_fill C H (space_of H h) (walk_of H h) old else old

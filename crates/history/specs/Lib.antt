@@ -8,6 +8,7 @@ pub mod Refusal
 pub mod Runs
 pub mod Service
 pub mod Setup
+pub mod Spaces
 pub mod Staleness
 pub mod Tables
 pub mod Turns
@@ -21,3 +22,4 @@ pub mod StalenessRuns
 pub mod UnlawfulRuns
 pub mod Counterexamples
 pub mod HartRuns
+pub mod RetireRuns

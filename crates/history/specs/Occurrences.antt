@@ -1,12 +1,14 @@
 -- When something happened: facts about one turn of a history and the turns before it, in plain words. The laws of
 -- src/occurrences.rt say that what a history leaves is read off such turns.
 use Rattle.pte.specs.declared.scheme.Scheme.{Scheme}
-use Rattle.std.specs.Prelude.{ℕ, suc, ◌-◌, ◌<◌, ◌≡◌, ◌⊎◌, Bool, true, false, ◌==◌, ◌&&◌, ◌∷◌, ◌++◌, length, slice_get, Some, None, Ok}
+use Rattle.std.specs.Prelude.{ℕ, suc, ◌-◌, ◌<◌, ◌≡◌, ◌⊎◌, Bool, true, false, ◌==◌, ◌&&◌, ◌∷◌, ◌++◌, length, slice_get, Option, Some, None, Ok}
 use Rattle.pte.specs.Address.{Span, top_level}
 use Rattle.pte.specs.declared.flags.PteFlags.{PteFlags}
 use Rattle.walk.specs.declared.found_or_trap.Trap.{Trap}
 use Rattle.walk.specs.Leads.{Tables, Leads, word_at}
 use Rattle.spaces.specs.declared.places.Place.{Place}
+use Rattle.spaces.specs.declared.places.Place.TheVariants.{Space}
+use Rattle.spaces.specs.Holders.{is_word_of, zero_word}
 use Rattle.spaces.specs.declared.wishes.Wish.{Wish}
 use Rattle.spaces.specs.declared.wishes.Wish.TheVariants as wish
 use Rattle.spaces.specs.Edits.{Store}
@@ -15,14 +17,15 @@ use Rattle.shoot.specs.declared.TheConstants.{MAX_TICKETS}
 use Rattle.tlb.specs.Service.{overlaps}
 use Rattle.history.specs.Setup.{Setup}
 use Rattle.history.specs.declared.event.Event.{Event}
-use Rattle.history.specs.declared.event.Event.TheVariants.{Begin, Load, Map, Unmap, Protect, Flush, Switch, Post, Take, ServeFence, Ack, AckSelf, Collect, Finish, Close}
+use Rattle.history.specs.declared.event.Event.TheVariants.{Begin, Load, Map, Unmap, Protect, Flush, Switch, Post, Take, ServeFence, Ack, AckSelf, Collect, Finish, Close, Retire, Reclaim}
 use Rattle.history.specs.declared.reply.Reply.{Reply}
 use Rattle.history.specs.declared.reply.Reply.TheVariants as reply
-use Rattle.history.specs.Turns.{Turn, History, is_more, is_table}
+use Rattle.history.specs.Turns.{Turn, History, is_more}
+use Rattle.history.specs.Spaces.{asid_in, holder_of}
 use Rattle.history.specs.Orders.{Order, open_order, opened_order, order_at, what_of}
 use Rattle.history.specs.Mailboxes.{Sent, posts, taken}
 use Rattle.history.specs.Service.{served}
-use Rattle.history.specs.Tables.{words_of, used_spares, edit_due}
+use Rattle.history.specs.Tables.{words_of, edit_due}
 use Rattle.history.specs.Harts.{Walking}
 use Rattle.history.specs.Acknowledgements.{is_acked, count_where}
 use Rattle.history.specs.Due.{due}
@@ -87,12 +90,12 @@ pub record IsCollect (C : Setup) (k h : ℕ) (turn : Turn) (before : History) : 
 abbrev pub Collects : Setup → ℕ → ℕ → Turn → History → Type 0
 Collects C k h turn before = IsCollect C k h turn before ⊎ IsAckSelf k h turn before
 
--- the turns before have an order k, and it followed an Unmap or a Protect of a page of the place that overlaps this page
-pub record IsOfPage (C : Setup) (k : ℕ) (place : Place) (page : Span) (before : History) : Type 0 where
+-- the turns before have an order k, and it followed an Unmap or a Protect of a page of the ASID that overlaps this page
+pub record IsOfPage (C : Setup) (k : ℕ) (of : Option ℕ) (page : Span) (before : History) : Type 0 where
   pub order : Order
   pub changed : Span
   pub is : order_at C before k ≡ Some order
-  pub cause : IsChange order.cause place changed
+  pub cause : IsChange order.cause of changed
   pub over : overlaps changed page ≡ true
 
 -- after order k a Map over its page stored its leaf
@@ -104,7 +107,7 @@ pub record IsMapOver (C : Setup) (k : ℕ) (turn : Turn) (before : History) : Ty
   pub flags : PteFlags
   pub event : turn.event ≡ Map hart place page ppn flags
   pub stored : turn.reply ≡ reply.Leaf
-  pub of_page : IsOfPage C k place page before
+  pub of_page : IsOfPage C k (asid_in C before place) page before
 
 -- after order k an Unmap over its page was accepted
 pub record IsUnmapOver (C : Setup) (k : ℕ) (turn : Turn) (before : History) : Type 0 where
@@ -115,7 +118,7 @@ pub record IsUnmapOver (C : Setup) (k : ℕ) (turn : Turn) (before : History) : 
   pub ticket : ℕ
   pub event : turn.event ≡ Unmap hart place page named
   pub accepted : turn.reply ≡ reply.Opened ticket
-  pub of_page : IsOfPage C k place page before
+  pub of_page : IsOfPage C k (asid_in C before place) page before
 
 -- after order k a Protect over its page was accepted
 pub record IsProtectOver (C : Setup) (k : ℕ) (turn : Turn) (before : History) : Type 0 where
@@ -127,7 +130,7 @@ pub record IsProtectOver (C : Setup) (k : ℕ) (turn : Turn) (before : History) 
   pub ticket : ℕ
   pub event : turn.event ≡ Protect hart place page flags named
   pub accepted : turn.reply ≡ reply.Opened ticket
-  pub of_page : IsOfPage C k place page before
+  pub of_page : IsOfPage C k (asid_in C before place) page before
 
 abbrev pub Supersedes : Setup → ℕ → Turn → History → Type 0
 Supersedes C k turn before = IsUnmapOver C k turn before ⊎ IsProtectOver C k turn before
@@ -147,13 +150,14 @@ pub record IsPostAfterClose (sender receiver : ℕ) (turn : Turn) (before : Hist
 -- the turn with k turns before it opened this order
 pub record OpensAt (C : Setup) (k : ℕ) (order : Order) (turn : Turn) (before : History) : Type 0 where
   pub place : length before ≡ k
-  pub opened : opened_order C turn.event turn.reply ≡ Some order
+  pub opened : opened_order C turn.event turn.reply before ≡ Some order
 
--- an Unmap, a Protect or a Flush by the hart
+-- an Unmap, a Protect, a Flush or a Retire by the hart
 abbrev pub IsOrderBy : ℕ → Event → Type 0
 IsOrderBy sender (Unmap hart place page named) = hart ≡ sender
 IsOrderBy sender (Protect hart place page flags named) = hart ≡ sender
 IsOrderBy sender (Flush hart scope named) = hart ≡ sender
+IsOrderBy sender (Retire hart space) = hart ≡ sender
 IsOrderBy sender _ = ⊥
 
 -- the turn opened the sender's ticket
@@ -251,13 +255,26 @@ pub record IsStore (C : Setup) (ppn index word : ℕ) (turn : Turn) (before : Hi
   pub wanted : Wish
   pub store : Store
   pub edit : IsEdit hart wanted turn.event turn.reply
-  pub due : edit_due C (words_of C before) (used_spares before hart) hart wanted ≡ Ok store
+  pub due : edit_due C (words_of C before) (holder_of before) hart wanted ≡ Ok store
   pub same_table : store.ppn ≡ ppn
   pub same_index : store.index ≡ index
   pub same_word : store.word ≡ word
 
+-- an accepted Reclaim emptied the word, which was there and its space's own
+pub record Empties (C : Setup) (ppn index : ℕ) (turn : Turn) (before : History) : Type 0 where
+  pub hart : ℕ
+  pub space : ℕ
+  pub event : turn.event ≡ Reclaim hart space
+  pub accepted : turn.reply ≡ reply.Ok
+  pub own : is_word_of C.layout (holder_of before) space ppn index ≡ true
+
+-- a turn put the word there
+abbrev pub Puts : Setup → ℕ → ℕ → ℕ → Turn → History → Type 0
+Puts C ppn index word turn before =
+    IsStore C ppn index word turn before ⊎ (Empties C ppn index turn before × (zero_word (words_of C before ppn index) ≡ Some word))
+
 abbrev pub Stores : Setup → ℕ → ℕ → Turn → History → Type 0
-Stores C ppn index turn before = (word : ℕ) × IsStore C ppn index word turn before
+Stores C ppn index turn before = ((word : ℕ) × IsStore C ppn index word turn before) ⊎ Empties C ppn index turn before
 
 -- a walk for this access began
 pub record IsBegin (hart : ℕ) (walk : Walking) (turn : Turn) (before : History) : Type 0 where
@@ -285,13 +302,25 @@ pub record IsInWalk (hart : ℕ) (walk : Walking) (H : History) : Type 0 where
   pub since : Since (IsBegin hart walk) (BeginsOrEnds hart) H
   pub loads : walk.loads ≡ count_where (is_further_load hart) since.later
 
--- a Map of the hart stored a pointer to a new table
-abbrev pub is_map_by : ℕ → Event → Bool
-is_map_by h (Map hart place page ppn flags) = hart == h
-is_map_by h _ = false
+-- a Map for the place stored a pointer to a new table at this PPN
+pub record IsNewTable (ppn : ℕ) (place : Place) (turn : Turn) (before : History) : Type 0 where
+  pub hart : ℕ
+  pub page : Span
+  pub to : ℕ
+  pub flags : PteFlags
+  pub event : turn.event ≡ Map hart place page to flags
+  pub answer : turn.reply ≡ reply.Table ppn
 
-abbrev pub is_new_table : ℕ → Turn → Bool
-is_new_table hart turn = is_table turn.reply && is_map_by hart turn.event
+-- the space that the frame was in use for was reclaimed
+pub record IsGivenBack (ppn : ℕ) (turn : Turn) (before : History) : Type 0 where
+  pub hart : ℕ
+  pub space : ℕ
+  pub event : turn.event ≡ Reclaim hart space
+  pub accepted : turn.reply ≡ reply.Ok
+  pub was : holder_of before ppn ≡ Some (Space space)
+
+abbrev pub TakesOrGivesBack : ℕ → Turn → History → Type 0
+TakesOrGivesBack ppn turn before = ((place : Place) × IsNewTable ppn place turn before) ⊎ IsGivenBack ppn turn before
 
 -- the number is the least of the hart's tickets that is not open
 pub record IsLeastFree (H : History) (hart ticket : ℕ) : Type 0 where

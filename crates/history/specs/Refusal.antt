@@ -3,7 +3,7 @@ use Rattle.std.specs.Prelude.{ℕ}
 use Rattle.spaces.specs.declared.faults.MapFault.{MapFault}
 use Rattle.spaces.specs.declared.faults.MapFault.TheVariants as fault
 use Rattle.history.specs.declared.refusal.Refusal.{Refusal}
-use Rattle.history.specs.declared.refusal.Refusal.TheVariants.{NoHart, NoSpace, NotHome, WrongHalf, BadFlags, PpnTooLarge, Misaligned, AlreadyMapped, LeafInWay, TableInWay, NoFrame, NotMapped, WrongSize, HomeNotNamed, NoTicket, NotOpen, NotNamed, AlreadyPosted, Closed, Full, Empty, Walking, NotWalking, Serving, NotServing, NotFenced, NotDone}
+use Rattle.history.specs.declared.refusal.Refusal.TheVariants.{NoHart, NoSpace, NotHome, WrongHalf, BadFlags, PpnTooLarge, Misaligned, AlreadyMapped, LeafInWay, TableInWay, NoFrame, NotMapped, WrongSize, HomeNotNamed, NoTicket, NotOpen, NotNamed, AlreadyPosted, Closed, Full, Empty, Walking, NotWalking, Serving, NotServing, NotFenced, NotDone, Retiring, InUse, NotAcked, NotRetiring, NotFree, AsidInUse}
 
 abbrev pub code_of : Refusal → ℕ
 code_of NoHart = 1
@@ -33,6 +33,12 @@ code_of Serving = 24
 code_of NotServing = 25
 code_of NotFenced = 26
 code_of NotDone = 27
+code_of Retiring = 28
+code_of InUse = 29
+code_of NotAcked = 30
+code_of NotRetiring = 31
+code_of NotFree = 32
+code_of AsidInUse = 33
 
 -- an edit's fault as a refusal
 abbrev pub refusal_of : MapFault → Refusal

@@ -33,7 +33,12 @@ abbrev pub is_table : Reply → Bool
 is_table (reply.Table ppn) = true
 is_table _ = false
 
--- an edit or a flush opened a ticket
+-- the new table is at this PPN
+abbrev pub is_table_at : Reply → ℕ → Bool
+is_table_at (reply.Table ppn) frame = ppn == frame
+is_table_at _ frame = false
+
+-- an edit, a flush or a retirement opened a ticket
 abbrev pub opened_ticket : Reply → Option ℕ
 opened_ticket (reply.Opened ticket) = Some ticket
 opened_ticket _ = None

@@ -107,4 +107,20 @@ pub enum Event {
         hart: u8,
         to: u8,
     },
+    /// Retires a space that no hart is in, and opens a ticket for its address space that names every hart.
+    Retire {
+        hart: u8,
+        space: u8,
+    },
+    /// Stores 0 on every word of a retired space whose ticket every hart has answered: its frames are unused, the space is free.
+    Reclaim {
+        hart: u8,
+        space: u8,
+    },
+    /// Makes a free space live under an ASID.
+    Create {
+        hart: u8,
+        space: u8,
+        asid: u16,
+    },
 }

@@ -14,13 +14,15 @@ ghost use Rattle.history.specs.Setup.{Setup};
 ghost use Rattle.history.specs.Turns.{History};
 ghost use Rattle.history.specs.Due.{Lawful, goes_on, least_free};
 ghost use Rattle.history.specs.Orders.{Order, open_order, order_at};
-ghost use Rattle.history.specs.Acknowledgements.{count_where, is_acked, is_collected, is_posted};
+ghost use Rattle.history.specs.Acknowledgements.{is_acked, is_collected, is_posted};
 ghost use Rattle.history.specs.Mailboxes.{Mailboxes, NoneAfterClose, Sent, accepted, is_closed, posts, taken};
 ghost use Rattle.history.specs.Service.{has_fenced, served};
 ghost use Rattle.history.specs.Staleness.{is_mapped_anew, is_superseded};
-ghost use Rattle.history.specs.Tables.{used_spares, words_of};
+ghost use Rattle.history.specs.Tables.{words_of};
+ghost use Rattle.history.specs.Spaces.{holder_of};
+ghost use Rattle.spaces.specs.declared.places.Place.{Place};
 ghost use Rattle.history.specs.Harts.{Walking, outcome_of, space_of, walk_of};
-ghost use Rattle.history.specs.Occurrences.{Acknowledges, Collects, EachIsDue, IsClose, IsInWalk, IsLeastFree, IsMapOver, IsNthPost, IsNthTake, IsPost, IsPostAfterClose, IsServeFence, IsStore, IsSwitch, IsTake, LeadsOn, OpensAt, OpensOrder, OpensOrFinishes, Since, SinceOr, Sometime, Stores, Supersedes, Switches, TakesOrAcks, TakesPost, is_new_table};
+ghost use Rattle.history.specs.Occurrences.{Acknowledges, Collects, EachIsDue, IsClose, IsInWalk, IsLeastFree, IsMapOver, IsNthPost, IsNthTake, IsPost, IsPostAfterClose, IsNewTable, IsServeFence, IsSwitch, IsTake, LeadsOn, OpensAt, OpensOrder, OpensOrFinishes, Puts, Since, SinceOr, Sometime, Stores, Supersedes, Switches, TakesOrAcks, TakesOrGivesBack, TakesPost};
 
 /// An order is posted to a hart exactly if at some turn a Post to it was accepted of the ticket under which the order was
 /// open.
@@ -153,10 +155,11 @@ pub fn fenced_is_since_the_last_take()
     ensures { (H : History) (hart : ℕ) → (has_fenced H hart ≡ true) ↔ Since (IsServeFence hart) (IsTake hart) H }
 {}
 
-/// Each word of table memory is what the last accepted edit stored there, or that of the opening if none did.
+/// Each word of table memory is what the last accepted edit stored there, or 0 if its space was reclaimed since, or that of the
+/// opening if neither was.
 pub fn word_is_the_last_stored()
     ensures { (C : Setup) (H : History) (ppn index word : ℕ) → (words_of C H ppn index ≡ Some word)
-        ↔ SinceOr (IsStore C ppn index word) (Stores C ppn index) (opening C.layout ppn index ≡ Some word) H }
+        ↔ SinceOr (Puts C ppn index word) (Stores C ppn index) (opening C.layout ppn index ≡ Some word) H }
 {}
 
 /// A hart is in a walk exactly if a Begin of its access was answered More, and since then no walk of the hart began or
@@ -165,8 +168,8 @@ pub fn walk_is_since_its_begin()
     ensures { (H : History) (hart : ℕ) (walk : Walking) → (walk_of H hart ≡ Some walk) ↔ IsInWalk hart walk H }
 {}
 
-/// As many spare frames of a hart are in use as its Maps stored pointers to new tables.
-#[tactic(auto, using(crate::proofs::Lasting::used))]
-pub fn used_spares_are_its_new_tables()
-    ensures { (H : History) (hart : ℕ) → used_spares H hart ≡ count_where (is_new_table hart) H }
+/// A frame is in use for a place exactly if a Map for the place was answered with it as a new table, and since then neither
+/// was another one answered with it nor was its space reclaimed.
+pub fn frame_is_held_since_its_new_table()
+    ensures { (H : History) (ppn : ℕ) (place : Place) → (holder_of H ppn ≡ Some place) ↔ Since (IsNewTable ppn place) (TakesOrGivesBack ppn) H }
 {}

@@ -60,10 +60,22 @@ pub enum Refusal {
     NotFenced,
     /// Some named hart of the ticket is not collected.
     NotDone,
+    /// The space is retiring.
+    Retiring,
+    /// Some hart is in the space.
+    InUse,
+    /// Some hart is not collected for the retirement of the space.
+    NotAcked,
+    /// The space is not retiring.
+    NotRetiring,
+    /// The space is not free.
+    NotFree,
+    /// A live or a retiring space has the ASID.
+    AsidInUse,
 }
 
 impl Refusal {
-    /// The number of the refusal, from 1 to 27.
+    /// The number of the refusal, from 1 to 33.
     pub fn code(self) -> u8
         ensures { result ≡ code_of self }
     {
@@ -95,6 +107,12 @@ impl Refusal {
             Refusal::NotServing => 25,
             Refusal::NotFenced => 26,
             Refusal::NotDone => 27,
+            Refusal::Retiring => 28,
+            Refusal::InUse => 29,
+            Refusal::NotAcked => 30,
+            Refusal::NotRetiring => 31,
+            Refusal::NotFree => 32,
+            Refusal::AsidInUse => 33,
         }
     }
 }

@@ -17,6 +17,7 @@ ghost use Rattle.history.specs.HartRuns as harts;
 ghost use Rattle.history.specs.MailboxRuns as mailboxes;
 ghost use Rattle.history.specs.EditRuns as edits;
 ghost use Rattle.history.specs.RefusalRuns as refusals;
+ghost use Rattle.history.specs.RetireRuns as retirements;
 
 /// The setup of the worked runs of three harts is that of a configuration with these numbers.
 #[tactic(auto, using(crate::proofs::SetupFacts::three_harts_are_configured))]
@@ -202,4 +203,23 @@ pub fn spare_frames_of_each_home()
 #[tactic(auto, using(crate::proofs::HartRows::at_work_while_walking))]
 pub fn at_work_while_walking()
     ensures { IsRun three_harts harts.at_work_while_walking }
+{}
+
+/// A space is retired once no hart is in it, and given back once each hart is collected; it is created anew, and its frames are
+/// used again.
+#[tactic(auto, using(crate::proofs::RetireRows::retired_and_created_anew))]
+pub fn retired_and_created_anew()
+    ensures { IsRun shootdowns.spaces_of_one_home retirements.retired_and_created_anew }
+{}
+
+/// A new table takes the lowest frame that is unused, be it one that another space gave back.
+#[tactic(auto, using(crate::proofs::RetireRows::frames_used_again))]
+pub fn frames_used_again()
+    ensures { IsRun shootdowns.spaces_of_one_home retirements.frames_used_again }
+{}
+
+/// The ASID of a space that was given back goes to another space.
+#[tactic(auto, using(crate::proofs::RetireRows::asid_used_again))]
+pub fn asid_used_again()
+    ensures { IsRun shootdowns.spaces_of_one_home retirements.asid_used_again }
 {}

@@ -1,7 +1,7 @@
 -- What an event that was accepted found.
-use Rattle.std.proofs.Common.{◌≡◌, ℕ, zero, suc, ◌+◌, ◌<◌, Bool, true, false, cond, ◌&&◌, not, List, [], ◌∷◌, Option, Some, None, refl, ap, sym, ◌∙◌, arith, eqb}
+use Rattle.std.proofs.Common.{◌≡◌, ℕ, zero, suc, ◌+◌, ◌<◌, Bool, true, false, cond, ◌&&◌, not, List, [], ◌∷◌, Option, Some, None, refl, ap, sym, ◌∙◌, arith, eqb, length}
 use Rattle.std.specs.Prelude.{is_none, Result, Ok, Err}
-use Rattle.std.proofs.lemmas.Bool.{not-false, not-true, false≢true, ltb-true, leb-false, eq-eqb}
+use Rattle.std.proofs.lemmas.Bool.{not-false, not-true, false≢true, ltb-true, leb-false, eq-eqb, and_parts}
 use Rattle.pte.specs.Address.{Span}
 use Rattle.pte.specs.declared.flags.PteFlags.{PteFlags}
 use Rattle.pte.specs.declared.permission.Access.{Access}
@@ -12,12 +12,15 @@ use Rattle.spaces.specs.declared.wishes.Wish.{Wish}
 use Rattle.spaces.specs.declared.wishes.Wish.TheVariants as wish
 use Rattle.spaces.specs.Edits.{Store, place_of}
 use Rattle.shoot.specs.Request.{Message}
-use Rattle.shoot.specs.HartSet.{contains, harts_in}
+use Rattle.shoot.specs.HartSet.{contains, harts_in, harts_where}
+use Rattle.shoot.proofs.HartSets.{contains_where}
+use Rattle.std.specs.Int.{bit_at}
 use Rattle.shoot.specs.declared.TheConstants.{MAX_HARTS, MAX_TICKETS}
-use Rattle.history.specs.Setup.{Setup}
-use Rattle.history.specs.declared.event.Event.TheVariants.{Begin, Unmap, Protect, Flush, Post, Take, Ack, Collect, Finish}
+use Rattle.history.specs.Setup.{Setup, is_hart}
+use Rattle.history.specs.Spaces.{Status, Live, Retires, Free, status_of, is_free, is_retiring}
+use Rattle.history.specs.declared.event.Event.TheVariants.{Begin, Unmap, Protect, Flush, Post, Take, Ack, Collect, Finish, Retire, Reclaim, Create}
 use Rattle.history.specs.declared.event.Scope.{Scope}
-use Rattle.history.specs.declared.refusal.Refusal.TheVariants.{NoHart, NoSpace, HomeNotNamed, NotNamed, AlreadyPosted, Closed, Full, Walking, Serving, NotServing, NotFenced, NotDone}
+use Rattle.history.specs.declared.refusal.Refusal.TheVariants.{NoHart, NoSpace, NotHome, HomeNotNamed, NotNamed, AlreadyPosted, Closed, Full, Walking, Serving, NotServing, NotFenced, NotDone, Retiring, InUse, NotAcked, NotFree, AsidInUse}
 use Rattle.history.specs.declared.reply.Reply.{Reply}
 use Rattle.history.specs.declared.reply.Reply.TheVariants as reply
 use Rattle.history.specs.Turns.{History, is_ok, is_more, is_taken, is_progress, opened_ticket}
@@ -26,10 +29,10 @@ use Rattle.history.specs.Mailboxes.{waiting, is_closed}
 use Rattle.history.specs.Service.{served, has_fenced}
 use Rattle.history.specs.Acknowledgements.{is_posted, is_collected, outstanding}
 use Rattle.history.specs.Harts.{walk_of}
-use Rattle.history.specs.Due.{refuse, is_hart, are_pair, is_place, edit_at, due, least_free, open_reply, opened_reply, edit_reply, post_reply, names, next_reply, collect_reply, finish_reply, is_done}
+use Rattle.history.specs.Due.{refuse, are_pair, is_number, is_space, is_place, retires, is_in_use, reclaim_reply, is_asid_of, edit_at, due, least_free, open_reply, opened_reply, edit_reply, post_reply, names, next_reply, collect_reply, finish_reply, is_done}
 pub use Rattle.history.proofs.Occurred.{turn_of}
 pub use Rattle.history.proofs.Passing.{is_accepted, passed}
-use Rattle.laws.proofs.Tools.{none_since, none_by, by_test, and3, none_where}
+use Rattle.laws.proofs.Tools.{none_since, none_by, by_test, and3, none_where, contains_below}
 
 pub ok_accepted : (r : Reply) → is_ok r ≡ true → is_accepted r ≡ true
 ok_accepted reply.Ok e = refl
@@ -57,11 +60,12 @@ pair_parts C a b e =
     let p = and3 (is_hart C a) (is_hart C b) (not (eqb a b)) (not-false (are_pair C a b) e) in
     (ltb-true a C.harts p.0, ltb-true b C.harts p.1, λ q. false≢true (sym (not-true (eqb a b) p.2) ∙ eq-eqb a b q))
 
--- an opening: the ticket is free, and the set names its sender
-pub record OpeningFound (H : History) (hart named ticket : ℕ) : Type 0 where
+-- an opening: the ticket is free, and the set names its sender and harts that can be there
+pub record OpeningFound (H : History) (hart : ℕ) (named : List Bool) (ticket : ℕ) : Type 0 where
   pub bound : ticket < MAX_TICKETS
   pub free : open_order H hart ticket ≡ None
-  pub names_sender : contains (harts_in named) hart ≡ true
+  pub names_sender : hart < MAX_HARTS → contains named hart ≡ true
+  pub names_harts : (h : ℕ) → contains named h ≡ true → h < MAX_HARTS
 
 free_from : (H : History) (hart n from ticket : ℕ) → least_free H hart n from ≡ Some ticket → (ticket < from + n) × (open_order H hart ticket ≡ None)
 free_from H hart zero from ticket e = absurd cc
@@ -74,15 +78,21 @@ opened_is_some : (o : Option ℕ) (t : ℕ) (r : Reply) → opened_reply o ≡ r
 opened_is_some None t r e q = let z : None ≡ Some t = ap opened_ticket e ∙ q in absurd (cc (z))
 opened_is_some (Some n) t r e q = ap opened_ticket e ∙ q
 
-open_found : (H : History) (hart named ticket : ℕ) (r : Reply) → open_reply H hart named ≡ r → opened_ticket r ≡ Some ticket → OpeningFound H hart named ticket
+open_found : (H : History) (hart named ticket : ℕ) (r : Reply) → open_reply H hart named ≡ r → opened_ticket r ≡ Some ticket → OpeningFound H hart (harts_in named) ticket
 open_found H hart named ticket r e t =
     let p = passed (not (contains (harts_in named) hart)) HomeNotNamed (opened_reply (least_free H hart MAX_TICKETS 0)) r e (opened_accepted r ticket t) in
     let f = free_from H hart MAX_TICKETS 0 ticket (opened_is_some (least_free H hart MAX_TICKETS 0) ticket r p.1 t) in
-    record { bound = f.0; free = f.1; names_sender = not-false (contains (harts_in named) hart) p.0 }
+    record {
+      bound = f.0;
+      free = f.1;
+      names_sender = λ _. not-false (contains (harts_in named) hart) p.0;
+      names_harts = λ h n. contains_below (λ i. eqb (bit_at named i) 1) h n;
+    }
 
--- an edit: its place is there, and its store is due
+-- an edit: its place is there and does not retire, and its store is due
 pub record EditFound (C : Setup) (H : History) (hart : ℕ) (w : Wish) : Type 0 where
-  pub there : is_place C (place_of w) ≡ true
+  pub there : is_place C H (place_of w) ≡ true
+  pub live : retires H (place_of w) ≡ false
   pub store : Store
   pub is : edit_at C H hart w ≡ Ok store
 
@@ -92,14 +102,15 @@ edit_made (Ok store) opening r ticket e t = (store, refl, e)
 edit_made (Err fault) opening r ticket e t = let z : None ≡ Some ticket = ap opened_ticket e ∙ t in absurd (cc (z))
 
 change_found : (C : Setup) (H : History) (hart named ticket : ℕ) (w : Wish) (absent : Bool) (r : Reply)
-    → refuse absent NoHart (refuse (not (is_place C (place_of w))) NoSpace (edit_reply (edit_at C H hart w) (open_reply H hart named))) ≡ r
-    → opened_ticket r ≡ Some ticket → EditFound C H hart w × OpeningFound H hart named ticket
+    → refuse absent NoHart (refuse (not (is_place C H (place_of w))) NoSpace (refuse (retires H (place_of w)) Retiring (edit_reply (edit_at C H hart w) (open_reply H hart named)))) ≡ r
+    → opened_ticket r ≡ Some ticket → EditFound C H hart w × OpeningFound H hart (harts_in named) ticket
 change_found C H hart named ticket w absent r d t =
     let a = opened_accepted r ticket t in
     let p = passed absent NoHart _ r d a in
-    let q = passed (not (is_place C (place_of w))) NoSpace _ r p.1 a in
-    let m = edit_made (edit_at C H hart w) (open_reply H hart named) r ticket q.1 t in
-    (record { there = not-false (is_place C (place_of w)) q.0; store = m.0; is = m.1 }, open_found H hart named ticket r m.2 t)
+    let q = passed (not (is_place C H (place_of w))) NoSpace _ r p.1 a in
+    let v = passed (retires H (place_of w)) Retiring _ r q.1 a in
+    let m = edit_made (edit_at C H hart w) (open_reply H hart named) r ticket v.1 t in
+    (record { there = not-false (is_place C H (place_of w)) q.0; live = v.0; store = m.0; is = m.1 }, open_found H hart named ticket r m.2 t)
 
 pub unmap_edit : (C : Setup) (H : History) (hart : ℕ) (place : Place) (page : Span) (named ticket : ℕ) (r : Reply)
     → r ≡ due C H (Unmap hart place page named) → opened_ticket r ≡ Some ticket → EditFound C H hart (wish.Unmap place page)
@@ -110,20 +121,95 @@ pub protect_edit : (C : Setup) (H : History) (hart : ℕ) (place : Place) (page 
 protect_edit C H hart place page flags named ticket r d t = (change_found C H hart named ticket (wish.Protect place page flags) _ r (sym d) t).0
 
 pub unmap_found : (C : Setup) (H : History) (hart : ℕ) (place : Place) (page : Span) (named ticket : ℕ) (r : Reply)
-    → r ≡ due C H (Unmap hart place page named) → opened_ticket r ≡ Some ticket → OpeningFound H hart named ticket
+    → r ≡ due C H (Unmap hart place page named) → opened_ticket r ≡ Some ticket → OpeningFound H hart (harts_in named) ticket
 unmap_found C H hart place page named ticket r d t = (change_found C H hart named ticket (wish.Unmap place page) _ r (sym d) t).1
 
 pub protect_found : (C : Setup) (H : History) (hart : ℕ) (place : Place) (page : Span) (flags : PteFlags) (named ticket : ℕ) (r : Reply)
-    → r ≡ due C H (Protect hart place page flags named) → opened_ticket r ≡ Some ticket → OpeningFound H hart named ticket
+    → r ≡ due C H (Protect hart place page flags named) → opened_ticket r ≡ Some ticket → OpeningFound H hart (harts_in named) ticket
 protect_found C H hart place page flags named ticket r d t = (change_found C H hart named ticket (wish.Protect place page flags) _ r (sym d) t).1
 
 pub flush_found : (C : Setup) (H : History) (hart : ℕ) (scope : Scope) (named ticket : ℕ) (r : Reply)
-    → r ≡ due C H (Flush hart scope named) → opened_ticket r ≡ Some ticket → OpeningFound H hart named ticket
+    → r ≡ due C H (Flush hart scope named) → opened_ticket r ≡ Some ticket → OpeningFound H hart (harts_in named) ticket
 flush_found C H hart scope named ticket r d t =
     let a = opened_accepted r ticket t in
     let p = passed _ NoHart _ r (sym d) a in
     let q = passed _ NoSpace _ r p.1 a in
-    open_found H hart named ticket r q.1 t
+    let v = passed _ Retiring _ r q.1 a in
+    open_found H hart named ticket r v.1 t
+
+-- a Retire: a live space that no hart is in
+pub record RetireFound (C : Setup) (H : History) (hart space ticket : ℕ) : Type 0 where
+  pub there : is_space C H space ≡ true
+  pub live : is_retiring (status_of H space) ≡ false
+  pub unused : is_in_use C H space ≡ false
+  pub opening : OpeningFound H hart (harts_where (is_hart C)) ticket
+
+pub retire_found : (C : Setup) (H : History) (hart space ticket : ℕ) (r : Reply) → r ≡ due C H (Retire hart space) → opened_ticket r ≡ Some ticket → RetireFound C H hart space ticket
+retire_found C H hart space ticket r d t =
+    let a = opened_accepted r ticket t in
+    let p = passed _ NoHart _ r (sym d) a in
+    let q = passed _ NoSpace _ r p.1 a in
+    let n = passed _ NotHome _ r q.1 a in
+    let v = passed _ Retiring _ r n.1 a in
+    let u = passed _ InUse _ r v.1 a in
+    let f = free_from H hart MAX_TICKETS 0 ticket (opened_is_some (least_free H hart MAX_TICKETS 0) ticket r u.1 t) in
+    record {
+      there = not-false (is_space C H space) q.0;
+      live = v.0;
+      unused = u.0;
+      opening = record {
+        bound = f.0;
+        free = f.1;
+        names_sender = λ less. contains_where (is_hart C) hart less ∙ not-false (is_hart C hart) p.0;
+        names_harts = λ h n. contains_below (is_hart C) h n;
+      };
+    }
+
+-- a Reclaim: each hart is collected for the retirement
+pub record ReclaimFound (C : Setup) (H : History) (space : ℕ) : Type 0 where
+  pub there : space < length C.asids
+  pub order : ℕ
+  pub retiring : status_of H space ≡ Retires order
+  pub done : is_done C H order ≡ true
+
+reclaim_with : (C : Setup) (H : History) (space : ℕ) (status : Status) (r : Reply) → space < length C.asids → status_of H space ≡ status → reclaim_reply C H status ≡ r → is_accepted r ≡ true
+    → ReclaimFound C H space
+reclaim_with C H space Live r there is e a = absurd (false≢true (ap is_accepted e ∙ a))
+reclaim_with C H space (Retires k) r there is e a =
+    record { there = there; order = k; retiring = is; done = not-false (is_done C H k) (passed _ NotAcked _ r e a).0 }
+reclaim_with C H space Free r there is e a = absurd (false≢true (ap is_accepted e ∙ a))
+
+pub space_is : (C : Setup) (H : History) (s : ℕ) → is_space C H s ≡ true → (s < length C.asids) × (is_free (status_of H s) ≡ false)
+space_is C H s e =
+    let p = and_parts (is_number C s) (not (is_free (status_of H s))) e in (ltb-true s (length C.asids) p.0, not-true (is_free (status_of H s)) p.1)
+
+pub reclaim_found : (C : Setup) (H : History) (hart space : ℕ) (r : Reply) → r ≡ due C H (Reclaim hart space) → is_ok r ≡ true → ReclaimFound C H space
+reclaim_found C H hart space r d z =
+    let a = ok_accepted r z in
+    let p = passed _ NoHart _ r (sym d) a in
+    let q = passed _ NoSpace _ r p.1 a in
+    let n = passed _ NotHome _ r q.1 a in
+    reclaim_with C H space (status_of H space) r (space_is C H space (not-false (is_space C H space) q.0)).0 refl n.1 a
+
+-- a Create: a free space, and an ASID that no other has
+pub record CreateFound (C : Setup) (H : History) (space asid : ℕ) : Type 0 where
+  pub there : space < length C.asids
+  pub free : is_free (status_of H space) ≡ true
+  pub unused : is_asid_of C H asid (length C.asids) ≡ false
+
+pub create_found : (C : Setup) (H : History) (hart space asid : ℕ) (r : Reply) → r ≡ due C H (Create hart space asid) → is_ok r ≡ true → CreateFound C H space asid
+create_found C H hart space asid r d z =
+    let a = ok_accepted r z in
+    let p = passed _ NoHart _ r (sym d) a in
+    let q = passed _ NoSpace _ r p.1 a in
+    let n = passed _ NotHome _ r q.1 a in
+    let f = passed _ NotFree _ r n.1 a in
+    let u = passed _ AsidInUse _ r f.1 a in
+    record {
+      there = ltb-true space (length C.asids) (not-false (is_number C space) q.0);
+      free = not-false (is_free (status_of H space)) f.0;
+      unused = u.0;
+    }
 
 -- a Post
 pub record PostFound (C : Setup) (H : History) (s t h : ℕ) : Type 0 where

@@ -1,7 +1,7 @@
 -- What a turn of a lawful history does to the pages that the roots map.
-use Rattle.std.proofs.Common.{◌≡◌, ℕ, ◌<◌, Bool, true, cond, ◌||◌, ◌∷◌, Some, None, refl, ap, sym, ◌∙◌, subst, arith, nat_le, ◌-◌}
+use Rattle.std.proofs.Common.{◌≡◌, ℕ, ◌<◌, Bool, true, false, cond, ◌||◌, ◌∷◌, Some, None, refl, ap, sym, ◌∙◌, subst, arith, nat_le, ◌-◌}
 use Rattle.std.specs.Prelude.{Result}
-use Rattle.std.proofs.lemmas.Bool.{leb-true}
+use Rattle.std.proofs.lemmas.Bool.{leb-true, false≢true}
 use Rattle.pte.specs.declared.flags.PteFlags.{PteFlags}
 use Rattle.pte.specs.declared.entry.Kind.TheVariants as kinds
 use Rattle.pte.specs.Address.{Span, IsPage, table_length, vpn_of}
@@ -17,38 +17,41 @@ use Rattle.spaces.specs.Layout.{Layout, is_root, window_ppn, first_window_slot}
 use Rattle.spaces.specs.Held.{IsLayout}
 use Rattle.spaces.specs.Opening.{opening, is_word, first_word, root_word}
 use Rattle.spaces.specs.Edits.{Store, place_of, page_of}
-use Rattle.spaces.specs.Effects.{SameMaps, AddsPage, RemovesPage, ChangesFlags, HasEffect}
+use Rattle.spaces.specs.Effects.{SameMaps, AddsPage, RemovesPage, ChangesFlags, EmptiesSpace, HasEffect}
+use Rattle.spaces.specs.Holders.{emptied}
+use Rattle.spaces.proofs.Emptying.{empties-space}
 use Rattle.spaces.proofs.EditLaws.{edit-effect}
 use Rattle.spaces.proofs.EntryWords.{pointed-table}
 use Rattle.spaces.proofs.Paths.{some-same, vpn-below}
 use Rattle.spaces.proofs.Trees.{kind-zero}
 use Rattle.history.specs.Setup.{Setup}
 use Rattle.history.specs.declared.event.Event.{Event}
-use Rattle.history.specs.declared.event.Event.TheVariants.{Map, Unmap, Protect}
+use Rattle.history.specs.declared.event.Event.TheVariants.{Map, Unmap, Protect, Reclaim}
 use Rattle.history.specs.declared.reply.Reply.{Reply}
-use Rattle.history.specs.Turns.{History, is_table, is_leaf, is_opened}
-use Rattle.history.specs.Orders.{page_request}
-use Rattle.history.specs.Tables.{words_of, used_spares, with_store}
-use Rattle.history.specs.Due.{edit_at, due, Lawful}
+use Rattle.history.specs.Turns.{History, is_ok, is_table, is_leaf, is_opened}
+use Rattle.history.specs.Spaces.{holder_of}
+use Rattle.history.specs.Tables.{words_of, with_store}
+use Rattle.history.specs.Due.{is_place, retires, edit_at, due, Lawful}
 use Rattle.laws.specs.Kept.{HasPage, HavePages, IsSetup}
 use Rattle.laws.proofs.Tools.{by_test}
-use Rattle.laws.proofs.Accepted.{turn_of, EditFound, unmap_edit, protect_edit}
-use Rattle.laws.proofs.Causes.{IsAsked, halved}
+use Rattle.laws.proofs.Accepted.{turn_of, ReclaimFound, reclaim_found, EditFound, unmap_edit, protect_edit}
+use Rattle.laws.proofs.Causes.{IsAsked, has_place, halved}
 use Rattle.laws.proofs.TreeKept.{tree, is_edit, map_edit, opened_some}
 
--- an edit's place and page, as an order asks for them
-abbrev pub IsEdited : Setup → Place → Span → Type 0
-IsEdited C place page = IsAsked C place page (page_request C place page)
+-- an edit's place and page, as an order asks for them, of a place that is there and does not retire
+abbrev pub IsEdited : Setup → History → Place → Span → Type 0
+IsEdited C H place page = IsAsked C place page × (is_place C H place ≡ true) × (retires H place ≡ false)
 
 -- what a turn does to what the roots map: nothing, or what its edit says
-pub data Changes (C : Setup) (r : Reply) (old new : Tables) : Event → Type 0 where
-  keeps : (event : Event) → SameMaps C.layout old new → Changes C r old new event
-  adds : (hart : ℕ) (place : Place) (page : Span) (ppn : ℕ) (flags : PteFlags) → is_leaf r ≡ true → IsEdited C place page → AddsPage C.layout place page ppn flags old new
-      → Changes C r old new (Map hart place page ppn flags)
-  removes : (hart : ℕ) (place : Place) (page : Span) (named : ℕ) → is_opened r ≡ true → IsEdited C place page → RemovesPage C.layout place page old new
-      → Changes C r old new (Unmap hart place page named)
-  changes_flags : (hart : ℕ) (place : Place) (page : Span) (flags : PteFlags) (named : ℕ) → is_opened r ≡ true → IsEdited C place page → ChangesFlags C.layout place page flags old new
-      → Changes C r old new (Protect hart place page flags named)
+pub data Changes (C : Setup) (H : History) (r : Reply) (old new : Tables) : Event → Type 0 where
+  keeps : (event : Event) → SameMaps C.layout old new → Changes C H r old new event
+  adds : (hart : ℕ) (place : Place) (page : Span) (ppn : ℕ) (flags : PteFlags) → is_leaf r ≡ true → IsEdited C H place page → AddsPage C.layout place page ppn flags old new
+      → Changes C H r old new (Map hart place page ppn flags)
+  removes : (hart : ℕ) (place : Place) (page : Span) (named : ℕ) → is_opened r ≡ true → IsEdited C H place page → RemovesPage C.layout place page old new
+      → Changes C H r old new (Unmap hart place page named)
+  changes_flags : (hart : ℕ) (place : Place) (page : Span) (flags : PteFlags) (named : ℕ) → is_opened r ≡ true → IsEdited C H place page → ChangesFlags C.layout place page flags old new
+      → Changes C H r old new (Protect hart place page flags named)
+  empties : (hart space : ℕ) → is_ok r ≡ true → ReclaimFound C H space → EmptiesSpace C.layout space old new → Changes C H r old new (Reclaim hart space)
 
 same_maps : (l : Layout) (words : Tables) → SameMaps l words words
 same_maps l words = λ s number ppn flags global has. (λ m. m, λ m. m)
@@ -81,27 +84,27 @@ module _ (l : Layout) (fits : IsLayout l) where
 
 module _ (C : Setup) (setup : IsSetup C) (H : History) (l : Lawful C H) (pages : HavePages H) where
   -- an edit that is due, and what it does
-  edited : (hart : ℕ) (w : Wish) → EditFound C H hart w → IsPage (page_of w) → IsEdited C (place_of w) (page_of w)
-  edited hart w e page = record { there = e.there; right_half = halved C H hart w e.store e.is; is_page = page; asks = refl }
+  edited : (hart : ℕ) (w : Wish) → EditFound C H hart w → IsPage (page_of w) → IsEdited C H (place_of w) (page_of w)
+  edited hart w e page = (record { there = has_place C H setup.homes (place_of w) e.there; right_half = halved C H hart w e.store e.is; is_page = page }, e.there, e.live)
 
   effect : (hart : ℕ) (w : Wish) (e : EditFound C H hart w) → IsPage (page_of w) → HasEffect C.layout w e.store (words_of C H) (with_store (words_of C H) (edit_at C H hart w))
   effect hart w e page =
       let store = e.store in
       subst (λ (answer : Result Store MapFault). HasEffect C.layout w store (words_of C H) (with_store (words_of C H) answer)) (sym e.is)
-      (edit-effect C.layout (words_of C H) (used_spares H) hart w store
+      (edit-effect C.layout (words_of C H) (holder_of H) hart w store
       (is_edit C H hart w store setup.layout setup.homes (tree C setup.layout setup.homes H l pages) e.there page e.is))
 
   pub map_changes : (hart : ℕ) (place : Place) (page : Span) (ppn : ℕ) (flags : PteFlags) (r : Reply) → r ≡ due C H (Map hart place page ppn flags) → IsPage page
-      → (is_table r || is_leaf r) ≡ true → Changes C r (words_of C H) (with_store (words_of C H) (edit_at C H hart (wish.Map place page ppn flags))) (Map hart place page ppn flags)
+      → (is_table r || is_leaf r) ≡ true → Changes C H r (words_of C H) (with_store (words_of C H) (edit_at C H hart (wish.Map place page ppn flags))) (Map hart place page ppn flags)
   map_changes hart place page ppn flags r d is_page z =
       let m = map_edit C H hart place page ppn flags r d z in
-      let does = effect hart (wish.Map place page ppn flags) m.0 is_page in
-      by_test (λ _. Changes C r (words_of C H) (with_store (words_of C H) (edit_at C H hart (wish.Map place page ppn flags))) (Map hart place page ppn flags)) (is_table r)
-      (λ t. keeps (Map hart place page ppn flags) (does.0 (sym m.1 ∙ t)))
-      (λ t. adds hart place page ppn flags (sym (ap (λ v. v || is_leaf r) t) ∙ z) (edited hart (wish.Map place page ppn flags) m.0 is_page) (does.1 (sym m.1 ∙ t)))
+      let does = effect hart (wish.Map place page ppn flags) m.edit is_page in
+      by_test (λ _. Changes C H r (words_of C H) (with_store (words_of C H) (edit_at C H hart (wish.Map place page ppn flags))) (Map hart place page ppn flags)) (is_table r)
+      (λ t. keeps (Map hart place page ppn flags) (does.0 (sym m.table ∙ t)))
+      (λ t. adds hart place page ppn flags (sym (ap (λ v. v || is_leaf r) t) ∙ z) (edited hart (wish.Map place page ppn flags) m.edit is_page) (does.1 (sym m.table ∙ t)))
 
   pub unmap_removes : (hart : ℕ) (place : Place) (page : Span) (named : ℕ) (r : Reply) → r ≡ due C H (Unmap hart place page named) → IsPage page → is_opened r ≡ true
-      → IsEdited C place page × RemovesPage C.layout place page (words_of C H) (with_store (words_of C H) (edit_at C H hart (wish.Unmap place page)))
+      → IsEdited C H place page × RemovesPage C.layout place page (words_of C H) (with_store (words_of C H) (edit_at C H hart (wish.Unmap place page)))
   unmap_removes hart place page named r d is_page z =
       let t = opened_some r z in
       let e = unmap_edit C H hart place page named t.0 r d t.1 in
@@ -109,23 +112,36 @@ module _ (C : Setup) (setup : IsSetup C) (H : History) (l : Lawful C H) (pages :
 
   protect_changes : (hart : ℕ) (place : Place) (page : Span) (flags : PteFlags) (named : ℕ) (r : Reply) → r ≡ due C H (Protect hart place page flags named) → IsPage page
       → is_opened r ≡ true
-      → IsEdited C place page × ChangesFlags C.layout place page flags (words_of C H) (with_store (words_of C H) (edit_at C H hart (wish.Protect place page flags)))
+      → IsEdited C H place page × ChangesFlags C.layout place page flags (words_of C H) (with_store (words_of C H) (edit_at C H hart (wish.Protect place page flags)))
   protect_changes hart place page flags named r d is_page z =
       let t = opened_some r z in
       let e = protect_edit C H hart place page flags named t.0 r d t.1 in
       (edited hart (wish.Protect place page flags) e is_page, effect hart (wish.Protect place page flags) e is_page)
 
-  pub changes : (event : Event) (r : Reply) → r ≡ due C H event → HasPage event → Changes C r (words_of C H) (words_of C (turn_of event r ∷ H)) event
+  pub reclaim_empties : (hart space : ℕ) (r : Reply) → r ≡ due C H (Reclaim hart space) → is_ok r ≡ true
+      → EmptiesSpace C.layout space (words_of C H) (words_of C (turn_of (Reclaim hart space) r ∷ H))
+  reclaim_empties hart space r d z =
+      let f = reclaim_found C H hart space r d z in
+      by_test (λ v. is_ok r ≡ v → EmptiesSpace C.layout space (words_of C H) (cond v (emptied C.layout (holder_of H) space (words_of C H)) (words_of C H))) (is_ok r)
+      (λ _ _. empties-space C.layout setup.layout (words_of C H) (holder_of H) (tree C setup.layout setup.homes H l pages) space (subst (λ n. space < n) setup.homes f.there))
+      (λ _ no_. absurd (false≢true (sym no_ ∙ z))) refl
+
+  pub changes : (event : Event) (r : Reply) → r ≡ due C H event → HasPage event → Changes C H r (words_of C H) (words_of C (turn_of event r ∷ H)) event
   changes (Map hart place page ppn flags) r d has =
-      by_test (λ v. Changes C r (words_of C H) (cond v (with_store (words_of C H) (edit_at C H hart (wish.Map place page ppn flags))) (words_of C H)) (Map hart place page ppn flags)) (is_table r || is_leaf r)
+      by_test (λ v. Changes C H r (words_of C H) (cond v (with_store (words_of C H) (edit_at C H hart (wish.Map place page ppn flags))) (words_of C H)) (Map hart place page ppn flags)) (is_table r || is_leaf r)
       (map_changes hart place page ppn flags r d has)
       (λ _. keeps (Map hart place page ppn flags) (same_maps C.layout (words_of C H)))
   changes (Unmap hart place page named) r d has =
-      by_test (λ v. Changes C r (words_of C H) (cond v (with_store (words_of C H) (edit_at C H hart (wish.Unmap place page))) (words_of C H)) (Unmap hart place page named)) (is_opened r)
+      by_test (λ v. Changes C H r (words_of C H) (cond v (with_store (words_of C H) (edit_at C H hart (wish.Unmap place page))) (words_of C H)) (Unmap hart place page named)) (is_opened r)
       (λ z. let u = unmap_removes hart place page named r d has z in removes hart place page named z u.0 u.1)
       (λ _. keeps (Unmap hart place page named) (same_maps C.layout (words_of C H)))
   changes (Protect hart place page flags named) r d has =
-      by_test (λ v. Changes C r (words_of C H) (cond v (with_store (words_of C H) (edit_at C H hart (wish.Protect place page flags))) (words_of C H)) (Protect hart place page flags named)) (is_opened r)
+      by_test (λ v. Changes C H r (words_of C H) (cond v (with_store (words_of C H) (edit_at C H hart (wish.Protect place page flags))) (words_of C H)) (Protect hart place page flags named)) (is_opened r)
       (λ z. let u = protect_changes hart place page flags named r d has z in changes_flags hart place page flags named z u.0 u.1)
       (λ _. keeps (Protect hart place page flags named) (same_maps C.layout (words_of C H)))
+  changes (Reclaim hart space) r d has =
+      by_test (λ v. Changes C H r (words_of C H) (cond v (emptied C.layout (holder_of H) space (words_of C H)) (words_of C H)) (Reclaim hart space)) (is_ok r)
+      (λ z. let f = reclaim_found C H hart space r d z in
+      empties hart space z f (empties-space C.layout setup.layout (words_of C H) (holder_of H) (tree C setup.layout setup.homes H l pages) space (subst (λ n. space < n) setup.homes f.there)))
+      (λ _. keeps (Reclaim hart space) (same_maps C.layout (words_of C H)))
   changes event r d has = keeps event (same_maps C.layout (words_of C H))

@@ -11,7 +11,8 @@ use Rattle.tlb.specs.Answer.{entry_of}
 use Rattle.tlb.specs.Fence.{is_fenced}
 use Rattle.tlb.specs.Service.{is_served}
 use Rattle.tlb.proofs.Keeping.{All-filled}
-use Rattle.history.specs.Setup.{Setup, asid_of}
+use Rattle.history.specs.Setup.{Setup}
+use Rattle.history.specs.Spaces.{asid_of}
 use Rattle.history.specs.declared.event.Event.{Event}
 use Rattle.history.specs.declared.event.Event.TheVariants.{Load, Fence, ServeFence, Ack, AckSelf}
 use Rattle.history.specs.declared.reply.Reply.{Reply}
@@ -38,9 +39,9 @@ found_each P asid (Ok found) old all new = All-filled P old (entry_of asid found
 found_each P asid (Err trap) old all new = all
 
 fill_each : (C : Setup) (H : History) (P : Entry → Type 0) (space : ℕ) (walk : Option Walking) (old : List Entry) → All P old
-    → ((w : Walking) (found : Found) → walk ≡ Some w → outcome_of C H space w ≡ Ok found → P (entry_of (asid_of C space) found)) → All P (with_fill C H space walk old)
+    → ((w : Walking) (found : Found) → walk ≡ Some w → outcome_of C H space w ≡ Ok found → P (entry_of (asid_of C H space) found)) → All P (with_fill C H space walk old)
 fill_each C H P space None old all new = all
-fill_each C H P space (Some w) old all new = found_each P (asid_of C space) (outcome_of C H space w) old all (λ found e. new w found refl e)
+fill_each C H P space (Some w) old all new = found_each P (asid_of C H space) (outcome_of C H space w) old all (λ found e. new w found refl e)
 
 filter_each : (P : Entry → Type 0) (test : Entry → Bool) (apply : Bool) (old : List Entry) → All P old → All P (cond apply (filter test old) old)
 filter_each P test true old all = All-filter test P old all
@@ -53,7 +54,7 @@ entries_each C (Load b) r H h P all new =
     (λ z. let y = and_parts (is_filled r) (eqb b h) z in
     let bh : b ≡ h = eqb-true b h y.1 in
     fill_each C H P (space_of H h) (walk_of H h) (entries_of C H h) all
-    (λ w found is finds. new (entry_of (asid_of C (space_of H h)) found)
+    (λ w found is finds. new (entry_of (asid_of C H (space_of H h)) found)
     (record { walk = w; found = found; event = ap Load bh; accepted = y.0; walking = is; finds = finds; is = refl })))
     (λ _. all)
 entries_each C (Fence b rs1 rs2) r H h P all new = filter_each P (λ e. not (is_fenced C.layout.scheme rs1 rs2 e)) (is_ok r && eqb b h) (entries_of C H h) all

@@ -15,7 +15,8 @@ use Rattle.spaces.specs.Layout.{root_ppn}
 use Rattle.tlb.specs.declared.store.Entry.{Entry}
 use Rattle.tlb.specs.Mappings.{Mapping, IsMappingOf}
 use Rattle.tlb.specs.Answer.{entry_of}
-use Rattle.history.specs.Setup.{Setup, asid_of}
+use Rattle.history.specs.Setup.{Setup}
+use Rattle.history.specs.Spaces.{asid_of}
 use Rattle.history.specs.Turns.{Turn, History}
 use Rattle.history.specs.Tables.{words_of}
 use Rattle.history.specs.Harts.{space_of}
@@ -40,5 +41,5 @@ pub fill_maps : (C : Setup) (turn : Turn) (H : History) (h : ℕ) (e : Entry) (m
     → Maps C.layout.scheme (words_of C H) (root_ppn C.layout (space_of H h)) m.page m.ppn m.flags e.global
 fill_maps C turn H h e m l f of =
     let out = (walk_outcome C H h (space_of H h) f.walk (Ok f.found) l f.walking).0 (sym f.finds) in
-    let is : e ≡ entry_of (asid_of C (space_of H h)) f.found = f.is in
-    rw is (found_maps C.layout.scheme (words_of C H) (root_ppn C.layout (space_of H h)) f.walk.va (asid_of C (space_of H h)) f.walk.access f.walk.ctx f.found m out (rw is at of))
+    let is : e ≡ entry_of (asid_of C H (space_of H h)) f.found = f.is in
+    rw is (found_maps C.layout.scheme (words_of C H) (root_ppn C.layout (space_of H h)) f.walk.va (asid_of C H (space_of H h)) f.walk.access f.walk.ctx f.found m out (rw is at of))

@@ -21,3 +21,6 @@ pub mod MapsKept
 pub mod Setups
 mod PremisesMet
 mod Refuted
+mod Asids
+mod Remaining
+mod Walkers

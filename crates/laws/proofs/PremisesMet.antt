@@ -1,9 +1,8 @@
 -- The worked runs meet the premises of the laws.
-use Rattle.std.proofs.Common.{◌≡◌, ℕ, zero, suc, ◌<◌, ◌^◌, [], ◌∷◌, refl, arith, inl, inr}
+use Rattle.std.proofs.Common.{◌≡◌, ℕ, zero, suc, ◌<◌, ◌^◌, [], ◌∷◌, Some, None, refl, arith, inl, inr}
 use Rattle.std.proofs.lemmas.List.Elements.{All-from_recursion}
 use Rattle.pte.specs.Address.{IsPage}
-use Rattle.spaces.specs.declared.places.Place.TheVariants.{Space, Kernel}
-use Rattle.history.specs.Setup.{asid_of}
+use Rattle.history.specs.Spaces.{asid_of}
 use Rattle.history.specs.Orders.{Unmapped, Protected}
 use Rattle.history.specs.Staleness.{HasAnswered}
 use Rattle.history.specs.WorkedRuns.{history_of, large_page, small_page, two_harts}
@@ -11,16 +10,16 @@ use Rattle.history.specs.KernelRuns as kernel
 use Rattle.history.specs.ShootdownRuns as shootdowns
 use Rattle.laws.specs.Kept.{HavePages, IsSetup}
 
-first : (s : ℕ) → s < 1 → asid_of two_harts s < 2 ^ 16
+first : (s : ℕ) → s < 1 → asid_of two_harts [] s < 2 ^ 16
 first zero below = omega arith
 first (suc s) below = absurd (omega (arith, below))
 
-second : (s : ℕ) → s < 2 → asid_of kernel.spaces_of_two_homes s < 2 ^ 16
+second : (s : ℕ) → s < 2 → asid_of kernel.spaces_of_two_homes [] s < 2 ^ 16
 second zero below = omega arith
 second (suc zero) below = omega arith
 second (suc (suc s)) below = absurd (omega (arith, below))
 
-apart : (s t : ℕ) → s < 2 → t < 2 → asid_of kernel.spaces_of_two_homes s ≡ asid_of kernel.spaces_of_two_homes t → s ≡ t
+apart : (s t : ℕ) → s < 2 → t < 2 → asid_of kernel.spaces_of_two_homes [] s ≡ asid_of kernel.spaces_of_two_homes [] t → s ≡ t
 apart zero zero below below' same = refl
 apart zero (suc zero) below below' same = absurd (omega (arith, same))
 apart (suc zero) zero below below' same = absurd (omega (arith, same))
@@ -30,6 +29,7 @@ apart s (suc (suc t)) below below' same = absurd (omega (arith, below'))
 
 pub one_space : IsSetup two_harts
 one_space = record {
+  harts = omega arith;
   layout = record {
     some_space = omega arith;
     spaces = omega arith;
@@ -50,6 +50,7 @@ one_space = record {
 
 pub two_spaces : IsSetup kernel.spaces_of_two_homes
 two_spaces = record {
+  harts = omega arith;
   layout = record {
     some_space = omega arith;
     spaces = omega arith;
@@ -73,17 +74,17 @@ kernel_small = record { canonical = inr (omega arith, omega arith); aligned = re
 pub superpage_pages : HavePages (history_of shootdowns.superpage_shootdown)
 superpage_pages = (((((((((((((((((((tt, large), large), tt), tt), tt), large), tt), tt), tt), tt), tt), tt), tt), tt), tt), tt), tt), tt), tt)
 
-pub superpage_answered : HasAnswered two_harts (history_of shootdowns.superpage_shootdown) 5 1 (Unmapped (Space 0) (large_page 0x400000))
+pub superpage_answered : HasAnswered two_harts (history_of shootdowns.superpage_shootdown) 5 1 (Unmapped (Some 1) (large_page 0x400000))
 superpage_answered = record { order = _; is = refl; same_cause = refl; named = refl; acked = refl }
 
 pub read_only_pages : HavePages (history_of shootdowns.superpage_made_read_only)
 read_only_pages = ((((((((((((((tt, large), large), tt), tt), tt), large), tt), tt), tt), tt), tt), tt), tt), tt)
 
-pub read_only_answered : HasAnswered two_harts (history_of shootdowns.superpage_made_read_only) 5 1 (Protected (Space 0) (large_page 0x400000))
+pub read_only_answered : HasAnswered two_harts (history_of shootdowns.superpage_made_read_only) 5 1 (Protected (Some 1) (large_page 0x400000))
 read_only_answered = record { order = _; is = refl; same_cause = refl; named = refl; acked = refl }
 
 pub kernel_pages : HavePages (history_of kernel.kernel_page_outlives_an_asid_fence)
 kernel_pages = (((((((((((((((((((tt, kernel_small), kernel_small), tt), tt), tt), tt), tt), tt), tt), tt), kernel_small), tt), tt), tt), tt), tt), tt), tt), tt)
 
-pub kernel_answered : HasAnswered kernel.spaces_of_two_homes (history_of kernel.kernel_page_outlives_an_asid_fence) 10 1 (Unmapped Kernel (small_page 0xffffffffc0000000))
+pub kernel_answered : HasAnswered kernel.spaces_of_two_homes (history_of kernel.kernel_page_outlives_an_asid_fence) 10 1 (Unmapped None (small_page 0xffffffffc0000000))
 kernel_answered = record { order = _; is = refl; same_cause = refl; named = refl; acked = refl }

@@ -21,7 +21,7 @@ use Rattle.laws.specs.Posts.{IsAcceptedPost, IsLive, IsOwn, StandsIn}
 use Rattle.laws.specs.Counterexamples.{order_to, post_of}
 
 pub without_sender : ¬ IsOrder (history_of two_posts) 0 (order_to 0 (false ∷ true ∷ []))
-without_sender is = true≢false (sym is.names_sender)
+without_sender is = true≢false (sym (is.names_sender (omega arith)))
 
 pub ticket_64 : ¬ IsOrder (history_of two_posts) 0 (order_to 64 (true ∷ true ∷ []))
 ticket_64 is = let bound = is.ticket_bound in omega (arith, bound)

@@ -40,6 +40,7 @@ setup c meets fit =
     let homes : length (map (λ s. s.home) c.spaces.items) ≡ length c.spaces.items = length-map c.spaces.items (λ s. s.home) in
     let bounds : All (λ asid. asid < 2 ^ asid_bits) (map (λ s. s.asid) c.spaces.items) = All-map (λ asid. asid < 2 ^ asid_bits) (λ s. s.asid) c.spaces.items fit in
     record {
+      harts = (let spares = meets.spares in let fits = (layout-meets c meets).harts in omega (arith, spares, fits));
       layout = layout-meets c meets;
       homes = asids ∙ sym homes;
       asids = record {

@@ -1,51 +1,54 @@
 -- What Clear rests on besides tickets and fences: events speak of pages, ASIDs are distinct, and what the tables keep.
-use Rattle.std.specs.Prelude.{ℕ, ◌≡◌, ◌<◌, ◌^◌, Bool, true, false, [], ◌∷◌, length, Some}
+use Rattle.std.specs.Prelude.{ℕ, ◌≡◌, ◌<◌, ◌≤◌, ◌^◌, Bool, true, false, [], ◌∷◌, length, Option, Some}
 use Rattle.pte.specs.Address.{Span, IsPage}
 use Rattle.pte.specs.declared.flags.PteFlags.{PteFlags}
 use Rattle.walk.specs.Maps.{Maps}
-use Rattle.spaces.specs.declared.places.Place.{Place}
 use Rattle.spaces.specs.declared.places.Place.TheVariants.{Space, Kernel}
 use Rattle.spaces.specs.Layout.{root_ppn}
 use Rattle.spaces.specs.Held.{IsLayout}
 use Rattle.spaces.specs.Edits.{is_wrong_half}
 use Rattle.tlb.specs.Fence.{asid_bits}
 use Rattle.tlb.specs.Mappings.{LiesIn}
-use Rattle.history.specs.Setup.{Setup, asid_of}
+use Rattle.history.specs.Setup.{Setup}
+use Rattle.history.specs.Spaces.{status_of, is_free, asid_of}
+use Rattle.shoot.specs.declared.TheConstants.{MAX_HARTS}
 use Rattle.history.specs.declared.event.Event.{Event}
-use Rattle.history.specs.declared.event.Event.TheVariants.{Map, Unmap, Protect}
+use Rattle.history.specs.declared.event.Event.TheVariants.{Map, Unmap, Protect, Create}
 use Rattle.history.specs.Turns.{Turn, History}
 use Rattle.history.specs.Orders.{Order, Unmapped, order_at}
 use Rattle.history.specs.Tables.{words_of}
 use Rattle.history.specs.Staleness.{is_mapped_anew, is_superseded, IsChange, IsRootOf}
 
--- the page of an event is one: its base is canonical and a multiple of its size
+-- the page of an event is one: its base is canonical and a multiple of its size; and an ASID has 16 bits
 abbrev pub HasPage : Event → Type 0
 HasPage (Map hart place page ppn flags) = IsPage page
 HasPage (Unmap hart place page named) = IsPage page
 HasPage (Protect hart place page flags named) = IsPage page
+HasPage (Create hart space asid) = asid < 2 ^ asid_bits
 HasPage _ = Unit {0}
 
 abbrev pub HavePages : History → Type 0
 HavePages [] = Unit {0}
 HavePages (turn ∷ H) = HavePages H × HasPage turn.event
 
--- there is a space, and each has an ASID of its own
+-- there is a space, and each has an ASID of its own at the opening
 pub record HasAsids (C : Setup) : Type 0 where
   pub some_space : 0 < length C.asids
-  pub bound : (s : ℕ) → s < length C.asids → asid_of C s < 2 ^ asid_bits
-  pub distinct : (s t : ℕ) → s < length C.asids → t < length C.asids → asid_of C s ≡ asid_of C t → s ≡ t
+  pub bound : (s : ℕ) → s < length C.asids → asid_of C [] s < 2 ^ asid_bits
+  pub distinct : (s t : ℕ) → s < length C.asids → t < length C.asids → asid_of C [] s ≡ asid_of C [] t → s ≡ t
 
--- what the laws ask of a setup: a layout within the limits, and an ASID of its own for each of its spaces
+-- what the laws ask of a setup: a layout and harts within the limits, and an ASID of its own for each of its spaces
 pub record IsSetup (C : Setup) : Type 0 where
+  pub harts : C.harts ≤ MAX_HARTS
   pub layout : IsLayout C.layout
   pub homes : length C.asids ≡ length C.layout.homes
   pub asids : HasAsids C
 
--- nothing is mapped in the page of an unmapping, from any root of its place, until it is mapped anew
+-- nothing is mapped in the page of an unmapping, from any root through which it is reached, until it is mapped anew
 abbrev pub StaysUnmapped : Setup → History → Type 0
 StaysUnmapped C H =
-    (k : ℕ) (order : Order) (place : Place) (page : Span) → order_at C H k ≡ Some order → order.cause ≡ Unmapped place page → is_mapped_anew C H k ≡ false
-    → (root n ppn : ℕ) (flags : PteFlags) (global : Bool) → IsRootOf C place root → LiesIn page n → ¬ Maps C.layout.scheme (words_of C H) root n ppn flags global
+    (k : ℕ) (order : Order) (of : Option ℕ) (page : Span) → order_at C H k ≡ Some order → order.cause ≡ Unmapped of page → is_mapped_anew C H k ≡ false
+    → (root n ppn : ℕ) (flags : PteFlags) (global : Bool) → IsRootOf C H of root → LiesIn page n → ¬ Maps C.layout.scheme (words_of C H) root n ppn flags global
 
 -- no page of the user's half is mapped global, from the root of any space
 abbrev pub UserPagesAreNotGlobal : Setup → History → Type 0
@@ -54,11 +57,11 @@ UserPagesAreNotGlobal C H =
     → ¬ Maps C.layout.scheme (words_of C H) (root_ppn C.layout space) n ppn flags true
 
 -- what is mapped in the page of an unmapping or a change of flags stays mapped, over one more turn, until the page is unmapped
--- or changed once more
+-- or changed once more, from a root through which the page is reached after the turn too
 abbrev pub StaysMapped : Setup → Turn → History → Type 0
 StaysMapped C turn H =
-    (k : ℕ) (order : Order) (place : Place) (page : Span) → order_at C H k ≡ Some order → IsChange order.cause place page → is_superseded C (turn ∷ H) k ≡ false
-    → (root n ppn : ℕ) (flags : PteFlags) (global : Bool) → IsRootOf C place root → LiesIn page n
+    (k : ℕ) (order : Order) (of : Option ℕ) (page : Span) → order_at C H k ≡ Some order → IsChange order.cause of page → is_superseded C (turn ∷ H) k ≡ false
+    → (root n ppn : ℕ) (flags : PteFlags) (global : Bool) → IsRootOf C H of root → IsRootOf C (turn ∷ H) of root → LiesIn page n
     → Maps C.layout.scheme (words_of C H) root n ppn flags global → Maps C.layout.scheme (words_of C (turn ∷ H)) root n ppn flags global
 
 -- what is mapped in the window from one root is mapped from each
@@ -66,3 +69,15 @@ abbrev pub WindowIsShared : Setup → History → Type 0
 WindowIsShared C H =
     (page : Span) (s t n ppn : ℕ) (flags : PteFlags) (global : Bool) → IsPage page → is_wrong_half C.layout Kernel page ≡ false → s < length C.asids → t < length C.asids
     → LiesIn page n → Maps C.layout.scheme (words_of C H) (root_ppn C.layout s) n ppn flags global → Maps C.layout.scheme (words_of C H) (root_ppn C.layout t) n ppn flags global
+
+-- no two live or retiring spaces have one ASID
+abbrev pub AsidsDiffer : Setup → History → Type 0
+AsidsDiffer C H =
+    (s t : ℕ) → s < length C.asids → t < length C.asids → is_free (status_of H s) ≡ false → is_free (status_of H t) ≡ false
+    → asid_of C H s ≡ asid_of C H t → s ≡ t
+
+-- a free space maps nothing in the user's half
+abbrev pub FreeMapsNothing : Setup → History → Type 0
+FreeMapsNothing C H =
+    (s : ℕ) (page : Span) (n ppn : ℕ) (flags : PteFlags) (global : Bool) → s < length C.asids → is_free (status_of H s) ≡ true
+    → IsPage page → is_wrong_half C.layout (Space s) page ≡ false → LiesIn page n → ¬ Maps C.layout.scheme (words_of C H) (root_ppn C.layout s) n ppn flags global

@@ -12,7 +12,7 @@ use Rattle.history.specs.Orders.{Order, order_at}
 pub record IsOrder (H : History) (k : ℕ) (order : Order) : Type 0 where
   pub below : k < length H
   pub ticket_bound : order.ticket < MAX_TICKETS
-  pub names_sender : contains order.named order.sender ≡ true
+  pub names_sender : order.sender < MAX_HARTS → contains order.named order.sender ≡ true
   pub names_harts : (h : ℕ) → contains order.named h ≡ true → h < MAX_HARTS
 
 -- the order k was opened by this sender under this ticket

@@ -17,7 +17,7 @@ ghost use Rattle.history.specs.Service.{served, has_fenced};
 ghost use Rattle.history.specs.Harts.{walk_of, space_of, entries_of};
 ghost use Rattle.history.specs.Tables.{words_of};
 ghost use Rattle.history.specs.Occurrences.{Sometime};
-ghost use Rattle.history.specs.Staleness.{Clear, Coherent};
+ghost use Rattle.history.specs.Staleness.{Clear, Coherent, HoldsUsedAsids, WalksUsedFrames};
 ghost use Rattle.history.specs.Acknowledgements.{is_posted, is_acked, is_collected, outstanding};
 ghost use Rattle.history.specs.Due.{Lawful, names};
 ghost use Rattle.spaces.specs.Held.{IsLayout};
@@ -25,9 +25,11 @@ ghost use Rattle.spaces.specs.declared.configuration.Config.{Config as Configura
 ghost use Rattle.spaces.specs.Limits.{max_frames, MeetsLimits};
 ghost use Rattle.tlb.specs.Fence.{asid_bits};
 ghost use Rattle.spaces.specs.Tree.{IsTree};
-ghost use Rattle.history.specs.Tables.{used_spares};
+ghost use Rattle.history.specs.Spaces.{Live, Retires, asid_of, holder_of, status_of};
+ghost use Rattle.shoot.specs.declared.TheConstants.{MAX_HARTS};
+ghost use Rattle.pte.specs.declared.address.What.TheVariants.{SpaceOf};
 ghost use Rattle.laws.specs.Fills.{Fills, FillsAcked};
-ghost use Rattle.laws.specs.Kept.{HavePages, IsSetup, StaysMapped, StaysUnmapped, UserPagesAreNotGlobal, WindowIsShared};
+ghost use Rattle.laws.specs.Kept.{AsidsDiffer, FreeMapsNothing, HavePages, IsSetup, StaysMapped, StaysUnmapped, UserPagesAreNotGlobal, WindowIsShared};
 ghost use Rattle.laws.specs.Orders.{IsOrder, IsOpenedBy, Finishes};
 ghost use Rattle.laws.specs.Outstanding.{is_collectable, outstanding_after};
 ghost use Rattle.laws.specs.Posts.{IsAcceptedPost, IsLive, IsOwn, IsOfOther, AreOfDifferent, StandsIn, waiting_posts};
@@ -193,9 +195,40 @@ pub fn changed_page_stays_coherent()
     ensures { (C : Setup) → IsSetup C → (H : History) (k h : ℕ) → Lawful C H → HavePages H → Coherent C H (entries_of C H h) k h }
 {}
 
-/// The table words are a tree after every lawful history whose events speak of pages, with as many spare frames in use as
-/// Maps answered with a new table.
+/// The table words are a tree after every lawful history whose events speak of pages, with the spare frames in use that Maps
+/// answered with a new table, but for those of spaces that were reclaimed since.
 pub fn tables_stay_a_tree()
     ensures { (C : Setup) → IsLayout C.layout → length C.asids ≡ length C.layout.homes
-        → (H : History) → Lawful C H → HavePages H → IsTree C.layout (words_of C H) (used_spares H) }
+        → (H : History) → Lawful C H → HavePages H → IsTree C.layout (words_of C H) (holder_of H) }
+{}
+
+/// No two live or retiring spaces have one ASID.
+pub fn used_asids_differ()
+    ensures { (C : Setup) → IsSetup C → (H : History) → Lawful C H → AsidsDiffer C H }
+{}
+
+/// A hart is in a live space.
+pub fn harts_are_in_live_spaces()
+    ensures { (C : Setup) → IsSetup C → (H : History) (h : ℕ) → Lawful C H → h < C.harts → status_of H (space_of H h) ≡ Live }
+{}
+
+/// A hart that has acknowledged the retirement of a space holds no entry that it drops, until the space is reclaimed.
+pub fn retired_space_is_not_held()
+    ensures { (C : Setup) → IsSetup C → (H : History) (s k h : ℕ) → Lawful C H → HavePages H → s < length C.asids → status_of H s ≡ Retires k
+        → is_acked C H k h ≡ true → All (λ e. is_served (SpaceOf (asid_of C H s)) e ≡ false) (entries_of C H h) }
+{}
+
+/// No entry that is not global is of an ASID that no live or retiring space has.
+pub fn held_asids_are_used()
+    ensures { (C : Setup) → IsSetup C → (H : History) (h : ℕ) → Lawful C H → HavePages H → HoldsUsedAsids C H (entries_of C H h) }
+{}
+
+/// A free space maps nothing in the user's half.
+pub fn free_space_maps_nothing()
+    ensures { (C : Setup) → IsSetup C → (H : History) → Lawful C H → HavePages H → FreeMapsNothing C H }
+{}
+
+/// A walk in flight is of a live space, and has come to no unused table frame.
+pub fn walks_hold_used_frames()
+    ensures { (C : Setup) → IsSetup C → (H : History) (h : ℕ) → Lawful C H → HavePages H → WalksUsedFrames C H h }
 {}

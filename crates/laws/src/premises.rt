@@ -1,7 +1,6 @@
 //! The premises of the laws can be met, by the worked runs of crate `history`: so the laws say something.
 
-ghost use Rattle.std.specs.Prelude.{◌≡◌, false};
-ghost use Rattle.spaces.specs.declared.places.Place.TheVariants.{Kernel, Space};
+ghost use Rattle.std.specs.Prelude.{◌≡◌, false, None, Some};
 ghost use Rattle.history.specs.Due.{Lawful};
 ghost use Rattle.history.specs.Orders.{Protected, Unmapped};
 ghost use Rattle.history.specs.Staleness.{HasAnswered, is_mapped_anew, is_superseded};
@@ -21,7 +20,7 @@ pub fn setups_are_met()
 pub fn premises_of_clear_are_met()
     ensures lawful { Lawful two_harts (history_of shootdowns.superpage_shootdown) }
     ensures pages { HavePages (history_of shootdowns.superpage_shootdown) }
-    ensures answered { HasAnswered two_harts (history_of shootdowns.superpage_shootdown) 5 1 (Unmapped (Space 0) (large_page 0x400000)) }
+    ensures answered { HasAnswered two_harts (history_of shootdowns.superpage_shootdown) 5 1 (Unmapped (Some 1) (large_page 0x400000)) }
     ensures not_anew { is_mapped_anew two_harts (history_of shootdowns.superpage_shootdown) 5 ≡ false }
 {}
 
@@ -29,7 +28,7 @@ pub fn premises_of_clear_are_met()
 pub fn premises_of_clear_are_met_by_a_kernel_page()
     ensures lawful { Lawful kernel.spaces_of_two_homes (history_of kernel.kernel_page_outlives_an_asid_fence) }
     ensures pages { HavePages (history_of kernel.kernel_page_outlives_an_asid_fence) }
-    ensures answered { HasAnswered kernel.spaces_of_two_homes (history_of kernel.kernel_page_outlives_an_asid_fence) 10 1 (Unmapped Kernel (small_page 0xffffffffc0000000)) }
+    ensures answered { HasAnswered kernel.spaces_of_two_homes (history_of kernel.kernel_page_outlives_an_asid_fence) 10 1 (Unmapped None (small_page 0xffffffffc0000000)) }
     ensures not_anew { is_mapped_anew kernel.spaces_of_two_homes (history_of kernel.kernel_page_outlives_an_asid_fence) 10 ≡ false }
 {}
 
@@ -37,6 +36,6 @@ pub fn premises_of_clear_are_met_by_a_kernel_page()
 pub fn premises_of_coherent_are_met()
     ensures lawful { Lawful two_harts (history_of shootdowns.superpage_made_read_only) }
     ensures pages { HavePages (history_of shootdowns.superpage_made_read_only) }
-    ensures answered { HasAnswered two_harts (history_of shootdowns.superpage_made_read_only) 5 1 (Protected (Space 0) (large_page 0x400000)) }
+    ensures answered { HasAnswered two_harts (history_of shootdowns.superpage_made_read_only) 5 1 (Protected (Some 1) (large_page 0x400000)) }
     ensures not_superseded { is_superseded two_harts (history_of shootdowns.superpage_made_read_only) 5 ≡ false }
 {}

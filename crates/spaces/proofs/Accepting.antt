@@ -19,6 +19,7 @@ use Rattle.spaces.specs.declared.faults.MapFault.{MapFault}
 use Rattle.spaces.specs.declared.faults.MapFault.TheVariants.{NotHome, WrongHalf, BadFlags, PpnTooLarge, Misaligned}
 use Rattle.spaces.specs.Layout.{Layout, HasPlace, home_of, root_ppn, first_window_slot}
 use Rattle.spaces.specs.Held.{IsLayout}
+use Rattle.spaces.specs.Holders.{Holders}
 use Rattle.spaces.specs.Edits.{Store, place_of, page_of, is_kernel, is_outside, is_wrong_half, is_bad, is_wrong_global, is_misaligned, leaf_fault, wish_fault, path_root, page_word, upper_word, pointer_word, due_word, store_at, unless, wish_end, edit_of}
 use Rattle.spaces.specs.Tree.{start_level, start_table, IsIn, table_on, IsEntryOf, IsTree}
 use Rattle.walk.specs.Pointers.{pointed, pointed_kind, table_below}
@@ -31,14 +32,14 @@ pub unless-ok : (o : Option MapFault) (r : Result Store MapFault) (store : Store
 unless-ok None r store e = (refl, e)
 unless-ok (Some fault) r store e = absurd (let bad : Err fault ≡ Ok store = e in cc)
 
-pub record Stored (hart va : ℕ) (end : PathEnd) (r : Result ℕ MapFault) (store : Store) : Type 0 where
+pub record Stored (place : Place) (va : ℕ) (end : PathEnd) (r : Result ℕ MapFault) (store : Store) : Type 0 where
   pub new : ℕ
   pub due : r ≡ Ok new
-  pub is : store ≡ record { hart = hart; ppn = end.table; index = vpn_of va end.level; word = new }
+  pub is : store ≡ record { place = place; ppn = end.table; index = vpn_of va end.level; word = new }
 
-pub store_at-ok : (hart va : ℕ) (end : PathEnd) (r : Result ℕ MapFault) (store : Store) → store_at hart va end r ≡ Ok store → Stored hart va end r store
-store_at-ok hart va end (Ok new) store e = record { new = new; due = refl; is = cc }
-store_at-ok hart va end (Err fault) store e = absurd (let bad : Err fault ≡ Ok store = e in cc)
+pub store_at-ok : (place : Place) (va : ℕ) (end : PathEnd) (r : Result ℕ MapFault) (store : Store) → store_at place va end r ≡ Ok store → Stored place va end r store
+store_at-ok place va end (Ok new) store e = record { new = new; due = refl; is = cc }
+store_at-ok place va end (Err fault) store e = absurd (let bad : Err fault ≡ Ok store = e in cc)
 
 cond-none : (b : Bool) (fault : MapFault) (rest : Option MapFault) → cond b (Some fault) rest ≡ None → (b ≡ false) × (rest ≡ None)
 cond-none true fault rest e = absurd (let bad : Some fault ≡ None = e in cc)
@@ -184,7 +185,7 @@ some-of : (o : Option ℕ) → IsSome o → (n : ℕ) × (o ≡ Some n)
 some-of (Some n) e = (n, refl)
 some-of None e = absurd (let bad : false ≡ true = e in cc)
 
-module _ (l : Layout) (fits : IsLayout l) (words : Tables) (used : ℕ → ℕ) (tree : IsTree l words used) where
+module _ (l : Layout) (fits : IsLayout l) (words : Tables) (holders : Holders) (tree : IsTree l words holders) where
   pub home-there : (place : Place) → HasPlace l place → home_of l place < length l.spares
   home-there (Space s) has = fits.homes s 0 has
   home-there Kernel has = let h = fits.homes 0 0 fits.some_space in omega arith
@@ -240,7 +241,7 @@ module _ (l : Layout) (fits : IsLayout l) (words : Tables) (used : ℕ → ℕ) 
       pointed-no (Some w) t e not-table = pointed-kind-no (kind_of w) t e not-table
 
   accepted-end : (spare : Option ℕ) (hart : ℕ) (wish : Wish) (store : Store) → HasPlace l (place_of wish) → Unfaulted l hart wish
-      → Stored hart (page_of wish).base (wish_end l words wish) (due_word wish spare (wish_end l words wish)) store → Accepted l words spare hart wish store
+      → Stored (place_of wish) (page_of wish).base (wish_end l words wish) (due_word wish spare (wish_end l words wish)) store → Accepted l words spare hart wish store
   accepted-end spare hart wish store has unf stored =
       let end : PathEnd = wish_end l words wish in
       let lowest = fit-level l (place_of wish) (page_of wish) unf.half in
@@ -251,7 +252,7 @@ module _ (l : Layout) (fits : IsLayout l) (words : Tables) (used : ℕ → ℕ) 
       let free = no-table wish spare (wish_end l words wish) stored.new stored.due ends.stops ends.from in
       let at = depth-on (place_of wish) (page_of wish).base (level_of (page_of wish).size) (wish_end l words wish) ends in-half has free in
       let h = home-there (place_of wish) has in
-      let there = on l fits words (home_of l (place_of wish)) (used (home_of l (place_of wish))) (tree (home_of l (place_of wish)) h) (place_of wish) (page_of wish).base at.depth (wish_end l words wish).table has refl in-half at.on in
+      let there = on l fits words (home_of l (place_of wish)) holders (tree (home_of l (place_of wish)) h) (place_of wish) (page_of wish).base at.depth (wish_end l words wish).table has refl in-half at.on in
       let old = some-of (word_at words (page_of wish).base (wish_end l words wish).level (wish_end l words wish).table)
       ((tree (home_of l (place_of wish)) h).present (wish_end l words wish).table (vpn_of (page_of wish).base (wish_end l words wish).level) there.home (vpn-below (page_of wish).base (wish_end l words wish).level))
       in
@@ -261,7 +262,7 @@ module _ (l : Layout) (fits : IsLayout l) (words : Tables) (used : ℕ → ℕ) 
       record {
         home = unf.home;
         within = in-half;
-        by = ap (λ (s : Store). s.hart) stored.is;
+        by = ap (λ (s : Store). s.place) stored.is;
         depth = at.depth;
         deep = at.deep;
         on = at.on ∙ ap Some (sym (ap (λ (s : Store). s.ppn) stored.is));
@@ -278,7 +279,7 @@ module _ (l : Layout) (fits : IsLayout l) (words : Tables) (used : ℕ → ℕ) 
   accepted spare hart wish store has e =
       let parts = unless-ok (wish_fault l hart wish) _ store e in
       accepted-end spare hart wish store has (unfaulted l hart wish parts.0)
-      (store_at-ok hart (page_of wish).base (wish_end l words wish) (due_word wish spare (wish_end l words wish)) store parts.1)
+      (store_at-ok (place_of wish) (page_of wish).base (wish_end l words wish) (due_word wish spare (wish_end l words wish)) store parts.1)
 
 -- the page of an edit that is due is one of the scheme
 pub edit-fits : (l : Layout) (words : Tables) (spare : Option ℕ) (hart : ℕ) (wish : Wish) (store : Store) → edit_of l words spare hart wish ≡ Ok store → IsPage (page_of wish) → IsPageOf l.scheme (page_of wish)

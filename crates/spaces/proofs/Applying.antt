@@ -1,32 +1,38 @@
 -- What memory is after a store that is due.
-use Rattle.std.proofs.Common.{◌≡◌, ℕ, ◌+◌, ◌-◌, ◌*◌, ◌^◌, ◌<◌, ◌≤◌, ◌==◌, cond, Bool, true, false, List, Some, None, length, ap, sym, ◌∙◌, subst, refl, inl, inr, arith, is_some, length-set, get_or-set_same, get_or-set_other}
-use Rattle.std.specs.Prelude.{slice_index, slice_set, slice_get, nat_le, nat_lt}
-use Rattle.std.proofs.lemmas.Bool.{and_parts, eqb-true}
-use Rattle.std.proofs.lemmas.Bool.Decides.{nat_tests}
+use Rattle.std.proofs.Common.{◌≡◌, ℕ, ◌+◌, ◌-◌, ◌*◌, ◌^◌, ◌<◌, ◌≤◌, cond, eqb, Bool, true, false, List, Option, Some, None, length, ap, sym, ◌∙◌, subst, refl, inl, inr, arith, length-set}
+use Rattle.std.specs.Prelude.{slice_set, slice_get, nat_le, nat_lt}
+use Rattle.std.proofs.lemmas.Bool.{and_parts, cases_eq, eq-eqb, ne_eqb}
 use borrow.Author.Tests.{ltb-true, leb-true}
 use Rattle.pte.specs.Address.{table_length}
 use Rattle.spaces.specs.Layout.{Layout, home_of, is_frame, frame_count}
 use Rattle.spaces.specs.Opening.{is_word}
-use Rattle.spaces.specs.Held.{Held, IsMemory, IsDue, spare_of, spare_after, word_index, words_of}
+use Rattle.spaces.specs.Held.{Held, IsMemory, IsDue, spare_of, held_at, holders_of, word_index, words_of}
+use Rattle.spaces.specs.Holders.{Holders, unused_spare}
+use Rattle.spaces.specs.declared.places.Place.{Place}
+use Rattle.walk.specs.Leads.{Tables}
+use Rattle.std.proofs.Math.Path.{fun_ext}
 use Rattle.spaces.specs.Edits.{Store, place_of, page_of}
-use Rattle.spaces.specs.Tree.{start_level, IsHome, IsTree}
+use Rattle.spaces.specs.Tree.{start_level, of_spare, IsTree}
 use Rattle.walk.specs.Pointers.{pointed}
 use Rattle.spaces.specs.Accepted.{Accepted}
-use Rattle.spaces.specs.Applied.{words_after, used_by_all}
-use Rattle.spaces.proofs.Homes.{sum-within}
+use Rattle.spaces.specs.Applied.{words_after, points_at, holders_after}
 use Rattle.spaces.proofs.Lists.{slice_get-set_same, slice_get-set_other}
-use Rattle.spaces.proofs.Paths.{vpn-below}
+use Rattle.spaces.proofs.Paths.{vpn-below, some-same}
 use Rattle.spaces.proofs.Stored.{is-word, stored-here, stored-there}
-use Rattle.spaces.proofs.Trees.{home-same}
-use Rattle.spaces.proofs.Accepting.{accepted, home-there}
-use Rattle.spaces.proofs.Keeping.{keeps-tree, there}
-use Rattle.spaces.proofs.OpeningTree.{word-is}
+use Rattle.spaces.proofs.Accepting.{accepted}
+use Rattle.spaces.proofs.Keeping.{keeps-tree, there, leaf-or-pointer}
+use Rattle.spaces.proofs.OpeningTree.{word-is, frame-is}
 
-abbrev pub used_list : List ℕ → ℕ → ℕ → List ℕ
-used_list used hart word = cond (is_some (pointed (Some word))) (slice_set used hart (slice_index used hart + 1)) used
+abbrev pub held_list : ℕ → List (Option Place) → Place → Option ℕ → List (Option Place)
+held_list base holders place None = holders
+held_list base holders place (Some table) = slice_set holders (table - base) (Some place)
 
 abbrev pub held_after : Held → Store → Held
-held_after m store = record { layout = m.layout; words = slice_set m.words (word_index m.layout store.ppn store.index) store.word; used = used_list m.used store.hart store.word }
+held_after m store = record {
+  layout = m.layout;
+  words = slice_set m.words (word_index m.layout store.ppn store.index) store.word;
+  holders = held_list m.layout.base m.holders store.place (pointed (Some store.word));
+}
 
 pub record InMemory (l : Layout) (f i : ℕ) : Type 0 where
   pub from : l.base ≤ f
@@ -40,16 +46,14 @@ in-memory l f i h =
     record { from = leb-true l.base f frame.0; to = ltb-true f (l.base + frame_count l) frame.1; index = ltb-true i table_length parts.1 }
 
 module _ (m : Held) (held : IsMemory m) (store : Store) (due : IsDue m store) where
-  pub accepted-due : Accepted m.layout (words_of m) (spare_of m store.hart) store.hart due.wish store
-  accepted-due = accepted m.layout held.layout (words_of m) (λ h. slice_index m.used h) held.tree (spare_of m store.hart) store.hart due.wish store due.has due.is
-
-  pub at-home : Accepted m.layout (words_of m) (spare_after m.layout (home_of m.layout (place_of due.wish)) (slice_index m.used (home_of m.layout (place_of due.wish))))
-      (home_of m.layout (place_of due.wish)) due.wish store
-  at-home = subst (λ h. Accepted m.layout (words_of m) (spare_of m h) h due.wish store) accepted-due.home accepted-due
+  pub at-home : Accepted m.layout (words_of m) (unused_spare m.layout (holders_of m) (home_of m.layout (place_of due.wish))) (home_of m.layout (place_of due.wish)) due.wish store
+  at-home =
+      let acc = accepted m.layout held.layout (words_of m) (holders_of m) held.tree (spare_of m due.hart) due.hart due.wish store due.has due.is in
+      subst (λ h. Accepted m.layout (words_of m) (spare_of m h) h due.wish store) acc.home acc
 
   pub word-there : is_word m.layout store.ppn store.index ≡ true
   word-there =
-      let on = there m.layout held.layout (words_of m) (λ h. slice_index m.used h) held.tree due.wish due.has store at-home in
+      let on = there m.layout held.layout (words_of m) (holders_of m) held.tree due.wish due.has store at-home in
       let vpn = vpn-below (page_of due.wish).base (start_level m.layout (place_of due.wish) - at-home.depth) in
       word-is m.layout (home_of m.layout (place_of due.wish)) store.ppn store.index on.home (omega (arith, at-home.index))
 
@@ -59,11 +63,8 @@ module _ (m : Held) (held : IsMemory m) (store : Store) (due : IsDue m store) wh
   pub index-there : word_index m.layout store.ppn store.index < length m.words
   index-there = omega (arith, held.words, place-there.from, place-there.to, place-there.index)
 
-  pub hart-there : store.hart < length m.used
-  hart-there = let h = home-there m.layout held.layout (words_of m) (λ h. slice_index m.used h) held.tree (place_of due.wish) due.has in omega (arith, accepted-due.home, held.used)
-
-  tree-after : IsTree m.layout (words_after (words_of m) store) (used_by_all (λ h. slice_index m.used h) store)
-  tree-after = keeps-tree m.layout held.layout (words_of m) (λ h. slice_index m.used h) held.tree due.wish due.has store at-home
+  tree-after : IsTree m.layout (words_after (words_of m) store) (holders_after (holders_of m) (place_of due.wish) store)
+  tree-after = keeps-tree m.layout held.layout (words_of m) (holders_of m) held.tree due.wish due.has store at-home
 
   apart-index : (f i : ℕ) → is_word m.layout f i ≡ true → (store.ppn ≡ f → store.index ≡ i → ⊥) → word_index m.layout store.ppn store.index ≡ word_index m.layout f i → ⊥
   apart-index f i is apart e =
@@ -90,71 +91,79 @@ module _ (m : Held) (held : IsMemory m) (store : Store) (due : IsDue m store) wh
       by_test true is apart = slice_get-set_other m.words (word_index m.layout store.ppn store.index) (word_index m.layout f i) store.word (apart-index f i is apart)
       by_test false is apart = refl
 
-  pub used-held : (h : ℕ) → slice_index (used_list m.used store.hart store.word) h ≡ used_by_all (λ k. slice_index m.used k) store h
-  used-held h = by_pointer (is_some (pointed (Some store.word)))
+  -- the new table is a frame that is there
+  pub table-there : (t : ℕ) → pointed (Some store.word) ≡ Some t → is_frame m.layout t ≡ true
+  table-there t e = elim (leaf-or-pointer m.layout held.layout _ _ _ at-home.old due.wish store.word at-home.writes) [
+    | inl leaf ↦ absurd (let bad : None ≡ Some t = sym leaf.now ∙ e in cc)
+    | inr p ↦
+        let same : p.frame ≡ t = some-same _ _ (sym p.now ∙ e) in
+        ap (is_frame m.layout) (sym same) ∙ frame-is m.layout (home_of m.layout (place_of due.wish)) p.frame (of_spare p.room.number p.room.below p.room.is)
+  ]
+
+  pub frame-there : (t : ℕ) → is_frame m.layout t ≡ true → (m.layout.base ≤ t) × (t < m.layout.base + frame_count m.layout)
+  frame-there t e =
+      let p = and_parts (nat_le m.layout.base t) (nat_lt t (m.layout.base + frame_count m.layout)) e in
+      (leb-true m.layout.base t p.0, ltb-true t (m.layout.base + frame_count m.layout) p.1)
+
+  pub table-index : (t : ℕ) → pointed (Some store.word) ≡ Some t → (m.layout.base ≤ t) × (t - m.layout.base < length m.holders)
+  table-index t e = let r = frame-there t (table-there t e) in (r.0, omega (arith, r.0, r.1, held.holders))
+
+  holders-by : (f : ℕ) (o : Option ℕ) → ((t : ℕ) → o ≡ Some t → is_frame m.layout t ≡ true)
+      → cond (is_frame m.layout f) (held_at (slice_get (held_list m.layout.base m.holders store.place o) (f - m.layout.base))) None ≡ cond (points_at o f) (Some store.place) (holders_of m f)
+  holders-by f None there = refl
+  holders-by f (Some t) there = elim (cases_eq t f) [
+    | inl same ↦
+        let frame = there t refl in
+        let range = frame-there t frame in
+        let index : t - m.layout.base < length m.holders = omega (arith, range.0, range.1, held.holders) in
+        subst (λ (x : ℕ). cond (is_frame m.layout x) (held_at (slice_get (slice_set m.holders (t - m.layout.base) (Some store.place)) (x - m.layout.base))) None ≡ cond (eqb t x) (Some store.place) (holders_of m x)) same
+        (ap (λ b. cond b (held_at (slice_get (slice_set m.holders (t - m.layout.base) (Some store.place)) (t - m.layout.base))) None) frame
+        ∙ ap held_at (slice_get-set_same m.holders (t - m.layout.base) (Some store.place) index)
+        ∙ sym (ap (λ b. cond b (Some store.place) (holders_of m t)) (eq-eqb t t refl)))
+    | inr apart ↦ by_frame (is_frame m.layout f) refl apart ∙ sym (ap (λ b. cond b (Some store.place) (holders_of m f)) (ne_eqb t f apart))
+  ]
     where
-      by_hart : (b : Bool) → (h == store.hart) ≡ b → slice_index (slice_set m.used store.hart (slice_index m.used store.hart + 1)) h ≡ cond b (slice_index m.used h + 1) (slice_index m.used h)
-      by_hart true t =
-          let same : h ≡ store.hart = eqb-true h store.hart t in
-          ap (λ k. slice_index (slice_set m.used store.hart (slice_index m.used store.hart + 1)) k) same ∙ get_or-set_same m.used store.hart (slice_index m.used store.hart + 1) 0 hart-there
-          ∙ ap (λ k. slice_index m.used k + 1) (sym same)
-      by_hart false t = get_or-set_other m.used store.hart h (slice_index m.used store.hart + 1) 0 (λ e. let apart = t in absurd (grind (arith, nat_tests, e)))
+      by_frame : (b : Bool) → is_frame m.layout f ≡ b → (t ≡ f → ⊥)
+          → cond b (held_at (slice_get (slice_set m.holders (t - m.layout.base) (Some store.place)) (f - m.layout.base))) None ≡ cond b (held_at (slice_get m.holders (f - m.layout.base))) None
+      by_frame true is apart =
+          let a = frame-there t (there t refl) in
+          let b = frame-there f is in
+          ap held_at (slice_get-set_other m.holders (t - m.layout.base) (f - m.layout.base) (Some store.place) (λ e. apart (omega (arith, a.0, b.0, e))))
+      by_frame false is apart = refl
 
-      same-cond : (b : Bool) (n : ℕ) → n ≡ cond b n n
-      same-cond true n = refl
-      same-cond false n = refl
+  pub holders-held : (f : ℕ) → holders_of (held_after m store) f ≡ holders_after (holders_of m) store.place store f
+  holders-held f = holders-by f (pointed (Some store.word)) table-there
 
-      by_pointer : (p : Bool) → slice_index (cond p (slice_set m.used store.hart (slice_index m.used store.hart + 1)) m.used) h ≡ cond (h == store.hart) (cond p (slice_index m.used h + 1) (slice_index m.used h)) (slice_index m.used h)
-      by_pointer true = by_hart (h == store.hart) refl
-      by_pointer false = same-cond (h == store.hart) (slice_index m.used h)
-
-  home-held : (h : ℕ) → h < length m.layout.spares → IsHome m.layout (words_of (held_after m store)) h (slice_index (used_list m.used store.hart store.word) h)
-  home-held h less =
-      subst (IsHome m.layout (words_of (held_after m store)) h) (sym (used-held h))
-      (home-same m.layout held.layout (words_after (words_of m) store) (words_of (held_after m store)) h (used_by_all (λ k. slice_index m.used k) store h) (tree-after h less) (λ f i _. words-held f i))
-
-  length-used : length (used_list m.used store.hart store.word) ≡ length m.used
-  length-used = by_pointer (is_some (pointed (Some store.word)))
-    where
-      by_pointer : (p : Bool) → length (cond p (slice_set m.used store.hart (slice_index m.used store.hart + 1)) m.used) ≡ length m.used
-      by_pointer true = length-set m.used store.hart (slice_index m.used store.hart + 1)
-      by_pointer false = refl
+  length-held : (o : Option ℕ) → length (held_list m.layout.base m.holders store.place o) ≡ length m.holders
+  length-held None = refl
+  length-held (Some t) = length-set m.holders (t - m.layout.base) (Some store.place)
 
   pub memory-held : IsMemory (held_after m store)
   memory-held = record {
     layout = held.layout;
     words = length-set m.words (word_index m.layout store.ppn store.index) store.word ∙ held.words;
-    used = length-used ∙ held.used;
-    room = λ k less. (home-held k (omega (arith, length-used, held.used))).room;
-    tree = home-held;
+    holders = length-held (pointed (Some store.word)) ∙ held.holders;
+    tree =
+        subst (λ (x : Holders). IsTree m.layout (words_of (held_after m store)) x) (fun_ext (λ f. ap (λ p. holders_after (holders_of m) p store f) (sym at-home.by) ∙ sym (holders-held f)))
+        (subst (λ (x : Tables). IsTree m.layout x (holders_after (holders_of m) (place_of due.wish) store)) (fun_ext (λ f. fun_ext (λ i. sym (words-held f i)))) tree-after);
   }
 
-  -- a frame that is taken is a spare one
-  pub room-held : is_some (pointed (Some store.word)) ≡ true → slice_index m.used store.hart + 1 ≤ slice_index m.layout.spares store.hart
-  room-held e =
-      let after = (home-held store.hart (omega (arith, hart-there, held.used))).room in
-      let same : slice_index (used_list m.used store.hart store.word) store.hart ≡ slice_index m.used store.hart + 1 =
-      ap (λ b. slice_index (cond b (slice_set m.used store.hart (slice_index m.used store.hart + 1)) m.used) store.hart) e
-      ∙ get_or-set_same m.used store.hart (slice_index m.used store.hart + 1) 0 hart-there
-      in
-      omega arith
-
 -- the same, put together field by field
-pub held-by : (m : Held) (store : Store) (at : ℕ) (used : List ℕ) → at ≡ word_index m.layout store.ppn store.index → used ≡ used_list m.used store.hart store.word
-    → record { layout = m.layout; words = slice_set m.words at store.word; used = used } ≡ held_after m store
-held-by m store at used e u =
-    ap (λ k. let x : Held = record { layout = m.layout; words = slice_set m.words k store.word; used = used } in x) e
-    ∙ ap (λ k. let x : Held = record { layout = m.layout; words = slice_set m.words (word_index m.layout store.ppn store.index) store.word; used = k } in x) u
+pub held-by : (m : Held) (store : Store) (at : ℕ) (holders : List (Option Place)) → at ≡ word_index m.layout store.ppn store.index
+    → holders ≡ held_list m.layout.base m.holders store.place (pointed (Some store.word))
+    → record { layout = m.layout; words = slice_set m.words at store.word; holders = holders } ≡ held_after m store
+held-by m store at holders e u =
+    ap (λ k. let x : Held = record { layout = m.layout; words = slice_set m.words k store.word; holders = holders } in x) e
+    ∙ ap (λ k. let x : Held = record { layout = m.layout; words = slice_set m.words (word_index m.layout store.ppn store.index) store.word; holders = k } in x) u
 
 -- all of it, where the memory is seen as another value
 pub record Facts (m now : Held) (store : Store) : Type 0 where
   pub place : InMemory m.layout store.ppn store.index
   pub index : word_index m.layout store.ppn store.index < length m.words
-  pub hart : store.hart < length m.used
-  pub room : is_some (pointed (Some store.word)) ≡ true → slice_index m.used store.hart + 1 < 2 ^ 16
+  pub table : (t : ℕ) → pointed (Some store.word) ≡ Some t → (m.layout.base ≤ t) × (t - m.layout.base < length m.holders)
   pub memory : IsMemory (held_after m store)
   pub words : (f i : ℕ) → words_of (held_after m store) f i ≡ words_after (words_of now) store f i
-  pub used : (h : ℕ) → slice_index (used_list m.used store.hart store.word) h ≡ used_by_all (λ k. slice_index now.used k) store h
+  pub holders : (f : ℕ) → holders_of (held_after m store) f ≡ holders_after (holders_of now) store.place store f
 
 pub facts-of : (m now : Held) (store : Store) → m ≡ now → IsMemory m → IsDue now store → Facts m now store
 facts-of m now store is held due =
@@ -162,11 +171,10 @@ facts-of m now store is held due =
     record {
       place = place-there m held store here;
       index = index-there m held store here;
-      hart = hart-there m held store here;
-      room = λ e. let room = room-held m held store here e in let part = sum-within m.layout.spares store.hart in omega (arith, held.layout.frames_fit);
+      table = table-index m held store here;
       memory = memory-held m held store here;
       words = λ f i. words-held m held store here f i ∙ ap (λ x. words_after (words_of x) store f i) is;
-      used = λ h. used-held m held store here h ∙ ap (λ x. used_by_all (λ k. slice_index x.used k) store h) is;
+      holders = λ f. holders-held m held store here f ∙ ap (λ x. holders_after (holders_of x) store.place store f) is;
     }
 
 pub at-index : (base ppn index a b : ℕ) → a ≡ 512 → b ≡ index → (ppn - base) * a + b ≡ (ppn - base) * table_length + index
@@ -178,8 +186,10 @@ product-bound d a e less = subst (λ n. d * n < 2 ^ 64) (sym e) (omega arith)
 pub sum-bound : (d a b : ℕ) → a ≡ 512 → b < 512 → d < 512 → d * a + b < 2 ^ 64
 sum-bound d a b e below less = subst (λ n. d * n + b < 2 ^ 64) (sym e) (omega arith)
 
-pub used-pointer : (used list : List ℕ) (hart word : ℕ) (p : Bool) → p ≡ is_some (pointed (Some word)) → p ≡ true → list ≡ slice_set used hart (slice_index used hart + 1) → list ≡ used_list used hart word
-used-pointer used list hart word p is yes-pointer e = e ∙ ap (λ b. cond b (slice_set used hart (slice_index used hart + 1)) used) (sym yes-pointer ∙ is)
+pub held-pointer : (base : ℕ) (holders list : List (Option Place)) (place : Place) (word t : ℕ) (o : Option ℕ) → o ≡ pointed (Some word) → o ≡ Some t
+    → list ≡ slice_set holders (t - base) (Some place) → list ≡ held_list base holders place (pointed (Some word))
+held-pointer base holders list place word t o is some e = e ∙ ap (held_list base holders place) (sym some ∙ is)
 
-pub used-leaf : (used : List ℕ) (hart word : ℕ) (p : Bool) → p ≡ is_some (pointed (Some word)) → p ≡ false → used ≡ used_list used hart word
-used-leaf used hart word p is not-pointer = ap (λ b. cond b (slice_set used hart (slice_index used hart + 1)) used) (sym not-pointer ∙ is)
+pub held-leaf : (base : ℕ) (holders : List (Option Place)) (place : Place) (word : ℕ) (o : Option ℕ) → o ≡ pointed (Some word) → o ≡ None
+    → holders ≡ held_list base holders place (pointed (Some word))
+held-leaf base holders place word o is none = ap (held_list base holders place) (sym none ∙ is)

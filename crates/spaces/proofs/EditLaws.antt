@@ -19,6 +19,7 @@ use Rattle.pte.proofs.EntryKinds.{kind-table}
 use Rattle.pte.specs.Address.{bytes_of, level_bytes, vpn_of}
 use Rattle.spaces.specs.Layout.{first_window_slot, user_slots}
 use Rattle.spaces.specs.Held.{IsLayout}
+use Rattle.spaces.specs.Holders.{Holders, unused_spare}
 use Rattle.spaces.specs.Tree.{start_table, IsIn}
 use Rattle.spaces.proofs.Ends.{path_end-below}
 use Rattle.spaces.proofs.Leaves.{member-of, window-word, window-fits}
@@ -28,12 +29,11 @@ use Rattle.spaces.proofs.Numbers.{number-part}
 use Rattle.std.proofs.Common.{◌*◌, ◌/◌, IsTrue, ◌↔◌}
 use Rattle.walk.specs.Maps.{Maps}
 use Rattle.spaces.specs.Layout.{Layout, home_of, root_ppn}
-use Rattle.spaces.specs.Held.{spare_after}
 use Rattle.spaces.specs.Edits.{Store, place_of, is_kernel, path_end}
 use Rattle.spaces.specs.Tree.{start_level, IsTree, IsAtHome}
 use Rattle.walk.specs.Pointers.{pointed, pointed_kind}
 use Rattle.spaces.specs.Accepted.{Accepted, Writes, adds_table, adds_leaf, removes_leaf, changes_leaf}
-use Rattle.spaces.specs.Applied.{words_after, used_by_all}
+use Rattle.spaces.specs.Applied.{words_after, holders_after}
 use Rattle.spaces.specs.Effects.{IsEdit, IsEnd, HasEffect, IsAbout, RemovesPage}
 use Rattle.spaces.proofs.Trees.{kind-zero}
 use Rattle.spaces.proofs.EntryWords.{kind-stored, pointed-table}
@@ -44,58 +44,58 @@ use Rattle.spaces.proofs.Leaves.{leads-path, path-leads}
 use Rattle.spaces.proofs.Accepting.{edit-fits}
 use Rattle.spaces.proofs.Effecting.{adds-page, removes-page, changes-flags, same-maps, ends}
 
-module _ (l : Layout) (words : Tables) (used : ℕ → ℕ) (hart : ℕ) (wish : Wish) (store : Store) (e : IsEdit l words used hart wish store) where
-  pub edit-accepted : Accepted l words (spare_after l hart (used hart)) hart wish store
-  edit-accepted = accepted l e.layout words used e.tree (spare_after l hart (used hart)) hart wish store e.has e.is
+module _ (l : Layout) (words : Tables) (holders : Holders) (hart : ℕ) (wish : Wish) (store : Store) (e : IsEdit l words holders hart wish store) where
+  pub edit-accepted : Accepted l words (unused_spare l holders hart) hart wish store
+  edit-accepted = accepted l e.layout words holders e.tree (unused_spare l holders hart) hart wish store e.has e.is
 
-  pub at-home : Accepted l words (spare_after l (home_of l (place_of wish)) (used (home_of l (place_of wish)))) (home_of l (place_of wish)) wish store
-  at-home = subst (λ h. Accepted l words (spare_after l h (used h)) h wish store) edit-accepted.home edit-accepted
+  pub at-home : Accepted l words (unused_spare l holders (home_of l (place_of wish))) (home_of l (place_of wish)) wish store
+  at-home = subst (λ h. Accepted l words (unused_spare l holders h) h wish store) edit-accepted.home edit-accepted
 
-  pub edit-tree : IsTree l (words_after words store) (used_by_all used store)
-  edit-tree = keeps-tree l e.layout words used e.tree wish e.has store at-home
+  pub edit-tree : IsTree l (words_after words store) (holders_after holders (place_of wish) store)
+  edit-tree = keeps-tree l e.layout words holders e.tree wish e.has store at-home
 
   pub edit-home : IsAtHome l (home_of l (place_of wish)) store.ppn
-  edit-home = let here = there l e.layout words used e.tree wish e.has store at-home in here.home
+  edit-home = let here = there l e.layout words holders e.tree wish e.has store at-home in here.home
 
-effect-by : (l : Layout) (words : Tables) (used : ℕ → ℕ) (hart : ℕ) (wish : Wish) (store : Store) → (e : IsEdit l words used hart wish store)
-    → (acc : Accepted l words (spare_after l (home_of l (place_of wish)) (used (home_of l (place_of wish)))) (home_of l (place_of wish)) wish store)
-    → (new : ℕ) → new ≡ store.word → Writes (spare_after l (home_of l (place_of wish)) (used (home_of l (place_of wish)))) (start_level l (place_of wish) - acc.depth) acc.old wish new
-    → IsLeafStore acc.old store.word ⊎ IsPointerStore l (home_of l (place_of wish)) (used (home_of l (place_of wish))) (start_level l (place_of wish) - acc.depth) acc.old store.word
+effect-by : (l : Layout) (words : Tables) (holders : Holders) (hart : ℕ) (wish : Wish) (store : Store) → (e : IsEdit l words holders hart wish store)
+    → (acc : Accepted l words (unused_spare l holders (home_of l (place_of wish))) (home_of l (place_of wish)) wish store)
+    → (new : ℕ) → new ≡ store.word → Writes (unused_spare l holders (home_of l (place_of wish))) (start_level l (place_of wish) - acc.depth) acc.old wish new
+    → IsLeafStore acc.old store.word ⊎ IsPointerStore l (home_of l (place_of wish)) holders (start_level l (place_of wish) - acc.depth) acc.old store.word
     → HasEffect l wish store words (words_after words store)
-effect-by l words used hart wish store e acc new is (adds_table place page ppn flags frame above zero-word spare) (inr p) = (
-  (λ some. same-maps l e.layout words used e.tree (Map place page ppn flags) e.has (edit-fits l words (spare_after l hart (used hart)) hart _ store e.is e.page) store acc p),
+effect-by l words holders hart wish store e acc new is (adds_table place page ppn flags frame above zero-word spare) (inr p) = (
+  (λ some. same-maps l e.layout words holders e.tree (Map place page ppn flags) e.has (edit-fits l words (unused_spare l holders hart) hart _ store e.is e.page) store acc p),
   (λ none. absurd (let bad : true ≡ false = ap is_some (sym p.now) ∙ none in cc)),
 )
-effect-by l words used hart wish store e acc new is (adds_table place page ppn flags frame above zero-word spare) (inl leaf) =
+effect-by l words holders hart wish store e acc new is (adds_table place page ppn flags frame above zero-word spare) (inl leaf) =
     let fit = fresh-range l e.layout _ _ frame (fresh-of l _ _ frame spare) in
     absurd (let bad : Some frame ≡ None = sym (pointed-table frame (is_kernel place) fit) ∙ ap (λ w. pointed (Some w)) is ∙ leaf.now in cc)
-effect-by l words used hart wish store e acc new is (adds_leaf place page ppn flags at zero-word ok fit aligned) (inl leaf) = (
+effect-by l words holders hart wish store e acc new is (adds_leaf place page ppn flags at zero-word ok fit aligned) (inl leaf) = (
   (λ some. absurd (let bad : false ≡ true = ap is_some (sym leaf.now) ∙ some in cc)),
-  (λ none. adds-page l e.layout words used e.tree (Map place page ppn flags) e.has (edit-fits l words (spare_after l hart (used hart)) hart _ store e.is e.page) store acc at leaf ppn flags zero-word
+  (λ none. adds-page l e.layout words holders e.tree (Map place page ppn flags) e.has (edit-fits l words (unused_spare l holders hart) hart _ store e.is e.page) store acc at leaf ppn flags zero-word
       (ap kind_of (sym is) ∙ kind-stored ppn flags fit ok.byte ok.leaf) aligned),
 )
-effect-by l words used hart wish store e acc new is (adds_leaf place page ppn flags at zero-word ok fit aligned) (inr p) =
+effect-by l words holders hart wish store e acc new is (adds_leaf place page ppn flags at zero-word ok fit aligned) (inr p) =
     absurd (let bad : None ≡ Some _ = ap pointed_kind (sym (kind-stored ppn flags fit ok.byte ok.leaf)) ∙ ap (λ w. pointed (Some w)) is ∙ p.now in cc)
-effect-by l words used hart wish store e acc new is (removes_leaf place page q f at kind) (inl leaf) =
-    removes-page l e.layout words used e.tree (Unmap place page) e.has (edit-fits l words (spare_after l hart (used hart)) hart _ store e.is e.page) store acc at leaf (sym is)
-effect-by l words used hart wish store e acc new is (removes_leaf place page q f at kind) (inr p) =
+effect-by l words holders hart wish store e acc new is (removes_leaf place page q f at kind) (inl leaf) =
+    removes-page l e.layout words holders e.tree (Unmap place page) e.has (edit-fits l words (unused_spare l holders hart) hart _ store e.is e.page) store acc at leaf (sym is)
+effect-by l words holders hart wish store e acc new is (removes_leaf place page q f at kind) (inr p) =
     absurd (let bad : kinds.Leaf q f ≡ kinds.Invalid = sym kind ∙ ap kind_of p.was ∙ kind-zero in cc)
-effect-by l words used hart wish store e acc new is (changes_leaf place page flags q f at kind ok) (inl leaf) =
-    changes-flags l e.layout words used e.tree (Protect place page flags) e.has (edit-fits l words (spare_after l hart (used hart)) hart _ store e.is e.page) store acc at leaf q f flags kind
+effect-by l words holders hart wish store e acc new is (changes_leaf place page flags q f at kind ok) (inl leaf) =
+    changes-flags l e.layout words holders e.tree (Protect place page flags) e.has (edit-fits l words (unused_spare l holders hart) hart _ store e.is e.page) store acc at leaf q f flags kind
     (ap kind_of (sym is) ∙ kind-stored q flags (leaf-ppn acc.old q f kind) ok.byte ok.leaf)
-effect-by l words used hart wish store e acc new is (changes_leaf place page flags q f at kind ok) (inr p) =
+effect-by l words holders hart wish store e acc new is (changes_leaf place page flags q f at kind ok) (inr p) =
     absurd (let bad : kinds.Leaf q f ≡ kinds.Invalid = sym kind ∙ ap kind_of p.was ∙ kind-zero in cc)
 
-pub edit-effect : (l : Layout) (words : Tables) (used : ℕ → ℕ) (hart : ℕ) (wish : Wish) (store : Store) → IsEdit l words used hart wish store → HasEffect l wish store words (words_after words store)
-edit-effect l words used hart wish store e =
-    let acc = at-home l words used hart wish store e in
-    effect-by l words used hart wish store e acc store.word refl acc.writes (leaf-or-pointer l e.layout _ _ _ acc.old wish store.word acc.writes)
+pub edit-effect : (l : Layout) (words : Tables) (holders : Holders) (hart : ℕ) (wish : Wish) (store : Store) → IsEdit l words holders hart wish store → HasEffect l wish store words (words_after words store)
+edit-effect l words holders hart wish store e =
+    let acc = at-home l words holders hart wish store e in
+    effect-by l words holders hart wish store e acc store.word refl acc.writes (leaf-or-pointer l e.layout _ _ _ acc.old wish store.word acc.writes)
 
 -- and in any memory whose words are those after the store
-pub effect-in : (l : Layout) (words : Tables) (used : ℕ → ℕ) (hart : ℕ) (wish : Wish) (store : Store) (new : Tables) → ((ppn i : ℕ) → new ppn i ≡ words_after words store ppn i)
-    → IsEdit l words used hart wish store → HasEffect l wish store words new
-effect-in l words used hart wish store new same e =
-    subst (HasEffect l wish store words) (sym (fun_ext (λ ppn. fun_ext (λ i. same ppn i)))) (edit-effect l words used hart wish store e)
+pub effect-in : (l : Layout) (words : Tables) (holders : Holders) (hart : ℕ) (wish : Wish) (store : Store) (new : Tables) → ((ppn i : ℕ) → new ppn i ≡ words_after words store ppn i)
+    → IsEdit l words holders hart wish store → HasEffect l wish store words new
+effect-in l words holders hart wish store new same e =
+    subst (HasEffect l wish store words) (sym (fun_ext (λ ppn. fun_ext (λ i. same ppn i)))) (edit-effect l words holders hart wish store e)
 
 -- the end of a path, by what leads
 pub end-leads : (scheme : Scheme) (words : Tables) (root va lowest : ℕ) → lowest ≤ top_level scheme → IsEnd scheme words root va lowest (path_end words va lowest (top_level scheme - lowest) root)
@@ -133,30 +133,30 @@ end-leads scheme words root va lowest low =
     pointed-none None not-table = refl
     pointed-none (Some w) not-table = kind-none (kind_of w) not-table
 
-pub unmapped-gone : (l : Layout) (words : Tables) (used : ℕ → ℕ) (hart : ℕ) (place : Place) (page : Span) (store : Store) → IsEdit l words used hart (Unmap place page) store
+pub unmapped-gone : (l : Layout) (words : Tables) (holders : Holders) (hart : ℕ) (place : Place) (page : Span) (store : Store) → IsEdit l words holders hart (Unmap place page) store
     → (s number ppn : ℕ) (flags : PteFlags) (global : Bool) → s < length l.homes → IsAbout place page s number → Maps l.scheme (words_after words store) (root_ppn l s) number ppn flags global → ⊥
-unmapped-gone l words used hart place page store e s number ppn flags global has is-about mapped =
-    let gone : RemovesPage l place page words (words_after words store) = edit-effect l words used hart (Unmap place page) store e in
+unmapped-gone l words holders hart place page store e s number ppn flags global has is-about mapped =
+    let gone : RemovesPage l place page words (words_after words store) = edit-effect l words holders hart (Unmap place page) store e in
     ((gone s number ppn flags global has).0 mapped).1 is-about
 
-pub map-keeps : (l : Layout) (words : Tables) (used : ℕ → ℕ) (hart : ℕ) (place : Place) (page : Span) (first : ℕ) (f : PteFlags) (store : Store) → IsEdit l words used hart (Map place page first f) store
+pub map-keeps : (l : Layout) (words : Tables) (holders : Holders) (hart : ℕ) (place : Place) (page : Span) (first : ℕ) (f : PteFlags) (store : Store) → IsEdit l words holders hart (Map place page first f) store
     → (s number ppn : ℕ) (flags : PteFlags) (global : Bool) → s < length l.homes → Maps l.scheme words (root_ppn l s) number ppn flags global → Maps l.scheme (words_after words store) (root_ppn l s) number ppn flags global
-map-keeps l words used hart place page first f store e s number ppn flags global has mapped = by_pointer (pointed (Some store.word)) refl
+map-keeps l words holders hart place page first f store e s number ppn flags global has mapped = by_pointer (pointed (Some store.word)) refl
   where
     effect : HasEffect l (Map place page first f) store words (words_after words store)
-    effect = edit-effect l words used hart (Map place page first f) store e
+    effect = edit-effect l words holders hart (Map place page first f) store e
 
     by_pointer : (o : Option ℕ) → pointed (Some store.word) ≡ o → Maps l.scheme (words_after words store) (root_ppn l s) number ppn flags global
     by_pointer (Some t) is = (effect.0 (ap is_some is) s number ppn flags global has).1 mapped
     by_pointer None is = (effect.1 (ap is_some is) s number ppn flags global has).1 (inl mapped)
 
 -- the kernel's paths may be read from the window's table
-pub kernel-path : (l : Layout) (words : Tables) (used : ℕ → ℕ) → IsLayout l → IsTree l words used → (s va lowest : ℕ) → s < length l.homes → IsIn l Kernel va → lowest < top_level l.scheme
+pub kernel-path : (l : Layout) (words : Tables) (holders : Holders) → IsLayout l → IsTree l words holders → (s va lowest : ℕ) → s < length l.homes → IsIn l Kernel va → lowest < top_level l.scheme
     → path_end words va lowest (top_level l.scheme - lowest) (root_ppn l s) ≡ path_end words va lowest (top_level l.scheme - 1 - lowest) (start_table l Kernel va)
-kernel-path l words used fits tree s va lowest has inside low =
-    let word = window-word l fits words used tree s va has inside in
+kernel-path l words holders fits tree s va lowest has inside low =
+    let word = window-word l fits words holders tree s va has inside in
     let kind : kind_of (unwrap_or (word_at words va (top_level l.scheme) (root_ppn l s)) 0) ≡ kinds.Table (start_table l Kernel va) true =
-    ap (λ o. kind_of (unwrap_or o 0)) word ∙ kind-table (start_table l Kernel va) true (window-fits l fits words used tree va inside)
+    ap (λ o. kind_of (unwrap_or o 0)) word ∙ kind-table (start_table l Kernel va) true (window-fits l fits words holders tree va inside)
     in
     path_end-below words va lowest (top_level l.scheme) (root_ppn l s) (start_table l Kernel va) true low kind
 
@@ -165,10 +165,10 @@ InPart l (Space s) v = v < user_slots
 InPart l Kernel v = first_window_slot l ≤ v
 
 -- mappings are global in the window and nowhere else
-pub global-window : (l : Layout) (words : Tables) (used : ℕ → ℕ) → IsLayout l → IsTree l words used → (s number ppn : ℕ) (flags : PteFlags) (global : Bool) → s < length l.homes
+pub global-window : (l : Layout) (words : Tables) (holders : Holders) → IsLayout l → IsTree l words holders → (s number ppn : ℕ) (flags : PteFlags) (global : Bool) → s < length l.homes
     → Maps l.scheme words (root_ppn l s) number ppn flags global → IsTrue global ↔ (first_window_slot l ≤ vpn_of (number * bytes_of Kib4) (top_level l.scheme))
-global-window l words used fits tree s number ppn flags global has mapped =
-    let m = member-of l fits words used tree s number ppn flags global has mapped in
+global-window l words holders fits tree s number ppn flags global has mapped =
+    let m = member-of l fits words holders tree s number ppn flags global has mapped in
     let page : m.va / level_bytes 0 ≡ number * 4096 / level_bytes 0 = m.of_page ∙ sym (number-part number) in
     let slot : vpn_of m.va (top_level l.scheme) ≡ vpn_of (number * 4096) (top_level l.scheme) = same_vpn m.va (number * 4096) 0 (top_level l.scheme) (omega arith) page in
     by_place m.on.place (vpn_of m.va (top_level l.scheme)) (vpn_of (number * 4096) (top_level l.scheme)) slot m.reach (in-part m.on.place m.va m.on.within)

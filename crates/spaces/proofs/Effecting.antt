@@ -10,13 +10,14 @@ use Rattle.walk.specs.Maps.{Maps, page_number}
 use Rattle.spaces.specs.declared.places.Place.{Place}
 use Rattle.spaces.specs.declared.places.Place.TheVariants.{Space, Kernel}
 use Rattle.spaces.specs.declared.wishes.Wish.{Wish}
-use Rattle.spaces.specs.Layout.{Layout, HasPlace, home_of, root_ppn, spare_ppn, first_window_slot, user_slots}
-use Rattle.spaces.specs.Held.{IsLayout, spare_after}
+use Rattle.spaces.specs.Layout.{Layout, HasPlace, home_of, root_ppn, first_window_slot, user_slots}
+use Rattle.spaces.specs.Held.{IsLayout}
+use Rattle.spaces.specs.Holders.{Holders, unused_spare}
 use Rattle.spaces.specs.Edits.{Store, place_of, page_of, is_kernel}
 use Rattle.spaces.specs.Tree.{start_level, start_table, IsIn, table_on, IsHome, IsTree}
 use Rattle.walk.specs.Pointers.{pointed, pointed_kind, table_below}
 use Rattle.spaces.specs.Accepted.{Accepted}
-use Rattle.spaces.specs.Applied.{words_after, used_by_all, seven}
+use Rattle.spaces.specs.Applied.{words_after, holders_after, seven}
 use Rattle.spaces.specs.Effects.{HangsBelow, IsPart, IsAbout, SameMaps, AddsPage, RemovesPage, ChangesFlags}
 use Rattle.spaces.proofs.Homes.{home-unique}
 use Rattle.spaces.proofs.Paths.{above, on, some-same, paths-agree, table_below-like, SamePath, vpn-below}
@@ -52,18 +53,18 @@ one-place-in l fits (Space a) Kernel s va p q within within' = absurd (omega (ar
 one-place-in l fits Kernel (Space b) s va p q within within' = absurd (omega (arith, fits.window))
 one-place-in l fits Kernel Kernel s va p q within within' = refl
 
-module _ (l : Layout) (fits : IsLayout l) (words : Tables) (used : ℕ → ℕ) (tree : IsTree l words used) (wish : Wish) (has : HasPlace l (place_of wish)) (is-page : IsPageOf l.scheme (page_of wish))
-    (store : Store) (acc : Accepted l words (spare_after l (home_of l (place_of wish)) (used (home_of l (place_of wish)))) (home_of l (place_of wish)) wish store) where
-  new-tree : IsTree l (words_after words store) (used_by_all used store)
-  new-tree = keeps-tree l fits words used tree wish has store acc
+module _ (l : Layout) (fits : IsLayout l) (words : Tables) (holders : Holders) (tree : IsTree l words holders) (wish : Wish) (has : HasPlace l (place_of wish)) (is-page : IsPageOf l.scheme (page_of wish))
+    (store : Store) (acc : Accepted l words (unused_spare l holders (home_of l (place_of wish))) (home_of l (place_of wish)) wish store) where
+  new-tree : IsTree l (words_after words store) (holders_after holders (place_of wish) store)
+  new-tree = keeps-tree l fits words holders tree wish has store acc
 
   -- a path that reaches the word is the page's, also if it is of another home
   reaches-any : (place : Place) (va n : ℕ) → HasPlace l place → IsIn l place va → table_on l words place va n ≡ Some store.ppn
       → SamePath l place (place_of wish) va (page_of wish).base n acc.depth
   reaches-any place va n has' within e =
-      let here = there l fits words used tree wish has store acc in
-      let other = on l fits words _ _ (tree _ (home-there l fits words used tree place has')) place va n store.ppn has' refl within e in
-      reaches l fits words used tree wish has store acc place va n has' (home-unique l _ _ store.ppn other.home here.home) within e
+      let here = there l fits words holders tree wish has store acc in
+      let other = on l fits words _ _ (tree _ (home-there l fits words holders tree place has')) place va n store.ppn has' refl within e in
+      reaches l fits words holders tree wish has store acc place va n has' (home-unique l _ _ store.ppn other.home here.home) within e
 
   -- where the word stands at the page's level
   module _ (at-level : start_level l (place_of wish) - acc.depth ≡ level_of (page_of wish).size) where
@@ -201,7 +202,7 @@ module _ (l : Layout) (fits : IsLayout l) (words : Tables) (used : ℕ → ℕ) 
               → Maps l.scheme words (root_ppn l s) number ppn f global
               ⊎ (IsAbout (place_of wish) (page_of wish) s number × (ppn ≡ first + (number - page_number (page_of wish).base)) × (f ≡ seven fl) × (global ≡ is_kernel (place_of wish)))
           forward mapped =
-              let m = member-of l fits (words_after words store) (used_by_all used store) new-tree s number ppn f global root mapped in
+              let m = member-of l fits (words_after words store) (holders_after holders (place_of wish) store) new-tree s number ppn f global root mapped in
               elim (is-word store.ppn store.index m.table (vpn_of m.va m.level)) [
                 | inl same ↦
                     let is-about = about s m.va m.level m.table number m.on.place m.on.hangs m.on.has m.on.within m.on.low (on-old s m.va m.level m.table m.entry m.leaf f m.on) m.canonical m.of_page same.0 same.1 in
@@ -214,23 +215,23 @@ module _ (l : Layout) (fits : IsLayout l) (words : Tables) (used : ℕ → ℕ) 
                     in
                     inr (is-about.0, m.place ∙ ap (λ n. n + number % level_pages m.level) leaves ∙ ap (λ n. first + n) part, flags-same, m.reach ∙ ap is_kernel is-about.2)
                 | inr apart ↦
-                    inl (maps-of l fits words used tree s number ppn f global root (moved l (words_after words store) words s number ppn f global m (new-old s m.va m.level m.table m.entry m.leaf f apart m.on) refl))
+                    inl (maps-of l fits words holders tree s number ppn f global root (moved l (words_after words store) words s number ppn f global m (new-old s m.va m.level m.table m.entry m.leaf f apart m.on) refl))
               ]
 
           backward : Maps l.scheme words (root_ppn l s) number ppn f global
               ⊎ (IsAbout (place_of wish) (page_of wish) s number × (ppn ≡ first + (number - page_number (page_of wish).base)) × (f ≡ seven fl) × (global ≡ is_kernel (place_of wish)))
               → Maps l.scheme (words_after words store) (root_ppn l s) number ppn f global
           backward (inl mapped) =
-              let m = member-of l fits words used tree s number ppn f global root mapped in
+              let m = member-of l fits words holders tree s number ppn f global root mapped in
               let apart : store.ppn ≡ m.table → store.index ≡ vpn_of m.va m.level → ⊥ = λ p q.
               let is = entry-was s m.va m.level m.table m.entry m.leaf f m.on p q in
               let bad : kinds.Leaf m.leaf f ≡ kinds.Invalid = sym m.on.kind ∙ ap kind_of (is ∙ zero-old) ∙ kind-zero in
               cc
               in
-              maps-of l fits (words_after words store) (used_by_all used store) new-tree s number ppn f global root (moved l words (words_after words store) s number ppn f global m (old-new s m.va m.level m.table m.entry m.leaf f apart m.on) refl)
+              maps-of l fits (words_after words store) (holders_after holders (place_of wish) store) new-tree s number ppn f global root (moved l words (words_after words store) s number ppn f global m (old-new s m.va m.level m.table m.entry m.leaf f apart m.on) refl)
           backward (inr new) =
               let part = place-of-part (page_of wish).base (page_of wish).size number is-page.aligned new.0.1 in
-              maps-of l fits (words_after words store) (used_by_all used store) new-tree s number ppn f global root (record {
+              maps-of l fits (words_after words store) (holders_after holders (place_of wish) store) new-tree s number ppn f global root (record {
                 va = number * 4096;
                 level = level_of (page_of wish).size;
                 table = store.ppn;
@@ -251,24 +252,24 @@ module _ (l : Layout) (fits : IsLayout l) (words : Tables) (used : ℕ → ℕ) 
         where
           forward : Maps l.scheme (words_after words store) (root_ppn l s) number ppn f global → Maps l.scheme words (root_ppn l s) number ppn f global × (IsAbout (place_of wish) (page_of wish) s number → ⊥)
           forward mapped =
-              let m = member-of l fits (words_after words store) (used_by_all used store) new-tree s number ppn f global root mapped in
+              let m = member-of l fits (words_after words store) (holders_after holders (place_of wish) store) new-tree s number ppn f global root mapped in
               let apart : store.ppn ≡ m.table → store.index ≡ vpn_of m.va m.level → ⊥ = λ p q.
               let is = entry-here s m.va m.level m.table m.entry m.leaf f m.on p q in
               let bad : kinds.Leaf m.leaf f ≡ kinds.Invalid = sym m.on.kind ∙ ap kind_of (is ∙ zero-new) ∙ kind-zero in
               cc
               in
               let old = new-old s m.va m.level m.table m.entry m.leaf f apart m.on in (
-                maps-of l fits words used tree s number ppn f global root (moved l (words_after words store) words s number ppn f global m old refl),
+                maps-of l fits words holders tree s number ppn f global root (moved l (words_after words store) words s number ppn f global m old refl),
                 (λ is-about. let same = the-word s m.va m.level m.table m.entry m.leaf number f old m.of_page is-about in apart same.0 same.1),
               )
 
           backward : Maps l.scheme words (root_ppn l s) number ppn f global × (IsAbout (place_of wish) (page_of wish) s number → ⊥) → Maps l.scheme (words_after words store) (root_ppn l s) number ppn f global
           backward (mapped, not-about) =
-              let m = member-of l fits words used tree s number ppn f global root mapped in
+              let m = member-of l fits words holders tree s number ppn f global root mapped in
               let apart : store.ppn ≡ m.table → store.index ≡ vpn_of m.va m.level → ⊥ = λ p q.
               not-about (about s m.va m.level m.table number m.on.place m.on.hangs m.on.has m.on.within m.on.low m.on.on m.canonical m.of_page p q).0
               in
-              maps-of l fits (words_after words store) (used_by_all used store) new-tree s number ppn f global root (moved l words (words_after words store) s number ppn f global m (old-new s m.va m.level m.table m.entry m.leaf f apart m.on) refl)
+              maps-of l fits (words_after words store) (holders_after holders (place_of wish) store) new-tree s number ppn f global root (moved l words (words_after words store) s number ppn f global m (old-new s m.va m.level m.table m.entry m.leaf f apart m.on) refl)
 
       -- a leaf with other flags in place of a leaf
       pub changes-flags : (q : ℕ) (was fl : PteFlags) → kind_of acc.old ≡ kinds.Leaf q was → kind_of store.word ≡ kinds.Leaf q (seven fl)
@@ -280,7 +281,7 @@ module _ (l : Layout) (fits : IsLayout l) (words : Tables) (used : ℕ → ℕ) 
               → (Maps l.scheme words (root_ppn l s) number ppn f global × (IsAbout (place_of wish) (page_of wish) s number → ⊥))
               ⊎ (IsAbout (place_of wish) (page_of wish) s number × (f ≡ seven fl) × ((w : PteFlags) × Maps l.scheme words (root_ppn l s) number ppn w global))
           forward mapped =
-              let m = member-of l fits (words_after words store) (used_by_all used store) new-tree s number ppn f global root mapped in
+              let m = member-of l fits (words_after words store) (holders_after holders (place_of wish) store) new-tree s number ppn f global root mapped in
               elim (is-word store.ppn store.index m.table (vpn_of m.va m.level)) [
                 | inl same ↦
                     let path = on-old s m.va m.level m.table m.entry m.leaf f m.on in
@@ -309,7 +310,7 @@ module _ (l : Layout) (fits : IsLayout l) (words : Tables) (used : ℕ → ℕ) 
                       flags-same,
                       (
                         was,
-                        maps-of l fits words used tree s number ppn was global root (record {
+                        maps-of l fits words holders tree s number ppn was global root (record {
                           va = m.va;
                           level = m.level;
                           table = m.table;
@@ -327,7 +328,7 @@ module _ (l : Layout) (fits : IsLayout l) (words : Tables) (used : ℕ → ℕ) 
                 | inr apart ↦
                     let old = new-old s m.va m.level m.table m.entry m.leaf f apart m.on in
                     inl (
-                      maps-of l fits words used tree s number ppn f global root (moved l (words_after words store) words s number ppn f global m old refl),
+                      maps-of l fits words holders tree s number ppn f global root (moved l (words_after words store) words s number ppn f global m old refl),
                       (λ is-about. let same = the-word s m.va m.level m.table m.entry m.leaf number f old m.of_page is-about in apart same.0 same.1),
                     )
               ]
@@ -336,20 +337,20 @@ module _ (l : Layout) (fits : IsLayout l) (words : Tables) (used : ℕ → ℕ) 
               ⊎ (IsAbout (place_of wish) (page_of wish) s number × (f ≡ seven fl) × ((w : PteFlags) × Maps l.scheme words (root_ppn l s) number ppn w global))
               → Maps l.scheme (words_after words store) (root_ppn l s) number ppn f global
           backward (inl (mapped, not-about)) =
-              let m = member-of l fits words used tree s number ppn f global root mapped in
+              let m = member-of l fits words holders tree s number ppn f global root mapped in
               let apart : store.ppn ≡ m.table → store.index ≡ vpn_of m.va m.level → ⊥ = λ p q.
               not-about (about s m.va m.level m.table number m.on.place m.on.hangs m.on.has m.on.within m.on.low m.on.on m.canonical m.of_page p q).0
               in
-              maps-of l fits (words_after words store) (used_by_all used store) new-tree s number ppn f global root (moved l words (words_after words store) s number ppn f global m (old-new s m.va m.level m.table m.entry m.leaf f apart m.on) refl)
+              maps-of l fits (words_after words store) (holders_after holders (place_of wish) store) new-tree s number ppn f global root (moved l words (words_after words store) s number ppn f global m (old-new s m.va m.level m.table m.entry m.leaf f apart m.on) refl)
           backward (inr (is-about, flags-same, mapped)) =
-              let m = member-of l fits words used tree s number ppn mapped.0 global root mapped.1 in
+              let m = member-of l fits words holders tree s number ppn mapped.0 global root mapped.1 in
               let same = the-word s m.va m.level m.table m.entry m.leaf number mapped.0 m.on m.of_page is-about in
               let here = about s m.va m.level m.table number m.on.place m.on.hangs m.on.has m.on.within m.on.low m.on.on m.canonical m.of_page same.0 same.1 in
               let is = entry-was s m.va m.level m.table m.entry m.leaf mapped.0 m.on same.0 same.1 in
               let kinds-same : kinds.Leaf m.leaf mapped.0 ≡ kinds.Leaf q was = sym m.on.kind ∙ ap kind_of is ∙ kind-was in
               let leaves : m.leaf ≡ q = cc in
               let kind-new : kind_of store.word ≡ kinds.Leaf m.leaf f = kind ∙ ap (λ n. kinds.Leaf n (seven fl)) (sym leaves) ∙ ap (kinds.Leaf m.leaf) (sym flags-same) in
-              maps-of l fits (words_after words store) (used_by_all used store) new-tree s number ppn f global root (record {
+              maps-of l fits (words_after words store) (holders_after holders (place_of wish) store) new-tree s number ppn f global root (record {
                 va = m.va;
                 level = level_of (page_of wish).size;
                 table = store.ppn;
@@ -364,36 +365,36 @@ module _ (l : Layout) (fits : IsLayout l) (words : Tables) (used : ℕ → ℕ) 
               })
 
   -- a pointer in place of 0
-  pub same-maps : IsPointerStore l (home_of l (place_of wish)) (used (home_of l (place_of wish))) (start_level l (place_of wish) - acc.depth) acc.old store.word → SameMaps l words (words_after words store)
+  pub same-maps : IsPointerStore l (home_of l (place_of wish)) holders (start_level l (place_of wish) - acc.depth) acc.old store.word → SameMaps l words (words_after words store)
   same-maps p s number ppn f global root = (forward, backward)
     where
-      home-tree : IsHome l words (home_of l (place_of wish)) (used (home_of l (place_of wish)))
-      home-tree = tree _ (home-there l fits words used tree (place_of wish) has)
+      home-tree : IsHome l words (home_of l (place_of wish)) holders
+      home-tree = tree _ (home-there l fits words holders tree (place_of wish) has)
 
-      place-is : IsPlace l words (home_of l (place_of wish)) (used (home_of l (place_of wish))) store.ppn store.index store.word
-      place-is = is-place l fits words used tree wish has store acc (ap (λ w. pointed (Some w)) p.was ∙ pointed-zero) p.entry
+      place-is : IsPlace l words (home_of l (place_of wish)) holders (place_of wish) store.ppn store.index store.word
+      place-is = is-place l fits words holders tree wish has store acc (ap (λ w. pointed (Some w)) p.was ∙ pointed-zero) p.entry
 
       up : (place : Place) (va n : ℕ) → HasPlace l place → home_of l place ≡ home_of l (place_of wish) → IsIn l place va → table_on l words place va n ≡ Some store.ppn
           → vpn_of va (start_level l place - n) ≡ store.index → n < start_level l place
-      up = high l fits words used tree wish has store acc p.high
+      up = high l fits words holders tree wish has store acc p.high
 
       forward : Maps l.scheme (words_after words store) (root_ppn l s) number ppn f global → Maps l.scheme words (root_ppn l s) number ppn f global
       forward mapped =
-          let m = member-of l fits (words_after words store) (used_by_all used store) new-tree s number ppn f global root mapped in
-          elim (table_on-pointer l fits words _ _ home-tree store.ppn store.index store.word place-is p.room p.now up m.on.place m.va (start_level l m.on.place - m.level) m.table m.on.on) [
+          let m = member-of l fits (words_after words store) (holders_after holders (place_of wish) store) new-tree s number ppn f global root mapped in
+          elim (table_on-pointer l fits words _ _ home-tree (place_of wish) store.ppn store.index store.word place-is p.frame p.room p.now up m.on.place m.va (start_level l m.on.place - m.level) m.table m.on.on) [
             | inr fresh ↦
                 let empty : Some m.entry ≡ Some 0 =
                 sym m.on.word ∙ ap (λ u. word_at (words_after words store) m.va m.level u) fresh
-                ∙ fresh-empty l fits words _ _ home-tree store.ppn store.index store.word place-is p.room p.now up (vpn_of m.va m.level) (vpn-below m.va m.level)
+                ∙ fresh-empty l fits words _ _ home-tree (place_of wish) store.ppn store.index store.word place-is p.frame p.room p.now up (vpn_of m.va m.level) (vpn-below m.va m.level)
                 in
                 absurd (let bad : kinds.Leaf m.leaf f ≡ kinds.Invalid = sym m.on.kind ∙ ap kind_of (some-same _ _ empty) ∙ kind-zero in cc)
             | inl old-path ↦
                 let apart : store.ppn ≡ m.table → store.index ≡ vpn_of m.va m.level → ⊥ = λ a b.
                 let is : Some m.entry ≡ Some store.word = sym m.on.word ∙ stored-here words store.ppn store.index store.word m.table (vpn_of m.va m.level) a b in
-                let bad : None ≡ Some (spare_ppn l (home_of l (place_of wish)) + used (home_of l (place_of wish))) = ap pointed_kind (sym m.on.kind) ∙ ap pointed is ∙ p.now in
+                let bad : None ≡ Some p.frame = ap pointed_kind (sym m.on.kind) ∙ ap pointed is ∙ p.now in
                 cc
                 in
-                maps-of l fits words used tree s number ppn f global root (moved l (words_after words store) words s number ppn f global m (record {
+                maps-of l fits words holders tree s number ppn f global root (moved l (words_after words store) words s number ppn f global m (record {
                   place = m.on.place;
                   hangs = m.on.hangs;
                   has = m.on.has;
@@ -407,19 +408,19 @@ module _ (l : Layout) (fits : IsLayout l) (words : Tables) (used : ℕ → ℕ) 
 
       backward : Maps l.scheme words (root_ppn l s) number ppn f global → Maps l.scheme (words_after words store) (root_ppn l s) number ppn f global
       backward mapped =
-          let m = member-of l fits words used tree s number ppn f global root mapped in
+          let m = member-of l fits words holders tree s number ppn f global root mapped in
           let apart : store.ppn ≡ m.table → store.index ≡ vpn_of m.va m.level → ⊥ = λ a b.
           let is : Some m.entry ≡ Some acc.old = sym m.on.word ∙ ap (λ u. word_at words m.va m.level u) (sym a) ∙ ap (words store.ppn) (sym b) ∙ acc.word in
           let bad : kinds.Leaf m.leaf f ≡ kinds.Invalid = sym m.on.kind ∙ ap kind_of (some-same _ _ is ∙ p.was) ∙ kind-zero in
           cc
           in
-          maps-of l fits (words_after words store) (used_by_all used store) new-tree s number ppn f global root (moved l words (words_after words store) s number ppn f global m (record {
+          maps-of l fits (words_after words store) (holders_after holders (place_of wish) store) new-tree s number ppn f global root (moved l words (words_after words store) s number ppn f global m (record {
             place = m.on.place;
             hangs = m.on.hangs;
             has = m.on.has;
             within = m.on.within;
             low = m.on.low;
-            on = table_on-kept l fits words _ _ home-tree store.ppn store.index store.word place-is p.room p.now up m.on.place m.va (start_level l m.on.place - m.level) m.table m.on.on;
+            on = table_on-kept l fits words _ _ home-tree (place_of wish) store.ppn store.index store.word place-is p.frame p.room p.now up m.on.place m.va (start_level l m.on.place - m.level) m.table m.on.on;
             word = stored-there words store.ppn store.index store.word m.table (vpn_of m.va m.level) apart ∙ m.on.word;
             kind = m.on.kind;
           }) refl)

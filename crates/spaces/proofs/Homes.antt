@@ -1,11 +1,14 @@
 -- Each frame is at home on one hart.
-use Rattle.std.proofs.Common.{◌≡◌, ℕ, zero, suc, ◌+◌, ◌<◌, ◌≤◌, true, List, [], ◌∷◌, length, sum, take, ap, sym, ◌∙◌, inl, inr, arith}
+use Rattle.std.proofs.Common.{◌≡◌, ℕ, zero, suc, ◌+◌, ◌<◌, ◌≤◌, true, Some, refl, List, [], ◌∷◌, length, sum, take, ap, sym, ◌∙◌, inl, inr, arith}
 use Rattle.std.specs.Prelude.{slice_index, nat_le, nat_lt}
 use Rattle.std.proofs.lemmas.Bool.{and_parts, cases_order}
 use Rattle.std.proofs.lemmas.List.Sums.{sum_by-cons}
 use borrow.Author.Tests.{ltb-true, leb-true}
-use Rattle.spaces.specs.Layout.{Layout, is_root, root_ppn, window_ppn, spare_ppn}
-use Rattle.spaces.specs.Tree.{IsAtHome, of_root, of_window, of_spare, IsUsed, IsOwn}
+use Rattle.spaces.specs.Layout.{Layout, HasPlace, is_root, root_ppn, window_ppn, spare_ppn}
+use Rattle.spaces.specs.Tree.{IsAtHome, of_root, of_window, of_spare, IsSpareFor, IsTableOf, IsOwn}
+use Rattle.spaces.specs.Holders.{Holders}
+use Rattle.spaces.specs.declared.places.Place.{Place}
+use Rattle.spaces.specs.declared.places.Place.TheVariants.{Space, Kernel}
 
 -- one part of a sum stands before the next
 pub sum-take-step : (xs : List ℕ) (h k : ℕ) → h < k → sum (take h xs) + slice_index xs h ≤ sum (take k xs)
@@ -66,5 +69,18 @@ module _ (l : Layout) where
   pub window-own : (k i : ℕ) → k < l.window → IsOwn l (window_ppn l k) i
   window-own k i below root = let range = root-range (window_ppn l k) root in absurd (omega arith)
 
-  pub used-home : (h used f : ℕ) → used ≤ slice_index l.spares h → IsUsed l h used f → IsAtHome l h f
-  used-home h used f room u = of_spare u.number (omega (arith, u.below)) u.is
+  pub spare-home : (h : ℕ) (holders : Holders) (place : Place) (f : ℕ) → IsSpareFor l h holders place f → IsAtHome l h f
+  spare-home h holders place f u = of_spare u.number u.below u.is
+
+  -- a table is one of one place
+  pub place-unique : (h : ℕ) (holders : Holders) (place place' : Place) (f : ℕ) → IsTableOf l h holders place f → IsTableOf l h holders place' f
+      → HasPlace l place → HasPlace l place' → place ≡ place'
+  place-unique h holders (Space s) (Space s') f (inl a) (inl b) has has' = ap Space (let same : s ≡ s' = omega arith in same)
+  place-unique h holders (Space s) Kernel f (inl a) (inl b) has has' = absurd (omega (arith, a, b.1, b.2))
+  place-unique h holders Kernel (Space s') f (inl a) (inl b) has has' = absurd (omega (arith, b, a.1, a.2))
+  place-unique h holders Kernel Kernel f (inl a) (inl b) has has' = refl
+  place-unique h holders (Space s) place' f (inl a) (inr b) has has' = absurd (omega (arith, a, b.is))
+  place-unique h holders Kernel place' f (inl a) (inr b) has has' = absurd (omega (arith, a.1, a.2, b.is))
+  place-unique h holders place (Space s) f (inr a) (inl b) has has' = absurd (omega (arith, b, a.is))
+  place-unique h holders place Kernel f (inr a) (inl b) has has' = absurd (omega (arith, b.1, b.2, a.is))
+  place-unique h holders place place' f (inr a) (inr b) has has' = let same : Some place ≡ Some place' = sym a.held ∙ b.held in cc

@@ -18,6 +18,7 @@ use Rattle.spaces.specs.declared.places.Place.{Place}
 use Rattle.spaces.specs.declared.places.Place.TheVariants.{Space, Kernel}
 use Rattle.spaces.specs.Layout.{Layout, HasPlace, root_ppn, user_slots, first_window_slot}
 use Rattle.spaces.specs.Held.{IsLayout}
+use Rattle.spaces.specs.Holders.{Holders}
 use Rattle.spaces.specs.Edits.{is_kernel}
 use Rattle.spaces.specs.Tree.{start_level, start_table, IsIn, table_on, IsHome, IsTree}
 use Rattle.walk.specs.Pointers.{pointed, table_below}
@@ -76,8 +77,8 @@ leaf-carried l old new s va level t entry leaf flags o tables word = record {
   kind = o.kind;
 }
 
-module _ (l : Layout) (fits : IsLayout l) (words : Tables) (used : ℕ → ℕ) (tree : IsTree l words used) where
-  root-home : (s : ℕ) → s < length l.homes → IsHome l words (slice_index l.homes s) (used (slice_index l.homes s))
+module _ (l : Layout) (fits : IsLayout l) (words : Tables) (holders : Holders) (tree : IsTree l words holders) where
+  pub root-home : (s : ℕ) → s < length l.homes → IsHome l words (slice_index l.homes s) holders
   root-home s has = tree (slice_index l.homes s) (fits.homes s 0 has)
 
   pub window-word : (s va : ℕ) → s < length l.homes → IsIn l Kernel va → word_at words va (top_level l.scheme) (root_ppn l s) ≡ Some (table_word (start_table l Kernel va) true)
@@ -115,7 +116,7 @@ module _ (l : Layout) (fits : IsLayout l) (words : Tables) (used : ℕ → ℕ) 
                   within = inside;
                   low = omega arith;
                   on =
-                      sym (table_below-front words va (top_level l.scheme) (root_ppn l s) (start_table l Kernel va) (top_level l.scheme - 1 - level) (window-points l fits words used tree s va has inside))
+                      sym (table_below-front words va (top_level l.scheme) (root_ppn l s) (start_table l Kernel va) (top_level l.scheme - 1 - level) (window-points l fits words holders tree s va has inside))
                       ∙ ap (table_below words va (top_level l.scheme) (root_ppn l s)) (sym steps) ∙ path;
                   word = sym leads.here;
                   kind = kind;
@@ -139,7 +140,7 @@ module _ (l : Layout) (fits : IsLayout l) (words : Tables) (used : ℕ → ℕ) 
       let levels = levels_two l.scheme in
       let steps : top_level l.scheme - level ≡ suc (top_level l.scheme - 1 - level) = omega arith in
       ap (table_below words va (top_level l.scheme) (root_ppn l s)) steps
-      ∙ table_below-front words va (top_level l.scheme) (root_ppn l s) (start_table l Kernel va) (top_level l.scheme - 1 - level) (window-points l fits words used tree s va has within)
+      ∙ table_below-front words va (top_level l.scheme) (root_ppn l s) (start_table l Kernel va) (top_level l.scheme - 1 - level) (window-points l fits words holders tree s va has within)
       ∙ path
 
   start-top : (place : Place) → start_level l place ≤ top_level l.scheme
@@ -211,11 +212,11 @@ moved l old new s number ppn flags global m on same = record {
   reach = m.reach ∙ ap is_kernel (sym same);
 }
 
-module _ (l : Layout) (fits : IsLayout l) (words : Tables) (used : ℕ → ℕ) (tree : IsTree l words used) (s number ppn : ℕ) (flags : PteFlags) (global : Bool) (has : s < length l.homes) where
+module _ (l : Layout) (fits : IsLayout l) (words : Tables) (holders : Holders) (tree : IsTree l words holders) (s number ppn : ℕ) (flags : PteFlags) (global : Bool) (has : s < length l.homes) where
   pub member-of : Maps l.scheme words (root_ppn l s) number ppn flags global → Member l words s number ppn flags global
   member-of m =
-      let on = leaf-place l fits words used tree s m.va m.level m.table m.entry m.leaf flags has m.leads m.kind in
-      let same = global-place l fits words used tree s m.va m.level on.place has on.hangs on.within on.low in
+      let on = leaf-place l fits words holders tree s m.va m.level m.table m.entry m.leaf flags has m.leads m.kind in
+      let same = global-place l fits words holders tree s m.va m.level on.place has on.hangs on.within on.low in
       record {
         va = m.va;
         level = m.level;
@@ -232,7 +233,7 @@ module _ (l : Layout) (fits : IsLayout l) (words : Tables) (used : ℕ → ℕ) 
 
   pub maps-of : Member l words s number ppn flags global → Maps l.scheme words (root_ppn l s) number ppn flags global
   maps-of m =
-      let same = global-place l fits words used tree s m.va m.level m.on.place has m.on.hangs m.on.within m.on.low in
+      let same = global-place l fits words holders tree s m.va m.level m.on.place has m.on.hangs m.on.within m.on.low in
       record {
         va = m.va;
         level = m.level;
@@ -241,7 +242,7 @@ module _ (l : Layout) (fits : IsLayout l) (words : Tables) (used : ℕ → ℕ) 
         leaf = m.leaf;
         canonical = m.canonical;
         of_page = m.of_page;
-        leads = place-leaf l fits words used tree s m.va m.level m.table m.entry m.leaf flags has m.on;
+        leads = place-leaf l fits words holders tree s m.va m.level m.table m.entry m.leaf flags has m.on;
         kind = m.on.kind;
         aligned = m.aligned;
         place = m.place;

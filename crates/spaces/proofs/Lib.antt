@@ -10,10 +10,14 @@ pub mod EndPaths
 pub mod Accepting
 pub mod Keeping
 pub mod OpeningTree
-pub mod OpenedMemory
-pub mod Applying
-pub mod Dues
 pub mod Numbers
 pub mod Leaves
 pub mod Effecting
 pub mod EditLaws
+pub mod Emptying
+pub mod Reaching
+pub mod OpenedMemory
+pub mod Applying
+pub mod GivingBack
+pub mod Dues
+pub mod Spares

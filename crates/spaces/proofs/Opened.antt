@@ -1,5 +1,5 @@
 -- The words at the opening, and what a memory just opened keeps.
-use Rattle.std.proofs.Common.{◌≡◌, ℕ, zero, suc, ◌+◌, ◌*◌, ◌/◌, ◌%◌, ◌<◌, ◌≤◌, Bool, true, false, cond, Some, None, List, [], ◌∷◌, length, length-append, replicate, map, ◌∙◌, ap, refl, inl, inr, arith}
+use Rattle.std.proofs.Common.{Option, ◌≡◌, ℕ, zero, suc, ◌+◌, ◌*◌, ◌/◌, ◌%◌, ◌<◌, ◌≤◌, Bool, true, false, cond, Some, None, List, [], ◌∷◌, length, length-append, replicate, map, ◌∙◌, ap, refl, inl, inr, arith}
 use Rattle.std.specs.Prelude.{nat_le, nat_lt, slice_get}
 use borrow.Author.Tests.{ltb-true, leb-true}
 use Rattle.std.proofs.lemmas.Bool.{and_parts, cases_lt}
@@ -8,6 +8,7 @@ use Rattle.std.proofs.lemmas.List.Elements.{All-map}
 use Rattle.pte.specs.Address.{table_length}
 use Rattle.spaces.specs.declared.configuration.Config.{Config}
 use Rattle.spaces.specs.declared.configuration.Space.{Space}
+use Rattle.spaces.specs.declared.places.Place.{Place}
 use Rattle.spaces.proofs.Lists.{slice_get-front, slice_get-last}
 use Rattle.spaces.specs.Layout.{Layout, layout_of, frame_count, is_frame}
 use Rattle.spaces.specs.Limits.{MeetsLimits, max_frames}
@@ -32,9 +33,9 @@ slice_get-first_words l (suc n) k h =
           slice_get-last (first_words l n) _ k (omega arith) ∙ ap (λ m. Some (first_word l (l.base + m / table_length) (m % table_length))) last
     ]
 
-pub words-open : (l : Layout) (used : List ℕ) (ppn i : ℕ) → words_of (record { layout = l; words = first_words l (frame_count l * table_length); used = used }) ppn i ≡ opening l ppn i
+pub words-open : (l : Layout) (holders : List (Option Place)) (ppn i : ℕ) → words_of (record { layout = l; words = first_words l (frame_count l * table_length); holders = holders }) ppn i ≡ opening l ppn i
 unfolding words_of
-words-open l used ppn i = by_test (is_word l ppn i) refl
+words-open l holders ppn i = by_test (is_word l ppn i) refl
   where
     there : is_word l ppn i ≡ true → slice_get (first_words l (frame_count l * table_length)) (word_index l ppn i) ≡ Some (first_word l ppn i)
     there h =
@@ -64,17 +65,17 @@ layout-meets c h = record {
   ppns_fit = h.ppns_fit;
 }
 
-abbrev pub made : Config → List ℕ → List ℕ → List ℕ → List ℕ → Held
-made c homes spares words used = record { layout = record { scheme = c.scheme; window = c.window; base = c.base; homes = homes; spares = spares }; words = words; used = used }
+abbrev pub made : Config → List ℕ → List ℕ → List ℕ → List (Option Place) → Held
+made c homes spares words holders = record { layout = record { scheme = c.scheme; window = c.window; base = c.base; homes = homes; spares = spares }; words = words; holders = holders }
 
 abbrev pub opened : Config → Held
-opened c = record { layout = layout_of c; words = first_words (layout_of c) (frame_count (layout_of c) * table_length); used = replicate (length c.spares.items) 0 }
+opened c = record { layout = layout_of c; words = first_words (layout_of c) (frame_count (layout_of c) * table_length); holders = replicate (frame_count (layout_of c)) None }
 
 -- the fields that open puts together
-pub opened-is : (c : Config) (homes spares words used : List ℕ) → homes ≡ map (λ s. s.home) c.spaces.items → spares ≡ c.spares.items
-    → words ≡ first_words (layout_of c) (frame_count (layout_of c) * table_length) → used ≡ replicate (length c.spares.items) 0
-    → made c homes spares words used ≡ opened c
-opened-is c homes spares words used h s w u =
-    ap (λ x. made c x spares words used) h ∙ ap (λ x. made c (map (λ s. s.home) c.spaces.items) x words used) s
-    ∙ ap (λ x. made c (map (λ s. s.home) c.spaces.items) c.spares.items x used) w
+pub opened-is : (c : Config) (homes spares words : List ℕ) (holders : List (Option Place)) → homes ≡ map (λ s. s.home) c.spaces.items → spares ≡ c.spares.items
+    → words ≡ first_words (layout_of c) (frame_count (layout_of c) * table_length) → holders ≡ replicate (frame_count (layout_of c)) None
+    → made c homes spares words holders ≡ opened c
+opened-is c homes spares words holders h s w u =
+    ap (λ x. made c x spares words holders) h ∙ ap (λ x. made c (map (λ s. s.home) c.spaces.items) x words holders) s
+    ∙ ap (λ x. made c (map (λ s. s.home) c.spaces.items) c.spares.items x holders) w
     ∙ ap (λ x. made c (map (λ s. s.home) c.spaces.items) c.spares.items (first_words (layout_of c) (frame_count (layout_of c) * table_length)) x) u

@@ -107,9 +107,9 @@ module _ (l : Layout) (fits : IsLayout l) where
       in
       ap is_global (sym (some-same _ _ zero-word)) ∙ is_global-zero
 
-  pub home-opening : (h : ℕ) → h < length l.spares → IsHome l (opening l) h 0
+  pub home-opening : (h : ℕ) → h < length l.spares → IsHome l (opening l) h (λ _. None)
   home-opening h there = record {
-    room = omega arith;
+    held = λ f place e home. let bad : None ≡ Some place = e in cc;
     present = λ f i home less. subst IsSome (sym (opening-at h f i home less)) refl;
     entries = λ f i word home e. by_test f i word (is_word l f i) refl e;
     window = λ s k has home less.
@@ -122,7 +122,7 @@ module _ (l : Layout) (fits : IsLayout l) where
         ∙ ap (λ b. Some (cond b (table_word (window_ppn l (i - first_window_slot l)) true) 0)) (let gt : nat_le (first_window_slot l) i ≡ false = grind (arith, nat_tests) in gt);
     closed = λ f i g home own e. absurd (let bad : None ≡ Some g = sym (own-pointed f i own) ∙ e in cc);
     once = λ f i f' i' g home home' own own' e e'. absurd (let bad : None ≡ Some g = sym (own-pointed f i own) ∙ e in cc);
-    unused = λ n i from to less. opening-at h _ _ (of_spare n to refl) less ∙ ap Some (own-word _ i (spare-own l h n i));
+    unused = λ n i none to less. opening-at h _ _ (of_spare n to refl) less ∙ ap Some (own-word _ i (spare-own l h n i));
     bottom = λ place va t has home within e. bottom-first place va t has within e;
     plain = λ s va n t word has home within deep e w. plain-first s va n t word has (subst (λ k. k < length l.spares) (sym home) there) within deep e w;
   }
@@ -135,5 +135,5 @@ module _ (l : Layout) (fits : IsLayout l) where
           below-length f i t = let p = and_parts (is_frame l f) (nat_lt i table_length) t in let less = p.1 in grind (arith, nat_tests)
       by_test f i word false t e = absurd (let bad : None ≡ Some word = e in cc)
 
-  pub opening-tree : IsTree l (opening l) (λ _. 0)
+  pub opening-tree : IsTree l (opening l) (λ _. None)
   opening-tree = home-opening

@@ -1,16 +1,18 @@
 -- Stores keep the tree.
-use Rattle.std.proofs.Common.{◌≡◌, ℕ, zero, suc, ◌+◌, ◌-◌, ◌<◌, ◌≤◌, ◌⊎◌, true, false, Some, None, length, ap, sym, ◌∙◌, subst, refl, inl, inr, arith, IsSome}
+use Rattle.std.proofs.Common.{◌≡◌, ℕ, zero, suc, ◌+◌, ◌-◌, ◌<◌, ◌≤◌, ◌⊎◌, Bool, true, false, cond, eqb, Some, None, length, ap, sym, ◌∙◌, subst, refl, inl, inr, arith, IsSome}
 use Rattle.std.specs.Prelude.{slice_index}
+use Rattle.std.proofs.lemmas.Bool.{eq-eqb, eqb-true, ne_eqb}
 use Rattle.std.proofs.lemmas.Bool.Decides.{nat_tests}
 use Rattle.pte.specs.declared.entry.Kind.TheVariants as kinds
 use Rattle.pte.specs.Address.{top_level, table_length, vpn_of}
 use Rattle.pte.specs.Entry.{kind_of, is_global, table_word}
 use Rattle.walk.specs.Leads.{Tables, word_at}
 use Rattle.spaces.specs.declared.places.Place.{Place}
-use Rattle.spaces.specs.declared.places.Place.TheVariants.{Space}
+use Rattle.spaces.specs.declared.places.Place.TheVariants.{Space, Kernel}
 use Rattle.spaces.specs.Layout.{Layout, HasPlace, home_of, is_root, root_ppn, window_ppn, spare_ppn, user_slots, first_window_slot}
 use Rattle.spaces.specs.Held.{IsLayout}
-use Rattle.spaces.specs.Tree.{start_level, start_table, IsIn, table_on, IsAtHome, of_root, of_spare, IsUsed, IsOwn, IsEntryOf, IsHome}
+use Rattle.spaces.specs.Tree.{start_level, start_table, IsIn, table_on, IsAtHome, of_root, of_spare, IsSpareFor, IsTableOf, IsStep, IsOwn, IsEntryOf, IsHome}
+use Rattle.spaces.specs.Holders.{Holders}
 use Rattle.walk.specs.Pointers.{pointed, pointed_kind}
 use Rattle.walk.specs.Stores.{stored}
 use Rattle.spaces.proofs.Paths.{above, below, on, some-same, table_below-like, vpn-below}
@@ -29,33 +31,43 @@ is_global-zero = refl
 pub root-is : (l : Layout) (s : ℕ) → s < length l.homes → is_root l (root_ppn l s) ≡ true
 root-is l s less = grind (arith, nat_tests)
 
--- words that agree at a home keep it
-module _ (l : Layout) (fits : IsLayout l) (words words' : Tables) (h used : ℕ) (tree : IsHome l words h used) (same : (f i : ℕ) → IsAtHome l h f → words' f i ≡ words f i) where
+-- words that agree at a home keep it, and so do holders that agree on its spare frames
+module _ (l : Layout) (fits : IsLayout l) (words words' : Tables) (h : ℕ) (holders holders' : Holders) (tree : IsHome l words h holders)
+    (same : (f i : ℕ) → IsAtHome l h f → words' f i ≡ words f i) (kept : (n : ℕ) → n < slice_index l.spares h → holders' (spare_ppn l h + n) ≡ holders (spare_ppn l h + n))
+    (fewer : (f : ℕ) (place : Place) → home_of l place ≡ h → holders' f ≡ Some place → holders f ≡ Some place) where
   back : (place : Place) (va n t : ℕ) → HasPlace l place → home_of l place ≡ h → IsIn l place va → table_on l words' place va n ≡ Some t → table_on l words place va n ≡ Some t
   back place va zero t has home within e = e
   back place va (suc n) t has home within e =
       let up = above words' va (start_level l place) (start_table l place va) n t e in
       let old = back place va n up.table_above has home within up.on in
-      let there = on l fits words h used tree place va n up.table_above has home within old in
+      let there = on l fits words h holders tree place va n up.table_above has home within old in
       below words va (start_level l place) (start_table l place va) n up.table_above old ∙ ap pointed (sym (same _ _ there.home)) ∙ up.points
 
-  pub home-same : IsHome l words' h used
+  for-place : (place : Place) (f : ℕ) → IsSpareFor l h holders place f → IsSpareFor l h holders' place f
+  for-place place f u = record { number = u.number; below = u.below; is = u.is; held = ap holders' u.is ∙ kept u.number u.below ∙ ap holders (sym u.is) ∙ u.held }
+
+  table-of : (place : Place) (f : ℕ) → IsTableOf l h holders place f → IsTableOf l h holders' place f
+  table-of place f t = elim t [ inl top ↦ inl top | inr u ↦ inr (for-place place f u) ]
+
+  pub home-same : IsHome l words' h holders'
   home-same = record {
-    room = tree.room;
+    held = λ f place e home. tree.held f place (fewer f place home e) home;
     present = λ f i home less. subst IsSome (sym (same f i home)) (tree.present f i home less);
     entries = λ f i word home e. tree.entries f i word home (sym (same f i home) ∙ e);
     window = λ s k has home less. same _ _ (of_root s has home refl) ∙ tree.window s k has home less;
     upper = λ s i has home from to. same _ _ (of_root s has home refl) ∙ tree.upper s i has home from to;
-    closed = λ f i g home own e. tree.closed f i g home own (ap pointed (sym (same f i home)) ∙ e);
+    closed = λ f i g home own e.
+        let step = tree.closed f i g home own (ap pointed (sym (same f i home)) ∙ e) in
+        record { place = step.place; has = step.has; home = step.home; from = table-of step.place f step.from; to = for-place step.place g step.to };
     once = λ f i f' i' g home home' own own' e e'. tree.once f i f' i' g home home' own own' (ap pointed (sym (same f i home)) ∙ e) (ap pointed (sym (same f' i' home')) ∙ e');
-    unused = λ n i from to less. same _ _ (of_spare n to refl) ∙ tree.unused n i from to less;
+    unused = λ n i none to less. same _ _ (of_spare n to refl) ∙ tree.unused n i (sym (kept n to) ∙ none) to less;
     bottom = λ place va t has home within e.
         let old = back place va (start_level l place) t has home within e in
-        let there = on l fits words h used tree place va (start_level l place) t has home within old in
+        let there = on l fits words h holders tree place va (start_level l place) t has home within old in
         ap pointed (same _ _ there.home) ∙ tree.bottom place va t has home within old;
     plain = λ s va n t word has home within deep e w.
         let old = back (Space s) va n t has home within e in
-        let there = on l fits words h used tree (Space s) va n t has home within old in
+        let there = on l fits words h holders tree (Space s) va n t has home within old in
         tree.plain s va n t word has home within deep old (sym (same _ _ there.home) ∙ w);
   }
 
@@ -64,16 +76,32 @@ upper-apart : (l : Layout) (f i s j : ℕ) → s < length l.homes → IsOwn l f 
 upper-apart l f i s j has own from is at = let low : i < user_slots = own (ap (is_root l) is ∙ root-is l s has) in omega arith
 
 -- what both kinds of store know of the word that is written: where it stands, and that it is no empty table's
-pub record IsPlace (l : Layout) (words : Tables) (h used f i x : ℕ) : Type 0 where
+pub record IsPlace (l : Layout) (words : Tables) (h : ℕ) (holders : Holders) (place : Place) (f i x : ℕ) : Type 0 where
   pub at : IsAtHome l h f
   pub own : IsOwn l f i
-  pub in_use : (n : ℕ) → used ≤ n → f ≡ spare_ppn l h + n → ⊥
+  pub has : HasPlace l place
+  pub home : home_of l place ≡ h
+  pub of : IsTableOf l h holders place f
   pub old : pointed (words f i) ≡ None
   pub entry : IsEntryOf x (kind_of x)
   pub plain : (s va n : ℕ) → s < length l.homes → slice_index l.homes s ≡ h → IsIn l (Space s) va → n ≤ top_level l.scheme
       → table_on l words (Space s) va n ≡ Some f → vpn_of va (top_level l.scheme - n) ≡ i → is_global x ≡ false
 
-module _ (l : Layout) (fits : IsLayout l) (words : Tables) (h used : ℕ) (tree : IsHome l words h used) (f i x : ℕ) (here : IsPlace l words h used f i x) where
+-- an unused spare frame
+pub record Unused (l : Layout) (h : ℕ) (holders : Holders) (frame : ℕ) : Type 0 where
+  pub number : ℕ
+  pub below : number < slice_index l.spares h
+  pub is : frame ≡ spare_ppn l h + number
+  pub none : holders frame ≡ None
+
+-- no table of a place
+pub unused-apart : (l : Layout) (fits : IsLayout l) (h : ℕ) (holders : Holders) (place : Place) (f : ℕ) → HasPlace l place → IsTableOf l h holders place f → Unused l h holders f → ⊥
+unused-apart l fits h holders (Space s) f has (inl top) u = omega (arith, top, u.is)
+unused-apart l fits h holders Kernel f has (inl top) u = omega (arith, top.1, top.2, u.is)
+unused-apart l fits h holders place f has (inr spare) u = let bad : None ≡ Some place = sym u.none ∙ spare.held in cc
+
+module _ (l : Layout) (fits : IsLayout l) (words : Tables) (h : ℕ) (holders : Holders) (tree : IsHome l words h holders) (owner : Place) (f i x : ℕ)
+    (here : IsPlace l words h holders owner f i x) where
   present-stored : (g j : ℕ) → IsAtHome l h g → j < table_length → IsSome (stored words f i x g j)
   present-stored g j home less = elim (is-word f i g j) [
     | inl same ↦ subst IsSome (sym (stored-here words f i x g j same.0 same.1)) refl
@@ -94,8 +122,10 @@ module _ (l : Layout) (fits : IsLayout l) (words : Tables) (h used : ℕ) (tree 
   upper-stored : (s j : ℕ) → s < length l.homes → slice_index l.homes s ≡ h → user_slots ≤ j → j < first_window_slot l → stored words f i x (root_ppn l s) j ≡ Some 0
   upper-stored s j has home from to = stored-there words f i x _ _ (upper-apart l f i s _ has here.own from) ∙ tree.upper s j has home from to
 
-  unused-stored : (n j : ℕ) → used ≤ n → n < slice_index l.spares h → j < table_length → stored words f i x (spare_ppn l h + n) j ≡ Some 0
-  unused-stored n j from to less = stored-there words f i x _ _ (λ is _. here.in_use n from is) ∙ tree.unused n j from to less
+  unused-stored : (n j : ℕ) → holders (spare_ppn l h + n) ≡ None → n < slice_index l.spares h → j < table_length → stored words f i x (spare_ppn l h + n) j ≡ Some 0
+  unused-stored n j none to less =
+      stored-there words f i x _ _ (λ is _. unused-apart l fits h holders owner f here.has here.of (record { number = n; below = to; is = is; none = ap holders is ∙ none }))
+      ∙ tree.unused n j none to less
 
   -- a store of what points nowhere
   module _ (new : pointed (Some x) ≡ None) where
@@ -114,9 +144,9 @@ module _ (l : Layout) (fits : IsLayout l) (words : Tables) (h used : ℕ) (tree 
       | inr apart ↦ tree.plain s va n t word has home within deep e (sym (stored-there words f i x t _ apart) ∙ w)
     ]
 
-    pub home-leaf : IsHome l (stored words f i x) h used
+    pub home-leaf : IsHome l (stored words f i x) h holders
     home-leaf = record {
-      room = tree.room;
+      held = tree.held;
       present = present-stored;
       entries = entries-stored;
       window = window-stored;
@@ -128,21 +158,18 @@ module _ (l : Layout) (fits : IsLayout l) (words : Tables) (h used : ℕ) (tree 
       plain = λ s va n t word has home within deep e w. plain-leaf s va n t word has home within deep (sym (table_on-leaf (Space s) va n) ∙ e) w;
     }
 
-  -- a store of a pointer to the lowest unused spare frame, above the lowest level
-  module _ (room : used < slice_index l.spares h) (new : pointed (Some x) ≡ Some (spare_ppn l h + used))
+  -- a store of a pointer to an unused spare frame, above the lowest level
+  module _ (frame : ℕ) (room : Unused l h holders frame) (new : pointed (Some x) ≡ Some frame)
       (high : (place : Place) (va n : ℕ) → HasPlace l place → home_of l place ≡ h → IsIn l place va → table_on l words place va n ≡ Some f
       → vpn_of va (start_level l place - n) ≡ i → n < start_level l place) where
-    fresh : ℕ
-    fresh = spare_ppn l h + used
+    pub fresh-empty : (j : ℕ) → j < table_length → stored words f i x frame j ≡ Some 0
+    fresh-empty j less = ap (λ g. stored words f i x g j) room.is ∙ unused-stored room.number j (ap holders (sym room.is) ∙ room.none) room.below less
 
-    pub fresh-empty : (j : ℕ) → j < table_length → stored words f i x (spare_ppn l h + used) j ≡ Some 0
-    fresh-empty j less = unused-stored used j (omega arith) room less
-
-    fresh-points : (j g : ℕ) → j < table_length → pointed (stored words f i x (spare_ppn l h + used) j) ≡ Some g → ⊥
+    fresh-points : (j g : ℕ) → j < table_length → pointed (stored words f i x frame j) ≡ Some g → ⊥
     fresh-points j g less e = let no-table : None ≡ Some g = sym pointed-zero ∙ ap pointed (sym (fresh-empty j less)) ∙ e in cc
 
     -- what a path reaches it reached before, or it is the new table
-    pub table_on-pointer : (place : Place) (va n t : ℕ) → table_on l (stored words f i x) place va n ≡ Some t → (table_on l words place va n ≡ Some t) ⊎ (t ≡ spare_ppn l h + used)
+    pub table_on-pointer : (place : Place) (va n t : ℕ) → table_on l (stored words f i x) place va n ≡ Some t → (table_on l words place va n ≡ Some t) ⊎ (t ≡ frame)
     table_on-pointer place va zero t e = inl e
     table_on-pointer place va (suc n) t e =
         let up = above (stored words f i x) va (start_level l place) (start_table l place va) n t e in
@@ -152,7 +179,7 @@ module _ (l : Layout) (fits : IsLayout l) (words : Tables) (h used : ℕ) (tree 
               (subst (λ g. pointed (stored words f i x g (vpn_of va (start_level l place - n))) ≡ Some t) new-table up.points))
           | inl old ↦ elim (is-word f i up.table_above (vpn_of va (start_level l place - n))) [
             | inl same ↦
-                inr (let is : Some (spare_ppn l h + used) ≡ Some t = sym new ∙ ap pointed (sym (stored-here words f i x _ _ same.0 same.1)) ∙ up.points in sym (some-same _ _ is))
+                inr (let is : Some frame ≡ Some t = sym new ∙ ap pointed (sym (stored-here words f i x _ _ same.0 same.1)) ∙ up.points in sym (some-same _ _ is))
             | inr apart ↦
                 inl (below words va (start_level l place) (start_table l place va) n up.table_above old ∙ ap pointed (sym (stored-there words f i x _ _ apart)) ∙ up.points)
           ]
@@ -199,19 +226,60 @@ module _ (l : Layout) (fits : IsLayout l) (words : Tables) (h used : ℕ) (tree 
           ]
         ]
 
-    closed-pointer : (g j p : ℕ) → IsAtHome l h g → IsOwn l g j → pointed (stored words f i x g j) ≡ Some p → IsUsed l h (used + 1) p
+    -- with the new table in use for the place
+    abbrev pub new-holders : Holders
+    new-holders g = cond (eqb frame g) (Some owner) (holders g)
+
+    new-held : (g : ℕ) (place : Place) → holders g ≡ Some place → new-holders g ≡ Some place
+    new-held g place e =
+        let apart : eqb frame g ≡ false = ne_eqb frame g (λ is. let bad : None ≡ Some place = sym room.none ∙ ap holders is ∙ e in cc) in
+        ap (λ t. cond t (Some owner) (holders g)) apart ∙ e
+
+    new-for : (place : Place) (g : ℕ) → IsSpareFor l h holders place g → IsSpareFor l h new-holders place g
+    new-for place g u = record { number = u.number; below = u.below; is = u.is; held = new-held g place u.held }
+
+    new-of : (place : Place) (g : ℕ) → IsTableOf l h holders place g → IsTableOf l h new-holders place g
+    new-of place g t = elim t [ inl top ↦ inl top | inr u ↦ inr (new-for place g u) ]
+
+    new-cases : (g : ℕ) (place : Place) → new-holders g ≡ Some place → ((frame ≡ g) × (owner ≡ place)) ⊎ (holders g ≡ Some place)
+    new-cases g place e = by_test (eqb frame g) refl e
+      where
+        by_test : (t : Bool) → eqb frame g ≡ t → cond t (Some owner) (holders g) ≡ Some place → ((frame ≡ g) × (owner ≡ place)) ⊎ (holders g ≡ Some place)
+        by_test true t e = inl (eqb-true frame g t, let same : owner ≡ place = cc in same)
+        by_test false t e = inr e
+
+    new-none : (g : ℕ) → new-holders g ≡ None → holders g ≡ None
+    new-none g e = by_test (eqb frame g) e
+      where
+        by_test : (t : Bool) → cond t (Some owner) (holders g) ≡ None → holders g ≡ None
+        by_test true e = absurd cc
+        by_test false e = e
+
+    closed-pointer : (g j p : ℕ) → IsAtHome l h g → IsOwn l g j → pointed (stored words f i x g j) ≡ Some p → IsStep l h new-holders g p
     closed-pointer g j p home own e = elim (is-word f i g j) [
       | inl same ↦
-          let is : Some (spare_ppn l h + used) ≡ Some p = sym new ∙ ap pointed (sym (stored-here words f i x g j same.0 same.1)) ∙ e in
-          record { number = used; below = omega arith; is = sym (some-same _ _ is) }
+          let is : Some frame ≡ Some p = sym new ∙ ap pointed (sym (stored-here words f i x g j same.0 same.1)) ∙ e in
+          let at : frame ≡ p = some-same _ _ is in
+          record {
+            place = owner;
+            has = here.has;
+            home = here.home;
+            from = new-of owner g (subst (IsTableOf l h holders owner) same.0 here.of);
+            to = record {
+              number = room.number;
+              below = room.below;
+              is = sym at ∙ room.is;
+              held = ap new-holders (sym at) ∙ ap (λ t. cond t (Some owner) (holders frame)) (eq-eqb frame frame refl);
+            };
+          }
       | inr apart ↦
-          let u = tree.closed g j p home own (ap pointed (sym (stored-there words f i x g j apart)) ∙ e) in
-          record { number = u.number; below = omega (arith, u.below); is = u.is }
+          let step = tree.closed g j p home own (ap pointed (sym (stored-there words f i x g j apart)) ∙ e) in
+          record { place = step.place; has = step.has; home = step.home; from = new-of step.place g step.from; to = new-for step.place p step.to }
     ]
 
     -- no old pointer leads to the new table
-    fresh-old : (g j : ℕ) → IsAtHome l h g → IsOwn l g j → pointed (words g j) ≡ Some (spare_ppn l h + used) → ⊥
-    fresh-old g j home own e = let u = tree.closed g j _ home own e in omega (arith, u.below, u.is)
+    fresh-old : (g j : ℕ) → IsAtHome l h g → IsOwn l g j → pointed (words g j) ≡ Some frame → ⊥
+    fresh-old g j home own e = let step = tree.closed g j _ home own e in let bad : None ≡ Some step.place = sym room.none ∙ step.to.held in cc
 
     once-pointer : (g j g' j' p : ℕ) → IsAtHome l h g → IsAtHome l h g' → IsOwn l g j → IsOwn l g' j'
         → pointed (stored words f i x g j) ≡ Some p → pointed (stored words f i x g' j') ≡ Some p → (g ≡ g') × (j ≡ j')
@@ -219,28 +287,28 @@ module _ (l : Layout) (fits : IsLayout l) (words : Tables) (h used : ℕ) (tree 
       | inl same ↦ elim (is-word f i g' j') [
         | inl same' ↦ (sym same.0 ∙ same'.0, sym same.1 ∙ same'.1)
         | inr apart' ↦
-            let is : Some (spare_ppn l h + used) ≡ Some p = sym new ∙ ap pointed (sym (stored-here words f i x g j same.0 same.1)) ∙ e in
+            let is : Some frame ≡ Some p = sym new ∙ ap pointed (sym (stored-here words f i x g j same.0 same.1)) ∙ e in
             absurd (fresh-old g' j' home' own' (ap pointed (sym (stored-there words f i x g' j' apart')) ∙ e' ∙ sym is))
       ]
       | inr apart ↦ elim (is-word f i g' j') [
         | inl same' ↦
-            let is : Some (spare_ppn l h + used) ≡ Some p = sym new ∙ ap pointed (sym (stored-here words f i x g' j' same'.0 same'.1)) ∙ e' in
+            let is : Some frame ≡ Some p = sym new ∙ ap pointed (sym (stored-here words f i x g' j' same'.0 same'.1)) ∙ e' in
             absurd (fresh-old g j home own (ap pointed (sym (stored-there words f i x g j apart)) ∙ e ∙ sym is))
         | inr apart' ↦
             tree.once g j g' j' p home home' own own' (ap pointed (sym (stored-there words f i x g j apart)) ∙ e) (ap pointed (sym (stored-there words f i x g' j' apart')) ∙ e')
       ]
     ]
 
-    pub home-pointer : IsHome l (stored words f i x) h (used + 1)
+    pub home-pointer : IsHome l (stored words f i x) h new-holders
     home-pointer = record {
-      room = omega (arith, room);
+      held = λ g place e home. elim (new-cases g place e) [ inl n ↦ (room.number, room.below, sym n.0 ∙ room.is) | inr old ↦ tree.held g place old home ];
       present = present-stored;
       entries = entries-stored;
       window = window-stored;
       upper = upper-stored;
       closed = closed-pointer;
       once = once-pointer;
-      unused = λ n j from to less. unused-stored n j (omega arith) to less;
+      unused = λ n j none to less. unused-stored n j (new-none _ none) to less;
       bottom = bottom-pointer;
       plain = plain-pointer;
     }

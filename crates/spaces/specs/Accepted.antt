@@ -36,7 +36,7 @@ pub data Writes (spare : Option ℕ) (level old : ℕ) : Wish → ℕ → Type 0
 pub record Accepted (l : Layout) (words : Tables) (spare : Option ℕ) (hart : ℕ) (wish : Wish) (store : Store) : Type 0 where
   pub home : hart ≡ home_of l (place_of wish)
   pub within : IsIn l (place_of wish) (page_of wish).base
-  pub by : store.hart ≡ hart
+  pub by : store.place ≡ place_of wish
   pub depth : ℕ
   pub deep : depth ≤ start_level l (place_of wish)
   pub on : table_on l words (place_of wish) (page_of wish).base depth ≡ Some store.ppn

@@ -1,22 +1,25 @@
 -- What an edit leaves.
-use Rattle.std.specs.Prelude.{ℕ, ◌+◌, ◌*◌, ◌/◌, ◌==◌, if◌then◌else◌, Some, is_some}
+use Rattle.std.specs.Prelude.{ℕ, Bool, false, ◌*◌, ◌/◌, ◌==◌, if◌then◌else◌, Option, Some, None}
 use Rattle.pte.specs.declared.flags.PteFlags.{PteFlags}
 use Rattle.walk.specs.Leads.{Tables}
 use Rattle.walk.specs.Pointers.{pointed}
 use Rattle.walk.specs.Stores.{stored}
 use Rattle.spaces.specs.Edits.{Store}
+use Rattle.spaces.specs.declared.places.Place.{Place}
+use Rattle.spaces.specs.Holders.{Holders}
 
 -- the words after a store
 abbrev pub words_after : Tables → Store → Tables
 words_after words store = stored words store.ppn store.index store.word
 
--- how many spare frames of the hart that stores are in use after it
-abbrev pub used_after : ℕ → Store → ℕ
-used_after used store = if is_some (pointed (Some store.word)) then used + 1 else used
+-- a pointer leads to this PPN
+abbrev pub points_at : Option ℕ → ℕ → Bool
+points_at None ppn = false
+points_at (Some table) ppn = table == ppn
 
--- the same, hart by hart
-abbrev pub used_by_all : (ℕ → ℕ) → Store → ℕ → ℕ
-used_by_all used store h = if h == store.hart then used_after (used h) store else used h
+-- a new table is in use for the place of the edit
+abbrev pub holders_after : Holders → Place → Store → Holders
+holders_after holders place store ppn = if points_at (pointed (Some store.word)) ppn then Some place else holders ppn
 
 -- the flags that an entry has: bits 7 to 1
 abbrev pub seven : PteFlags → PteFlags

@@ -15,9 +15,9 @@ use Rattle.spaces.specs.declared.faults.MapFault.TheVariants.{NotHome, WrongHalf
 use Rattle.spaces.specs.declared.wishes.PathEnd.{PathEnd}
 use Rattle.spaces.specs.Layout.{Layout, home_of, root_ppn, user_slots, first_window_slot}
 
--- one store, by a hart: the table, the index of the word, and the new word
+-- one store: the place that it is for, the table, the index of the word, and the new word
 pub record Store : Type 0 where
-  pub hart : ℕ
+  pub place : Place
   pub ppn : ℕ
   pub index : ℕ
   pub word : ℕ
@@ -139,13 +139,13 @@ abbrev pub due_word : Wish → Option ℕ → PathEnd → Result ℕ MapFault
 due_word wish spare end =
     if end.level == level_of (page_of wish).size then page_word wish (kind_of end.entry) else upper_word wish spare (kind_of end.entry)
 
-abbrev pub store_at : ℕ → ℕ → PathEnd → Result ℕ MapFault → Result Store MapFault
-store_at hart va end (Ok word) = Ok (record { hart = hart; ppn = end.table; index = vpn_of va end.level; word = word })
-store_at hart va end (Err fault) = Err fault
+abbrev pub store_at : Place → ℕ → PathEnd → Result ℕ MapFault → Result Store MapFault
+store_at place va end (Ok word) = Ok (record { place = place; ppn = end.table; index = vpn_of va end.level; word = word })
+store_at place va end (Err fault) = Err fault
 
 -- the store that is due at the end of the path, by the lowest unused spare frame of the home
-abbrev pub store_due : ℕ → Wish → Option ℕ → PathEnd → Result Store MapFault
-store_due hart wish spare end = store_at hart (page_of wish).base end (due_word wish spare end)
+abbrev pub store_due : Wish → Option ℕ → PathEnd → Result Store MapFault
+store_due wish spare end = store_at (place_of wish) (page_of wish).base end (due_word wish spare end)
 
 abbrev pub unless : Option MapFault → Result Store MapFault → Result Store MapFault
 unless None r = r
@@ -158,4 +158,4 @@ wish_end l words wish =
 
 -- the store that is due, or the first fault
 unfoldable pub edit_of : Layout → Tables → Option ℕ → ℕ → Wish → Result Store MapFault
-edit_of l words spare hart wish = unless (wish_fault l hart wish) (store_due hart wish spare (wish_end l words wish))
+edit_of l words spare hart wish = unless (wish_fault l hart wish) (store_due wish spare (wish_end l words wish))

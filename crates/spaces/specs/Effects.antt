@@ -1,8 +1,9 @@
 -- What an edit does to the pages that the roots map.
-use Rattle.std.specs.Prelude.{ℕ, Bool, ◌≡◌, ◌+◌, ◌-◌, ◌<◌, ◌≤◌, ◌⊎◌, ◌↔◌, length, Option, Some, IsSome, IsNone, Ok, unwrap_or}
+use Rattle.std.specs.Prelude.{ℕ, Bool, ◌≡◌, ◌+◌, ◌*◌, ◌-◌, ◌<◌, ◌≤◌, ◌⊎◌, ◌↔◌, length, Option, Some, IsSome, IsNone, Ok, unwrap_or}
 use Rattle.pte.specs.declared.flags.PteFlags.{PteFlags}
 use Rattle.pte.specs.declared.scheme.Scheme.{Scheme}
-use Rattle.pte.specs.Address.{Span, IsPage, pages_of}
+use Rattle.pte.specs.Address.{Span, IsPage, bytes_of, pages_of, top_level, vpn_of}
+use Rattle.pte.specs.declared.address.PageSize.TheVariants.{Kib4}
 use Rattle.walk.specs.Leads.{Tables, Leads, word_at}
 use Rattle.walk.specs.Maps.{Maps, page_number}
 use Rattle.spaces.specs.declared.places.Place.{Place}
@@ -10,8 +11,9 @@ use Rattle.spaces.specs.declared.places.Place.TheVariants.{Space, Kernel}
 use Rattle.spaces.specs.declared.wishes.PathEnd.{PathEnd}
 use Rattle.spaces.specs.declared.wishes.Wish.{Wish}
 use Rattle.spaces.specs.declared.wishes.Wish.TheVariants.{Map, Unmap, Protect}
-use Rattle.spaces.specs.Layout.{Layout, HasPlace, root_ppn}
-use Rattle.spaces.specs.Held.{IsLayout, spare_after}
+use Rattle.spaces.specs.Layout.{Layout, HasPlace, root_ppn, user_slots}
+use Rattle.spaces.specs.Held.{IsLayout}
+use Rattle.spaces.specs.Holders.{Holders, unused_spare}
 use Rattle.spaces.specs.Tree.{IsTree}
 use Rattle.walk.specs.Pointers.{pointed}
 use Rattle.spaces.specs.Edits.{Store, place_of, page_of, is_kernel, edit_of}
@@ -56,13 +58,23 @@ ChangesFlags l place page flags old new = (s number ppn : ℕ) (f : PteFlags) (g
     ↔ ((Maps l.scheme old (root_ppn l s) number ppn f global × (IsAbout place page s number → ⊥))
     ⊎ (IsAbout place page s number × (f ≡ seven flags) × ((was : PteFlags) × Maps l.scheme old (root_ppn l s) number ppn was global)))
 
+-- a page of 4 KiB of the user's half of a space
+abbrev pub IsOfUser : Scheme → ℕ → ℕ → ℕ → Type 0
+IsOfUser scheme space s number = (s ≡ space) × (vpn_of (number * bytes_of Kib4) (top_level scheme) < user_slots)
+
+-- the pages of the user's half of the space are taken away, and nothing else changes in any root
+abbrev pub EmptiesSpace : Layout → ℕ → Tables → Tables → Type 0
+EmptiesSpace l space old new = (s number ppn : ℕ) (f : PteFlags) (global : Bool) → s < length l.homes
+    → Maps l.scheme new (root_ppn l s) number ppn f global
+    ↔ (Maps l.scheme old (root_ppn l s) number ppn f global × (IsOfUser l.scheme space s number → ⊥))
+
 -- an edit of a tree that is accepted
-pub record IsEdit (l : Layout) (words : Tables) (used : ℕ → ℕ) (hart : ℕ) (wish : Wish) (store : Store) : Type 0 where
+pub record IsEdit (l : Layout) (words : Tables) (holders : Holders) (hart : ℕ) (wish : Wish) (store : Store) : Type 0 where
   pub layout : IsLayout l
-  pub tree : IsTree l words used
+  pub tree : IsTree l words holders
   pub has : HasPlace l (place_of wish)
   pub page : IsPage (page_of wish)
-  pub is : edit_of l words (spare_after l hart (used hart)) hart wish ≡ Ok store
+  pub is : edit_of l words (unused_spare l holders hart) hart wish ≡ Ok store
 
 -- what it does to the mappings of all roots, by what it stores
 abbrev pub HasEffect : Layout → Wish → Store → Tables → Tables → Type 0

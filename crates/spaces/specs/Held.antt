@@ -1,20 +1,23 @@
 -- What table memory holds: each word, and how many spare frames of each hart are in use.
-use Rattle.std.specs.Prelude.{ℕ, ◌≡◌, ◌+◌, ◌-◌, ◌*◌, ◌<◌, ◌≤◌, ◌^◌, List, length, slice_get, slice_index, if◌then◌else◌, nat_lt, Option, Some, None, Ok, All, EachIndex}
+use Rattle.std.specs.Prelude.{ℕ, ◌≡◌, ◌+◌, ◌-◌, ◌*◌, ◌/◌, ◌%◌, ◌<◌, ◌≤◌, ◌^◌, Bool, ◌==◌, ◌&&◌, ◌||◌, nat_lt, List, length, slice_get, if◌then◌else◌, Option, Some, None, Ok, All}
 use Rattle.pte.specs.Address.{table_length}
 use Rattle.pte.specs.Entry.{ppn_bits}
 use Rattle.walk.specs.Leads.{Tables}
 use Rattle.spaces.specs.declared.wishes.Wish.{Wish}
-use Rattle.spaces.specs.Layout.{Layout, HasPlace, frame_count, spare_ppn}
+use Rattle.spaces.specs.declared.places.Place.{Place}
+use Rattle.spaces.specs.declared.places.Place.TheVariants.{Space}
+use Rattle.spaces.specs.Layout.{Layout, HasPlace, frame_count, is_frame, user_slots}
+use Rattle.spaces.specs.Holders.{Holders, is_held_for, unused_spare}
 use Rattle.spaces.specs.Limits.{max_harts, max_spaces, max_window, max_frames}
 use Rattle.spaces.specs.Opening.{is_word}
 use Rattle.spaces.specs.Tree.{IsTree}
 use Rattle.spaces.specs.Edits.{Store, place_of, edit_of}
 
--- the words frame by frame, and the used frames hart by hart
+-- the words frame by frame, and for which place each frame is in use as a spare one
 pub record Held : Type 0 where
   pub layout : Layout
   pub words : List ℕ
-  pub used : List ℕ
+  pub holders : List (Option Place)
 
 -- where the word of a frame stands in the list
 abbrev pub word_index : Layout → ℕ → ℕ → ℕ
@@ -24,12 +27,20 @@ word_index l ppn i = (ppn - l.base) * table_length + i
 unfoldable pub words_of : Held → Tables
 words_of m ppn i = if is_word m.layout ppn i then slice_get m.words (word_index m.layout ppn i) else None
 
--- the PPN of the lowest spare frame of a hart that is not in use, where this many are
-abbrev pub spare_after : Layout → ℕ → ℕ → Option ℕ
-spare_after l h used = if nat_lt used (slice_index l.spares h) then Some (spare_ppn l h + used) else None
+abbrev pub held_at : Option (Option Place) → Option Place
+held_at None = None
+held_at (Some holder) = holder
+
+abbrev pub holders_of : Held → Holders
+holders_of m ppn = if is_frame m.layout ppn then held_at (slice_get m.holders (ppn - m.layout.base)) else None
+
+-- whether word n of the list is one of a space alone, by the holders in the list and the number of the root's frame
+abbrev pub is_own_at : List (Option Place) → ℕ → ℕ → ℕ → Bool
+is_own_at holders root space n =
+    (n / table_length == root && nat_lt (n % table_length) user_slots) || is_held_for (held_at (slice_get holders (n / table_length))) (Space space)
 
 abbrev pub spare_of : Held → ℕ → Option ℕ
-spare_of m h = spare_after m.layout h (slice_index m.used h)
+spare_of m h = unused_spare m.layout (holders_of m) h
 
 -- the layout is within the limits
 pub record IsLayout (l : Layout) : Type 0 where
@@ -46,12 +57,12 @@ pub record IsLayout (l : Layout) : Type 0 where
 pub record IsMemory (m : Held) : Type 0 where
   pub layout : IsLayout m.layout
   pub words : length m.words ≡ frame_count m.layout * table_length
-  pub used : length m.used ≡ length m.layout.spares
-  pub room : EachIndex m.used (λ h. slice_index m.used h ≤ slice_index m.layout.spares h)
-  pub tree : IsTree m.layout (words_of m) (λ h. slice_index m.used h)
+  pub holders : length m.holders ≡ frame_count m.layout
+  pub tree : IsTree m.layout (words_of m) (holders_of m)
 
 -- the store is what some wish takes of this memory
 pub record IsDue (m : Held) (store : Store) : Type 0 where
+  pub hart : ℕ
   pub wish : Wish
   pub has : HasPlace m.layout (place_of wish)
-  pub is : edit_of m.layout (words_of m) (spare_of m store.hart) store.hart wish ≡ Ok store
+  pub is : edit_of m.layout (words_of m) (spare_of m hart) hart wish ≡ Ok store

@@ -3,6 +3,7 @@ pub mod Limits
 pub mod Opening
 pub mod Edits
 pub mod Held
+pub mod Holders
 pub mod Tree
 pub mod Applied
 pub mod Accepted

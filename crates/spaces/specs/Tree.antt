@@ -1,5 +1,5 @@
 -- The tables as a tree: what the words at the home of one hart keep, whatever the words of the others are.
-use Rattle.std.specs.Prelude.{ℕ, true, false, ◌≡◌, ◌+◌, ◌-◌, ◌<◌, ◌≤◌, Option, Some, None, IsSome, length, slice_index}
+use Rattle.std.specs.Prelude.{ℕ, true, false, ◌≡◌, ◌+◌, ◌-◌, ◌<◌, ◌≤◌, ◌⊎◌, Option, Some, None, IsSome, length, slice_index}
 use Rattle.pte.specs.declared.entry.Kind.{Kind}
 use Rattle.pte.specs.declared.entry.Kind.TheVariants as kinds
 use Rattle.pte.specs.Address.{top_level, table_length, vpn_of}
@@ -8,6 +8,7 @@ use Rattle.walk.specs.Leads.{Tables, word_at}
 use Rattle.walk.specs.Pointers.{pointed, table_below}
 use Rattle.spaces.specs.declared.places.Place.{Place}
 use Rattle.spaces.specs.declared.places.Place.TheVariants.{Space, Kernel}
+use Rattle.spaces.specs.Holders.{Holders}
 use Rattle.spaces.specs.Layout.{Layout, HasPlace, home_of, is_root, root_ppn, window_ppn, spare_ppn, user_slots, first_window_slot}
 
 -- the topmost table of a place on the path of an address, and its level: a space's root, or a table of the window
@@ -34,11 +35,29 @@ pub data IsAtHome (l : Layout) (h f : ℕ) : Type 0 where
   of_window : (k : ℕ) → k < l.window → h ≡ 0 → f ≡ window_ppn l k → IsAtHome l h f
   of_spare : (n : ℕ) → n < slice_index l.spares h → f ≡ spare_ppn l h + n → IsAtHome l h f
 
--- a spare frame in use, where this many of the hart's are
-pub record IsUsed (l : Layout) (h used f : ℕ) : Type 0 where
+-- a spare frame of the hart that is in use for a place
+pub record IsSpareFor (l : Layout) (h : ℕ) (holders : Holders) (place : Place) (f : ℕ) : Type 0 where
   pub number : ℕ
-  pub below : number < used
+  pub below : number < slice_index l.spares h
   pub is : f ≡ spare_ppn l h + number
+  pub held : holders f ≡ Some place
+
+-- a topmost table of a place
+abbrev pub IsTop : Layout → Place → ℕ → Type 0
+IsTop l (Space s) f = f ≡ root_ppn l s
+IsTop l Kernel f = (k : ℕ) × (k < l.window) × (f ≡ window_ppn l k)
+
+-- a table of a place at home on the hart
+abbrev pub IsTableOf : Layout → ℕ → Holders → Place → ℕ → Type 0
+IsTableOf l h holders place f = IsTop l place f ⊎ IsSpareFor l h holders place f
+
+-- a table and the next one, of one place
+pub record IsStep (l : Layout) (h : ℕ) (holders : Holders) (f g : ℕ) : Type 0 where
+  pub place : Place
+  pub has : HasPlace l place
+  pub home : home_of l place ≡ h
+  pub from : IsTableOf l h holders place f
+  pub to : IsSpareFor l h holders place g
 
 -- a slot that edits may write: any but those of a root's upper half
 abbrev pub IsOwn : Layout → ℕ → ℕ → Type 0
@@ -51,9 +70,10 @@ IsEntryOf word kinds.Reserved = ⊥
 IsEntryOf word (kinds.Table ppn global) = Unit {0}
 IsEntryOf word (kinds.Leaf ppn flags) = Unit {0}
 
--- the frames of one home, of whose spare frames this many are in use
-pub record IsHome (l : Layout) (words : Tables) (h used : ℕ) : Type 0 where
-  pub room : used ≤ slice_index l.spares h
+-- the frames of one home, whose spare frames are in use for these places
+pub record IsHome (l : Layout) (words : Tables) (h : ℕ) (holders : Holders) : Type 0 where
+  -- what is in use for a place of this home is a spare frame of it
+  pub held : (f : ℕ) (place : Place) → holders f ≡ Some place → home_of l place ≡ h → (n : ℕ) × (n < slice_index l.spares h) × (f ≡ spare_ppn l h + n)
   pub present : (f i : ℕ) → IsAtHome l h f → i < table_length → IsSome (words f i)
   pub entries : (f i word : ℕ) → IsAtHome l h f → words f i ≡ Some word → IsEntryOf word (kind_of word)
   -- every root points to the window's tables, and its other upper slots are empty
@@ -61,11 +81,11 @@ pub record IsHome (l : Layout) (words : Tables) (h used : ℕ) : Type 0 where
       → words (root_ppn l s) (first_window_slot l + k) ≡ Some (table_word (window_ppn l k) true)
   pub upper : (s i : ℕ) → s < length l.homes → slice_index l.homes s ≡ h → user_slots ≤ i → i < first_window_slot l
       → words (root_ppn l s) i ≡ Some 0
-  -- any other pointer leads to a spare frame in use, to which no other leads
-  pub closed : (f i g : ℕ) → IsAtHome l h f → IsOwn l f i → pointed (words f i) ≡ Some g → IsUsed l h used g
+  -- any other pointer leads from a table of a place to a spare frame in use for that place, to which no other leads
+  pub closed : (f i g : ℕ) → IsAtHome l h f → IsOwn l f i → pointed (words f i) ≡ Some g → IsStep l h holders f g
   pub once : (f i f' i' g : ℕ) → IsAtHome l h f → IsAtHome l h f' → IsOwn l f i → IsOwn l f' i'
       → pointed (words f i) ≡ Some g → pointed (words f' i') ≡ Some g → (f ≡ f') × (i ≡ i')
-  pub unused : (n i : ℕ) → used ≤ n → n < slice_index l.spares h → i < table_length → words (spare_ppn l h + n) i ≡ Some 0
+  pub unused : (n i : ℕ) → holders (spare_ppn l h + n) ≡ None → n < slice_index l.spares h → i < table_length → words (spare_ppn l h + n) i ≡ Some 0
   -- pointers lead down level by level: at the lowest there is none
   pub bottom : (place : Place) (va t : ℕ) → HasPlace l place → home_of l place ≡ h → IsIn l place va
       → table_on l words place va (start_level l place) ≡ Some t → pointed (word_at words va 0 t) ≡ None
@@ -74,5 +94,5 @@ pub record IsHome (l : Layout) (words : Tables) (h used : ℕ) : Type 0 where
       → table_on l words (Space s) va n ≡ Some t → word_at words va (top_level l.scheme - n) t ≡ Some word → is_global word ≡ false
 
 -- the frames of all homes
-abbrev pub IsTree : Layout → Tables → (ℕ → ℕ) → Type 0
-IsTree l words used = (h : ℕ) → h < length l.spares → IsHome l words h (used h)
+abbrev pub IsTree : Layout → Tables → Holders → Type 0
+IsTree l words holders = (h : ℕ) → h < length l.spares → IsHome l words h holders

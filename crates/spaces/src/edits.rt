@@ -1,11 +1,11 @@
 //! Edits: the one store that maps, unmaps or protects a page.
 
-ghost use Rattle.std.specs.Prelude.{◌≡◌, ◌<◌, ◌^◌, ◌-◌, ◌≤◌, IfNone, IfOk, None, ℕ, slice_index};
+ghost use Rattle.std.specs.Prelude.{◌≡◌, ◌<◌, ◌^◌, ◌-◌, ◌≤◌, IfNone, IfOk, None, ℕ};
 ghost use Rattle.pte.specs.Address.{table_length, level_of, top_level, widest};
 ghost use Rattle.pte.specs.Entry.{ppn_bits};
 ghost use Rattle.spaces.specs.Layout.{HasPlace};
-ghost use Rattle.spaces.specs.Held.{IsDue, spare_of, words_of};
-ghost use Rattle.spaces.specs.Applied.{used_by_all, words_after};
+ghost use Rattle.spaces.specs.Held.{holders_of, IsDue, spare_of, words_of};
+ghost use Rattle.spaces.specs.Applied.{holders_after, words_after};
 ghost use Rattle.spaces.specs.Effects.{HasEffect, IsEdit};
 ghost use Rattle.spaces.specs.declared.wishes.Wish.{Wish as WishOf};
 ghost use Rattle.spaces.specs.Edits.{edit_of, leaf_fault, path_end, page_of, path_root, place_of, wish_fault};
@@ -19,10 +19,10 @@ use pte::{Kind, Page, Pte, PteFlags, VirtAddr};
 use std::marker::Model;
 use walk::Words;
 
-/// One store of a word of a table, by a hart.
+/// One store of a word of a table, for a place.
 #[derive(Clone, Copy, PartialEq, Eq, Debug)]
 pub struct Edit {
-    hart: u8,
+    place: Place,
     ppn: u64,
     index: u16,
     word: u64,
@@ -33,9 +33,9 @@ impl Model for Edit {
 
     ghost Value = { Store };
 
-    ghost view = { λ e. record { hart = e.hart; ppn = e.ppn; index = e.index; word = e.word } };
+    ghost view = { λ e. record { place = e.place; ppn = e.ppn; index = e.index; word = e.word } };
 
-    ghost inverse = { λ s. record { hart = s.hart; ppn = s.ppn; index = s.index; word = s.word } };
+    ghost inverse = { λ s. record { place = s.place; ppn = s.ppn; index = s.index; word = s.word } };
 }
 
 impl Edit {
@@ -125,7 +125,7 @@ fn edit_due(memory: &Memory, hart: u8, wish: &Wish) -> Result<Edit, MapFault>
     let end = path_end(memory, va, wish.level(), memory.path_root(wish.place()));
     let word = wish.due_word(memory.spare(hart), &end)?;
     Ok(Edit {
-        hart,
+        place: wish.place(),
         ppn: end.table,
         index: va.vpn(end.level),
         word,
@@ -184,15 +184,15 @@ pub fn protect_edit(
     edit_due(memory, hart, &Wish::Protect { place, page, flags })
 }
 
-/// Stores the edit's word, and counts the frame of a new table as used. Asks for an edit of this memory as it is now.
+/// Stores the edit's word; a new table is in use for the place from then on. Asks for an edit of this memory as it is now.
 pub fn apply(memory: &mut Memory, edit: Edit)
     requires { IsDue memory.old edit }
     ensures layout { memory.new.layout ≡ memory.old.layout }
     ensures words { (ppn i : ℕ) → words_of memory.new ppn i ≡ words_after (words_of memory.old) edit ppn i }
-    ensures used { (h : ℕ) → slice_index memory.new.used h ≡ used_by_all (λ k. slice_index memory.old.used k) edit h }
+    ensures holders { (ppn : ℕ) → holders_of memory.new ppn ≡ holders_after (holders_of memory.old) edit.place edit ppn }
     // what it does to the mappings of all roots, for what was wished
-    ensures maps { (w : WishOf) → IsEdit memory.old.layout (words_of memory.old) (λ h. slice_index memory.old.used h) edit.hart w edit
+    ensures maps { (hart : ℕ) (w : WishOf) → IsEdit memory.old.layout (words_of memory.old) (holders_of memory.old) hart w edit
         → HasEffect memory.old.layout w edit (words_of memory.old) (words_of memory.new) }
 {
-    memory.store(edit.hart, edit.ppn, edit.index, edit.word);
+    memory.store(edit.place, edit.ppn, edit.index, edit.word);
 }

@@ -1,14 +1,16 @@
 //! Table memory.
 
-ghost use Rattle.std.specs.Prelude.{◌≡◌, ◌+◌, ◌*◌, ◌<◌, ◌≤◌, ◌^◌, ◌↔◌, IsTrue, IfOk, IfSome, length, map, slice_index, slice_get, slice_set, sum, take, Some, None, replicate, ℕ, is_some, if◌then◌else◌};
+ghost use Rattle.std.specs.Prelude.{◌≡◌, ◌+◌, ◌*◌, ◌<◌, ◌≤◌, ◌^◌, ◌↔◌, ◌&&◌, ◌||◌, IsTrue, IfOk, IfSome, length, map, nat_lt, slice_index, slice_get, slice_set, sum, take, Some, None, replicate, ℕ, is_some, if◌then◌else◌};
 ghost use Rattle.pte.specs.Address.{table_length};
 ghost use Rattle.pte.specs.Entry.{ppn_bits};
-ghost use Rattle.spaces.specs.Layout.{frame_count, HasPlace, home_of, layout_of, root_ppn};
+ghost use Rattle.spaces.specs.Layout.{frame_count, HasPlace, home_of, layout_of, root_ppn, user_slots};
 ghost use Rattle.spaces.specs.Limits.{max_frames, max_harts, max_spaces, MeetsLimits};
 ghost use Rattle.spaces.specs.Opening.{first_word, first_words, is_word, opening};
 ghost use Rattle.walk.specs.Pointers.{pointed};
 ghost use Rattle.spaces.specs.Edits.{is_wrong_half, path_root};
-ghost use Rattle.spaces.specs.Held.{IsMemory, spare_of, word_index, words_of};
+ghost use Rattle.spaces.specs.Held.{held_at, holders_of, IsMemory, is_own_at, spare_of, word_index, words_of};
+ghost use Rattle.spaces.specs.Holders.{first_unused, given_back, is_held_for, zero_word};
+ghost use Rattle.spaces.specs.declared.places.Place.TheVariants as place;
 
 use crate::configuration::{Config, MAX_HARTS, MAX_SPACES, Space, total};
 use crate::faults::OpenFault;
@@ -30,7 +32,7 @@ pub struct Memory {
     base: u64,
     homes: ArrayVec<u8, MAX_SPACES>,
     spares: ArrayVec<u16, MAX_HARTS>,
-    used: ArrayVec<u16, MAX_HARTS>,
+    holders: Vec<Option<Place>>,
     words: Vec<u64>,
 }
 
@@ -42,13 +44,13 @@ impl Model for Memory {
     ghost view = { λ m. record {
       layout = record { scheme = m.scheme; window = m.window; base = m.base; homes = m.homes.items; spares = m.spares.items };
       words = m.words.items;
-      used = m.used.items;
+      holders = m.holders.items;
     } };
 
     ghost invariant = { λ m. IsMemory (record {
       layout = record { scheme = m.scheme; window = m.window; base = m.base; homes = m.homes.items; spares = m.spares.items };
       words = m.words.items;
-      used = m.used.items;
+      holders = m.holders.items;
     }) };
 }
 
@@ -76,16 +78,16 @@ fn copy_of(spares: &[u16]) -> ArrayVec<u16, MAX_HARTS>
     copy
 }
 
-/// As many zeros.
-fn zeros(count: usize) -> ArrayVec<u16, MAX_HARTS>
-    requires { count ≤ max_harts }
-    ensures { result.items ≡ replicate count 0 }
+/// For which place each frame is in use, where none is.
+fn unused(alloc: Global, count: u64) -> Result<Vec<Option<Place>>, AllocError>
+    requires { count ≤ max_frames }
+    ensures { IfOk result (λ holders. holders.items ≡ replicate count None) }
 {
-    let mut zeros = ArrayVec::new();
+    let mut holders = Vec::with_capacity(alloc, count as usize)?;
     for _ in 0..count {
-        zeros.push(0);
+        holders.push(None)?;
     }
-    zeros
+    Ok(holders)
 }
 
 /// The words of all frames at the opening, frame by frame.
@@ -129,19 +131,20 @@ impl Memory {
         ensures limits { OnOk result (MeetsLimits max_frames config.now) }
         ensures layout { IfOk result (λ memory. memory.layout ≡ layout_of config.now) }
         ensures words { IfOk result (λ memory. (ppn i : ℕ) → words_of memory ppn i ≡ opening (layout_of config.now) ppn i) }
-        ensures used { IfOk result (λ memory. memory.used ≡ replicate (length config.now.spares.items) 0) }
+        ensures holders { IfOk result (λ memory. (ppn : ℕ) → holders_of memory ppn ≡ None) }
     {
         if !config.check() {
             return Err(OpenFault::BadLayout);
         }
         let words = first_words(alloc, config)?;
+        let holders = unused(alloc, config.frame_count())?;
         Ok(Memory {
             scheme: config.scheme,
             window: config.window,
             base: config.base,
             homes: homes_of(&config.spaces),
             spares: copy_of(&config.spares),
-            used: zeros(config.spares.len()),
+            holders,
             words,
         })
     }
@@ -196,7 +199,7 @@ impl Memory {
     }
 
     /// The home of a place.
-    pub(crate) fn home(&self, place: Place) -> u8
+    pub fn home(&self, place: Place) -> u8
         requires { HasPlace self.now.layout place }
         ensures { result ≡ home_of self.now.layout place }
     {
@@ -230,6 +233,33 @@ impl Memory {
         }
     }
 
+    /// The place that a frame is in use for as a spare one.
+    fn holder(&self, ppn: u64) -> Option<Place>
+        ensures { result ≡ holders_of self.now ppn }
+    {
+        let is_frame = self.base <= ppn && ppn < self.base + self.frame_count();
+        if is_frame {
+            *self.holders.get((ppn - self.base) as usize)?
+        } else {
+            None
+        }
+    }
+
+    /// The first unused one of so many frames.
+    fn first_unused(&self, first: u64, count: u16) -> Option<u64>
+        requires { first + count ≤ 2 ^ ppn_bits }
+        ensures value { result ≡ first_unused (holders_of self.now) count first }
+        ensures range { IfSome result (λ frame. frame < 2 ^ ppn_bits) }
+    {
+        for n in 0..count {
+            let frame = first + u64::from(n);
+            if self.holder(frame).is_none() {
+                return Some(frame);
+            }
+        }
+        None
+    }
+
     /// The lowest unused spare frame of a hart.
     #[tactic(auto, using(crate::proofs::Homes::sums))]
     pub(crate) fn spare(&self, hart: u8) -> Option<u64>
@@ -237,52 +267,102 @@ impl Memory {
         ensures range { IfSome result (λ frame. frame < 2 ^ ppn_bits) }
     {
         let hart = usize::from(hart);
-        let used = *self.used.get(hart)?;
-        if used >= self.spares[hart] {
-            return None;
-        }
+        let count = *self.spares.get(hart)?;
         let before = u64::from(self.window) + self.homes.len() as u64 + total(&self.spares[..hart]);
-        Some(self.base + before + u64::from(used))
+        self.first_unused(self.base + before, count)
     }
 }
 
-/// Counts one more frame of a hart as used.
-fn count_frame(used: &mut ArrayVec<u16, MAX_HARTS>, hart: u8)
-    requires there { hart < length used.old.items }
-    requires room { slice_index used.old.items hart + 1 < 2 ^ 16 }
-    ensures { used.new.items ≡ slice_set used.old.items hart (slice_index used.old.items hart + 1) }
-{
-    let counts = used.as_mut_slice();
-    counts[usize::from(hart)] += 1;
-}
-
-/// Whether a word is a pointer.
-fn is_pointer(word: u64) -> bool
-    ensures { result ≡ is_some (pointed (Some word)) }
+/// The table that a word points to.
+fn target(word: u64) -> Option<u64>
+    ensures { result ≡ pointed (Some word) }
 {
     match Pte(word).kind() {
-        Kind::Table { .. } => true,
-        Kind::Invalid | Kind::Reserved | Kind::Leaf { .. } => false,
+        Kind::Table { ppn, .. } => Some(ppn),
+        Kind::Invalid | Kind::Reserved | Kind::Leaf { .. } => None,
     }
 }
 
 impl Memory {
     ghost use Rattle.spaces.specs.Edits.{Store};
     ghost use Rattle.spaces.specs.Held.{IsDue};
-    ghost use Rattle.spaces.specs.Applied.{used_by_all, words_after};
+    ghost use Rattle.spaces.specs.Applied.{holders_after, words_after};
 
-    /// Stores one word, and counts the frame that it takes if it is a pointer.
-    pub(crate) fn store(&mut self, hart: u8, ppn: u64, index: u16, word: u64)
-        requires { IsDue self.old (record { hart = hart; ppn = ppn; index = index; word = word }) }
+    /// Stores one word; the table that it points to, if it does, is in use for the place from now on.
+    pub(crate) fn store(&mut self, place: Place, ppn: u64, index: u16, word: u64)
+        requires { IsDue self.old (record { place = place; ppn = ppn; index = index; word = word }) }
         ensures layout { self.new.layout ≡ self.old.layout }
-        ensures words { (f i : ℕ) → words_of self.new f i ≡ words_after (words_of self.old) (record { hart = hart; ppn = ppn; index = index; word = word }) f i }
-        ensures used { (h : ℕ) → slice_index self.new.used h ≡ used_by_all (λ k. slice_index self.old.used k) (record { hart = hart; ppn = ppn; index = index; word = word }) h }
+        ensures words { (f i : ℕ) → words_of self.new f i ≡ words_after (words_of self.old) (record { place = place; ppn = ppn; index = index; word = word }) f i }
+        ensures holders { (f : ℕ) → holders_of self.new f ≡ holders_after (holders_of self.old) place (record { place = place; ppn = ppn; index = index; word = word }) f }
     {
         let at = (ppn - self.base) * u64::from(TABLE_LENGTH) + u64::from(index);
         self.words[at as usize] = word;
-        if is_pointer(word) {
-            count_frame(&mut self.used, hart);
+        if let Some(table) = target(word) {
+            self.holders[(table - self.base) as usize] = Some(place);
         }
+    }
+}
+
+/// Whether a frame is in use for a space.
+fn is_held_for(holder: Option<Place>, space: u8) -> bool
+    ensures { result ≡ is_held_for holder (place.Space space) }
+{
+    match holder {
+        Some(Place::Space(other)) => other == space,
+        Some(Place::Kernel) => false,
+        None => false,
+    }
+}
+
+/// Whether a word is one of a space alone: of its root's user half, or of a frame in use for it.
+fn is_own_word(holder: Option<Place>, is_root: bool, index: usize, space: u8) -> bool
+    ensures { result ≡ ((is_root && nat_lt index user_slots) || is_held_for holder (place.Space space)) }
+{
+    is_root && index < usize::from(USER_SLOTS) || is_held_for(holder, space)
+}
+
+/// Stores 0 on each word of a space, whose root is the frame of this number.
+fn empty_words(words: &mut [u64], holders: &[Option<Place>], root: usize, space: u8)
+    requires { length words.old ≡ length holders.now * table_length }
+    ensures length { length words.new ≡ length words.old }
+    ensures words { (n : ℕ) → slice_get words.new n ≡ (if is_own_at holders.now root space n then zero_word (slice_get words.old n) else slice_get words.old n) }
+{
+    for at in 0..words.len() {
+        let frame = at / usize::from(TABLE_LENGTH);
+        let index = at % usize::from(TABLE_LENGTH);
+        if is_own_word(holders[frame], frame == root, index, space) {
+            words[at] = 0;
+        }
+    }
+}
+
+/// Leaves the frames unused that are in use for a space.
+fn free_frames(holders: &mut [Option<Place>], space: u8)
+    ensures length { length holders.new ≡ length holders.old }
+    ensures holders { (n : ℕ) → held_at (slice_get holders.new n) ≡ given_back (held_at (slice_get holders.old n)) space }
+{
+    for at in 0..holders.len() {
+        if is_held_for(holders[at], space) {
+            holders[at] = None;
+        }
+    }
+}
+
+impl Memory {
+    ghost use Rattle.spaces.specs.Effects.{EmptiesSpace};
+    ghost use Rattle.spaces.specs.Holders.{emptied};
+
+    /// Gives back the frames of a space: stores 0 on all its words, and leaves its frames unused.
+    pub fn give_back(&mut self, space: u8)
+        requires { space < length self.old.layout.homes }
+        ensures layout { self.new.layout ≡ self.old.layout }
+        ensures words { (ppn i : ℕ) → words_of self.new ppn i ≡ emptied self.old.layout (holders_of self.old) space (words_of self.old) ppn i }
+        ensures holders { (ppn : ℕ) → holders_of self.new ppn ≡ given_back (holders_of self.old ppn) space }
+        ensures empties { EmptiesSpace self.old.layout space (words_of self.old) (words_of self.new) }
+    {
+        let root = usize::from(self.window) + usize::from(space);
+        empty_words(&mut self.words, &self.holders, root, space);
+        free_frames(&mut self.holders, space);
     }
 }
 

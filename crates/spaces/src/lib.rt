@@ -16,9 +16,10 @@ pub use edits::{Edit, apply, next_map_edit, protect_edit, unmap_edit};
 pub use faults::{MapFault, OpenFault};
 pub use frames::Memory;
 pub use laws::{
-    edit_changes_its_page, edit_is_accepted, edit_keeps_tree, edit_stays_at_home, home_is_one,
+    edit_changes_its_page, edit_is_accepted, edit_keeps_tree, edit_stays_at_home,
+    giving_back_empties_the_space, giving_back_keeps_tree, home_is_one,
     kernel_path_starts_in_the_window, limits_give_layout, map_keeps_mappings, opening_is_tree,
-    path_ends_lowest, unmapped_page_is_gone, window_is_global,
+    path_ends_lowest, unmapped_page_is_gone, unused_frame_is_not_reached, window_is_global,
 };
 pub use places::Place;
 pub use wishes::Wish;

@@ -1,6 +1,6 @@
 -- The store of an edit leaves the words and the used frames that its event asks for.
-use Rattle.std.proofs.Common.{◌≡◌, ℕ, true, false, ◌||◌, Ok, refl, ap, sym, ◌∙◌}
-use Rattle.std.specs.Prelude.{slice_index, slice_set}
+use Rattle.std.proofs.Common.{◌≡◌, ℕ, true, false, cond, ◌||◌, Option, Some, None, length, Ok, refl, ap, sym, ◌∙◌}
+use Rattle.std.specs.Prelude.{is_some, slice_set}
 use Rattle.pte.specs.Address.{Span, IsPage}
 use Rattle.pte.specs.declared.address.What.{What}
 use Rattle.pte.specs.Entry.{kind_of}
@@ -11,21 +11,21 @@ use Rattle.spaces.specs.declared.places.Place.{Place}
 use Rattle.spaces.specs.declared.wishes.Wish.{Wish}
 use Rattle.spaces.specs.declared.wishes.Wish.TheVariants as wish
 use Rattle.spaces.specs.Layout.{HasPlace}
-use Rattle.spaces.specs.Held.{Held, IsMemory, words_of, spare_of}
+use Rattle.spaces.specs.Held.{Held, IsMemory, words_of, holders_of, spare_of}
 use Rattle.spaces.specs.Edits.{Store, place_of, page_of}
 use Rattle.spaces.specs.Accepted.{Accepted}
-use Rattle.spaces.specs.Applied.{used_by_all, words_after}
+use Rattle.spaces.specs.Applied.{points_at, holders_after, words_after}
+use Rattle.walk.specs.Pointers.{pointed}
 use Rattle.spaces.proofs.EditLaws.{edit-accepted}
 use Rattle.history.specs.declared.event.Event.TheVariants.{Map, Unmap, Protect}
 use Rattle.history.specs.declared.reply.Reply.TheVariants as reply
-use Rattle.history.specs.Turns.{is_table, is_leaf}
+use Rattle.history.specs.Turns.{is_table, is_leaf, is_table_at}
 use Rattle.shoot.specs.Tickets.{after_open}
-use Rattle.history.specs.Orders.{page_request}
 use Rattle.history.specs.Tables.{with_store}
 use Rattle.history.specs.Due.{stored_reply}
-use Rattle.laws.proofs.TreeKept.{stored-table, used_same, removed_unpointed, changed_unpointed}
-use Rattle.stepcore.specs.State.{State, setup_in, tickets_at, words_in, used_in}
-use Rattle.stepcore.specs.Answers.{edit_in}
+use Rattle.laws.proofs.TreeKept.{stored-at, removed_unpointed, changed_unpointed}
+use Rattle.stepcore.specs.State.{State, space_at, tickets_at, words_in, holders_in}
+use Rattle.stepcore.specs.Answers.{edit_in, page_request}
 use Rattle.stepcore.specs.Changes.{Follows}
 
 -- the reply of a store
@@ -43,28 +43,34 @@ pub record IsStored (m : State) (now : Held) (hart : ℕ) (w : Wish) (store : St
   pub is : edit_in m hart w ≡ Ok store
   pub layout : now.layout ≡ m.memory.layout
   pub words : (ppn i : ℕ) → words_of now ppn i ≡ words_after (words_of m.memory) store ppn i
-  pub used : (h : ℕ) → slice_index now.used h ≡ used_by_all (λ k. slice_index m.memory.used k) store h
+  pub holders : (ppn : ℕ) → holders_of now ppn ≡ holders_after (holders_of m.memory) store.place store ppn
 
 module _ (m : State) (now : Held) (hart : ℕ) where
   accepted : (w : Wish) (store : Store) → IsStored m now hart w store → Accepted m.memory.layout (words_of m.memory) (spare_of m.memory hart) hart w store
   accepted w store is =
-      edit-accepted m.memory.layout (words_of m.memory) (used_in m) hart w store
+      edit-accepted m.memory.layout (words_of m.memory) (holders_in m) hart w store
       (record { layout = is.memory.layout; tree = is.memory.tree; has = is.has; page = is.page; is = is.is })
 
   -- the words after it, as its event has them
   words : (w : Wish) (store : Store) → IsStored m now hart w store → (ppn i : ℕ) → words_of now ppn i ≡ with_store (words_in m) (edit_in m hart w) ppn i
   words w store is ppn i = rw is.is (is.words ppn i)
 
+-- a word that is no pointer leaves the holders
+unpointed : (o : Option ℕ) → is_some o ≡ false → (ppn : ℕ) → points_at o ppn ≡ false
+unpointed None e ppn = refl
+unpointed (Some t) e ppn = absurd (cc (e))
+
 module _ (m new : State) (hart : ℕ) (others : new ≡ record m { memory = new.memory }) where
   pub map_follows : (place : Place) (page : Span) (ppn : ℕ) (flags : PteFlags) (store : Store) → IsStored m new.memory hart (wish.Map place page ppn flags) store
       → Follows m (Map hart place page ppn flags) (stored_reply (kind_of store.word)) new
   map_follows place page ppn flags store is = record {
     layout = is.layout;
-    asids = ap (λ (s : State). s.asids) others;
+    count = ap (λ (s : State). length s.spaces) others;
+    spaces = λ k below. ap (λ (s : State). space_at s k) others;
     words = λ p i. rw (stored (kind_of store.word)) (words m new.memory hart (wish.Map place page ppn flags) store is p i);
-    used = λ h. is.used h
-        ∙ used_same (used_in m) store hart h (is_table (stored_reply (kind_of store.word)))
-        (accepted m new.memory hart (wish.Map place page ppn flags) store is).by (stored-table (kind_of store.word));
+    holders = λ p. is.holders p
+        ∙ ap (λ v. cond v (Some store.place) (holders_in m p)) (sym (stored-at (kind_of store.word) p))
+        ∙ ap (λ x. cond (is_table_at (stored_reply (kind_of store.word)) p) (Some x) (holders_in m p)) (accepted m new.memory hart (wish.Map place page ppn flags) store is).by;
     harts = ap (λ (s : State). s.harts) others;
     tickets = ap (λ (s : State). s.tickets) others;
     mailboxes = ap (λ (s : State). s.mailboxes) others;
@@ -74,8 +80,8 @@ module _ (m new : State) (hart : ℕ) (others : new ≡ record m { memory = new.
 module _ (m mid new : State) (hart named t : ℕ) (place : Place) (page : Span) (what : What)
     (opens : mid ≡ record m { tickets = slice_set m.tickets hart (after_open (tickets_at m hart) what named) })
     (others : new ≡ record mid { memory = new.memory })
-    (asks : what ≡ page_request (setup_in m) place page) where
-  tickets : new.tickets ≡ slice_set m.tickets hart (after_open (tickets_at m hart) (page_request (setup_in m) place page) named)
+    (asks : what ≡ page_request m place page) where
+  tickets : new.tickets ≡ slice_set m.tickets hart (after_open (tickets_at m hart) (page_request m place page) named)
   tickets =
       ap (λ (s : State). s.tickets) others
       ∙ (ap (λ (s : State). s.tickets) opens
@@ -86,10 +92,11 @@ module _ (m mid new : State) (hart named t : ℕ) (place : Place) (page : Span) 
       let edit = accepted m new.memory hart (wish.Unmap place page) store is in
       record {
         layout = is.layout;
-        asids = ap (λ (s : State). s.asids) others ∙ ap (λ (s : State). s.asids) opens;
+        count = ap (λ (s : State). length s.spaces) others ∙ ap (λ (s : State). length s.spaces) opens;
+        spaces = λ k below. ap (λ (s : State). space_at s k) others ∙ ap (λ (s : State). space_at s k) opens;
         words = λ p i. words m new.memory hart (wish.Unmap place page) store is p i;
-        used = λ h. is.used h
-            ∙ used_same (used_in m) store hart h false edit.by (sym (removed_unpointed _ _ _ _ place page edit.writes));
+        holders = λ p. is.holders p
+            ∙ ap (λ v. cond v (Some store.place) (holders_in m p)) (unpointed (pointed (Some store.word)) (removed_unpointed _ _ _ _ place page edit.writes) p);
         harts = ap (λ (s : State). s.harts) others ∙ ap (λ (s : State). s.harts) opens;
         tickets = tickets;
         mailboxes = ap (λ (s : State). s.mailboxes) others ∙ ap (λ (s : State). s.mailboxes) opens;
@@ -101,10 +108,11 @@ module _ (m mid new : State) (hart named t : ℕ) (place : Place) (page : Span) 
       let edit = accepted m new.memory hart (wish.Protect place page flags) store is in
       record {
         layout = is.layout;
-        asids = ap (λ (s : State). s.asids) others ∙ ap (λ (s : State). s.asids) opens;
+        count = ap (λ (s : State). length s.spaces) others ∙ ap (λ (s : State). length s.spaces) opens;
+        spaces = λ k below. ap (λ (s : State). space_at s k) others ∙ ap (λ (s : State). space_at s k) opens;
         words = λ p i. words m new.memory hart (wish.Protect place page flags) store is p i;
-        used = λ h. is.used h
-            ∙ used_same (used_in m) store hart h false edit.by (sym (changed_unpointed _ _ _ place page flags _ edit.writes));
+        holders = λ p. is.holders p
+            ∙ ap (λ v. cond v (Some store.place) (holders_in m p)) (unpointed (pointed (Some store.word)) (changed_unpointed _ _ _ place page flags _ edit.writes) p);
         harts = ap (λ (s : State). s.harts) others ∙ ap (λ (s : State). s.harts) opens;
         tickets = tickets;
         mailboxes = ap (λ (s : State). s.mailboxes) others ∙ ap (λ (s : State). s.mailboxes) opens;

@@ -24,9 +24,10 @@ use Rattle.spaces.specs.declared.wishes.Wish.TheVariants as wish
 use Rattle.spaces.specs.Layout.{Layout, root_ppn}
 use Rattle.tlb.specs.declared.store.Entry.{Entry}
 use Rattle.tlb.specs.Entries.{first_match}
-use Rattle.history.specs.Setup.{Setup, asid_of}
+use Rattle.history.specs.Setup.{Setup}
+use Rattle.history.specs.Spaces.{asid_of, status_of, is_retiring, holder_of}
 use Rattle.history.specs.declared.event.Event.TheVariants.{Begin, Load, Map, Unmap, Protect, Switch, Fence, ServeFence, Ack}
-use Rattle.history.specs.declared.refusal.Refusal.TheVariants.{NoSpace, NotFenced, Walking as Walks, Serving as Serves, NotServing as NotServes}
+use Rattle.history.specs.declared.refusal.Refusal.TheVariants.{Retiring, NotFenced, Walking as Walks, Serving as Serves, NotServing as NotServes}
 use Rattle.history.specs.declared.reply.Reply.{Reply}
 use Rattle.history.specs.declared.reply.Reply.TheVariants as reply
 use Rattle.history.specs.Turns.{History}
@@ -34,12 +35,15 @@ use Rattle.history.specs.Mailboxes.{Sent}
 use Rattle.history.specs.Service.{served, has_fenced}
 use Rattle.history.specs.Tables.{words_of, edit_due}
 use Rattle.history.specs.Harts.{Walking, walk_of, space_of, entries_of, outcome_of}
-use Rattle.history.specs.Due.{refuse, is_space, match_reply, begin_reply, load_reply, end_reply, edit_at, edit_reply, map_reply, open_reply, due}
+use Rattle.history.specs.Due.{refuse, match_reply, begin_reply, load_reply, end_reply, edit_at, edit_reply, map_reply, open_reply, due}
 use Rattle.laws.proofs.Tools.{by_test}
-use Rattle.stepcore.specs.State.{State, words_in, used_in, hart_at}
+use Rattle.stepcore.specs.State.{State, words_in, holders_in, hart_at, space_at}
 use Rattle.stepcore.specs.Answers.{asid_in, begin_answer, next_of, progress_answer, load_answer, edit_in, open_in, ack_answer, reply_to}
 use Rattle.stepcore.specs.Stands.{IsStageOf, AreSameWalk, service_with, Stands}
-use Rattle.stepcore.proofs.Tools.{walks_alike, serves_alike, hart_there, harts_there, place_there}
+use Rattle.stepcore.proofs.Tools.{walks_alike, serves_alike, hart_there, harts_there}
+use Rattle.stepcore.proofs.SpaceReplies.{place_there, space_there, retiring_same}
+use Rattle.laws.proofs.Causes.{space_there as spaces_there}
+use Rattle.spaces.specs.Holders.{Holders}
 
 -- whether a hart serves nothing
 idles_alike : (fenced : Bool) (sent : Option Sent) → is_none (service_with fenced sent) ≡ is_none sent
@@ -98,19 +102,19 @@ ack_form fenced None = refl
 ack_form fenced (Some sent) = refl
 
 module _ (C : Setup) (m : State) (H : History) (st : Stands C m H) where
-  -- the words, the layout and the ASIDs
+  -- the words, the layout and the ASID of a hart
   pub words_same : words_in m ≡ words_of C H
   words_same = fun_ext (λ ppn. fun_ext (λ i. st.words ppn i))
+
+  pub holders_same : holders_in m ≡ holder_of H
+  holders_same = fun_ext (λ ppn. st.holders ppn)
 
   pub layout_same : m.memory.layout ≡ C.layout
   layout_same = ap (λ (D : Setup). D.layout) st.setup
 
-  pub asids_same : m.asids ≡ C.asids
-  asids_same = ap (λ (D : Setup). D.asids) st.setup
-
-  pub asid_same : (hart : ℕ) → hart < C.harts → asid_in m (hart_at m hart) ≡ asid_of C (space_of H hart)
+  pub asid_same : (hart : ℕ) → hart < C.harts → asid_in m (hart_at m hart) ≡ asid_of C H (space_of H hart)
   asid_same hart below =
-      ap (λ (asids : List ℕ). slice_index asids (hart_at m hart).space) asids_same ∙ ap (λ (space : ℕ). asid_of C space) (st.harts hart below).space
+      ap (λ (space : ℕ). (space_at m space).asid) (st.harts hart below).space ∙ (st.spaces (space_of H hart) (spaces_there C H hart st.within.asids st.lawful)).asid
 
   pub serving_some : (hart : ℕ) → hart < C.harts → is_some (hart_at m hart).serving ≡ is_some (served C H hart)
   serving_some hart below = ap is_some (st.harts hart below).serving ∙ serves_alike (has_fenced H hart) (served C H hart)
@@ -125,7 +129,7 @@ module _ (C : Setup) (m : State) (H : History) (st : Stands C m H) where
       ≡ refuse (is_some (walk_of H hart)) Walks (refuse (is_some (served C H hart)) Serves (begin_reply C H hart va access ctx))
   begin_at hart va access ctx below =
       begin_form m.memory.layout.scheme C.layout.scheme (is_some (hart_at m hart).walk) (is_some (walk_of H hart)) (is_some (hart_at m hart).serving) (is_some (served C H hart))
-      (asid_in m (hart_at m hart)) (asid_of C (space_of H hart)) (hart_at m hart).entries (entries_of C H hart) va access ctx
+      (asid_in m (hart_at m hart)) (asid_of C H (space_of H hart)) (hart_at m hart).entries (entries_of C H hart) va access ctx
       (ap (λ (l : Layout). l.scheme) layout_same) (walking_some hart below) (serving_some hart below) (asid_same hart below) (st.harts hart below).entries
 
   -- the events of harts
@@ -140,8 +144,8 @@ module _ (C : Setup) (m : State) (H : History) (st : Stands C m H) where
   pub switch_due : (hart space : ℕ) → reply_to m (Switch hart space) ≡ due C H (Switch hart space)
   switch_due hart space =
       hart_there C m hart _ _ st.setup
-      (λ below. ap (λ (D : Setup). refuse (not (is_space D space)) NoSpace (refuse (is_some (hart_at m hart).walk) Walks reply.Ok)) st.setup
-      ∙ ap (λ (walks : Bool). refuse (not (is_space C space)) NoSpace (refuse walks Walks reply.Ok)) (walking_some hart below))
+      (λ below. space_there C m H st space _ _ (λ there. ap (λ v. refuse v Retiring (refuse (is_some (hart_at m hart).walk) Walks reply.Ok)) (retiring_same C m H st space there)
+      ∙ ap (λ (walks : Bool). refuse (is_retiring (status_of H space)) Retiring (refuse walks Walks reply.Ok)) (walking_some hart below)))
 
   pub fence_due : (hart : ℕ) (rs1 rs2 : Option ℕ) → reply_to m (Fence hart rs1 rs2) ≡ due C H (Fence hart rs1 rs2)
   fence_due hart rs1 rs2 = hart_there C m hart _ _ st.setup (λ below. ap (λ (walks : Bool). refuse walks Walks reply.Ok) (walking_some hart below))
@@ -159,25 +163,25 @@ module _ (C : Setup) (m : State) (H : History) (st : Stands C m H) where
   -- the events that edit tables
   pub edit_same : (hart : ℕ) (w : Wish) → edit_in m hart w ≡ edit_at C H hart w
   edit_same hart w =
-      ap (λ (D : Setup). edit_due D (words_in m) (used_in m hart) hart w) st.setup
-      ∙ ap (λ (words : Tables). edit_due C words (used_in m hart) hart w) words_same
-      ∙ ap (λ (used : ℕ). edit_due C (words_of C H) used hart w) (st.used hart)
+      ap (λ (D : Setup). edit_due D (words_in m) (holders_in m) hart w) st.setup
+      ∙ ap (λ (words : Tables). edit_due C words (holders_in m) hart w) words_same
+      ∙ ap (λ (holders : Holders). edit_due C (words_of C H) holders hart w) holders_same
 
   pub map_due : (hart : ℕ) (place : Place) (page : Span) (ppn : ℕ) (flags : PteFlags) → reply_to m (Map hart place page ppn flags) ≡ due C H (Map hart place page ppn flags)
   map_due hart place page ppn flags =
-      hart_there C m hart _ _ st.setup (λ below. place_there C m place _ _ st.setup (ap map_reply (edit_same hart (wish.Map place page ppn flags))))
+      hart_there C m hart _ _ st.setup (λ below. place_there C m H st place _ _ (ap map_reply (edit_same hart (wish.Map place page ppn flags))))
 
   -- with a ticket, what opening it is answered
   pub unmap_due : (hart : ℕ) (place : Place) (page : Span) (named : ℕ) → (hart < C.harts → open_in m hart named ≡ open_reply H hart named)
       → reply_to m (Unmap hart place page named) ≡ due C H (Unmap hart place page named)
   unmap_due hart place page named opens =
-      harts_there C m hart named _ _ st.setup (λ below. place_there C m place _ _ st.setup
+      harts_there C m hart named _ _ st.setup (λ below. place_there C m H st place _ _
       (ap (λ answer. edit_reply answer (open_in m hart named)) (edit_same hart (wish.Unmap place page))
       ∙ ap (λ (opening : Reply). edit_reply (edit_at C H hart (wish.Unmap place page)) opening) (opens below)))
 
   pub protect_due : (hart : ℕ) (place : Place) (page : Span) (flags : PteFlags) (named : ℕ) → (hart < C.harts → open_in m hart named ≡ open_reply H hart named)
       → reply_to m (Protect hart place page flags named) ≡ due C H (Protect hart place page flags named)
   protect_due hart place page flags named opens =
-      harts_there C m hart named _ _ st.setup (λ below. place_there C m place _ _ st.setup
+      harts_there C m hart named _ _ st.setup (λ below. place_there C m H st place _ _
       (ap (λ answer. edit_reply answer (open_in m hart named)) (edit_same hart (wish.Protect place page flags))
       ∙ ap (λ (opening : Reply). edit_reply (edit_at C H hart (wish.Protect place page flags)) opening) (opens below)))

@@ -22,10 +22,11 @@ use Rattle.tlb.specs.Fence.{fenced}
 use Rattle.tlb.specs.Service.{served as with_service}
 use Rattle.shoot.specs.Request.{Message}
 use Rattle.shoot.specs.Tickets.{TicketTable}
-use Rattle.history.specs.Setup.{Setup, asid_of}
+use Rattle.history.specs.Setup.{Setup}
+use Rattle.history.specs.Spaces.{asid_of}
 use Rattle.history.specs.declared.event.Event.{Event}
-use Rattle.history.specs.declared.event.Event.TheVariants.{Begin, Load, Switch, Fence, Take, ServeFence, Ack, AckSelf}
-use Rattle.history.specs.declared.refusal.Refusal.TheVariants.{NoHart, NoSpace, NotServing as NotServes, Walking as Walks, Serving as Serves}
+use Rattle.history.specs.declared.event.Event.TheVariants.{Begin, Load, Switch, Fence, Take, ServeFence, Ack, AckSelf, Reclaim}
+use Rattle.history.specs.declared.refusal.Refusal.TheVariants.{NoHart, NoSpace, Retiring as Retires, NotServing as NotServes, Walking as Walks, Serving as Serves}
 use Rattle.history.specs.declared.reply.Reply.{Reply}
 use Rattle.history.specs.declared.reply.Reply.TheVariants as reply
 use Rattle.history.specs.Turns.{History, is_ok, is_more, is_filled, is_taken, is_progress}
@@ -99,7 +100,7 @@ load_ended words layout space asid walk serving entries hart (Err trap) s v c e 
 load_left : (C : Setup) (H : History) (h : ℕ) (r : Reply) (stage : Option Stage) (walk : Option Walking) (serving : Option Service) (entries : List Entry) (hart : HartState)
     → AreSameWalk C.layout.scheme (words_of C H) (root_ppn C.layout (space_of H h)) stage walk → hart.space ≡ space_of H h → hart.serving ≡ serving → hart.scheme ≡ C.layout.scheme → hart.entries ≡ entries
     → load_reply C H h walk ≡ r → is_accepted r ≡ true
-    → HartIs (words_of C H) C.layout (space_of H h) (loaded r walk) serving (cond (is_filled r) (with_fill C H (space_of H h) walk entries) entries) (with_load (words_of C H) (asid_of C (space_of H h)) stage hart)
+    → HartIs (words_of C H) C.layout (space_of H h) (loaded r walk) serving (cond (is_filled r) (with_fill C H (space_of H h) walk entries) entries) (with_load (words_of C H) (asid_of C H (space_of H h)) stage hart)
 load_left C H h r None None serving entries hart same s v c e d a = absurd (false≢true (ap is_accepted d ∙ a))
 load_left C H h r None (Some walk) serving entries hart same s v c e d a = absurd same
 load_left C H h r (Some stage) None serving entries hart same s v c e d a = absurd same
@@ -107,7 +108,7 @@ load_left C H h r (Some stage) (Some walk) serving entries hart same s v c e d a
     let words = words_of C H in
     let space = space_of H h in
     let outcome = outcome_of C H space walk in
-    let asid = asid_of C space in
+    let asid = asid_of C H space in
     let makes = load_makes C.layout.scheme words (root_ppn C.layout space) stage walk same in
     subst (λ (x : Reply). HartIs words C.layout space (loaded x (Some walk)) serving (cond (is_filled x) (with_found asid outcome entries) entries) (with_progress asid (next_of words stage) hart)) d
     (by_test
@@ -165,7 +166,8 @@ module _ (C : Setup) (m : State) (H : History) (st : Stands C m H) where
       (λ ok same. let a = ok_accepted r ok in
       let p = passed _ NoHart _ r (sym d) a in
       let q = passed _ NoSpace _ r p.1 a in
-      let w = none_since (walk_of H hart) (passed _ Walks _ r q.1 a).0 in
+      let v = passed _ Retires _ r q.1 a in
+      let w = none_since (walk_of H hart) (passed _ Walks _ r v.1 a).0 in
       record { space_is = refl; walk_is = no_walk C.layout.scheme _ _ _ _ (hart_at m h).walk (walk_of H h) (subst (λ x. walk_of H x ≡ None) same w) old.walk_is; serving_is = old.serving_is; scheme_is = old.scheme_is; entries_are = old.entries_are })
       old)
 
@@ -176,8 +178,13 @@ module _ (C : Setup) (m : State) (H : History) (st : Stands C m H) where
       stands_of C (with_turn (Fence hart rs1 rs2) r H) h _
       (placed (λ v x. HartIs (words_of C H) C.layout (space_of H h) (walk_of H h) (service_of C H h) (cond v (fenced C.layout.scheme (entries_of C H h) rs1 rs2) (entries_of C H h)) x) hart h (is_ok r)
       (λ x. record (hart_at m x) { entries = fenced (hart_at m x).scheme (hart_at m x).entries rs1 rs2 }) below
-      (λ ok same. record { space_is = old.space_is; walk_is = old.walk_is; serving_is = old.serving_is; scheme_is = old.scheme_is;
-        entries_are = ap (λ (scheme : Scheme). fenced scheme (hart_at m h).entries rs1 rs2) old.scheme_is ∙ ap (λ (es : List Entry). fenced C.layout.scheme es rs1 rs2) old.entries_are })
+      (λ ok same. record {
+        space_is = old.space_is;
+        walk_is = old.walk_is;
+        serving_is = old.serving_is;
+        scheme_is = old.scheme_is;
+        entries_are = ap (λ (scheme : Scheme). fenced scheme (hart_at m h).entries rs1 rs2) old.scheme_is ∙ ap (λ (es : List Entry). fenced C.layout.scheme es rs1 rs2) old.entries_are;
+      })
       old)
 
   ack_after : (hart : ℕ) (r : Reply) (h : ℕ) → h < C.harts → HartStands C (with_turn (Ack hart) r H) h (unwrap_or (slice_get (harts_after m (Ack hart) r) h) idle_hart)
@@ -247,7 +254,7 @@ module _ (C : Setup) (m : State) (H : History) (st : Stands C m H) where
       subst (λ (asid : ℕ). HartIs (words_of C H) C.layout (space_of H h) (loaded r (walk_of H h)) (service_of C H h) (cond (is_filled r) fills (entries_of C H h)) (with_load (words_in m) asid (hart_at m h).walk (hart_at m h)))
       (sym (asid_same C m H st h below))
       (subst (λ (words : Tables). HartIs (words_of C H) C.layout (space_of H h) (loaded r (walk_of H h)) (service_of C H h) (cond (is_filled r) fills (entries_of C H h))
-      (with_load words (asid_of C (space_of H h)) (hart_at m h).walk (hart_at m h)))
+      (with_load words (asid_of C H (space_of H h)) (hart_at m h).walk (hart_at m h)))
       (sym (words_same C m H st))
       (load_left C H h r (hart_at m h).walk (walk_of H h) (service_of C H h) (entries_of C H h) (hart_at m h) old.walk_is old.space_is old.serving_is old.scheme_is old.entries_are made a)))
       old)))
@@ -312,11 +319,12 @@ module _ (C : Setup) (m : State) (H : History) (st : Stands C m H) where
   harts_stand (ServeFence hart) r d h below = serve_fence_after hart r d h below
   harts_stand (Ack hart) r d h below = ack_after hart r h below
   harts_stand (AckSelf hart ticket) r d h below = ack_self_after hart ticket r h below
+  harts_stand (Reclaim hart space) r d h below = ?
   harts_stand event r d h below =
       let old = st.harts h below in
       record {
         space = old.space;
-        walk = same_walk_kept C.layout.scheme (words_of C H) (words_of C (with_turn event r H)) (root_ppn C.layout (space_of H h)) (hart_at m h).walk (walk_of H h) (pointers_kept C st.within event r H st.lawful st.pages d) old.walk;
+        walk = same_walk_kept C.layout.scheme (words_of C H) (words_of C (with_turn event r H)) (root_ppn C.layout (space_of H h)) (hart_at m h).walk (walk_of H h) (pointers_kept C st.within event r H refl st.lawful st.pages d) old.walk;
         serving = old.serving;
         scheme = old.scheme;
         entries = old.entries;

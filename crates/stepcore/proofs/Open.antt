@@ -1,13 +1,15 @@
 -- The opened machine stands at the empty history.
-use Rattle.std.proofs.Common.{◌≡◌, ℕ, zero, suc, ◌<◌, [], map, replicate, length, refl, sym, ◌∙◌, arith}
+use Rattle.std.proofs.Common.{◌≡◌, ℕ, zero, suc, ◌<◌, List, [], ◌∷◌, None, subst, ap, map, replicate, length, refl, sym, ◌∙◌, arith}
 use Rattle.std.specs.List.{range_with_len}
-use Rattle.std.specs.Prelude.{slice_index}
+use Rattle.std.specs.Prelude.{slice_index, slice_get, unwrap_or}
 use Rattle.std.proofs.lemmas.List.{get_or-replicate, length-replicate, length-map}
 use Rattle.std.proofs.lemmas.List.FromFn.{get_or-map-range_with_len, length-map-range_with_len}
 use Rattle.std.proofs.lemmas.List.Elements.{All-replicate}
 use Rattle.std.proofs.lemmas.Option.{unwrap_or-slice_get}
 use Rattle.spaces.specs.declared.configuration.Config.{Config}
-use Rattle.spaces.specs.Held.{words_of}
+use Rattle.spaces.specs.Held.{words_of, holders_of}
+use Rattle.spaces.specs.declared.configuration.Space.{Space}
+use Rattle.stepcore.specs.declared.space_state.SpaceState.{SpaceState}
 use Rattle.spaces.specs.Layout.{layout_of}
 use Rattle.spaces.specs.Limits.{MeetsLimits, max_frames}
 use Rattle.spaces.specs.Opening.{opening}
@@ -15,16 +17,16 @@ use Rattle.shoot.specs.Mailbox.{empty_mailbox}
 use Rattle.shoot.specs.Tickets.{no_tickets}
 use Rattle.history.specs.Setup.{setup_of}
 use Rattle.laws.specs.Kept.{IsSetup}
-use Rattle.stepcore.specs.State.{State, HartState, IsMachine, idle_hart, new_hart, setup_in, hart_at, tickets_at, mailbox_at, mailbox_index}
-use Rattle.stepcore.specs.Stands.{Stands}
+use Rattle.stepcore.specs.State.{State, HartState, IsMachine, idle_hart, new_hart, setup_in, hart_at, live_space, no_space, space_at, tickets_at, mailbox_at, mailbox_index}
+use Rattle.stepcore.specs.Stands.{bare, SpaceStands, Stands}
 
 -- what an opened machine has
 pub record IsOpened (c : Config) (m : State) : Type 0 where
   pub meets : MeetsLimits max_frames c
   pub layout : m.memory.layout ≡ layout_of c
   pub words : (ppn i : ℕ) → words_of m.memory ppn i ≡ opening (layout_of c) ppn i
-  pub used : m.memory.used ≡ replicate (length c.spares.items) 0
-  pub asids : m.asids ≡ map (λ s. s.asid) c.spaces.items
+  pub holders : (ppn : ℕ) → holders_of m.memory ppn ≡ None
+  pub spaces : m.spaces ≡ map (λ s. live_space s.asid) c.spaces.items
   pub harts : m.harts ≡ replicate c.harts (new_hart c.scheme)
   pub tickets : m.tickets ≡ map no_tickets (range_with_len 0 c.harts)
   pub mailboxes : m.mailboxes ≡ replicate 64 (empty_mailbox c.capacity)
@@ -44,13 +46,22 @@ module _ (c : Config) (m : State) (is : IsOpened c m) where
       (unwrap_or-slice_get (replicate 64 (empty_mailbox c.capacity)) (mailbox_index s h) (empty_mailbox 0)
       ∙ get_or-replicate 64 (mailbox_index s h) (empty_mailbox c.capacity) (empty_mailbox 0) (omega (arith, less, less')))
 
-  same_setup : setup_in m ≡ setup_of c
-  same_setup = rw (mailbox 0 0 (omega arith) (omega arith), is.asids, is.layout, is.harts, length-replicate c.harts (new_hart c.scheme)) refl
+  same_setup : setup_in m ≡ bare (setup_of c)
+  same_setup = rw (mailbox 0 0 (omega arith) (omega arith), is.layout, is.harts, length-replicate c.harts (new_hart c.scheme)) refl
 
-  used_none : (n h : ℕ) → slice_index (replicate n 0) h ≡ 0
-  used_none zero h = refl
-  used_none (suc n) zero = refl
-  used_none (suc n) (suc h) = used_none n h
+  count : length m.spaces ≡ length (setup_of c).asids
+  count = rw is.spaces (length-map c.spaces.items (λ s. live_space s.asid) ∙ sym (length-map c.spaces.items (λ s. s.asid)))
+
+  space_live : (xs : List Space) (s : ℕ) → s < length xs → unwrap_or (slice_get (map (λ x. live_space x.asid) xs) s) no_space ≡ live_space (slice_index (map (λ x. x.asid) xs) s)
+  space_live [] s less = absurd (omega arith)
+  space_live (x ∷ xs) zero less = refl
+  space_live (x ∷ xs) (suc s) less = space_live xs s (omega arith)
+
+  space_is : (s : ℕ) → s < length (setup_of c).asids → SpaceStands (setup_of c) [] s (space_at m s)
+  space_is s less =
+      let same : space_at m s ≡ live_space (slice_index (setup_of c).asids s) =
+      ap (λ (xs : List SpaceState). unwrap_or (slice_get xs s) no_space) is.spaces ∙ space_live c.spaces.items s (omega (arith, less, length-map c.spaces.items (λ x. x.asid))) in
+      subst (SpaceStands (setup_of c) [] s) (sym same) (record { asid = refl; phase_is = refl })
 
   pub opened : IsSetup (setup_of c) → Stands (setup_of c) m []
   opened within = record {
@@ -59,7 +70,9 @@ module _ (c : Config) (m : State) (is : IsOpened c m) where
     within = within;
     setup = same_setup;
     words = is.words;
-    used = λ h. rw is.used (used_none (length c.spares.items) h);
+    count = count;
+    holders = is.holders;
+    spaces = space_is;
     harts = λ h less. rw (hart h less) (record { space = refl; walk = tt; serving = refl; scheme = refl; entries = refl });
     tickets = tickets;
     mailboxes = λ s h less less'. mailbox s h (omega (arith, less, is.meets.harts)) (omega (arith, less', is.meets.harts));
@@ -70,9 +83,9 @@ module _ (c : Config) (m : State) (is : IsOpened c m) where
     few = omega (arith, is.meets.harts, count);
     tickets = rw (is.tickets, is.harts) (length-map-range_with_len no_tickets 0 c.harts ∙ sym (length-replicate c.harts (new_hart c.scheme)));
     mailboxes = rw is.mailboxes (length-replicate 64 (empty_mailbox c.capacity));
-    asids = rw (is.asids, is.layout) (length-map c.spaces.items (λ s. s.asid) ∙ sym (length-map c.spaces.items (λ s. s.home)));
-    spaces = rw (is.harts, is.asids) (All-replicate (λ (h : HartState). h.space < length (map (λ s. s.asid) c.spaces.items)) c.harts (new_hart c.scheme)
-        (omega (arith, is.meets.some_space, length-map c.spaces.items (λ s. s.asid))));
+    homes = rw (is.spaces, is.layout) (length-map c.spaces.items (λ s. live_space s.asid) ∙ sym (length-map c.spaces.items (λ s. s.home)));
+    spaces = rw (is.harts, is.spaces) (All-replicate (λ (h : HartState). h.space < length (map (λ s. live_space s.asid) c.spaces.items)) c.harts (new_hart c.scheme)
+        (omega (arith, is.meets.some_space, length-map c.spaces.items (λ s. live_space s.asid))));
   }
     where
       count : length m.harts ≡ c.harts

@@ -62,9 +62,9 @@ module _ (C : Setup) (m : State) (H : History) (st : Stands C m H) where
   pub entries_clear : (k h : ℕ) → h < C.harts → Clear C H (entries_in m h) k h
   entries_clear k h l =
       subst (λ (entries : List Entry). Clear C H entries k h) (sym (st.harts h l).entries)
-      (clear C st.within.asids (stays_unmapped C st.within) (user_plain C st.within) H k h st.lawful st.pages)
+      (clear C st.within (stays_unmapped C st.within) (user_plain C st.within) H k h st.lawful st.pages)
 
   pub entries_coherent : (k h : ℕ) → h < C.harts → Coherent C H (entries_in m h) k h
   entries_coherent k h l =
       subst (λ (entries : List Entry). Coherent C H entries k h) (sym (st.harts h l).entries)
-      (coherent C st.within.asids (user_plain C st.within) (stays_mapped C st.within) (window_shared C st.within) H k h st.lawful st.pages)
+      (coherent C st.within (user_plain C st.within) (stays_mapped C st.within) (window_shared C st.within) H k h st.lawful st.pages)

@@ -1,7 +1,7 @@
 -- What no event changes: how many harts there are, the capacity of each mailbox, and so the setup; and what every machine keeps.
 use Rattle.std.proofs.Common.{◌≡◌, ℕ, zero, suc, ◌<◌, Bool, true, false, cond, List, [], ◌∷◌, length, Option, Some, None, slice_get, refl, ap, sym, ◌∙◌, arith, ltb}
-use Rattle.std.specs.Prelude.{slice_set, unwrap_or, All}
-use Rattle.std.proofs.lemmas.Bool.{not-false, ltb-true, ltb-false}
+use Rattle.std.specs.Prelude.{not, slice_set, unwrap_or, All}
+use Rattle.std.proofs.lemmas.Bool.{and_parts, not-false, ltb-true, ltb-false}
 use Rattle.std.proofs.lemmas.List.{length-set, set_past}
 use Rattle.std.proofs.lemmas.List.Elements.{All-set}
 use Rattle.walk.specs.Leads.{Tables}
@@ -14,17 +14,16 @@ use Rattle.shoot.specs.Mailbox.{MailboxState, empty_mailbox, with_message}
 use Rattle.shoot.specs.Tickets.{TicketTable}
 use Rattle.history.specs.Setup.{Setup}
 use Rattle.history.specs.declared.event.Event.{Event}
-use Rattle.history.specs.declared.event.Event.TheVariants.{Begin, Load, Unmap, Protect, Flush, Switch, Fence, Post, Take, ServeFence, Ack, AckSelf, Collect, Finish, Close}
+use Rattle.history.specs.declared.event.Event.TheVariants.{Begin, Load, Unmap, Protect, Flush, Switch, Fence, Post, Take, ServeFence, Ack, AckSelf, Collect, Finish, Close, Retire}
 use Rattle.history.specs.declared.refusal.Refusal.TheVariants.{NoHart, NoSpace}
 use Rattle.history.specs.declared.reply.Reply.{Reply}
 use Rattle.history.specs.declared.reply.Reply.TheVariants as reply
 use Rattle.history.specs.Turns.{is_ok}
-use Rattle.history.specs.Due.{is_space}
 use Rattle.laws.proofs.Tools.{by_test}
 use Rattle.laws.proofs.Accepted.{passed, ok_accepted}
 use Rattle.stepcore.specs.declared.serving.Serving.{Serving as Service}
-use Rattle.stepcore.specs.State.{State, HartState, IsMachine, idle_hart, setup_in, hart_at, mailbox_at, mailbox_index, words_in}
-use Rattle.stepcore.specs.Answers.{reply_to, next_of, asid_in}
+use Rattle.stepcore.specs.State.{State, HartState, IsMachine, idle_hart, setup_in, hart_at, space_at, mailbox_at, mailbox_index, words_in}
+use Rattle.stepcore.specs.Answers.{reply_to, is_free, is_number, is_space, next_of, asid_in}
 use Rattle.stepcore.specs.Changes.{Follows, with_progress, with_load, with_taken, with_served, harts_after, tickets_after, acked_after, mailboxes_after}
 
 put_length : {A : Type 0} (xs : List A) (i : ℕ) (test : Bool) (x : A) → length (cond test (slice_set xs i x) xs) ≡ length xs
@@ -50,6 +49,7 @@ pub tickets_length : (m : State) (event : Event) (r : Reply) → length (tickets
 tickets_length m (Unmap hart place page named) r = put_length m.tickets hart _ _
 tickets_length m (Protect hart place page flags named) r = put_length m.tickets hart _ _
 tickets_length m (Flush hart scope named) r = put_length m.tickets hart _ _
+tickets_length m (Retire hart space) r = put_length m.tickets hart _ _
 tickets_length m (Post hart ticket to) r = put_length m.tickets hart _ _
 tickets_length m (Ack hart) r = acked_length m hart (is_ok r) (hart_at m hart).serving
 tickets_length m (AckSelf hart ticket) r = put_length m.tickets hart _ _
@@ -91,17 +91,16 @@ capacity_kept m (Close hart to) r s h = put_capacity m.mailboxes (mailbox_index 
 capacity_kept m _ r s h = refl
 
 -- the setup stays
-abbrev setup_with : ℕ → ℕ → List ℕ → Layout → Setup
-setup_with harts capacity asids layout = record { harts = harts; capacity = capacity; asids = asids; layout = layout }
+abbrev setup_with : ℕ → ℕ → Layout → Setup
+setup_with harts capacity layout = record { harts = harts; capacity = capacity; asids = []; layout = layout }
 
 pub setup_stays : (m n : State) (event : Event) (r : Reply) → Follows m event r n → setup_in n ≡ setup_in m
 setup_stays m n event r f =
     let harts : length n.harts ≡ length m.harts = ap (λ (xs : List HartState). length xs) f.harts ∙ harts_length m event r in
     let capacity : (mailbox_at n 0 0).capacity ≡ (mailbox_at m 0 0).capacity = ap (λ xs. capacity_at xs (mailbox_index 0 0)) f.mailboxes ∙ capacity_kept m event r 0 0 in
-    ap (λ k. setup_with k (mailbox_at n 0 0).capacity n.asids n.memory.layout) harts
-    ∙ ap (λ k. setup_with (length m.harts) k n.asids n.memory.layout) capacity
-    ∙ ap (λ xs. setup_with (length m.harts) (mailbox_at m 0 0).capacity xs n.memory.layout) f.asids
-    ∙ ap (setup_with (length m.harts) (mailbox_at m 0 0).capacity m.asids) f.layout
+    ap (λ k. setup_with k (mailbox_at n 0 0).capacity n.memory.layout) harts
+    ∙ ap (λ k. setup_with (length m.harts) k n.memory.layout) capacity
+    ∙ ap (setup_with (length m.harts) (mailbox_at m 0 0).capacity) f.layout
 
 -- each hart stays in a space that is there
 abbrev InSpace : ℕ → HartState → Type 0
@@ -138,13 +137,14 @@ served_space None hart = refl
 served_space (Some serving) hart = refl
 
 -- a Switch that is accepted goes to a space that is there
-switch_space : (m : State) (hart space : ℕ) (r : Reply) → r ≡ reply_to m (Switch hart space) → is_ok r ≡ true → space < length m.asids
+switch_space : (m : State) (hart space : ℕ) (r : Reply) → r ≡ reply_to m (Switch hart space) → is_ok r ≡ true → space < length m.spaces
 switch_space m hart space r e z =
     let a = ok_accepted r z in
     let p = passed _ NoHart _ r (sym e) a in
-    ltb-true space (length m.asids) (not-false (is_space (setup_in m) space) (passed _ NoSpace _ r p.1 a).0)
+    let there = not-false (is_space m space) (passed _ NoSpace _ r p.1 a).0 in
+    ltb-true space (length m.spaces) (and_parts (is_number m space) (not (is_free (space_at m space).phase)) there).0
 
-spaces_stay : (m : State) (event : Event) (r : Reply) → IsMachine m → r ≡ reply_to m event → All (InSpace (length m.asids)) (harts_after m event r)
+spaces_stay : (m : State) (event : Event) (r : Reply) → IsMachine m → r ≡ reply_to m event → All (InSpace (length m.spaces)) (harts_after m event r)
 spaces_stay m (Begin hart va access ctx) r is e = put_in_space _ m.harts hart _ _ is.spaces (λ _ l. hart_in_space _ m.harts hart is.spaces l)
 spaces_stay m (Load hart) r is e =
     put_in_space _ m.harts hart _ _ is.spaces (λ _ l.
@@ -169,6 +169,6 @@ machine_stays m n event r is e f =
       few = rw harts is.few;
       tickets = tickets ∙ is.tickets ∙ sym harts;
       mailboxes = mailboxes ∙ is.mailboxes;
-      asids = ap (λ (xs : List ℕ). length xs) f.asids ∙ is.asids ∙ ap (λ (l : Layout). length l.homes) (sym f.layout);
-      spaces = rw (f.asids, f.harts) (spaces_stay m event r is e);
+      homes = f.count ∙ is.homes ∙ ap (λ (l : Layout). length l.homes) (sym f.layout);
+      spaces = rw (f.count, f.harts) (spaces_stay m event r is e);
     }

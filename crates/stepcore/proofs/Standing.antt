@@ -1,11 +1,11 @@
 -- A machine that stands at a history answers what is due, and stands at the history with one more turn.
-use Rattle.std.proofs.Common.{◌≡◌, List, unwrap_or, slice_get, ap, ◌∙◌}
+use Rattle.std.proofs.Common.{◌≡◌, ◌<◌, List, unwrap_or, slice_get, ap, sym, subst, ◌∙◌}
 use Rattle.shoot.specs.Mailbox.{MailboxState, empty_mailbox}
 use Rattle.shoot.specs.Tickets.{TicketTable, no_tickets}
 use Rattle.history.specs.Setup.{Setup}
 use Rattle.history.specs.Turns.{History}
 use Rattle.history.specs.declared.event.Event.{Event}
-use Rattle.history.specs.declared.event.Event.TheVariants.{Begin, Load, Map, Unmap, Protect, Flush, Switch, Fence, Post, Take, ServeFence, Ack, AckSelf, Collect, Finish, Close}
+use Rattle.history.specs.declared.event.Event.TheVariants.{Begin, Load, Map, Unmap, Protect, Flush, Switch, Fence, Post, Take, ServeFence, Ack, AckSelf, Collect, Finish, Close, Retire, Reclaim, Create}
 use Rattle.history.specs.declared.reply.Reply.{Reply}
 use Rattle.history.specs.Runs.{with_turn}
 use Rattle.history.specs.Due.{due}
@@ -13,15 +13,17 @@ use Rattle.laws.specs.Kept.{HasPage}
 use Rattle.stepcore.specs.State.{State, IsMachine, mailbox_index}
 use Rattle.stepcore.specs.Answers.{reply_to}
 use Rattle.stepcore.specs.Changes.{Follows}
-use Rattle.stepcore.specs.Stands.{Stands}
+use Rattle.stepcore.specs.Stands.{SpaceStands, Stands}
 use Rattle.stepcore.proofs.HartReplies as harts
 use Rattle.stepcore.proofs.TicketReplies as tickets
 use Rattle.stepcore.proofs.BoxReplies as boxes
 use Rattle.stepcore.proofs.HartsAfter.{harts_stand}
 use Rattle.stepcore.proofs.TicketsAfter.{tickets_step}
 use Rattle.stepcore.proofs.BoxesAfter.{mailboxes_stand}
-use Rattle.stepcore.proofs.WordsAfter.{words_stand, used_stand}
+use Rattle.stepcore.proofs.WordsAfter.{words_stand, holders_stand}
 use Rattle.stepcore.proofs.SetupKept.{setup_stays}
+use Rattle.stepcore.proofs.SpacesAfter.{spaces_stand}
+use Rattle.stepcore.proofs.SpaceEvents.{retire_due, reclaim_due, create_due}
 
 module _ (C : Setup) (m : State) (H : History) (st : Stands C m H) (is : IsMachine m) where
   pub answers_due : (event : Event) → reply_to m event ≡ due C H event
@@ -41,6 +43,9 @@ module _ (C : Setup) (m : State) (H : History) (st : Stands C m H) (is : IsMachi
   answers_due (Collect hart ticket from) = tickets.collect_due C m H st hart ticket from
   answers_due (Finish hart ticket) = tickets.finish_due C m H st hart ticket
   answers_due (Close hart to) = boxes.close_reply_due C m H st is hart to
+  answers_due (Retire hart space) = retire_due C m H st is hart space
+  answers_due (Reclaim hart space) = reclaim_due C m H st hart space
+  answers_due (Create hart space asid) = create_due C m H st hart space asid
 
   pub stands_after : (event : Event) (r : Reply) (new : State) → HasPage event → r ≡ reply_to m event → Follows m event r new → Stands C new (with_turn event r H)
   stands_after event r new page told follows =
@@ -51,7 +56,9 @@ module _ (C : Setup) (m : State) (H : History) (st : Stands C m H) (is : IsMachi
         within = st.within;
         setup = setup_stays m new event r follows ∙ st.setup;
         words = words_stand C m new H st event r follows;
-        used = used_stand C m new H st event r follows;
+        count = follows.count ∙ st.count;
+        holders = holders_stand C m new H st event r follows;
+        spaces = λ s below. subst (SpaceStands C (with_turn event r H) s) (sym (follows.spaces s (subst (λ n. s < n) (sym st.count) below))) (spaces_stand C m H st event r d s below);
         harts = λ h below. rw follows.harts (harts_stand C m H st event r d h below);
         tickets = λ h below.
             ap (λ (xs : List TicketTable). unwrap_or (slice_get xs h) (no_tickets h)) follows.tickets ∙ tickets_step C m H st is event r d h below;

@@ -1,5 +1,5 @@
 -- The tickets of a machine that stands at a history, after one more event: they are those of the longer history.
-use Rattle.std.proofs.Common.{◌≡◌, ℕ, ◌<◌, Bool, true, false, cond, ◌&&◌, List, length, Option, Some, None, slice_get, slice_set, refl, ap, sym, ◌∙◌, arith, eqb}
+use Rattle.std.proofs.Common.{◌≡◌, ℕ, ◌<◌, Bool, true, false, cond, ◌&&◌, List, length, not, Option, Some, None, slice_get, slice_set, refl, ap, sym, ◌∙◌, arith, eqb}
 use Rattle.std.specs.Prelude.{is_none, unwrap_or, Result, Ok, Err}
 use Rattle.std.proofs.lemmas.Bool.{ltb-true, eqb-true, eq-eqb, ne_eqb, and_parts, not-false, false≢true, false_from_ne_true}
 use Rattle.pte.specs.Address.{Span}
@@ -17,18 +17,24 @@ use Rattle.shoot.specs.declared.tickets.TicketFault.TheVariants as ticket_fault
 use Rattle.shoot.proofs.HartSets.{by_test, where_agree}
 use Rattle.history.proofs.Occurred.{same_from}
 use Rattle.history.specs.declared.event.Event.{Event}
-use Rattle.history.specs.declared.event.Event.TheVariants.{Unmap, Protect, Flush, Post, Ack, AckSelf, Collect, Finish}
+use Rattle.history.specs.declared.event.Event.TheVariants.{Unmap, Protect, Flush, Post, Ack, AckSelf, Collect, Finish, Retire}
 use Rattle.history.specs.declared.event.Scope.{Scope}
-use Rattle.history.specs.declared.refusal.Refusal.TheVariants.{NoHart, NoSpace, NotDone, NotServing}
+use Rattle.history.specs.declared.refusal.Refusal.TheVariants.{NoHart, NoSpace, NotHome, HomeNotNamed, InUse, Retiring, NotDone, NotServing}
 use Rattle.history.specs.declared.reply.Reply.{Reply}
 use Rattle.history.specs.declared.reply.Reply.TheVariants as reply
-use Rattle.history.specs.Setup.{Setup}
+use Rattle.history.specs.Setup.{Setup, is_hart}
 use Rattle.history.specs.Turns.{History, is_ok, is_progress, are_same}
-use Rattle.history.specs.Orders.{Order, Cause, Unmapped, Protected, Flushed, page_request, scope_request, order_at, open_order}
+use Rattle.history.specs.Orders.{Order, Cause, Unmapped, Protected, Flushed, scope_request, order_at, open_order}
+use Rattle.history.specs.Spaces.{asid_in, asid_of}
+use Rattle.pte.specs.declared.address.What.TheVariants.{PageOf, SpaceOf}
+use Rattle.stepcore.proofs.EveryHart.{every_named, own_named}
+use Rattle.shoot.specs.declared.TheConstants.{MAX_TICKETS}
+use Rattle.stepcore.specs.Answers.{every_hart}
+use Rattle.stepcore.proofs.SpaceReplies.{page_asked, scope_asked, space_below}
 use Rattle.history.specs.Mailboxes.{Sent}
 use Rattle.history.specs.Service.{served, is_served, has_fenced}
 use Rattle.history.specs.Acknowledgements.{is_posted, is_acked, is_collected}
-use Rattle.history.specs.Due.{is_hart, open_reply, ack_self_reply, edit_reply, finish_reply, is_done, due, Lawful}
+use Rattle.history.specs.Due.{refuse, least_free, opened_reply, is_place, is_scope, is_space, open_reply, ack_self_reply, edit_reply, finish_reply, is_done, due, Lawful}
 use Rattle.history.specs.Runs.{with_turn}
 use Rattle.laws.proofs.Accepted.{passed, ok_accepted, progress_accepted, post_found, collect_found}
 use Rattle.laws.proofs.Acknowledged.{acked_below, collected_acked, served_is}
@@ -188,11 +194,12 @@ module _ (C : Setup) (m : State) (H : History) (st : Stands C m H) (machine : Is
   unmap_after a place page named (reply.Opened n) d h below =
       let p = passed _ NoHart _ (reply.Opened n) (sym d) refl in
       let q = passed _ NoSpace _ (reply.Opened n) p.1 refl in
+      let v = passed _ Retiring _ (reply.Opened n) q.1 refl in
       let G = with_turn (Unmap a place page named) (reply.Opened n) H in
-      let opens : Opens C H G a n (new_order a n named (page_request C place page) (Unmapped place page)) =
+      let opens : Opens C H G a n (new_order a n named (PageOf page (asid_in C H place)) (Unmapped (asid_in C H place) page)) =
       record { order = λ k. refl; opened = λ s t. refl; posted = λ k i. refl; acked = λ k i. refl; collected = λ k i. refl } in
-      ap (λ (S : Setup). unwrap_or (slice_get (put_tickets m a true (after_open (tickets_at m a) (page_request S place page) named)) h) (no_tickets h)) st.setup
-      ∙ opening_after G a n named (page_request C place page) (Unmapped place page) opens (edit_opens _ _ n q.1) h below
+      ap (λ (w : What). unwrap_or (slice_get (put_tickets m a true (after_open (tickets_at m a) w named)) h) (no_tickets h)) (page_asked C m H st place page (not-false (is_place C H place) q.0))
+      ∙ opening_after G a n named (PageOf page (asid_in C H place)) (Unmapped (asid_in C H place) page) opens (edit_opens _ _ n v.1) h below
   unmap_after a place page named _ d h below = st.tickets h below
 
   protect_after : (a : ℕ) (place : Place) (page : Span) (flags : PteFlags) (named : ℕ) (r : Reply) → r ≡ due C H (Protect a place page flags named) → (h : ℕ) → h < C.harts
@@ -200,23 +207,47 @@ module _ (C : Setup) (m : State) (H : History) (st : Stands C m H) (machine : Is
   protect_after a place page flags named (reply.Opened n) d h below =
       let p = passed _ NoHart _ (reply.Opened n) (sym d) refl in
       let q = passed _ NoSpace _ (reply.Opened n) p.1 refl in
+      let v = passed _ Retiring _ (reply.Opened n) q.1 refl in
       let G = with_turn (Protect a place page flags named) (reply.Opened n) H in
-      let opens : Opens C H G a n (new_order a n named (page_request C place page) (Protected place page)) =
+      let opens : Opens C H G a n (new_order a n named (PageOf page (asid_in C H place)) (Protected (asid_in C H place) page)) =
       record { order = λ k. refl; opened = λ s t. refl; posted = λ k i. refl; acked = λ k i. refl; collected = λ k i. refl } in
-      ap (λ (S : Setup). unwrap_or (slice_get (put_tickets m a true (after_open (tickets_at m a) (page_request S place page) named)) h) (no_tickets h)) st.setup
-      ∙ opening_after G a n named (page_request C place page) (Protected place page) opens (edit_opens _ _ n q.1) h below
+      ap (λ (w : What). unwrap_or (slice_get (put_tickets m a true (after_open (tickets_at m a) w named)) h) (no_tickets h)) (page_asked C m H st place page (not-false (is_place C H place) q.0))
+      ∙ opening_after G a n named (PageOf page (asid_in C H place)) (Protected (asid_in C H place) page) opens (edit_opens _ _ n v.1) h below
   protect_after a place page flags named _ d h below = st.tickets h below
 
   flush_after : (a : ℕ) (scope : Scope) (named : ℕ) (r : Reply) → r ≡ due C H (Flush a scope named) → (h : ℕ) → h < C.harts → IsAfter (Flush a scope named) r h
   flush_after a scope named (reply.Opened n) d h below =
       let p = passed _ NoHart _ (reply.Opened n) (sym d) refl in
       let q = passed _ NoSpace _ (reply.Opened n) p.1 refl in
+      let v = passed _ Retiring _ (reply.Opened n) q.1 refl in
       let G = with_turn (Flush a scope named) (reply.Opened n) H in
-      let opens : Opens C H G a n (new_order a n named (scope_request C scope) Flushed) =
+      let opens : Opens C H G a n (new_order a n named (scope_request C H scope) Flushed) =
       record { order = λ k. refl; opened = λ s t. refl; posted = λ k i. refl; acked = λ k i. refl; collected = λ k i. refl } in
-      ap (λ (S : Setup). unwrap_or (slice_get (put_tickets m a true (after_open (tickets_at m a) (scope_request S scope) named)) h) (no_tickets h)) st.setup
-      ∙ opening_after G a n named (scope_request C scope) Flushed opens q.1 h below
+      ap (λ (w : What). unwrap_or (slice_get (put_tickets m a true (after_open (tickets_at m a) w named)) h) (no_tickets h)) (scope_asked C m H st scope (not-false (is_scope C H scope) q.0))
+      ∙ opening_after G a n named (scope_request C H scope) Flushed opens v.1 h below
   flush_after a scope named _ d h below = st.tickets h below
+
+  retire_after : (a space : ℕ) (r : Reply) → r ≡ due C H (Retire a space) → (h : ℕ) → h < C.harts → IsAfter (Retire a space) r h
+  retire_after a space (reply.Opened n) d h below =
+      let p = passed _ NoHart _ (reply.Opened n) (sym d) refl in
+      let q = passed _ NoSpace _ (reply.Opened n) p.1 refl in
+      let o = passed _ NotHome _ (reply.Opened n) q.1 refl in
+      let v = passed _ Retiring _ (reply.Opened n) o.1 refl in
+      let u = passed _ InUse _ (reply.Opened n) v.1 refl in
+      let inside : a < C.harts = ltb-true a C.harts (not-false (is_hart C a) p.0) in
+      let G = with_turn (Retire a space) (reply.Opened n) H in
+      let opens : Opens C H G a n (new_order a n (every_hart m) (SpaceOf (asid_of C H space)) Flushed) =
+      record {
+        order = λ k. ap (λ named. cond (eqb (length H) k) (Some (record { sender = a; ticket = n; named = named; what = SpaceOf (asid_of C H space); cause = Flushed })) (order_at C H k)) (sym (every_named C m H st));
+        opened = λ s t. refl;
+        posted = λ k i. refl;
+        acked = λ k i. refl;
+        collected = λ k i. refl;
+      } in
+      ap (λ (x : ℕ). unwrap_or (slice_get (put_tickets m a true (after_open (tickets_at m a) (SpaceOf x) (every_hart m))) h) (no_tickets h)) (st.spaces space (space_below C m H st space (not-false (is_space C H space) q.0))).asid
+      ∙ opening_after G a n (every_hart m) (SpaceOf (asid_of C H space)) Flushed opens
+      (ap (λ b. refuse (not b) HomeNotNamed (opened_reply (least_free H a MAX_TICKETS 0))) (own_named C m H st a inside) ∙ u.1) h below
+  retire_after a space _ d h below = st.tickets h below
 
   post_after : (a n to : ℕ) (r : Reply) → r ≡ due C H (Post a n to) → (h : ℕ) → h < C.harts → IsAfter (Post a n to) r h
   post_after a n to r d h below =
@@ -248,11 +279,11 @@ module _ (C : Setup) (m : State) (H : History) (st : Stands C m H) (machine : Is
   ack_self_after a n r d h below =
       let G = with_turn (AckSelf a n) r H in
       put_after G a (is_progress r) (acked_by (tickets_at m a) n a) h below
-      (λ z _ at.
+      (λ z inside at.
       let f = self_found C H a n r d z in
       let o = open_here C H a n f.0 st.lawful f.1 in
       ap (λ (x : TicketTable). acked_by x n a) at
-      ∙ (own_acked C H a n f.0 o
+      ∙ (own_acked C H a n f.0 (omega (arith, inside, st.within.harts)) o
       ∙ held_changed C H G a n (with_acked a a) st.lawful
       (marked_held C H G a n f.0 (with_acked a a) o f.1 f.1 o.is (own_mark C H a n f.0 o.order r z f.1))
       (λ t other. own_others C H a n r st.lawful a t (λ _ _ q. other (sym q)))))
@@ -340,4 +371,5 @@ module _ (C : Setup) (m : State) (H : History) (st : Stands C m H) (machine : Is
   tickets_step (AckSelf a n) r d h below = ack_self_after a n r d h below
   tickets_step (Collect a n from) r d h below = collect_after a n from r d h below
   tickets_step (Finish a n) r d h below = finish_after a n r d h below
+  tickets_step (Retire a space) r d h below = retire_after a space r d h below
   tickets_step _ r d h below = st.tickets h below

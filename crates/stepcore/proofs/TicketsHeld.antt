@@ -1,5 +1,5 @@
 -- The tickets that a history leaves: what each tells, and which table stands after a change at one number.
-use Rattle.std.proofs.Common.{◌≡◌, ℕ, zero, suc, ◌+◌, ◌<◌, ◌≤◌, Bool, true, false, cond, ◌&&◌, not, List, length, map, Option, Some, None, slice_get, slice_set, refl, ap, sym, ◌∙◌, arith, ltb}
+use Rattle.std.proofs.Common.{subst, ◌≡◌, ℕ, zero, suc, ◌+◌, ◌<◌, ◌≤◌, Bool, true, false, cond, ◌&&◌, not, List, length, map, Option, Some, None, slice_get, slice_set, refl, ap, sym, ◌∙◌, arith, ltb}
 use Rattle.std.specs.Prelude.{is_some, is_none, unwrap_or}
 use Rattle.std.specs.List.{range_with_len, position_from}
 use Rattle.std.proofs.lemmas.Bool.{ltb-true, ltb-false}
@@ -122,7 +122,7 @@ pub record OpenHere (C : Setup) (H : History) (s t k : ℕ) : Type 0 where
   pub is : order_at C H k ≡ Some order
   pub sender : order.sender ≡ s
   pub number : order.ticket ≡ t
-  pub names_sender : contains order.named s ≡ true
+  pub names_sender : s < MAX_HARTS → contains order.named s ≡ true
   pub ticket : ticket_at (tickets_of C H s) t ≡ Some (ticket_for C H k order)
 
 pub open_here : (C : Setup) (H : History) (s t k : ℕ) → Lawful C H → open_order H s t ≡ Some k → OpenHere C H s t k
@@ -133,7 +133,7 @@ open_here C H s t k l e =
       is = own.is;
       sender = own.sender;
       number = own.ticket;
-      names_sender = ap (contains own.order.named) (sym own.sender) ∙ (known C H k own.order l own.is).names_sender;
+      names_sender = λ less. ap (contains own.order.named) (sym own.sender) ∙ (known C H k own.order l own.is).names_sender (subst (λ x. x < MAX_HARTS) (sym own.sender) less);
       ticket = ticket_told C H s t l ∙ (ap (ticket_held C H) e ∙ ap (ticket_with C H k) own.is);
     }
 

@@ -5,16 +5,15 @@ use Rattle.std.specs.Prelude.{is_some}
 use Rattle.std.proofs.lemmas.Bool.{and_parts, not-false, ltb-true}
 use Rattle.walk.specs.Leads.{Tables}
 use Rattle.walk.specs.Stage.{Stage}
-use Rattle.spaces.specs.declared.places.Place.{Place}
-use Rattle.history.specs.Setup.{Setup}
-use Rattle.history.specs.declared.refusal.Refusal.TheVariants.{NoHart, NoSpace}
+use Rattle.history.specs.Setup.{Setup, is_hart}
+use Rattle.history.specs.declared.refusal.Refusal.TheVariants.{NoHart}
 use Rattle.history.specs.declared.reply.Reply.{Reply}
 use Rattle.history.specs.Mailboxes.{Sent}
 use Rattle.history.specs.Harts.{Walking}
-use Rattle.history.specs.Due.{refuse, is_hart, are_pair, are_harts, is_place}
+use Rattle.history.specs.Due.{refuse, are_pair, are_harts}
 use Rattle.laws.proofs.Tools.{by_test, and3}
 use Rattle.stepcore.specs.State.{State, setup_in}
-use Rattle.stepcore.specs.Stands.{AreSameWalk, service_with}
+use Rattle.stepcore.specs.Stands.{AreSameWalk, bare, service_with}
 
 -- whether a hart walks and serves
 pub walks_alike : (scheme : Scheme) (words : Tables) (root : ℕ) (stage : Option Stage) (walk : Option Walking) → AreSameWalk scheme words root stage walk → is_some stage ≡ is_some walk
@@ -32,7 +31,7 @@ refused_alike : (test : Bool) (r q : Reply) → (test ≡ true → r ≡ q) → 
 refused_alike test r q f = by_test (λ v. refuse (not v) NoHart r ≡ refuse (not v) NoHart q) test f (λ _. refl)
 
 -- an event of a hart that is there
-pub hart_there : (C : Setup) (m : State) (hart : ℕ) (r q : Reply) → setup_in m ≡ C → (hart < C.harts → r ≡ q)
+pub hart_there : (C : Setup) (m : State) (hart : ℕ) (r q : Reply) → setup_in m ≡ bare C → (hart < C.harts → r ≡ q)
     → refuse (not (is_hart (setup_in m) hart)) NoHart r ≡ refuse (not (is_hart C hart)) NoHart q
 hart_there C m hart r q same f =
     ap (λ (D : Setup). refuse (not (is_hart D hart)) NoHart r) same
@@ -52,21 +51,15 @@ pub pair_parts : (C : Setup) (a b : ℕ) → not (are_pair C a b) ≡ false → 
 pair_parts C a b e = pair_is C a b (not-false (are_pair C a b) e)
 
 -- an event of a pair of harts that are there
-pub pair_there : (C : Setup) (m : State) (a b : ℕ) (r q : Reply) → setup_in m ≡ C → (a < C.harts → b < C.harts → r ≡ q)
+pub pair_there : (C : Setup) (m : State) (a b : ℕ) (r q : Reply) → setup_in m ≡ bare C → (a < C.harts → b < C.harts → r ≡ q)
     → refuse (not (are_pair (setup_in m) a b)) NoHart r ≡ refuse (not (are_pair C a b)) NoHart q
 pair_there C m a b r q same f =
     ap (λ (D : Setup). refuse (not (are_pair D a b)) NoHart r) same
     ∙ refused_alike (are_pair C a b) r q (λ t. let p = pair_is C a b t in f p.first p.second)
 
 -- an event of a hart that names harts that are there
-pub harts_there : (C : Setup) (m : State) (hart named : ℕ) (r q : Reply) → setup_in m ≡ C → (hart < C.harts → r ≡ q)
+pub harts_there : (C : Setup) (m : State) (hart named : ℕ) (r q : Reply) → setup_in m ≡ bare C → (hart < C.harts → r ≡ q)
     → refuse (not (is_hart (setup_in m) hart && are_harts (setup_in m) named)) NoHart r ≡ refuse (not (is_hart C hart && are_harts C named)) NoHart q
 harts_there C m hart named r q same f =
     ap (λ (D : Setup). refuse (not (is_hart D hart && are_harts D named)) NoHart r) same
     ∙ refused_alike (is_hart C hart && are_harts C named) r q (λ t. f (ltb-true hart C.harts (and_parts (is_hart C hart) (are_harts C named) t).0))
-
--- an edit of a place that is there
-pub place_there : (C : Setup) (m : State) (place : Place) (r q : Reply) → setup_in m ≡ C → r ≡ q
-    → refuse (not (is_place (setup_in m) place)) NoSpace r ≡ refuse (not (is_place C place)) NoSpace q
-place_there C m place r q same e =
-    ap (λ (D : Setup). refuse (not (is_place D place)) NoSpace r) same ∙ ap (λ (x : Reply). refuse (not (is_place C place)) NoSpace x) e

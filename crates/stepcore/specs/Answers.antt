@@ -1,5 +1,6 @@
 -- What a machine answers to an event: the first refusal that applies, else what the event does.
-use Rattle.std.specs.Prelude.{ℕ, ◌&&◌, not, Option, Some, None, is_some, is_none, Result, Ok, Err, if◌then◌else◌, slice_index}
+use Rattle.std.specs.List.{list_any}
+use Rattle.std.specs.Prelude.{ℕ, Bool, true, false, ◌-◌, ◌^◌, ◌==◌, nat_lt, length, ◌&&◌, not, Option, Some, None, is_some, is_none, Result, Ok, Err, if◌then◌else◌}
 use Rattle.pte.specs.declared.permission.Access.{Access}
 use Rattle.pte.specs.declared.permission.Ctx.{Ctx}
 use Rattle.walk.specs.declared.found_or_trap.Why.TheVariants.{NotCanonical}
@@ -25,18 +26,73 @@ use Rattle.shoot.specs.declared.tickets.TicketFault.TheVariants as ticket_fault
 use Rattle.shoot.specs.declared.tickets.Collected.{Collected}
 use Rattle.shoot.specs.declared.tickets.Collected.TheVariants as collected
 use Rattle.history.specs.declared.event.Event.{Event}
-use Rattle.history.specs.declared.event.Event.TheVariants.{Begin, Load, Map, Unmap, Protect, Flush, Switch, Fence, Post, Take, ServeFence, Ack, AckSelf, Collect, Finish, Close}
-use Rattle.history.specs.declared.refusal.Refusal.TheVariants.{NoHart, NoSpace, HomeNotNamed, NoTicket, NotOpen, NotNamed, AlreadyPosted, Closed, Full, Empty, Walking, NotWalking, Serving, NotServing, NotFenced, NotDone}
+use Rattle.history.specs.declared.event.Event.TheVariants.{Begin, Load, Map, Unmap, Protect, Flush, Switch, Fence, Post, Take, ServeFence, Ack, AckSelf, Collect, Finish, Close, Retire, Reclaim, Create}
+use Rattle.history.specs.declared.refusal.Refusal.TheVariants.{NoHart, NoSpace, HomeNotNamed, NoTicket, NotOpen, NotNamed, AlreadyPosted, Closed, Full, Empty, Walking, NotWalking, Serving, NotServing, NotFenced, NotDone, NotHome, Retiring, InUse, NotAcked, NotRetiring, NotFree, AsidInUse}
 use Rattle.history.specs.declared.reply.Reply.{Reply}
 use Rattle.history.specs.declared.reply.Reply.TheVariants as reply
 use Rattle.history.specs.Tables.{edit_due}
-use Rattle.history.specs.Due.{refuse, is_hart, are_pair, are_harts, is_space, is_place, is_scope, match_reply, map_reply, edit_reply}
+use Rattle.history.specs.Setup.{is_hart}
+use Rattle.history.specs.Due.{refuse, are_pair, are_harts, match_reply, map_reply, edit_reply}
+use Rattle.history.specs.declared.event.Scope.{Scope}
+use Rattle.history.specs.declared.event.Scope.TheVariants as scope
+use Rattle.pte.specs.Address.{Span}
+use Rattle.pte.specs.declared.address.What.{What}
+use Rattle.pte.specs.declared.address.What.TheVariants.{PageOf, SpaceOf, All}
+use Rattle.spaces.specs.declared.places.Place.{Place}
+use Rattle.spaces.specs.declared.places.Place.TheVariants.{Space, Kernel}
+use Rattle.spaces.specs.Layout.{home_of}
+use Rattle.stepcore.specs.declared.space_state.Phase.{Phase}
+use Rattle.stepcore.specs.declared.space_state.Phase.TheVariants as phase
 use Rattle.stepcore.specs.declared.serving.Serving.{Serving as Service}
-use Rattle.stepcore.specs.State.{State, HartState, setup_in, words_in, used_in, hart_at, tickets_at, mailbox_at}
+use Rattle.stepcore.specs.declared.space_state.SpaceState.{SpaceState}
+use Rattle.stepcore.specs.State.{State, HartState, setup_in, words_in, holders_in, hart_at, space_at, tickets_at, mailbox_at}
+
+-- the phase of a space, and which spaces, places and scopes are there
+abbrev pub is_free : Phase → Bool
+is_free phase.Free = true
+is_free _ = false
+
+abbrev pub is_retiring : Phase → Bool
+is_retiring (phase.Retiring ticket) = true
+is_retiring _ = false
+
+abbrev pub is_number : State → ℕ → Bool
+is_number m space = nat_lt space (length m.spaces)
+
+abbrev pub is_space : State → ℕ → Bool
+is_space m space = is_number m space && not (is_free (space_at m space).phase)
+
+abbrev pub is_place : State → Place → Bool
+is_place m (Space space) = is_space m space
+is_place m Kernel = true
+
+abbrev pub is_scope : State → Scope → Bool
+is_scope m (scope.Space space) = is_space m space
+is_scope m scope.All = true
+
+abbrev pub retires : State → Place → Bool
+retires m (Space space) = is_retiring (space_at m space).phase
+retires m Kernel = false
+
+abbrev pub scope_retires : State → Scope → Bool
+scope_retires m (scope.Space space) = is_retiring (space_at m space).phase
+scope_retires m scope.All = false
+
+-- what the harts are asked to drop for a page and for a scope
+abbrev pub asid_of : State → Place → Option ℕ
+asid_of m (Space space) = Some (space_at m space).asid
+asid_of m Kernel = None
+
+abbrev pub page_request : State → Place → Span → What
+page_request m place page = PageOf page (asid_of m place)
+
+abbrev pub scope_request : State → Scope → What
+scope_request m (scope.Space space) = SpaceOf (space_at m space).asid
+scope_request m scope.All = All
 
 -- Begin: the TLB answers, or a walk begins
 abbrev pub asid_in : State → HartState → ℕ
-asid_in m hart = slice_index m.asids hart.space
+asid_in m hart = (space_at m hart.space).asid
 
 abbrev pub begin_answer : State → HartState → ℕ → Access → Ctx → Reply
 begin_answer m hart va access ctx =
@@ -60,7 +116,7 @@ load_answer words (Some walk) = progress_answer (next_of words walk)
 
 -- the store that is due for a wish
 abbrev pub edit_in : State → ℕ → Wish → Result Store MapFault
-edit_in m hart w = edit_due (setup_in m) (words_in m) (used_in m hart) hart w
+edit_in m hart w = edit_due (setup_in m) (words_in m) (holders_in m) hart w
 
 -- what opening a ticket of a hart is answered
 abbrev pub opening_answer : Result ℕ TicketFault → Reply
@@ -126,6 +182,27 @@ collect_answer tickets ticket from =
 abbrev pub finish_answer : TicketTable → ℕ → Reply
 finish_answer tickets ticket = refuse (not (is_open tickets ticket)) NotOpen (refuse (not (is_done_at tickets ticket)) NotDone reply.Ok)
 
+-- Retire: the byte of all harts; and whether some hart is in the space
+abbrev pub every_hart : State → ℕ
+every_hart m = 2 ^ length m.harts - 1
+
+abbrev pub is_in_use : State → ℕ → Bool
+is_in_use m space = list_any (λ hart. hart.space == space) m.harts
+
+-- Reclaim: each hart is collected for the retirement, or its ticket was finished
+abbrev pub reclaim_answer : TicketTable → Phase → Reply
+reclaim_answer tickets phase.Live = reply.Refused NotRetiring
+reclaim_answer tickets (phase.Retiring None) = reply.Ok
+reclaim_answer tickets (phase.Retiring (Some ticket)) = refuse (not (is_done_at tickets ticket)) NotAcked reply.Ok
+reclaim_answer tickets phase.Free = reply.Refused NoSpace
+
+-- Create: a space that is not free has the ASID
+abbrev pub has_asid : SpaceState → ℕ → Bool
+has_asid space asid = not (is_free space.phase) && (space.asid == asid)
+
+abbrev pub is_asid_used : State → ℕ → Bool
+is_asid_used m asid = list_any (λ space. has_asid space asid) m.spaces
+
 -- what an event is answered: NoHart first, then the refusals of the event in order
 abbrev pub reply_to : State → Event → Reply
 reply_to m (Begin hart va access ctx) =
@@ -134,25 +211,30 @@ reply_to m (Load hart) =
     refuse (not (is_hart (setup_in m) hart)) NoHart (load_answer (words_in m) (hart_at m hart).walk)
 reply_to m (Map hart place page ppn flags) =
     refuse (not (is_hart (setup_in m) hart)) NoHart
-    (refuse (not (is_place (setup_in m) place)) NoSpace
-    (map_reply (edit_in m hart (wish.Map place page ppn flags))))
+    (refuse (not (is_place m place)) NoSpace
+    (refuse (retires m place) Retiring
+    (map_reply (edit_in m hart (wish.Map place page ppn flags)))))
 reply_to m (Unmap hart place page named) =
     refuse (not (is_hart (setup_in m) hart && are_harts (setup_in m) named)) NoHart
-    (refuse (not (is_place (setup_in m) place)) NoSpace
-    (edit_reply (edit_in m hart (wish.Unmap place page)) (open_in m hart named)))
+    (refuse (not (is_place m place)) NoSpace
+    (refuse (retires m place) Retiring
+    (edit_reply (edit_in m hart (wish.Unmap place page)) (open_in m hart named))))
 reply_to m (Protect hart place page flags named) =
     refuse (not (is_hart (setup_in m) hart && are_harts (setup_in m) named)) NoHart
-    (refuse (not (is_place (setup_in m) place)) NoSpace
-    (edit_reply (edit_in m hart (wish.Protect place page flags)) (open_in m hart named)))
+    (refuse (not (is_place m place)) NoSpace
+    (refuse (retires m place) Retiring
+    (edit_reply (edit_in m hart (wish.Protect place page flags)) (open_in m hart named))))
 reply_to m (Flush hart scope named) =
     refuse (not (is_hart (setup_in m) hart && are_harts (setup_in m) named)) NoHart
-    (refuse (not (is_scope (setup_in m) scope)) NoSpace
-    (open_in m hart named))
+    (refuse (not (is_scope m scope)) NoSpace
+    (refuse (scope_retires m scope) Retiring
+    (open_in m hart named)))
 reply_to m (Switch hart space) =
     refuse (not (is_hart (setup_in m) hart)) NoHart
-    (refuse (not (is_space (setup_in m) space)) NoSpace
+    (refuse (not (is_space m space)) NoSpace
+    (refuse (is_retiring (space_at m space).phase) Retiring
     (refuse (is_some (hart_at m hart).walk) Walking
-    reply.Ok))
+    reply.Ok)))
 reply_to m (Fence hart rs1 rs2) =
     refuse (not (is_hart (setup_in m) hart)) NoHart
     (refuse (is_some (hart_at m hart).walk) Walking
@@ -173,3 +255,22 @@ reply_to m (Finish hart ticket) =
     refuse (not (is_hart (setup_in m) hart)) NoHart (finish_answer (tickets_at m hart) ticket)
 reply_to m (Close hart to) =
     refuse (not (are_pair (setup_in m) hart to)) NoHart (refuse (mailbox_at m hart to).closed Closed reply.Ok)
+reply_to m (Retire hart space) =
+    refuse (not (is_hart (setup_in m) hart)) NoHart
+    (refuse (not (is_space m space)) NoSpace
+    (refuse (not (hart == home_of m.memory.layout (Space space))) NotHome
+    (refuse (is_retiring (space_at m space).phase) Retiring
+    (refuse (is_in_use m space) InUse
+    (open_in m hart (every_hart m))))))
+reply_to m (Reclaim hart space) =
+    refuse (not (is_hart (setup_in m) hart)) NoHart
+    (refuse (not (is_space m space)) NoSpace
+    (refuse (not (hart == home_of m.memory.layout (Space space))) NotHome
+    (reclaim_answer (tickets_at m hart) (space_at m space).phase)))
+reply_to m (Create hart space asid) =
+    refuse (not (is_hart (setup_in m) hart)) NoHart
+    (refuse (not (is_number m space)) NoSpace
+    (refuse (not (hart == home_of m.memory.layout (Space space))) NotHome
+    (refuse (not (is_free (space_at m space).phase)) NotFree
+    (refuse (is_asid_used m asid) AsidInUse
+    reply.Ok))))

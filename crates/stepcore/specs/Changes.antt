@@ -1,7 +1,7 @@
 -- What an event and its reply leave of a machine, part by part.
-use Rattle.std.specs.Prelude.{ℕ, ◌≡◌, Bool, true, false, ◌&&◌, not, List, Option, Some, None, unwrap_or, slice_set, if◌then◌else◌}
+use Rattle.std.specs.Prelude.{ℕ, ◌≡◌, ◌<◌, ◌==◌, length, Bool, true, false, ◌&&◌, not, List, Option, Some, None, unwrap_or, slice_set, if◌then◌else◌}
 use Rattle.pte.specs.declared.address.What.{What}
-use Rattle.pte.specs.declared.address.What.TheVariants.{All}
+use Rattle.pte.specs.declared.address.What.TheVariants.{SpaceOf, All}
 use Rattle.walk.specs.declared.walking.Progress.{Progress}
 use Rattle.walk.specs.declared.walking.Progress.TheVariants as progress
 use Rattle.walk.specs.Leads.{Tables}
@@ -14,15 +14,20 @@ use Rattle.tlb.specs.Service.{served}
 use Rattle.shoot.specs.Mailbox.{MailboxState, can_release, after_post, after_take, after_release, after_close}
 use Rattle.shoot.specs.Tickets.{TicketTable, is_acked, is_collected, what_at, after_open, after_posted, after_collect, after_finish}
 use Rattle.history.specs.declared.event.Event.{Event}
-use Rattle.history.specs.declared.event.Event.TheVariants.{Begin, Load, Map, Unmap, Protect, Flush, Switch, Fence, Post, Take, ServeFence, Ack, AckSelf, Collect, Finish, Close}
+use Rattle.history.specs.declared.event.Event.TheVariants.{Begin, Load, Map, Unmap, Protect, Flush, Switch, Fence, Post, Take, ServeFence, Ack, AckSelf, Collect, Finish, Close, Retire, Reclaim, Create}
 use Rattle.history.specs.declared.reply.Reply.{Reply}
 use Rattle.history.specs.declared.reply.Reply.TheVariants as reply
-use Rattle.history.specs.Turns.{is_ok, is_more, is_opened, is_taken, is_progress}
-use Rattle.history.specs.Orders.{page_request, scope_request}
-use Rattle.history.specs.Tables.{words_after, used_after}
+use Rattle.history.specs.Turns.{is_ok, is_more, is_opened, opened_ticket, is_taken, is_progress}
+use Rattle.history.specs.Tables.{words_after}
+use Rattle.history.specs.Spaces.{holder_after}
+use Rattle.spaces.specs.Layout.{home_of}
+use Rattle.spaces.specs.declared.places.Place.TheVariants.{Space}
+use Rattle.stepcore.specs.declared.space_state.SpaceState.{SpaceState}
+use Rattle.stepcore.specs.declared.space_state.Phase.{Phase}
+use Rattle.stepcore.specs.declared.space_state.Phase.TheVariants as phase
 use Rattle.stepcore.specs.declared.serving.Serving.{Serving as Service}
-use Rattle.stepcore.specs.State.{State, HartState, setup_in, words_in, used_in, hart_at, tickets_at, mailbox_at, mailbox_index}
-use Rattle.stepcore.specs.Answers.{asid_in, next_of, acked_by}
+use Rattle.stepcore.specs.State.{State, HartState, setup_in, words_in, holders_in, hart_at, space_at, tickets_at, mailbox_at, mailbox_index}
+use Rattle.stepcore.specs.Answers.{asid_in, next_of, acked_by, page_request, scope_request, every_hart}
 
 -- what a ticket asks
 abbrev pub what_in : TicketTable → ℕ → What
@@ -88,17 +93,36 @@ acked_after m hart test (Some serving) = put_tickets m serving.from test (acked_
 
 abbrev pub tickets_after : State → Event → Reply → List TicketTable
 tickets_after m (Unmap hart place page named) reply =
-    put_tickets m hart (is_opened reply) (after_open (tickets_at m hart) (page_request (setup_in m) place page) named)
+    put_tickets m hart (is_opened reply) (after_open (tickets_at m hart) (page_request m place page) named)
 tickets_after m (Protect hart place page flags named) reply =
-    put_tickets m hart (is_opened reply) (after_open (tickets_at m hart) (page_request (setup_in m) place page) named)
+    put_tickets m hart (is_opened reply) (after_open (tickets_at m hart) (page_request m place page) named)
 tickets_after m (Flush hart scope named) reply =
-    put_tickets m hart (is_opened reply) (after_open (tickets_at m hart) (scope_request (setup_in m) scope) named)
+    put_tickets m hart (is_opened reply) (after_open (tickets_at m hart) (scope_request m scope) named)
+tickets_after m (Retire hart space) reply =
+    put_tickets m hart (is_opened reply) (after_open (tickets_at m hart) (SpaceOf (space_at m space).asid) (every_hart m))
 tickets_after m (Post hart ticket to) reply = put_tickets m hart (is_ok reply) (after_posted (tickets_at m hart) ticket to)
 tickets_after m (Ack hart) reply = acked_after m hart (is_ok reply) (hart_at m hart).serving
 tickets_after m (AckSelf hart ticket) reply = put_tickets m hart (is_progress reply) (acked_by (tickets_at m hart) ticket hart)
 tickets_after m (Collect hart ticket from) reply = put_tickets m hart (is_progress reply) (after_collect (tickets_at m hart) ticket from)
 tickets_after m (Finish hart ticket) reply = put_tickets m hart (is_ok reply) (after_finish (tickets_at m hart) ticket)
 tickets_after m _ reply = m.tickets
+
+-- the spaces: a retired one has its ticket, which it loses where that is finished
+abbrev pub is_under : Phase → ℕ → Bool
+is_under (phase.Retiring (Some own)) ticket = own == ticket
+is_under _ ticket = false
+
+abbrev pub is_retirement : State → ℕ → ℕ → ℕ → SpaceState → Bool
+is_retirement m hart ticket s old = (hart == home_of m.memory.layout (Space s)) && is_under old.phase ticket
+
+abbrev pub space_after : State → Event → Reply → ℕ → SpaceState → SpaceState
+space_after m (Retire hart space) reply s old =
+    if is_opened reply && (space == s) then record { asid = old.asid; phase = phase.Retiring (opened_ticket reply) } else old
+space_after m (Reclaim hart space) reply s old = if is_ok reply && (space == s) then record { asid = old.asid; phase = phase.Free } else old
+space_after m (Create hart space asid) reply s old = if is_ok reply && (space == s) then record { asid = asid; phase = phase.Live } else old
+space_after m (Finish hart ticket) reply s old =
+    if is_ok reply && is_retirement m hart ticket s old then record { asid = old.asid; phase = phase.Retiring None } else old
+space_after m _ reply s old = old
 
 -- the mailboxes
 abbrev pub put_mailbox : State → ℕ → ℕ → Bool → MailboxState → List MailboxState
@@ -121,9 +145,10 @@ mailboxes_after m _ reply = m.mailboxes
 -- the machine is what the event and its reply leave of an older one
 pub record Follows (old : State) (event : Event) (reply : Reply) (new : State) : Type 0 where
   pub layout : new.memory.layout ≡ old.memory.layout
-  pub asids : new.asids ≡ old.asids
-  pub words : (ppn i : ℕ) → words_in new ppn i ≡ words_after (setup_in old) event reply (words_in old) (used_in old) ppn i
-  pub used : (hart : ℕ) → used_in new hart ≡ used_after event reply hart (used_in old hart)
+  pub count : length new.spaces ≡ length old.spaces
+  pub spaces : (s : ℕ) → s < length old.spaces → space_at new s ≡ space_after old event reply s (space_at old s)
+  pub words : (ppn i : ℕ) → words_in new ppn i ≡ words_after (setup_in old) event reply (words_in old) (holders_in old) ppn i
+  pub holders : (ppn : ℕ) → holders_in new ppn ≡ holder_after event reply ppn (holders_in old ppn)
   pub harts : new.harts ≡ harts_after old event reply
   pub tickets : new.tickets ≡ tickets_after old event reply
   pub mailboxes : new.mailboxes ≡ mailboxes_after old event reply

@@ -1,7 +1,7 @@
 -- When a machine stands at a history: the history is lawful under what the machine was opened with, and its table words, harts,
 -- tickets and mailboxes are those that the history leaves.
 use Rattle.pte.specs.declared.scheme.Scheme.{Scheme}
-use Rattle.std.specs.Prelude.{ℕ, ◌≡◌, ◌+◌, ◌<◌, Bool, map, Option, Some, None}
+use Rattle.std.specs.Prelude.{ℕ, ◌≡◌, ◌+◌, ◌<◌, Bool, [], length, map, Option, Some, None, if◌then◌else◌}
 use Rattle.std.specs.List.{range_with_len}
 use Rattle.pte.specs.Address.{top_level}
 use Rattle.walk.specs.Leads.{Tables}
@@ -14,16 +14,20 @@ use Rattle.shoot.specs.Mailbox.{MailboxState}
 use Rattle.shoot.specs.Tickets.{TicketTable}
 use Rattle.history.specs.Setup.{Setup}
 use Rattle.history.specs.Turns.{History}
-use Rattle.history.specs.Orders.{Order, order_at, open_order}
+use Rattle.history.specs.Orders.{Order, order_at, open_order, is_order}
 use Rattle.history.specs.Mailboxes.{Sent, waiting, is_closed}
 use Rattle.history.specs.Service.{served, has_fenced}
 use Rattle.history.specs.Acknowledgements.{is_posted, is_acked, is_collected, outstanding}
-use Rattle.history.specs.Tables.{words_of, used_spares}
+use Rattle.history.specs.Tables.{words_of}
+use Rattle.history.specs.Spaces.{Status, Live, Retires, Free, status_of, asid_of, holder_of}
+use Rattle.stepcore.specs.declared.space_state.SpaceState.{SpaceState}
+use Rattle.stepcore.specs.declared.space_state.Phase.{Phase}
+use Rattle.stepcore.specs.declared.space_state.Phase.TheVariants as phase
 use Rattle.history.specs.Harts.{Walking, space_of, walk_of, entries_of}
 use Rattle.history.specs.Due.{Lawful}
 use Rattle.laws.specs.Kept.{HavePages, IsSetup}
 use Rattle.stepcore.specs.declared.serving.Serving.{Serving}
-use Rattle.stepcore.specs.State.{State, HartState, setup_in, words_in, used_in, hart_at, tickets_at, mailbox_at}
+use Rattle.stepcore.specs.State.{State, HartState, setup_in, words_in, holders_in, hart_at, space_at, tickets_at, mailbox_at}
 
 -- the walk of a machine has made these loads: it holds the table that as many pointers lead to
 pub record IsStageOf (scheme : Scheme) (words : Tables) (root : ℕ) (stage : Stage) (walk : Walking) : Type 0 where
@@ -80,13 +84,34 @@ tickets_of C H s = record { hart = s; tickets = map (ticket_of C H s) (range_wit
 abbrev pub mailbox_of : Setup → History → ℕ → ℕ → MailboxState
 mailbox_of C H s h = record { waiting = waiting C H s h; outstanding = outstanding C H s h; closed = is_closed H s h; capacity = C.capacity }
 
+-- the phase of a space: a retiring one has the ticket of its order while that is open
+abbrev pub ticket_now : History → ℕ → Option Order → Option ℕ
+ticket_now H k None = None
+ticket_now H k (Some order) = if is_order (open_order H order.sender order.ticket) k then Some order.ticket else None
+
+abbrev pub phase_with : Setup → History → Status → Phase
+phase_with C H Live = phase.Live
+phase_with C H (Retires k) = phase.Retiring (ticket_now H k (order_at C H k))
+phase_with C H Free = phase.Free
+
+-- the space is what the history leaves of space s
+pub record SpaceStands (C : Setup) (H : History) (s : ℕ) (space : SpaceState) : Type 0 where
+  pub asid : space.asid ≡ asid_of C H s
+  pub phase_is : space.phase ≡ phase_with C H (status_of H s)
+
+-- a setup but for its first ASIDs
+abbrev pub bare : Setup → Setup
+bare C = record { harts = C.harts; capacity = C.capacity; asids = []; layout = C.layout }
+
 pub record Stands (C : Setup) (m : State) (H : History) : Type 0 where
   pub lawful : Lawful C H
   pub pages : HavePages H
   pub within : IsSetup C
-  pub setup : setup_in m ≡ C
+  pub setup : setup_in m ≡ bare C
+  pub count : length m.spaces ≡ length C.asids
   pub words : (ppn i : ℕ) → words_in m ppn i ≡ words_of C H ppn i
-  pub used : (h : ℕ) → used_in m h ≡ used_spares H h
+  pub holders : (ppn : ℕ) → holders_in m ppn ≡ holder_of H ppn
+  pub spaces : (s : ℕ) → s < length C.asids → SpaceStands C H s (space_at m s)
   pub harts : (h : ℕ) → h < C.harts → HartStands C H h (hart_at m h)
   pub tickets : (h : ℕ) → h < C.harts → tickets_at m h ≡ tickets_of C H h
   pub mailboxes : (s h : ℕ) → s < C.harts → h < C.harts → mailbox_at m s h ≡ mailbox_of C H s h

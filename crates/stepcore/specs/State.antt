@@ -1,16 +1,19 @@
 -- What contracts see of a machine: its table memory, and its harts, tickets and mailboxes by the numbers of the harts.
-use Rattle.std.specs.Prelude.{ℕ, ◌≡◌, ◌+◌, ◌*◌, ◌<◌, ◌≤◌, List, [], length, Option, None, slice_get, slice_index, unwrap_or, All}
+use Rattle.std.specs.Prelude.{ℕ, ◌≡◌, ◌+◌, ◌*◌, ◌<◌, ◌≤◌, List, [], length, Option, None, slice_get, unwrap_or, All}
 use Rattle.pte.specs.declared.scheme.Scheme.{Scheme}
 use Rattle.pte.specs.declared.scheme.Scheme.TheVariants.{Sv39}
 use Rattle.walk.specs.Leads.{Tables}
 use Rattle.walk.specs.Stage.{Stage}
-use Rattle.spaces.specs.Held.{Held, words_of}
+use Rattle.spaces.specs.Held.{Held, words_of, holders_of}
+use Rattle.spaces.specs.Holders.{Holders}
 use Rattle.tlb.specs.declared.store.Entry.{Entry}
 use Rattle.shoot.specs.declared.TheConstants.{MAX_HARTS}
 use Rattle.shoot.specs.Mailbox.{MailboxState, empty_mailbox}
 use Rattle.shoot.specs.Tickets.{TicketTable, no_tickets}
 use Rattle.history.specs.Setup.{Setup}
 use Rattle.stepcore.specs.declared.serving.Serving.{Serving}
+use Rattle.stepcore.specs.declared.space_state.SpaceState.{SpaceState}
+use Rattle.stepcore.specs.declared.space_state.Phase.TheVariants as phase
 
 -- a hart: its space, the walk in flight, the request that it serves, and the scheme and the entries of its TLB
 pub record HartState : Type 0 where
@@ -20,20 +23,31 @@ pub record HartState : Type 0 where
   pub serving : Option Serving
   pub entries : List Entry
 
--- the ASIDs stand by the numbers of the spaces
+-- what it keeps of the spaces stands by their numbers
 pub record State : Type 0 where
   pub memory : Held
-  pub asids : List ℕ
+  pub spaces : List SpaceState
   pub harts : List HartState
   pub tickets : List TicketTable
   pub mailboxes : List MailboxState
 
--- the words of the tables, and how many spare frames of a hart are in use
+-- the words of the tables, and for which place each spare frame is in use
 abbrev pub words_in : State → Tables
 words_in m = words_of m.memory
 
-abbrev pub used_in : State → ℕ → ℕ
-used_in m hart = slice_index m.memory.used hart
+abbrev pub holders_in : State → Holders
+holders_in m = holders_of m.memory
+
+-- the space of a number; one that is not there is free
+abbrev pub no_space : SpaceState
+no_space = record { asid = 0; phase = phase.Free }
+
+-- one that was just opened or created
+abbrev pub live_space : ℕ → SpaceState
+live_space asid = record { asid = asid; phase = phase.Live }
+
+abbrev pub space_at : State → ℕ → SpaceState
+space_at m space = unwrap_or (slice_get m.spaces space) no_space
 
 -- a hart that was just opened
 abbrev pub new_hart : Scheme → HartState
@@ -56,15 +70,15 @@ mailbox_index sender receiver = MAX_HARTS * sender + receiver
 abbrev pub mailbox_at : State → ℕ → ℕ → MailboxState
 mailbox_at m sender receiver = unwrap_or (slice_get m.mailboxes (mailbox_index sender receiver)) (empty_mailbox 0)
 
--- what the machine was opened with, as numbers; the mailboxes are all of one capacity
+-- what the machine was opened with, as numbers; the mailboxes are all of one capacity, and the first ASIDs are forgotten
 abbrev pub setup_in : State → Setup
-setup_in m = record { harts = length m.harts; capacity = (mailbox_at m 0 0).capacity; asids = m.asids; layout = m.memory.layout }
+setup_in m = record { harts = length m.harts; capacity = (mailbox_at m 0 0).capacity; asids = []; layout = m.memory.layout }
 
--- what every machine keeps: as many tables of tickets as harts, a mailbox for each pair of numbers, an ASID for each space,
+-- what every machine keeps: as many tables of tickets as harts, a mailbox for each pair of numbers, as many spaces as roots,
 -- and each hart in a space that is there
 pub record IsMachine (m : State) : Type 0 where
   pub few : length m.harts ≤ MAX_HARTS
   pub tickets : length m.tickets ≡ length m.harts
   pub mailboxes : length m.mailboxes ≡ MAX_HARTS * MAX_HARTS
-  pub asids : length m.asids ≡ length m.memory.layout.homes
-  pub spaces : All (λ hart. hart.space < length m.asids) m.harts
+  pub homes : length m.spaces ≡ length m.memory.layout.homes
+  pub spaces : All (λ hart. hart.space < length m.spaces) m.harts

@@ -123,6 +123,9 @@ impl Machine {
         if !self.is_space(space) {
             return Reply::Refused(Refusal::NoSpace);
         }
+        if self.space(space).phase.is_retiring() {
+            return Reply::Refused(Refusal::Retiring);
+        }
         if self.hart(hart).is_walking() {
             return Reply::Refused(Refusal::Walking);
         }

@@ -3,17 +3,15 @@
 ghost use Rattle.std.specs.Prelude.{◌≡◌, ◌<◌, false, true, length, IsTrue, IfOk, IfErr, OnOk, OnErr, slice_set, ℕ};
 ghost use Rattle.pte.specs.Address.{IsPage};
 ghost use Rattle.pte.specs.Entry.{kind_of};
-ghost use Rattle.spaces.specs.Applied.{used_by_all, words_after};
+ghost use Rattle.spaces.specs.Applied.{holders_after, words_after};
 ghost use Rattle.spaces.specs.Held.{IsDue};
-ghost use Rattle.spaces.specs.Layout.{HasPlace};
 ghost use Rattle.shoot.specs.Tickets.{after_open};
-ghost use Rattle.history.specs.Due.{stored_reply, is_scope};
-ghost use Rattle.history.specs.Orders.{page_request, scope_request};
+ghost use Rattle.history.specs.Due.{stored_reply};
 ghost use Rattle.history.specs.Refusal.{refusal_of};
 ghost use Rattle.history.specs.declared.event.Event.TheVariants.{Map, Unmap, Protect, Flush};
 ghost use Rattle.history.specs.declared.reply.Reply.TheVariants as reply;
-ghost use Rattle.stepcore.specs.State.{setup_in, tickets_at, used_in, words_in};
-ghost use Rattle.stepcore.specs.Answers.{reply_to, open_in};
+ghost use Rattle.stepcore.specs.State.{holders_in, tickets_at, words_in};
+ghost use Rattle.stepcore.specs.Answers.{reply_to, is_place, is_scope, open_in, page_request, scope_request};
 ghost use Rattle.stepcore.specs.Changes.{Follows, is_accepted};
 
 use crate::machine::Machine;
@@ -58,7 +56,7 @@ impl Machine {
         requires { IsDue self.old.memory edit }
         ensures layout { self.new.memory.layout ≡ self.old.memory.layout }
         ensures words { (ppn i : ℕ) → words_in self.new ppn i ≡ words_after (words_in self.old) edit ppn i }
-        ensures used { (h : ℕ) → used_in self.new h ≡ used_by_all (used_in self.old) edit h }
+        ensures holders { (ppn : ℕ) → holders_in self.new ppn ≡ holders_after (holders_in self.old) edit.place edit ppn }
         ensures others { self.new ≡ record self.old { memory = self.new.memory } }
     {
         apply(&mut self.memory, edit);
@@ -85,6 +83,9 @@ impl Machine {
         if !self.is_place(place) {
             return Reply::Refused(Refusal::NoSpace);
         }
+        if self.retires(place) {
+            return Reply::Refused(Refusal::Retiring);
+        }
         match next_map_edit(&self.memory, hart, place, page, ppn, flags) {
             Err(fault) => Reply::Refused(refusal(fault)),
             Ok(edit) => {
@@ -96,17 +97,17 @@ impl Machine {
 
     /// What the harts are asked to drop for a page.
     fn page_request(&self, place: Place, page: Page) -> What
-        requires { HasPlace self.now.memory.layout place }
-        ensures { result ≡ page_request (setup_in self.now) place page }
+        requires { IsTrue (is_place self.now place) }
+        ensures { result ≡ page_request self.now place page }
     {
         match place {
-            Place::Space(space) => What::PageOf(page, Some(self.asids[usize::from(space)])),
+            Place::Space(space) => What::PageOf(page, Some(self.space(space).asid)),
             Place::Kernel => What::PageOf(page, None),
         }
     }
 
     /// Opens a ticket of the hart. At a refusal nothing changes.
-    fn open_ticket(&mut self, hart: u8, what: What, named: u8) -> Result<u32, Refusal>
+    pub(crate) fn open_ticket(&mut self, hart: u8, what: What, named: u8) -> Result<u32, Refusal>
         requires { hart < length self.old.harts }
         ensures opens { IfOk result (λ ticket. reply.Opened ticket ≡ open_in self.old hart named) }
         ensures refuses { IfErr result (λ refusal. reply.Refused refusal ≡ open_in self.old hart named) }
@@ -134,6 +135,9 @@ impl Machine {
         }
         if !self.is_place(place) {
             return Reply::Refused(Refusal::NoSpace);
+        }
+        if self.retires(place) {
+            return Reply::Refused(Refusal::Retiring);
         }
         let edit = match unmap_edit(&self.memory, hart, place, page) {
             Ok(edit) => edit,
@@ -170,6 +174,9 @@ impl Machine {
         if !self.is_place(place) {
             return Reply::Refused(Refusal::NoSpace);
         }
+        if self.retires(place) {
+            return Reply::Refused(Refusal::Retiring);
+        }
         let edit = match protect_edit(&self.memory, hart, place, page, flags) {
             Ok(edit) => edit,
             Err(fault) => return Reply::Refused(refusal(fault)),
@@ -186,11 +193,11 @@ impl Machine {
 
     /// What the harts are asked to drop for a scope.
     fn scope_request(&self, scope: Scope) -> What
-        requires { IsTrue (is_scope (setup_in self.now) scope) }
-        ensures { result ≡ scope_request (setup_in self.now) scope }
+        requires { IsTrue (is_scope self.now scope) }
+        ensures { result ≡ scope_request self.now scope }
     {
         match scope {
-            Scope::Space(space) => What::SpaceOf(self.asids[usize::from(space)]),
+            Scope::Space(space) => What::SpaceOf(self.space(space).asid),
             Scope::All => What::All,
         }
     }
@@ -206,6 +213,9 @@ impl Machine {
         }
         if !self.is_scope(scope) {
             return Reply::Refused(Refusal::NoSpace);
+        }
+        if self.scope_retires(scope) {
+            return Reply::Refused(Refusal::Retiring);
         }
         let what = self.scope_request(scope);
         match self.open_ticket(hart, what, named) {

@@ -69,6 +69,9 @@ impl Machine {
             Event::Collect { hart, ticket, from } => self.collect(hart, ticket, from),
             Event::Finish { hart, ticket } => self.finish(hart, ticket),
             Event::Close { hart, to } => self.close(hart, to),
+            Event::Retire { hart, space } => self.retire(hart, space),
+            Event::Reclaim { hart, space } => self.reclaim(hart, space),
+            Event::Create { hart, space, asid } => self.create(hart, space, asid),
         }
     }
 }

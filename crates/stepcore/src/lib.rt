@@ -10,6 +10,8 @@ mod opening;
 mod runs;
 mod serving;
 mod shootdown;
+mod space_state;
+mod spaces_kept;
 
 pub use history::{Event, Refusal, Reply, Scope};
 pub use machine::Machine;

@@ -3,9 +3,10 @@
 ghost use Rattle.std.specs.Prelude.{◌≡◌, ◌<◌, length, IsTrue};
 ghost use Rattle.spaces.specs.Held.{IsMemory};
 ghost use Rattle.spaces.specs.Layout.{HasPlace};
-ghost use Rattle.stepcore.specs.State.{setup_in, hart_at, tickets_at, mailbox_at, mailbox_index};
+ghost use Rattle.stepcore.specs.State.{setup_in, hart_at, space_at, tickets_at, mailbox_at, mailbox_index};
 
 use crate::hart::Hart;
+use crate::space_state::SpaceState;
 use arrayvec::ArrayVec;
 use history::Scope;
 use shoot::{MAX_HARTS, Mailbox, Tickets};
@@ -16,7 +17,7 @@ use std::marker::Model;
 #[derive(Drop)]
 pub struct Machine {
     pub(crate) memory: Memory,
-    pub(crate) asids: ArrayVec<u16, MAX_SPACES>,
+    pub(crate) spaces: ArrayVec<SpaceState, MAX_SPACES>,
     pub(crate) harts: Vec<Hart>,
     pub(crate) tickets: Vec<Tickets>,
     // the mailbox from hart s to hart h stands at 8 * s + h
@@ -30,7 +31,7 @@ impl Model for Machine {
 
     ghost view = { λ m. record {
       memory = m.memory;
-      asids = m.asids.items;
+      spaces = m.spaces.items;
       harts = m.harts.items;
       tickets = m.tickets.items;
       mailboxes = m.mailboxes.items;
@@ -38,7 +39,7 @@ impl Model for Machine {
 
     ghost invariant = { λ m. IsMachine (record {
       memory = m.memory;
-      asids = m.asids.items;
+      spaces = m.spaces.items;
       harts = m.harts.items;
       tickets = m.tickets.items;
       mailboxes = m.mailboxes.items;
@@ -46,8 +47,9 @@ impl Model for Machine {
 }
 
 impl Machine {
-    ghost use Rattle.history.specs.Due.{is_hart, are_pair, are_harts, is_space, is_place, is_scope};
-    ghost use Rattle.stepcore.specs.Answers.{asid_in};
+    ghost use Rattle.history.specs.Due.{are_pair, are_harts};
+    ghost use Rattle.history.specs.Setup.{is_hart};
+    ghost use Rattle.stepcore.specs.Answers.{asid_in, is_free, is_number, is_place, is_retiring, is_scope, is_space, retires, scope_retires};
 
     /// How many harts there are, with numbers from 0 on.
     pub fn harts(&self) -> u8
@@ -79,25 +81,67 @@ impl Machine {
         u16::from(named) < 1 << self.harts.len()
     }
 
-    /// Whether the space is there.
-    pub(crate) fn is_space(&self, space: u8) -> bool
-        ensures { result ≡ is_space (setup_in self.now) space }
+    /// Whether the number is that of a space.
+    pub(crate) fn is_number(&self, space: u8) -> bool
+        ensures { result ≡ is_number self.now space }
     {
-        usize::from(space) < self.asids.len()
+        usize::from(space) < self.spaces.len()
+    }
+
+    /// What is kept of a space.
+    pub(crate) fn space(&self, space: u8) -> SpaceState
+        requires { space < length self.now.spaces }
+        ensures { result ≡ space_at self.now space }
+    {
+        self.spaces[usize::from(space)]
+    }
+
+    /// Whether the space is there and not free.
+    pub(crate) fn is_space(&self, space: u8) -> bool
+        ensures value { result ≡ is_space self.now space }
+        ensures there { IsTrue result → space < length self.now.spaces }
+    {
+        self.is_number(space) && !self.space(space).phase.is_free()
     }
 
     /// Whether the place is there.
     pub(crate) fn is_place(&self, place: Place) -> bool
-        ensures value { result ≡ is_place (setup_in self.now) place }
+        ensures value { result ≡ is_place self.now place }
         ensures there { IsTrue result → HasPlace self.now.memory.layout place }
         ensures memory { IsMemory self.now.memory }
     {
-        self.memory.has(place)
+        let is_there = self.memory.has(place);
+        match place {
+            Place::Space(space) => is_there && self.is_space(space),
+            Place::Kernel => true,
+        }
+    }
+
+    /// Whether the place is that of a retiring space.
+    pub(crate) fn retires(&self, place: Place) -> bool
+        requires { IsTrue (is_place self.now place) }
+        ensures { result ≡ retires self.now place }
+    {
+        match place {
+            Place::Space(space) => self.space(space).phase.is_retiring(),
+            Place::Kernel => false,
+        }
+    }
+
+    /// Whether the space of the scope is retiring.
+    pub(crate) fn scope_retires(&self, scope: Scope) -> bool
+        requires { IsTrue (is_scope self.now scope) }
+        ensures { result ≡ scope_retires self.now scope }
+    {
+        match scope {
+            Scope::Space(space) => self.space(space).phase.is_retiring(),
+            Scope::All => false,
+        }
     }
 
     /// Whether the space of the scope is there.
     pub(crate) fn is_scope(&self, scope: Scope) -> bool
-        ensures { result ≡ is_scope (setup_in self.now) scope }
+        ensures { result ≡ is_scope self.now scope }
     {
         match scope {
             Scope::Space(space) => self.is_space(space),
@@ -133,7 +177,7 @@ impl Machine {
         ensures { result ≡ asid_in self.now (hart_at self.now hart) }
     {
         let hart = self.hart(hart);
-        self.asids[usize::from(hart.space())]
+        self.spaces[usize::from(hart.space())].asid
     }
 }
 

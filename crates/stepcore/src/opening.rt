@@ -8,11 +8,12 @@ ghost use Rattle.spaces.specs.Limits.{MeetsLimits, max_frames, max_harts, max_ca
 ghost use Rattle.spaces.specs.declared.faults.OpenFault.TheVariants as fault;
 ghost use Rattle.tlb.specs.Fence.{asid_bits};
 ghost use Rattle.history.specs.Setup.{setup_of};
-ghost use Rattle.stepcore.specs.State.{new_hart};
+ghost use Rattle.stepcore.specs.State.{live_space, new_hart};
 ghost use Rattle.stepcore.specs.Stands.{Stands};
 
 use crate::hart::Hart;
 use crate::machine::Machine;
+use crate::space_state::{Phase, SpaceState};
 use arrayvec::ArrayVec;
 use laws::limits_give_setup;
 use pte::Scheme;
@@ -31,17 +32,20 @@ fn asid_of(space: &Space) -> u16
     space.asid
 }
 
-/// The ASID of each space.
-fn asids_of(spaces: &[Space]) -> ArrayVec<u16, MAX_SPACES>
+/// What is kept of each space at the opening.
+fn live_spaces(spaces: &[Space]) -> ArrayVec<SpaceState, MAX_SPACES>
     requires { length spaces.now ≤ max_spaces }
-    ensures asids { result.items ≡ map (λ s. s.asid) spaces.now }
+    ensures spaces { result.items ≡ map (λ s. live_space s.asid) spaces.now }
     ensures bits { All (λ s. s.asid < 2 ^ asid_bits) spaces.now }
 {
-    let mut asids = ArrayVec::new();
+    let mut states = ArrayVec::new();
     for space in spaces {
-        asids.push(asid_of(space));
+        states.push(SpaceState {
+            asid: asid_of(space),
+            phase: Phase::Live,
+        });
     }
-    asids
+    states
 }
 
 /// Harts that neither walk nor serve.
@@ -89,7 +93,7 @@ impl Machine {
         ensures ok { IfOk result (λ machine. Stands (setup_of config.now) machine []) }
     {
         let memory = Memory::open(alloc, config)?;
-        let asids = asids_of(&config.spaces);
+        let spaces = live_spaces(&config.spaces);
         let count = config.harts as u8;
         let harts = idle_harts(alloc, config.scheme, count)?;
         let tickets = free_tickets(alloc, count)?;
@@ -97,7 +101,7 @@ impl Machine {
         limits_give_setup();
         Ok(Machine {
             memory,
-            asids,
+            spaces,
             harts,
             tickets,
             mailboxes,

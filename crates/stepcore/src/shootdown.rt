@@ -343,6 +343,7 @@ impl Machine {
         if tickets.finish(ticket).is_err() {
             return Reply::Refused(Refusal::NotDone);
         }
+        self.end_retirement(hart, ticket);
         Reply::Ok
     }
 

@@ -6,4 +6,4 @@ pub returns-clause-words : goal.returns-clause-words
 returns-clause-words c = search rules
 
 pub returns-clause-maps : goal.returns-clause-maps
-returns-clause-maps c w e = effect-in _ _ _ _ w _ _ (returns-clause-words c) e
+returns-clause-maps c hart w e = effect-in _ _ _ hart w _ _ (returns-clause-words c) e

@@ -1,7 +1,6 @@
-use Rattle.std.proofs.Common.{◌<◌, ◌-◌, sym, ◌∙◌, ap, subst, arith}
-use Rattle.std.specs.Prelude.{slice_index}
-use Rattle.spaces.specs.Held.{IsMemory, words_of}
-use Rattle.spaces.proofs.Applying.{facts-of, held-by, at-index, product-bound, sum-bound, used-pointer, used-leaf}
+use Rattle.std.proofs.Common.{◌<◌, ◌-◌, sym, ◌∙◌, ap, subst, refl, arith}
+use Rattle.spaces.specs.Held.{IsMemory, holders_of, words_of}
+use Rattle.spaces.proofs.Applying.{facts-of, held-by, at-index, product-bound, sum-bound, held-pointer, held-leaf}
 use Rattle.spaces.proofs.frames.Memory.store.Goals as goal
 
 pub overflow_sub-at : goal.overflow_sub-at
@@ -29,36 +28,42 @@ index_mut-requires c =
     let below = f.index in
     omega arith
 
-pub count_frame-requires : goal.count_frame-requires
-count_frame-requires c =
-    let f = facts-of _ _ _ c.self.view_is c.self.invariant c.requires in
-    record { there = f.hart; room = f.room (sym c.is_pointer.ensures ∙ c.if-is_pointer.true) }
+pub overflow_sub-table : goal.overflow_sub-table
+overflow_sub-table c = ((facts-of _ _ _ c.self.view_is c.self.invariant c.requires).table c.in-Some.table (sym c.target.ensures ∙ c.in-Some.is)).0
+
+pub index_mut-requires-in-Some : goal.index_mut-requires-in-Some
+index_mut-requires-in-Some c =
+    let there = (facts-of _ _ _ c.self.view_is c.self.invariant c.requires).table c.in-Some.table (sym c.target.ensures ∙ c.in-Some.is) in
+    let below = there.1 in
+    omega arith
 
 pub invariant_of-self : goal.invariant_of-self
 invariant_of-self c =
     let f = facts-of _ _ _ c.self.view_is c.self.invariant c.requires in
-    subst IsMemory (sym (held-by _ _ _ _ (at-index c.self.inside.base c.args.ppn c.args.index c.from.result c.from-2.result c.from.ensures c.from-2.ensures)
-    (used-pointer _ _ _ _ _ c.is_pointer.ensures c.if-is_pointer.true c.count_frame.ensures))) f.memory
+    subst IsMemory (sym (held-by _ (record { place = c.args.place; ppn = c.args.ppn; index = c.args.index; word = c.args.word }) _ _ (at-index c.self.inside.base c.args.ppn c.args.index c.from.result c.from-2.result c.from.ensures c.from-2.ensures)
+    (held-pointer c.self.inside.base c.self.inside.holders.items _ c.args.place c.args.word c.in-Some.table c.target.result c.target.ensures c.in-Some.is refl))) f.memory
 
-pub invariant_of-self-else-is_pointer : goal.invariant_of-self-else-is_pointer
-invariant_of-self-else-is_pointer c =
+pub invariant_of-self-in_default : goal.invariant_of-self-in_default
+invariant_of-self-in_default c =
     let f = facts-of _ _ _ c.self.view_is c.self.invariant c.requires in
-    subst IsMemory (sym (held-by _ _ _ _ (at-index c.self.inside.base c.args.ppn c.args.index c.from.result c.from-2.result c.from.ensures c.from-2.ensures)
-    (used-leaf _ _ _ _ c.is_pointer.ensures c.if-is_pointer.false))) f.memory
+    subst IsMemory (sym (held-by _ (record { place = c.args.place; ppn = c.args.ppn; index = c.args.index; word = c.args.word }) _ _ (at-index c.self.inside.base c.args.ppn c.args.index c.from.result c.from-2.result c.from.ensures c.from-2.ensures)
+    (held-leaf c.self.inside.base c.self.inside.holders.items c.args.place c.args.word c.target.result c.target.ensures c.in_default.is))) f.memory
 
-pub returns-then-is_pointer-clause-words : goal.returns-then-is_pointer-clause-words
-returns-then-is_pointer-clause-words c f i =
+pub returns-in-Some-clause-words : goal.returns-in-Some-clause-words
+returns-in-Some-clause-words c f i =
     let fact = facts-of _ _ _ c.self.view_is c.self.invariant c.requires in
-    ap (λ h. words_of h f i) (held-by _ _ _ _ (at-index c.self.inside.base c.args.ppn c.args.index c.from.result c.from-2.result c.from.ensures c.from-2.ensures)
-    (used-pointer _ _ _ _ _ c.is_pointer.ensures c.if-is_pointer.true c.count_frame.ensures)) ∙ fact.words f i
+    ap (λ h. words_of h f i) (held-by _ (record { place = c.args.place; ppn = c.args.ppn; index = c.args.index; word = c.args.word }) _ _ (at-index c.self.inside.base c.args.ppn c.args.index c.from.result c.from-2.result c.from.ensures c.from-2.ensures)
+    (held-pointer c.self.inside.base c.self.inside.holders.items _ c.args.place c.args.word c.in-Some.table c.target.result c.target.ensures c.in-Some.is refl)) ∙ fact.words f i
 
-pub returns-then-is_pointer-clause-used : goal.returns-then-is_pointer-clause-used
-returns-then-is_pointer-clause-used c h =
+pub returns-in-Some-clause-holders : goal.returns-in-Some-clause-holders
+returns-in-Some-clause-holders c f =
     let fact = facts-of _ _ _ c.self.view_is c.self.invariant c.requires in
-    ap (λ xs. slice_index xs h) (used-pointer _ _ _ _ _ c.is_pointer.ensures c.if-is_pointer.true c.count_frame.ensures) ∙ fact.used h
+    ap (λ h. holders_of h f) (held-by (record { layout = record { scheme = c.self.inside.scheme; window = c.self.inside.window; base = c.self.inside.base; homes = c.self.inside.homes.items; spares = c.self.inside.spares.items }; words = c.self.inside.words.items; holders = c.self.inside.holders.items })
+    (record { place = c.args.place; ppn = c.args.ppn; index = c.args.index; word = c.args.word }) _ _ (at-index c.self.inside.base c.args.ppn c.args.index c.from.result c.from-2.result c.from.ensures c.from-2.ensures)
+    (held-pointer c.self.inside.base c.self.inside.holders.items _ c.args.place c.args.word c.in-Some.table c.target.result c.target.ensures c.in-Some.is refl)) ∙ fact.holders f
 
-pub returns-else-is_pointer-clause-words : goal.returns-else-is_pointer-clause-words
-returns-else-is_pointer-clause-words c f i =
+pub returns-in_default-clause-words : goal.returns-in_default-clause-words
+returns-in_default-clause-words c f i =
     let fact = facts-of _ _ _ c.self.view_is c.self.invariant c.requires in
-    ap (λ h. words_of h f i) (held-by _ _ _ _ (at-index c.self.inside.base c.args.ppn c.args.index c.from.result c.from-2.result c.from.ensures c.from-2.ensures)
-    (used-leaf _ _ _ _ c.is_pointer.ensures c.if-is_pointer.false)) ∙ fact.words f i
+    ap (λ h. words_of h f i) (held-by _ (record { place = c.args.place; ppn = c.args.ppn; index = c.args.index; word = c.args.word }) _ _ (at-index c.self.inside.base c.args.ppn c.args.index c.from.result c.from-2.result c.from.ensures c.from-2.ensures)
+    (held-leaf c.self.inside.base c.self.inside.holders.items c.args.place c.args.word c.target.result c.target.ensures c.in_default.is)) ∙ fact.words f i

@@ -13,5 +13,5 @@ returns-in-Ok-clause-follows c =
       is = search rules;
       layout = c.store.ensures.layout;
       words = c.store.ensures.words;
-      used = c.store.ensures.used;
+      holders = c.store.ensures.holders;
     }))

@@ -3,12 +3,13 @@ use Rattle.std.specs.Prelude.{All}
 use Rattle.spaces.specs.declared.configuration.Space.{Space}
 use Rattle.shoot.specs.Mailbox.{empty_mailbox}
 use Rattle.tlb.specs.Fence.{asid_bits}
+use Rattle.stepcore.specs.State.{live_space}
 use Rattle.stepcore.proofs.Open.{IsOpened, opened, machine}
 use Rattle.stepcore.proofs.machine.Machine.open.Goals as goal
 
 is_opened : (c : goal.After-limits_give_setup) → IsOpened c.args.config.now (record {
   memory = c.in_ok-memory.memory;
-  asids = c.asids_of-asids.result.items;
+  spaces = c.live_spaces-spaces.result.items;
   harts = c.in_ok-harts.harts.items;
   tickets = c.in_ok-tickets.tickets.items;
   mailboxes = c.in_ok-mailboxes.mailboxes.items;
@@ -17,8 +18,8 @@ is_opened c = record {
   meets = search rules;
   layout = c.in_ok-memory.ensures.layout;
   words = c.in_ok-memory.ensures.words;
-  used = c.in_ok-memory.ensures.used;
-  asids = c.asids_of-asids.ensures.asids ∙ ap (map (λ (s : Space). s.asid)) c.deref.ensures.0;
+  holders = c.in_ok-memory.ensures.holders;
+  spaces = c.live_spaces-spaces.ensures.spaces ∙ ap (map (λ (s : Space). live_space s.asid)) c.deref.ensures.0;
   harts = c.in_ok-harts.ensures;
   tickets = c.in_ok-tickets.ensures;
   mailboxes = c.in_ok-mailboxes.ensures ∙ ap (λ (n : ℕ). replicate 64 (empty_mailbox n)) c.from.ensures;
@@ -28,4 +29,4 @@ pub invariant_of-result : goal.invariant_of-result
 invariant_of-result c = machine _ _ (is_opened c)
 
 pub returns-clause-ok : goal.returns-clause-ok
-returns-clause-ok c = opened _ _ (is_opened c) (c.limits_give_setup.ensures c.args.config.now (is_opened c).meets (subst (All (λ (s : Space). s.asid < 2 ^ asid_bits)) c.deref.ensures.0 c.asids_of-asids.ensures.bits))
+returns-clause-ok c = opened _ _ (is_opened c) (c.limits_give_setup.ensures c.args.config.now (is_opened c).meets (subst (All (λ (s : Space). s.asid < 2 ^ asid_bits)) c.deref.ensures.0 c.live_spaces-spaces.ensures.bits))

@@ -1,6 +1,6 @@
 use Rattle.std.proofs.Common.{rules, ap, ◌∙◌}
-use Rattle.spaces.specs.Applied.{used_by_all, words_after}
-use Rattle.stepcore.specs.State.{State, words_in, used_in}
+use Rattle.spaces.specs.Applied.{holders_after, words_after}
+use Rattle.stepcore.specs.State.{State, words_in, holders_in}
 use Rattle.stepcore.proofs.Edits.{protect_follows}
 use Rattle.stepcore.proofs.machine.Machine.protect.Goals as goal
 
@@ -16,5 +16,5 @@ returns-in-Ok-open_ticket-clause-follows c =
       is = search rules;
       layout = c.store.ensures.layout ∙ ap (λ (s : State). s.memory.layout) opens;
       words = λ ppn i. c.store.ensures.words ppn i ∙ ap (λ (s : State). words_after (words_in s) c.in-Ok.edit ppn i) opens;
-      used = λ h. c.store.ensures.used h ∙ ap (λ (s : State). used_by_all (used_in s) c.in-Ok.edit h) opens;
+      holders = λ p. c.store.ensures.holders p ∙ ap (λ (s : State). holders_after (holders_in s) c.in-Ok.edit.place c.in-Ok.edit p) opens;
     })

@@ -1,0 +1,5 @@
+use Rattle.std.proofs.Common.{◌≡◌, None, replicate}
+use Rattle.spaces.proofs.frames.unused.Given as goal
+
+abbrev pub invariant-loop : goal.invariant-loop
+invariant-loop l = l.holders.items ≡ replicate l.counter None
