@@ -105,9 +105,9 @@ fn own_acknowledgement_is_collected(rt: HostRuntime) {
     tickets.acked(0, 1);
     assert!(&rt; tickets.is_open(0) && tickets.names(0, 1));
     assert!(&rt; tickets.progress(0) == Collected::Waiting(0b10));
-    assert!(&rt; !tickets.is_done(0) && !tickets.is_collected(0, 1));
+    assert!(&rt; tickets.is_done(0) == Some(false) && !tickets.is_collected(0, 1));
     assert!(&rt; tickets.collect(0, 1) == Collected::Done);
-    assert!(&rt; tickets.is_open(0) && tickets.is_done(0));
+    assert!(&rt; tickets.is_open(0) && tickets.is_done(0) == Some(true));
     assert!(&rt; tickets.finish(0) == Ok(()));
     assert!(&rt; !tickets.is_open(0));
 }
@@ -162,7 +162,8 @@ fn tickets_and_harts_are_told_apart(rt: HostRuntime) {
     assert!(&rt; tickets.names(1, 2));
     tickets.acked(1, 2);
     assert!(&rt; tickets.is_open(0) && tickets.is_open(1));
-    assert!(&rt; tickets.is_done(1) && !tickets.is_done(0));
+    assert!(&rt; tickets.is_done(1) == Some(true) && tickets.is_done(0) == Some(false));
+    assert!(&rt; tickets.is_done(2).is_none() && tickets.is_done(64).is_none());
     assert!(&rt; tickets.what(0) == What::SpaceOf(1) && tickets.what(1) == What::All);
     assert!(&rt; tickets.progress(0) == Collected::Waiting(0b1000_0000));
     assert!(&rt; tickets.finish(1) == Ok(()));

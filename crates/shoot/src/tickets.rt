@@ -1,7 +1,7 @@
 //! Tickets.
 
 ghost use Rattle.std.specs.Prelude.{◌≡◌, ◌<◌, IsTrue, IsSome, IfSome, IfOk};
-ghost use Rattle.std.specs.Option.{option_copied};
+ghost use Rattle.std.specs.Option.{option_copied, option_map};
 
 use crate::free_tickets::FreeTickets;
 use crate::hart_set::HartSet;
@@ -132,7 +132,7 @@ impl Ticket {
 }
 
 impl Tickets {
-    ghost use Rattle.shoot.specs.Tickets.{no_tickets, ticket_at, is_open, names, is_posted, is_acked, is_collected, open_answer, after_open, progress_at, after_posted, after_acked, after_collect, is_done_at, finish_answer, after_finish, lowest_free, what_at};
+    ghost use Rattle.shoot.specs.Tickets.{no_tickets, ticket_at, is_open, names, is_posted, is_acked, is_collected, open_answer, after_open, progress_at, after_posted, after_acked, after_collect, is_done, finish_answer, after_finish, lowest_free, what_at};
 
     /// The tickets of a hart whose number is below 8, all of them free.
     pub fn new(hart: u8) -> Tickets
@@ -241,12 +241,11 @@ impl Tickets {
         }
     }
 
-    /// Whether each hart that an open ticket names is collected.
-    pub fn is_done(&self, ticket: u32) -> bool
-        requires { IsTrue (is_open self.now ticket) }
-        ensures { result ≡ is_done_at self.now ticket }
+    /// Whether each hart that an open ticket names is collected, or `None` exactly if the ticket is not open.
+    pub fn is_done(&self, ticket: u32) -> Option<bool>
+        ensures { result ≡ option_map is_done (ticket_at self.now ticket) }
     {
-        self.get(ticket).is_some_and(|open| open.is_done())
+        self.get(ticket).map(|open| open.is_done())
     }
 
     /// Frees an open ticket that is done. At a refusal nothing changes.
@@ -256,7 +255,7 @@ impl Tickets {
         ensures answer { result ≡ finish_answer self.old ticket }
         ensures after { self.new ≡ after_finish self.old ticket }
     {
-        if !self.is_done(ticket) {
+        if self.is_done(ticket) != Some(true) {
             return Err(NotDone);
         }
         self.tickets[ticket as usize] = None;
