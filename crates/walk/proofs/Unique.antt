@@ -1,4 +1,4 @@
--- There is one outcome, and three loads compute it.
+-- There is one outcome, and one load a level computes it.
 use Rattle.pte.specs.declared.scheme.Scheme.{Scheme}
 use Rattle.std.proofs.Common.{◌≡◌, ℕ, zero, suc, ◌+◌, ◌<◌, Bool, true, false, Result, IsTrue, ap, sym, ◌∙◌, subst, refl, inl, inr, arith}
 use Rattle.std.specs.Prelude.{◌↔◌}
