@@ -21,3 +21,4 @@ pub mod StalenessRuns
 pub mod UnlawfulRuns
 pub mod Counterexamples
 pub mod HartRuns
+pub mod Sv48Runs

@@ -176,8 +176,13 @@ module _ (C : Setup) (m : State) (H : History) (st : Stands C m H) where
       stands_of C (with_turn (Fence hart rs1 rs2) r H) h _
       (placed (λ v x. HartIs (words_of C H) C.layout (space_of H h) (walk_of H h) (service_of C H h) (cond v (fenced C.layout.scheme (entries_of C H h) rs1 rs2) (entries_of C H h)) x) hart h (is_ok r)
       (λ x. record (hart_at m x) { entries = fenced (hart_at m x).scheme (hart_at m x).entries rs1 rs2 }) below
-      (λ ok same. record { space_is = old.space_is; walk_is = old.walk_is; serving_is = old.serving_is; scheme_is = old.scheme_is;
-        entries_are = ap (λ (scheme : Scheme). fenced scheme (hart_at m h).entries rs1 rs2) old.scheme_is ∙ ap (λ (es : List Entry). fenced C.layout.scheme es rs1 rs2) old.entries_are })
+      (λ ok same. record {
+        space_is = old.space_is;
+        walk_is = old.walk_is;
+        serving_is = old.serving_is;
+        scheme_is = old.scheme_is;
+        entries_are = ap (λ (scheme : Scheme). fenced scheme (hart_at m h).entries rs1 rs2) old.scheme_is ∙ ap (λ (es : List Entry). fenced C.layout.scheme es rs1 rs2) old.entries_are;
+      })
       old)
 
   ack_after : (hart : ℕ) (r : Reply) (h : ℕ) → h < C.harts → HartStands C (with_turn (Ack hart) r H) h (unwrap_or (slice_get (harts_after m (Ack hart) r) h) idle_hart)
