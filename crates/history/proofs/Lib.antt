@@ -16,6 +16,8 @@ pub mod Lasting
 pub mod InWalk
 mod StalenessRows
 mod HartRows
+mod Sv48Rows
+mod Sv48Entries
 mod Promises
 mod ClearFacts
 mod CoherentFacts

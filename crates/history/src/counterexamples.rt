@@ -15,6 +15,7 @@ ghost use Rattle.history.specs.KernelRuns as kernel;
 ghost use Rattle.history.specs.StalenessRuns as staleness;
 ghost use Rattle.history.specs.MailboxRuns as mailboxes;
 ghost use Rattle.history.specs.UnlawfulRuns as unlawful;
+ghost use Rattle.history.specs.Sv48Runs as sv48;
 
 /// A page of 2 MiB is unmapped, and hart 1 has acknowledged it: its TLB holds neither that page, nor a small page of it, nor a
 /// larger page over it, nor a global page in it.
@@ -49,6 +50,30 @@ pub fn acknowledged_hart_holds_no_entry_of_a_kernel_page()
     ensures global { ClearForbids kernel.spaces_of_two_homes (history_of kernel.kernel_page_until_acknowledged) 10 1 (global_entry (small_page 0xffffffffc0000000) 0x300) }
     ensures each_asid { (asid : ℕ) → ClearForbids kernel.spaces_of_two_homes (history_of kernel.kernel_page_until_acknowledged) 10 1 (entry asid (small_page 0xffffffffc0000000) 0x300) }
     ensures larger { (asid : ℕ) → ClearForbids kernel.spaces_of_two_homes (history_of kernel.kernel_page_until_acknowledged) 10 1 (entry asid (large_page 0xffffffffc0000000) 0x400) }
+{}
+
+/// With Sv48 a page of 512 GiB is unmapped, and hart 1 has acknowledged it: its TLB holds neither that page, nor one of 1 GiB or of
+/// 4 KiB in it, nor a global one. And of a page of 4 KiB that is unmapped it does not hold the page of 512 GiB around it.
+#[tactic(auto, using(crate::proofs::Sv48Entries::page_itself, crate::proofs::Sv48Entries::last_huge_part, crate::proofs::Sv48Entries::last_small_part, crate::proofs::Sv48Entries::global_part, crate::proofs::Sv48Entries::page_around))]
+pub fn acknowledged_hart_holds_no_entry_of_a_terapage()
+    ensures page { ClearForbids sv48.two_harts_in_sv48 (history_of sv48.terapage_until_acknowledged) 3 1 (entry 1 (sv48.terapage 0x8000000000) 0x10000000) }
+    ensures huge_part { ClearForbids sv48.two_harts_in_sv48 (history_of sv48.terapage_until_acknowledged) 3 1 (entry 1 (huge_page 0xffc0000000) 0x17fc0000) }
+    ensures small_part { ClearForbids sv48.two_harts_in_sv48 (history_of sv48.terapage_until_acknowledged) 3 1 (entry 1 (small_page 0xfffffff000) 0x17ffffff) }
+    ensures global { ClearForbids sv48.two_harts_in_sv48 (history_of sv48.terapage_until_acknowledged) 3 1 (global_entry (large_page 0x8000000000) 0x200) }
+    ensures around { ClearForbids sv48.two_harts_in_sv48 (history_of sv48.four_levels_until_acknowledged) 9 1 (entry 1 (sv48.terapage 0x7f8000000000) 0x10000000) }
+{}
+
+/// Clear lets the pages of 1 GiB right before and right behind the page of 512 GiB be held.
+#[tactic(auto, using(crate::proofs::Sv48Entries::page_before, crate::proofs::Sv48Entries::page_behind))]
+pub fn clear_lets_pages_beside_a_terapage_be_held()
+    ensures before { Clear sv48.two_harts_in_sv48 (history_of sv48.terapage_until_acknowledged) (entry 1 (huge_page 0x7fc0000000) 0x40000 ∷ []) 3 1 }
+    ensures behind { Clear sv48.two_harts_in_sv48 (history_of sv48.terapage_until_acknowledged) (entry 1 (huge_page 0x10000000000) 0x40000 ∷ []) 3 1 }
+{}
+
+/// Coherent is false of a TLB that holds a small page of the page of 512 GiB where nothing is mapped.
+#[tactic(auto, using(crate::proofs::Sv48Entries::nothing_mapped))]
+pub fn acknowledged_hart_holds_no_unmapped_part_of_a_terapage()
+    ensures { CoherentForbids sv48.two_harts_in_sv48 (history_of sv48.terapage_shootdown) 3 1 (entry 1 (small_page 0xfffffff000) 0x17ffffff) }
 {}
 
 /// Clear says nothing of a hart that has not acknowledged the unmapping, of one that it does not name, of a page in which a leaf

@@ -297,7 +297,13 @@ fn with_four_words(
 }
 
 /// The step of a hart with this name and the words of the text after it.
-fn step_of_words(scheme: Scheme, harts: u8, hart: u64, name: &[u8], rest: &[u8]) -> Result<Event, StepFault>
+fn step_of_words(
+    scheme: Scheme,
+    harts: u8,
+    hart: u64,
+    name: &[u8],
+    rest: &[u8],
+) -> Result<Event, StepFault>
     ensures { result ≡ step_of_words scheme harts hart name.now (words_of rest.now) }
 {
     let Some((a, rest)) = next_word(rest) else {
