@@ -196,17 +196,17 @@ fn steps(rt: &impl Abort, machine: &mut Machine, rows: &[(Event, Reply)]) {
     }
 }
 
-/// Whether the TLB of hart 1 translates an address for ASID 1.
-fn translates(rt: &impl Abort, machine: &Machine, va: u64) -> bool {
+/// Whether the TLB of hart 1 translates an address for an ASID.
+fn translates(rt: &impl Abort, machine: &Machine, asid: u16, va: u64) -> bool {
     assert!(rt; 1 < machine.harts());
-    machine.translates(1, 1, VirtAddr::new(va).expect(rt, "an address"))
+    machine.translates(1, asid, VirtAddr::new(va).expect(rt, "an address"))
 }
 
 /// How many of the pages of 4 KiB in the page of 2 MiB at 0x40_0000 hart 1 translates.
 fn translated(rt: &impl Abort, machine: &Machine) -> usize {
     let mut count = 0_usize;
     for k in 0..512_u64 {
-        if translates(rt, machine, 0x40_0000 + k * 0x1000) && count < 512 {
+        if translates(rt, machine, 1, 0x40_0000 + k * 0x1000) && count < 512 {
             count += 1;
         }
     }
@@ -238,7 +238,7 @@ fn superpage_is_shot_down(rt: HostRuntime) {
         &[(serve_fence(), Reply::Ok), (ack(), Reply::Ok)],
     );
     assert!(rt; translated(&rt, &machine) == 0);
-    assert!(rt; !translates(&rt, &machine, 0x5F_FFFF));
+    assert!(rt; !translates(&rt, &machine, 1, 0x5F_FFFF));
     let after = [
         (begin(1, 0x5F_FFFF), Reply::More),
         (load(1), Reply::More),
@@ -378,7 +378,7 @@ fn map_and_hold(rt: &impl Abort, machine: &mut Machine, ppn: u64) {
 /// Both harts answer the retirement of space 1, of ASID 2, under ticket 0.
 fn answer_retirement(rt: &impl Abort, machine: &mut Machine) {
     let rows = [
-        (ack_self(0), Reply::Waiting(BOTH - 0b01)),
+        (ack_self(0), Reply::Waiting(0b10)),
         (post(0), Reply::Ok),
         (take(), taken(0, What::SpaceOf(2))),
         (serve_fence(), Reply::Ok),
@@ -405,7 +405,9 @@ fn space_is_retired_and_created_anew(rt: HostRuntime) {
         (create(0, 1, 2), refused(Refusal::NotFree)),
     ];
     steps(&rt, &mut machine, &until_retired);
+    assert!(rt; translates(&rt, &machine, 2, 0x1004));
     answer_retirement(&rt, &mut machine);
+    assert!(rt; !translates(&rt, &machine, 2, 0x1004));
     let until_created = [
         (finish(0), Reply::Ok),
         (reclaim(0, 1), Reply::Ok),
@@ -415,11 +417,38 @@ fn space_is_retired_and_created_anew(rt: HostRuntime) {
     ];
     steps(&rt, &mut machine, &until_created);
     map_and_hold(&rt, &mut machine, 0x101);
-    steps(
-        &rt,
-        &mut machine,
-        &[(load(1), Reply::Filled(0x10_1004))],
-    );
+    steps(&rt, &mut machine, &[(load(1), Reply::Filled(0x10_1004))]);
+}
+
+/// Edits of the page at 0x1000 of space 1, a flush of that space, and going there.
+fn events_of_space_1(rt: &impl Abort) -> [Event; 5] {
+    let place = Place::Space(1);
+    let small = page(rt, 0x1000, PageSize::Kib4);
+    [
+        map_small(rt, 1, 0x100),
+        Event::Unmap {
+            hart: 0,
+            place,
+            page: small,
+            named: BOTH,
+        },
+        Event::Protect {
+            hart: 0,
+            place,
+            page: small,
+            flags: PteFlags::from_bits_retain(R | U | A),
+            named: BOTH,
+        },
+        flush(Scope::Space(1)),
+        switch(1),
+    ]
+}
+
+/// Each event is refused so.
+fn each_refused(rt: &impl Abort, machine: &mut Machine, events: &[Event], refusal: Refusal) {
+    for event in events {
+        assert!(rt; machine.step(*event) == refused(refusal));
+    }
 }
 
 /// A retiring space is refused by each event that names it, and by a second retirement. A free space is not there, for each
@@ -427,38 +456,21 @@ fn space_is_retired_and_created_anew(rt: HostRuntime) {
 #[test]
 fn retiring_and_free_spaces_are_refused(rt: HostRuntime) {
     let mut machine = opened(&rt, rt.alloc(), &two_spaces());
-    let small = page(&rt, 0x1000, PageSize::Kib4);
-    let unmap = Event::Unmap {
-        hart: 0,
-        place: Place::Space(1),
-        page: small,
-        named: BOTH,
-    };
-    let protect = Event::Protect {
-        hart: 0,
-        place: Place::Space(1),
-        page: small,
-        flags: PteFlags::from_bits_retain(R | U | A),
-        named: BOTH,
-    };
-    steps(&rt, &mut machine, &[(retire(0, 1), Reply::Opened(0))]);
-    let of_space = [
-        map_small(&rt, 1, 0x100),
-        unmap,
-        protect,
-        flush(Scope::Space(1)),
-        switch(1),
-        retire(0, 1),
+    let events = events_of_space_1(&rt);
+    let retired = [
+        (retire(0, 1), Reply::Opened(0)),
+        (retire(0, 1), refused(Refusal::Retiring)),
     ];
-    for event in of_space {
-        steps(&rt, &mut machine, &[(event, refused(Refusal::Retiring))]);
-    }
+    steps(&rt, &mut machine, &retired);
+    each_refused(&rt, &mut machine, &events, Refusal::Retiring);
     answer_retirement(&rt, &mut machine);
-    steps(&rt, &mut machine, &[(reclaim(0, 1), Reply::Ok)]);
-    for event in of_space {
-        steps(&rt, &mut machine, &[(event, refused(Refusal::NoSpace))]);
-    }
-    steps(&rt, &mut machine, &[(reclaim(0, 1), refused(Refusal::NoSpace))]);
+    let reclaimed = [
+        (reclaim(0, 1), Reply::Ok),
+        (reclaim(0, 1), refused(Refusal::NoSpace)),
+        (retire(0, 1), refused(Refusal::NoSpace)),
+    ];
+    steps(&rt, &mut machine, &reclaimed);
+    each_refused(&rt, &mut machine, &events, Refusal::NoSpace);
 }
 
 /// Only the home of a space that is there retires it, gives it back and creates it; and a retirement needs a ticket.
