@@ -23,3 +23,4 @@ pub mod UnlawfulRuns
 pub mod Counterexamples
 pub mod HartRuns
 pub mod RetireRuns
+pub mod Retirements
