@@ -23,4 +23,5 @@ pub mod UnlawfulRuns
 pub mod Counterexamples
 pub mod HartRuns
 pub mod RetireRuns
+pub mod RetireRefusals
 pub mod Retirements

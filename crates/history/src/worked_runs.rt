@@ -1,7 +1,7 @@
 //! Worked runs: the definitions give the replies that the manual and docs/PROTOCOL.md give by hand. Each function does nothing,
 //! and its clause is the fact.
 
-ghost use Rattle.std.specs.Prelude.{ℕ, List, ◌≡◌, ◌<◌, ◌+◌, ◌*◌};
+ghost use Rattle.std.specs.Prelude.{ℕ, List, [], ◌≡◌, ◌<◌, ◌+◌, ◌*◌};
 ghost use Rattle.pte.specs.declared.address.PageSize.TheVariants.{Kib4, Mib2};
 ghost use Rattle.pte.specs.Address.{Holds, bytes_of, pages_of};
 ghost use Rattle.tlb.specs.Mappings.{IsMappedBy, Translates};
@@ -18,6 +18,7 @@ ghost use Rattle.history.specs.MailboxRuns as mailboxes;
 ghost use Rattle.history.specs.EditRuns as edits;
 ghost use Rattle.history.specs.RefusalRuns as refusals;
 ghost use Rattle.history.specs.RetireRuns as retirements;
+ghost use Rattle.history.specs.RetireRefusals as retire_refusals;
 
 /// The setup of the worked runs of three harts is that of a configuration with these numbers.
 #[tactic(auto, using(crate::proofs::SetupFacts::three_harts_are_configured))]
@@ -222,4 +223,63 @@ pub fn frames_used_again()
 #[tactic(auto, using(crate::proofs::RetireRows::asid_used_again))]
 pub fn asid_used_again()
     ensures { IsRun shootdowns.spaces_of_one_home retirements.asid_used_again }
+{}
+
+/// An order is for the ASID that its space had when it was opened, also once the space was created anew with another one.
+#[tactic(auto, using(crate::proofs::RetireRows::orders_of_the_new_asid))]
+pub fn orders_keep_their_asid()
+    ensures { IsRun shootdowns.spaces_of_one_home retirements.orders_of_the_new_asid }
+{}
+
+/// Giving back a space leaves the kernel's tables, and what they map.
+#[tactic(auto, using(crate::proofs::RetireRows::kernel_frames_stay))]
+pub fn kernel_frames_stay()
+    ensures { IsRun shootdowns.spaces_of_one_home retirements.kernel_frames_stay }
+{}
+
+/// The home of a space alone retires it, gives it back and creates it.
+#[tactic(auto, using(crate::proofs::RetireRows::retired_by_its_home))]
+pub fn retired_by_its_home()
+    ensures { IsRun kernel.spaces_of_two_homes retirements.retired_by_its_home }
+{}
+
+/// Refusals where all spaces are live, in order.
+#[tactic(auto, using(crate::proofs::RetireRows::while_live))]
+pub fn refused_while_live()
+    ensures { IsEachDueAfter retire_refusals.three_spaces [] retire_refusals.while_live }
+{}
+
+/// A Retire wants a free ticket, and says so last.
+#[tactic(auto, using(crate::proofs::RetireRows::no_ticket_left, crate::proofs::RetireRows::without_ticket, crate::proofs::RetireRows::retired_with_the_last_ticket, crate::proofs::RetireRows::retired_without_ticket))]
+pub fn refused_without_ticket()
+    ensures before { IsRun retire_refusals.three_spaces retire_refusals.no_ticket_left }
+    ensures live { IsEachDueAfter retire_refusals.three_spaces retire_refusals.no_ticket_left retire_refusals.without_ticket }
+    ensures before_retiring { IsRun retire_refusals.three_spaces retire_refusals.retired_with_the_last_ticket }
+    ensures retiring { IsEachDueAfter retire_refusals.three_spaces retire_refusals.retired_with_the_last_ticket retire_refusals.retired_without_ticket }
+{}
+
+/// Refusals where a space is retiring, in order; the kernel's pages and a flush of all are not refused.
+#[tactic(auto, using(crate::proofs::RetireRows::retiring, crate::proofs::RetireRows::while_retiring))]
+pub fn refused_while_retiring()
+    ensures before { IsRun retire_refusals.three_spaces retire_refusals.retiring }
+    ensures each { IsEachDueAfter retire_refusals.three_spaces retire_refusals.retiring retire_refusals.while_retiring }
+{}
+
+/// Refusals where a space is free, in order.
+#[tactic(auto, using(crate::proofs::RetireRows::free, crate::proofs::RetireRows::while_free))]
+pub fn refused_while_free()
+    ensures before { IsRun retire_refusals.three_spaces retire_refusals.free }
+    ensures each { IsEachDueAfter retire_refusals.three_spaces retire_refusals.free retire_refusals.while_free }
+{}
+
+/// A Reclaim wants each hart collected for the last retirement, be its ticket open, finished, or another order's by now.
+#[tactic(auto, using(crate::proofs::RetireRows::collected_once_more))]
+pub fn collected_for_each_retirement()
+    ensures { IsRun retire_refusals.three_spaces retire_refusals.collected_once_more }
+{}
+
+/// While a space retires its ASID is in use, and once it is free another space may be created with it.
+#[tactic(auto, using(crate::proofs::RetireRows::free_asid_to_another_space))]
+pub fn free_asid_to_another_space()
+    ensures { IsRun retire_refusals.three_spaces retire_refusals.free_asid_to_another_space }
 {}
