@@ -29,3 +29,4 @@ pub mod NoHarts
 pub mod Retiring
 mod Retired
 mod Statuses
+mod RetiredFacts

@@ -246,3 +246,7 @@ retired_by_its_home =
     ∷ (Map 1 (Space 1) (small_page 0x1000) 0x100 (flags (R + U + A + D)), Table 0x8000b)
     ∷ (Map 1 (Space 1) (small_page 0x1000) 0x100 (flags (R + U + A + D)), Table 0x8000c)
     ∷ []
+
+-- then the page of ASID 2 is unmapped once more, in the space that has the ASID now
+abbrev pub unmapped_by_the_new_asid : List Step
+unmapped_by_the_new_asid = asid_used_again ++ (Unmap 0 (Space 0) (small_page 0x1000) hart_0, Opened 3) ∷ []
