@@ -24,7 +24,7 @@ use Rattle.history.specs.Acknowledgements.{is_acked, is_collected}
 use Rattle.history.specs.Harts.{space_of, entries_of}
 use Rattle.history.specs.Due.{due, is_space, is_in_use, is_asid_of, names, Lawful}
 use Rattle.history.specs.Staleness.{HasAsid, IsOfUsedAsid, HoldsUsedAsids}
-use Rattle.history.proofs.Retiring.{asid_found}
+pub use Rattle.history.proofs.Retiring.{asid_found}
 use Rattle.laws.specs.Fills.{Fills}
 use Rattle.laws.specs.Kept.{HasPage, HavePages, IsSetup, AsidsDiffer}
 use Rattle.laws.proofs.Tools.{by_test, none_where}
