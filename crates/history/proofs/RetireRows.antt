@@ -77,3 +77,11 @@ collected_once_more = refl
 pub free_asid_to_another_space : IsRun three_spaces refusals.free_asid_to_another_space
 unfolding IsRun kind_of wish_fault path_end edit_of byte_of difference
 free_asid_to_another_space = refl
+
+pub orders_keep_their_asid : IsRun spaces_of_one_home run.orders_keep_their_asid
+unfolding IsRun kind_of wish_fault path_end edit_of byte_of difference
+orders_keep_their_asid = refl
+
+pub retired_until_acknowledged : IsRun spaces_of_one_home run.retired_until_acknowledged
+unfolding IsRun kind_of wish_fault path_end edit_of byte_of difference
+retired_until_acknowledged = refl

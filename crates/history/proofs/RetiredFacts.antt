@@ -126,6 +126,10 @@ pub retiring_translates : Translates (IsMappedBy (entries_of spaces_of_one_home 
 retiring_translates =
     one_translates (entries_of spaces_of_one_home (history_of run.retired_until_service) 1) of_asid_2 2 0x1004 retiring_held (record { canonical = inl (omega arith); aligned = refl }) refl
 
+pub nothing_held : entries_of spaces_of_one_home (history_of run.retired_until_acknowledged) 1 ≡ []
+unfolding kind_of wish_fault path_end edit_of
+nothing_held = refl
+
 one_used : (H : History) (e : Entry) → IsOfUsedAsid spaces_of_one_home H e → HoldsUsedAsids spaces_of_one_home H (e ∷ [])
 one_used H e used = All-cons (IsOfUsedAsid spaces_of_one_home H) e [] used (All-nil (IsOfUsedAsid spaces_of_one_home H))
 

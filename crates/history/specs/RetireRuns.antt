@@ -32,16 +32,12 @@ retired_until_service =
     ∷ (Take 1 0, taken 0 (SpaceOf 2))
     ∷ []
 
--- once every hart is collected the space is given back
+-- then it holds nothing of the space, which is given back once every hart is collected
+abbrev pub retired_until_acknowledged : List Step
+retired_until_acknowledged = retired_until_service ++ (ServeFence 1, Ok) ∷ (Ack 1, Ok) ∷ []
+
 abbrev pub retired_and_given_back : List Step
-retired_and_given_back =
-    retired_until_service
-    ++ (ServeFence 1, Ok)
-    ∷ (Ack 1, Ok)
-    ∷ (Collect 0 0 1, Done)
-    ∷ (Finish 0 0, Ok)
-    ∷ (Reclaim 0 1, Ok)
-    ∷ []
+retired_and_given_back = retired_until_acknowledged ++ (Collect 0 0 1, Done) ∷ (Finish 0 0, Ok) ∷ (Reclaim 0 1, Ok) ∷ []
 
 -- it is created anew with the same ASID: the page is mapped to another PPN in the same two frames, and hart 1 walks to it
 abbrev pub retired_and_created_anew : List Step

@@ -2,7 +2,7 @@
 //! on the histories of worked runs. Each function does nothing, and its clauses are the facts. A number after a history is the place of the order
 //! in it, the next the hart.
 
-ghost use Rattle.std.specs.Prelude.{ℕ, [], ◌∷◌};
+ghost use Rattle.std.specs.Prelude.{ℕ, [], ◌∷◌, ◌≡◌};
 ghost use Rattle.tlb.specs.Mappings.{IsMappedBy, Translates};
 ghost use Rattle.history.specs.Harts.{entries_of};
 ghost use Rattle.history.specs.Mailboxes.{KeepsOrder, Mailboxes, NoneAfterClose};
@@ -142,11 +142,12 @@ pub fn coherent_is_for_an_asid()
     ensures same_asid { CoherentAllowsAll shootdowns.spaces_of_one_home (history_of retirements.unmapped_by_the_new_asid) 3 0 }
 {}
 
-/// A hart translates a page of a retiring space until it serves the request, which is of a used ASID; of a free space, or of an ASID
-/// that its space has no more, it may hold nothing. Global entries are of no ASID.
-#[tactic(auto, using(crate::proofs::RetiredFacts::retiring_translates, crate::proofs::RetiredFacts::retiring_is_used, crate::proofs::RetiredFacts::global_is_used, crate::proofs::RetiredFacts::free_is_unused, crate::proofs::RetiredFacts::old_asid_is_unused))]
+/// A hart translates a page of a retiring space, whose ASID is in use, until it serves the request, and then holds nothing; of a free
+/// space, or of an ASID that its space has no more, it may hold nothing. Global entries are of no ASID.
+#[tactic(auto, using(crate::proofs::RetiredFacts::retiring_translates, crate::proofs::RetiredFacts::nothing_held, crate::proofs::RetiredFacts::retiring_is_used, crate::proofs::RetiredFacts::global_is_used, crate::proofs::RetiredFacts::free_is_unused, crate::proofs::RetiredFacts::old_asid_is_unused))]
 pub fn used_asids_are_those_of_live_and_retiring_spaces()
     ensures translates { Translates (IsMappedBy (entries_of shootdowns.spaces_of_one_home (history_of retirements.retired_until_service) 1)) 2 0x1004 }
+    ensures acknowledged { entries_of shootdowns.spaces_of_one_home (history_of retirements.retired_until_acknowledged) 1 ≡ [] }
     ensures retiring { HoldsUsedAsids shootdowns.spaces_of_one_home (history_of retirements.retired_until_service) (read_only_entry 2 (small_page 0x1000) 0x100 ∷ []) }
     ensures global { HoldsUsedAsids shootdowns.spaces_of_one_home (history_of retirements.retired_and_given_back) (global_entry (small_page 0xffffffffc0000000) 0x300 ∷ []) }
     ensures free { UsedAsidsForbid shootdowns.spaces_of_one_home (history_of retirements.retired_and_given_back) (read_only_entry 2 (small_page 0x1000) 0x100) }

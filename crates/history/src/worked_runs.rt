@@ -208,9 +208,10 @@ pub fn at_work_while_walking()
 
 /// A space is retired once no hart is in it, and given back once each hart is collected; it is created anew, and its frames are
 /// used again.
-#[tactic(auto, using(crate::proofs::RetireRows::retired_and_created_anew))]
+#[tactic(auto, using(crate::proofs::RetireRows::retired_until_acknowledged, crate::proofs::RetireRows::retired_and_created_anew))]
 pub fn retired_and_created_anew()
-    ensures { IsRun shootdowns.spaces_of_one_home retirements.retired_and_created_anew }
+    ensures until_acknowledged { IsRun shootdowns.spaces_of_one_home retirements.retired_until_acknowledged }
+    ensures anew { IsRun shootdowns.spaces_of_one_home retirements.retired_and_created_anew }
 {}
 
 /// A new table takes the lowest frame that is unused, be it one that another space gave back.
@@ -226,9 +227,10 @@ pub fn asid_used_again()
 {}
 
 /// An order is for the ASID that its space had when it was opened, also once the space was created anew with another one.
-#[tactic(auto, using(crate::proofs::RetireRows::orders_of_the_new_asid))]
+#[tactic(auto, using(crate::proofs::RetireRows::orders_keep_their_asid, crate::proofs::RetireRows::orders_of_the_new_asid))]
 pub fn orders_keep_their_asid()
-    ensures { IsRun shootdowns.spaces_of_one_home retirements.orders_of_the_new_asid }
+    ensures until_served { IsRun shootdowns.spaces_of_one_home retirements.orders_keep_their_asid }
+    ensures of_the_new_asid { IsRun shootdowns.spaces_of_one_home retirements.orders_of_the_new_asid }
 {}
 
 /// Giving back a space leaves the kernel's tables, and what they map.
