@@ -24,7 +24,7 @@ mod StillTranslated
 mod SetupFacts
 pub mod LeastFree
 mod Lawfully
-mod RetireRows
+pub mod RetireRows
 pub mod NoHarts
 pub mod Retiring
 mod Retired

@@ -24,3 +24,4 @@ mod Refuted
 mod Asids
 mod Remaining
 mod Walkers
+mod RetiredRefuted
