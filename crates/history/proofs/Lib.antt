@@ -24,6 +24,11 @@ mod CoherentFacts
 mod MailboxFacts
 mod StillTranslated
 mod SetupFacts
-mod LeastFree
+pub mod LeastFree
 mod Lawfully
-mod RetireRows
+pub mod RetireRows
+pub mod NoHarts
+pub mod Retiring
+mod Retired
+mod Statuses
+mod RetiredFacts

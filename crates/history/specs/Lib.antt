@@ -24,3 +24,5 @@ pub mod Counterexamples
 pub mod HartRuns
 pub mod RetireRuns
 pub mod Sv48Runs
+pub mod RetireRefusals
+pub mod Retirements

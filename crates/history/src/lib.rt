@@ -6,6 +6,7 @@ mod event;
 pub mod occurrences;
 mod refusal;
 mod reply;
+pub mod retirements;
 pub mod worked_runs;
 
 pub use event::{Event, Scope};

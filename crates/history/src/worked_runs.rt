@@ -19,6 +19,7 @@ ghost use Rattle.history.specs.EditRuns as edits;
 ghost use Rattle.history.specs.RefusalRuns as refusals;
 ghost use Rattle.history.specs.RetireRuns as retirements;
 ghost use Rattle.history.specs.Sv48Runs as sv48;
+ghost use Rattle.history.specs.RetireRefusals as retire_refusals;
 
 /// The setup of the worked runs of three harts is that of a configuration with these numbers.
 #[tactic(auto, using(crate::proofs::SetupFacts::three_harts_are_configured))]
@@ -208,9 +209,10 @@ pub fn at_work_while_walking()
 
 /// A space is retired once no hart is in it, and given back once each hart is collected; it is created anew, and its frames are
 /// used again.
-#[tactic(auto, using(crate::proofs::RetireRows::retired_and_created_anew))]
+#[tactic(auto, using(crate::proofs::RetireRows::retired_until_acknowledged, crate::proofs::RetireRows::retired_and_created_anew))]
 pub fn retired_and_created_anew()
-    ensures { IsRun shootdowns.spaces_of_one_home retirements.retired_and_created_anew }
+    ensures until_acknowledged { IsRun shootdowns.spaces_of_one_home retirements.retired_until_acknowledged }
+    ensures anew { IsRun shootdowns.spaces_of_one_home retirements.retired_and_created_anew }
 {}
 
 /// A new table takes the lowest frame that is unused, be it one that another space gave back.
@@ -269,4 +271,64 @@ pub fn edits_in_sv48()
 #[tactic(auto, using(crate::proofs::Sv48Rows::pages_that_do_not_fit))]
 pub fn pages_that_do_not_fit()
     ensures { IsEachDueAfter two_harts [] sv48.pages_that_do_not_fit }
+{}
+
+/// An order is for the ASID that its space had when it was opened, also once the space was created anew with another one.
+#[tactic(auto, using(crate::proofs::RetireRows::orders_keep_their_asid, crate::proofs::RetireRows::orders_of_the_new_asid))]
+pub fn orders_keep_their_asid()
+    ensures until_served { IsRun shootdowns.spaces_of_one_home retirements.orders_keep_their_asid }
+    ensures of_the_new_asid { IsRun shootdowns.spaces_of_one_home retirements.orders_of_the_new_asid }
+{}
+
+/// Giving back a space leaves the kernel's tables, and what they map.
+#[tactic(auto, using(crate::proofs::RetireRows::kernel_frames_stay))]
+pub fn kernel_frames_stay()
+    ensures { IsRun shootdowns.spaces_of_one_home retirements.kernel_frames_stay }
+{}
+
+/// The home of a space alone retires it, gives it back and creates it.
+#[tactic(auto, using(crate::proofs::RetireRows::retired_by_its_home))]
+pub fn retired_by_its_home()
+    ensures { IsRun kernel.spaces_of_two_homes retirements.retired_by_its_home }
+{}
+
+/// Refusals where all spaces are live, in order.
+#[tactic(auto, using(crate::proofs::RetireRows::while_live))]
+pub fn refused_while_live()
+    ensures { IsEachDueAfter retire_refusals.three_spaces [] retire_refusals.while_live }
+{}
+
+/// A Retire wants a free ticket, and says so last.
+#[tactic(auto, using(crate::proofs::RetireRows::no_ticket_left, crate::proofs::RetireRows::without_ticket, crate::proofs::RetireRows::retired_with_the_last_ticket, crate::proofs::RetireRows::retired_without_ticket))]
+pub fn refused_without_ticket()
+    ensures before { IsRun retire_refusals.three_spaces retire_refusals.no_ticket_left }
+    ensures live { IsEachDueAfter retire_refusals.three_spaces retire_refusals.no_ticket_left retire_refusals.without_ticket }
+    ensures before_retiring { IsRun retire_refusals.three_spaces retire_refusals.retired_with_the_last_ticket }
+    ensures retiring { IsEachDueAfter retire_refusals.three_spaces retire_refusals.retired_with_the_last_ticket retire_refusals.retired_without_ticket }
+{}
+
+/// Refusals where a space is retiring, in order; the kernel's pages and a flush of all are not refused.
+#[tactic(auto, using(crate::proofs::RetireRows::retiring, crate::proofs::RetireRows::while_retiring))]
+pub fn refused_while_retiring()
+    ensures before { IsRun retire_refusals.three_spaces retire_refusals.retiring }
+    ensures each { IsEachDueAfter retire_refusals.three_spaces retire_refusals.retiring retire_refusals.while_retiring }
+{}
+
+/// Refusals where a space is free, in order.
+#[tactic(auto, using(crate::proofs::RetireRows::free, crate::proofs::RetireRows::while_free))]
+pub fn refused_while_free()
+    ensures before { IsRun retire_refusals.three_spaces retire_refusals.free }
+    ensures each { IsEachDueAfter retire_refusals.three_spaces retire_refusals.free retire_refusals.while_free }
+{}
+
+/// A Reclaim wants each hart collected for the last retirement, be its ticket open, finished, or another order's by now.
+#[tactic(auto, using(crate::proofs::RetireRows::collected_once_more))]
+pub fn collected_for_each_retirement()
+    ensures { IsRun retire_refusals.three_spaces retire_refusals.collected_once_more }
+{}
+
+/// While a space retires its ASID is in use, and once it is free another space may be created with it.
+#[tactic(auto, using(crate::proofs::RetireRows::free_asid_to_another_space))]
+pub fn free_asid_to_another_space()
+    ensures { IsRun retire_refusals.three_spaces retire_refusals.free_asid_to_another_space }
 {}

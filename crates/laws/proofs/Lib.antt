@@ -24,3 +24,4 @@ mod Refuted
 pub mod Asids
 mod Remaining
 pub mod Walkers
+mod RetiredRefuted
