@@ -25,3 +25,7 @@ mod SetupFacts
 mod LeastFree
 mod Lawfully
 mod RetireRows
+mod TranslationRows
+mod ServiceRows
+pub mod Answering
+pub mod Leaving

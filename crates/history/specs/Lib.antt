@@ -23,3 +23,6 @@ pub mod UnlawfulRuns
 pub mod Counterexamples
 pub mod HartRuns
 pub mod RetireRuns
+pub mod TranslationRuns
+pub mod ServiceRuns
+pub mod Translations
