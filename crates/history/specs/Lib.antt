@@ -26,3 +26,4 @@ pub mod RetireRuns
 pub mod TranslationRuns
 pub mod ServiceRuns
 pub mod Translations
+pub mod Completion

@@ -24,3 +24,6 @@ mod Refuted
 mod Asids
 mod Remaining
 mod Walkers
+pub mod Completed
+mod Staying
+mod Requested
