@@ -21,9 +21,10 @@ pub mod MapsKept
 pub mod Setups
 mod PremisesMet
 mod Refuted
-mod Asids
+pub mod Asids
 mod Remaining
 mod Walkers
 pub mod Completed
 mod Staying
 mod Requested
+pub mod Walkers
