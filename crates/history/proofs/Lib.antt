@@ -32,3 +32,7 @@ pub mod Retiring
 mod Retired
 mod Statuses
 mod RetiredFacts
+mod TranslationRows
+mod ServiceRows
+pub mod Answering
+pub mod Leaving

@@ -26,3 +26,7 @@ pub mod RetireRuns
 pub mod Sv48Runs
 pub mod RetireRefusals
 pub mod Retirements
+pub mod TranslationRuns
+pub mod ServiceRuns
+pub mod Translations
+pub mod Completion

@@ -5,10 +5,16 @@ pub mod counterexamples;
 mod event;
 pub mod occurrences;
 mod refusal;
+pub mod refusal_numbers;
 mod reply;
 pub mod retirements;
+pub mod translations;
 pub mod worked_runs;
+pub mod worked_translations;
 
 pub use event::{Event, Scope};
 pub use refusal::Refusal;
 pub use reply::Reply;
+
+#[cfg(test)]
+mod tests;

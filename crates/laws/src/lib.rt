@@ -2,6 +2,7 @@
 #![tactic(auto)]
 
 pub mod counterexamples;
+pub mod done;
 mod laws;
 pub mod premises;
 

@@ -1,0 +1,99 @@
+//! Laws of what a TLB answers and keeps, one for each event that touches a TLB: exactly what Begin and Load answer, and exactly what
+//! is left of the entries. Each function does nothing, and its contract is the law.
+
+ghost use Rattle.std.specs.Prelude.{ℕ, ◌<◌, ◌≡◌, ◌∷◌, Err, None, Ok, Option, Result, Some};
+ghost use Rattle.pte.specs.Address.{IsCanonical};
+ghost use Rattle.pte.specs.declared.permission.Access.{Access};
+ghost use Rattle.pte.specs.declared.permission.Ctx.{Ctx};
+ghost use Rattle.walk.specs.declared.found_or_trap.Found.{Found};
+ghost use Rattle.walk.specs.declared.found_or_trap.Trap.{Trap as Fault};
+ghost use Rattle.walk.specs.declared.found_or_trap.Why.TheVariants.{NotCanonical};
+ghost use Rattle.walk.specs.Answer.{page_trap};
+ghost use Rattle.spaces.specs.Layout.{root_ppn};
+ghost use Rattle.tlb.specs.declared.store.Entry.{Entry};
+ghost use Rattle.tlb.specs.Answer.{answer_of, entry_of};
+ghost use Rattle.tlb.specs.Entries.{filled};
+ghost use Rattle.tlb.specs.Fence.{fenced};
+ghost use Rattle.tlb.specs.Service.{IsRequest, Served};
+ghost use Rattle.history.specs.declared.event.Event.TheVariants.{AckSelf, Begin, Fence, Load, ServeFence};
+ghost use Rattle.history.specs.declared.refusal.Refusal.TheVariants.{NotWalking};
+ghost use Rattle.history.specs.declared.reply.Reply.{Reply};
+ghost use Rattle.history.specs.declared.reply.Reply.TheVariants as reply;
+ghost use Rattle.history.specs.Setup.{Setup};
+ghost use Rattle.history.specs.Turns.{History, Turn};
+ghost use Rattle.history.specs.Runs.{with_turn};
+ghost use Rattle.history.specs.Due.{due, Lawful};
+ghost use Rattle.history.specs.Tables.{words_of};
+ghost use Rattle.history.specs.Spaces.{asid_of};
+ghost use Rattle.history.specs.Orders.{Order, open_order, order_at};
+ghost use Rattle.history.specs.Mailboxes.{Sent};
+ghost use Rattle.history.specs.Service.{served};
+ghost use Rattle.history.specs.Harts.{entries_of, space_of, walk_of, Walking};
+ghost use Rattle.history.specs.Occurrences.{IsProgress, LeadsOn};
+ghost use Rattle.history.specs.Translations.{IsFirstMatch, MayBegin, NoneMatches, TouchesTlb, WalkEnds};
+
+/// A Begin of a hart that is in no walk and serves nothing is answered as the oldest entry that matches answers the access: its
+/// physical address, or the trap that its flags raise. If none matches a walk begins. An address that is not canonical traps.
+pub fn begin_answers_as_the_first_match()
+    ensures hit { (C : Setup) (H : History) (hart va : ℕ) (access : Access) (ctx : Ctx) (e : Entry) (pa : ℕ) → MayBegin C H hart → IsCanonical C.layout.scheme va
+        → IsFirstMatch (entries_of C H hart) (asid_of C H (space_of H hart)) va e → answer_of e va access ctx ≡ Ok pa
+        → due C H (Begin hart va access ctx) ≡ reply.Hit pa }
+    ensures trap { (C : Setup) (H : History) (hart va : ℕ) (access : Access) (ctx : Ctx) (e : Entry) (trap : Fault) → MayBegin C H hart → IsCanonical C.layout.scheme va
+        → IsFirstMatch (entries_of C H hart) (asid_of C H (space_of H hart)) va e → answer_of e va access ctx ≡ Err trap
+        → due C H (Begin hart va access ctx) ≡ reply.Trap trap }
+    ensures more { (C : Setup) (H : History) (hart va : ℕ) (access : Access) (ctx : Ctx) → MayBegin C H hart → IsCanonical C.layout.scheme va
+        → NoneMatches (entries_of C H hart) (asid_of C H (space_of H hart)) va → due C H (Begin hart va access ctx) ≡ reply.More }
+    ensures not_canonical { (C : Setup) (H : History) (hart va : ℕ) (access : Access) (ctx : Ctx) → MayBegin C H hart → (¬ IsCanonical C.layout.scheme va)
+        → due C H (Begin hart va access ctx) ≡ reply.Trap (page_trap access NotCanonical) }
+{}
+
+/// A Load goes on where one more pointer leads on; else it is answered with the outcome of the access in the words of now, of
+/// every access and every size of a leaf.
+pub fn load_answers_the_outcome()
+    ensures more { (C : Setup) (H : History) (hart : ℕ) (walk : Walking) → hart < C.harts → walk_of H hart ≡ Some walk
+        → LeadsOn C.layout.scheme (words_of C H) (root_ppn C.layout (space_of H hart)) walk → due C H (Load hart) ≡ reply.More }
+    ensures found { (C : Setup) (H : History) (hart : ℕ) (walk : Walking) (found : Found) → Lawful C H → WalkEnds C H hart walk (Ok found)
+        → due C H (Load hart) ≡ reply.Filled found.pa }
+    ensures trap { (C : Setup) (H : History) (hart : ℕ) (walk : Walking) (trap : Fault) → Lawful C H → WalkEnds C H hart walk (Err trap)
+        → due C H (Load hart) ≡ reply.Trap trap }
+    ensures no_walk { (C : Setup) (H : History) (hart : ℕ) → hart < C.harts → walk_of H hart ≡ None → due C H (Load hart) ≡ reply.Refused NotWalking }
+{}
+
+/// Each Load that is answered Filled ended a walk that found a leaf.
+pub fn filled_is_of_what_was_found()
+    ensures { (C : Setup) (H : History) (hart pa : ℕ) → Lawful C (with_turn (Load hart) (reply.Filled pa) H)
+        → (walk : Walking) × (found : Found) × WalkEnds C H hart walk (Ok found) × (pa ≡ found.pa) }
+{}
+
+/// A Load that is answered Filled leaves exactly the TLB filled with the entry of what its walk found, for the ASID of the hart's
+/// space: of every access and every size of a leaf.
+pub fn load_fills_what_was_found()
+    ensures { (C : Setup) (H : History) (hart pa : ℕ) (walk : Walking) (found : Found) → Lawful C H → WalkEnds C H hart walk (Ok found)
+        → entries_of C (with_turn (Load hart) (reply.Filled pa) H) hart ≡ filled (entries_of C H hart) (entry_of (asid_of C H (space_of H hart)) found) }
+{}
+
+/// A fence leaves exactly the entries that SFENCE.VMA with its registers does not take out.
+pub fn fence_leaves_what_it_does_not_name()
+    ensures { (C : Setup) (H : History) (hart : ℕ) (rs1 rs2 : Option ℕ)
+        → entries_of C (with_turn (Fence hart rs1 rs2) reply.Ok H) hart ≡ fenced C.layout.scheme (entries_of C H hart) rs1 rs2 }
+{}
+
+/// The service of a request, of a page of the scheme, leaves exactly the entries that stay under each fence that the request
+/// stands for, in the same order.
+pub fn service_leaves_what_stays()
+    ensures { (C : Setup) (H : History) (hart : ℕ) (post : Sent) → served C H hart ≡ Some post → IsRequest C.layout.scheme post.request.what
+        → Served C.layout.scheme (entries_of C H hart) post.request.what (entries_of C (with_turn (ServeFence hart) reply.Ok H) hart) }
+{}
+
+/// A hart's acknowledgement of its own order, of a page of the scheme, leaves exactly the entries that stay under each fence that
+/// the order stands for, in the same order.
+pub fn own_acknowledgement_leaves_what_stays()
+    ensures { (C : Setup) (H : History) (hart ticket k : ℕ) (order : Order) (answer : Reply) → open_order H hart ticket ≡ Some k → order_at C H k ≡ Some order
+        → IsRequest C.layout.scheme order.what → IsProgress answer
+        → Served C.layout.scheme (entries_of C H hart) order.what (entries_of C (with_turn (AckSelf hart ticket) answer H) hart) }
+{}
+
+/// No other turn changes an entry of the hart's TLB: no other event, nothing that is refused, and no event of another hart.
+pub fn nothing_else_touches_a_tlb()
+    ensures { (C : Setup) (H : History) (hart : ℕ) (turn : Turn) → (¬ TouchesTlb hart turn) → entries_of C (turn ∷ H) hart ≡ entries_of C H hart }
+{}
