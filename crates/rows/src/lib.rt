@@ -9,4 +9,6 @@ mod page_examples;
 #[cfg(test)]
 mod run_files;
 #[cfg(test)]
+mod sv48_files;
+#[cfg(test)]
 mod walk_files;

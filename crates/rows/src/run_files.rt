@@ -54,13 +54,13 @@ impl Script {
 
 /// A file's keys, and its steps with the reply of each.
 #[derive(Drop)]
-struct Row {
-    name: &'static str,
-    keys: &'static str,
-    turns: &'static str,
+pub struct Row {
+    pub name: &'static str,
+    pub keys: &'static str,
+    pub turns: &'static str,
 }
 
-fn answers(alloc: Global, row: &Row) -> Result<bool, Fail> {
+pub fn answers(alloc: Global, row: &Row) -> Result<bool, Fail> {
     let mut script = Script::new(alloc, row.keys)?;
     script.steps(row.turns)?;
     Ok(script.answers(alloc)?)
