@@ -104,7 +104,12 @@ fn walks_in_sv39(rt: HostRuntime) -> Result<(), Fail> {
                 lines: "1 pa 0x40403abc 1G\n2 trap 13 Invalid\n",
             },
         ] {
-            assert!(rt; walks(rt.alloc(), &row)?, "{mode} {} {}", row.root, row.steps);
+            assert!(rt;
+                walks(rt.alloc(), &row)?,
+                "{mode} {} {}",
+                row.root,
+                row.steps
+            );
         }
     }
     Ok(())
