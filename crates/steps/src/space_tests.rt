@@ -2,12 +2,20 @@
 use crate::{StepFault, run_step, run_step_among};
 use history::Event;
 use pte::Scheme;
+use std::process::Abort;
 
-/// Each text writes its event, in either scheme.
+/// Each text writes its event where there are 8 harts, in either scheme.
+fn assert_steps(rt: &impl Abort, scheme: Scheme, steps: &[(&str, Event)]) {
+    for (text, event) in steps {
+        assert_eq!(rt; run_step_among(scheme, 8, text), Ok(*event), "{text}");
+        assert_eq!(rt; run_step(scheme, text), Some(*event), "{text}");
+    }
+}
+
 #[test]
 fn steps_of_spaces(rt: HostRuntime) {
     let create = |hart, space, asid| Event::Create { hart, space, asid };
-    for (text, event) in [
+    let steps = [
         ("0 retire 1", Event::Retire { hart: 0, space: 1 }),
         (
             "7\tretire 0xFF ",
@@ -28,47 +36,14 @@ fn steps_of_spaces(rt: HostRuntime) {
         ("0 create 0 0", create(0, 0, 0)),
         ("7 create 255 65535", create(7, 255, 65535)),
         ("1 create 0x1F 0xffff", create(1, 31, 65535)),
-    ] {
-        for scheme in [Scheme::Sv39, Scheme::Sv48] {
-            assert_eq!(rt; run_step_among(scheme, 8, text), Ok(event), "{text}");
-            assert_eq!(rt; run_step(scheme, text), Some(event), "{text}");
-        }
-    }
+    ];
+    assert_steps(&rt, Scheme::Sv39, &steps);
+    assert_steps(&rt, Scheme::Sv48, &steps);
 }
 
-/// A word is missing or too many, or its number is none or too large, whatever harts there are.
-#[test]
-fn texts_that_are_no_steps_of_spaces(rt: HostRuntime) {
-    for text in [
-        "0 retire",
-        "0 retire 1 2",
-        "0 retire 256",
-        "0 retire k",
-        "0 retire all",
-        "0 retire -",
-        "0 Retire 1",
-        "retire 1",
-        "retire 0 1",
-        "0 retires 1",
-        "0 reclaim",
-        "0 reclaim 1 2",
-        "0 reclaim 256",
-        "0 reclaim k",
-        "0 RECLAIM 1",
-        "reclaim 1",
-        "0 create",
-        "0 create 1",
-        "0 create 1 2 3",
-        "0 create 256 1",
-        "0 create 1 65536",
-        "0 create 1 0x10000",
-        "0 create 1 131071",
-        "0 create 1 18446744073709551616",
-        "0 create k 1",
-        "0 create 1 x0",
-        "0 create 1 -",
-        "9 create 1 65536",
-    ] {
+/// Each text writes no step, whatever harts there are.
+fn assert_no_steps(rt: &impl Abort, texts: &[&str]) {
+    for text in texts {
         for harts in [0, 2, 8, 255] {
             let step = run_step_among(Scheme::Sv39, harts, text);
             assert_eq!(rt; step, Err(StepFault::NotStep), "{text}");
@@ -78,7 +53,54 @@ fn texts_that_are_no_steps_of_spaces(rt: HostRuntime) {
 }
 
 #[test]
-fn steps_of_spaces_by_harts_that_are_not_there(rt: HostRuntime) {
+fn texts_of_no_form(rt: HostRuntime) {
+    assert_no_steps(
+        &rt,
+        &[
+            "0 retire",
+            "0 retire 1 2",
+            "0 Retire 1",
+            "0 retires 1",
+            "retire 1",
+            "retire 0 1",
+            "0 reclaim",
+            "0 reclaim 1 2",
+            "0 RECLAIM 1",
+            "reclaim 1",
+            "0 create",
+            "0 create 1",
+            "0 create 1 2 3",
+            "0 Create 1 2",
+        ],
+    );
+}
+
+#[test]
+fn words_that_do_not_fit(rt: HostRuntime) {
+    assert_no_steps(
+        &rt,
+        &[
+            "0 retire 256",
+            "0 retire k",
+            "0 retire all",
+            "0 retire -",
+            "0 reclaim 256",
+            "0 reclaim k",
+            "0 create 256 1",
+            "0 create k 1",
+            "0 create 1 65536",
+            "0 create 1 0x10000",
+            "0 create 1 131071",
+            "0 create 1 18446744073709551616",
+            "0 create 1 x0",
+            "0 create 1 -",
+            "9 create 1 65536",
+        ],
+    );
+}
+
+#[test]
+fn harts_that_are_not_there(rt: HostRuntime) {
     for text in [
         "2 retire 0",
         "2 reclaim 0",
