@@ -184,7 +184,7 @@ collected_to C (Collect hart ticket from) r H k h old e =
     ]
 collected_to C _ r H k h old e = inr e
 
-collected_stays : (C : Setup) (e : Event) (r : Reply) (H : History) (k h : ℕ) (old : Bool) → old ≡ true → collected_after C e r H k h old ≡ true
+pub collected_stays : (C : Setup) (e : Event) (r : Reply) (H : History) (k h : ℕ) (old : Bool) → old ≡ true → collected_after C e r H k h old ≡ true
 collected_stays C (AckSelf hart ticket) r H k h old e = old_or _ old e
 collected_stays C (Collect hart ticket from) r H k h old e = old_or _ old e
 collected_stays C _ r H k h old e = e

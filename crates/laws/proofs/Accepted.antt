@@ -1,12 +1,14 @@
 -- What an event that was accepted found.
 use Rattle.std.proofs.Common.{◌≡◌, ℕ, zero, suc, ◌+◌, ◌<◌, Bool, true, false, cond, ◌&&◌, not, List, [], ◌∷◌, Option, Some, None, refl, ap, sym, ◌∙◌, arith, eqb, length}
 use Rattle.std.specs.Prelude.{is_none, Result, Ok, Err}
-use Rattle.std.proofs.lemmas.Bool.{not-false, not-true, false≢true, ltb-true, leb-false, eq-eqb, and_parts}
+use Rattle.std.proofs.lemmas.Bool.{not-false, not-true, false≢true, ltb-true, leb-false, eqb-true, eq-eqb, and_parts}
 use Rattle.pte.specs.Address.{Span}
 use Rattle.pte.specs.declared.flags.PteFlags.{PteFlags}
 use Rattle.pte.specs.declared.permission.Access.{Access}
 use Rattle.pte.specs.declared.permission.Ctx.{Ctx}
 use Rattle.spaces.specs.declared.places.Place.{Place}
+use Rattle.spaces.specs.declared.places.Place.TheVariants.{Space}
+use Rattle.spaces.specs.Layout.{home_of}
 use Rattle.spaces.specs.declared.faults.MapFault.{MapFault}
 use Rattle.spaces.specs.declared.wishes.Wish.{Wish}
 use Rattle.spaces.specs.declared.wishes.Wish.TheVariants as wish
@@ -140,6 +142,7 @@ flush_found C H hart scope named ticket r d t =
 -- a Retire: a live space that no hart is in
 pub record RetireFound (C : Setup) (H : History) (hart space ticket : ℕ) : Type 0 where
   pub there : is_space C H space ≡ true
+  pub home : hart ≡ home_of C.layout (Space space)
   pub live : is_retiring (status_of H space) ≡ false
   pub unused : is_in_use C H space ≡ false
   pub opening : OpeningFound H hart (harts_where (is_hart C)) ticket
@@ -155,6 +158,7 @@ retire_found C H hart space ticket r d t =
     let f = free_from H hart MAX_TICKETS 0 ticket (opened_is_some (least_free H hart MAX_TICKETS 0) ticket r u.1 t) in
     record {
       there = not-false (is_space C H space) q.0;
+      home = eqb-true hart (home_of C.layout (Space space)) (not-false (eqb hart (home_of C.layout (Space space))) n.0);
       live = v.0;
       unused = u.0;
       opening = record {

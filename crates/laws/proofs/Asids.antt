@@ -11,6 +11,8 @@ use Rattle.shoot.proofs.HartSets.{contains_where}
 use Rattle.tlb.specs.declared.store.Entry.{Entry}
 use Rattle.tlb.specs.Fence.{asid_bits}
 use Rattle.tlb.specs.Service.{is_served}
+use Rattle.spaces.specs.declared.places.Place.TheVariants.{Space}
+use Rattle.spaces.specs.Layout.{home_of}
 use Rattle.history.specs.Setup.{Setup, is_hart}
 use Rattle.history.specs.Spaces.{Status, Live, Retires, Free, status_of, is_free, is_retiring, asid_of, asid_after}
 use Rattle.history.specs.declared.event.Event.{Event}
@@ -182,6 +184,7 @@ module _ (C : Setup) where
     pub record IsRetirement (H : History) (s k : ℕ) : Type 0 where
       pub order : Order
       pub is : order_at C H k ≡ Some order
+      pub sender : order.sender ≡ home_of C.layout (Space s)
       pub what : order.what ≡ SpaceOf (asid_of C H s)
       pub named : order.named ≡ harts_where (is_hart C)
 
@@ -189,14 +192,17 @@ module _ (C : Setup) where
     retirement_later turn H s k l same o = record {
       order = o.order;
       is = order_stays C turn H k (known C H k o.order l o.is).below ∙ o.is;
+      sender = o.sender;
       what = o.what ∙ ap SpaceOf (sym same);
       named = o.named;
     }
 
-    retired_now : (hart space ticket : ℕ) (r : Reply) (H : History) (s k : ℕ) → opened_ticket r ≡ Some ticket → space ≡ s → length H ≡ k → IsRetirement (turn_of (Retire hart space) r ∷ H) s k
-    retired_now hart space ticket r H s k t same at = record {
+    retired_now : (hart space ticket : ℕ) (r : Reply) (H : History) (s k : ℕ) → opened_ticket r ≡ Some ticket → hart ≡ home_of C.layout (Space space) → space ≡ s → length H ≡ k
+        → IsRetirement (turn_of (Retire hart space) r ∷ H) s k
+    retired_now hart space ticket r H s k t home same at = record {
       order = record { sender = hart; ticket = ticket; named = harts_where (is_hart C); what = SpaceOf (asid_of C H space); cause = Flushed };
       is = rw (t, eq-eqb (length H) k at) refl;
+      sender = home ∙ ap (λ x. home_of C.layout (Space x)) same;
       what = ap (λ x. SpaceOf (asid_of C H x)) same;
       named = refl;
     }
@@ -208,7 +214,7 @@ module _ (C : Setup) where
         (λ z q. let p = and_parts (is_opened r) (eqb space s) z in
         let t = opened_some r p.0 in
         let at : length H ≡ k = cc in
-        retired_now hart space t.0 r H s k t.1 (eqb-true space s p.1) at)
+        retired_now hart space t.0 r H s k t.1 (retire_found C H hart space t.0 r d t.1).home (eqb-true space s p.1) at)
         (λ _ q. retirement_later (turn_of (Retire hart space) r) H s k l refl (old k q)) e
     retired_step (Reclaim hart space) r H s k d l old e =
         by_test (λ v. cond v Free (status_of H s) ≡ Retires k → IsRetirement (turn_of (Reclaim hart space) r ∷ H) s k) (is_ok r && eqb space s)

@@ -21,6 +21,6 @@ pub mod MapsKept
 pub mod Setups
 mod PremisesMet
 mod Refuted
-mod Asids
+pub mod Asids
 mod Remaining
-mod Walkers
+pub mod Walkers

@@ -1,18 +1,18 @@
 -- Giving back the frames of a space keeps the tree, and takes away what the space's user half maps.
 use Rattle.std.proofs.Common.{◌≡◌, ℕ, zero, suc, ◌+◌, ◌-◌, ◌*◌, ◌/◌, ◌<◌, ◌≤◌, ◌⊎◌, Bool, true, false, cond, Option, Some, None, length, ap, sym, ◌∙◌, subst, refl, inl, inr, arith, IsSome, eqb, ltb}
 use Rattle.std.specs.Prelude.{slice_index, ◌&&◌, ◌||◌}
-use Rattle.std.proofs.lemmas.Bool.{cases_Bool, cases_eq, or_cases, and_parts, eqb-true, eq-eqb, ltb-true, lt-ltb, false≢true, true≢false}
+use Rattle.std.proofs.lemmas.Bool.{cases_Bool, cases_eq, cases_lt, or_cases, and_parts, eqb-true, eq-eqb, ltb-true, lt-ltb, false≢true, true≢false}
 use Rattle.pte.specs.declared.flags.PteFlags.{PteFlags}
 use Rattle.pte.specs.declared.entry.Kind.TheVariants as kinds
 use Rattle.pte.specs.Address.{level_bytes, top_level, vpn_of}
 use Rattle.pte.specs.Entry.{kind_of, is_global}
 use Rattle.walk.specs.Leads.{Tables, word_at}
 use Rattle.walk.specs.Maps.{Maps}
-use Rattle.walk.specs.Pointers.{pointed}
+use Rattle.walk.specs.Pointers.{pointed, table_below}
 use Rattle.walk.proofs.Pages.{same_vpn}
 use Rattle.spaces.specs.declared.places.Place.{Place}
 use Rattle.spaces.specs.declared.places.Place.TheVariants.{Space, Kernel}
-use Rattle.spaces.specs.Layout.{Layout, HasPlace, home_of, is_root, root_ppn, spare_ppn, user_slots}
+use Rattle.spaces.specs.Layout.{Layout, HasPlace, home_of, is_root, root_ppn, spare_ppn, user_slots, first_window_slot}
 use Rattle.spaces.specs.Held.{IsLayout}
 use Rattle.spaces.specs.Holders.{Holders, is_held_for, is_word_of, zero_word, emptied, given_back}
 use Rattle.spaces.specs.Tree.{start_level, start_table, IsIn, table_on, IsAtHome, of_root, of_spare, IsSpareFor, IsTableOf, IsOwn, IsStep, IsEntryOf, IsHome, IsTree}
@@ -20,8 +20,9 @@ use Rattle.spaces.specs.Effects.{EmptiesSpace, IsOfUser, HangsBelow}
 use Rattle.spaces.proofs.Homes.{home-unique, place-unique}
 use Rattle.spaces.proofs.Paths.{above, below, on, On, of-place, some-same}
 use Rattle.spaces.proofs.Trees.{home-same, kind-zero, pointed-zero, is_global-zero, root-is}
-use Rattle.spaces.proofs.Accepting.{home-there}
-use Rattle.spaces.proofs.Leaves.{leaf-carried, member-of, maps-of, moved}
+use Rattle.spaces.proofs.Accepting.{home-there, window-points}
+use Rattle.spaces.proofs.EndPaths.{table_below-front}
+use Rattle.spaces.proofs.Leaves.{leaf-carried, member-of, maps-of, moved, path-none, root-home}
 use Rattle.spaces.proofs.Numbers.{number-part}
 
 -- a word that was emptied
@@ -259,6 +260,33 @@ module _ (l : Layout) (fits : IsLayout l) (words : Tables) (holders : Holders) (
         let nothing : entry ≡ 0 = zero-is (words t (vpn_of va level)) entry (sym (new-own t _ mine) ∙ word) in
         let bad : kinds.Leaf leaf flags ≡ kinds.Invalid = sym kind ∙ ap kind_of nothing ∙ kind-zero in
         cc
+
+  -- each table on a path from the root of another space keeps its words
+  upper-kept : (t va n f : ℕ) → t < length l.homes → user_slots ≤ vpn_of va (top_level l.scheme) → table_below words va (top_level l.scheme) (root_ppn l t) n ≡ Some f
+      → word_at new va (top_level l.scheme - n) f ≡ word_at words va (top_level l.scheme - n) f
+  upper-kept t va zero f has upper e =
+      let level : top_level l.scheme ≡ top_level l.scheme - 0 = omega arith in
+      let high : user_slots ≤ vpn_of va (top_level l.scheme - 0) = subst (λ k. user_slots ≤ vpn_of va k) level upper in
+      subst (λ g. word_at new va (top_level l.scheme - 0) g ≡ word_at words va (top_level l.scheme - 0) g) (some-same (root_ppn l t) f e)
+      (new-other (root_ppn l t) _ (upper-other t (vpn_of va (top_level l.scheme - 0)) has high))
+  upper-kept t va (suc n) f has upper e = elim (cases_lt (vpn_of va (top_level l.scheme)) (first_window_slot l)) [
+    | inl outside ↦
+        let zero-word : word_at words va (top_level l.scheme) (root_ppn l t) ≡ Some 0 = (root-home l fits words holders tree t has).upper t (vpn_of va (top_level l.scheme)) has refl upper outside in
+        let depth = path-none l.scheme words (root_ppn l t) va (suc n) f (ap pointed zero-word ∙ pointed-zero) e in
+        absurd (omega (arith, depth))
+    | inr inside ↦
+        let on-kernel : table_on l words Kernel va n ≡ Some f =
+        sym (table_below-front words va (top_level l.scheme) (root_ppn l t) (start_table l Kernel va) n (window-points l fits words holders tree t va has inside)) ∙ e
+        in
+        kept-word Kernel va tt inside n f (vpn_of va (top_level l.scheme - suc n)) (λ is. let bad : Kernel ≡ Space s = is in cc) on-kernel
+  ]
+
+  pub kept-below : (t va n f : ℕ) → t < length l.homes → (t ≡ s → ⊥) → table_below words va (top_level l.scheme) (root_ppn l t) n ≡ Some f
+      → word_at (emptied l holders s words) va (top_level l.scheme - n) f ≡ word_at words va (top_level l.scheme - n) f
+  kept-below t va n f has apart e = elim (cases_lt (vpn_of va (top_level l.scheme)) user_slots) [
+    | inl user ↦ kept-word (Space t) va has user n f (vpn_of va (top_level l.scheme - n)) (λ is. apart (let same : t ≡ s = cc in same)) e
+    | inr upper ↦ upper-kept t va n f has upper e
+  ]
 
   -- the slot of a number is that of its addresses
   slot-of : (va number : ℕ) → va / level_bytes 0 ≡ number → vpn_of va (top_level l.scheme) ≡ vpn_of (number * 4096) (top_level l.scheme)

@@ -51,6 +51,7 @@ use Rattle.stepcore.proofs.Placed.{hart_placed}
 use Rattle.stepcore.proofs.TicketsHeld.{what_told}
 use Rattle.stepcore.proofs.HartReplies.{load_makes, words_same, layout_same, asid_same}
 use Rattle.stepcore.proofs.PointersKept.{same_walk_kept, pointers_kept}
+use Rattle.stepcore.proofs.ReclaimKept.{walk_kept}
 
 -- a hart by the parts that a history leaves of it
 record HartIs (words : Tables) (layout : Layout) (space : ℕ) (walk : Option Walking) (serving : Option Service) (entries : List Entry) (hart : HartState) : Type 0 where
@@ -319,7 +320,15 @@ module _ (C : Setup) (m : State) (H : History) (st : Stands C m H) where
   harts_stand (ServeFence hart) r d h below = serve_fence_after hart r d h below
   harts_stand (Ack hart) r d h below = ack_after hart r h below
   harts_stand (AckSelf hart ticket) r d h below = ack_self_after hart ticket r h below
-  harts_stand (Reclaim hart space) r d h below = ?
+  harts_stand (Reclaim hart space) r d h below =
+      let old = st.harts h below in
+      record {
+        space = old.space;
+        walk = walk_kept C st.within H hart space r h (hart_at m h).walk (walk_of H h) st.lawful st.pages d below old.walk;
+        serving = old.serving;
+        scheme = old.scheme;
+        entries = old.entries;
+      }
   harts_stand event r d h below =
       let old = st.harts h below in
       record {

@@ -1,5 +1,13 @@
 -- Runs, one answered event at a time, and what holds of a machine that stands at a history.
-use Rattle.std.proofs.Common.{◌≡◌, ℕ, ◌<◌, ◌≤◌, List, [], ◌∷◌, ◌++◌, length, Some, slice_get, refl, ap, sym, ◌∙◌, subst, arith}
+use Rattle.std.proofs.Common.{◌≡◌, ℕ, ◌+◌, ◌-◌, ◌<◌, ◌≤◌, List, [], ◌∷◌, ◌++◌, length, Option, None, Some, slice_get, refl, ap, sym, ◌∙◌, subst, arith}
+use Rattle.std.specs.Prelude.{slice_index}
+use Rattle.pte.specs.declared.scheme.Scheme.{Scheme}
+use Rattle.pte.specs.Address.{top_level}
+use Rattle.walk.specs.Leads.{Tables}
+use Rattle.walk.specs.Pointers.{table_after}
+use Rattle.walk.specs.Stage.{Stage}
+use Rattle.walk.proofs.Downward.{leads_by_pointers}
+use Rattle.spaces.specs.Layout.{root_ppn, spare_ppn}
 use Rattle.std.proofs.lemmas.List.{drop_all, drop-append-le}
 use Rattle.tlb.specs.declared.store.Entry.{Entry}
 use Rattle.shoot.specs.Mailbox.{MailboxState}
@@ -9,13 +17,18 @@ use Rattle.history.specs.declared.reply.Reply.{Reply}
 use Rattle.history.specs.Turns.{History}
 use Rattle.history.specs.Mailboxes.{accepted, taken, NoneAfterClose}
 use Rattle.history.specs.Runs.{with_turn}
-use Rattle.history.specs.Staleness.{Clear, Coherent}
+use Rattle.history.specs.Staleness.{Clear, Coherent, HoldsUsedAsids}
+use Rattle.history.specs.Spaces.{Live, status_of, holder_of}
+use Rattle.history.specs.Tables.{words_of}
+use Rattle.history.specs.Harts.{Walking, space_of, walk_of}
 use Rattle.history.proofs.Mailboxes as mailboxes
+use Rattle.laws.proofs.Asids.{holds_used, live_hart}
 use Rattle.laws.proofs.Clearing.{clear}
 use Rattle.laws.proofs.Cohering.{coherent}
 use Rattle.laws.proofs.MapsKept.{stays_mapped, stays_unmapped, user_plain, window_shared}
-use Rattle.stepcore.specs.State.{State}
-use Rattle.stepcore.specs.Stands.{Stands}
+use Rattle.laws.proofs.Walkers.{walks_used}
+use Rattle.stepcore.specs.State.{State, hart_at}
+use Rattle.stepcore.specs.Stands.{AreSameWalk, Stands}
 use Rattle.stepcore.specs.Runs.{with_turns, appended, waiting_in, entries_in}
 
 -- no reply, no turn; and one answered event more
@@ -48,6 +61,17 @@ pub run_more : (events : List Event) (old now : List Reply) (event : Event) (r :
 run_more events old now event r H l e =
     ap (λ (replies : List Reply). with_turns events replies H) (appended_more old now r l) ∙ turns_more events (appended old now) event r H e
 
+-- the walk of a hart has come to the table that as many pointers lead to
+walk_told : (scheme : Scheme) (words : Tables) (root : ℕ) (stage : Option Stage) (walk : Option Walking) (at : Stage) → AreSameWalk scheme words root stage walk → stage ≡ Some at
+    → (w : Walking) × (walk ≡ Some w) × (table_after scheme words root w.va w.loads ≡ Some at.table)
+walk_told scheme words root None walk at same is = absurd (cc (is))
+walk_told scheme words root (Some stage) None at same is = absurd same
+walk_told scheme words root (Some stage) (Some w) at same is =
+    let leads = (leads_by_pointers scheme words root stage.va stage.level stage.table _).0 same.on.leads in
+    let loads : top_level scheme - stage.level ≡ w.loads = omega (arith, same.level) in
+    let table : stage.table ≡ at.table = cc (is) in
+    (w, refl, ap (λ va. table_after scheme words root va w.loads) (sym same.va) ∙ ap (table_after scheme words root stage.va) (sym loads) ∙ leads.1 ∙ ap Some table)
+
 module _ (C : Setup) (m : State) (H : History) (st : Stands C m H) where
   -- each mailbox keeps its order: what was accepted is what was taken, followed by what waits in the machine
   pub mailbox_order : (s h : ℕ) → s < C.harts → h < C.harts → accepted C H s h ≡ taken H s h ++ waiting_in m s h
@@ -68,3 +92,16 @@ module _ (C : Setup) (m : State) (H : History) (st : Stands C m H) where
   entries_coherent k h l =
       subst (λ (entries : List Entry). Coherent C H entries k h) (sym (st.harts h l).entries)
       (coherent C st.within (user_plain C st.within) (stays_mapped C st.within) (window_shared C st.within) H k h st.lawful st.pages)
+
+  -- nor do they hold what is of an ASID that no space has; harts are in live spaces, and walks at frames in use
+  pub used_asids : (h : ℕ) → h < C.harts → HoldsUsedAsids C H (entries_in m h)
+  used_asids h l = subst (λ (entries : List Entry). HoldsUsedAsids C H entries) (sym (st.harts h l).entries) (holds_used C st.within H h st.lawful st.pages)
+
+  pub live_spaces : (h : ℕ) → h < C.harts → status_of H (hart_at m h).space ≡ Live
+  live_spaces h l = ap (status_of H) (st.harts h l).space ∙ live_hart C st.within H h st.lawful l
+
+  pub used_frames : (h : ℕ) (walk : Stage) (hart n : ℕ) → h < C.harts → (hart_at m h).walk ≡ Some walk
+      → n < slice_index C.layout.spares hart → holder_of H (spare_ppn C.layout hart + n) ≡ None → walk.table ≡ spare_ppn C.layout hart + n → ⊥
+  used_frames h walk hart n l walks less unused at =
+      let told = walk_told C.layout.scheme (words_of C H) (root_ppn C.layout (space_of H h)) (hart_at m h).walk (walk_of H h) walk (st.harts h l).walk walks in
+      (walks_used C st.within H h st.lawful st.pages told.0 told.1).1 hart n (spare_ppn C.layout hart + n) less refl unused (told.2 ∙ ap Some at)

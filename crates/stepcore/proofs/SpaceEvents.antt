@@ -1,30 +1,36 @@
 -- What a machine that stands at a history answers to the retirement, the reclaim and the creation of a space is what is due.
-use Rattle.std.proofs.Common.{◌≡◌, ℕ, ◌<◌, Bool, true, not, length, refl, ap, ◌∙◌, eqb}
+use Rattle.std.proofs.Common.{◌≡◌, ℕ, ◌<◌, Bool, true, cond, not, length, Option, Some, None, refl, ap, sym, subst, ◌∙◌, eqb}
 use Rattle.std.proofs.lemmas.Bool.{eqb-true}
 use Rattle.spaces.specs.declared.places.Place.TheVariants.{Space}
 use Rattle.spaces.specs.Layout.{Layout, home_of}
 use Rattle.shoot.specs.Tickets.{TicketTable}
 use Rattle.history.specs.Spaces.{Status, Live, Retires, Free, status_of}
-use Rattle.history.specs.declared.refusal.Refusal.TheVariants.{NotHome, Retiring, InUse, HomeNotNamed, NotFree, AsidInUse}
+use Rattle.history.specs.declared.refusal.Refusal.TheVariants.{NotHome, Retiring, InUse, HomeNotNamed, NotAcked, NotFree, AsidInUse}
 use Rattle.history.specs.declared.reply.Reply.{Reply}
 use Rattle.history.specs.declared.reply.Reply.TheVariants as reply
 use Rattle.laws.proofs.Tools.{by_test}
+use Rattle.laws.proofs.Asids.{retirement}
+use Rattle.laws.proofs.Posts.{order_is}
 use Rattle.stepcore.proofs.Tools.{hart_there}
 use Rattle.stepcore.proofs.SpaceReplies.{free_same, number_there, retiring_same, space_there}
 use Rattle.stepcore.proofs.HartReplies.{layout_same}
 use Rattle.history.specs.Setup.{Setup}
 use Rattle.history.specs.Turns.{History}
 use Rattle.history.specs.declared.event.Event.TheVariants.{Retire, Reclaim, Create}
-use Rattle.history.specs.Due.{refuse, reclaim_reply, least_free, opened_reply, due}
+use Rattle.history.specs.Orders.{Order, open_order, is_order}
+use Rattle.history.specs.Due.{refuse, reclaim_reply, is_done, least_free, opened_reply, due}
 use Rattle.history.specs.Due as due_tests
 use Rattle.history.specs.Spaces as spaces
 use Rattle.shoot.specs.declared.TheConstants.{MAX_TICKETS}
+use Rattle.stepcore.proofs.Closing.{closed_done}
 use Rattle.stepcore.proofs.EveryHart.{own_named}
 use Rattle.stepcore.proofs.SpacesFound.{in_use_same, asid_used_same}
 use Rattle.stepcore.proofs.TicketReplies.{open_due}
+use Rattle.stepcore.proofs.TicketsHeld.{done_told}
 use Rattle.stepcore.specs.State.{State, IsMachine, space_at, tickets_at}
 use Rattle.stepcore.specs.Answers.{every_hart, is_asid_used, is_free, is_in_use, is_retiring, open_in, reclaim_answer, reply_to}
-use Rattle.stepcore.specs.Stands.{phase_with, tickets_of, Stands}
+use Rattle.stepcore.specs.declared.space_state.Phase.TheVariants as phase
+use Rattle.stepcore.specs.Stands.{ticket_now, phase_with, tickets_of, Stands}
 
 home_refused : (test : Bool) (r q : Reply) → (test ≡ true → r ≡ q) → refuse (not test) NotHome r ≡ refuse (not test) NotHome q
 home_refused test r q f = by_test (λ v. refuse (not v) NotHome r ≡ refuse (not v) NotHome q) test f (λ _. refl)
@@ -44,7 +50,15 @@ module _ (C : Setup) (m : State) (H : History) (st : Stands C m H) where
   reclaim_with : (hart space : ℕ) → hart ≡ home_of C.layout (Space space) → (status : Status) → status_of H space ≡ status
       → reclaim_answer (tickets_of C H hart) (phase_with C H status) ≡ reclaim_reply C H status
   reclaim_with hart space home Live e = refl
-  reclaim_with hart space home (Retires k) e = ?
+  reclaim_with hart space home (Retires k) e =
+      let o = retirement C st.within H space k st.lawful e in
+      let own : o.order.sender ≡ hart = o.sender ∙ sym home in
+      let opened = open_order H o.order.sender o.order.ticket in
+      ap (λ (x : Option Order). reclaim_answer (tickets_of C H hart) (phase.Retiring (ticket_now H k x))) o.is
+      ∙ by_test (λ v. reclaim_answer (tickets_of C H hart) (phase.Retiring (cond v (Some o.order.ticket) None)) ≡ refuse (not (is_done C H k)) NotAcked reply.Ok) (is_order opened k)
+      (λ t. let here : open_order H hart o.order.ticket ≡ Some k = subst (λ x. open_order H x o.order.ticket ≡ Some k) own (order_is opened k t) in
+      ap (λ v. refuse (not v) NotAcked reply.Ok) (done_told C H hart o.order.ticket k st.lawful here))
+      (λ closed. sym (ap (λ v. refuse (not v) NotAcked reply.Ok) (closed_done C H k o.order st.lawful o.is closed)))
   reclaim_with hart space home Free e = refl
 
   pub reclaim_due : (hart space : ℕ) → reply_to m (Reclaim hart space) ≡ due C H (Reclaim hart space)

@@ -1,5 +1,7 @@
 -- What a run of events appends to a history, and what a machine shows of its mailboxes and TLBs.
-use Rattle.std.specs.Prelude.{ℕ, ◌<◌, List, [], ◌∷◌, drop, length}
+use Rattle.std.specs.Prelude.{ℕ, ◌≡◌, ◌≢◌, ◌+◌, ◌<◌, List, [], ◌∷◌, drop, length, None, Some, slice_index}
+use Rattle.walk.specs.Stage.{Stage}
+use Rattle.spaces.specs.Layout.{spare_ppn}
 use Rattle.tlb.specs.declared.store.Entry.{Entry}
 use Rattle.shoot.specs.Request.{Message}
 use Rattle.history.specs.declared.event.Event.{Event}
@@ -7,7 +9,8 @@ use Rattle.history.specs.declared.reply.Reply.{Reply}
 use Rattle.history.specs.Setup.{Setup}
 use Rattle.history.specs.Turns.{History}
 use Rattle.history.specs.Mailboxes.{KeepsOrder, NoneAfterClose}
-use Rattle.history.specs.Staleness.{Clear, Coherent}
+use Rattle.history.specs.Spaces.{Live, status_of, holder_of}
+use Rattle.history.specs.Staleness.{Clear, Coherent, HoldsUsedAsids}
 use Rattle.history.specs.Runs.{with_turn}
 use Rattle.stepcore.specs.State.{State, hart_at, mailbox_at}
 
@@ -47,3 +50,17 @@ IsClear C H m = (k h : ℕ) → h < C.harts → Clear C H (entries_in m h) k h
 -- and what such a hart holds of a page that was unmapped or protected is mapped, until the page is unmapped or protected once more
 abbrev pub IsCoherent : Setup → History → State → Type 0
 IsCoherent C H m = (k h : ℕ) → h < C.harts → Coherent C H (entries_in m h) k h
+
+-- no TLB holds an entry, unless it is global, of an ASID that no live or retiring space has
+abbrev pub HoldUsedAsids : Setup → History → State → Type 0
+HoldUsedAsids C H m = (h : ℕ) → h < C.harts → HoldsUsedAsids C H (entries_in m h)
+
+-- each hart is in a live space: so no walk is of an ASID that no live or retiring space has
+abbrev pub AreInLiveSpaces : Setup → History → State → Type 0
+AreInLiveSpaces C H m = (h : ℕ) → h < C.harts → status_of H (hart_at m h).space ≡ Live
+
+-- no walk in flight has come to a spare frame that is in use for no place
+abbrev pub WalkUsedFrames : Setup → History → State → Type 0
+WalkUsedFrames C H m =
+    (h : ℕ) (walk : Stage) (hart n : ℕ) → h < C.harts → (hart_at m h).walk ≡ Some walk
+    → n < slice_index C.layout.spares hart → holder_of H (spare_ppn C.layout hart + n) ≡ None → walk.table ≢ spare_ppn C.layout hart + n

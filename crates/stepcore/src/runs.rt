@@ -6,7 +6,7 @@ ghost use Rattle.history.specs.Turns.{History};
 ghost use Rattle.history.specs.Runs.{with_turn};
 ghost use Rattle.history.specs.Due.{due};
 ghost use Rattle.stepcore.specs.Changes.{is_accepted};
-ghost use Rattle.stepcore.specs.Runs.{after_run, appended, IsClear, IsCoherent, MailboxesKeepOrder, NothingAfterCloses};
+ghost use Rattle.stepcore.specs.Runs.{after_run, appended, AreInLiveSpaces, HoldUsedAsids, IsClear, IsCoherent, MailboxesKeepOrder, NothingAfterCloses, WalkUsedFrames};
 ghost use Rattle.stepcore.specs.Stands.{Stands};
 
 use crate::machine::Machine;
@@ -15,7 +15,9 @@ use std::alloc::AllocError;
 
 impl Machine {
     /// Does one event of one hart, or refuses it. It takes no memory. The reply is the one that is due, and a refusal changes
-    /// nothing. For every history at which the machine stood, it stands at that history with this turn.
+    /// nothing. For every history at which the machine stood, it stands at that history with this turn. No TLB holds an entry,
+    /// unless it is global, of an ASID that no live or retiring space has; each hart, so each walk, is in a live space; and no
+    /// walk has come to an unused table frame.
     pub fn step(&mut self, event: Event) -> Reply
         ensures stands { (C : Setup) (H : History) → Stands C self.old H → Stands C self.new (with_turn event result H) }
         ensures due { (C : Setup) (H : History) → Stands C self.old H → result ≡ due C H event }
@@ -24,6 +26,9 @@ impl Machine {
         ensures closed { (C : Setup) (H : History) → Stands C self.old H → NothingAfterCloses C (with_turn event result H) }
         ensures clear { (C : Setup) (H : History) → Stands C self.old H → IsClear C (with_turn event result H) self.new }
         ensures coherent { (C : Setup) (H : History) → Stands C self.old H → IsCoherent C (with_turn event result H) self.new }
+        ensures asids { (C : Setup) (H : History) → Stands C self.old H → HoldUsedAsids C (with_turn event result H) self.new }
+        ensures spaces { (C : Setup) (H : History) → Stands C self.old H → AreInLiveSpaces C (with_turn event result H) self.new }
+        ensures frames { (C : Setup) (H : History) → Stands C self.old H → WalkUsedFrames C (with_turn event result H) self.new }
     {
         // A machine tells here what every machine keeps.
         let _memory = &self.memory;
@@ -41,6 +46,9 @@ impl Machine {
         ensures closed { (C : Setup) (H : History) → Stands C self.old H → NothingAfterCloses C (after_run events.now replies.old.items replies.new.items H) }
         ensures clear { (C : Setup) (H : History) → Stands C self.old H → IsClear C (after_run events.now replies.old.items replies.new.items H) self.new }
         ensures coherent { (C : Setup) (H : History) → Stands C self.old H → IsCoherent C (after_run events.now replies.old.items replies.new.items H) self.new }
+        ensures asids { (C : Setup) (H : History) → Stands C self.old H → HoldUsedAsids C (after_run events.now replies.old.items replies.new.items H) self.new }
+        ensures spaces { (C : Setup) (H : History) → Stands C self.old H → AreInLiveSpaces C (after_run events.now replies.old.items replies.new.items H) self.new }
+        ensures frames { (C : Setup) (H : History) → Stands C self.old H → WalkUsedFrames C (after_run events.now replies.old.items replies.new.items H) self.new }
     {
         for event in events {
             replies.reserve(1)?;

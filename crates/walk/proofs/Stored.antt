@@ -138,31 +138,34 @@ module _ (scheme : Scheme) (old new : Tables) (root page ppn table index : ℕ) 
 pub AgreeBut-turned : (old new : Tables) (table index : ℕ) → AgreeBut old new table index → AgreeBut new old table index
 AgreeBut-turned old new table index but = record { elsewhere = λ t n apart. sym (but.elsewhere t n apart) }
 
-module _ (scheme : Scheme) (old new : Tables) (root va : ℕ) (keeps : KeepsPointers old new) where
-  agree-above : (i t : ℕ) (w : Option ℕ) → (path : Leads scheme old root va i t w) → Agree scheme old new root va path.tables (i + 1)
-  agree-above i t w path j above below = keeps.kept (path.tables j) (vpn_of va j) (path.tables (j - 1)) (path.pointers j (omega arith) below)
+module _ (scheme : Scheme) (old new : Tables) (root va i t : ℕ) (w : Option ℕ) (path : Leads scheme old root va i t w) (agree : Agree scheme old new root va path.tables (i + 1)) where
+  -- where the words above a level agree, the same table leads there
+  leads_agreed : Leads scheme new root va i t (word_at new va i t)
+  leads_agreed = subst (λ n. Leads scheme new root va i n (word_at new va i n)) path.last (leads-carried scheme old new root va i i t w (omega arith) path.level path agree)
 
-  -- where pointers stay, the same tables lead
-  pub leads_kept : (i t : ℕ) (w : Option ℕ) → Leads scheme old root va i t w → Leads scheme new root va i t (word_at new va i t)
-  leads_kept i t w path = subst (λ n. Leads scheme new root va i n (word_at new va i n)) path.last (leads-carried scheme old new root va i i t w (omega arith) path.level path (agree-above i t w path))
-
-  pub global_kept : (i t : ℕ) (w : Option ℕ) → Leads scheme old root va i t w → IsGlobalAt scheme old root va (i + 1) ↔ IsGlobalAt scheme new root va (i + 1)
+  -- and G stands above it in both memories
+  global_agreed : IsGlobalAt scheme old root va (i + 1) ↔ IsGlobalAt scheme new root va (i + 1)
   unfolding leads-carried
-  global_kept i t w path = (
-    global-carried scheme old new root va i (i + 1) t w (omega arith) path (agree-above i t w path),
-    global-carried scheme new old root va i (i + 1) (path.tables i) _ (omega arith) (leads-carried scheme old new root va i i t w (omega arith) path.level path (agree-above i t w path))
-        (λ j above below. sym (agree-above i t w path j above below)),
+  global_agreed = (
+    global-carried scheme old new root va i (i + 1) t w (omega arith) path agree,
+    global-carried scheme new old root va i (i + 1) (path.tables i) _ (omega arith) (leads-carried scheme old new root va i i t w (omega arith) path.level path agree) (λ j above below. sym (agree j above below)),
   )
 
--- and a walk stays on its path
-pub on_path_kept : (scheme : Scheme) (old new : Tables) (root : ℕ) (s : Stage) → KeepsPointers old new → OnPath scheme old root s → OnPath scheme new root s
-on_path_kept scheme old new root s keeps on =
-    let same = global_kept scheme old new root s.va keeps s.level s.table _ on.leads in
+-- a walk stays on its path where the words above its table stay
+pub on_path_agreed : (scheme : Scheme) (old new : Tables) (root : ℕ) (s : Stage) (on : OnPath scheme old root s) → Agree scheme old new root s.va on.leads.tables (s.level + 1) → OnPath scheme new root s
+on_path_agreed scheme old new root s on agree =
+    let same = global_agreed scheme old new root s.va s.level s.table (word_at old s.va s.level s.table) on.leads agree in
     record {
       canonical = on.canonical;
-      leads = leads_kept scheme old new root s.va keeps s.level s.table _ on.leads;
+      leads = leads_agreed scheme old new root s.va s.level s.table (word_at old s.va s.level s.table) on.leads agree;
       global = ((λ h. same.0 (on.global.0 h)), (λ g. on.global.1 (same.1 g)));
     }
+
+-- and so where pointers stay
+pub on_path_kept : (scheme : Scheme) (old new : Tables) (root : ℕ) (s : Stage) → KeepsPointers old new → OnPath scheme old root s → OnPath scheme new root s
+on_path_kept scheme old new root s keeps on =
+    on_path_agreed scheme old new root s on
+    (λ j above below. keeps.kept (on.leads.tables j) (vpn_of s.va j) (on.leads.tables (j - 1)) (on.leads.pointers j (omega arith) below))
 
 -- after a store the other words are as before, and this one is what was stored
 pub stored_agrees : (words : Tables) (table index word : ℕ) → AgreeBut words (stored words table index word) table index

@@ -9,7 +9,7 @@ use Rattle.history.specs.Turns.{History}
 use Rattle.history.specs.declared.reply.Reply.{Reply}
 use Rattle.stepcore.specs.Stands.{Stands}
 use Rattle.stepcore.specs.Runs.{after_run, appended, with_turns}
-use Rattle.stepcore.proofs.Running.{appended_none, no_turns, run_more, appended_more, mailbox_order, none_after_close, entries_clear, entries_coherent}
+use Rattle.stepcore.proofs.Running.{appended_none, no_turns, run_more, appended_more, mailbox_order, none_after_close, entries_clear, entries_coherent, used_asids, live_spaces, used_frames}
 use Rattle.stepcore.proofs.machine.Machine.run.Goals as goal
 
 pub loop-event-init : goal.loop-event-init
@@ -68,3 +68,21 @@ returns-clause-clear c C H st = entries_clear C _ _ (c.loop-event.invariant.stan
 
 pub returns-clause-coherent : goal.returns-clause-coherent
 returns-clause-coherent c C H st = entries_coherent C _ _ (c.loop-event.invariant.stands C H st)
+
+pub returns-in_err-reserve-clause-asids : goal.returns-in_err-reserve-clause-asids
+returns-in_err-reserve-clause-asids c C H st = used_asids C _ _ (stays c C H st)
+
+pub returns-in_err-reserve-clause-spaces : goal.returns-in_err-reserve-clause-spaces
+returns-in_err-reserve-clause-spaces c C H st = live_spaces C _ _ (stays c C H st)
+
+pub returns-in_err-reserve-clause-frames : goal.returns-in_err-reserve-clause-frames
+returns-in_err-reserve-clause-frames c C H st = used_frames C _ _ (stays c C H st)
+
+pub returns-clause-asids : goal.returns-clause-asids
+returns-clause-asids c C H st = used_asids C _ _ (c.loop-event.invariant.stands C H st)
+
+pub returns-clause-spaces : goal.returns-clause-spaces
+returns-clause-spaces c C H st = live_spaces C _ _ (c.loop-event.invariant.stands C H st)
+
+pub returns-clause-frames : goal.returns-clause-frames
+returns-clause-frames c C H st = used_frames C _ _ (c.loop-event.invariant.stands C H st)
