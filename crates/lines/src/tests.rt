@@ -160,7 +160,7 @@ fn replies_to_steps(rt: HostRuntime) -> Result<(), Fail> {
     Ok(())
 }
 
-const REFUSALS: [(Refusal, &str); 27] = [
+const REFUSALS: [(Refusal, &str); 33] = [
     (Refusal::NoHart, "1 refused NoHart\n"),
     (Refusal::NoSpace, "1 refused NoSpace\n"),
     (Refusal::NotHome, "1 refused NotHome\n"),
@@ -188,6 +188,12 @@ const REFUSALS: [(Refusal, &str); 27] = [
     (Refusal::NotServing, "1 refused NotServing\n"),
     (Refusal::NotFenced, "1 refused NotFenced\n"),
     (Refusal::NotDone, "1 refused NotDone\n"),
+    (Refusal::Retiring, "1 refused Retiring\n"),
+    (Refusal::InUse, "1 refused InUse\n"),
+    (Refusal::NotAcked, "1 refused NotAcked\n"),
+    (Refusal::NotRetiring, "1 refused NotRetiring\n"),
+    (Refusal::NotFree, "1 refused NotFree\n"),
+    (Refusal::AsidInUse, "1 refused AsidInUse\n"),
 ];
 
 #[test]
