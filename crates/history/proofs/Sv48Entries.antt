@@ -7,7 +7,6 @@ use Rattle.pte.specs.declared.scheme.Scheme.TheVariants.{Sv48}
 use Rattle.pte.specs.Address.{IsPage, Holds, bytes_of, pages_of}
 use Rattle.pte.specs.Entry.{kind_of}
 use Rattle.spaces.specs.Edits.{wish_fault, path_end, edit_of}
-use Rattle.spaces.specs.declared.places.Place.TheVariants.{Space}
 use Rattle.tlb.specs.declared.store.Entry.{Entry}
 use Rattle.tlb.specs.Entries.{holds, is_match}
 use Rattle.tlb.specs.Mappings.{IsMappedBy, Translates}
@@ -59,11 +58,11 @@ none_translated_once_acknowledged asid va t =
 abbrev acknowledged : History
 acknowledged = history_of run.terapage_until_acknowledged
 
-answered : HasAnswered two_harts_in_sv48 acknowledged 3 1 (Unmapped (Space 0) (terapage 0x8000000000))
+answered : HasAnswered two_harts_in_sv48 acknowledged 3 1 (Unmapped (Some 1) (terapage 0x8000000000))
 answered = record { order = _; is = refl; same_cause = refl; named = refl; acked = refl }
 
 terapage_forbids : (va : ℕ) → Holds (terapage 0x8000000000) va → (e : Entry) → IsPage e.page → IsTrue (is_match 1 va e) → ClearForbids two_harts_in_sv48 acknowledged 3 1 e
-terapage_forbids va held e aligned on = clear_forbids two_harts_in_sv48 acknowledged 3 1 (Space 0) (terapage 0x8000000000) answered refl 1 va refl held e aligned on
+terapage_forbids va held e aligned on = clear_forbids two_harts_in_sv48 acknowledged 3 1 (Some 1) (terapage 0x8000000000) answered refl 1 va refl held e aligned on
 
 pub page_itself : ClearForbids two_harts_in_sv48 (history_of run.terapage_until_acknowledged) 3 1 (entry 1 (terapage 0x8000000000) 0x10000000)
 page_itself = terapage_forbids 0x8000000000 (record { from = omega arith; below = omega arith }) (entry 1 (terapage 0x8000000000) 0x10000000) terapage_is_page refl
@@ -85,7 +84,7 @@ global_part =
 
 pub page_around : ClearForbids two_harts_in_sv48 (history_of run.four_levels_until_acknowledged) 9 1 (entry 1 (terapage 0x7f8000000000) 0x10000000)
 page_around =
-    clear_forbids two_harts_in_sv48 (history_of run.four_levels_until_acknowledged) 9 1 (Space 0) (small_page 0x7ffffffff000)
+    clear_forbids two_harts_in_sv48 (history_of run.four_levels_until_acknowledged) 9 1 (Some 1) (small_page 0x7ffffffff000)
     (record { order = _; is = refl; same_cause = refl; named = refl; acked = refl }) refl 1 0x7ffffffff000 refl
     (record { from = omega arith; below = omega arith }) (entry 1 (terapage 0x7f8000000000) 0x10000000)
     (record { canonical = inl (omega arith); aligned = refl }) refl
@@ -97,7 +96,7 @@ by_side base va held there (inr behind) = omega (arith, held.below, there.from, 
 
 neighbour : (base : ℕ) → (base ≡ 0x7fc0000000) ⊎ (base ≡ 0x10000000000) → Clear two_harts_in_sv48 acknowledged (entry 1 (huge_page base) 0x40000 ∷ []) 3 1
 neighbour base apart =
-    clear_allows two_harts_in_sv48 acknowledged 3 1 _ (Space 0) (terapage 0x8000000000) refl refl (entry 1 (huge_page base) 0x40000 ∷ [])
+    clear_allows two_harts_in_sv48 acknowledged 3 1 _ (Some 1) (terapage 0x8000000000) refl refl (entry 1 (huge_page base) 0x40000 ∷ [])
     (λ asid va for held t.
     let on = and_parts (holds (huge_page base) va) (false || (1 == asid)) (one_match (entry 1 (huge_page base) 0x40000) asid va t) in
     let there = (holds-Holds (huge_page base) va).0 on.0 in
@@ -118,8 +117,8 @@ terapage_gone m =
 
 pub nothing_mapped : CoherentForbids two_harts_in_sv48 (history_of run.terapage_shootdown) 3 1 (entry 1 (small_page 0xfffffff000) 0x17ffffff)
 nothing_mapped =
-    coherent_forbids two_harts_in_sv48 (history_of run.terapage_shootdown) 3 1 (Unmapped (Space 0) (terapage 0x8000000000)) (Space 0) (terapage 0x8000000000) (inl refl)
+    coherent_forbids two_harts_in_sv48 (history_of run.terapage_shootdown) 3 1 (Unmapped (Some 1) (terapage 0x8000000000)) (Some 1) (terapage 0x8000000000) (inl refl)
     (record { order = _; is = refl; same_cause = refl; named = refl; acked = refl }) refl (entry 1 (small_page 0xfffffff000) 0x17ffffff)
     (record { asid = Some 1; page = 0xfffffff; ppn = 0x17ffffff; flags = flags (R + W + U + A + D) })
     (record { asid = refl; page = record { from = omega arith; to = omega arith }; ppn = refl; flags = refl })
-    (inr (1, refl, refl)) (record { from = omega arith; to = omega arith }) 0x80001 refl terapage_gone
+    (inr (1, refl, refl)) (record { from = omega arith; to = omega arith }) 0x80001 (0, record { there = omega arith; kept = refl; same = refl }, refl) terapage_gone

@@ -130,7 +130,7 @@ impl Machine {
             Phase::Retiring(None) => Reply::Ok,
             Phase::Retiring(Some(ticket)) => {
                 let tickets = self.tickets(hart);
-                if tickets.is_open(ticket) && tickets.is_done(ticket) {
+                if tickets.is_done(ticket) == Some(true) {
                     Reply::Ok
                 } else {
                     Reply::Refused(Refusal::NotAcked)
