@@ -1,11 +1,12 @@
-//! `bench [all|events|translations] [N]`: makes about N events on a machine of 8 harts, N translations in a full memory, or
-//! both, and prints what they came to, by counts. N is 10,000,000 where no number is given. The clock is the caller's.
+//! `bench [all|events|sv39|sv48] [N]`: makes about N events on a machine of 8 harts, N translations over the tables of a
+//! scheme, or all of these, and prints what they came to, by counts. N is 10,000,000 where no number is given. The clock is the caller's.
 #![tactic(auto)]
 
 mod cycle;
 mod tally;
 mod tree;
 
+use pte::Scheme;
 use std::alloc::AllocError;
 use std::process::ExitCode;
 use std::{env, io};
@@ -43,7 +44,7 @@ impl From<io::Error> for Failure {
 enum Part {
     All,
     Events,
-    Translations,
+    Translations(Scheme),
 }
 
 /// What the words ask for: the part, and how many.
@@ -53,7 +54,8 @@ fn asked(words: &[String]) -> Result<(Part, u64), Failure> {
         Some(word) => match word.as_str() {
             "all" => Part::All,
             "events" => Part::Events,
-            "translations" => Part::Translations,
+            "sv39" => Part::Translations(Scheme::Sv39),
+            "sv48" => Part::Translations(Scheme::Sv48),
             _ => return Err(Failure::Usage),
         },
     };
@@ -76,14 +78,16 @@ fn run(rt: &HostRuntime) -> Result<(), Failure> {
     let alloc = rt.alloc();
     let words: Vec<String> = env::args(rt)?.collect(alloc)?;
     let (part, count) = asked(&words)?;
-    if part != Part::Translations {
+    if matches!(part, Part::All | Part::Events) {
         let (cycles, tally) = cycle::run(alloc, count)?;
         print_events(rt, cycles, &tally)?;
     }
-    if part != Part::Events {
-        let found = tree::run(alloc, count)?;
-        println!(rt; "translations {count}")?;
-        println!(rt; "found {found}")?;
+    for (scheme, name) in [(Scheme::Sv39, "sv39"), (Scheme::Sv48, "sv48")] {
+        if part == Part::All || part == Part::Translations(scheme) {
+            let found = tree::run(alloc, scheme, count)?;
+            println!(rt; "{name} {count}")?;
+            println!(rt; "found {found}")?;
+        }
     }
     Ok(())
 }
@@ -93,7 +97,7 @@ fn main(rt: HostRuntime) -> ExitCode {
         return ExitCode::SUCCESS;
     };
     let _ = match failure {
-        Failure::Usage => eprintln!(rt; "usage: bench [all|events|translations] [N]"),
+        Failure::Usage => eprintln!(rt; "usage: bench [all|events|sv39|sv48] [N]"),
         Failure::NoMemory => eprintln!(rt; "bench: no memory"),
         Failure::NotOpened => eprintln!(rt; "bench: nothing to measure on"),
         Failure::Io => eprintln!(rt; "bench: cannot read the words or write the counts"),

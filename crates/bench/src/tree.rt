@@ -1,18 +1,28 @@
-//! Translations in a memory of 512 table frames, all of them in use.
+//! Translations in a memory of at most 512 table frames.
 //!
-//! Below the root stand 15 tables, and below each of these 33 tables full of leaves, which map each page to itself: with
-//! the table of the kernel window these are 1 + 1 + 15 + 15 * 33 = 512 frames, and 15 * 33 * 512 = 253,440 pages.
+//! In Sv39 stand 15 tables below the root, and below each of these 33 tables full of leaves, which map each page to itself:
+//! with the table of the kernel window these are 1 + 1 + 15 + 15 * 33 = 512 frames, and 15 * 33 * 512 = 253,440 pages. In
+//! Sv48 one table more stands between, and 14 below it: 1 + 1 + 1 + 14 + 14 * 33 = 479 frames, and 236,544 pages.
+
+ghost use Rattle.std.specs.Prelude.{◌≢◌};
 
 use crate::Failure;
 use arrayvec::ArrayVec;
 use bitflags::Flags;
-use pte::{Access, Ctx, Kind, Mode, PAGE_BYTES, Page, PageSize, Pte, PteFlags, VirtAddr};
+use pte::{Access, Ctx, Kind, Mode, PAGE_BYTES, Page, PageSize, Pte, PteFlags, Scheme, VirtAddr};
 use spaces::{Config, Memory, OpenFault, Place, Space, apply, next_map_edit};
 use std::alloc::{AllocError, Global};
-use walk::translate;
+use walk::translate_in;
 
-/// How many tables stand below the root.
-const MIDDLES: u64 = 15;
+/// How many tables whose words span 2 MiB each there are.
+fn middles(scheme: Scheme) -> u64
+    ensures { result ≢ 0 }
+{
+    match scheme {
+        Scheme::Sv39 => 15,
+        Scheme::Sv48 => 14,
+    }
+}
 
 /// How many tables stand below each of these.
 const LOWS: u64 = 33;
@@ -35,13 +45,13 @@ const CTX: Ctx = Ctx {
 const PLACE: Place = Place::Space(0);
 
 /// One hart, the home of one space, with 510 spare frames.
-fn config() -> Config {
+fn config(scheme: Scheme) -> Config {
     let mut spaces = ArrayVec::new();
     spaces.push(Space { home: 0, asid: 1 });
     let mut spares = ArrayVec::new();
     spares.push(510);
     Config {
-        scheme: pte::Scheme::Sv39,
+        scheme,
         harts: 1,
         spaces,
         window: 1,
@@ -57,11 +67,11 @@ fn address(middle: u64, low: u64, leaf: u64) -> u64 {
 }
 
 /// Makes the next store that maps a page to itself. `Some(true)` if that is the leaf, `Some(false)` if a table.
-fn store_next(memory: &mut Memory, va: u64) -> Option<bool> {
+fn store_next(memory: &mut Memory, scheme: Scheme, va: u64) -> Option<bool> {
     if !memory.has(PLACE) {
         return None;
     }
-    let page = Page::around(VirtAddr::new(va)?, PageSize::Kib4);
+    let page = Page::around(VirtAddr::new_in(scheme, va)?, PageSize::Kib4);
     let flags = PteFlags::from_bits_retain(FLAGS);
     let edit = next_map_edit(memory, 0, PLACE, page, va >> 12, flags).ok()?;
     apply(memory, edit);
@@ -69,9 +79,9 @@ fn store_next(memory: &mut Memory, va: u64) -> Option<bool> {
 }
 
 /// Maps a page to itself, with the tables that are missing.
-fn map(memory: &mut Memory, va: u64) -> Result<(), Failure> {
-    for _ in 0..3_u8 {
-        if store_next(memory, va).ok_or(Failure::NotOpened)? {
+fn map(memory: &mut Memory, scheme: Scheme, va: u64) -> Result<(), Failure> {
+    for _ in 0..=scheme.top_level() {
+        if store_next(memory, scheme, va).ok_or(Failure::NotOpened)? {
             return Ok(());
         }
     }
@@ -79,16 +89,16 @@ fn map(memory: &mut Memory, va: u64) -> Result<(), Failure> {
 }
 
 /// The memory with all its pages mapped.
-fn full_memory(alloc: Global) -> Result<Memory, Failure> {
-    let mut memory = match Memory::open(alloc, &config()) {
+fn full_memory(alloc: Global, scheme: Scheme) -> Result<Memory, Failure> {
+    let mut memory = match Memory::open(alloc, &config(scheme)) {
         Ok(memory) => memory,
         Err(OpenFault::NoMemory) => return Err(Failure::NoMemory),
         Err(OpenFault::BadLayout) => return Err(Failure::NotOpened),
     };
     for low in 0..LOWS {
-        for middle in 0..MIDDLES {
+        for middle in 0..middles(scheme) {
             for leaf in 0..LEAVES {
-                map(&mut memory, address(middle, low, leaf))?;
+                map(&mut memory, scheme, address(middle, low, leaf))?;
             }
         }
     }
@@ -96,14 +106,19 @@ fn full_memory(alloc: Global) -> Result<Memory, Failure> {
 }
 
 /// Addresses picked by a linear congruential generator. Every 16th is of a table that is not there.
-fn picked(alloc: Global) -> Result<Vec<u64>, AllocError> {
+fn picked(alloc: Global, scheme: Scheme) -> Result<Vec<u64>, AllocError> {
     let mut addresses = Vec::with_capacity(alloc, ADDRESSES as usize)?;
+    let middles = middles(scheme);
     let mut state: u64 = 77;
     for number in 0..ADDRESSES {
         state = state
             .wrapping_mul(6_364_136_223_846_793_005)
             .wrapping_add(1_442_695_040_888_963_407);
-        let (middle, low, leaf) = ((state >> 33) % MIDDLES, (state >> 40) % LOWS, state >> 48);
+        let (middle, low, leaf) = (
+            (state >> 33) % middles(scheme),
+            (state >> 40) % LOWS,
+            state >> 48,
+        );
         let low = if number % 16 == 15 { LOWS } else { low };
         addresses.push(address(middle, low, leaf))?;
     }
@@ -111,7 +126,7 @@ fn picked(alloc: Global) -> Result<Vec<u64>, AllocError> {
 }
 
 /// How many of the addresses, with an offset of their pages, lead to themselves.
-fn count_found(memory: &Memory, addresses: &[u64], offset: u64) -> u64 {
+fn count_found(memory: &Memory, scheme: Scheme, addresses: &[u64], offset: u64) -> u64 {
     if !memory.has(PLACE) {
         return 0;
     }
@@ -119,7 +134,7 @@ fn count_found(memory: &Memory, addresses: &[u64], offset: u64) -> u64 {
     let mut found: u64 = 0;
     for address in addresses {
         let va = *address | offset % PAGE_BYTES;
-        match translate(memory, root, va, Access::Load, CTX) {
+        match translate_in(scheme, memory, root, va, Access::Load, CTX) {
             Ok(there) if there.pa == va => found = found.wrapping_add(1),
             _ => {}
         }
@@ -128,16 +143,16 @@ fn count_found(memory: &Memory, addresses: &[u64], offset: u64) -> u64 {
 }
 
 /// Makes so many translations, and tells how many of them are found: all but every 16th.
-pub fn run(alloc: Global, count: u64) -> Result<u64, Failure> {
-    let memory = full_memory(alloc)?;
-    let addresses = picked(alloc)?;
+pub fn run(alloc: Global, scheme: Scheme, count: u64) -> Result<u64, Failure> {
+    let memory = full_memory(alloc, scheme)?;
+    let addresses = picked(alloc, scheme)?;
     let mut found: u64 = 0;
     for pass in 0..count / ADDRESSES {
-        found = found.wrapping_add(count_found(&memory, &addresses, pass));
+        found = found.wrapping_add(count_found(&memory, scheme, &addresses, pass));
     }
     let rest = (count % ADDRESSES) as usize;
     match addresses.get(..rest) {
-        Some(rest) => Ok(found.wrapping_add(count_found(&memory, rest, 0))),
+        Some(rest) => Ok(found.wrapping_add(count_found(&memory, scheme, rest, 0))),
         None => Err(Failure::NotOpened),
     }
 }
