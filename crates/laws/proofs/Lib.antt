@@ -23,8 +23,8 @@ mod PremisesMet
 mod Refuted
 pub mod Asids
 mod Remaining
-mod Walkers
 pub mod Completed
 mod Staying
 mod Requested
 pub mod Walkers
+mod DoneFacts
