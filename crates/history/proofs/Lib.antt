@@ -17,9 +17,9 @@ pub mod InWalk
 mod StalenessRows
 mod HartRows
 mod Promises
-mod ClearFacts
-mod CoherentFacts
-mod MailboxFacts
+pub mod ClearFacts
+pub mod CoherentFacts
+pub mod MailboxFacts
 mod StillTranslated
 mod SetupFacts
 mod LeastFree

@@ -33,3 +33,7 @@ posted_after_close_and_taken = posted_after_close ++ (Take 1 0, taken 0 All) ∷
 -- a Close of the mailbox in the other direction is no Close of this one
 abbrev pub posted_after_close_of_the_other : List Step
 posted_after_close_of_the_other = two_orders ++ (Close 1 0, Ok) ∷ (Post 0 0 1, Ok) ∷ (Post 0 1 1, Ok) ∷ []
+
+-- the same from hart 1 to hart 0
+abbrev pub posted_after_close_from_1 : List Step
+posted_after_close_from_1 = (Flush 1 scope.All (hart_0 + hart_1), Opened 0) ∷ (Close 1 0, Ok) ∷ (Post 1 0 0, Ok) ∷ []

@@ -27,4 +27,4 @@ pub mod Completed
 mod Staying
 mod Requested
 pub mod Walkers
-mod DoneFacts
+pub mod DoneFacts
