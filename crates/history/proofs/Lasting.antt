@@ -50,17 +50,17 @@ read_since_or P Q R opening start step (turn ∷ H) =
     )
 
 -- a value that a test replaces
-by_cond : {A : Type 0} (t : Bool) (v old x : A) (P Q : Type 0) → (t ≡ true → v ≡ x → P) → (P → (t ≡ true) × (v ≡ x)) → (t ≡ true → (v ≡ x) ⊎ Q) → (Q → t ≡ true)
+pub by_cond : {A : Type 0} (t : Bool) (v old x : A) (P Q : Type 0) → (t ≡ true → v ≡ x → P) → (P → (t ≡ true) × (v ≡ x)) → (t ≡ true → (v ≡ x) ⊎ Q) → (Q → t ≡ true)
     → (cond t v old ≡ x) ↔ (P ⊎ ((Q → ⊥) × (old ≡ x)))
 by_cond true v old x P Q new back is must =
     (λ e. inl (new refl e), λ c. elim c [ inl p ↦ (back p).1 | inr o ↦ elim (is refl) [ inl e ↦ e | inr q ↦ absurd (o.0 q) ] ])
 by_cond false v old x P Q new back is must =
     (λ e. inr (λ q. false≢true (must q), e), λ c. elim c [ inl p ↦ absurd (false≢true (back p).0) | inr o ↦ o.1 ])
 
-by_old : {A : Type 0} (old x : A) (P Q : Type 0) → (P → ⊥) → (Q → ⊥) → (old ≡ x) ↔ (P ⊎ ((Q → ⊥) × (old ≡ x)))
+pub by_old : {A : Type 0} (old x : A) (P Q : Type 0) → (P → ⊥) → (Q → ⊥) → (old ≡ x) ↔ (P ⊎ ((Q → ⊥) × (old ≡ x)))
 by_old old x P Q none_p none_q = (λ e. inr (none_q, e), λ c. elim c [ inl p ↦ absurd (none_p p) | inr o ↦ o.1 ])
 
-ok_and : (r : Reply) (a b : ℕ) → r ≡ Ok → a ≡ b → (is_ok r && eqb a b) ≡ true
+pub ok_and : (r : Reply) (a b : ℕ) → r ≡ Ok → a ≡ b → (is_ok r && eqb a b) ≡ true
 ok_and r a b e f = rw (e, f, eq-eqb b b refl) refl
 
 taken_is : (r : Reply) → is_taken r ≡ true → (request : Message) × (r ≡ Taken request)

@@ -16,15 +16,22 @@ pub mod Lasting
 pub mod InWalk
 mod StalenessRows
 mod HartRows
+mod Sv48Rows
+mod Sv48Entries
 mod Promises
 pub mod ClearFacts
 pub mod CoherentFacts
 pub mod MailboxFacts
 mod StillTranslated
 mod SetupFacts
-mod LeastFree
+pub mod LeastFree
 mod Lawfully
-mod RetireRows
+pub mod RetireRows
+pub mod NoHarts
+pub mod Retiring
+mod Retired
+mod Statuses
+mod RetiredFacts
 mod TranslationRows
 mod ServiceRows
 pub mod Answering

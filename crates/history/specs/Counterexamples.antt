@@ -1,4 +1,4 @@
--- What the promises of an acknowledgement forbid a TLB to hold, and the entries with which the counterexamples try it.
+-- What the promises of an acknowledgement, and of used ASIDs, forbid a TLB to hold, and the entries with which the counterexamples try it.
 use Rattle.std.specs.Prelude.{ℕ, ◌+◌, true, false, List, Contains}
 use Rattle.pte.specs.Address.{Span}
 use Rattle.tlb.specs.declared.store.Entry.{Entry}
@@ -6,7 +6,7 @@ use Rattle.shoot.specs.Request.{Message}
 use Rattle.pte.specs.declared.address.What.TheVariants.{All}
 use Rattle.history.specs.Setup.{Setup}
 use Rattle.history.specs.Turns.{History}
-use Rattle.history.specs.Staleness.{Clear, Coherent}
+use Rattle.history.specs.Staleness.{Clear, Coherent, HoldsUsedAsids}
 use Rattle.history.specs.WorkedRuns.{flags, R, W, U, A, D}
 
 -- Clear is false of each TLB that holds the entry, whatever else it holds
@@ -39,3 +39,7 @@ global_read_only_entry page ppn = record { asid = 0; global = true; page = page;
 -- the request of a ticket that asks for everything
 abbrev pub request_of : ℕ → Message
 request_of ticket = record { ticket = ticket; what = All }
+
+-- no TLB that holds the entry holds used ASIDs alone
+abbrev pub UsedAsidsForbid : Setup → History → Entry → Type 0
+UsedAsidsForbid C H e = (entries : List Entry) → Contains entries e → ¬ HoldsUsedAsids C H entries

@@ -23,6 +23,9 @@ pub mod UnlawfulRuns
 pub mod Counterexamples
 pub mod HartRuns
 pub mod RetireRuns
+pub mod Sv48Runs
+pub mod RetireRefusals
+pub mod Retirements
 pub mod TranslationRuns
 pub mod ServiceRuns
 pub mod Translations

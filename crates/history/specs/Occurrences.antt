@@ -17,7 +17,7 @@ use Rattle.shoot.specs.declared.TheConstants.{MAX_TICKETS}
 use Rattle.tlb.specs.Service.{overlaps}
 use Rattle.history.specs.Setup.{Setup}
 use Rattle.history.specs.declared.event.Event.{Event}
-use Rattle.history.specs.declared.event.Event.TheVariants.{Begin, Load, Map, Unmap, Protect, Flush, Switch, Post, Take, ServeFence, Ack, AckSelf, Collect, Finish, Close, Retire, Reclaim}
+use Rattle.history.specs.declared.event.Event.TheVariants.{Begin, Load, Map, Unmap, Protect, Flush, Switch, Post, Take, ServeFence, Ack, AckSelf, Collect, Finish, Close, Retire, Reclaim, Create}
 use Rattle.history.specs.declared.reply.Reply.{Reply}
 use Rattle.history.specs.declared.reply.Reply.TheVariants as reply
 use Rattle.history.specs.Turns.{Turn, History, is_more}
@@ -331,3 +331,30 @@ pub record IsLeastFree (H : History) (hart ticket : ℕ) : Type 0 where
 -- the reply of each turn was due after the turns before it
 abbrev pub EachIsDue : Setup → History → Type 0
 EachIsDue C H = (later : History) (turn : Turn) (earlier : History) → H ≡ later ++ turn ∷ earlier → turn.reply ≡ due C earlier turn.event
+
+-- a Retire of the space was accepted, with k turns before it
+pub record IsRetire (space k : ℕ) (turn : Turn) (before : History) : Type 0 where
+  pub hart : ℕ
+  pub ticket : ℕ
+  pub event : turn.event ≡ Retire hart space
+  pub accepted : turn.reply ≡ reply.Opened ticket
+  pub place : length before ≡ k
+
+-- a Reclaim of the space was accepted
+pub record IsReclaim (space : ℕ) (turn : Turn) (before : History) : Type 0 where
+  pub hart : ℕ
+  pub event : turn.event ≡ Reclaim hart space
+  pub accepted : turn.reply ≡ reply.Ok
+
+-- a Create of the space with this ASID was accepted
+pub record IsCreate (space asid : ℕ) (turn : Turn) (before : History) : Type 0 where
+  pub hart : ℕ
+  pub event : turn.event ≡ Create hart space asid
+  pub accepted : turn.reply ≡ reply.Ok
+
+abbrev pub Creates : ℕ → Turn → History → Type 0
+Creates space turn before = (asid : ℕ) × IsCreate space asid turn before
+
+-- a turn that decides whether the space is live, retiring or free
+abbrev pub Decides : ℕ → Turn → History → Type 0
+Decides space turn before = ((k : ℕ) × IsRetire space k turn before) ⊎ (IsReclaim space turn before ⊎ Creates space turn before)

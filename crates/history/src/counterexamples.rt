@@ -1,20 +1,22 @@
-//! What the promises refuse, and where they say nothing: Clear, Coherent and the order of mailboxes, tried on the histories of
-//! worked runs. Each function does nothing, and its clauses are the facts. A number after a history is the place of the order
+//! What the promises refuse, and where they say nothing: Clear, Coherent, used ASIDs and frames, and the order of mailboxes, tried
+//! on the histories of worked runs. Each function does nothing, and its clauses are the facts. A number after a history is the place of the order
 //! in it, the next the hart.
 
-ghost use Rattle.std.specs.Prelude.{ℕ, [], ◌∷◌};
+ghost use Rattle.std.specs.Prelude.{ℕ, [], ◌∷◌, ◌≡◌};
 ghost use Rattle.tlb.specs.Mappings.{IsMappedBy, Translates};
 ghost use Rattle.history.specs.Harts.{entries_of};
 ghost use Rattle.history.specs.Mailboxes.{KeepsOrder, Mailboxes, NoneAfterClose};
-ghost use Rattle.history.specs.Staleness.{Clear};
+ghost use Rattle.history.specs.Staleness.{Clear, HoldsUsedAsids, WalksUsedFrames};
 ghost use Rattle.history.specs.WorkedRuns.{history_of, large_page, small_page, three_harts, two_harts};
-ghost use Rattle.history.specs.Counterexamples.{ClearAllowsAll, ClearForbids, CoherentAllowsAll, CoherentForbids, entry, global_entry, global_read_only_entry, read_only_entry, request_of};
+ghost use Rattle.history.specs.Counterexamples.{ClearAllowsAll, ClearForbids, CoherentAllowsAll, CoherentForbids, UsedAsidsForbid, entry, global_entry, global_read_only_entry, read_only_entry, request_of};
 ghost use Rattle.history.specs.EditRuns.{huge_page};
 ghost use Rattle.history.specs.ShootdownRuns as shootdowns;
 ghost use Rattle.history.specs.KernelRuns as kernel;
 ghost use Rattle.history.specs.StalenessRuns as staleness;
 ghost use Rattle.history.specs.MailboxRuns as mailboxes;
+ghost use Rattle.history.specs.RetireRuns as retirements;
 ghost use Rattle.history.specs.UnlawfulRuns as unlawful;
+ghost use Rattle.history.specs.Sv48Runs as sv48;
 
 /// A page of 2 MiB is unmapped, and hart 1 has acknowledged it: its TLB holds neither that page, nor a small page of it, nor a
 /// larger page over it, nor a global page in it.
@@ -49,6 +51,30 @@ pub fn acknowledged_hart_holds_no_entry_of_a_kernel_page()
     ensures global { ClearForbids kernel.spaces_of_two_homes (history_of kernel.kernel_page_until_acknowledged) 10 1 (global_entry (small_page 0xffffffffc0000000) 0x300) }
     ensures each_asid { (asid : ℕ) → ClearForbids kernel.spaces_of_two_homes (history_of kernel.kernel_page_until_acknowledged) 10 1 (entry asid (small_page 0xffffffffc0000000) 0x300) }
     ensures larger { (asid : ℕ) → ClearForbids kernel.spaces_of_two_homes (history_of kernel.kernel_page_until_acknowledged) 10 1 (entry asid (large_page 0xffffffffc0000000) 0x400) }
+{}
+
+/// With Sv48 a page of 512 GiB is unmapped, and hart 1 has acknowledged it: its TLB holds neither that page, nor one of 1 GiB or of
+/// 4 KiB in it, nor a global one. And of a page of 4 KiB that is unmapped it does not hold the page of 512 GiB around it.
+#[tactic(auto, using(crate::proofs::Sv48Entries::page_itself, crate::proofs::Sv48Entries::last_huge_part, crate::proofs::Sv48Entries::last_small_part, crate::proofs::Sv48Entries::global_part, crate::proofs::Sv48Entries::page_around))]
+pub fn acknowledged_hart_holds_no_entry_of_a_terapage()
+    ensures page { ClearForbids sv48.two_harts_in_sv48 (history_of sv48.terapage_until_acknowledged) 3 1 (entry 1 (sv48.terapage 0x8000000000) 0x10000000) }
+    ensures huge_part { ClearForbids sv48.two_harts_in_sv48 (history_of sv48.terapage_until_acknowledged) 3 1 (entry 1 (huge_page 0xffc0000000) 0x17fc0000) }
+    ensures small_part { ClearForbids sv48.two_harts_in_sv48 (history_of sv48.terapage_until_acknowledged) 3 1 (entry 1 (small_page 0xfffffff000) 0x17ffffff) }
+    ensures global { ClearForbids sv48.two_harts_in_sv48 (history_of sv48.terapage_until_acknowledged) 3 1 (global_entry (large_page 0x8000000000) 0x200) }
+    ensures around { ClearForbids sv48.two_harts_in_sv48 (history_of sv48.four_levels_until_acknowledged) 9 1 (entry 1 (sv48.terapage 0x7f8000000000) 0x10000000) }
+{}
+
+/// Clear lets the pages of 1 GiB right before and right behind the page of 512 GiB be held.
+#[tactic(auto, using(crate::proofs::Sv48Entries::page_before, crate::proofs::Sv48Entries::page_behind))]
+pub fn clear_lets_pages_beside_a_terapage_be_held()
+    ensures before { Clear sv48.two_harts_in_sv48 (history_of sv48.terapage_until_acknowledged) (entry 1 (huge_page 0x7fc0000000) 0x40000 ∷ []) 3 1 }
+    ensures behind { Clear sv48.two_harts_in_sv48 (history_of sv48.terapage_until_acknowledged) (entry 1 (huge_page 0x10000000000) 0x40000 ∷ []) 3 1 }
+{}
+
+/// Coherent is false of a TLB that holds a small page of the page of 512 GiB where nothing is mapped.
+#[tactic(auto, using(crate::proofs::Sv48Entries::nothing_mapped))]
+pub fn acknowledged_hart_holds_no_unmapped_part_of_a_terapage()
+    ensures { CoherentForbids sv48.two_harts_in_sv48 (history_of sv48.terapage_shootdown) 3 1 (entry 1 (small_page 0xfffffff000) 0x17ffffff) }
 {}
 
 /// Clear says nothing of a hart that has not acknowledged the unmapping, of one that it does not name, of a page in which a leaf
@@ -119,6 +145,47 @@ pub fn coherent_says_nothing_here()
     ensures unnamed { CoherentAllowsAll two_harts (history_of staleness.unnamed_hart) 5 1 }
     ensures protected_once_more { CoherentAllowsAll two_harts (history_of staleness.protected_once_more) 5 1 }
     ensures unmapped_once_more { CoherentAllowsAll two_harts (history_of staleness.unmapped_once_more) 5 1 }
+{}
+
+/// A page of ASID 2 was unmapped, and its space given back. Clear lasts while the page is mapped in the same space for another
+/// ASID, and ends once it is mapped for ASID 2 in another space; what is of the other ASID may be held, and is.
+#[tactic(auto, using(crate::proofs::RetiredFacts::same_asid_mapped, crate::proofs::RetiredFacts::asid_7_translates))]
+pub fn clear_is_for_an_asid()
+    ensures other_asid { ClearForbids shootdowns.spaces_of_one_home (history_of retirements.orders_keep_their_asid) 11 1 (entry 2 (small_page 0x1000) 0x100) }
+    ensures same_asid { ClearAllowsAll shootdowns.spaces_of_one_home (history_of retirements.asid_used_again) 3 0 }
+    ensures held { Clear shootdowns.spaces_of_one_home (history_of retirements.orders_keep_their_asid) (entries_of shootdowns.spaces_of_one_home (history_of retirements.orders_keep_their_asid) 1) 11 1 }
+    ensures translates { Translates (IsMappedBy (entries_of shootdowns.spaces_of_one_home (history_of retirements.orders_keep_their_asid) 1)) 7 0x1004 }
+{}
+
+/// Of an ASID that no live or retiring space has, an acknowledged hart holds nothing in the page, though the same space maps it; of one
+/// that another space has now it holds what that space maps. Coherent ends with a change of the page for the same ASID alone.
+#[tactic(auto, using(crate::proofs::RetiredFacts::asid_of_no_space, crate::proofs::RetiredFacts::old_ppn_of_the_asid, crate::proofs::RetiredFacts::other_asid_changed, crate::proofs::RetiredFacts::same_asid_changed))]
+pub fn coherent_is_for_an_asid()
+    ensures no_space { CoherentForbids shootdowns.spaces_of_one_home (history_of retirements.orders_keep_their_asid) 11 1 (read_only_entry 2 (small_page 0x1000) 0x101) }
+    ensures another_space { CoherentForbids shootdowns.spaces_of_one_home (history_of retirements.asid_used_again) 3 0 (read_only_entry 2 (small_page 0x1000) 0x100) }
+    ensures other_asid { CoherentForbids shootdowns.spaces_of_one_home (history_of retirements.orders_of_the_new_asid) 11 1 (read_only_entry 2 (small_page 0x1000) 0x101) }
+    ensures same_asid { CoherentAllowsAll shootdowns.spaces_of_one_home (history_of retirements.unmapped_by_the_new_asid) 3 0 }
+{}
+
+/// A hart translates a page of a retiring space, whose ASID is in use, until it serves the request, and then holds nothing; of a free
+/// space, or of an ASID that its space has no more, it may hold nothing. Global entries are of no ASID.
+#[tactic(auto, using(crate::proofs::RetiredFacts::retiring_translates, crate::proofs::RetiredFacts::nothing_held, crate::proofs::RetiredFacts::retiring_is_used, crate::proofs::RetiredFacts::global_is_used, crate::proofs::RetiredFacts::free_is_unused, crate::proofs::RetiredFacts::old_asid_is_unused))]
+pub fn used_asids_are_those_of_live_and_retiring_spaces()
+    ensures translates { Translates (IsMappedBy (entries_of shootdowns.spaces_of_one_home (history_of retirements.retired_until_service) 1)) 2 0x1004 }
+    ensures acknowledged { entries_of shootdowns.spaces_of_one_home (history_of retirements.retired_until_acknowledged) 1 ≡ [] }
+    ensures retiring { HoldsUsedAsids shootdowns.spaces_of_one_home (history_of retirements.retired_until_service) (read_only_entry 2 (small_page 0x1000) 0x100 ∷ []) }
+    ensures global { HoldsUsedAsids shootdowns.spaces_of_one_home (history_of retirements.retired_and_given_back) (global_entry (small_page 0xffffffffc0000000) 0x300 ∷ []) }
+    ensures free { UsedAsidsForbid shootdowns.spaces_of_one_home (history_of retirements.retired_and_given_back) (read_only_entry 2 (small_page 0x1000) 0x100) }
+    ensures no_more { UsedAsidsForbid shootdowns.spaces_of_one_home (history_of retirements.orders_keep_their_asid) (read_only_entry 2 (small_page 0x1000) 0x100) }
+{}
+
+/// WalksUsedFrames is false of runs, none of them lawful, in which a space is retired or given back while a hart walks in it, or a
+/// walk comes to a frame that was not answered as a new table.
+#[tactic(auto, using(crate::proofs::RetiredFacts::walk_of_a_retiring_space, crate::proofs::RetiredFacts::walk_of_a_free_space, crate::proofs::RetiredFacts::walk_to_an_unused_frame))]
+pub fn walks_use_frames_of_live_spaces()
+    ensures retiring { ¬ WalksUsedFrames shootdowns.spaces_of_one_home (history_of unlawful.retired_in_mid_walk) 1 }
+    ensures free { ¬ WalksUsedFrames shootdowns.spaces_of_one_home (history_of unlawful.given_back_in_mid_walk) 1 }
+    ensures unused_frame { ¬ WalksUsedFrames shootdowns.spaces_of_one_home (history_of unlawful.another_frame_answered) 1 }
 {}
 
 /// Of three accepted requests the first was taken. A mailbox in which the other two wait in the order of the posts keeps its

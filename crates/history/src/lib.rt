@@ -7,6 +7,7 @@ pub mod occurrences;
 mod refusal;
 pub mod refusal_numbers;
 mod reply;
+pub mod retirements;
 pub mod translations;
 pub mod worked_runs;
 pub mod worked_translations;

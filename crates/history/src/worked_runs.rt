@@ -1,8 +1,8 @@
 //! Worked runs: the definitions give the replies that the manual and docs/PROTOCOL.md give by hand. Each function does nothing,
 //! and its clause is the fact.
 
-ghost use Rattle.std.specs.Prelude.{ℕ, List, ◌≡◌, ◌<◌, ◌+◌, ◌*◌};
-ghost use Rattle.pte.specs.declared.address.PageSize.TheVariants.{Kib4, Mib2};
+ghost use Rattle.std.specs.Prelude.{ℕ, List, [], ◌≡◌, ◌<◌, ◌+◌, ◌*◌};
+ghost use Rattle.pte.specs.declared.address.PageSize.TheVariants.{Kib4, Mib2, Gib512};
 ghost use Rattle.pte.specs.Address.{Holds, bytes_of, pages_of};
 ghost use Rattle.tlb.specs.Mappings.{IsMappedBy, Translates};
 ghost use Rattle.spaces.specs.declared.configuration.Config.{Config};
@@ -18,6 +18,8 @@ ghost use Rattle.history.specs.MailboxRuns as mailboxes;
 ghost use Rattle.history.specs.EditRuns as edits;
 ghost use Rattle.history.specs.RefusalRuns as refusals;
 ghost use Rattle.history.specs.RetireRuns as retirements;
+ghost use Rattle.history.specs.Sv48Runs as sv48;
+ghost use Rattle.history.specs.RetireRefusals as retire_refusals;
 
 /// The setup of the worked runs of three harts is that of a configuration with these numbers.
 #[tactic(auto, using(crate::proofs::SetupFacts::three_harts_are_configured))]
@@ -207,9 +209,10 @@ pub fn at_work_while_walking()
 
 /// A space is retired once no hart is in it, and given back once each hart is collected; it is created anew, and its frames are
 /// used again.
-#[tactic(auto, using(crate::proofs::RetireRows::retired_and_created_anew))]
+#[tactic(auto, using(crate::proofs::RetireRows::retired_until_acknowledged, crate::proofs::RetireRows::retired_and_created_anew))]
 pub fn retired_and_created_anew()
-    ensures { IsRun shootdowns.spaces_of_one_home retirements.retired_and_created_anew }
+    ensures until_acknowledged { IsRun shootdowns.spaces_of_one_home retirements.retired_until_acknowledged }
+    ensures anew { IsRun shootdowns.spaces_of_one_home retirements.retired_and_created_anew }
 {}
 
 /// A new table takes the lowest frame that is unused, be it one that another space gave back.
@@ -222,4 +225,110 @@ pub fn frames_used_again()
 #[tactic(auto, using(crate::proofs::RetireRows::asid_used_again))]
 pub fn asid_used_again()
     ensures { IsRun shootdowns.spaces_of_one_home retirements.asid_used_again }
+{}
+
+/// With Sv48 a page of 512 GiB is one leaf of the root, which one load reads. It is unmapped while another hart holds it: the
+/// hart uses all of it until it serves the request, and not after.
+#[tactic(auto, using(crate::proofs::Sv48Rows::terapage_shootdown))]
+pub fn terapage_shootdown()
+    ensures { IsRun sv48.two_harts_in_sv48 sv48.terapage_shootdown }
+{}
+
+/// Before its service of the request the hart translates each of the 2^27 small pages of that page, and once it has
+/// acknowledged none.
+pub fn terapage_is_translated_until_service()
+    ensures before { (k : ℕ) → k < pages_of Gib512 → Translates (IsMappedBy (entries_of sv48.two_harts_in_sv48 (history_of sv48.terapage_until_service) 1)) 1 (0x8000000000 + k * bytes_of Kib4) }
+    ensures acknowledged { (asid va : ℕ) → ¬ Translates (IsMappedBy (entries_of sv48.two_harts_in_sv48 (history_of sv48.terapage_until_acknowledged) 1)) asid va }
+{}
+
+/// A page of 4 KiB of Sv48 has three tables between the root and its leaf: four stores map it, and four loads find it.
+#[tactic(auto, using(crate::proofs::Sv48Rows::shootdown_over_four_levels))]
+pub fn shootdown_over_four_levels()
+    ensures { IsRun sv48.two_harts_in_sv48 sv48.shootdown_over_four_levels }
+{}
+
+/// With Sv48 the window's slots lead to tables of level 2, so a kernel page may have 1 GiB. It is found in every space, and goes
+/// by its request.
+#[tactic(auto, using(crate::proofs::Sv48Rows::kernel_gigapage_shootdown))]
+pub fn kernel_gigapage_shootdown()
+    ensures { IsRun sv48.spaces_of_two_homes_in_sv48 sv48.kernel_gigapage_shootdown }
+{}
+
+/// A fence takes an address that is canonical in Sv48, and drops nothing for one that is not.
+#[tactic(auto, using(crate::proofs::Sv48Rows::fences_in_sv48))]
+pub fn fences_in_sv48()
+    ensures { IsRun sv48.one_hart_in_sv48 sv48.fences_in_sv48 }
+{}
+
+/// Edits in Sv48, right after a page of 512 GiB was mapped: a kernel page of that size meets the window's pointer, one of 1 GiB
+/// does not.
+#[tactic(auto, using(crate::proofs::Sv48Rows::edits_in_sv48))]
+pub fn edits_in_sv48()
+    ensures { IsEachDueAfter sv48.two_harts_in_sv48 sv48.map_terapage sv48.edits_in_sv48 }
+{}
+
+/// A page of 512 GiB, or at an address that is canonical in Sv48 alone, is in neither half of Sv39.
+#[tactic(auto, using(crate::proofs::Sv48Rows::pages_that_do_not_fit))]
+pub fn pages_that_do_not_fit()
+    ensures { IsEachDueAfter two_harts [] sv48.pages_that_do_not_fit }
+{}
+
+/// An order is for the ASID that its space had when it was opened, also once the space was created anew with another one.
+#[tactic(auto, using(crate::proofs::RetireRows::orders_keep_their_asid, crate::proofs::RetireRows::orders_of_the_new_asid))]
+pub fn orders_keep_their_asid()
+    ensures until_served { IsRun shootdowns.spaces_of_one_home retirements.orders_keep_their_asid }
+    ensures of_the_new_asid { IsRun shootdowns.spaces_of_one_home retirements.orders_of_the_new_asid }
+{}
+
+/// Giving back a space leaves the kernel's tables, and what they map.
+#[tactic(auto, using(crate::proofs::RetireRows::kernel_frames_stay))]
+pub fn kernel_frames_stay()
+    ensures { IsRun shootdowns.spaces_of_one_home retirements.kernel_frames_stay }
+{}
+
+/// The home of a space alone retires it, gives it back and creates it.
+#[tactic(auto, using(crate::proofs::RetireRows::retired_by_its_home))]
+pub fn retired_by_its_home()
+    ensures { IsRun kernel.spaces_of_two_homes retirements.retired_by_its_home }
+{}
+
+/// Refusals where all spaces are live, in order.
+#[tactic(auto, using(crate::proofs::RetireRows::while_live))]
+pub fn refused_while_live()
+    ensures { IsEachDueAfter retire_refusals.three_spaces [] retire_refusals.while_live }
+{}
+
+/// A Retire wants a free ticket, and says so last.
+#[tactic(auto, using(crate::proofs::RetireRows::no_ticket_left, crate::proofs::RetireRows::without_ticket, crate::proofs::RetireRows::retired_with_the_last_ticket, crate::proofs::RetireRows::retired_without_ticket))]
+pub fn refused_without_ticket()
+    ensures before { IsRun retire_refusals.three_spaces retire_refusals.no_ticket_left }
+    ensures live { IsEachDueAfter retire_refusals.three_spaces retire_refusals.no_ticket_left retire_refusals.without_ticket }
+    ensures before_retiring { IsRun retire_refusals.three_spaces retire_refusals.retired_with_the_last_ticket }
+    ensures retiring { IsEachDueAfter retire_refusals.three_spaces retire_refusals.retired_with_the_last_ticket retire_refusals.retired_without_ticket }
+{}
+
+/// Refusals where a space is retiring, in order; the kernel's pages and a flush of all are not refused.
+#[tactic(auto, using(crate::proofs::RetireRows::retiring, crate::proofs::RetireRows::while_retiring))]
+pub fn refused_while_retiring()
+    ensures before { IsRun retire_refusals.three_spaces retire_refusals.retiring }
+    ensures each { IsEachDueAfter retire_refusals.three_spaces retire_refusals.retiring retire_refusals.while_retiring }
+{}
+
+/// Refusals where a space is free, in order.
+#[tactic(auto, using(crate::proofs::RetireRows::free, crate::proofs::RetireRows::while_free))]
+pub fn refused_while_free()
+    ensures before { IsRun retire_refusals.three_spaces retire_refusals.free }
+    ensures each { IsEachDueAfter retire_refusals.three_spaces retire_refusals.free retire_refusals.while_free }
+{}
+
+/// A Reclaim wants each hart collected for the last retirement, be its ticket open, finished, or another order's by now.
+#[tactic(auto, using(crate::proofs::RetireRows::collected_once_more))]
+pub fn collected_for_each_retirement()
+    ensures { IsRun retire_refusals.three_spaces retire_refusals.collected_once_more }
+{}
+
+/// While a space retires its ASID is in use, and once it is free another space may be created with it.
+#[tactic(auto, using(crate::proofs::RetireRows::free_asid_to_another_space))]
+pub fn free_asid_to_another_space()
+    ensures { IsRun retire_refusals.three_spaces retire_refusals.free_asid_to_another_space }
 {}

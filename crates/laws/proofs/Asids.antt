@@ -26,6 +26,7 @@ use Rattle.history.specs.Acknowledgements.{is_acked, is_collected}
 use Rattle.history.specs.Harts.{space_of, entries_of}
 use Rattle.history.specs.Due.{due, is_space, is_in_use, is_asid_of, names, Lawful}
 use Rattle.history.specs.Staleness.{HasAsid, IsOfUsedAsid, HoldsUsedAsids}
+pub use Rattle.history.proofs.Retiring.{asid_found}
 use Rattle.laws.specs.Fills.{Fills}
 use Rattle.laws.specs.Kept.{HasPage, HavePages, IsSetup, AsidsDiffer}
 use Rattle.laws.proofs.Tools.{by_test, none_where}
@@ -43,19 +44,6 @@ live_from : (status : Status) → is_free status ≡ false → is_retiring statu
 live_from Live f r = refl
 live_from (Retires k) f r = absurd (false≢true (sym r))
 live_from Free f r = absurd (false≢true (sym f))
-
--- an ASID that is in use
-pub asid_found : (C : Setup) (H : History) (asid n s : ℕ) → is_asid_of C H asid n ≡ false → s < n → is_free (status_of H s) ≡ false → asid_of C H s ≡ asid → ⊥
-asid_found C H asid zero s e less kept same = omega arith
-asid_found C H asid (suc n) s e less kept same =
-    let p = or_parts (not (is_free (status_of H n)) && eqb (asid_of C H n) asid) (is_asid_of C H asid n) e in
-    elim (cases_eq s n) [
-      | inl at ↦
-          let kept' : is_free (status_of H n) ≡ false = ap (λ x. is_free (status_of H x)) (sym at) ∙ kept in
-          let same' : asid_of C H n ≡ asid = ap (asid_of C H) (sym at) ∙ same in
-          false≢true (sym p.0 ∙ and_from (not (is_free (status_of H n))) (eqb (asid_of C H n) asid) (ap not kept') (eq-eqb (asid_of C H n) asid same'))
-      | inr apart ↦ asid_found C H asid n s p.1 (omega (arith, less, apart)) kept same
-    ]
 
 -- a space that is not free was not, and keeps its ASID; or it was created
 pub record WasKept (C : Setup) (event : Event) (r : Reply) (H : History) (s : ℕ) : Type 0 where

@@ -28,3 +28,4 @@ mod Staying
 mod Requested
 pub mod Walkers
 pub mod DoneFacts
+mod RetiredRefuted

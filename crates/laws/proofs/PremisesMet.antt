@@ -8,6 +8,8 @@ use Rattle.history.specs.Staleness.{HasAnswered}
 use Rattle.history.specs.WorkedRuns.{history_of, large_page, small_page, two_harts}
 use Rattle.history.specs.KernelRuns as kernel
 use Rattle.history.specs.ShootdownRuns as shootdowns
+use Rattle.history.specs.RetireRuns as retirements
+use Rattle.tlb.specs.Fence.{asid_bits}
 use Rattle.laws.specs.Kept.{HavePages, IsSetup}
 
 first : (s : ℕ) → s < 1 → asid_of two_harts [] s < 2 ^ 16
@@ -65,6 +67,23 @@ two_spaces = record {
   asids = record { some_space = omega arith; bound = second; distinct = apart };
 }
 
+pub one_home : IsSetup shootdowns.spaces_of_one_home
+one_home = record {
+  harts = omega arith;
+  layout = record {
+    some_space = omega arith;
+    spaces = omega arith;
+    harts = omega arith;
+    homes = All-from_recursion (λ home. home < 2) (0 ∷ 0 ∷ []) (omega arith, (omega arith, tt));
+    some_window = omega arith;
+    window = omega arith;
+    frames_fit = omega arith;
+    ppns_fit = omega arith;
+  };
+  homes = refl;
+  asids = record { some_space = omega arith; bound = second; distinct = apart };
+}
+
 large : IsPage (large_page 0x400000)
 large = record { canonical = inl (omega arith); aligned = refl }
 
@@ -88,3 +107,21 @@ kernel_pages = (((((((((((((((((((tt, kernel_small), kernel_small), tt), tt), tt
 
 pub kernel_answered : HasAnswered kernel.spaces_of_two_homes (history_of kernel.kernel_page_outlives_an_asid_fence) 10 1 (Unmapped None (small_page 0xffffffffc0000000))
 kernel_answered = record { order = _; is = refl; same_cause = refl; named = refl; acked = refl }
+
+small : IsPage (small_page 0x1000)
+small = record { canonical = inl (omega arith); aligned = refl }
+
+asid_2 : 2 < 2 ^ asid_bits
+asid_2 = omega arith
+
+asid_7 : 7 < 2 ^ asid_bits
+asid_7 = omega arith
+
+pub retired_pages : HavePages (history_of retirements.retired_until_acknowledged)
+retired_pages = ((((((((((((((((((((tt, small), small), small), tt), tt), tt), tt), tt), tt), tt), tt), tt), tt), tt), asid_2), tt), tt), tt), tt), tt)
+
+pub created_pages : HavePages (history_of retirements.orders_keep_their_asid)
+created_pages = (((((((((((((((((((((((((((((((((((((((tt, small), small), small), tt), tt), tt), tt), tt), tt), tt), tt), small), tt), tt), tt), tt), tt), tt), tt), tt), asid_7), small), small), small), tt), tt), tt), tt), tt), tt), tt), tt), tt), tt), tt), tt), tt), tt), tt)
+
+pub created_answered : HasAnswered shootdowns.spaces_of_one_home (history_of retirements.orders_keep_their_asid) 11 1 (Unmapped (Some 2) (small_page 0x1000))
+created_answered = record { order = _; is = refl; same_cause = refl; named = refl; acked = refl }

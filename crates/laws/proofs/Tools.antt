@@ -10,6 +10,7 @@ use Rattle.shoot.specs.HartSet.{contains, harts_where, is_empty}
 use Rattle.shoot.specs.declared.TheConstants.{MAX_HARTS}
 pub use Rattle.shoot.proofs.HartSets.{by_test}
 pub use Rattle.history.proofs.Occurred.{and3, none_by}
+pub use Rattle.history.proofs.NoHarts.{none_where}
 
 pub or3 : (a b c old : Bool) → ((a && (b && c)) || old) ≡ true → ((a ≡ true) × (b ≡ true) × (c ≡ true)) ⊎ (old ≡ true)
 or3 a b c old e = elim (or_cases (a && (b && c)) old e) [ inl n ↦ inl (and3 a b c n) | inr y ↦ inr y ]
@@ -28,21 +29,6 @@ pub drop_slice_get : {A : Type 0} (n : ℕ) (xs : List A) (x : A) → slice_get 
 drop_slice_get n [] x e = absurd cc
 drop_slice_get zero (y ∷ ys) x e = let q : y ≡ x = cc in ap (λ z. z ∷ ys) q
 drop_slice_get (suc n) (y ∷ ys) x e = drop_slice_get n ys x e
-
--- a set of harts where none passes
-none_in_range : (f : ℕ → Bool) (from n h : ℕ) → list_all (λ member. not member) (map f (range_with_len from n)) ≡ true → from ≤ h → h < from + n → f h ≡ false
-none_in_range f from zero h e low high = absurd (omega arith)
-none_in_range f from (suc n) h e low high =
-    let p = and_parts (not (f from)) (list_all (λ member. not member) (map f (range_with_len (from + 1) n))) e in
-    by_test (λ v. f h ≡ false) (eqb from h)
-    (λ t. let q : from ≡ h = eqb-true from h t in rw (← q) (not-true (f from) p.0))
-    (λ t. none_in_range f (from + 1) n h p.1 (below_more from h low t) (omega arith))
-  where
-    below_more : (from h : ℕ) → from ≤ h → eqb from h ≡ false → from + 1 ≤ h
-    below_more from h low t = grind (arith, nat_tests)
-
-pub none_where : (f : ℕ → Bool) (h : ℕ) → is_empty (harts_where f) ≡ true → h < MAX_HARTS → f h ≡ false
-none_where f h e l = none_in_range f 0 MAX_HARTS h e (omega arith) (omega arith)
 
 -- only harts that can be there are in a set
 pub contains_below : (f : ℕ → Bool) (h : ℕ) → contains (harts_where f) h ≡ true → h < MAX_HARTS

@@ -10,10 +10,11 @@ ghost use Rattle.history.specs.Setup.{Setup};
 ghost use Rattle.history.specs.Turns.{History};
 ghost use Rattle.history.specs.Mailboxes.{posts};
 ghost use Rattle.history.specs.WorkedRuns.{history_of, two_harts};
-ghost use Rattle.history.specs.ShootdownRuns.{superpage_of_space, superpage_shootdown, superpage_until_acknowledged};
-ghost use Rattle.history.specs.UnlawfulRuns.{two_orders, two_posts};
+ghost use Rattle.history.specs.ShootdownRuns.{spaces_of_one_home, superpage_of_space, superpage_shootdown, superpage_until_acknowledged};
+ghost use Rattle.history.specs.UnlawfulRuns.{created_with_a_used_asid, mapped_in_a_free_space, two_orders, two_posts};
 ghost use Rattle.laws.specs.Counterexamples.{order_to, post_of};
 ghost use Rattle.laws.specs.Fills.{Fills};
+ghost use Rattle.laws.specs.Kept.{AsidsDiffer, FreeMapsNothing};
 ghost use Rattle.laws.specs.Orders.{IsOpenedBy, IsOrder};
 ghost use Rattle.laws.specs.Posts.{IsAcceptedPost, IsLive, IsOwn, StandsIn};
 
@@ -59,4 +60,12 @@ pub fn what_is_not_live()
 pub fn what_fills_nothing()
     ensures other_hart { (C : Setup) (e : Entry) (pa : ℕ) (before : History) → ¬ Fills C 1 e (record { event = Load 0; reply = Filled pa }) before }
     ensures goes_on { (C : Setup) (h : ℕ) (e : Entry) (before : History) → ¬ Fills C h e (record { event = Load h; reply = More }) before }
+{}
+
+/// Two spaces that are not free have different ASIDs, and a free one maps nothing: each is false of a run, not lawful, in which a
+/// space is created with the ASID of another, or a page is mapped in a free one.
+#[tactic(auto, using(crate::proofs::RetiredRefuted::used_asid, crate::proofs::RetiredRefuted::mapped_while_free))]
+pub fn what_lawful_spaces_do_not_do()
+    ensures asid { ¬ AsidsDiffer spaces_of_one_home (history_of created_with_a_used_asid) }
+    ensures mapped { ¬ FreeMapsNothing spaces_of_one_home (history_of mapped_in_a_free_space) }
 {}

@@ -41,6 +41,12 @@ refusal_text refusals.Serving = codes "Serving"
 refusal_text refusals.NotServing = codes "NotServing"
 refusal_text refusals.NotFenced = codes "NotFenced"
 refusal_text refusals.NotDone = codes "NotDone"
+refusal_text refusals.Retiring = codes "Retiring"
+refusal_text refusals.InUse = codes "InUse"
+refusal_text refusals.NotAcked = codes "NotAcked"
+refusal_text refusals.NotRetiring = codes "NotRetiring"
+refusal_text refusals.NotFree = codes "NotFree"
+refusal_text refusals.AsidInUse = codes "AsidInUse"
 
 -- the harts of a set, ascending, with commas between them
 abbrev pub harts_text : List Bool → List ℕ

@@ -39,6 +39,12 @@ fn refusal_word(refusal: Refusal) -> &'static str
         Refusal::NotServing => "NotServing",
         Refusal::NotFenced => "NotFenced",
         Refusal::NotDone => "NotDone",
+        Refusal::Retiring => "Retiring",
+        Refusal::InUse => "InUse",
+        Refusal::NotAcked => "NotAcked",
+        Refusal::NotRetiring => "NotRetiring",
+        Refusal::NotFree => "NotFree",
+        Refusal::AsidInUse => "AsidInUse",
     }
 }
 

@@ -3,7 +3,7 @@ ghost use Rattle.std.specs.Prelude.{◌<◌};
 
 use crate::{reply_lines, walk_lines};
 use history::{Refusal, Reply};
-use pte::{Access, Ctx, Mode, Page, PageSize, VirtAddr, What};
+use pte::{Access, Ctx, Mode, Page, PageSize, Scheme, VirtAddr, What};
 use shoot::Request;
 use std::test::Fail;
 use steps::WalkStep;
@@ -44,33 +44,57 @@ fn answers_of_walks(rt: HostRuntime) -> Result<(), Fail> {
     for (access, va) in STEPS {
         steps.push(WalkStep { ctx, access, va })?;
     }
-    for (word, root, lines) in [
+    for (scheme, word, root, lines) in [
         (
+            Scheme::Sv39,
             // PPN 0x40000 with V, R, U and A
             0x1000_0053,
             0,
             "1 pa 0x40001234 1G\n2 trap 15 Denied\n3 trap 12 Denied\n4 trap 13 NotCanonical\n",
         ),
         (
+            Scheme::Sv39,
             // PPN 0x40000 with V, R, W, X, U, G and A
             0x1000_007F,
             0,
             "1 pa 0x40001234 1G global\n2 trap 15 NotDirty\n3 pa 0x7fffffff 1G global\n4 trap 13 NotCanonical\n",
         ),
         (
+            Scheme::Sv39,
             0,
             1,
             "1 trap 5 Outside\n2 trap 7 Outside\n3 trap 1 Outside\n4 trap 13 NotCanonical\n",
         ),
+        (
+            Scheme::Sv48,
+            // PPN 0x10000000 with V, R, U and A
+            0x40_0000_0053,
+            0,
+            "1 pa 0x10000001234 512G\n2 trap 15 Denied\n3 trap 12 Denied\n4 pa 0x14000000000 512G\n",
+        ),
+        (
+            Scheme::Sv48,
+            // PPN 0x10000000 with V, R, W, X, U, G and A
+            0x40_0000_007F,
+            0,
+            "1 pa 0x10000001234 512G global\n2 trap 15 NotDirty\n3 pa 0x1003fffffff 512G global\n4 pa 0x14000000000 512G global\n",
+        ),
+        (
+            Scheme::Sv48,
+            // the superpage of the first row, too small for a leaf of this root
+            0x1000_0053,
+            0,
+            "1 trap 13 Misaligned\n2 trap 15 Denied\n3 trap 12 Denied\n4 trap 13 Misaligned\n",
+        ),
     ] {
-        let text = walk_lines(alloc, &OneWord { word }, root, steps.as_slice())?;
+        let text = walk_lines(alloc, scheme, &OneWord { word }, root, steps.as_slice())?;
         assert_eq!(rt; text.as_str(), lines);
     }
     Ok(())
 }
 
 fn page(base: u64, size: PageSize) -> Result<Page, Fail> {
-    let Some(base) = VirtAddr::new(base) else {
+    let Some(base) = VirtAddr::new_in(Scheme::Sv48, base) else {
         return Err(Fail::from("not canonical"));
     };
     match Page::new(base, size) {
@@ -101,6 +125,7 @@ const REPLY_LINES: &str = "1 hit 0x3fffff
 14 done
 15 waiting 0,2,7
 16 waiting 3
+17 taken 2 page 512G:0x8000000000 asid 1
 ";
 
 #[test]
@@ -125,13 +150,17 @@ fn replies_to_steps(rt: HostRuntime) -> Result<(), Fail> {
         Reply::Done,
         Reply::Waiting(0b1000_0101),
         Reply::Waiting(0b1000),
+        taken(
+            2,
+            What::PageOf(page(0x80_0000_0000, PageSize::Gib512)?, Some(1)),
+        ),
     ];
     let text = reply_lines(rt.alloc(), &replies)?;
     assert_eq!(rt; text.as_str(), REPLY_LINES);
     Ok(())
 }
 
-const REFUSALS: [(Refusal, &str); 27] = [
+const REFUSALS: [(Refusal, &str); 33] = [
     (Refusal::NoHart, "1 refused NoHart\n"),
     (Refusal::NoSpace, "1 refused NoSpace\n"),
     (Refusal::NotHome, "1 refused NotHome\n"),
@@ -159,6 +188,12 @@ const REFUSALS: [(Refusal, &str); 27] = [
     (Refusal::NotServing, "1 refused NotServing\n"),
     (Refusal::NotFenced, "1 refused NotFenced\n"),
     (Refusal::NotDone, "1 refused NotDone\n"),
+    (Refusal::Retiring, "1 refused Retiring\n"),
+    (Refusal::InUse, "1 refused InUse\n"),
+    (Refusal::NotAcked, "1 refused NotAcked\n"),
+    (Refusal::NotRetiring, "1 refused NotRetiring\n"),
+    (Refusal::NotFree, "1 refused NotFree\n"),
+    (Refusal::AsidInUse, "1 refused AsidInUse\n"),
 ];
 
 #[test]

@@ -1,5 +1,5 @@
 -- What the schemes have in common.
-use Rattle.std.proofs.Common.{IsTrue, ◌-◌, ◌≡◌, ℕ, ◌+◌, ◌*◌, ◌^◌, ◌<◌, ◌≤◌, refl, inl, inr, arith}
+use Rattle.std.proofs.Common.{IsTrue, ◌-◌, ◌≡◌, ℕ, ◌+◌, ◌*◌, ◌^◌, ◌≤◌, refl, inl, inr, arith}
 use Rattle.std.specs.Prelude.{◌↔◌, ◌&&◌, nat_lt, nat_le}
 use Rattle.std.proofs.lemmas.Bool.{and_parts, and_from, or_cases, or_left, or_right, leb-true, ltb-true, le-leb, lt-ltb}
 use Rattle.pte.specs.declared.scheme.Scheme.{Scheme}

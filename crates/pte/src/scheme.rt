@@ -1,9 +1,9 @@
-//! The two schemes of translation.
+//! The two schemes of translation (privileged manual 4.4, Sv39, and 4.5, Sv48).
 
 ghost use Rattle.std.specs.Prelude.{◌≡◌};
 ghost use Rattle.pte.specs.Address.{address_bits, top_level};
 
-/// How many levels of tables there are, and how many bits a virtual address has (privileged manual 4.4 and 4.5).
+/// A scheme of translation: how many levels of tables there are, and so how many bits a virtual address has.
 #[derive(Clone, Copy, PartialEq, Eq, Debug, Default)]
 pub enum Scheme {
     /// Three levels, and addresses of 39 bits.
@@ -14,7 +14,8 @@ pub enum Scheme {
 }
 
 impl Scheme {
-    /// How many bits a virtual address has: all bits above the highest of them must equal it.
+    /// How many bits a virtual address has: all bits above the highest of them must equal it (privileged manual 4.4.1 and
+    /// 4.5.1).
     pub fn address_bits(self) -> u32
         ensures { result ≡ address_bits self }
     {
@@ -24,7 +25,8 @@ impl Scheme {
         }
     }
 
-    /// The level of a root table. Levels go down to 0, whose leaves are pages of 4 KiB.
+    /// The level of a root table: LEVELS less 1 of the manual (4.4.1 and 4.5.1). Levels go down to 0, whose leaves are pages of
+    /// 4 KiB.
     pub fn top_level(self) -> u8
         ensures { result ≡ top_level self }
     {

@@ -1,8 +1,8 @@
 //! Tables worked by hand from the bits, fields and rules of the RISC-V privileged manual, chapter 4.
 
 use crate::{
-    Access, Ctx, Kind, LeafFault, Mode, Page, PageSize, Pte, PteFlags, VirtAddr, access_cause,
-    allowed, page_cause,
+    Access, Ctx, Kind, LeafFault, Mode, Page, PageSize, Pte, PteFlags, Scheme, VirtAddr,
+    access_cause, allowed, page_cause,
 };
 use bitflags::Flags;
 use std::process::Abort;
@@ -230,21 +230,74 @@ fn canonical_addresses(rt: HostRuntime) {
     }
 }
 
-fn address(rt: &impl Abort, va: u64) -> VirtAddr {
-    VirtAddr::new(va).expect(rt, "a canonical address")
+/// In Sv39 bits 63 to 39 equal bit 38, in Sv48 bits 63 to 48 equal bit 47: an address, and whether it is canonical in each.
+#[test]
+fn canonical_addresses_of_each_scheme(rt: HostRuntime) {
+    let rows = [
+        (0, true, true),
+        (0x3F_FFFF_FFFF, true, true),
+        (0x40_0000_0000, false, true),
+        (0x7FFF_FFFF_FFFF, false, true),
+        (0x8000_0000_0000, false, false),
+        (0xFFFF_FFFF_FFFF, false, false),
+        (0x1_0000_0000_0000, false, false),
+        (0x8000_0000_0000_0000, false, false),
+        (0xFFFF_0000_0000_0000, false, false),
+        (0xFFFF_7FFF_FFFF_FFFF, false, false),
+        (0xFFFF_8000_0000_0000, false, true),
+        (0xFFFF_FFBF_FFFF_FFFF, false, true),
+        (0xFFFF_FFC0_0000_0000, true, true),
+        (u64::MAX, true, true),
+    ];
+    for (va, in_39, in_48) in &rows {
+        let narrow = VirtAddr::new_in(Scheme::Sv39, *va);
+        let wide = VirtAddr::new_in(Scheme::Sv48, *va);
+        assert_eq!(rt;
+            (narrow.is_some(), wide.is_some()),
+            (*in_39, *in_48),
+            "{:x}",
+            *va
+        );
+        assert_eq!(rt; VirtAddr::new(*va), narrow, "{:x}", *va);
+        assert_eq!(rt; wide.map(|va| va.get()), in_48.then_some(*va));
+    }
 }
 
-/// VPN[2] is bits 38 to 30, VPN[1] bits 29 to 21, VPN[0] bits 20 to 12, and the offset bits 11 to 0.
+#[test]
+fn levels_of_each_scheme(rt: HostRuntime) {
+    assert_eq!(rt;
+        (Scheme::Sv39.top_level(), Scheme::Sv39.address_bits()),
+        (2, 39)
+    );
+    assert_eq!(rt;
+        (Scheme::Sv48.top_level(), Scheme::Sv48.address_bits()),
+        (3, 48)
+    );
+    assert_eq!(rt; Scheme::default(), Scheme::Sv39);
+}
+
+fn address(rt: &impl Abort, va: u64) -> VirtAddr {
+    VirtAddr::new_in(Scheme::Sv48, va).expect(rt, "a canonical address")
+}
+
+/// VPN[3] is bits 47 to 39, VPN[2] bits 38 to 30, VPN[1] bits 29 to 21, VPN[0] bits 20 to 12, and the offset bits 11 to 0.
 #[test]
 fn fields_of_an_address(rt: HostRuntime) {
     let rows = [
-        (0x2A_F879_FABC, [0x0AB, 0x1C3, 0x19F], 0xABC),
-        (0xFFFF_FFFF_FFFF_F000, [511, 511, 511], 0),
-        (0xFFFF_FFC0_0020_1FFF, [256, 1, 1], 0xFFF),
+        (0x2A_F879_FABC, [0, 0x0AB, 0x1C3, 0x19F], 0xABC),
+        (0xFFFF_FFFF_FFFF_F000, [511, 511, 511, 511], 0),
+        (0xFFFF_FFC0_0020_1FFF, [511, 256, 1, 1], 0xFFF),
+        (0x80_8040_3ABC, [1, 2, 2, 3], 0xABC),
+        (0x7FFF_FFFF_FFFF, [255, 511, 511, 511], 0xFFF),
+        (0xFFFF_8000_0000_0000, [256, 0, 0, 0], 0),
+        (0x7F_FFFF_FFFF, [0, 511, 511, 511], 0xFFF),
     ];
-    for (va, [top, middle, low], offset) in &rows {
+    for (va, [top, upper, middle, low], offset) in &rows {
         let va = address(&rt, *va);
-        assert_eq!(rt; (va.vpn(2), va.vpn(1), va.vpn(0)), (*top, *middle, *low));
+        assert_eq!(rt;
+            [va.vpn(3), va.vpn(2), va.vpn(1), va.vpn(0)],
+            [*top, *upper, *middle, *low]
+        );
         assert_eq!(rt; va.offset(), *offset);
     }
 }
@@ -255,6 +308,7 @@ fn sizes_of_pages(rt: HostRuntime) {
         (PageSize::Kib4, 0, 0x1000, 1),
         (PageSize::Mib2, 1, 0x20_0000, 512),
         (PageSize::Gib1, 2, 0x4000_0000, 0x4_0000),
+        (PageSize::Gib512, 3, 0x80_0000_0000, 0x800_0000),
     ];
     for (size, level, bytes, pages) in &rows {
         assert_eq!(rt;
@@ -277,6 +331,12 @@ fn bases_of_pages(rt: HostRuntime) {
         (0x4000_0000, PageSize::Gib1, true),
         (0x2000_0000, PageSize::Gib1, false),
         (0x4020_0000, PageSize::Gib1, false),
+        (0, PageSize::Gib512, true),
+        (0x80_0000_0000, PageSize::Gib512, true),
+        (0x40_0000_0000, PageSize::Gib512, false),
+        (0x80_4000_0000, PageSize::Gib512, false),
+        (0xFFFF_FF80_0000_0000, PageSize::Gib512, true),
+        (0xFFFF_FFC0_0000_0000, PageSize::Gib512, false),
     ];
     for (base, size, is_page) in &bases {
         assert_eq!(rt;
@@ -287,13 +347,44 @@ fn bases_of_pages(rt: HostRuntime) {
         );
     }
     let around = [
-        (PageSize::Kib4, 0x8040_3000),
-        (PageSize::Mib2, 0x8040_0000),
-        (PageSize::Gib1, 0x8000_0000),
+        (PageSize::Kib4, 0x80_8040_3000),
+        (PageSize::Mib2, 0x80_8040_0000),
+        (PageSize::Gib1, 0x80_8000_0000),
+        (PageSize::Gib512, 0x80_0000_0000),
     ];
     for (size, base) in &around {
-        let page = Page::around(address(&rt, 0x8040_3ABC), *size);
+        let page = Page::around(address(&rt, 0x80_8040_3ABC), *size);
         assert_eq!(rt; (page.base().get(), page.size()), (*base, *size));
+    }
+}
+
+/// A base, a size, and whether there is that page in Sv39 and in Sv48.
+#[test]
+fn pages_that_fit_a_scheme(rt: HostRuntime) {
+    let rows = [
+        (0x3F_FFFF_F000, PageSize::Kib4, true, true),
+        (0x40_0000_0000, PageSize::Kib4, false, true),
+        (0x3F_C000_0000, PageSize::Gib1, true, true),
+        (0x40_0000_0000, PageSize::Gib1, false, true),
+        (0x40_0000_0000, PageSize::Mib2, false, true),
+        (0, PageSize::Gib512, false, true),
+        (0x80_0000_0000, PageSize::Gib512, false, true),
+        (0xFFFF_FF80_0000_0000, PageSize::Gib512, false, true),
+        (0xFFFF_8000_0000_0000, PageSize::Gib512, false, true),
+        (0xFFFF_FFBF_FFFF_F000, PageSize::Kib4, false, true),
+        (0xFFFF_FFC0_0000_0000, PageSize::Gib1, true, true),
+        (0xFFFF_FFFF_FFFF_F000, PageSize::Kib4, true, true),
+    ];
+    for (base, size, in_39, in_48) in &rows {
+        let page = Page::around(address(&rt, *base), *size);
+        assert_eq!(rt; page.base().get(), *base);
+        assert_eq!(rt;
+            (page.fits(Scheme::Sv39), page.fits(Scheme::Sv48)),
+            (*in_39, *in_48),
+            "{:x} {:?}",
+            *base,
+            *size
+        );
     }
 }
 
@@ -320,6 +411,8 @@ fn parts_of_a_page(rt: HostRuntime) {
         (0x40_0000, PageSize::Mib2, true),
         (0, PageSize::Gib1, true),
         (0x4000_0000, PageSize::Gib1, false),
+        (0, PageSize::Gib512, true),
+        (0x80_0000_0000, PageSize::Gib512, false),
     ];
     for (base, size, overlaps) in &pages {
         let page = Page::around(address(&rt, *base), *size);
@@ -332,4 +425,16 @@ fn parts_of_a_page(rt: HostRuntime) {
     }
     let last = Page::around(address(&rt, u64::MAX), PageSize::Kib4);
     assert!(rt; last.contains(address(&rt, u64::MAX)) && last.overlaps(&last));
+    let widest = Page::around(address(&rt, 0x80_0000_0000), PageSize::Gib512);
+    let addresses = [
+        (0x7F_FFFF_FFFF, false),
+        (0x80_0000_0000, true),
+        (0xFF_FFFF_FFFF, true),
+        (0x100_0000_0000, false),
+    ];
+    for (va, lies_in) in &addresses {
+        assert_eq!(rt; widest.contains(address(&rt, *va)), *lies_in, "{:x}", *va);
+    }
+    let highest = Page::around(address(&rt, u64::MAX), PageSize::Gib512);
+    assert!(rt; highest.contains(address(&rt, u64::MAX)) && highest.overlaps(&last));
 }

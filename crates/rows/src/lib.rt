@@ -9,4 +9,10 @@ mod page_examples;
 #[cfg(test)]
 mod run_files;
 #[cfg(test)]
+mod space_examples;
+#[cfg(test)]
+mod space_files;
+#[cfg(test)]
+mod sv48_files;
+#[cfg(test)]
 mod walk_files;

@@ -313,6 +313,115 @@ steps = [
 ",
 };
 
+const SV48_SPLIT: Example = Example {
+    name: "sv48-split",
+    file: r##"# A page of 512 GiB replaced by smaller ones while a hart still holds it whole.
+#
+#     ./svsim run examples/sv48-split.toml
+#
+# In real kernels: the linear map of all memory is made of the largest leaves that fit. To make one small page of it
+# read only, the leaf above it is split first, and with Sv48 that may be a leaf of the root (Linux on RISC-V,
+# __split_linear_mapping_p4d). A flush of the small range that was asked for is then not what was changed: Linux
+# flushes everything there, since it may have split a page that is larger than the range.
+#
+# Here: with Sv48 (privileged manual 4.5.1) a walk has four levels, and a leaf of the root maps 512 GiB. Hart 0 takes
+# the page apart and gives back three parts of it. Lines 12 to 14 are accesses through the old entry: to a page that is
+# read only by now, to one whose data has moved, and to one that is not there. Line 33 and on: the request for the
+# large page drops the entries of its parts.
+
+harts = 2
+mode = "sv48"
+
+steps = [
+    # 512 GiB at 0x8000000000, one leaf in slot 1 of the root. Hart 1 writes to its last byte: one load.
+    "0 map 0 512G:0x8000000000 0x10000000 rwuad",
+    "1 begin u store 0xffffffffff",
+    "1 load", # 3 fill 0x17fffffffff
+
+    # No smaller page can be taken out of it: its tables have no word for it.
+    "0 unmap 0 1G:0xffc0000000 0,1", # 4 refused WrongSize
+
+    # The split: the first GiB read only, the second not at all but for a small page, the last one moved. The bug:
+    # nobody has asked hart 1 yet.
+    "0 unmap 0 512G:0x8000000000 0,1",
+    "0 map 0 1G:0x8000000000 0x10000000 ruad",
+    "0 map 0 1G:0x8000000000 0x10000000 ruad",
+    "0 map 0 1G:0xffc0000000 0x40000 rwuad",
+    "0 map 0 4K:0x8040000000 0x100 ruad",
+    "0 map 0 4K:0x8040000000 0x100 ruad",
+    "0 map 0 4K:0x8040000000 0x100 ruad",
+    "1 begin u store 0x8000000008", # 12 hit 0x10000000008: read only in the tables
+    "1 begin u load 0xffffffffff",  # 13 hit 0x17fffffffff: elsewhere in the tables
+    "1 begin u load 0xc000000000",  # 14 hit 0x14000000000: not in the tables
+
+    # A fence for an address of the next page of 512 GiB drops nothing of this one.
+    "1 fence 0x10000000000 1",
+    "1 begin u load 0xc000000000", # 16 hit 0x14000000000
+
+    # A fence at one address of the page drops its entry whole, and the tables are seen again.
+    "1 fence 0xc000000000 1",
+    "1 begin u store 0x8000000008",
+    "1 load",
+    "1 load", # 20 trap 15 Denied
+    "1 begin u load 0xffffffffff",
+    "1 load",
+    "1 load", # 23 fill 0x7fffffff: now an entry of 1 GiB
+    "1 begin u load 0x8040000008",
+    "1 load",
+    "1 load",
+    "1 load",
+    "1 load", # 28 fill 0x100008: and one of 4 KiB
+
+    # The request for the large page is still owed. It drops the entries of its parts: more than needed, and no harm.
+    "0 post 0 1",
+    "1 take 0", # 30 taken 0 page 512G:0x8000000000 asid 1
+    "1 servefence",
+    "1 ack",
+    "1 begin u load 0xffffffffff", # 33 more
+    "1 load",
+    "1 load",
+    "1 begin u load 0x8040000008", # 36 more
+]
+"##,
+    lines: r"1 leaf
+2 more
+3 fill 0x17fffffffff
+4 refused WrongSize
+5 opened 0
+6 table 0x80002
+7 leaf
+8 leaf
+9 table 0x80003
+10 table 0x80004
+11 leaf
+12 hit 0x10000000008
+13 hit 0x17fffffffff
+14 hit 0x14000000000
+15 ok
+16 hit 0x14000000000
+17 ok
+18 more
+19 more
+20 trap 15 Denied
+21 more
+22 more
+23 fill 0x7fffffff
+24 more
+25 more
+26 more
+27 more
+28 fill 0x100008
+29 ok
+30 taken 0 page 512G:0x8000000000 asid 1
+31 ok
+32 ok
+33 more
+34 more
+35 fill 0x7fffffff
+36 more
+",
+};
+
 #[test]
 fn page_examples_print_their_lines(rt: HostRuntime) -> Result<(), Fail> {
     for example in [
@@ -320,6 +429,7 @@ fn page_examples_print_their_lines(rt: HostRuntime) -> Result<(), Fail> {
         SUPERPAGE_SPLIT,
         GLOBAL_PAGE_ASID_FENCE,
         SPACE_FLUSH_GLOBAL,
+        SV48_SPLIT,
     ] {
         let printed = ends(rt.alloc(), example.file, 0, example.lines, "");
         assert!(rt; printed, "{}", example.name);

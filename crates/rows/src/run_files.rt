@@ -14,14 +14,14 @@ pub fn ends(alloc: Global, text: &str, status: u8, lines: &str, line: &str) -> b
 
 /// A file that is written step by step, and the lines that it is to print.
 #[derive(Drop)]
-struct Script {
+pub struct Script {
     file: String,
     lines: String,
     steps: u64,
 }
 
 impl Script {
-    fn new(alloc: Global, keys: &str) -> Result<Self, AllocError> {
+    pub fn new(alloc: Global, keys: &str) -> Result<Self, AllocError> {
         Ok(Self {
             file: format!(in alloc; "{keys}\nsteps = [\n")?,
             lines: String::new(alloc),
@@ -29,7 +29,7 @@ impl Script {
         })
     }
 
-    fn step(&mut self, step: &str, reply: &str) -> Result<(), AllocError> {
+    pub fn step(&mut self, step: &str, reply: &str) -> Result<(), AllocError> {
         self.steps = self.steps.saturating_add(1);
         let number = self.steps;
         writeln!(self.file, "    '{step}',")?;
@@ -37,7 +37,7 @@ impl Script {
     }
 
     /// Adds each line `STEP -> REPLY`.
-    fn steps(&mut self, turns: &str) -> Result<(), AllocError> {
+    pub fn steps(&mut self, turns: &str) -> Result<(), AllocError> {
         for turn in turns.lines() {
             if let Some((step, reply)) = turn.split_once(" -> ") {
                 self.step(step, reply)?;
@@ -46,7 +46,7 @@ impl Script {
         Ok(())
     }
 
-    fn answers(mut self, alloc: Global) -> Result<bool, AllocError> {
+    pub fn answers(mut self, alloc: Global) -> Result<bool, AllocError> {
         self.file.push_str("]\n")?;
         Ok(ends(alloc, self.file.as_str(), 0, self.lines.as_str(), ""))
     }
@@ -54,13 +54,13 @@ impl Script {
 
 /// A file's keys, and its steps with the reply of each.
 #[derive(Drop)]
-struct Row {
-    name: &'static str,
-    keys: &'static str,
-    turns: &'static str,
+pub struct Row {
+    pub name: &'static str,
+    pub keys: &'static str,
+    pub turns: &'static str,
 }
 
-fn answers(alloc: Global, row: &Row) -> Result<bool, Fail> {
+pub fn answers(alloc: Global, row: &Row) -> Result<bool, Fail> {
     let mut script = Script::new(alloc, row.keys)?;
     script.steps(row.turns)?;
     Ok(script.answers(alloc)?)

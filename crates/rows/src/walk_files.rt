@@ -54,7 +54,7 @@ fn on_leaf(
 }
 
 /// Whether a command on the text ends so: with this status, output and line on standard error.
-fn ends(alloc: Global, text: &str, status: u8, lines: &str, line: &str) -> bool {
+pub fn ends(alloc: Global, text: &str, status: u8, lines: &str, line: &str) -> bool {
     let mut input = text.as_bytes();
     let mut out: Vec<u8> = Vec::new(alloc);
     let mut err: Vec<u8> = Vec::new(alloc);

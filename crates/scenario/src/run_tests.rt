@@ -36,7 +36,7 @@ const SUPERPAGE_LINES: &str = "1 table 0x80002
 19 ok
 ";
 
-const ANSWERED: [(&str, &str); 6] = [
+const ANSWERED: [(&str, &str); 8] = [
     ("", ""),
     (SUPERPAGE, SUPERPAGE_LINES),
     ("steps = [\"0 load\"]", "1 refused NotWalking\n"),
@@ -51,6 +51,14 @@ const ANSWERED: [(&str, &str); 6] = [
     (
         "base = \"4096\"\nspares = [1]\nspaces = [\" 0\\t7 \"]\nsteps = [\"0 map 0 1G:0x0 0x40000 rad\", \"0 map 0 4K:0xffffffc000000000 0 r\", \"0 map k 2M:0xffffffffc0000000 0x200 rgad\", \"0 map 0 4K:0x40000000 1 r\", \"0 map 0 4K:0x40000000 1 r\"]",
         "1 leaf\n2 refused WrongHalf\n3 leaf\n4 table 0x1002\n5 refused NoFrame\n",
+    ),
+    (
+        "mode = \"sv48 \"\nsteps = [\"0 map 0 512G:0x8000000000 0x10000000 ruad\", \"0 begin u load 0x8080403abc\", \"0 load\", \"0 unmap 0 4K:0x4000000000 0\"]",
+        "1 leaf\n2 more\n3 fill 0x10080403abc\n4 refused NotMapped\n",
+    ),
+    (
+        "mode = \"sv39\"\nsteps = [\"0 map 0 1G:0x0 0x40000 rad\", \"0 begin s load 0x4000000000\"]",
+        "1 leaf\n2 trap 13 NotCanonical\n",
     ),
 ];
 
@@ -117,7 +125,7 @@ fn four_requests_wait_where_no_key_says_how_many(rt: HostRuntime) -> Result<(), 
     Ok(())
 }
 
-const WRONG_KEYS: [(&str, &str); 14] = [
+const WRONG_KEYS: [(&str, &str); 18] = [
     ("zoo = 1\nroot = \"0\"", "key root: wrong"),
     ("harts = \"1\"\nzoo = 1", "key zoo: wrong"),
     ("harts = \"1\"", "key harts: wrong"),
@@ -132,6 +140,13 @@ const WRONG_KEYS: [(&str, &str); 14] = [
     ("spaces = [\"256 1\"]", "key spaces: wrong"),
     ("spaces = [\"0 65536\"]", "key spaces: wrong"),
     ("steps = [1]\nharts = 9", "key steps: wrong"),
+    ("mode = \"sv57\"\nsteps = 1", "key steps: wrong"),
+    (
+        "mode = \"sv57\"\nharts = 9\nsteps = [\"\"]",
+        "key mode: wrong",
+    ),
+    ("mode = 39", "key mode: wrong"),
+    ("mode = \"sv39 sv39\"", "key mode: wrong"),
 ];
 
 const WRONG_LAYOUTS: [&str; 14] = [
@@ -151,7 +166,7 @@ const WRONG_LAYOUTS: [&str; 14] = [
     "spaces = [\"0 1\", \"0 1\"]",
 ];
 
-const WRONG_STEPS: [(&str, &str); 4] = [
+const WRONG_STEPS: [(&str, &str); 8] = [
     (
         "harts = 8\nsteps = [\"0 load\", \"8 load\"]",
         "step 2: no such hart",
@@ -161,6 +176,22 @@ const WRONG_STEPS: [(&str, &str); 4] = [
         "step 1: not a page",
     ),
     ("steps = [\"0 load\", \"u load 0x0\"]", "step 2: not a step"),
+    (
+        "steps = [\"0 map 0 512G:0x8000000000 0x10000000 r\"]",
+        "step 1: not a step",
+    ),
+    (
+        "mode = \"sv39\"\nsteps = [\"9 unmap 0 512G:0x0 0\"]",
+        "step 1: not a step",
+    ),
+    (
+        "mode = \"sv48\"\nsteps = [\"0 unmap 0 512G:0x1 0\"]",
+        "step 1: not a page",
+    ),
+    (
+        "mode = \"sv48\"\nsteps = [\"0 unmap 0 4K:0x800000000000 0\"]",
+        "step 1: not a page",
+    ),
     (
         "steps = [\"0 load\", \"0 jump\", \"1 load\"]",
         "step 2: not a step",

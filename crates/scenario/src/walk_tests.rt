@@ -4,7 +4,7 @@ use crate::tests::{FILE, LINES, prints, refuses};
 use std::alloc::Global;
 use std::test::Fail;
 
-const ANSWERED: [(&str, &str); 8] = [
+const ANSWERED: [(&str, &str); 11] = [
     (FILE, LINES),
     ("", ""),
     ("steps = []", ""),
@@ -25,6 +25,18 @@ const ANSWERED: [(&str, &str); 8] = [
         "root = \"0xFFFFFFFFFFF\"\nframes = [\"0xFFFFFFFFFFF\"]\nsteps = [\"u load 0\"]",
         "1 trap 13 Invalid\n",
     ),
+    (
+        "mode = \"sv48\"\nframes = [\"0x80000\"]\nwords = [\"0x80000 1 0x40000000D7\"]\nsteps = [\"u load 0x8080403ABC\", \"u load 0x7FFFFFFFFFFF\", \"u load 0x800000000000\"]",
+        "1 pa 0x10080403abc 512G\n2 trap 13 Invalid\n3 trap 13 NotCanonical\n",
+    ),
+    (
+        "mode = \" \\tsv39\"\nframes = [\"0x80000\"]\nwords = [\"0x80000 1 0x40000000D7\"]\nsteps = [\"u load 0x40000ABC\", \"u load 0x8080403ABC\"]",
+        "1 pa 0x10000000abc 1G\n2 trap 13 NotCanonical\n",
+    ),
+    (
+        "frames = [\"0x80000\"]\nwords = [\"0x80000 1 0x40000000D7\"]\nsteps = [\"u load 0x40000ABC\", \"u load 0x8080403ABC\"]",
+        "1 pa 0x10000000abc 1G\n2 trap 13 NotCanonical\n",
+    ),
 ];
 
 #[test]
@@ -35,7 +47,7 @@ fn answered_files(rt: HostRuntime) -> Result<(), Fail> {
     Ok(())
 }
 
-const WRONG_KEYS: [(&str, &str); 17] = [
+const WRONG_KEYS: [(&str, &str); 23] = [
     ("harts = 1", "key harts: wrong"),
     ("zoo = 1\n\"\" = 2\nbeta = 3", "key : wrong"),
     ("zoo = 1\nharts = 2\nbeta = 3", "key beta: wrong"),
@@ -56,6 +68,12 @@ const WRONG_KEYS: [(&str, &str); 17] = [
     ("words = 1\nsteps = 1", "key words: wrong"),
     ("steps = [\"u jump 0x0\", 1]", "key steps: wrong"),
     ("steps = \"u load 0x0\"", "key steps: wrong"),
+    ("mode = 48\nsteps = 1", "key steps: wrong"),
+    ("mode = 48", "key mode: wrong"),
+    ("mode = \"sv57\"\nsteps = [\"\"]", "key mode: wrong"),
+    ("mode = \"\"", "key mode: wrong"),
+    ("mode = \"sv48 sv48\"", "key mode: wrong"),
+    ("mode = \"sv48\\n\"", "key mode: wrong"),
 ];
 
 const WRONG_STEPS: [(&str, &str); 9] = [

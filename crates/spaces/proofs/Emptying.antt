@@ -26,7 +26,7 @@ use Rattle.spaces.proofs.Leaves.{leaf-carried, member-of, maps-of, moved, path-n
 use Rattle.spaces.proofs.Numbers.{number-part}
 
 -- a word that was emptied
-zero-none : (o : Option ℕ) → pointed (zero_word o) ≡ None
+pub zero-none : (o : Option ℕ) → pointed (zero_word o) ≡ None
 zero-none None = refl
 zero-none (Some w) = pointed-zero
 
@@ -34,12 +34,12 @@ zero-is : (o : Option ℕ) (word : ℕ) → zero_word o ≡ Some word → word �
 zero-is None word e = absurd (let bad : None ≡ Some word = e in cc)
 zero-is (Some w) word e = sym (some-same 0 word e)
 
-zero-some : (o : Option ℕ) → IsSome o → zero_word o ≡ Some 0
+pub zero-some : (o : Option ℕ) → IsSome o → zero_word o ≡ Some 0
 zero-some (Some w) e = refl
 zero-some None e = absurd (let bad : false ≡ true = e in cc)
 
 -- holders once a space was given back
-held-is : (o : Option Place) (s : ℕ) → is_held_for o (Space s) ≡ true → o ≡ Some (Space s)
+pub held-is : (o : Option Place) (s : ℕ) → is_held_for o (Space s) ≡ true → o ≡ Some (Space s)
 held-is None s e = absurd (false≢true e)
 held-is (Some (Space t)) s e = ap (λ x. Some (Space x)) (eqb-true t s e)
 held-is (Some Kernel) s e = absurd (false≢true e)
@@ -58,7 +58,7 @@ given-none o s e = by_held (is_held_for o (Space s)) refl e
     by_held true t e = inr (held-is o s t)
     by_held false t e = inl e
 
-given-same : (o : Option Place) (s : ℕ) → (o ≡ Some (Space s) → ⊥) → given_back o s ≡ o
+pub given-same : (o : Option Place) (s : ℕ) → (o ≡ Some (Space s) → ⊥) → given_back o s ≡ o
 given-same o s apart = elim (cases_Bool (is_held_for o (Space s))) [
   | inl t ↦ absurd (apart (held-is o s t))
   | inr f ↦ ap (λ t. cond t None o) f

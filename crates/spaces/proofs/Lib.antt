@@ -21,3 +21,5 @@ pub mod Applying
 pub mod GivingBack
 pub mod Dues
 pub mod Spares
+pub mod Unused
+pub mod Given

@@ -40,11 +40,12 @@ is_kernel Kernel = true
 abbrev pub root_slot : Layout → Span → ℕ
 root_slot l page = vpn_of page.base (top_level l.scheme)
 
--- a page that is none of the scheme, or of a space outside the user's half, or of the kernel outside the window
+-- a page of a space outside the user's half, or of the kernel outside the window
 abbrev pub is_outside : Layout → Place → Span → Bool
 is_outside l (Space s) page = nat_le user_slots (root_slot l page)
 is_outside l Kernel page = nat_lt (root_slot l page) (first_window_slot l)
 
+-- or one that is none of the scheme
 abbrev pub is_wrong_half : Layout → Place → Span → Bool
 is_wrong_half l place page = not (fits l.scheme page) || is_outside l place page
 

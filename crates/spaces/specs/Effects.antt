@@ -1,5 +1,5 @@
 -- What an edit does to the pages that the roots map.
-use Rattle.std.specs.Prelude.{ℕ, Bool, ◌≡◌, ◌+◌, ◌*◌, ◌-◌, ◌<◌, ◌≤◌, ◌⊎◌, ◌↔◌, length, Option, Some, IsSome, IsNone, Ok, unwrap_or}
+use Rattle.std.specs.Prelude.{ℕ, Bool, ◌≡◌, ◌≢◌, ◌+◌, ◌*◌, ◌-◌, ◌<◌, ◌≤◌, ◌⊎◌, ◌↔◌, length, slice_index, Option, Some, None, IsSome, IsNone, Ok, unwrap_or}
 use Rattle.pte.specs.declared.flags.PteFlags.{PteFlags}
 use Rattle.pte.specs.declared.scheme.Scheme.{Scheme}
 use Rattle.pte.specs.Address.{Span, IsPage, bytes_of, pages_of, top_level, vpn_of}
@@ -11,7 +11,7 @@ use Rattle.spaces.specs.declared.places.Place.TheVariants.{Space, Kernel}
 use Rattle.spaces.specs.declared.wishes.PathEnd.{PathEnd}
 use Rattle.spaces.specs.declared.wishes.Wish.{Wish}
 use Rattle.spaces.specs.declared.wishes.Wish.TheVariants.{Map, Unmap, Protect}
-use Rattle.spaces.specs.Layout.{Layout, HasPlace, root_ppn, user_slots}
+use Rattle.spaces.specs.Layout.{Layout, HasPlace, root_ppn, spare_ppn, user_slots}
 use Rattle.spaces.specs.Held.{IsLayout}
 use Rattle.spaces.specs.Holders.{Holders, unused_spare}
 use Rattle.spaces.specs.Tree.{IsTree}
@@ -67,6 +67,31 @@ abbrev pub EmptiesSpace : Layout → ℕ → Tables → Tables → Type 0
 EmptiesSpace l space old new = (s number ppn : ℕ) (f : PteFlags) (global : Bool) → s < length l.homes
     → Maps l.scheme new (root_ppn l s) number ppn f global
     ↔ (Maps l.scheme old (root_ppn l s) number ppn f global × (IsOfUser l.scheme space s number → ⊥))
+
+-- the words of the space alone become 0: those of the frames in use for it, and those of its root's user half
+pub record EmptiesWords (l : Layout) (space : ℕ) (holders : Holders) (old new : Tables) : Type 0 where
+  pub frames : (ppn i : ℕ) → holders ppn ≡ Some (Space space) → IsSome (old ppn i) → new ppn i ≡ Some 0
+  pub root : (i : ℕ) → i < user_slots → IsSome (old (root_ppn l space) i) → new (root_ppn l space) i ≡ Some 0
+  pub others : (ppn i : ℕ) → holders ppn ≢ Some (Space space) → (ppn ≡ root_ppn l space → user_slots ≤ i) → new ppn i ≡ old ppn i
+  pub none_more : (ppn i : ℕ) → old ppn i ≡ None → new ppn i ≡ None
+
+-- the frames in use for the space become unused, and no other
+pub record GivesBack (space : ℕ) (old new : Holders) : Type 0 where
+  pub unused : (ppn : ℕ) → old ppn ≡ Some (Space space) → new ppn ≡ None
+  pub others : (ppn : ℕ) → old ppn ≢ Some (Space space) → new ppn ≡ old ppn
+
+-- the frame that a stored word points to is in use for the place, and no other changes
+pub record TakesFrame (place : Place) (word : ℕ) (old new : Holders) : Type 0 where
+  pub taken : (ppn : ℕ) → pointed (Some word) ≡ Some ppn → new ppn ≡ Some place
+  pub others : (ppn : ℕ) → pointed (Some word) ≢ Some ppn → new ppn ≡ old ppn
+
+-- the frame is the lowest spare one of the hart that is unused
+pub record IsLowestUnused (l : Layout) (holders : Holders) (h ppn : ℕ) : Type 0 where
+  pub number : ℕ
+  pub below : number < slice_index l.spares h
+  pub is : ppn ≡ spare_ppn l h + number
+  pub unused : holders ppn ≡ None
+  pub lowest : (n : ℕ) → n < number → holders (spare_ppn l h + n) ≢ None
 
 -- an edit of a tree that is accepted
 pub record IsEdit (l : Layout) (words : Tables) (holders : Holders) (hart : ℕ) (wish : Wish) (store : Store) : Type 0 where

@@ -32,7 +32,7 @@ pub struct Space {
 /// What memory is opened with.
 #[derive(Drop)]
 pub struct Config {
-    /// The scheme of translation.
+    /// The scheme of translation, which all tables have.
     pub scheme: Scheme,
     /// The number of harts, from 1 to 8.
     pub harts: u16,

@@ -27,7 +27,8 @@ impl From<AllocError> for OpenFault {
 pub enum MapFault {
     /// The hart is not the home of the place.
     NotHome,
-    /// A page of a space outside the user's half of the root, or a page of the kernel outside the window.
+    /// A page that is none of the scheme (`Page::fits`), a page of a space outside the user's half of the root, or a page of the
+    /// kernel outside the window.
     WrongHalf,
     /// Flags that no leaf has, G for a space, or no G for the kernel.
     BadFlags,

@@ -209,7 +209,7 @@ impl Memory {
         }
     }
 
-    /// Whether the page is none of the scheme, or lies outside the half of the root that the place has.
+    /// Whether the page is none of the scheme, or lies outside the part of the root that the place has.
     pub(crate) fn is_wrong_half(&self, place: Place, page: Page) -> bool
         ensures { result ≡ is_wrong_half self.now.layout place page }
     {

@@ -1,6 +1,6 @@
 //! Laws of edits, over plain words: functions that do nothing, whose contracts are the laws.
 
-ghost use Rattle.std.specs.Prelude.{◌≡◌, ◌+◌, ◌-◌, ◌<◌, ◌≤◌, ◌↔◌, ◌*◌, ℕ, Bool, IsTrue, None, Some, slice_index, length};
+ghost use Rattle.std.specs.Prelude.{◌≡◌, ◌≢◌, ◌+◌, ◌-◌, ◌<◌, ◌≤◌, ◌↔◌, ◌*◌, ℕ, Bool, IsTrue, None, Some, slice_index, length};
 ghost use Rattle.pte.specs.declared.flags.PteFlags.{PteFlags};
 ghost use Rattle.pte.specs.Address.{bytes_of, Span, top_level, vpn_of};
 ghost use Rattle.pte.specs.declared.scheme.Scheme.{Scheme};
@@ -22,7 +22,7 @@ ghost use Rattle.spaces.specs.declared.places.Place.TheVariants.{Kernel as kerne
 ghost use Rattle.pte.specs.declared.address.PageSize.TheVariants.{Kib4};
 ghost use Rattle.spaces.specs.Accepted.{Accepted};
 ghost use Rattle.spaces.specs.Applied.{holders_after, words_after};
-ghost use Rattle.spaces.specs.Effects.{EmptiesSpace, HasEffect, IsAbout, IsEdit, IsEnd};
+ghost use Rattle.spaces.specs.Effects.{EmptiesSpace, EmptiesWords, GivesBack, HasEffect, IsAbout, IsEdit, IsEnd, IsLowestUnused, TakesFrame};
 
 /// A configuration within the limits has a layout within them.
 pub fn limits_give_layout()
@@ -119,4 +119,26 @@ pub fn unused_frame_is_not_reached()
     ensures { (l : Layout) (words : Tables) (holders : Holders) → IsLayout l → IsTree l words holders → (h k frame : ℕ) → k < slice_index l.spares h
         → frame ≡ spare_ppn l h + k → holders frame ≡ None
         → (s va n : ℕ) → s < length l.homes → ¬ (table_below words va (top_level l.scheme) (root_ppn l s) n ≡ Some frame) }
+{}
+
+/// Giving back makes the words of the space alone 0: those of its frames, and those of its root's user half.
+pub fn giving_back_empties_the_words()
+    ensures { (l : Layout) (holders : Holders) (s : ℕ) (words : Tables) → EmptiesWords l s holders words (emptied l holders s words) }
+{}
+
+/// It leaves the frames of the space unused, and no other.
+pub fn giving_back_leaves_the_frames_unused()
+    ensures { (holders : Holders) (s : ℕ) → GivesBack s holders (λ f. given_back (holders f) s) }
+{}
+
+/// A store takes the frame that its word points to for its place, and no other.
+pub fn store_takes_its_frame()
+    ensures { (holders : Holders) (place : PlaceOf) (store : Store) → TakesFrame place store.word holders (holders_after holders place store) }
+{}
+
+/// A new table takes the lowest spare frame of the home that is unused, and there is none exactly if each is in use.
+pub fn new_table_takes_the_lowest_unused_frame()
+    ensures lowest { (l : Layout) (holders : Holders) (h ppn : ℕ) → (unused_spare l holders h ≡ Some ppn) ↔ IsLowestUnused l holders h ppn }
+    ensures none { (l : Layout) (holders : Holders) (h : ℕ) → (unused_spare l holders h ≡ None)
+        ↔ ((n : ℕ) → n < slice_index l.spares h → holders (spare_ppn l h + n) ≢ None) }
 {}

@@ -17,9 +17,11 @@ pub use faults::{MapFault, OpenFault};
 pub use frames::Memory;
 pub use laws::{
     edit_changes_its_page, edit_is_accepted, edit_keeps_tree, edit_stays_at_home,
-    giving_back_empties_the_space, giving_back_keeps_tree, home_is_one,
-    kernel_path_starts_in_the_window, limits_give_layout, map_keeps_mappings, opening_is_tree,
-    path_ends_lowest, unmapped_page_is_gone, unused_frame_is_not_reached, window_is_global,
+    giving_back_empties_the_space, giving_back_empties_the_words, giving_back_keeps_tree,
+    giving_back_leaves_the_frames_unused, home_is_one, kernel_path_starts_in_the_window,
+    limits_give_layout, map_keeps_mappings, new_table_takes_the_lowest_unused_frame,
+    opening_is_tree, path_ends_lowest, store_takes_its_frame, unmapped_page_is_gone,
+    unused_frame_is_not_reached, window_is_global,
 };
 pub use places::Place;
 pub use wishes::Wish;

@@ -6,10 +6,12 @@ use crate::{
 };
 use arrayvec::ArrayVec;
 use bitflags::Flags;
-use pte::{Page, PageSize, PteFlags, VirtAddr};
+use pte::{Page, PageSize, PteFlags, Scheme, VirtAddr};
 use std::alloc::Global;
 use std::process::Abort;
 use walk::Words;
+
+mod sv48;
 
 const R: u8 = 0x02;
 
@@ -57,7 +59,7 @@ fn spaces_of(list: &[(u8, u16)]) -> ArrayVec<Space, 32> {
 /// One hart with 8 spare frames, one space of ASID 1, one slot of the window.
 fn default_config() -> Config {
     Config {
-        scheme: pte::Scheme::Sv39,
+        scheme: Scheme::Sv39,
         harts: 1,
         spaces: spaces_of(&[(0, 1)]),
         window: 1,
@@ -68,7 +70,11 @@ fn default_config() -> Config {
 }
 
 fn page(rt: &impl Abort, base: u64, size: PageSize) -> Page {
-    Page::new(VirtAddr::new(base).expect(rt, "an address"), size).expect(rt, "a page")
+    Page::new(
+        VirtAddr::new_in(Scheme::Sv48, base).expect(rt, "an address"),
+        size,
+    )
+    .expect(rt, "a page")
 }
 
 /// What is asked of a page of a place.

@@ -7,7 +7,7 @@ ghost use Rattle.shoot.specs.declared.TheConstants.{MAX_TICKETS};
 use crate::{Config, Event, Machine, OpenFault, Place, Refusal, Reply, Request, Scope, Space};
 use arrayvec::ArrayVec;
 use bitflags::Flags;
-use pte::{Access, Ctx, Mode, Page, PageSize, PteFlags, VirtAddr, What};
+use pte::{Access, Ctx, Mode, Page, PageSize, PteFlags, Scheme, VirtAddr, What};
 use std::alloc::Global;
 use std::process::Abort;
 use std::test::*;
@@ -18,6 +18,8 @@ const R: u8 = 0x02;
 const W: u8 = 0x04;
 
 const U: u8 = 0x10;
+
+const G: u8 = 0x20;
 
 const A: u8 = 0x40;
 
@@ -52,13 +54,20 @@ fn spaces_of(list: &[(u8, u16)]) -> ArrayVec<Space, 32> {
 /// Two harts with 8 spare frames each, one space of ASID 1, one slot of the window.
 fn two_harts() -> Config {
     Config {
-        scheme: pte::Scheme::Sv39,
+        scheme: Scheme::Sv39,
         harts: 2,
         spaces: spaces_of(&[(0, 1)]),
         window: 1,
         base: 0x8_0000,
         spares: spares_of(&[8, 8]),
         capacity: 4,
+    }
+}
+
+fn two_harts_in_sv48() -> Config {
+    Config {
+        scheme: Scheme::Sv48,
+        ..two_harts()
     }
 }
 
@@ -70,8 +79,13 @@ fn opened(rt: &impl Abort, alloc: Global, config: &Config) -> Machine {
     }
 }
 
+/// An address of Sv48, so also each one of Sv39.
+fn address(rt: &impl Abort, va: u64) -> VirtAddr {
+    VirtAddr::new_in(Scheme::Sv48, va).expect(rt, "an address")
+}
+
 fn page(rt: &impl Abort, base: u64, size: PageSize) -> Page {
-    Page::new(VirtAddr::new(base).expect(rt, "an address"), size).expect(rt, "a page")
+    Page::new(address(rt, base), size).expect(rt, "a page")
 }
 
 /// The page of 2 MiB at 0x40_0000, which hart 0 maps to PPN 0x200 and unmaps.
@@ -84,10 +98,15 @@ fn map_large(rt: &impl Abort) -> Event {
 }
 
 fn unmap_large(rt: &impl Abort) -> Event {
+    unmap(large(rt))
+}
+
+/// Hart 0 unmaps a page of space 0, and names both harts.
+fn unmap(page: Page) -> Event {
     Event::Unmap {
         hart: 0,
         place: Place::Space(0),
-        page: large(rt),
+        page,
         named: BOTH,
     }
 }
@@ -108,6 +127,16 @@ fn map(space: u8, page: Page, ppn: u64, bits: u8) -> Event {
         page,
         ppn,
         flags: PteFlags::from_bits_retain(bits),
+    }
+}
+
+fn map_kernel(page: Page, ppn: u64) -> Event {
+    Event::Map {
+        hart: 0,
+        place: Place::Kernel,
+        page,
+        ppn,
+        flags: PteFlags::from_bits_retain(R | G | A | D),
     }
 }
 
@@ -199,7 +228,7 @@ fn steps(rt: &impl Abort, machine: &mut Machine, rows: &[(Event, Reply)]) {
 /// Whether the TLB of hart 1 translates an address for an ASID.
 fn translates(rt: &impl Abort, machine: &Machine, asid: u16, va: u64) -> bool {
     assert!(rt; 1 < machine.harts());
-    machine.translates(1, asid, VirtAddr::new(va).expect(rt, "an address"))
+    machine.translates(1, asid, address(rt, va))
 }
 
 /// How many of the pages of 4 KiB in the page of 2 MiB at 0x40_0000 hart 1 translates.
@@ -333,6 +362,145 @@ fn space_is_flushed(rt: HostRuntime) {
         (begin(1, 0x1004), Reply::Hit(0x10_1004)),
         (switch(0), Reply::Ok),
         (begin(1, 0x1004), Reply::More),
+    ];
+    steps(&rt, &mut machine, &rows);
+}
+
+/// The page of 512 GiB at 0x80_0000_0000, which Sv48 alone has.
+fn largest(rt: &impl Abort) -> Page {
+    page(rt, 0x80_0000_0000, PageSize::Gib512)
+}
+
+fn map_largest(rt: &impl Abort) -> Event {
+    map(0, largest(rt), 0x1000_0000, R | W | U | A | D)
+}
+
+/// With Sv48 a page of 4 KiB has three tables between the root and its leaf, one of 512 GiB is a leaf of the root, and the
+/// window's slots lead to tables of level 2.
+#[test]
+fn pages_of_sv48(rt: HostRuntime) {
+    let mut machine = opened(&rt, rt.alloc(), &two_harts_in_sv48());
+    let kernel = page(&rt, 0xFFFF_FFFF_C000_0000, PageSize::Gib1);
+    let window = page(&rt, 0xFFFF_FF80_0000_0000, PageSize::Gib512);
+    let rows = [
+        (map_small(&rt, 0, 0x100), Reply::Table(0x8_0002)),
+        (map_small(&rt, 0, 0x100), Reply::Table(0x8_0003)),
+        (map_small(&rt, 0, 0x100), Reply::Table(0x8_0004)),
+        (map_small(&rt, 0, 0x100), Reply::Leaf),
+        (map_largest(&rt), Reply::Leaf),
+        (map_kernel(kernel, 0x4_0000), Reply::Leaf),
+        (
+            map_kernel(window, 0x1000_0000),
+            refused(Refusal::TableInWay),
+        ),
+        (begin(0, 0x80_8040_3ABC), Reply::More),
+        (load(0), Reply::Filled(0x100_8040_3ABC)),
+        (unmap(largest(&rt)), Reply::Opened(0)),
+        (begin(0, 0x80_8040_3ABC), Reply::Hit(0x100_8040_3ABC)),
+        (Event::AckSelf { hart: 0, ticket: 0 }, Reply::Waiting(0b10)),
+        (begin(0, 0x80_8040_3ABC), Reply::More),
+        (load(0), page_fault(Why::Invalid)),
+        (begin(1, 0x1ABC), Reply::More),
+        (load(1), Reply::More),
+        (load(1), Reply::More),
+        (load(1), Reply::More),
+        (load(1), Reply::Filled(0x10_0ABC)),
+    ];
+    steps(&rt, &mut machine, &rows);
+}
+
+/// How many of the pages of 1 GiB in the page of 512 GiB at 0x80_0000_0000 hart 1 translates at their first address.
+fn translated_of_largest(rt: &impl Abort, machine: &Machine) -> usize {
+    let mut count = 0_usize;
+    for k in 0..512_u64 {
+        if translates(rt, machine, 0x80_0000_0000 + k * 0x4000_0000) && count < 512 {
+            count += 1;
+        }
+    }
+    count
+}
+
+/// A page of 512 GiB is unmapped while hart 1 holds it, and a page of 4 KiB in it mapped anew, which hart 1 does not see until it
+/// has served the request.
+#[test]
+fn largest_page_is_shot_down(rt: HostRuntime) {
+    let mut machine = opened(&rt, rt.alloc(), &two_harts_in_sv48());
+    let until_service = [
+        (map_largest(&rt), Reply::Leaf),
+        (begin(1, 0xFF_FFFF_FFFF), Reply::More),
+        (load(1), Reply::Filled(0x17F_FFFF_FFFF)),
+        (unmap(largest(&rt)), Reply::Opened(0)),
+        (begin(1, 0x80_0000_0000), Reply::Hit(0x100_0000_0000)),
+        (post(0), Reply::Ok),
+        (take(), taken(0, What::PageOf(largest(&rt), Some(1)))),
+    ];
+    steps(&rt, &mut machine, &until_service);
+    assert!(rt; translated_of_largest(&rt, &machine) == 512);
+    steps(
+        &rt,
+        &mut machine,
+        &[(serve_fence(), Reply::Ok), (ack(), Reply::Ok)],
+    );
+    assert!(rt; translated_of_largest(&rt, &machine) == 0);
+    assert!(rt; !translates(&rt, &machine, 0xFF_FFFF_FFFF));
+    let last = page(&rt, 0xFF_FFFF_F000, PageSize::Kib4);
+    let map_last = map(0, last, 0x100, R | U | A | D);
+    let after = [
+        (map_last, Reply::Table(0x8_0002)),
+        (map_last, Reply::Table(0x8_0003)),
+        (map_last, Reply::Table(0x8_0004)),
+        (map_last, Reply::Leaf),
+        (begin(1, 0xFF_FFFF_FFFF), Reply::More),
+        (load(1), Reply::More),
+        (load(1), Reply::More),
+        (load(1), Reply::More),
+        (load(1), Reply::Filled(0x10_0FFF)),
+    ];
+    steps(&rt, &mut machine, &after);
+    assert!(rt; translated_of_largest(&rt, &machine) == 0);
+}
+
+/// Hart 0 gives the page of 512 GiB at 0 of space 0 other flags.
+fn protect_first(rt: &impl Abort) -> Event {
+    Event::Protect {
+        hart: 0,
+        place: Place::Space(0),
+        page: page(rt, 0, PageSize::Gib512),
+        flags: PteFlags::from_bits_retain(R | U | A | D),
+        named: BOTH,
+    }
+}
+
+/// A page that does not fit Sv39, by its size or by its address, is in neither half of the address space.
+#[test]
+fn pages_that_do_not_fit_sv39(rt: HostRuntime) {
+    let far = page(&rt, 0x40_0000_0000, PageSize::Kib4);
+    let window = page(&rt, 0xFFFF_FF80_0000_0000, PageSize::Gib512);
+    let mut machine = opened(&rt, rt.alloc(), &two_harts());
+    for event in [
+        map_largest(&rt),
+        unmap(largest(&rt)),
+        protect_first(&rt),
+        map_kernel(window, 0x1000_0000),
+        map(0, far, 0x100, R | U | A | D),
+        unmap(far),
+    ] {
+        steps(&rt, &mut machine, &[(event, refused(Refusal::WrongHalf))]);
+    }
+    let rows = [(begin(0, 0x40_0000_0000), page_fault(Why::NotCanonical))];
+    steps(&rt, &mut machine, &rows);
+}
+
+/// The same pages fit Sv48.
+#[test]
+fn pages_that_fit_sv48(rt: HostRuntime) {
+    let far = page(&rt, 0x40_0000_0000, PageSize::Kib4);
+    let mut machine = opened(&rt, rt.alloc(), &two_harts_in_sv48());
+    let rows = [
+        (map(0, far, 0x100, R | U | A | D), Reply::Table(0x8_0002)),
+        (unmap(far), refused(Refusal::NotMapped)),
+        (protect_first(&rt), refused(Refusal::WrongSize)),
+        (begin(0, 0x8000_0000_0000), page_fault(Why::NotCanonical)),
     ];
     steps(&rt, &mut machine, &rows);
 }

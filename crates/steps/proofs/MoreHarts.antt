@@ -11,7 +11,7 @@ use Rattle.history.specs.declared.event.Event.{Event}
 use Rattle.steps.specs.declared.fault.StepFault.{StepFault}
 use Rattle.steps.specs.declared.fault.StepFault.TheVariants.{NotStep, NoSuchHart, NotPage}
 use Rattle.steps.specs.declared.fields.PageWord.{PageWord}
-use Rattle.steps.specs.Fields.{among, flags_of, is_page, named_in, nums_of, page_at, page_of, parts_of, place_of, register_of, scope_of, set_among, space_of, ticket_of, with_harts}
+use Rattle.steps.specs.Fields.{among, asid_of, flags_of, is_page, named_in, nums_of, page_at, page_of, parts_of, place_of, register_of, scope_of, set_among, space_of, ticket_of, with_harts}
 use Rattle.steps.specs.Num.{num_of}
 use Rattle.steps.specs.RunStep.{step_among, step_in, step_of_words}
 use Rattle.steps.specs.Step.{translation_of}
@@ -132,12 +132,15 @@ module _ (scheme : Scheme) (m n : ℕ) (less : m ≤ n) where
       (if_keeps _ _ _ _ (bytes_eq name (codes "take")) (asked_keeps (num_of a) _ _ (λ o. harts_keep h o _))
       (if_keeps _ _ _ _ (bytes_eq name (codes "ackself")) (asked_keeps (ticket_of a) _ _ (λ t. hart_keeps h _))
       (if_keeps _ _ _ _ (bytes_eq name (codes "finish")) (asked_keeps (ticket_of a) _ _ (λ t. hart_keeps h _))
-      (if_keeps _ _ _ _ (bytes_eq name (codes "close")) (asked_keeps (num_of a) _ _ (λ o. harts_keep h o _)) none_keeps))))
+      (if_keeps _ _ _ _ (bytes_eq name (codes "close")) (asked_keeps (num_of a) _ _ (λ o. harts_keep h o _))
+      (if_keeps _ _ _ _ (bytes_eq name (codes "retire")) (asked_keeps (space_of a) _ _ (λ s. hart_keeps h _))
+      (if_keeps _ _ _ _ (bytes_eq name (codes "reclaim")) (asked_keeps (space_of a) _ _ (λ s. hart_keeps h _)) none_keeps))))))
   words_keep h name (a ∷ b ∷ []) =
       if_keeps _ _ _ _ (bytes_eq name (codes "flush")) (asked_keeps (scope_of a) _ _ (λ s. named_keeps b _ _ (λ d. hart_keeps h _) (λ d. hart_step h _)))
       (if_keeps _ _ _ _ (bytes_eq name (codes "fence")) (asked_keeps (register_of a) _ _ (λ r. asked_keeps (register_of b) _ _ (λ s. hart_keeps h _)))
       (if_keeps _ _ _ _ (bytes_eq name (codes "post")) (asked_keeps (ticket_of a) _ _ (λ t. asked_keeps (num_of b) _ _ (λ o. harts_keep h o _)))
-      (if_keeps _ _ _ _ (bytes_eq name (codes "collect")) (asked_keeps (ticket_of a) _ _ (λ t. asked_keeps (num_of b) _ _ (λ o. harts_keep h o _))) none_keeps)))
+      (if_keeps _ _ _ _ (bytes_eq name (codes "collect")) (asked_keeps (ticket_of a) _ _ (λ t. asked_keeps (num_of b) _ _ (λ o. harts_keep h o _)))
+      (if_keeps _ _ _ _ (bytes_eq name (codes "create")) (asked_keeps (space_of a) _ _ (λ s. asked_keeps (asid_of b) _ _ (λ i. hart_keeps h _))) none_keeps))))
   words_keep h name (a ∷ b ∷ c ∷ []) =
       if_keeps _ _ _ _ (bytes_eq name (codes "begin")) (asked_keeps (translation_of a b c) _ _ (λ t. hart_keeps h _))
       (if_keeps _ _ _ _ (bytes_eq name (codes "unmap"))

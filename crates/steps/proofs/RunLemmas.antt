@@ -7,16 +7,16 @@ use Rattle.std.proofs.lemmas.Option.{same_Some}
 use Rattle.std.proofs.lemmas.Slice.Eq.{bytes_eq-Decides}
 use Rattle.pte.specs.Address.{IsPageOf, Span}
 use Rattle.history.specs.declared.event.Event.{Event}
-use Rattle.history.specs.declared.event.Event.TheVariants.{Begin, Load, Map, Unmap, Protect, Flush, Switch, Fence, Post, Take, ServeFence, Ack, AckSelf, Collect, Finish, Close}
+use Rattle.history.specs.declared.event.Event.TheVariants.{Begin, Load, Map, Unmap, Protect, Flush, Switch, Fence, Post, Take, ServeFence, Ack, AckSelf, Collect, Finish, Close, Retire, Reclaim, Create}
 use Rattle.shoot.specs.declared.TheConstants.{MAX_HARTS}
 use Rattle.steps.specs.declared.fault.StepFault.{StepFault}
 use Rattle.steps.specs.declared.fault.StepFault.TheVariants.{NotStep, NoSuchHart}
 use Rattle.steps.specs.declared.fields.PageWord.{PageWord}
-use Rattle.steps.specs.Fields.{among, flags_of, named_in, page_at, page_of, place_of, register_of, scope_of, space_of, ticket_of}
+use Rattle.steps.specs.Fields.{among, asid_of, flags_of, named_in, page_at, page_of, place_of, register_of, scope_of, space_of, ticket_of}
 use Rattle.steps.specs.Grammar.{HasWords}
 use Rattle.steps.specs.Num.{num_of}
 use Rattle.steps.specs.RunGrammar.{hart_of, Tells, WritesPage, WritesRunStep}
-use Rattle.steps.specs.RunStep.{ack_in, ackself_in, begin_in, close_in, collect_in, fence_in, finish_in, flush_in, load_in, map_in, post_in, protect_in, run_step_of, servefence_in, step_among, step_in, step_of_words, switch_in, take_in, unmap_in}
+use Rattle.steps.specs.RunStep.{ack_in, ackself_in, begin_in, close_in, collect_in, create_in, fence_in, finish_in, flush_in, load_in, map_in, post_in, protect_in, reclaim_in, retire_in, run_step_of, servefence_in, step_among, step_in, step_of_words, switch_in, take_in, unmap_in}
 use Rattle.steps.specs.Step.{access_text, ctx_text, translation_of}
 use Rattle.steps.specs.StepFaults.{asked, ◌>>=◌}
 use Rattle.steps.specs.Words.{words_of}
@@ -63,6 +63,10 @@ told_step scheme harts hart words (Collect h ticket from) num less (a, b, is, t,
 told_step scheme harts hart words (Finish h ticket) num less (a, is, t) = ap (λ ws. step_in scheme harts (hart ∷ ws)) is ∙ rw (num, below-writes (2 ^ 32) a ticket t, less) refl
 told_step scheme harts hart words (Close h to) num less (a, is, o) =
     ap (λ ws. step_in scheme harts (hart ∷ ws)) is ∙ rw (num, num_of-writes a to o.0, less, lt_test to harts o.1) refl
+told_step scheme harts hart words (Retire h space) num less (a, is, s) = ap (λ ws. step_in scheme harts (hart ∷ ws)) is ∙ rw (num, below-writes (2 ^ 8) a space s, less) refl
+told_step scheme harts hart words (Reclaim h space) num less (a, is, s) = ap (λ ws. step_in scheme harts (hart ∷ ws)) is ∙ rw (num, below-writes (2 ^ 8) a space s, less) refl
+told_step scheme harts hart words (Create h space asid) num less (a, b, is, s, n) =
+    ap (λ ws. step_in scheme harts (hart ∷ ws)) is ∙ rw (num, below-writes (2 ^ 8) a space s, below-writes (2 ^ 16) b asid n, less) refl
 
 pub step-writes : (scheme : Scheme) (harts : ℕ) (text : List ℕ) (event : Event) → WritesRunStep scheme harts text event → step_among scheme harts text ≡ Ok event
 step-writes scheme harts text event h =
@@ -142,6 +146,26 @@ close_told scheme harts n a event h =
     let m = among_bind harts n _ event o.2 in
     let l = among_bind harts o.0 _ event m.1 in
     told_is scheme harts n (codes "close" ∷ a ∷ []) (Close n o.0) event (record { hart_is = refl; less = m.0; tells = (a, refl, (writes-num_of a o.0 o.1, l.0)) }) l.1
+
+retire_told : (scheme : Scheme) (harts n : ℕ) (a : List ℕ) (event : Event) → retire_in harts n a ≡ Ok event → Told scheme harts n (codes "retire" ∷ a ∷ []) event
+retire_told scheme harts n a event h =
+    let s = asked_bind (space_of a) _ event h in
+    let m = among_bind harts n _ event s.2 in
+    told_is scheme harts n (codes "retire" ∷ a ∷ []) (Retire n s.0) event (record { hart_is = refl; less = m.0; tells = (a, refl, writes-below (2 ^ 8) a s.0 s.1) }) m.1
+
+reclaim_told : (scheme : Scheme) (harts n : ℕ) (a : List ℕ) (event : Event) → reclaim_in harts n a ≡ Ok event → Told scheme harts n (codes "reclaim" ∷ a ∷ []) event
+reclaim_told scheme harts n a event h =
+    let s = asked_bind (space_of a) _ event h in
+    let m = among_bind harts n _ event s.2 in
+    told_is scheme harts n (codes "reclaim" ∷ a ∷ []) (Reclaim n s.0) event (record { hart_is = refl; less = m.0; tells = (a, refl, writes-below (2 ^ 8) a s.0 s.1) }) m.1
+
+create_told : (scheme : Scheme) (harts n : ℕ) (a b : List ℕ) (event : Event) → create_in harts n a b ≡ Ok event → Told scheme harts n (codes "create" ∷ a ∷ b ∷ []) event
+create_told scheme harts n a b event h =
+    let s = asked_bind (space_of a) _ event h in
+    let i = asked_bind (asid_of b) _ event s.2 in
+    let m = among_bind harts n _ event i.2 in
+    told_is scheme harts n (codes "create" ∷ a ∷ b ∷ []) (Create n s.0 i.0) event
+    (record { hart_is = refl; less = m.0; tells = (a, b, refl, writes-below (2 ^ 8) a s.0 s.1, writes-below (2 ^ 16) b i.0 i.1) }) m.1
 
 flush_told : (scheme : Scheme) (harts n : ℕ) (a b : List ℕ) (event : Event) → flush_in harts n a b ≡ Ok event → Told scheme harts n (codes "flush" ∷ a ∷ b ∷ []) event
 flush_told scheme harts n a b event h =
@@ -251,12 +275,15 @@ words_told scheme harts n name (a ∷ []) =
     (told_if scheme harts n name (codes "take") (a ∷ []) _ _ _ refl (take_told scheme harts n a)
     (told_if scheme harts n name (codes "ackself") (a ∷ []) _ _ _ refl (ackself_told scheme harts n a)
     (told_if scheme harts n name (codes "finish") (a ∷ []) _ _ _ refl (finish_told scheme harts n a)
-    (told_if scheme harts n name (codes "close") (a ∷ []) _ _ _ refl (close_told scheme harts n a) (none_told scheme harts n (name ∷ a ∷ []))))))
+    (told_if scheme harts n name (codes "close") (a ∷ []) _ _ _ refl (close_told scheme harts n a)
+    (told_if scheme harts n name (codes "retire") (a ∷ []) _ _ _ refl (retire_told scheme harts n a)
+    (told_if scheme harts n name (codes "reclaim") (a ∷ []) _ _ _ refl (reclaim_told scheme harts n a) (none_told scheme harts n (name ∷ a ∷ []))))))))
 words_told scheme harts n name (a ∷ b ∷ []) =
     told_if scheme harts n name (codes "flush") (a ∷ b ∷ []) _ _ _ refl (flush_told scheme harts n a b)
     (told_if scheme harts n name (codes "fence") (a ∷ b ∷ []) _ _ _ refl (fence_told scheme harts n a b)
     (told_if scheme harts n name (codes "post") (a ∷ b ∷ []) _ _ _ refl (post_told scheme harts n a b)
-    (told_if scheme harts n name (codes "collect") (a ∷ b ∷ []) _ _ _ refl (collect_told scheme harts n a b) (none_told scheme harts n (name ∷ a ∷ b ∷ [])))))
+    (told_if scheme harts n name (codes "collect") (a ∷ b ∷ []) _ _ _ refl (collect_told scheme harts n a b)
+    (told_if scheme harts n name (codes "create") (a ∷ b ∷ []) _ _ _ refl (create_told scheme harts n a b) (none_told scheme harts n (name ∷ a ∷ b ∷ []))))))
 words_told scheme harts n name (a ∷ b ∷ c ∷ []) =
     told_if scheme harts n name (codes "begin") (a ∷ b ∷ c ∷ []) _ _ _ refl (begin_told scheme harts n a b c)
     (told_if scheme harts n name (codes "unmap") (a ∷ b ∷ c ∷ []) _ _ _ refl (unmap_told scheme harts n a b c) (none_told scheme harts n (name ∷ a ∷ b ∷ c ∷ [])))

@@ -81,6 +81,19 @@ flush = refl
 take : run_step_of Sv39 (codes "1 take 0") ≡ Some (events.Take 1 0)
 take = refl
 
+retire : run_step_of Sv39 (codes "0 retire 255") ≡ Some (events.Retire 0 255)
+retire = refl
+
+reclaim : run_step_of Sv39 (codes "0 reclaim 1") ≡ Some (events.Reclaim 0 1)
+reclaim = refl
+
+create : run_step_of Sv39 (codes "1 create 31 65535") ≡ Some (events.Create 1 31 65535)
+create = refl
+
+-- an ASID has 16 bits
+wide_asid : run_step_of Sv39 (codes "0 create 1 65536") ≡ None
+wide_asid = refl
+
 -- ---- the first fault of several
 
 no_step : step_among Sv39 1 (codes "9 flush all 9,x") ≡ Err NotStep

@@ -31,6 +31,9 @@ ticket_of word = number_below (2 ^ 32) word
 abbrev pub space_of : List ℕ → Option ℕ
 space_of word = number_below (2 ^ 8) word
 
+abbrev pub asid_of : List ℕ → Option ℕ
+asid_of word = number_below (2 ^ 16) word
+
 -- ---- a number, or a name in its place
 
 -- `k` for the kernel window

@@ -10,7 +10,7 @@ use Rattle.spaces.specs.declared.places.Place.{Place}
 use Rattle.spaces.specs.declared.places.Place.TheVariants as places
 use Rattle.shoot.specs.HartSet.{byte_of, no_harts}
 use Rattle.history.specs.declared.event.Event.{Event}
-use Rattle.history.specs.declared.event.Event.TheVariants.{Begin, Load, Map, Unmap, Protect, Flush, Switch, Fence, Post, Take, ServeFence, Ack, AckSelf, Collect, Finish, Close}
+use Rattle.history.specs.declared.event.Event.TheVariants.{Begin, Load, Map, Unmap, Protect, Flush, Switch, Fence, Post, Take, ServeFence, Ack, AckSelf, Collect, Finish, Close, Retire, Reclaim, Create}
 use Rattle.history.specs.declared.event.Scope.{Scope}
 use Rattle.history.specs.declared.event.Scope.TheVariants as scopes
 use Rattle.steps.specs.Fields.{flag_of, with_harts}
@@ -27,6 +27,9 @@ WritesTicket word ticket = WritesBelow (2 ^ 32) word ticket
 
 abbrev pub WritesSpace : List ℕ → ℕ → Type 0
 WritesSpace word space = WritesBelow (2 ^ 8) word space
+
+abbrev pub WritesAsid : List ℕ → ℕ → Type 0
+WritesAsid word asid = WritesBelow (2 ^ 16) word asid
 
 -- ---- a number, or a name in its place
 
@@ -100,6 +103,9 @@ hart_of (AckSelf hart ticket) = hart
 hart_of (Collect hart ticket from) = hart
 hart_of (Finish hart ticket) = hart
 hart_of (Close hart to) = hart
+hart_of (Retire hart space) = hart
+hart_of (Reclaim hart space) = hart
+hart_of (Create hart space asid) = hart
 
 -- the words after the hart's, in a scheme and for so many harts
 abbrev pub Tells : Scheme → ℕ → List (List ℕ) → Event → Type 0
@@ -129,6 +135,10 @@ Tells scheme harts words (Collect hart ticket from) =
     (a : List ℕ) × (b : List ℕ) × (words ≡ codes "collect" ∷ a ∷ b ∷ []) × WritesTicket a ticket × WritesBelow harts b from
 Tells scheme harts words (Finish hart ticket) = (a : List ℕ) × (words ≡ codes "finish" ∷ a ∷ []) × WritesTicket a ticket
 Tells scheme harts words (Close hart to) = (a : List ℕ) × (words ≡ codes "close" ∷ a ∷ []) × WritesBelow harts a to
+Tells scheme harts words (Retire hart space) = (a : List ℕ) × (words ≡ codes "retire" ∷ a ∷ []) × WritesSpace a space
+Tells scheme harts words (Reclaim hart space) = (a : List ℕ) × (words ≡ codes "reclaim" ∷ a ∷ []) × WritesSpace a space
+Tells scheme harts words (Create hart space asid) =
+    (a : List ℕ) × (b : List ℕ) × (words ≡ codes "create" ∷ a ∷ b ∷ []) × WritesSpace a space × WritesAsid b asid
 
 -- the hart's number and the words after it, for so many harts
 pub record WritesRunStep (scheme : Scheme) (harts : ℕ) (text : List ℕ) (event : Event) : Type 0 where

@@ -4,11 +4,11 @@ use Rattle.std.specs.Result.{result_ok}
 use Rattle.std.specs.Str.{bytes_eq}
 use Rattle.pte.specs.declared.scheme.Scheme.{Scheme}
 use Rattle.history.specs.declared.event.Event.{Event}
-use Rattle.history.specs.declared.event.Event.TheVariants.{Begin, Load, Map, Unmap, Protect, Flush, Switch, Fence, Post, Take, ServeFence, Ack, AckSelf, Collect, Finish, Close}
+use Rattle.history.specs.declared.event.Event.TheVariants.{Begin, Load, Map, Unmap, Protect, Flush, Switch, Fence, Post, Take, ServeFence, Ack, AckSelf, Collect, Finish, Close, Retire, Reclaim, Create}
 use Rattle.shoot.specs.declared.TheConstants.{MAX_HARTS}
 use Rattle.steps.specs.declared.fault.StepFault.{StepFault}
 use Rattle.steps.specs.declared.fault.StepFault.TheVariants.{NotStep}
-use Rattle.steps.specs.Fields.{among, flags_of, named_in, page_at, page_of, place_of, register_of, scope_of, space_of, ticket_of}
+use Rattle.steps.specs.Fields.{among, asid_of, flags_of, named_in, page_at, page_of, place_of, register_of, scope_of, space_of, ticket_of}
 use Rattle.steps.specs.Num.{num_of}
 use Rattle.steps.specs.Step.{translation_of}
 use Rattle.steps.specs.StepFaults.{asked, ◌>>=◌}
@@ -58,6 +58,18 @@ close_in harts hart other = do
   to ← among harts n
   Ok (Close h to)
 
+abbrev pub retire_in : ℕ → ℕ → List ℕ → Result Event StepFault
+retire_in harts hart space = do
+  s ← asked (space_of space)
+  h ← among harts hart
+  Ok (Retire h s)
+
+abbrev pub reclaim_in : ℕ → ℕ → List ℕ → Result Event StepFault
+reclaim_in harts hart space = do
+  s ← asked (space_of space)
+  h ← among harts hart
+  Ok (Reclaim h s)
+
 abbrev pub flush_in : ℕ → ℕ → List ℕ → List ℕ → Result Event StepFault
 flush_in harts hart scope named = do
   s ← asked (scope_of scope)
@@ -87,6 +99,13 @@ collect_in harts hart ticket other = do
   h ← among harts hart
   from ← among harts n
   Ok (Collect h t from)
+
+abbrev pub create_in : ℕ → ℕ → List ℕ → List ℕ → Result Event StepFault
+create_in harts hart space asid = do
+  s ← asked (space_of space)
+  a ← asked (asid_of asid)
+  h ← among harts hart
+  Ok (Create h s a)
 
 abbrev pub begin_in : ℕ → ℕ → List ℕ → List ℕ → List ℕ → Result Event StepFault
 begin_in harts hart mode access address = do
@@ -139,6 +158,8 @@ with_a_word harts hart name word =
     else if bytes_eq name (codes "ackself") then ackself_in harts hart word
     else if bytes_eq name (codes "finish") then finish_in harts hart word
     else if bytes_eq name (codes "close") then close_in harts hart word
+    else if bytes_eq name (codes "retire") then retire_in harts hart word
+    else if bytes_eq name (codes "reclaim") then reclaim_in harts hart word
     else Err NotStep
 
 abbrev pub with_two_words : ℕ → ℕ → List ℕ → List ℕ → List ℕ → Result Event StepFault
@@ -147,6 +168,7 @@ with_two_words harts hart name a b =
     else if bytes_eq name (codes "fence") then fence_in harts hart a b
     else if bytes_eq name (codes "post") then post_in harts hart a b
     else if bytes_eq name (codes "collect") then collect_in harts hart a b
+    else if bytes_eq name (codes "create") then create_in harts hart a b
     else Err NotStep
 
 abbrev pub with_three_words : Scheme → ℕ → ℕ → List ℕ → List ℕ → List ℕ → List ℕ → Result Event StepFault

@@ -1,6 +1,6 @@
 //! The words of a step.
 ghost use Rattle.std.specs.Prelude.{◌≡◌};
-ghost use Rattle.steps.specs.Fields.{among, bits_of, flag_of, flags_of, named_in, page_after, page_at, page_of, place_of, register_of, scope_of, set_in, sized_page_of, space_of, ticket_of, with_letters, with_part};
+ghost use Rattle.steps.specs.Fields.{among, asid_of, bits_of, flag_of, flags_of, named_in, page_after, page_at, page_of, place_of, register_of, scope_of, set_in, sized_page_of, space_of, ticket_of, with_letters, with_part};
 
 use crate::fault::StepFault;
 use crate::numbers::num;
@@ -36,6 +36,18 @@ pub fn space(word: &[u8]) -> Option<u8>
     let space = num(word)?;
     if space < 1 << 8 {
         Some(space as u8)
+    } else {
+        None
+    }
+}
+
+/// A number below 65536.
+pub fn asid(word: &[u8]) -> Option<u16>
+    ensures { result ≡ asid_of word.now }
+{
+    let asid = num(word)?;
+    if asid < 1 << 16 {
+        Some(asid as u16)
     } else {
         None
     }

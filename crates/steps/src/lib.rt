@@ -23,4 +23,6 @@ pub use step::{WalkStep, walk_step};
 pub use text::{next_word, words};
 
 #[cfg(test)]
+mod space_tests;
+#[cfg(test)]
 mod tests;

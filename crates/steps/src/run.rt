@@ -1,10 +1,12 @@
 //! The steps of `run`.
 ghost use Rattle.std.specs.Prelude.{◌≡◌};
 ghost use Rattle.steps.specs.Words.{words_of};
-ghost use Rattle.steps.specs.RunStep.{ack_in, ackself_in, begin_in, close_in, collect_in, fence_in, finish_in, flush_in, load_in, map_in, post_in, protect_in, run_step_of, servefence_in, step_among, step_of_words, switch_in, take_in, unmap_in, with_a_word, with_four_words, with_no_word, with_three_words, with_two_words};
+ghost use Rattle.steps.specs.RunStep.{ack_in, ackself_in, begin_in, close_in, collect_in, create_in, fence_in, finish_in, flush_in, load_in, map_in, post_in, protect_in, reclaim_in, retire_in, run_step_of, servefence_in, step_among, step_of_words, switch_in, take_in, unmap_in, with_a_word, with_four_words, with_no_word, with_three_words, with_two_words};
 
 use crate::fault::StepFault;
-use crate::fields::{among, flags, named, page, page_word, place, register, scope, space, ticket};
+use crate::fields::{
+    among, asid, flags, named, page, page_word, place, register, scope, space, ticket,
+};
 use crate::numbers::num;
 use crate::step::translation;
 use crate::text::next_word;
@@ -54,6 +56,22 @@ fn close(harts: u8, hart: u64, other: &[u8]) -> Result<Event, StepFault>
     Ok(Event::Close { hart, to })
 }
 
+fn retire(harts: u8, hart: u64, word: &[u8]) -> Result<Event, StepFault>
+    ensures { result ≡ retire_in harts hart word.now }
+{
+    let space = space(word).ok_or(StepFault::NotStep)?;
+    let hart = among(harts, hart)?;
+    Ok(Event::Retire { hart, space })
+}
+
+fn reclaim(harts: u8, hart: u64, word: &[u8]) -> Result<Event, StepFault>
+    ensures { result ≡ reclaim_in harts hart word.now }
+{
+    let space = space(word).ok_or(StepFault::NotStep)?;
+    let hart = among(harts, hart)?;
+    Ok(Event::Reclaim { hart, space })
+}
+
 fn flush(harts: u8, hart: u64, word: &[u8], harts_named: &[u8]) -> Result<Event, StepFault>
     ensures { result ≡ flush_in harts hart word.now harts_named.now }
 {
@@ -90,6 +108,15 @@ fn collect(harts: u8, hart: u64, word: &[u8], other: &[u8]) -> Result<Event, Ste
     let hart = among(harts, hart)?;
     let from = among(harts, from)?;
     Ok(Event::Collect { hart, ticket, from })
+}
+
+fn create(harts: u8, hart: u64, word: &[u8], number: &[u8]) -> Result<Event, StepFault>
+    ensures { result ≡ create_in harts hart word.now number.now }
+{
+    let space = space(word).ok_or(StepFault::NotStep)?;
+    let asid = asid(number).ok_or(StepFault::NotStep)?;
+    let hart = among(harts, hart)?;
+    Ok(Event::Create { hart, space, asid })
 }
 
 fn begin(
@@ -234,6 +261,10 @@ fn with_a_word(harts: u8, hart: u64, name: &[u8], word: &[u8]) -> Result<Event, 
         finish(harts, hart, word)
     } else if name == b"close".as_slice() {
         close(harts, hart, word)
+    } else if name == b"retire".as_slice() {
+        retire(harts, hart, word)
+    } else if name == b"reclaim".as_slice() {
+        reclaim(harts, hart, word)
     } else {
         Err(StepFault::NotStep)
     }
@@ -250,6 +281,8 @@ fn with_two_words(harts: u8, hart: u64, name: &[u8], a: &[u8], b: &[u8]) -> Resu
         post(harts, hart, a, b)
     } else if name == b"collect".as_slice() {
         collect(harts, hart, a, b)
+    } else if name == b"create".as_slice() {
+        create(harts, hart, a, b)
     } else {
         Err(StepFault::NotStep)
     }
@@ -297,7 +330,13 @@ fn with_four_words(
 }
 
 /// The step of a hart with this name and the words of the text after it.
-fn step_of_words(scheme: Scheme, harts: u8, hart: u64, name: &[u8], rest: &[u8]) -> Result<Event, StepFault>
+fn step_of_words(
+    scheme: Scheme,
+    harts: u8,
+    hart: u64,
+    name: &[u8],
+    rest: &[u8],
+) -> Result<Event, StepFault>
     ensures { result ≡ step_of_words scheme harts hart name.now (words_of rest.now) }
 {
     let Some((a, rest)) = next_word(rest) else {
@@ -330,7 +369,7 @@ fn step_in(scheme: Scheme, harts: u8, text: &[u8]) -> Result<Event, StepFault>
 /// The step of `run` in a scheme that a text writes where there are so many harts, with numbers from 0, or the first of its
 /// faults.
 ///
-/// The words are one of these lines, where H, G are harts, T a ticket below 2^32, S a space below 256, PL a space or `k`,
+/// The words are one of these lines, where H, G are harts, T a ticket below 2^32, S a space below 256, N an ASID of 16 bits, PL a space or `k`,
 /// PAGE a size of the scheme and an address such as `4K:0x1000`, FLAGS letters of `rwxugad` or `-`, NAMED harts such as `0,1` or `-`, SCOPE
 /// a space or `all`, R a number or `x0`, M a mode such as `s+sum`, A an access, and VA, PPN numbers:
 ///
@@ -339,6 +378,7 @@ fn step_in(scheme: Scheme, harts: u8, text: &[u8]) -> Result<Event, StepFault>
 /// H flush SCOPE NAMED    H switch S             H fence R R                H protect PL PAGE FLAGS NAMED
 /// H post T G             H take G               H servefence               H ack
 /// H ackself T            H collect T G          H finish T                 H close G
+/// H retire S             H reclaim S            H create S N
 /// ```
 ///
 /// `StepFault::NotStep`: the words are none of them. `NoSuchHart`: they are, and name a hart that is not there.

@@ -2,7 +2,7 @@
 use crate::{StepFault, WalkStep, num, run_step, run_step_among, walk_step, words};
 use bitflags::Flags;
 use history::{Event, Scope};
-use pte::{Access, Ctx, Mode, Page, PageSize, PteFlags, VirtAddr};
+use pte::{Access, Ctx, Mode, Page, PageSize, PteFlags, Scheme, VirtAddr};
 use spaces::Place;
 use std::process::Abort;
 use std::test::Fail;
@@ -104,8 +104,11 @@ fn texts_that_are_no_steps_of_walk(rt: HostRuntime) {
     }
 }
 
+/// The schemes that a text is read in.
+const SCHEMES: [Scheme; 2] = [Scheme::Sv39, Scheme::Sv48];
+
 fn page(base: u64, size: PageSize) -> Result<Page, Fail> {
-    let Some(base) = VirtAddr::new(base) else {
+    let Some(base) = VirtAddr::new_in(Scheme::Sv48, base) else {
         return Err(Fail::from("a canonical address was looked for"));
     };
     match Page::new(base, size) {
@@ -114,11 +117,13 @@ fn page(base: u64, size: PageSize) -> Result<Page, Fail> {
     }
 }
 
-/// Each text writes its event where there are 8 harts.
+/// Each text writes its event in each scheme where there are 8 harts.
 fn assert_steps(rt: &impl Abort, steps: &[(&str, Event)]) {
-    for (text, event) in steps {
-        assert_eq!(rt; run_step_among(8, text), Ok(*event), "{text}");
-        assert_eq!(rt; run_step(text), Some(*event), "{text}");
+    for scheme in SCHEMES {
+        for (text, event) in steps {
+            assert_eq!(rt; run_step_among(scheme, 8, text), Ok(*event), "{text}");
+            assert_eq!(rt; run_step(scheme, text), Some(*event), "{text}");
+        }
     }
 }
 
@@ -242,14 +247,20 @@ fn steps_of_shootdowns(rt: HostRuntime) {
     );
 }
 
-/// Each text writes no step, whatever harts there are.
-fn assert_no_steps(rt: &impl Abort, texts: &[&str]) {
+/// Each text writes no step of a scheme, whatever harts there are.
+fn assert_no_steps_in(rt: &impl Abort, scheme: Scheme, texts: &[&str]) {
     for text in texts {
         for harts in [0, 2, 8, 255] {
-            let step = run_step_among(harts, text);
+            let step = run_step_among(scheme, harts, text);
             assert_eq!(rt; step, Err(StepFault::NotStep), "{text}");
         }
-        assert_eq!(rt; run_step(text), None, "{text}");
+        assert_eq!(rt; run_step(scheme, text), None, "{text}");
+    }
+}
+
+fn assert_no_steps(rt: &impl Abort, texts: &[&str]) {
+    for scheme in SCHEMES {
+        assert_no_steps_in(rt, scheme, texts);
     }
 }
 
@@ -317,7 +328,8 @@ fn edits_that_are_no_steps(rt: HostRuntime) {
             "0 map 0 4K: 0x100 ruad",
             "0 map 0 4K0x1000 0x100 ruad",
             "0 map 0 0x1000 0x100 ruad",
-            "0 map 0 512G:0x0 0x100 ruad",
+            "0 map 0 512g:0x0 0x100 ruad",
+            "0 map 0 256T:0x0 0x100 ruad",
             "0 map 0 4K:0x1000 0x100 ruadr",
             "0 map 0 4K:0x1000 0x100 v",
             "0 map 0 4K:0x1000 0x100 r-",
@@ -353,8 +365,80 @@ fn steps_of_harts_and_pages_that_are_not_there(rt: HostRuntime) {
         ("0 unmap 0 4K:0x4000000000 0", StepFault::NotPage),
         ("0 protect k 1G:0xffffffbfc0000000 r 0", StepFault::NotPage),
     ] {
-        assert_eq!(rt; run_step_among(2, text), Err(fault), "{text}");
+        assert_eq!(rt; run_step_among(Scheme::Sv39, 2, text), Err(fault), "{text}");
     }
+}
+
+/// Edits of pages of 512 GiB, and the texts that write them.
+fn edits_of_512_gib() -> Result<[(&'static str, Event); 3], Fail> {
+    let flags = PteFlags::from_bits_retain(0xd2);
+    let page_at = |base| page(base, PageSize::Gib512);
+    let map = Event::Map {
+        hart: 0,
+        place: Place::Space(0),
+        page: page_at(0x80_0000_0000)?,
+        ppn: 0x1000_0000,
+        flags,
+    };
+    let unmap = Event::Unmap {
+        hart: 1,
+        place: Place::Space(0),
+        page: page_at(0x80_0000_0000)?,
+        named: 3,
+    };
+    let protect = Event::Protect {
+        hart: 0,
+        place: Place::Kernel,
+        page: page_at(0xffff_ff80_0000_0000)?,
+        flags,
+        named: 0,
+    };
+    Ok([
+        ("0 map 0 512G:0x8000000000 0x10000000 ruad", map),
+        ("1 unmap 0 512G:549755813888 0,1", unmap),
+        ("0 protect k 512G:0xffffff8000000000 ruad -", protect),
+    ])
+}
+
+/// Pages of 512 GiB are steps of Sv48 alone.
+#[test]
+fn pages_of_512_gib(rt: HostRuntime) -> Result<(), Fail> {
+    for (text, event) in edits_of_512_gib()? {
+        assert_eq!(rt; run_step_among(Scheme::Sv48, 2, text), Ok(event), "{text}");
+        assert_eq!(rt; run_step(Scheme::Sv48, text), Some(event), "{text}");
+        assert_no_steps_in(&rt, Scheme::Sv39, &[text]);
+    }
+    let texts = ["9 map 0 512G:0x1 0x1 r", "0 unmap 0 512G:0x0 9"];
+    assert_no_steps_in(&rt, Scheme::Sv39, &texts);
+    Ok(())
+}
+
+/// Whether an address is one is told by the scheme.
+#[test]
+fn pages_of_sv48(rt: HostRuntime) -> Result<(), Fail> {
+    let unmap = |page| Event::Unmap {
+        hart: 0,
+        place: Place::Space(0),
+        page,
+        named: 1,
+    };
+    for (text, step) in [
+        (
+            "0 unmap 0 4K:0x4000000000 0",
+            Ok(unmap(page(0x40_0000_0000, PageSize::Kib4)?)),
+        ),
+        (
+            "0 unmap 0 1G:0x7fffc0000000 0",
+            Ok(unmap(page(0x7fff_c000_0000, PageSize::Gib1)?)),
+        ),
+        ("0 unmap 0 4K:0x800000000000 0", Err(StepFault::NotPage)),
+        ("0 unmap 0 4K:0xffff7ffffffff000 0", Err(StepFault::NotPage)),
+        ("0 unmap 0 512G:0x40000000 0", Err(StepFault::NotPage)),
+        ("9 map 0 512G:0x1 0x1 r", Err(StepFault::NoSuchHart)),
+    ] {
+        assert_eq!(rt; run_step_among(Scheme::Sv48, 2, text), step, "{text}");
+    }
+    Ok(())
 }
 
 #[test]
@@ -366,7 +450,9 @@ fn run_step_is_for_eight_harts(rt: HostRuntime) {
         ("0 flush all 0,8", None),
         ("0 unmap 0 4K:0x1 0", None),
     ] {
-        assert_eq!(rt; run_step(text), event, "{text}");
+        for scheme in SCHEMES {
+            assert_eq!(rt; run_step(scheme, text), event, "{text}");
+        }
     }
 }
 

@@ -1,10 +1,10 @@
 -- What a fence, a service and a fill keep of what holds of each entry.
-use Rattle.pte.specs.declared.scheme.Scheme.{Scheme}
 use Rattle.std.proofs.Common.{◌≡◌, ap, ℕ, ◌+◌, ◌-◌, ◌<◌, ◌≤◌, Bool, true, Option, List, [], ◌∷◌, ◌++◌, length, drop, filter, arith, length-append, length-drop}
 use Rattle.std.specs.Prelude.{◌⊎◌, not, All, Contains, IsTrue}
 use Rattle.std.specs.List.{AllPass}
 use Rattle.std.proofs.lemmas.List.Elements.{All-nil, All-push, All-drop, All-filter, All-contains, All-contains_itself, filter_passes, Contains-push_cases}
 use Rattle.std.proofs.lemmas.List.Sums.{length-filter, count_by-le-length}
+use Rattle.pte.specs.declared.scheme.Scheme.{Scheme}
 use Rattle.pte.specs.Address.{IsPage}
 use Rattle.pte.specs.declared.address.What.{What}
 use Rattle.tlb.specs.declared.store.Entry.{Entry}

@@ -1,11 +1,10 @@
 -- Pages that overlap, and the addresses that they hold.
-use Rattle.pte.specs.declared.scheme.Scheme.{Scheme}
 use Rattle.std.proofs.Common.{◌≡◌, ℕ, ap, sym, ◌∙◌, ◌/◌, ◌+◌, ◌*◌, ◌-◌, ◌%◌, ◌^◌, ◌<◌, ◌≤◌, Bool, IsTrue, inl, inr, arith}
-use Rattle.std.specs.Prelude.{◌↔◌, ◌&&◌, nat_lt, nat_le}
-use Rattle.std.proofs.lemmas.Bool.{cases_lt, and_parts, and_from, or_left, or_right, or_cases, lt-ltb, le-leb, ltb-true, leb-true}
+use Rattle.std.specs.Prelude.{◌↔◌, nat_lt, nat_le}
+use Rattle.std.proofs.lemmas.Bool.{cases_lt, and_parts, and_from, lt-ltb, le-leb, ltb-true, leb-true}
 use Rattle.std.proofs.lemmas.Nat.{div-mul-add, pow_pos, shr_split}
+use Rattle.pte.specs.declared.scheme.Scheme.{Scheme}
 use Rattle.pte.specs.declared.address.PageSize.{PageSize}
-use Rattle.pte.specs.declared.address.PageSize.TheVariants.{Kib4}
 use Rattle.pte.specs.Address.{Span, IsPageOf, Holds, Overlap, IsCanonical, bytes_of, level_of, top_level}
 use Rattle.walk.proofs.Unique.{same_bool}
 use Rattle.walk.proofs.Pages.{same_canonical}

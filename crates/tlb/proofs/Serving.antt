@@ -1,9 +1,9 @@
 -- An entry goes by the one test exactly if it does not stay under the request's fences.
-use Rattle.pte.specs.declared.scheme.Scheme.{Scheme}
 use Rattle.std.proofs.Common.{◌≡◌, ℕ, Some, None, IsTrue, sym, ◌∙◌, refl, List}
 use Rattle.std.specs.Prelude.{◌↔◌, not}
 use Rattle.std.proofs.lemmas.Bool.{and_parts, and_from, not-true, not_from_false, false_from_ne_true, true≢false}
 use Rattle.std.proofs.lemmas.List.Elements.{filter_agree}
+use Rattle.pte.specs.declared.scheme.Scheme.{Scheme}
 use Rattle.pte.specs.declared.address.What.{What}
 use Rattle.pte.specs.declared.address.What.TheVariants.{PageOf, SpaceOf, All}
 use Rattle.pte.specs.Address.{Span, IsPageOf, Holds, is_canonical}

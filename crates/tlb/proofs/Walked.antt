@@ -1,6 +1,5 @@
 -- Entries that a walk gave, and what an entry answers while its page stays mapped.
-use Rattle.pte.specs.declared.scheme.Scheme.{Scheme}
-use Rattle.std.proofs.Common.{◌/◌, ◌<◌, ◌^◌, ◌≤◌, ◌≡◌, ℕ, ◌+◌, ◌*◌, ◌%◌, Bool, false, Option, Some, None, Result, Ok, IsTrue, sym, ◌∙◌, ap, subst, refl, inl, inr, arith}
+use Rattle.std.proofs.Common.{◌/◌, ◌<◌, ◌^◌, ◌≤◌, ◌≡◌, ℕ, ◌+◌, ◌*◌, ◌%◌, Bool, false, Option, Some, None, Result, Ok, IsTrue, sym, ◌∙◌, ap, subst, refl, arith}
 use Rattle.std.specs.Prelude.{◌==◌, ◌&&◌, ◌||◌, not}
 use Rattle.std.proofs.lemmas.Bool.{and_from, or_right, eq-eqb, false_from_ne_true, not_from_false}
 use Rattle.pte.specs.declared.address.PageSize.{PageSize}
@@ -22,6 +21,7 @@ use Rattle.walk.proofs.Pages.{same_canonical}
 use Rattle.walk.proofs.FoundMembers.{found_at-outcome, found_page_member, level_of-size_at}
 use Rattle.std.proofs.lemmas.Nat.{mod_below, pow_pos, shr_split}
 use Rattle.std.proofs.Math.Nat.{mul-div_cancel, mul-mod_left}
+use Rattle.pte.specs.declared.scheme.Scheme.{Scheme}
 use Rattle.walk.proofs.MappedAnswers.{mapped_answer}
 use Rattle.walk.proofs.Unique.{outcome_unique}
 use Rattle.tlb.specs.declared.store.Entry.{Entry}
@@ -37,8 +37,7 @@ around scheme size va level canonical =
     let bits : ℕ = 12 + 9 * level_of size in
     let split : va / 2 ^ bits * 2 ^ bits + va % 2 ^ bits ≡ va = shr_split va bits in
     let rest : va % 2 ^ bits < 2 ^ bits = mod_below va (2 ^ bits) (pow_pos bits) in
-    let row : va / 2 ^ bits * 2 ^ bits / 2 ^ bits ≡ va / 2 ^ bits = mul-div_cancel (va / 2 ^ bits) (pow_pos bits) in
-    (
+    let row : va / 2 ^ bits * 2 ^ bits / 2 ^ bits ≡ va / 2 ^ bits = mul-div_cancel (va / 2 ^ bits) (pow_pos bits) in (
       record { level = level; canonical = same_canonical scheme va (va / 2 ^ bits * 2 ^ bits) (level_of size) level (sym row) canonical; aligned = mul-mod_left (va / 2 ^ bits) (2 ^ bits) },
       record { from = omega arith; below = omega arith },
     )

@@ -1,9 +1,9 @@
 -- Worked rows, computed from the definitions alone; in the first part whatever the entries' PPNs and flags are.
 use Rattle.std.proofs.Common.{◌≡◌, ℕ, zero, suc, ◌+◌, ◌*◌, Bool, true, false, Some, None, Ok, Err, List, [], ◌∷◌, refl}
-use Rattle.pte.specs.declared.scheme.Scheme.TheVariants.{Sv39}
+use Rattle.pte.specs.declared.scheme.Scheme.TheVariants.{Sv39, Sv48}
 use Rattle.pte.specs.declared.flags.PteFlags.{PteFlags}
 use Rattle.pte.specs.declared.address.PageSize.{PageSize}
-use Rattle.pte.specs.declared.address.PageSize.TheVariants.{Kib4, Mib2, Gib1}
+use Rattle.pte.specs.declared.address.PageSize.TheVariants.{Kib4, Mib2, Gib1, Gib512}
 use Rattle.pte.specs.declared.address.What.TheVariants.{PageOf, SpaceOf, All}
 use Rattle.pte.specs.Address.{Span}
 use Rattle.pte.specs.declared.permission.Access.TheVariants.{Fetch, Load, Store}
@@ -86,6 +86,69 @@ module _ (ppn : ℕ) (flags : PteFlags) where
 
   not_canonical_above : fenced Sv39 (below ∷ above ∷ []) (Some 0xFFFFFFBFFFFFFFFF) None ≡ below ∷ above ∷ []
   not_canonical_above = refl
+
+  -- a fence of Sv48 counts addresses that Sv39 does not have
+  abbrev beyond : Entry
+  beyond = entry 1 false (page Kib4 0x4000000000)
+
+  sv48_takes_it_out : fenced Sv48 (beyond ∷ a ∷ []) (Some 0x4000000000) None ≡ a ∷ []
+  sv48_takes_it_out = refl
+
+  sv39_leaves_it : fenced Sv39 (beyond ∷ a ∷ []) (Some 0x4000000000) None ≡ beyond ∷ a ∷ []
+  sv39_leaves_it = refl
+
+  sv48_takes_it_out_of_its_space : fenced Sv48 (beyond ∷ a ∷ []) (Some 0x4000000FFF) (Some 1) ≡ a ∷ []
+  sv48_takes_it_out_of_its_space = refl
+
+  sv48_leaves_it_of_another_space : fenced Sv48 (beyond ∷ a ∷ []) (Some 0x4000000000) (Some 2) ≡ beyond ∷ a ∷ []
+  sv48_leaves_it_of_another_space = refl
+
+  -- the ends of the two halves of Sv48
+  abbrev last_low : Entry
+  last_low = entry 1 false (page Gib512 0x7F8000000000)
+
+  abbrev first_high : Entry
+  first_high = entry 1 false (page Gib512 0xFFFF800000000000)
+
+  last_canonical_of_sv48 : fenced Sv48 (last_low ∷ first_high ∷ []) (Some 0x7FFFFFFFFFFF) None ≡ first_high ∷ []
+  last_canonical_of_sv48 = refl
+
+  first_canonical_above_of_sv48 : fenced Sv48 (last_low ∷ first_high ∷ []) (Some 0xFFFF800000000000) None ≡ last_low ∷ []
+  first_canonical_above_of_sv48 = refl
+
+  not_canonical_of_sv48 : fenced Sv48 (last_low ∷ first_high ∷ []) (Some 0x800000000000) None ≡ last_low ∷ first_high ∷ []
+  not_canonical_of_sv48 = refl
+
+  not_canonical_above_of_sv48 : fenced Sv48 (last_low ∷ first_high ∷ []) (Some 0xFFFF7FFFFFFFFFFF) None ≡ last_low ∷ first_high ∷ []
+  not_canonical_above_of_sv48 = refl
+
+  -- 512 GiB at 0x8000000000
+  abbrev widest : Entry
+  widest = entry 1 false (page Gib512 0x8000000000)
+
+  widest_matches_its_first : first_match (a ∷ widest ∷ []) 1 0x8000000000 ≡ Some widest
+  widest_matches_its_first = refl
+
+  widest_matches_its_last : first_match (a ∷ widest ∷ []) 1 0xFFFFFFFFFF ≡ Some widest
+  widest_matches_its_last = refl
+
+  widest_ends : first_match (a ∷ widest ∷ []) 1 0x10000000000 ≡ None
+  widest_ends = refl
+
+  widest_begins : first_match (a ∷ widest ∷ []) 1 0x7FFFFFFFFF ≡ None
+  widest_begins = refl
+
+  widest_is_fenced_by_any_address : fenced Sv48 (a ∷ widest ∷ []) (Some 0x8080403ABC) None ≡ a ∷ []
+  widest_is_fenced_by_any_address = refl
+
+  widest_goes_by_a_part : served (a ∷ widest ∷ beyond ∷ []) (PageOf (page Kib4 0xFFFFFFF000) (Some 1)) ≡ a ∷ beyond ∷ []
+  widest_goes_by_a_part = refl
+
+  parts_go_by_the_widest : served (entry 1 false (page Kib4 0xFFFFFFF000) ∷ beyond ∷ widest ∷ []) (PageOf (page Gib512 0x8000000000) (Some 1)) ≡ beyond ∷ []
+  parts_go_by_the_widest = refl
+
+  parts_of_all_spaces_go : served (entry 2 true (page Gib1 0x8040000000) ∷ beyond ∷ []) (PageOf (page Gib512 0x8000000000) None) ≡ beyond ∷ []
+  parts_of_all_spaces_go = refl
 
   -- all 16 bits of an ASID count
   abbrev last_asid : Entry
@@ -203,6 +266,9 @@ superpage_answers = refl
 
 huge_page_answers : answer_of (clean Gib1 0x40000) 0x7FFFFFFF Load user ≡ Ok 0x7FFFFFFF
 huge_page_answers = refl
+
+widest_page_answers : answer_of (record { asid = 1; global = false; page = record { base = 0x8000000000; size = Gib512 }; ppn = 0x10000000; flags = record { 0 = 0x56 } }) 0x8080403ABC Load user ≡ Ok 0x10080403ABC
+widest_page_answers = refl
 
 bits_of_the_ppn : answer_of (clean Kib4 0x180000012345) 0x40000ABC Load user ≡ Ok 0x80000012345ABC
 bits_of_the_ppn = refl

@@ -1,8 +1,8 @@
 -- Which entries SFENCE.VMA takes out, by its four forms (privileged manual 4.2.1, Supervisor Memory-Management Fence
 -- Instruction). An operand is None where the register is x0, and Some of its value where it is another register, whatever
 -- the value is. The manual lets a fence take out more; here each form takes out just what the manual asks for.
+use Rattle.std.specs.Prelude.{ℕ, Bool, true, ◌%◌, ◌^◌, ◌==◌, ◌&&◌, not, Option, Some, None, List, filter}
 use Rattle.pte.specs.declared.scheme.Scheme.{Scheme}
-use Rattle.std.specs.Prelude.{ℕ, Bool, true, ◌-◌, ◌%◌, ◌^◌, ◌==◌, ◌&&◌, ◌||◌, not, nat_lt, nat_le, Option, Some, None, List, filter}
 use Rattle.pte.specs.Address.{is_canonical}
 use Rattle.tlb.specs.declared.store.Entry.{Entry}
 use Rattle.tlb.specs.Entries.{holds}

@@ -1,6 +1,6 @@
 -- What the service of a request leaves: the entries that stay under every fence that the request stands for.
-use Rattle.pte.specs.declared.scheme.Scheme.{Scheme}
 use Rattle.std.specs.Prelude.{⊤, ℕ, Bool, true, ◌≡◌, ◌+◌, ◌↔◌, ◌&&◌, not, nat_lt, IsTrue, Some, None, List, filter}
+use Rattle.pte.specs.declared.scheme.Scheme.{Scheme}
 use Rattle.pte.specs.Address.{Span, bytes_of, Holds, IsPageOf}
 use Rattle.pte.specs.declared.address.What.{What}
 use Rattle.pte.specs.declared.address.What.TheVariants.{PageOf, SpaceOf, All}

@@ -22,7 +22,7 @@ ghost use Rattle.tlb.specs.Fence.{asid_bits, fenced, is_fenced};
 ghost use Rattle.tlb.specs.Mappings.{IsMappedBy, IsMappingOf, Mapping, Translates, maps_into};
 ghost use Rattle.tlb.specs.Service.{Goes, IsRequest, is_served, overlaps, served, Served};
 
-/// The tests of an address and of two pages are the facts of crate `pte`.
+/// The tests of an address in a page and of two pages are the facts of crate `pte`.
 pub fn tests_are_facts()
     ensures holds { (page : Span) (va : ℕ) → IsTrue (holds page va) ↔ Holds page va }
     ensures overlaps { (p q : Span) → IsTrue (overlaps p q) ↔ Overlap p q }

@@ -64,7 +64,8 @@ impl Entry {
     }
 }
 
-/// The TLB of one hart: at most `TLB_SIZE` entries in the order of their fills. Nothing but `fence`, `serve` and the fill of a
+/// The TLB of one hart: at most `TLB_SIZE` entries in the order of their fills, and the scheme that tells which addresses its
+/// fences count. Nothing but `fence`, `serve` and the fill of a
 /// full TLB takes an entry out, whatever becomes of the page tables meanwhile.
 #[derive(Drop)]
 pub struct Tlb {
@@ -223,8 +224,8 @@ impl Tlb {
         drop_fenced(self.scheme, &mut self.entries, rs1, rs2);
     }
 
-    /// Serves a request: drops each entry that a fence for some address of its page would drop, or for its space, or for all.
-    /// The page is one of the TLB's scheme: a fence for an address that is not canonical drops nothing.
+    /// Serves a request: drops each entry whose page overlaps the request's and that is of its ASID, or all of its space, or all.
+    /// Where the page is one of the TLB's scheme, these are the entries that a fence for some address of the page would drop.
     pub fn serve(&mut self, what: &What)
         ensures list { self.new ≡ record self.old { entries = served self.old.entries what.now } }
         ensures meaning { IsRequest self.old.scheme what.now → Served self.old.scheme self.old.entries what.now self.new.entries }

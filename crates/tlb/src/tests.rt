@@ -1,7 +1,7 @@
 ghost use Rattle.std.specs.Prelude.{◌<◌, ◌^◌};
 
 use super::*;
-use pte::{Access, Ctx, Mode, Page, PageSize, PteFlags, VirtAddr, What};
+use pte::{Access, Ctx, Mode, Page, PageSize, PteFlags, Scheme, VirtAddr, What};
 use std::process::Abort;
 use walk::{Found, Trap, Why};
 
@@ -14,7 +14,7 @@ struct Probe {
 }
 
 fn address(rt: &impl Abort, va: u64) -> VirtAddr {
-    VirtAddr::new(va).expect(rt, "a canonical address")
+    VirtAddr::new_in(Scheme::Sv48, va).expect(rt, "a canonical address")
 }
 
 fn page(rt: &impl Abort, size: PageSize, base: u64) -> Page {
@@ -41,7 +41,11 @@ fn lookup(rt: &impl Abort, tlb: &Tlb, asid: u16, va: u64) -> Option<Entry> {
 }
 
 fn filled(probes: &[Probe]) -> Tlb {
-    let mut tlb = Tlb::default();
+    filled_in(Scheme::Sv39, probes)
+}
+
+fn filled_in(scheme: Scheme, probes: &[Probe]) -> Tlb {
+    let mut tlb = Tlb::new_in(scheme);
     for probe in probes {
         tlb.fill(probe.entry);
     }
@@ -330,4 +334,126 @@ fn of_a_ppn_44_bits_count(rt: HostRuntime) {
         entry.translate(va, Access::Load, USER),
         Ok(0x80_0000_1234_5ABC)
     );
+}
+
+/// What is canonical is told by the TLB's scheme: an address that Sv39 does not have drops nothing there.
+#[test]
+fn fences_by_the_scheme(rt: HostRuntime) {
+    let beyond = page(&rt, PageSize::Kib4, 0x40_0000_0000);
+    let high = page(&rt, PageSize::Kib4, 0xFFFF_8000_0000_0000);
+    let probes = [
+        seen_at(1, false, beyond, (1, 0x40_0000_0000)),
+        seen_at(1, false, high, (1, 0xFFFF_8000_0000_0FFF)),
+    ];
+    let rows = [
+        (Scheme::Sv48, 0x40_0000_0000, [false, true]),
+        (Scheme::Sv48, 0x40_0000_0FFF, [false, true]),
+        (Scheme::Sv48, 0x40_0000_1000, [true, true]),
+        (Scheme::Sv48, 0xFFFF_8000_0000_0000, [true, false]),
+        (Scheme::Sv48, 0x8000_0000_0000, [true, true]),
+        (Scheme::Sv39, 0x40_0000_0000, [true, true]),
+        (Scheme::Sv39, 0xFFFF_8000_0000_0000, [true, true]),
+    ];
+    for (scheme, va, stays) in &rows {
+        let mut tlb = filled_in(*scheme, &probes);
+        tlb.fence(Some(*va), None);
+        for (i, probe) in probes.iter().enumerate() {
+            assert_eq!(rt;
+                is_there(&rt, &tlb, probe),
+                stays[i],
+                "entry {i} of {scheme:?} after {va:x}"
+            );
+        }
+    }
+}
+
+/// A TLB that is made without a scheme is of Sv39.
+#[test]
+fn schemes_of_new_tlbs(rt: HostRuntime) {
+    let beyond = page(&rt, PageSize::Kib4, 0x40_0000_0000);
+    let probe = seen_at(1, false, beyond, (1, 0x40_0000_0000));
+    let tlbs = [
+        (Tlb::new(), true),
+        (Tlb::default(), true),
+        (Tlb::new_in(Scheme::Sv39), true),
+        (Tlb::new_in(Scheme::Sv48), false),
+    ];
+    for (mut tlb, stays) in tlbs {
+        assert_eq!(rt; lookup(&rt, &tlb, 1, 0x40_0000_0000), None);
+        tlb.fill(probe.entry);
+        tlb.fence(Some(0x40_0000_0000), None);
+        assert_eq!(rt; is_there(&rt, &tlb, &probe), stays);
+    }
+}
+
+/// The 512 GiB at 0x8000000000, which a leaf of PPN 0x10000000 maps, and the 4 KiB before them.
+#[test]
+fn an_entry_of_512_gib(rt: HostRuntime) {
+    let widest = Entry {
+        asid: 1,
+        global: false,
+        page: page(&rt, PageSize::Gib512, 0x80_0000_0000),
+        ppn: 0x1000_0000,
+        flags: PteFlags::R | PteFlags::U | PteFlags::A,
+    };
+    let small = seen_at(
+        1,
+        false,
+        page(&rt, PageSize::Kib4, 0x7F_FFFF_F000),
+        (1, 0x7F_FFFF_F000),
+    );
+    let probes = [
+        small,
+        Probe {
+            entry: widest,
+            asid: 1,
+            va: 0xFF_FFFF_FFFF,
+        },
+    ];
+    let rows = [
+        (0x7F_FFFF_FFFF, Some(small.entry)),
+        (0x80_0000_0000, Some(widest)),
+        (0x80_8040_3ABC, Some(widest)),
+        (0xFF_FFFF_FFFF, Some(widest)),
+        (0x100_0000_0000, None),
+    ];
+    for (va, answer) in &rows {
+        let mut tlb = filled_in(Scheme::Sv48, &probes);
+        assert_eq!(rt; lookup(&rt, &tlb, 1, *va), *answer, "{va:x}");
+        tlb.fence(Some(*va), Some(1));
+        for (i, probe) in probes.iter().enumerate() {
+            let stays = *answer != Some(probe.entry);
+            assert_eq!(rt; is_there(&rt, &tlb, probe), stays, "entry {i} after {va:x}");
+        }
+    }
+    let va = address(&rt, 0x80_8040_3ABC);
+    assert_eq!(rt;
+        widest.translate(va, Access::Load, USER),
+        Ok(0x100_8040_3ABC)
+    );
+    let services = [
+        (What::PageOf(small.entry.page, Some(1)), [false, true]),
+        (What::PageOf(widest.page, Some(1)), [true, false]),
+        (What::PageOf(widest.page, Some(2)), [true, true]),
+        (What::PageOf(widest.page, None), [true, false]),
+        (
+            What::PageOf(page(&rt, PageSize::Kib4, 0xFF_FFFF_F000), Some(1)),
+            [true, false],
+        ),
+        (
+            What::PageOf(page(&rt, PageSize::Gib512, 0), Some(1)),
+            [false, true],
+        ),
+    ];
+    for (what, stays) in &services {
+        let mut tlb = filled_in(Scheme::Sv48, &probes);
+        tlb.serve(what);
+        for (i, probe) in probes.iter().enumerate() {
+            assert_eq!(rt;
+                is_there(&rt, &tlb, probe),
+                stays[i],
+                "entry {i} after {what:?}"
+            );
+        }
+    }
 }

@@ -4,6 +4,7 @@ pub mod Ending
 pub mod Unique
 pub mod Members
 mod WorkedRows
+mod WorkedRowsSv48
 pub mod FoundMembers
 pub mod MappedAnswers
 pub mod Stored

@@ -1,8 +1,8 @@
 -- What a load makes of a walk on its path, by the number of loads that it has made.
-use Rattle.pte.specs.declared.scheme.Scheme.{Scheme}
 use Rattle.std.proofs.Common.{◌≡◌, ℕ, suc, ◌+◌, ◌-◌, ◌<◌, ◌⊎◌, true, false, ltb, Option, Some, None, Result, Ok, Err, ap, sym, ◌∙◌, subst, refl, inl, inr, arith}
 use Rattle.std.specs.Prelude.{◌==◌, ◌&&◌, ◌||◌, is_some}
 use Rattle.std.proofs.lemmas.Bool.{cases_lt, cond_both, eqb-true, eqb-false, and_left, and_right, le-ltb, lt-ltb}
+use Rattle.pte.specs.declared.scheme.Scheme.{Scheme}
 use Rattle.pte.specs.declared.entry.Kind.{Kind}
 use Rattle.pte.specs.declared.entry.Kind.TheVariants as kinds
 use Rattle.pte.specs.Address.{level_count, top_level}

@@ -1,8 +1,8 @@
 -- A page has one member of Maps at most; a leaf that leads gives the members of its page, and nothing else does.
-use Rattle.pte.specs.declared.scheme.Scheme.{Scheme}
 use Rattle.std.proofs.Common.{◌≡◌, ℕ, ◌+◌, ◌/◌, ◌%◌, ◌≤◌, Bool, Option, Some, IsTrue, ap, sym, ◌∙◌, subst, refl, inl, inr, arith}
 use Rattle.std.specs.Prelude.{◌↔◌}
 use Rattle.std.proofs.lemmas.Bool.{cases_lt}
+use Rattle.pte.specs.declared.scheme.Scheme.{Scheme}
 use Rattle.pte.specs.declared.flags.PteFlags.{PteFlags}
 use Rattle.pte.specs.declared.entry.Kind.TheVariants.{Table, Leaf}
 use Rattle.pte.specs.Address.{IsCanonical, level_bytes, level_pages}

@@ -1,9 +1,9 @@
 -- The addresses of one page: they have one path down to the page's level, and are canonical alike.
+use Rattle.std.proofs.Common.{◌≡◌, ℕ, ◌+◌, ◌-◌, ◌*◌, ◌/◌, ◌%◌, ◌^◌, ◌<◌, ◌≤◌, Option, Some, ap, sym, ◌∙◌, subst, inl, inr, refl, arith}
+use Rattle.std.proofs.lemmas.Nat.{shr-shr, div-mul-add, field_of}
 use Rattle.pte.specs.declared.scheme.Scheme.{Scheme}
 use Rattle.pte.specs.declared.scheme.Scheme.TheVariants.{Sv39, Sv48}
 use Rattle.pte.proofs.Schemes.{bits_levels}
-use Rattle.std.proofs.Common.{◌≡◌, ℕ, ◌+◌, ◌-◌, ◌*◌, ◌/◌, ◌%◌, ◌^◌, ◌<◌, ◌≤◌, Option, Some, ap, sym, ◌∙◌, subst, inl, inr, refl, arith}
-use Rattle.std.proofs.lemmas.Nat.{shr-shr, div-mul-add, field_of}
 use Rattle.pte.specs.declared.address.PageSize.{PageSize}
 use Rattle.pte.specs.declared.address.PageSize.TheVariants.{Kib4}
 use Rattle.pte.specs.Address.{IsCanonical, address_bits, bytes_of, level_bytes, level_pages, page_around, table_length, top_level, vpn_of, Holds}

@@ -1,8 +1,8 @@
 -- Paths of tables from a root: they begin at the root, go on below a pointer, and there is one.
-use Rattle.pte.specs.declared.scheme.Scheme.{Scheme}
 use Rattle.std.proofs.Common.{◌≡◌, ℕ, zero, suc, ◌+◌, ◌-◌, ◌<◌, ◌≤◌, ◌⊎◌, Bool, false, Option, Some, None, cond, ltb, ap, sym, ◌∙◌, subst, refl, inl, inr, arith, IsTrue}
 use Rattle.std.specs.Prelude.{◌||◌, ◌↔◌}
 use Rattle.std.proofs.lemmas.Bool.{cases_lt, lt-ltb, le-ltb, cond-true, cond-false, or_cases, or_left, or_right}
+use Rattle.pte.specs.declared.scheme.Scheme.{Scheme}
 use Rattle.pte.specs.declared.entry.Kind.TheVariants.{Table}
 use Rattle.pte.specs.Address.{top_level}
 use Rattle.pte.specs.Entry.{kind_of, is_global}

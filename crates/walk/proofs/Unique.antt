@@ -1,7 +1,7 @@
--- There is one outcome, and three loads compute it.
-use Rattle.pte.specs.declared.scheme.Scheme.{Scheme}
+-- There is one outcome, and one load a level computes it.
 use Rattle.std.proofs.Common.{◌≡◌, ℕ, zero, suc, ◌+◌, ◌<◌, Bool, true, false, Result, IsTrue, ap, sym, ◌∙◌, subst, refl, inl, inr, arith}
 use Rattle.std.specs.Prelude.{◌↔◌}
+use Rattle.pte.specs.declared.scheme.Scheme.{Scheme}
 use Rattle.pte.specs.declared.permission.Access.{Access}
 use Rattle.pte.specs.declared.permission.Ctx.{Ctx}
 use Rattle.walk.specs.declared.found_or_trap.Found.{Found}

@@ -1,7 +1,7 @@
 -- Which words the pointers of an address lead to, level by level from the root
--- (privileged manual 4.3.2, virtual address translation process, steps 1 to 4; 4.4.1, the levels of Sv39).
-use Rattle.pte.specs.declared.scheme.Scheme.{Scheme}
+-- (privileged manual 4.3.2, virtual address translation process, steps 1 to 4; 4.4.1 and 4.5.1, the levels of Sv39 and Sv48).
 use Rattle.std.specs.Prelude.{ℕ, Bool, ◌≡◌, ◌-◌, ◌<◌, ◌≤◌, Option, Some, IsTrue}
+use Rattle.pte.specs.declared.scheme.Scheme.{Scheme}
 use Rattle.pte.specs.declared.entry.Kind.TheVariants.{Table}
 use Rattle.pte.specs.Address.{top_level, vpn_of}
 use Rattle.pte.specs.Entry.{kind_of, is_global}

@@ -1,6 +1,6 @@
 -- What a walk computes that is fed the words of one memory.
-use Rattle.pte.specs.declared.scheme.Scheme.{Scheme}
 use Rattle.std.specs.Prelude.{ℕ, zero, suc, ◌≡◌, ◌+◌, Result, Ok, Err}
+use Rattle.pte.specs.declared.scheme.Scheme.{Scheme}
 use Rattle.walk.specs.declared.found_or_trap.Found.{Found}
 use Rattle.walk.specs.declared.found_or_trap.Trap.{Trap}
 use Rattle.walk.specs.declared.found_or_trap.Why.TheVariants.{TooDeep}

@@ -1,6 +1,6 @@
 -- The pages of 4 KiB that the tables of a root map (privileged manual 4.3.2, step 8; 4.3.1, G).
-use Rattle.pte.specs.declared.scheme.Scheme.{Scheme}
 use Rattle.std.specs.Prelude.{ℕ, Bool, ◌≡◌, ◌+◌, ◌/◌, ◌%◌, ◌↔◌, Some, IsTrue}
+use Rattle.pte.specs.declared.scheme.Scheme.{Scheme}
 use Rattle.pte.specs.declared.address.PageSize.TheVariants.{Kib4}
 use Rattle.pte.specs.declared.flags.PteFlags.{PteFlags}
 use Rattle.pte.specs.declared.entry.Kind.TheVariants.{Leaf}

@@ -1,7 +1,7 @@
 -- What the translation of an address answers
--- (privileged manual 4.3.2, virtual address translation process; 4.4.1, canonical addresses).
-use Rattle.pte.specs.declared.scheme.Scheme.{Scheme}
+-- (privileged manual 4.3.2, virtual address translation process; 4.4.1 and 4.5.1, canonical addresses).
 use Rattle.std.specs.Prelude.{ℕ, Bool, ◌≡◌, ◌≤◌, ◌⊎◌, ◌↔◌, Option, Result, Err, IsTrue}
+use Rattle.pte.specs.declared.scheme.Scheme.{Scheme}
 use Rattle.pte.specs.declared.permission.Access.{Access}
 use Rattle.pte.specs.declared.permission.Ctx.{Ctx}
 use Rattle.pte.specs.Address.{IsCanonical}

@@ -1,6 +1,6 @@
 -- The tables of an address, computed pointer by pointer.
-use Rattle.pte.specs.declared.scheme.Scheme.{Scheme}
 use Rattle.std.specs.Prelude.{ℕ, Bool, zero, suc, ◌-◌, ◌&&◌, nat_lt, is_some, Option, Some, None}
+use Rattle.pte.specs.declared.scheme.Scheme.{Scheme}
 use Rattle.pte.specs.declared.entry.Kind.{Kind}
 use Rattle.pte.specs.declared.entry.Kind.TheVariants as kinds
 use Rattle.pte.specs.Address.{top_level}

@@ -1,6 +1,6 @@
 -- Where a walk stands between two loads (privileged manual 4.3.2: a and i, the table and the level).
-use Rattle.pte.specs.declared.scheme.Scheme.{Scheme}
 use Rattle.std.specs.Prelude.{ℕ, Bool, false, ◌≡◌, ◌+◌, ◌<◌, ◌≤◌, ◌^◌, ◌↔◌, IsTrue}
+use Rattle.pte.specs.declared.scheme.Scheme.{Scheme}
 use Rattle.pte.specs.declared.permission.Access.{Access}
 use Rattle.pte.specs.declared.permission.Ctx.{Ctx}
 use Rattle.pte.specs.Address.{IsCanonical, top_level, widest}

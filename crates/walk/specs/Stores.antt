@@ -1,6 +1,6 @@
 -- What a store to a word of a table leaves, and what it can change.
-use Rattle.pte.specs.declared.scheme.Scheme.{Scheme}
 use Rattle.std.specs.Prelude.{ℕ, ◌≡◌, ◌≤◌, ◌==◌, ◌&&◌, if◌then◌else◌, Some}
+use Rattle.pte.specs.declared.scheme.Scheme.{Scheme}
 use Rattle.pte.specs.Address.{vpn_of}
 use Rattle.walk.specs.Leads.{Tables, PointsTo, Leads}
 

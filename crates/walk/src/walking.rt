@@ -8,7 +8,8 @@ use pte::{
 };
 use std::marker::Model;
 
-/// A walk between two loads. It holds no memory: `wants` tells the word that comes next, and `load` takes it.
+/// A walk between two loads. It holds no memory: `wants` tells the word that comes next, and `load` takes it. Nor does it hold
+/// its scheme, which only says at which level it begins.
 #[derive(Clone, Copy, PartialEq, Eq, Debug)]
 pub struct Walk {
     va: VirtAddr,

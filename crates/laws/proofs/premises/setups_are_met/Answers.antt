@@ -1,4 +1,4 @@
-use Rattle.laws.proofs.PremisesMet.{one_space, two_spaces}
+use Rattle.laws.proofs.PremisesMet.{one_space, two_spaces, one_home}
 use Rattle.laws.proofs.premises.setups_are_met.Goals as goal
 
 pub returns-clause-one_space : goal.returns-clause-one_space
@@ -6,3 +6,6 @@ returns-clause-one_space c = one_space
 
 pub returns-clause-two_spaces : goal.returns-clause-two_spaces
 returns-clause-two_spaces c = two_spaces
+
+pub returns-clause-one_home : goal.returns-clause-one_home
+returns-clause-one_home c = one_home
