@@ -19,9 +19,9 @@ mod HartRows
 mod Sv48Rows
 mod Sv48Entries
 mod Promises
-mod ClearFacts
-mod CoherentFacts
-mod MailboxFacts
+pub mod ClearFacts
+pub mod CoherentFacts
+pub mod MailboxFacts
 mod StillTranslated
 mod SetupFacts
 pub mod LeastFree

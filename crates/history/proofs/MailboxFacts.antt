@@ -65,3 +65,13 @@ after_close_and_taken none = after_close none.1.1
 
 pub other_closed : NoneAfterClose two_harts (history_of unlawful.posted_after_close_of_the_other) 0 1
 other_closed = (not_closed, (not_closed, (not_closed, (not_closed, (not_closed, tt)))))
+
+-- two more, for machines
+pub all_lost : ¬ KeepsOrder mailboxes.mailboxes_of_two (history_of mailboxes.two_requests_wait) 0 1 []
+all_lost e = distinct _ _ refl refl e
+
+pub one_never_posted : ¬ KeepsOrder mailboxes.mailboxes_of_two (history_of mailboxes.two_requests_wait) 1 0 (request_of 1 ∷ [])
+one_never_posted e = distinct _ _ refl refl e
+
+pub after_close_from_1 : ¬ NoneAfterClose two_harts (history_of unlawful.posted_after_close_from_1) 1 0
+after_close_from_1 none = distinct _ _ refl refl (none.0 refl)

@@ -4,6 +4,7 @@ use Rattle.pte.specs.Entry.{kind_of}
 use Rattle.spaces.specs.Edits.{wish_fault, path_end, edit_of}
 use Rattle.shoot.specs.HartSet.{byte_of, difference}
 use Rattle.history.specs.WorkedRuns.{IsRun, one_hart, two_harts}
+use Rattle.history.specs.ShootdownRuns.{spaces_of_one_home}
 use Rattle.history.specs.TranslationRuns as run
 
 pub page_of_one_gib : IsRun two_harts run.page_of_one_gib
@@ -29,3 +30,7 @@ page_not_accessed = refl
 pub pages_of_sv48 : IsRun run.one_hart_of_sv48 run.pages_of_sv48
 unfolding IsRun kind_of wish_fault path_end edit_of byte_of difference
 pages_of_sv48 = refl
+
+pub spaces_of_each_hart : IsRun spaces_of_one_home run.spaces_of_each_hart
+unfolding IsRun kind_of wish_fault path_end edit_of byte_of difference
+spaces_of_each_hart = refl

@@ -1,6 +1,6 @@
 -- Worked runs of accesses: a leaf of each size filled and hit, fetches, SUM and MXR, and traps by the flags of a match
 -- (privileged manual 4.1.1.2, SUM and MXR; 4.3.2, steps 5 to 8; 4.4.1, the sizes of pages; 4.5.1, Sv48).
-use Rattle.std.specs.Prelude.{ℕ, ◌+◌, true, false, List, [], ◌∷◌, ◌++◌}
+use Rattle.std.specs.Prelude.{ℕ, ◌+◌, true, false, List, [], ◌∷◌, ◌++◌, None}
 use Rattle.pte.specs.declared.scheme.Scheme.TheVariants.{Sv48}
 use Rattle.pte.specs.Address.{Span}
 use Rattle.pte.specs.declared.address.PageSize.TheVariants.{Gib512}
@@ -9,8 +9,8 @@ use Rattle.pte.specs.declared.permission.Ctx.{Ctx}
 use Rattle.pte.specs.declared.permission.Mode.TheVariants.{User, Super}
 use Rattle.walk.specs.declared.found_or_trap.Why.TheVariants.{NotCanonical, Invalid, Denied, NotAccessed, NotDirty}
 use Rattle.spaces.specs.declared.places.Place.TheVariants.{Space}
-use Rattle.history.specs.declared.event.Event.TheVariants.{Begin, Load, Map, Switch}
-use Rattle.history.specs.declared.refusal.Refusal.TheVariants.{NotWalking}
+use Rattle.history.specs.declared.event.Event.TheVariants.{Begin, Load, Map, Switch, Fence}
+use Rattle.history.specs.declared.refusal.Refusal.TheVariants.{NoSpace, Walking, NotWalking}
 use Rattle.history.specs.declared.reply.Reply.TheVariants.{Hit, More, Filled, Table, Leaf, Ok}
 use Rattle.history.specs.Setup.{Setup}
 use Rattle.history.specs.WorkedRuns.{Step, small_page, large_page, flags, R, W, X, U, A, D, user, supervisor, refused, trap}
@@ -152,4 +152,41 @@ pages_of_sv48 =
     ∷ (Load 0, More)
     ∷ (Load 0, Filled 0x100004)
     ∷ (Begin 0 0x1fff access.Load user, Hit 0x100fff)
+    ∷ []
+
+-- the page at 0x1000 of two spaces: an accepted switch moves its own hart and no other, a refused one none; and a fence that is
+-- refused drops nothing
+abbrev pub spaces_of_each_hart : List Step
+spaces_of_each_hart =
+    (Map 0 (Space 0) (small_page 0x1000) 0x100 (flags (R + U + A + D)), Table 0x80003)
+    ∷ (Map 0 (Space 0) (small_page 0x1000) 0x100 (flags (R + U + A + D)), Table 0x80004)
+    ∷ (Map 0 (Space 0) (small_page 0x1000) 0x100 (flags (R + U + A + D)), Leaf)
+    ∷ (Map 0 (Space 1) (small_page 0x1000) 0x101 (flags (R + U + A + D)), Table 0x80005)
+    ∷ (Map 0 (Space 1) (small_page 0x1000) 0x101 (flags (R + U + A + D)), Table 0x80006)
+    ∷ (Map 0 (Space 1) (small_page 0x1000) 0x101 (flags (R + U + A + D)), Leaf)
+    ∷ (Switch 1 1, Ok)
+    ∷ (Begin 0 0x1004 access.Load user, More)
+    ∷ (Switch 0 1, refused Walking)
+    ∷ (Load 0, More)
+    ∷ (Load 0, More)
+    ∷ (Load 0, Filled 0x100004)
+    ∷ (Begin 0 0x1004 access.Load user, Hit 0x100004)
+    ∷ (Switch 0 2, refused NoSpace)
+    ∷ (Begin 0 0x1004 access.Load user, Hit 0x100004)
+    ∷ (Begin 1 0x1004 access.Load user, More)
+    ∷ (Load 1, More)
+    ∷ (Load 1, More)
+    ∷ (Load 1, Filled 0x101004)
+    ∷ (Begin 0 0x2000 access.Load user, More)
+    ∷ (Fence 0 None None, refused Walking)
+    ∷ (Load 0, More)
+    ∷ (Load 0, More)
+    ∷ (Load 0, trap 13 Invalid)
+    ∷ (Begin 0 0x1004 access.Load user, Hit 0x100004)
+    ∷ (Switch 0 1, Ok)
+    ∷ (Begin 0 0x1004 access.Load user, More)
+    ∷ (Load 0, More)
+    ∷ (Load 0, More)
+    ∷ (Load 0, Filled 0x101004)
+    ∷ (Begin 1 0x1004 access.Load user, Hit 0x101004)
     ∷ []

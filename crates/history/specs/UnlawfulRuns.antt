@@ -36,6 +36,10 @@ posted_after_close_and_taken = posted_after_close ++ (Take 1 0, taken 0 All) ∷
 abbrev pub posted_after_close_of_the_other : List Step
 posted_after_close_of_the_other = two_orders ++ (Close 1 0, Ok) ∷ (Post 0 0 1, Ok) ∷ (Post 0 1 1, Ok) ∷ []
 
+-- a Post from hart 1 to hart 0 is accepted after the Close of that pair
+abbrev pub posted_after_close_from_1 : List Step
+posted_after_close_from_1 = (Flush 1 scope.All (hart_0 + hart_1), Opened 0) ∷ (Close 1 0, Ok) ∷ (Post 1 0 0, Ok) ∷ []
+
 -- of two spaces of one home: space 1 is retired, or given back, while hart 1 walks in it
 abbrev pub retired_in_mid_walk : List Step
 retired_in_mid_walk = (Switch 1 1, Ok) ∷ (Begin 1 0x1000 access.Load user, More) ∷ (Retire 0 1, Opened 0) ∷ []

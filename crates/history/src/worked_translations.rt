@@ -3,6 +3,7 @@
 
 ghost use Rattle.history.specs.HartRuns.{spaces_of_other_asids};
 ghost use Rattle.history.specs.ServiceRuns as services;
+ghost use Rattle.history.specs.ShootdownRuns.{spaces_of_one_home};
 ghost use Rattle.history.specs.TranslationRuns as translations;
 ghost use Rattle.history.specs.WorkedRuns.{IsRun, one_hart, two_harts};
 
@@ -41,6 +42,12 @@ pub fn page_not_accessed()
 #[tactic(auto, using(crate::proofs::TranslationRows::pages_of_sv48))]
 pub fn pages_of_sv48()
     ensures { IsRun translations.one_hart_of_sv48 translations.pages_of_sv48 }
+{}
+
+/// Each hart is in the space of its own last accepted switch; a fence that is refused drops nothing.
+#[tactic(auto, using(crate::proofs::TranslationRows::spaces_of_each_hart))]
+pub fn spaces_of_each_hart()
+    ensures { IsRun spaces_of_one_home translations.spaces_of_each_hart }
 {}
 
 /// A hart that serves the request for a page of a space drops that page, and no other page, nor the same one of another space, nor

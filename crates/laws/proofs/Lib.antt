@@ -28,3 +28,4 @@ pub mod Completed
 mod Staying
 mod Requested
 mod RetiredRefuted
+pub mod DoneFacts

@@ -4,3 +4,4 @@ pub mod Kept
 pub mod Orders
 pub mod Outstanding
 pub mod Posts
+pub mod DoneCounterexamples

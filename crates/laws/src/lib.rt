@@ -3,6 +3,7 @@
 
 pub mod counterexamples;
 pub mod done;
+pub mod done_counterexamples;
 mod laws;
 pub mod premises;
 

@@ -17,6 +17,7 @@ use Rattle.history.specs.declared.reply.Reply.{Reply}
 use Rattle.history.specs.Turns.{History}
 use Rattle.history.specs.Mailboxes.{accepted, taken, NoneAfterClose}
 use Rattle.history.specs.Runs.{with_turn}
+use Rattle.history.specs.Completion.{ClearOnceDone}
 use Rattle.history.specs.Staleness.{Clear, Coherent, HoldsUsedAsids}
 use Rattle.history.specs.Spaces.{Live, status_of, holder_of}
 use Rattle.history.specs.Tables.{words_of}
@@ -25,6 +26,7 @@ use Rattle.history.proofs.Mailboxes as mailboxes
 use Rattle.laws.proofs.Asids.{holds_used, live_hart}
 use Rattle.laws.proofs.Clearing.{clear}
 use Rattle.laws.proofs.Cohering.{coherent}
+use Rattle.laws.proofs.Completed.{done_clear}
 use Rattle.laws.proofs.MapsKept.{stays_mapped, stays_unmapped, user_plain, window_shared}
 use Rattle.laws.proofs.Walkers.{walks_used}
 use Rattle.stepcore.specs.State.{State, hart_at}
@@ -87,6 +89,11 @@ module _ (C : Setup) (m : State) (H : History) (st : Stands C m H) where
   entries_clear k h l =
       subst (λ (entries : List Entry). Clear C H entries k h) (sym (st.harts h l).entries)
       (clear C st.within (stays_unmapped C st.within) (user_plain C st.within) H k h st.lawful st.pages)
+
+  pub entries_done : (k h : ℕ) → h < C.harts → ClearOnceDone C H (entries_in m h) k h
+  entries_done k h l =
+      subst (λ (entries : List Entry). ClearOnceDone C H entries k h) (sym (st.harts h l).entries)
+      (done_clear C H k h st.lawful (clear C st.within (stays_unmapped C st.within) (user_plain C st.within) H k h st.lawful st.pages))
 
   pub entries_coherent : (k h : ℕ) → h < C.harts → Coherent C H (entries_in m h) k h
   entries_coherent k h l =

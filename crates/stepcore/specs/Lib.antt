@@ -3,3 +3,4 @@ pub mod Answers
 pub mod Changes
 pub mod Stands
 pub mod Runs
+pub mod Counterexamples

@@ -10,6 +10,7 @@ use Rattle.history.specs.Setup.{Setup}
 use Rattle.history.specs.Turns.{History}
 use Rattle.history.specs.Mailboxes.{KeepsOrder, NoneAfterClose}
 use Rattle.history.specs.Spaces.{Live, status_of, holder_of}
+use Rattle.history.specs.Completion.{ClearOnceDone}
 use Rattle.history.specs.Staleness.{Clear, Coherent, HoldsUsedAsids}
 use Rattle.history.specs.Runs.{with_turn}
 use Rattle.stepcore.specs.State.{State, hart_at, mailbox_at}
@@ -46,6 +47,11 @@ NothingAfterCloses C H = (s h : ℕ) → NoneAfterClose C H s h
 -- no TLB of a hart that acknowledged an unmapping translates an address of its page, until the page is mapped anew
 abbrev pub IsClear : Setup → History → State → Type 0
 IsClear C H m = (k h : ℕ) → h < C.harts → Clear C H (entries_in m h) k h
+
+-- no TLB of a hart that an unmapping names translates an address of its page once its sender was told that it is done, until the
+-- page is mapped anew
+abbrev pub IsClearOnceDone : Setup → History → State → Type 0
+IsClearOnceDone C H m = (k h : ℕ) → h < C.harts → ClearOnceDone C H (entries_in m h) k h
 
 -- and what such a hart holds of a page that was unmapped or protected is mapped, until the page is unmapped or protected once more
 abbrev pub IsCoherent : Setup → History → State → Type 0

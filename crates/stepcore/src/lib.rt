@@ -2,6 +2,7 @@
 #![tactic(auto)]
 
 mod accesses;
+pub mod counterexamples;
 mod editing;
 mod events;
 mod hart;

@@ -6,7 +6,7 @@ ghost use Rattle.history.specs.Turns.{History};
 ghost use Rattle.history.specs.Runs.{with_turn};
 ghost use Rattle.history.specs.Due.{due};
 ghost use Rattle.stepcore.specs.Changes.{is_accepted};
-ghost use Rattle.stepcore.specs.Runs.{after_run, appended, AreInLiveSpaces, HoldUsedAsids, IsClear, IsCoherent, MailboxesKeepOrder, NothingAfterCloses, WalkUsedFrames};
+ghost use Rattle.stepcore.specs.Runs.{AreInLiveSpaces, HoldUsedAsids, IsClear, IsClearOnceDone, IsCoherent, MailboxesKeepOrder, NothingAfterCloses, WalkUsedFrames, after_run, appended};
 ghost use Rattle.stepcore.specs.Stands.{Stands};
 
 use crate::machine::Machine;
@@ -25,6 +25,7 @@ impl Machine {
         ensures mailboxes { (C : Setup) (H : History) → Stands C self.old H → MailboxesKeepOrder C (with_turn event result H) self.new }
         ensures closed { (C : Setup) (H : History) → Stands C self.old H → NothingAfterCloses C (with_turn event result H) }
         ensures clear { (C : Setup) (H : History) → Stands C self.old H → IsClear C (with_turn event result H) self.new }
+        ensures done { (C : Setup) (H : History) → Stands C self.old H → IsClearOnceDone C (with_turn event result H) self.new }
         ensures coherent { (C : Setup) (H : History) → Stands C self.old H → IsCoherent C (with_turn event result H) self.new }
         ensures asids { (C : Setup) (H : History) → Stands C self.old H → HoldUsedAsids C (with_turn event result H) self.new }
         ensures spaces { (C : Setup) (H : History) → Stands C self.old H → AreInLiveSpaces C (with_turn event result H) self.new }
@@ -45,6 +46,7 @@ impl Machine {
         ensures mailboxes { (C : Setup) (H : History) → Stands C self.old H → MailboxesKeepOrder C (after_run events.now replies.old.items replies.new.items H) self.new }
         ensures closed { (C : Setup) (H : History) → Stands C self.old H → NothingAfterCloses C (after_run events.now replies.old.items replies.new.items H) }
         ensures clear { (C : Setup) (H : History) → Stands C self.old H → IsClear C (after_run events.now replies.old.items replies.new.items H) self.new }
+        ensures done { (C : Setup) (H : History) → Stands C self.old H → IsClearOnceDone C (after_run events.now replies.old.items replies.new.items H) self.new }
         ensures coherent { (C : Setup) (H : History) → Stands C self.old H → IsCoherent C (after_run events.now replies.old.items replies.new.items H) self.new }
         ensures asids { (C : Setup) (H : History) → Stands C self.old H → HoldUsedAsids C (after_run events.now replies.old.items replies.new.items H) self.new }
         ensures spaces { (C : Setup) (H : History) → Stands C self.old H → AreInLiveSpaces C (after_run events.now replies.old.items replies.new.items H) self.new }

@@ -9,7 +9,7 @@ use Rattle.history.specs.Turns.{History}
 use Rattle.history.specs.declared.reply.Reply.{Reply}
 use Rattle.stepcore.specs.Stands.{Stands}
 use Rattle.stepcore.specs.Runs.{after_run, appended, with_turns}
-use Rattle.stepcore.proofs.Running.{appended_none, no_turns, run_more, appended_more, mailbox_order, none_after_close, entries_clear, entries_coherent, used_asids, live_spaces, used_frames}
+use Rattle.stepcore.proofs.Running.{appended_none, no_turns, run_more, appended_more, mailbox_order, none_after_close, entries_clear, entries_coherent, entries_done, used_asids, live_spaces, used_frames}
 use Rattle.stepcore.proofs.machine.Machine.run.Goals as goal
 
 pub loop-event-init : goal.loop-event-init
@@ -86,3 +86,9 @@ returns-clause-spaces c C H st = live_spaces C _ _ (c.loop-event.invariant.stand
 
 pub returns-clause-frames : goal.returns-clause-frames
 returns-clause-frames c C H st = used_frames C _ _ (c.loop-event.invariant.stands C H st)
+
+pub returns-in_err-reserve-clause-done : goal.returns-in_err-reserve-clause-done
+returns-in_err-reserve-clause-done c C H st = entries_done C _ _ (stays c C H st)
+
+pub returns-clause-done : goal.returns-clause-done
+returns-clause-done c C H st = entries_done C _ _ (c.loop-event.invariant.stands C H st)

@@ -5,7 +5,7 @@ use Rattle.std.proofs.Common.{◌∙◌, subst}
 use Rattle.stepcore.specs.State.{IsMachine}
 use Rattle.stepcore.specs.Stands.{Stands}
 use Rattle.stepcore.proofs.Standing.{answers_due, stands_after}
-use Rattle.stepcore.proofs.Running.{mailbox_order, none_after_close, entries_clear, entries_coherent, used_asids, live_spaces, used_frames}
+use Rattle.stepcore.proofs.Running.{mailbox_order, none_after_close, entries_clear, entries_coherent, entries_done, used_asids, live_spaces, used_frames}
 use Rattle.stepcore.proofs.machine.Machine.step.Goals as goal
 
 machine : (c : goal.After-do_event) → IsMachine c.args.self.now
@@ -40,3 +40,6 @@ returns-clause-spaces c C H st = live_spaces C _ _ (stands c C H st)
 
 pub returns-clause-frames : goal.returns-clause-frames
 returns-clause-frames c C H st = used_frames C _ _ (stands c C H st)
+
+pub returns-clause-done : goal.returns-clause-done
+returns-clause-done c C H st = entries_done C _ _ (stands c C H st)
