@@ -233,7 +233,7 @@ fn runs_in_sv48(rt: HostRuntime) -> Result<(), Fail> {
         },
         Row {
             name: "the user half and the window",
-            keys: "window = 2\nmode = ' \\tsv48 '",
+            keys: "window = 2\nmode = ' \tsv48 '",
             turns: HALVES,
         },
     ] {
