@@ -64,8 +64,8 @@ fn push_line(
     }
 }
 
-/// The lines of `walk`: each step's number, from 1, and the answer of the scheme's translation from the root, which the caller keeps
-/// below 2^44.
+/// The lines of `walk`: each step's number, from 1, and the answer of the scheme's translation from the root, which the
+/// caller keeps below 2^44.
 pub fn walk_lines<W: Words>(
     alloc: Global,
     scheme: Scheme,

@@ -1,8 +1,8 @@
 -- Worked rows: what was worked out by hand, computed from the definitions alone.
-use Rattle.pte.specs.declared.scheme.Scheme.TheVariants.{Sv39}
+use Rattle.pte.specs.declared.scheme.Scheme.TheVariants.{Sv39, Sv48}
 use Rattle.std.proofs.Common.{◌≡◌, ℕ, Bool, true, false, codes, List, [], ◌∷◌, Option, Some, None, option_map, Err, refl}
 use Rattle.pte.specs.Entry.{is_accessed, is_dirty, is_global, is_user, may_execute, may_read, may_write}
-use Rattle.pte.specs.declared.address.PageSize.TheVariants.{Mib2}
+use Rattle.pte.specs.declared.address.PageSize.TheVariants.{Mib2, Gib512}
 use Rattle.pte.specs.declared.permission.Access.TheVariants.{Load, Store}
 use Rattle.pte.specs.declared.permission.Mode.TheVariants.{User, Super}
 use Rattle.spaces.specs.declared.places.Place.TheVariants as places
@@ -104,3 +104,21 @@ no_hart = refl
 
 no_page : step_among Sv39 8 (codes "7 unmap 0 4K:0x1 0") ≡ Err NotPage
 no_page = refl
+
+-- ---- pages of 512 GiB, and addresses, by the scheme
+
+terapage : run_step_of Sv48 (codes "1 unmap k 512G:0xffffff8000000000 0") ≡ Some (events.Unmap 1 places.Kernel (record { base = 0xffffff8000000000; size = Gib512 }) 0x01)
+unfolding byte_of
+terapage = refl
+
+no_terapage : step_among Sv39 1 (codes "9 unmap 0 512G:0x1 9") ≡ Err NotStep
+no_terapage = refl
+
+unaligned_terapage : step_among Sv48 1 (codes "0 unmap 0 512G:0x40000000 0") ≡ Err NotPage
+unaligned_terapage = refl
+
+far_page : step_among Sv39 1 (codes "0 unmap 0 4K:0x4000000000 0") ≡ Err NotPage
+far_page = refl
+
+farther_page : step_among Sv48 1 (codes "0 unmap 0 4K:0x800000000000 0") ≡ Err NotPage
+farther_page = refl

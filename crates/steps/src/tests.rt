@@ -247,20 +247,20 @@ fn steps_of_shootdowns(rt: HostRuntime) {
     );
 }
 
-/// Each text writes no step of a scheme, whatever harts there are.
-fn assert_no_steps_in(rt: &impl Abort, scheme: Scheme, texts: &[&str]) {
-    for text in texts {
-        for harts in [0, 2, 8, 255] {
-            let step = run_step_among(scheme, harts, text);
-            assert_eq!(rt; step, Err(StepFault::NotStep), "{text}");
-        }
-        assert_eq!(rt; run_step(scheme, text), None, "{text}");
+/// The text writes no step of the scheme, whatever harts there are.
+fn assert_no_step(rt: &impl Abort, scheme: Scheme, text: &str) {
+    for harts in [0, 2, 8, 255] {
+        let step = run_step_among(scheme, harts, text);
+        assert_eq!(rt; step, Err(StepFault::NotStep), "{text}");
     }
+    assert_eq!(rt; run_step(scheme, text), None, "{text}");
 }
 
 fn assert_no_steps(rt: &impl Abort, texts: &[&str]) {
     for scheme in SCHEMES {
-        assert_no_steps_in(rt, scheme, texts);
+        for text in texts {
+            assert_no_step(rt, scheme, text);
+        }
     }
 }
 
@@ -369,47 +369,43 @@ fn steps_of_harts_and_pages_that_are_not_there(rt: HostRuntime) {
     }
 }
 
-/// Edits of pages of 512 GiB, and the texts that write them.
-fn edits_of_512_gib() -> Result<[(&'static str, Event); 3], Fail> {
+/// The text writes the event in Sv48, and no step in Sv39.
+fn assert_step_of_sv48(rt: &impl Abort, text: &str, event: Event) {
+    assert_eq!(rt; run_step_among(Scheme::Sv48, 2, text), Ok(event), "{text}");
+    assert_eq!(rt; run_step(Scheme::Sv48, text), Some(event), "{text}");
+    assert_no_step(rt, Scheme::Sv39, text);
+}
+
+/// Pages of 512 GiB are steps of Sv48 alone.
+#[test]
+fn pages_of_512_gib(rt: HostRuntime) -> Result<(), Fail> {
     let flags = PteFlags::from_bits_retain(0xd2);
-    let page_at = |base| page(base, PageSize::Gib512);
+    let page_of_user = page(0x80_0000_0000, PageSize::Gib512)?;
     let map = Event::Map {
         hart: 0,
         place: Place::Space(0),
-        page: page_at(0x80_0000_0000)?,
+        page: page_of_user,
         ppn: 0x1000_0000,
         flags,
     };
     let unmap = Event::Unmap {
         hart: 1,
         place: Place::Space(0),
-        page: page_at(0x80_0000_0000)?,
+        page: page_of_user,
         named: 3,
     };
     let protect = Event::Protect {
         hart: 0,
         place: Place::Kernel,
-        page: page_at(0xffff_ff80_0000_0000)?,
+        page: page(0xffff_ff80_0000_0000, PageSize::Gib512)?,
         flags,
         named: 0,
     };
-    Ok([
-        ("0 map 0 512G:0x8000000000 0x10000000 ruad", map),
-        ("1 unmap 0 512G:549755813888 0,1", unmap),
-        ("0 protect k 512G:0xffffff8000000000 ruad -", protect),
-    ])
-}
-
-/// Pages of 512 GiB are steps of Sv48 alone.
-#[test]
-fn pages_of_512_gib(rt: HostRuntime) -> Result<(), Fail> {
-    for (text, event) in edits_of_512_gib()? {
-        assert_eq!(rt; run_step_among(Scheme::Sv48, 2, text), Ok(event), "{text}");
-        assert_eq!(rt; run_step(Scheme::Sv48, text), Some(event), "{text}");
-        assert_no_steps_in(&rt, Scheme::Sv39, &[text]);
-    }
-    let texts = ["9 map 0 512G:0x1 0x1 r", "0 unmap 0 512G:0x0 9"];
-    assert_no_steps_in(&rt, Scheme::Sv39, &texts);
+    assert_step_of_sv48(&rt, "0 map 0 512G:0x8000000000 0x10000000 ruad", map);
+    assert_step_of_sv48(&rt, "1 unmap 0 512G:549755813888 0,1", unmap);
+    assert_step_of_sv48(&rt, "0 protect k 512G:0xffffff8000000000 ruad -", protect);
+    assert_no_step(&rt, Scheme::Sv39, "9 map 0 512G:0x1 0x1 r");
+    assert_no_step(&rt, Scheme::Sv39, "0 unmap 0 512G:0x0 9");
     Ok(())
 }
 
