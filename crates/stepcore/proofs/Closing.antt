@@ -2,7 +2,7 @@
 use Rattle.std.proofs.Common.{◌≡◌, ℕ, ◌<◌, ◌⊎◌, Bool, true, false, cond, not, List, [], ◌∷◌, length, Option, Some, None, refl, ap, sym, ◌∙◌, subst, inl, inr, arith, ◌&&◌}
 use Rattle.std.proofs.lemmas.Bool.{false≢true}
 use Rattle.pte.specs.declared.address.What.{What}
-use Rattle.shoot.specs.HartSet.{harts_where, is_empty}
+use Rattle.shoot.specs.HartSet.{is_empty}
 use Rattle.shoot.proofs.HartSets.{by_test, where_agree}
 use Rattle.history.specs.Setup.{Setup}
 use Rattle.history.specs.declared.event.Event.{Event}

@@ -1,7 +1,7 @@
 -- What a machine that stands at a history answers to the events of its harts and tables is what is due.
 use Rattle.pte.specs.declared.scheme.Scheme.{Scheme}
 use Rattle.std.proofs.Common.{◌≡◌, ℕ, ◌+◌, ◌<◌, Bool, true, false, cond, not, List, Option, Some, None, refl, ap, ◌∙◌}
-use Rattle.std.specs.Prelude.{is_some, is_none, slice_index, Result, Ok, Err}
+use Rattle.std.specs.Prelude.{is_some, is_none, Result, Ok, Err}
 use Rattle.std.proofs.Math.Path.{fun_ext}
 use Rattle.pte.specs.Address.{Span, level_count, is_canonical}
 use Rattle.pte.specs.declared.flags.PteFlags.{PteFlags}

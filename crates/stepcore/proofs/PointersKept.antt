@@ -1,19 +1,15 @@
 -- An edit that is due replaces a word that is no pointer: the tables stay that pointers lead to, and a walk in flight stays on its path.
 use Rattle.pte.specs.declared.scheme.Scheme.{Scheme}
-use Rattle.std.proofs.Common.{◌≡◌, ℕ, ◌<◌, Bool, true, false, cond, ◌||◌, length, Option, Some, None, refl, ap, sym, ◌∙◌, subst, inl, inr}
+use Rattle.std.proofs.Common.{◌≡◌, ℕ, Bool, true, false, cond, ◌||◌, Option, Some, None, refl, ap, sym, ◌∙◌, subst, inl, inr}
 use Rattle.std.specs.Prelude.{Result}
-use Rattle.std.proofs.lemmas.Bool.{ltb-true}
 use Rattle.walk.specs.Leads.{Tables, PointsTo}
 use Rattle.walk.specs.Pointers.{pointed}
-use Rattle.walk.specs.Stage.{Stage}
+use Rattle.walk.specs.Stage.{Stage, OnPath}
 use Rattle.walk.specs.Stores.{KeepsPointers, stored}
 use Rattle.walk.proofs.Stored.{on_path_kept, pointers-kept, stored_agrees}
 use Rattle.spaces.specs.declared.faults.MapFault.{MapFault}
-use Rattle.spaces.specs.declared.places.Place.{Place}
-use Rattle.spaces.specs.declared.places.Place.TheVariants.{Space, Kernel}
 use Rattle.spaces.specs.declared.wishes.Wish.{Wish}
 use Rattle.spaces.specs.declared.wishes.Wish.TheVariants as wish
-use Rattle.spaces.specs.Layout.{HasPlace}
 use Rattle.spaces.specs.Holders.{unused_spare}
 use Rattle.spaces.specs.Edits.{Store, place_of}
 use Rattle.spaces.proofs.Accepting.{accepted}
@@ -37,13 +33,18 @@ use Rattle.laws.proofs.Causes.{has_place}
 use Rattle.laws.proofs.TreeKept.{tree, map_edit, opened_some}
 use Rattle.stepcore.specs.Stands.{AreSameWalk}
 
--- a walk stays what the history says where the pointers stay
+-- a walk stays what the history says where it stays on its path
+pub same_walk_moved : (scheme : Scheme) (old new : Tables) (root : ℕ) (stage : Option Stage) (walk : Option Walking) → ((s : Stage) → OnPath scheme old root s → OnPath scheme new root s)
+    → AreSameWalk scheme old root stage walk → AreSameWalk scheme new root stage walk
+same_walk_moved scheme old new root None None stays same = same
+same_walk_moved scheme old new root None (Some walk) stays same = absurd same
+same_walk_moved scheme old new root (Some stage) None stays same = absurd same
+same_walk_moved scheme old new root (Some stage) (Some walk) stays same =
+    record { va = same.va; access = same.access; ctx = same.ctx; level = same.level; on = stays stage same.on }
+
+-- so it does where the pointers stay
 pub same_walk_kept : (scheme : Scheme) (old new : Tables) (root : ℕ) (stage : Option Stage) (walk : Option Walking) → KeepsPointers old new → AreSameWalk scheme old root stage walk → AreSameWalk scheme new root stage walk
-same_walk_kept scheme old new root None None keeps same = same
-same_walk_kept scheme old new root None (Some walk) keeps same = absurd same
-same_walk_kept scheme old new root (Some stage) None keeps same = absurd same
-same_walk_kept scheme old new root (Some stage) (Some walk) keeps same =
-    record { va = same.va; access = same.access; ctx = same.ctx; level = same.level; on = on_path_kept scheme old new root stage keeps same.on }
+same_walk_kept scheme old new root stage walk keeps same = same_walk_moved scheme old new root stage walk (λ s on. on_path_kept scheme old new root s keeps on) same
 
 -- an event that stores 0 on the words of a space
 abbrev pub is_reclaim : Event → Bool

@@ -1,8 +1,7 @@
 -- A Reclaim empties the words of a retiring space: a walk in flight is of a live one, and stays on its path.
-use Rattle.pte.specs.declared.scheme.Scheme.{Scheme}
-use Rattle.std.proofs.Common.{◌≡◌, ℕ, ◌+◌, ◌-◌, ◌<◌, cond, length, Option, Some, None, sym, ◌∙◌, ap, subst, arith}
+use Rattle.std.proofs.Common.{◌≡◌, ℕ, ◌+◌, ◌-◌, ◌<◌, cond, length, Option, Some, sym, ◌∙◌, ap, subst, arith}
 use Rattle.pte.specs.Address.{top_level}
-use Rattle.walk.specs.Leads.{Tables, word_at}
+use Rattle.walk.specs.Leads.{word_at}
 use Rattle.walk.specs.Pointers.{table_below}
 use Rattle.walk.specs.Stage.{Stage, OnPath}
 use Rattle.walk.proofs.Downward.{leads_by_pointers}
@@ -27,26 +26,13 @@ use Rattle.laws.proofs.Causes.{space_there}
 use Rattle.laws.proofs.Tools.{by_test}
 use Rattle.laws.proofs.TreeKept.{tree}
 use Rattle.stepcore.specs.Stands.{AreSameWalk}
-
-module _ (scheme : Scheme) (old new : Tables) (root : ℕ) where
-  -- both memories have the same words on the path of a walk, above its table
-  abbrev pub AgreeAbove : (s : Stage) → OnPath scheme old root s → Type 0
-  AgreeAbove s on = Agree scheme old new root s.va on.leads.tables (s.level + 1)
-
-  -- so it stays what the history says
-  pub same_walk_agreed : (stage : Option Stage) (walk : Option Walking) → ((s : Stage) (on : OnPath scheme old root s) → AgreeAbove s on)
-      → AreSameWalk scheme old root stage walk → AreSameWalk scheme new root stage walk
-  same_walk_agreed None None agree same = same
-  same_walk_agreed None (Some walk) agree same = absurd same
-  same_walk_agreed (Some stage) None agree same = absurd same
-  same_walk_agreed (Some stage) (Some walk) agree same =
-      record { va = same.va; access = same.access; ctx = same.ctx; level = same.level; on = on_path_agreed scheme old new root stage same.on (agree stage same.on) }
+use Rattle.stepcore.proofs.PointersKept.{same_walk_moved}
 
 module _ (C : Setup) (within : IsSetup C) where
   -- giving back a space keeps the words on the paths from the root of another
   emptied_agrees : (H : History) (s t : ℕ) → Lawful C H → HavePages H → s < length C.asids → t < length C.asids → (t ≡ s → ⊥)
       → (stage : Stage) (on : OnPath C.layout.scheme (words_of C H) (root_ppn C.layout t) stage)
-      → AgreeAbove C.layout.scheme (words_of C H) (emptied C.layout (holder_of H) s (words_of C H)) (root_ppn C.layout t) stage on
+      → Agree C.layout.scheme (words_of C H) (emptied C.layout (holder_of H) s (words_of C H)) (root_ppn C.layout t) stage.va on.leads.tables (stage.level + 1)
   emptied_agrees H s t l has there_s there_t apart stage on j above below =
       let scheme = C.layout.scheme in
       let words = words_of C H in
@@ -73,6 +59,7 @@ module _ (C : Setup) (within : IsSetup C) where
       let both : Live ≡ Retires found.order = sym (live_hart C within H h l below) ∙ ap (status_of H) is ∙ found.retiring in
       cc (both)
       in
-      same_walk_agreed C.layout.scheme words (emptied C.layout (holder_of H) space words) root stage walk
-      (emptied_agrees H space (space_of H h) l has found.there (space_there C H h within.asids l) apart) same)
+      same_walk_moved C.layout.scheme words (emptied C.layout (holder_of H) space words) root stage walk
+      (λ s on. on_path_agreed C.layout.scheme words (emptied C.layout (holder_of H) space words) root s on
+      (emptied_agrees H space (space_of H h) l has found.there (space_there C H h within.asids l) apart s on)) same)
       (λ _. same)

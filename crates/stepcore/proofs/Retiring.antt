@@ -1,11 +1,11 @@
 -- A retirement opens a ticket, and keeps it with the space.
-use Rattle.std.proofs.Common.{◌≡◌, ℕ, ◌+◌, ◌<◌, ◌≤◌, Bool, true, false, cond, ◌&&◌, arith, None, List, Some, length, slice_get, slice_set, unwrap_or, refl, ap, sym, ◌∙◌, subst, inl, inr, eqb}
+use Rattle.std.proofs.Common.{◌≡◌, ℕ, ◌+◌, ◌<◌, Bool, true, false, cond, ◌&&◌, arith, None, List, Some, length, slice_get, slice_set, unwrap_or, refl, ap, sym, ◌∙◌, subst, inl, inr, eqb}
 use Rattle.std.proofs.lemmas.Bool.{cases_eq, cases_lt, lt-ltb, le-ltb, eqb-true, eq-eqb, ne_eqb}
 use Rattle.pte.specs.declared.address.What.TheVariants.{SpaceOf}
 use Rattle.spaces.proofs.Lists.{slice_get-set_same, slice_get-set_other}
 use Rattle.std.specs.Prelude.{nat_lt}
 use Rattle.spaces.specs.declared.places.Place.TheVariants.{Space}
-use Rattle.spaces.specs.Layout.{Layout, home_of}
+use Rattle.spaces.specs.Layout.{home_of}
 use Rattle.shoot.specs.Tickets.{after_open}
 use Rattle.history.specs.declared.event.Event.TheVariants.{Retire, Finish}
 use Rattle.history.specs.declared.reply.Reply.TheVariants as reply

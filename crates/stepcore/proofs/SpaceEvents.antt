@@ -1,5 +1,5 @@
 -- What a machine that stands at a history answers to the retirement, the reclaim and the creation of a space is what is due.
-use Rattle.std.proofs.Common.{◌≡◌, ℕ, ◌<◌, Bool, true, cond, not, length, Option, Some, None, refl, ap, sym, subst, ◌∙◌, eqb}
+use Rattle.std.proofs.Common.{◌≡◌, ℕ, Bool, true, cond, not, Option, Some, None, refl, ap, sym, subst, ◌∙◌, eqb}
 use Rattle.std.proofs.lemmas.Bool.{eqb-true}
 use Rattle.spaces.specs.declared.places.Place.TheVariants.{Space}
 use Rattle.spaces.specs.Layout.{Layout, home_of}

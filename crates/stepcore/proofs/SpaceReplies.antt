@@ -1,10 +1,9 @@
 -- Which spaces, places and scopes are there and retire, for a machine that stands at a history and for the history alike.
-use Rattle.std.proofs.Common.{◌≡◌, ℕ, ◌<◌, Bool, true, false, ◌&&◌, not, List, length, Option, Some, None, refl, ap, sym, ◌∙◌, eqb, ltb}
+use Rattle.std.proofs.Common.{◌≡◌, ℕ, ◌<◌, Bool, true, ◌&&◌, not, length, Some, refl, ap, ◌∙◌}
 use Rattle.std.specs.Prelude.{nat_lt}
 use Rattle.std.proofs.lemmas.Bool.{and_parts, ltb-true}
 use Rattle.pte.specs.Address.{Span}
-use Rattle.pte.specs.declared.address.What.{What}
-use Rattle.pte.specs.declared.address.What.TheVariants.{PageOf, SpaceOf, All}
+use Rattle.pte.specs.declared.address.What.TheVariants.{PageOf, SpaceOf}
 use Rattle.spaces.specs.declared.places.Place.{Place}
 use Rattle.spaces.specs.declared.places.Place.TheVariants.{Space, Kernel}
 use Rattle.history.specs.Setup.{Setup}

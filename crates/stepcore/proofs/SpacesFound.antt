@@ -1,7 +1,7 @@
 -- Whether some hart is in a space, and whether some space has an ASID, for a machine that stands at a history and for the history alike.
-use Rattle.std.proofs.Common.{◌≡◌, ℕ, zero, suc, ◌<◌, Bool, true, false, ◌&&◌, ◌||◌, not, List, [], ◌∷◌, length, slice_get, get_or, unwrap_or, refl, ap, sym, ◌∙◌, subst, inl, inr, eqb, arith}
+use Rattle.std.proofs.Common.{◌≡◌, ℕ, zero, suc, ◌<◌, Bool, true, false, ◌&&◌, ◌||◌, not, List, [], ◌∷◌, length, slice_get, unwrap_or, refl, ap, sym, ◌∙◌, subst, inl, inr, eqb, arith}
 use Rattle.std.specs.List.{list_any}
-use Rattle.std.proofs.lemmas.Bool.{and_parts, and_from, or_cases, eqb-true, eq-eqb, false≢true, true≢false, cases_Bool, cases_lt, lt-ltb, ltb-true, false_from_ne_true}
+use Rattle.std.proofs.lemmas.Bool.{and_parts, and_from, or_cases, false≢true, true≢false, cases_Bool, cases_lt, lt-ltb, ltb-true, false_from_ne_true}
 use Rattle.std.proofs.lemmas.List.Folds.{list_any_at}
 use Rattle.std.proofs.lemmas.Option.{unwrap_or-slice_get}
 use Rattle.shoot.specs.HartSet.{harts_where, is_empty}
@@ -14,8 +14,8 @@ use Rattle.history.specs.Harts.{space_of}
 use Rattle.history.specs.Due as due_tests
 use Rattle.laws.proofs.Tools.{none_where}
 use Rattle.stepcore.specs.declared.space_state.SpaceState.{SpaceState}
-use Rattle.stepcore.specs.State.{State, IsMachine, HartState, hart_at, idle_hart, no_space, space_at}
-use Rattle.stepcore.specs.Answers.{has_asid, is_asid_used, is_free, is_in_use}
+use Rattle.stepcore.specs.State.{State, HartState, idle_hart, no_space, space_at}
+use Rattle.stepcore.specs.Answers.{has_asid, is_asid_used, is_in_use}
 use Rattle.stepcore.specs.Stands.{Stands}
 use Rattle.stepcore.proofs.SpaceReplies.{free_same}
 

@@ -1,5 +1,5 @@
 -- The table words and the holders of spare frames that an event leaves are those of the history.
-use Rattle.std.proofs.Common.{◌≡◌, ℕ, Option, refl, ap, ◌∙◌}
+use Rattle.std.proofs.Common.{◌≡◌, ℕ, Option, ap, ◌∙◌}
 use Rattle.std.proofs.Math.Path.{fun_ext}
 use Rattle.walk.specs.Leads.{Tables}
 use Rattle.history.specs.Setup.{Setup}

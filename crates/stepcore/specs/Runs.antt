@@ -58,15 +58,15 @@ abbrev pub IsCoherent : Setup → History → State → Type 0
 IsCoherent C H m = (k h : ℕ) → h < C.harts → Coherent C H (entries_in m h) k h
 
 -- no TLB holds an entry, unless it is global, of an ASID that no live or retiring space has
-abbrev pub HoldUsedAsids : Setup → History → State → Type 0
-HoldUsedAsids C H m = (h : ℕ) → h < C.harts → HoldsUsedAsids C H (entries_in m h)
+abbrev pub TlbsHoldUsedAsids : Setup → History → State → Type 0
+TlbsHoldUsedAsids C H m = (h : ℕ) → h < C.harts → HoldsUsedAsids C H (entries_in m h)
 
 -- each hart is in a live space: so no walk is of an ASID that no live or retiring space has
-abbrev pub AreInLiveSpaces : Setup → History → State → Type 0
-AreInLiveSpaces C H m = (h : ℕ) → h < C.harts → status_of H (hart_at m h).space ≡ Live
+abbrev pub HartsAreInLiveSpaces : Setup → History → State → Type 0
+HartsAreInLiveSpaces C H m = (h : ℕ) → h < C.harts → status_of H (hart_at m h).space ≡ Live
 
 -- no walk in flight has come to a spare frame that is in use for no place
-abbrev pub WalkUsedFrames : Setup → History → State → Type 0
-WalkUsedFrames C H m =
+abbrev pub WalksHoldUsedFrames : Setup → History → State → Type 0
+WalksHoldUsedFrames C H m =
     (h : ℕ) (walk : Stage) (hart n : ℕ) → h < C.harts → (hart_at m h).walk ≡ Some walk
     → n < slice_index C.layout.spares hart → holder_of H (spare_ppn C.layout hart + n) ≡ None → walk.table ≢ spare_ppn C.layout hart + n

@@ -6,7 +6,7 @@ ghost use Rattle.history.specs.Turns.{History};
 ghost use Rattle.history.specs.Runs.{with_turn};
 ghost use Rattle.history.specs.Due.{due};
 ghost use Rattle.stepcore.specs.Changes.{is_accepted};
-ghost use Rattle.stepcore.specs.Runs.{AreInLiveSpaces, HoldUsedAsids, IsClear, IsClearOnceDone, IsCoherent, MailboxesKeepOrder, NothingAfterCloses, WalkUsedFrames, after_run, appended};
+ghost use Rattle.stepcore.specs.Runs.{after_run, appended, HartsAreInLiveSpaces, IsClear, IsClearOnceDone, IsCoherent, MailboxesKeepOrder, NothingAfterCloses, TlbsHoldUsedAsids, WalksHoldUsedFrames};
 ghost use Rattle.stepcore.specs.Stands.{Stands};
 
 use crate::machine::Machine;
@@ -27,9 +27,9 @@ impl Machine {
         ensures clear { (C : Setup) (H : History) → Stands C self.old H → IsClear C (with_turn event result H) self.new }
         ensures done { (C : Setup) (H : History) → Stands C self.old H → IsClearOnceDone C (with_turn event result H) self.new }
         ensures coherent { (C : Setup) (H : History) → Stands C self.old H → IsCoherent C (with_turn event result H) self.new }
-        ensures asids { (C : Setup) (H : History) → Stands C self.old H → HoldUsedAsids C (with_turn event result H) self.new }
-        ensures spaces { (C : Setup) (H : History) → Stands C self.old H → AreInLiveSpaces C (with_turn event result H) self.new }
-        ensures frames { (C : Setup) (H : History) → Stands C self.old H → WalkUsedFrames C (with_turn event result H) self.new }
+        ensures asids { (C : Setup) (H : History) → Stands C self.old H → TlbsHoldUsedAsids C (with_turn event result H) self.new }
+        ensures spaces { (C : Setup) (H : History) → Stands C self.old H → HartsAreInLiveSpaces C (with_turn event result H) self.new }
+        ensures frames { (C : Setup) (H : History) → Stands C self.old H → WalksHoldUsedFrames C (with_turn event result H) self.new }
     {
         // A machine tells here what every machine keeps.
         let _memory = &self.memory;
@@ -48,9 +48,9 @@ impl Machine {
         ensures clear { (C : Setup) (H : History) → Stands C self.old H → IsClear C (after_run events.now replies.old.items replies.new.items H) self.new }
         ensures done { (C : Setup) (H : History) → Stands C self.old H → IsClearOnceDone C (after_run events.now replies.old.items replies.new.items H) self.new }
         ensures coherent { (C : Setup) (H : History) → Stands C self.old H → IsCoherent C (after_run events.now replies.old.items replies.new.items H) self.new }
-        ensures asids { (C : Setup) (H : History) → Stands C self.old H → HoldUsedAsids C (after_run events.now replies.old.items replies.new.items H) self.new }
-        ensures spaces { (C : Setup) (H : History) → Stands C self.old H → AreInLiveSpaces C (after_run events.now replies.old.items replies.new.items H) self.new }
-        ensures frames { (C : Setup) (H : History) → Stands C self.old H → WalkUsedFrames C (after_run events.now replies.old.items replies.new.items H) self.new }
+        ensures asids { (C : Setup) (H : History) → Stands C self.old H → TlbsHoldUsedAsids C (after_run events.now replies.old.items replies.new.items H) self.new }
+        ensures spaces { (C : Setup) (H : History) → Stands C self.old H → HartsAreInLiveSpaces C (after_run events.now replies.old.items replies.new.items H) self.new }
+        ensures frames { (C : Setup) (H : History) → Stands C self.old H → WalksHoldUsedFrames C (after_run events.now replies.old.items replies.new.items H) self.new }
     {
         for event in events {
             replies.reserve(1)?;

@@ -1,4 +1,4 @@
-use Rattle.std.proofs.Common.{rules, ◌≡◌, ◌&&◌, ◌<◌, false, refl, ap, sym, ◌∙◌, arith, None, subst, slice_set, length, length-set}
+use Rattle.std.proofs.Common.{rules, ◌≡◌, ◌&&◌, ◌<◌, false, refl, ap, sym, ◌∙◌, None, subst, slice_set, length, length-set}
 use Rattle.stepcore.specs.declared.space_state.Phase.TheVariants as phase
 use Rattle.stepcore.specs.State.{State, space_at}
 use Rattle.stepcore.specs.Changes.{is_retirement, is_under}

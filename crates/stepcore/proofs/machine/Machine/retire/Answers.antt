@@ -1,5 +1,4 @@
-use Rattle.std.proofs.Common.{rules, ap, sym, ◌∙◌, length-set}
-use Rattle.stepcore.specs.State.{State}
+use Rattle.std.proofs.Common.{rules, ap, sym, ◌∙◌}
 use Rattle.stepcore.specs.Answers.{open_in}
 use Rattle.stepcore.proofs.Retiring.{retire_follows}
 use Rattle.stepcore.proofs.machine.Machine.retire.Goals as goal
