@@ -160,10 +160,11 @@ while_free =
     ∷ (Map 0 (Space 2) (small_page 0x1000) 0x100 (flags (R + U + A + D)), refused Retiring)
     ∷ []
 
--- the ASID of a free space is that of no space: another free one is created with it
+-- the ASID of a free space is that of no space: another free one is created with it. A refused Create changes no ASID
 abbrev pub free_asid_to_another_space : List Step
 free_asid_to_another_space =
-    (Retire 0 1, Opened 0)
+    (Create 0 0 9, refused NotFree)
+    ∷ (Retire 0 1, Opened 0)
     ∷ (Retire 0 2, Opened 1)
     ∷ (AckSelf 0 0, Waiting hart_1)
     ∷ (AckSelf 0 1, Waiting hart_1)
@@ -179,6 +180,7 @@ free_asid_to_another_space =
     ∷ (Collect 0 0 1, Done)
     ∷ (Reclaim 0 1, Ok)
     ∷ (Create 0 2 2, Ok)
+    ∷ (Create 0 1 1, refused AsidInUse)
     ∷ (Create 0 1 2, refused AsidInUse)
     ∷ (Create 0 1 3, Ok)
     ∷ []

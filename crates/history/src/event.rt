@@ -112,7 +112,8 @@ pub enum Event {
         hart: u8,
         space: u8,
     },
-    /// Stores 0 on every word of a retired space whose ticket every hart has answered: its frames are unused, the space is free.
+    /// Gives back a retiring space, once every hart is collected for its retirement: stores 0 on the words of its own tables and of
+    /// its root's user half. The frames of the tables are unused then, and the space is free.
     Reclaim {
         hart: u8,
         space: u8,

@@ -8,7 +8,7 @@ ghost use Rattle.history.specs.Refusal.{code_of};
 pub enum Refusal {
     /// A hart is named that is not there, or the two harts of a pair are the same.
     NoHart,
-    /// The space is not there.
+    /// The space is not there, or is free.
     NoSpace,
     /// Only the home of a space stores to its tables; hart 0 to those of the kernel.
     NotHome,

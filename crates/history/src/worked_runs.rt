@@ -1,12 +1,14 @@
 //! Worked runs: the definitions give the replies that the manual and docs/PROTOCOL.md give by hand. Each function does nothing,
 //! and its clause is the fact.
 
-ghost use Rattle.std.specs.Prelude.{ℕ, List, [], ◌≡◌, ◌<◌, ◌+◌, ◌*◌};
+ghost use Rattle.std.specs.Prelude.{ℕ, List, [], map, ◌≡◌, ◌<◌, ◌+◌, ◌*◌};
 ghost use Rattle.pte.specs.declared.address.PageSize.TheVariants.{Kib4, Mib2, Gib512};
 ghost use Rattle.pte.specs.Address.{Holds, bytes_of, pages_of};
 ghost use Rattle.tlb.specs.Mappings.{IsMappedBy, Translates};
 ghost use Rattle.spaces.specs.declared.configuration.Config.{Config};
 ghost use Rattle.history.specs.Setup.{Setup, setup_of};
+ghost use Rattle.std.specs.List.{range_with_len};
+ghost use Rattle.history.specs.Refusal.{code_of};
 ghost use Rattle.history.specs.Due.{Lawful};
 ghost use Rattle.history.specs.Harts.{entries_of};
 ghost use Rattle.history.specs.WorkedRuns.{IsEachDueAfter, IsOfThreeHarts, IsRun, Step, history_of, large_page, one_hart, three_harts, two_harts};
@@ -175,6 +177,12 @@ pub fn seventeen_fills()
 #[tactic(auto, using(crate::proofs::RefusalRows::refusals_in_order))]
 pub fn refusals_in_order()
     ensures { IsRun two_harts refusals.refusals_in_order }
+{}
+
+/// The refusals are numbered from 1 on.
+#[tactic(auto, using(crate::proofs::RefusalRows::numbered))]
+pub fn refusals_are_numbered()
+    ensures { map code_of refusals.numbered_refusals ≡ range_with_len 1 33 }
 {}
 
 /// A switch drops nothing: in the other space the page is not found, and back again it is.

@@ -1,4 +1,4 @@
--- What table memory holds: each word, and how many spare frames of each hart are in use.
+-- What table memory holds: each word, and for which place each spare frame is in use.
 use Rattle.std.specs.Prelude.{ℕ, ◌≡◌, ◌+◌, ◌-◌, ◌*◌, ◌/◌, ◌%◌, ◌<◌, ◌≤◌, ◌^◌, Bool, ◌==◌, ◌&&◌, ◌||◌, nat_lt, List, length, slice_get, if◌then◌else◌, Option, Some, None, Ok, All}
 use Rattle.pte.specs.Address.{table_length}
 use Rattle.pte.specs.Entry.{ppn_bits}
