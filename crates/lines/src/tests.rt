@@ -32,6 +32,53 @@ const STEPS: [(Access, u64); 4] = [
     (Access::Load, 0x40_0000_0000),
 ];
 
+/// The scheme, the word of the table, the root, and the lines of the four steps.
+type AnswerRow = (Scheme, u64, u64, &'static str);
+
+const ANSWERS: [AnswerRow; 6] = [
+    (
+        Scheme::Sv39,
+        // PPN 0x40000 with V, R, U and A
+        0x1000_0053,
+        0,
+        "1 pa 0x40001234 1G\n2 trap 15 Denied\n3 trap 12 Denied\n4 trap 13 NotCanonical\n",
+    ),
+    (
+        Scheme::Sv39,
+        // PPN 0x40000 with V, R, W, X, U, G and A
+        0x1000_007F,
+        0,
+        "1 pa 0x40001234 1G global\n2 trap 15 NotDirty\n3 pa 0x7fffffff 1G global\n4 trap 13 NotCanonical\n",
+    ),
+    (
+        Scheme::Sv39,
+        0,
+        1,
+        "1 trap 5 Outside\n2 trap 7 Outside\n3 trap 1 Outside\n4 trap 13 NotCanonical\n",
+    ),
+    (
+        Scheme::Sv48,
+        // PPN 0x10000000 with V, R, U and A
+        0x40_0000_0053,
+        0,
+        "1 pa 0x10000001234 512G\n2 trap 15 Denied\n3 trap 12 Denied\n4 pa 0x14000000000 512G\n",
+    ),
+    (
+        Scheme::Sv48,
+        // PPN 0x10000000 with V, R, W, X, U, G and A
+        0x40_0000_007F,
+        0,
+        "1 pa 0x10000001234 512G global\n2 trap 15 NotDirty\n3 pa 0x1003fffffff 512G global\n4 pa 0x14000000000 512G global\n",
+    ),
+    (
+        Scheme::Sv48,
+        // the superpage of the first row, too small for a leaf of this root
+        0x1000_0053,
+        0,
+        "1 trap 13 Misaligned\n2 trap 15 Denied\n3 trap 12 Denied\n4 trap 13 Misaligned\n",
+    ),
+];
+
 #[test]
 fn answers_of_walks(rt: HostRuntime) -> Result<(), Fail> {
     let alloc = rt.alloc();
@@ -44,49 +91,7 @@ fn answers_of_walks(rt: HostRuntime) -> Result<(), Fail> {
     for (access, va) in STEPS {
         steps.push(WalkStep { ctx, access, va })?;
     }
-    for (scheme, word, root, lines) in [
-        (
-            Scheme::Sv39,
-            // PPN 0x40000 with V, R, U and A
-            0x1000_0053,
-            0,
-            "1 pa 0x40001234 1G\n2 trap 15 Denied\n3 trap 12 Denied\n4 trap 13 NotCanonical\n",
-        ),
-        (
-            Scheme::Sv39,
-            // PPN 0x40000 with V, R, W, X, U, G and A
-            0x1000_007F,
-            0,
-            "1 pa 0x40001234 1G global\n2 trap 15 NotDirty\n3 pa 0x7fffffff 1G global\n4 trap 13 NotCanonical\n",
-        ),
-        (
-            Scheme::Sv39,
-            0,
-            1,
-            "1 trap 5 Outside\n2 trap 7 Outside\n3 trap 1 Outside\n4 trap 13 NotCanonical\n",
-        ),
-        (
-            Scheme::Sv48,
-            // PPN 0x10000000 with V, R, U and A
-            0x40_0000_0053,
-            0,
-            "1 pa 0x10000001234 512G\n2 trap 15 Denied\n3 trap 12 Denied\n4 pa 0x14000000000 512G\n",
-        ),
-        (
-            Scheme::Sv48,
-            // PPN 0x10000000 with V, R, W, X, U, G and A
-            0x40_0000_007F,
-            0,
-            "1 pa 0x10000001234 512G global\n2 trap 15 NotDirty\n3 pa 0x1003fffffff 512G global\n4 pa 0x14000000000 512G global\n",
-        ),
-        (
-            Scheme::Sv48,
-            // the superpage of the first row, too small for a leaf of this root
-            0x1000_0053,
-            0,
-            "1 trap 13 Misaligned\n2 trap 15 Denied\n3 trap 12 Denied\n4 trap 13 Misaligned\n",
-        ),
-    ] {
+    for (scheme, word, root, lines) in ANSWERS {
         let text = walk_lines(alloc, scheme, &OneWord { word }, root, steps.as_slice())?;
         assert_eq!(rt; text.as_str(), lines);
     }

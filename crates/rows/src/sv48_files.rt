@@ -61,6 +61,16 @@ fn walks_in_sv48(rt: HostRuntime) -> Result<(), Fail> {
             steps: "'u load 0x7FFFFFFFFFFF', 'u load 0x800000000000', 'u load 0xFFFF800000000000'",
             lines: "1 trap 13 Invalid\n2 trap 13 NotCanonical\n3 trap 13 Invalid\n",
         },
+    ] {
+        assert!(rt; walks(rt.alloc(), &row)?, "{} {}", row.root, row.steps);
+    }
+    Ok(())
+}
+
+#[test]
+fn tables_that_sv48_refuses(rt: HostRuntime) -> Result<(), Fail> {
+    let sv48 = "mode = 'sv48'";
+    for row in [
         // a root that points to itself: the fourth pointer is one too many
         Walk {
             mode: sv48,
