@@ -33,9 +33,9 @@ module _ (C : Setup) where
       by_test (λ t. cond t reply.Done (reply.Waiting (byte_of (left_after C H event k))) ≡ reply.Done → collected_after C event reply.Done H k h (is_collected C H k h) ≡ true)
       (is_empty (left_after C H event k))
       (λ t _.
-          let out : (names (order_at C H k) h && not (collected_after C event reply.Done H k h (is_collected C H k h))) ≡ false =
-          none_where (λ b. names (order_at C H k) b && not (collected_after C event reply.Done H k b (is_collected C H k b))) h t below in
-          not-false (collected_after C event reply.Done H k h (is_collected C H k h)) (rw named at out))
+      let out : (names (order_at C H k) h && not (collected_after C event reply.Done H k h (is_collected C H k h))) ≡ false =
+      none_where (λ b. names (order_at C H k) b && not (collected_after C event reply.Done H k b (is_collected C H k b))) h t below in
+      not-false (collected_after C event reply.Done H k h (is_collected C H k h)) (rw named at out))
       (λ _ w. absurd (cc (w))) e
 
   own_told : (H : History) (s t k : ℕ) (o : Option ℕ) → o ≡ Some k → ack_self_reply C H s t o ≡ reply.Done → left_reply (left_after C H (AckSelf s t) k) ≡ reply.Done
