@@ -115,7 +115,7 @@ fn picked(alloc: Global, scheme: Scheme) -> Result<Vec<u64>, AllocError> {
             .wrapping_mul(6_364_136_223_846_793_005)
             .wrapping_add(1_442_695_040_888_963_407);
         let (middle, low, leaf) = (
-            (state >> 33) % middles(scheme),
+            (state >> 33) % middles,
             (state >> 40) % LOWS,
             state >> 48,
         );

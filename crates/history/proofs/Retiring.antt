@@ -1,10 +1,10 @@
 -- When a Retire, a Reclaim and a Create are accepted.
-use Rattle.std.proofs.Common.{◌≡◌, ℕ, zero, suc, ◌+◌, ◌<◌, ◌≤◌, ◌⊎◌, Bool, true, false, cond, ◌&&◌, ◌||◌, not, ◌∷◌, length, Option, Some, None, refl, ap, sym, ◌∙◌, subst, eqb, inl, inr, arith}
+use Rattle.std.proofs.Common.{◌≡◌, ℕ, zero, suc, ◌<◌, ◌≤◌, Bool, true, false, ◌&&◌, ◌||◌, not, length, Option, Some, None, refl, ap, sym, ◌∙◌, eqb, inl, inr, arith}
 use Rattle.std.specs.Prelude.{◌↔◌, ◌≢◌}
 use Rattle.std.proofs.lemmas.Bool.{and_parts, and_from, eqb-true, eq-eqb, ne_eqb, cases_eq, cases_lt, false≢true, not-false, not-true, ltb-true, lt-ltb, le-ltb, or_parts}
 use Rattle.spaces.specs.Layout.{home_of}
 use Rattle.spaces.specs.declared.places.Place.TheVariants.{Space}
-use Rattle.shoot.specs.HartSet.{contains, harts_where, is_empty}
+use Rattle.shoot.specs.HartSet.{harts_where, is_empty}
 use Rattle.shoot.specs.declared.TheConstants.{MAX_HARTS, MAX_TICKETS}
 use Rattle.history.specs.Setup.{Setup, is_hart}
 use Rattle.history.specs.declared.event.Event.TheVariants.{Retire, Reclaim, Create}
@@ -12,15 +12,14 @@ use Rattle.history.specs.declared.refusal.Refusal.{Refusal}
 use Rattle.history.specs.declared.refusal.Refusal.TheVariants.{NoHart, NoSpace, NotHome, Retiring, InUse, NotAcked, NotFree, AsidInUse}
 use Rattle.history.specs.declared.reply.Reply.{Reply}
 use Rattle.history.specs.declared.reply.Reply.TheVariants as reply
-use Rattle.history.specs.Turns.{Turn, History}
+use Rattle.history.specs.Turns.{History}
 use Rattle.history.specs.Spaces.{Status, Live, Retires, Free, status_of, is_free, is_retiring, asid_of}
 use Rattle.pte.specs.declared.address.What.TheVariants.{SpaceOf}
 use Rattle.history.specs.Orders.{Order, Flushed, order_at, opened_order}
 use Rattle.history.specs.Acknowledgements.{is_collected}
 use Rattle.history.specs.Harts.{space_of}
-use Rattle.history.specs.Staleness.{HasAsid}
 use Rattle.history.specs.Due.{due, refuse, is_number, is_space, is_in_use, is_asid_of, is_done, names, least_free, opened_reply, reclaim_reply}
-use Rattle.history.specs.Occurrences.{Sometime, OpensAt, IsRetire}
+use Rattle.history.specs.Occurrences.{IsRetire}
 use Rattle.history.specs.Retirements.{IsAtHome, CanRetire, IsCollected, CanReclaim, CanCreate}
 use Rattle.history.proofs.Passing.{is_accepted, passed}
 use Rattle.history.proofs.LeastFree.{least_is}

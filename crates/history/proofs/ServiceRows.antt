@@ -3,7 +3,7 @@ use Rattle.std.proofs.Common.{refl}
 use Rattle.pte.specs.Entry.{kind_of}
 use Rattle.spaces.specs.Edits.{wish_fault, path_end, edit_of}
 use Rattle.shoot.specs.HartSet.{byte_of, difference}
-use Rattle.history.specs.WorkedRuns.{IsRun}
+use Rattle.history.specs.WorkedRuns.{IsRun, three_harts, two_harts}
 use Rattle.history.specs.HartRuns.{spaces_of_other_asids}
 use Rattle.history.specs.ServiceRuns as run
 
@@ -38,3 +38,11 @@ own_acknowledgement_of_a_space = refl
 pub own_acknowledgement_of_all : IsRun spaces_of_other_asids run.own_acknowledgement_of_all
 unfolding IsRun kind_of wish_fault path_end edit_of byte_of difference
 own_acknowledgement_of_all = refl
+
+pub two_harts_serve : IsRun three_harts run.two_harts_serve
+unfolding IsRun kind_of wish_fault path_end edit_of byte_of difference
+two_harts_serve = refl
+
+pub refused_unmapping : IsRun two_harts run.refused_unmapping
+unfolding IsRun kind_of wish_fault path_end edit_of byte_of difference
+refused_unmapping = refl

@@ -7,10 +7,11 @@ use Rattle.pte.specs.declared.permission.Access.TheVariants as access
 use Rattle.pte.specs.declared.permission.Ctx.{Ctx}
 use Rattle.walk.specs.declared.found_or_trap.Why.TheVariants.{Invalid}
 use Rattle.spaces.specs.declared.places.Place.TheVariants.{Space, Kernel}
-use Rattle.history.specs.declared.event.Event.TheVariants.{Begin, Load, Map, Unmap, Flush, Switch, Post, Take, ServeFence, Ack, AckSelf, Collect}
+use Rattle.history.specs.declared.event.Event.TheVariants.{Begin, Load, Map, Unmap, Protect, Flush, Switch, Post, Take, ServeFence, Ack, AckSelf, Collect}
 use Rattle.history.specs.declared.event.Scope.TheVariants as scope
+use Rattle.history.specs.declared.refusal.Refusal.TheVariants.{HomeNotNamed, NotFenced}
 use Rattle.history.specs.declared.reply.Reply.TheVariants.{Hit, More, Filled, Table, Leaf, Opened, Ok, Done, Waiting}
-use Rattle.history.specs.WorkedRuns.{Step, small_page, flags, R, W, U, G, A, D, user, supervisor, hart_0, hart_1, trap, taken}
+use Rattle.history.specs.WorkedRuns.{Step, small_page, flags, R, W, U, G, A, D, user, supervisor, hart_0, hart_1, hart_2, refused, trap, taken}
 
 -- pages at 0x1000 and 0x2000 of space 0, at 0x1000 of space 1, and a kernel page; the spaces have ASIDs 9 and 4
 abbrev pub four_pages : List Step
@@ -161,3 +162,28 @@ own_acknowledgement_of_all =
     ∷ walks_to 0 0x1004 user 0x100004
     ++ walks_to 0 0x2004 user 0x101004
     ++ hits 1 0x1004 user 0x100004
+
+-- two harts serve one order: the fence of the one is no fence of the other
+abbrev pub two_harts_serve : List Step
+two_harts_serve =
+    (Flush 0 scope.All (hart_0 + hart_1 + hart_2), Opened 0)
+    ∷ (Post 0 0 1, Ok)
+    ∷ (Post 0 0 2, Ok)
+    ∷ (Take 1 0, taken 0 All)
+    ∷ (Take 2 0, taken 0 All)
+    ∷ (ServeFence 1, Ok)
+    ∷ (Ack 2, refused NotFenced)
+    ∷ (ServeFence 2, Ok)
+    ∷ (Ack 2, Ok)
+    ∷ (Ack 1, Ok)
+    ∷ []
+
+-- an unmapping that is refused leaves the page mapped
+abbrev pub refused_unmapping : List Step
+refused_unmapping =
+    (Map 0 (Space 0) (small_page 0x1000) 0x100 (flags (R + U + A + D)), Table 0x80002)
+    ∷ (Map 0 (Space 0) (small_page 0x1000) 0x100 (flags (R + U + A + D)), Table 0x80003)
+    ∷ (Map 0 (Space 0) (small_page 0x1000) 0x100 (flags (R + U + A + D)), Leaf)
+    ∷ (Unmap 0 (Space 0) (small_page 0x1000) hart_1, refused HomeNotNamed)
+    ∷ (Protect 0 (Space 0) (small_page 0x1000) (flags (R + U)) hart_1, refused HomeNotNamed)
+    ∷ walks_to 1 0x1004 user 0x100004

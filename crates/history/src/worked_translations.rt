@@ -5,7 +5,7 @@ ghost use Rattle.history.specs.HartRuns.{spaces_of_other_asids};
 ghost use Rattle.history.specs.ServiceRuns as services;
 ghost use Rattle.history.specs.ShootdownRuns.{spaces_of_one_home};
 ghost use Rattle.history.specs.TranslationRuns as translations;
-ghost use Rattle.history.specs.WorkedRuns.{IsRun, one_hart, two_harts};
+ghost use Rattle.history.specs.WorkedRuns.{IsRun, one_hart, three_harts, two_harts};
 
 /// A page of 1 GiB is filled by one load, and each address of it hits.
 #[tactic(auto, using(crate::proofs::TranslationRows::page_of_one_gib))]
@@ -103,4 +103,16 @@ pub fn own_acknowledgement_of_a_space()
 #[tactic(auto, using(crate::proofs::ServiceRows::own_acknowledgement_of_all))]
 pub fn own_acknowledgement_of_all()
     ensures { IsRun spaces_of_other_asids services.own_acknowledgement_of_all }
+{}
+
+/// Two harts serve one order: the fence of the one is no fence of the other.
+#[tactic(auto, using(crate::proofs::ServiceRows::two_harts_serve))]
+pub fn two_harts_serve()
+    ensures { IsRun three_harts services.two_harts_serve }
+{}
+
+/// An edit that is refused leaves the page mapped.
+#[tactic(auto, using(crate::proofs::ServiceRows::refused_unmapping))]
+pub fn refused_unmapping()
+    ensures { IsRun two_harts services.refused_unmapping }
 {}
