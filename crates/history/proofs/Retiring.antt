@@ -1,10 +1,10 @@
 -- When a Retire, a Reclaim and a Create are accepted.
-use Rattle.std.proofs.Common.{◌≡◌, ℕ, zero, suc, ◌+◌, ◌<◌, ◌≤◌, ◌⊎◌, Bool, true, false, cond, ◌&&◌, ◌||◌, not, ◌∷◌, length, Option, Some, None, refl, ap, sym, ◌∙◌, subst, eqb, inl, inr, arith}
+use Rattle.std.proofs.Common.{◌≡◌, ℕ, zero, suc, ◌<◌, ◌≤◌, Bool, true, false, ◌&&◌, ◌||◌, not, length, Option, Some, None, refl, ap, sym, ◌∙◌, eqb, inl, inr, arith}
 use Rattle.std.specs.Prelude.{◌↔◌, ◌≢◌}
 use Rattle.std.proofs.lemmas.Bool.{and_parts, and_from, eqb-true, eq-eqb, ne_eqb, cases_eq, cases_lt, false≢true, not-false, not-true, ltb-true, lt-ltb, le-ltb, or_parts}
 use Rattle.spaces.specs.Layout.{home_of}
 use Rattle.spaces.specs.declared.places.Place.TheVariants.{Space}
-use Rattle.shoot.specs.HartSet.{contains, harts_where, is_empty}
+use Rattle.shoot.specs.HartSet.{harts_where, is_empty}
 use Rattle.shoot.specs.declared.TheConstants.{MAX_HARTS, MAX_TICKETS}
 use Rattle.history.specs.Setup.{Setup, is_hart}
 use Rattle.history.specs.declared.event.Event.TheVariants.{Retire, Reclaim, Create}
@@ -12,15 +12,14 @@ use Rattle.history.specs.declared.refusal.Refusal.{Refusal}
 use Rattle.history.specs.declared.refusal.Refusal.TheVariants.{NoHart, NoSpace, NotHome, Retiring, InUse, NotAcked, NotFree, AsidInUse}
 use Rattle.history.specs.declared.reply.Reply.{Reply}
 use Rattle.history.specs.declared.reply.Reply.TheVariants as reply
-use Rattle.history.specs.Turns.{Turn, History}
+use Rattle.history.specs.Turns.{History}
 use Rattle.history.specs.Spaces.{Status, Live, Retires, Free, status_of, is_free, is_retiring, asid_of}
 use Rattle.pte.specs.declared.address.What.TheVariants.{SpaceOf}
 use Rattle.history.specs.Orders.{Order, Flushed, order_at, opened_order}
 use Rattle.history.specs.Acknowledgements.{is_collected}
 use Rattle.history.specs.Harts.{space_of}
-use Rattle.history.specs.Staleness.{HasAsid}
 use Rattle.history.specs.Due.{due, refuse, is_number, is_space, is_in_use, is_asid_of, is_done, names, least_free, opened_reply, reclaim_reply}
-use Rattle.history.specs.Occurrences.{Sometime, OpensAt, IsRetire}
+use Rattle.history.specs.Occurrences.{IsRetire}
 use Rattle.history.specs.Retirements.{IsAtHome, CanRetire, IsCollected, CanReclaim, CanCreate}
 use Rattle.history.proofs.Passing.{is_accepted, passed}
 use Rattle.history.proofs.LeastFree.{least_is}
@@ -133,22 +132,22 @@ module _ (C : Setup) (H : History) (hart space : ℕ) where
   pub can_retire : (ticket : ℕ) → C.harts ≤ MAX_HARTS → (due C H (Retire hart space) ≡ reply.Opened ticket) ↔ CanRetire C H hart space ticket
   can_retire ticket few = (
     λ d. let p = passed _ NoHart _ (reply.Opened ticket) d refl in
-    let q = passed _ NoSpace _ (reply.Opened ticket) p.1 refl in
-    let n = passed _ NotHome _ (reply.Opened ticket) q.1 refl in
-    let v = passed _ Retiring _ (reply.Opened ticket) n.1 refl in
-    let u = passed _ InUse _ (reply.Opened ticket) v.1 refl in
-    let there = space_parts q.0 in
-    record {
-      at_home = at_home p.0 there.0 n.0;
-      live = live_is (status_of H space) there.1 v.0;
-      left = nobody C H space u.0 few;
-      least = (least_is H hart ticket).0 (ticket_is (least_free H hart MAX_TICKETS 0) ticket u.1);
-    },
+        let q = passed _ NoSpace _ (reply.Opened ticket) p.1 refl in
+        let n = passed _ NotHome _ (reply.Opened ticket) q.1 refl in
+        let v = passed _ Retiring _ (reply.Opened ticket) n.1 refl in
+        let u = passed _ InUse _ (reply.Opened ticket) v.1 refl in
+        let there = space_parts q.0 in
+        record {
+          at_home = at_home p.0 there.0 n.0;
+          live = live_is (status_of H space) there.1 v.0;
+          left = nobody C H space u.0 few;
+          least = (least_is H hart ticket).0 (ticket_is (least_free H hart MAX_TICKETS 0) ticket u.1);
+        },
     λ c. behind _ NoHart _ _ (no_hart c.at_home)
-    (behind _ NoSpace _ _ (no_space c.at_home (ap is_free c.live))
-    (behind _ NotHome _ _ (not_home c.at_home)
-    (behind _ Retiring _ _ (ap is_retiring c.live)
-    (behind _ InUse _ _ (outside C H space c.left) (ap opened_reply ((least_is H hart ticket).1 c.least)))))),
+        (behind _ NoSpace _ _ (no_space c.at_home (ap is_free c.live))
+        (behind _ NotHome _ _ (not_home c.at_home)
+        (behind _ Retiring _ _ (ap is_retiring c.live)
+        (behind _ InUse _ _ (outside C H space c.left) (ap opened_reply ((least_is H hart ticket).1 c.least)))))),
   )
 
   -- Reclaim
@@ -175,31 +174,31 @@ module _ (C : Setup) (H : History) (hart space : ℕ) where
   pub can_reclaim : (due C H (Reclaim hart space) ≡ reply.Ok) ↔ CanReclaim C H hart space
   can_reclaim = (
     λ d. let p = passed _ NoHart _ reply.Ok d refl in
-    let q = passed _ NoSpace _ reply.Ok p.1 refl in
-    let n = passed _ NotHome _ reply.Ok q.1 refl in
-    reclaimed (status_of H space) refl (at_home p.0 (space_parts q.0).0 n.0) n.1,
+        let q = passed _ NoSpace _ reply.Ok p.1 refl in
+        let n = passed _ NotHome _ reply.Ok q.1 refl in
+        reclaimed (status_of H space) refl (at_home p.0 (space_parts q.0).0 n.0) n.1,
     λ c. behind _ NoHart _ _ (no_hart c.at_home)
-    (behind _ NoSpace _ _ (no_space c.at_home (ap is_free c.retiring))
-    (behind _ NotHome _ _ (not_home c.at_home)
-    (ap (reclaim_reply C H) c.retiring ∙ behind _ NotAcked _ _ (ap not (done_once C H c.place c.order c.is c.collected)) refl))),
+        (behind _ NoSpace _ _ (no_space c.at_home (ap is_free c.retiring))
+        (behind _ NotHome _ _ (not_home c.at_home)
+        (ap (reclaim_reply C H) c.retiring ∙ behind _ NotAcked _ _ (ap not (done_once C H c.place c.order c.is c.collected)) refl))),
   )
 
   -- Create
   pub can_create : (asid : ℕ) → (due C H (Create hart space asid) ≡ reply.Ok) ↔ CanCreate C H hart space asid
   can_create asid = (
     λ d. let p = passed _ NoHart _ reply.Ok d refl in
-    let q = passed _ NoSpace _ reply.Ok p.1 refl in
-    let n = passed _ NotHome _ reply.Ok q.1 refl in
-    let f = passed _ NotFree _ reply.Ok n.1 refl in
-    let u = passed _ AsidInUse _ reply.Ok f.1 refl in
-    record {
-      at_home = at_home p.0 (not-false (is_number C space) q.0) n.0;
-      free = free_is (status_of H space) (not-false (is_free (status_of H space)) f.0);
-      unused = λ s has. asid_found C H asid (length C.asids) s u.0 has.there has.kept has.same;
-    },
+        let q = passed _ NoSpace _ reply.Ok p.1 refl in
+        let n = passed _ NotHome _ reply.Ok q.1 refl in
+        let f = passed _ NotFree _ reply.Ok n.1 refl in
+        let u = passed _ AsidInUse _ reply.Ok f.1 refl in
+        record {
+          at_home = at_home p.0 (not-false (is_number C space) q.0) n.0;
+          free = free_is (status_of H space) (not-false (is_free (status_of H space)) f.0);
+          unused = λ s has. asid_found C H asid (length C.asids) s u.0 has.there has.kept has.same;
+        },
     λ c. behind _ NoHart _ _ (no_hart c.at_home)
-    (behind _ NoSpace _ _ (no_number c.at_home)
-    (behind _ NotHome _ _ (not_home c.at_home)
-    (behind _ NotFree _ _ (ap (λ s. not (is_free s)) c.free)
-    (behind _ AsidInUse _ _ (asid_unused C H asid (length C.asids) (λ s less kept same. c.unused s (record { there = less; kept = kept; same = same }))) refl)))),
+        (behind _ NoSpace _ _ (no_number c.at_home)
+        (behind _ NotHome _ _ (not_home c.at_home)
+        (behind _ NotFree _ _ (ap (λ s. not (is_free s)) c.free)
+        (behind _ AsidInUse _ _ (asid_unused C H asid (length C.asids) (λ s less kept same. c.unused s (record { there = less; kept = kept; same = same }))) refl)))),
   )
