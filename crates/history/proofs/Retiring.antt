@@ -132,22 +132,22 @@ module _ (C : Setup) (H : History) (hart space : ℕ) where
   pub can_retire : (ticket : ℕ) → C.harts ≤ MAX_HARTS → (due C H (Retire hart space) ≡ reply.Opened ticket) ↔ CanRetire C H hart space ticket
   can_retire ticket few = (
     λ d. let p = passed _ NoHart _ (reply.Opened ticket) d refl in
-    let q = passed _ NoSpace _ (reply.Opened ticket) p.1 refl in
-    let n = passed _ NotHome _ (reply.Opened ticket) q.1 refl in
-    let v = passed _ Retiring _ (reply.Opened ticket) n.1 refl in
-    let u = passed _ InUse _ (reply.Opened ticket) v.1 refl in
-    let there = space_parts q.0 in
-    record {
-      at_home = at_home p.0 there.0 n.0;
-      live = live_is (status_of H space) there.1 v.0;
-      left = nobody C H space u.0 few;
-      least = (least_is H hart ticket).0 (ticket_is (least_free H hart MAX_TICKETS 0) ticket u.1);
-    },
+        let q = passed _ NoSpace _ (reply.Opened ticket) p.1 refl in
+        let n = passed _ NotHome _ (reply.Opened ticket) q.1 refl in
+        let v = passed _ Retiring _ (reply.Opened ticket) n.1 refl in
+        let u = passed _ InUse _ (reply.Opened ticket) v.1 refl in
+        let there = space_parts q.0 in
+        record {
+          at_home = at_home p.0 there.0 n.0;
+          live = live_is (status_of H space) there.1 v.0;
+          left = nobody C H space u.0 few;
+          least = (least_is H hart ticket).0 (ticket_is (least_free H hart MAX_TICKETS 0) ticket u.1);
+        },
     λ c. behind _ NoHart _ _ (no_hart c.at_home)
-    (behind _ NoSpace _ _ (no_space c.at_home (ap is_free c.live))
-    (behind _ NotHome _ _ (not_home c.at_home)
-    (behind _ Retiring _ _ (ap is_retiring c.live)
-    (behind _ InUse _ _ (outside C H space c.left) (ap opened_reply ((least_is H hart ticket).1 c.least)))))),
+        (behind _ NoSpace _ _ (no_space c.at_home (ap is_free c.live))
+        (behind _ NotHome _ _ (not_home c.at_home)
+        (behind _ Retiring _ _ (ap is_retiring c.live)
+        (behind _ InUse _ _ (outside C H space c.left) (ap opened_reply ((least_is H hart ticket).1 c.least)))))),
   )
 
   -- Reclaim
@@ -174,31 +174,31 @@ module _ (C : Setup) (H : History) (hart space : ℕ) where
   pub can_reclaim : (due C H (Reclaim hart space) ≡ reply.Ok) ↔ CanReclaim C H hart space
   can_reclaim = (
     λ d. let p = passed _ NoHart _ reply.Ok d refl in
-    let q = passed _ NoSpace _ reply.Ok p.1 refl in
-    let n = passed _ NotHome _ reply.Ok q.1 refl in
-    reclaimed (status_of H space) refl (at_home p.0 (space_parts q.0).0 n.0) n.1,
+        let q = passed _ NoSpace _ reply.Ok p.1 refl in
+        let n = passed _ NotHome _ reply.Ok q.1 refl in
+        reclaimed (status_of H space) refl (at_home p.0 (space_parts q.0).0 n.0) n.1,
     λ c. behind _ NoHart _ _ (no_hart c.at_home)
-    (behind _ NoSpace _ _ (no_space c.at_home (ap is_free c.retiring))
-    (behind _ NotHome _ _ (not_home c.at_home)
-    (ap (reclaim_reply C H) c.retiring ∙ behind _ NotAcked _ _ (ap not (done_once C H c.place c.order c.is c.collected)) refl))),
+        (behind _ NoSpace _ _ (no_space c.at_home (ap is_free c.retiring))
+        (behind _ NotHome _ _ (not_home c.at_home)
+        (ap (reclaim_reply C H) c.retiring ∙ behind _ NotAcked _ _ (ap not (done_once C H c.place c.order c.is c.collected)) refl))),
   )
 
   -- Create
   pub can_create : (asid : ℕ) → (due C H (Create hart space asid) ≡ reply.Ok) ↔ CanCreate C H hart space asid
   can_create asid = (
     λ d. let p = passed _ NoHart _ reply.Ok d refl in
-    let q = passed _ NoSpace _ reply.Ok p.1 refl in
-    let n = passed _ NotHome _ reply.Ok q.1 refl in
-    let f = passed _ NotFree _ reply.Ok n.1 refl in
-    let u = passed _ AsidInUse _ reply.Ok f.1 refl in
-    record {
-      at_home = at_home p.0 (not-false (is_number C space) q.0) n.0;
-      free = free_is (status_of H space) (not-false (is_free (status_of H space)) f.0);
-      unused = λ s has. asid_found C H asid (length C.asids) s u.0 has.there has.kept has.same;
-    },
+        let q = passed _ NoSpace _ reply.Ok p.1 refl in
+        let n = passed _ NotHome _ reply.Ok q.1 refl in
+        let f = passed _ NotFree _ reply.Ok n.1 refl in
+        let u = passed _ AsidInUse _ reply.Ok f.1 refl in
+        record {
+          at_home = at_home p.0 (not-false (is_number C space) q.0) n.0;
+          free = free_is (status_of H space) (not-false (is_free (status_of H space)) f.0);
+          unused = λ s has. asid_found C H asid (length C.asids) s u.0 has.there has.kept has.same;
+        },
     λ c. behind _ NoHart _ _ (no_hart c.at_home)
-    (behind _ NoSpace _ _ (no_number c.at_home)
-    (behind _ NotHome _ _ (not_home c.at_home)
-    (behind _ NotFree _ _ (ap (λ s. not (is_free s)) c.free)
-    (behind _ AsidInUse _ _ (asid_unused C H asid (length C.asids) (λ s less kept same. c.unused s (record { there = less; kept = kept; same = same }))) refl)))),
+        (behind _ NoSpace _ _ (no_number c.at_home)
+        (behind _ NotHome _ _ (not_home c.at_home)
+        (behind _ NotFree _ _ (ap (λ s. not (is_free s)) c.free)
+        (behind _ AsidInUse _ _ (asid_unused C H asid (length C.asids) (λ s less kept same. c.unused s (record { there = less; kept = kept; same = same }))) refl)))),
   )

@@ -217,6 +217,7 @@ kernel_frames_stay =
     ∷ (Map 0 (Space 0) (small_page 0x1000) 0x100 (flags (R + U + A + D)), Table 0x80004)
     ∷ (Create 0 1 2, Ok)
     ∷ (Switch 1 1, Ok)
+    ∷ (Retire 0 0, refused InUse)
     ∷ (Begin 1 0xffffffffc0000004 access.Load supervisor, More)
     ∷ (Load 1, More)
     ∷ (Load 1, More)

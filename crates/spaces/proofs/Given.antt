@@ -1,7 +1,7 @@
 -- What giving back and a store leave, word by word and frame by frame.
-use Rattle.std.proofs.Common.{◌≡◌, ℕ, ◌<◌, ◌≤◌, ◌⊎◌, Bool, true, false, cond, Option, Some, None, IsSome, refl, ap, sym, ◌∙◌, inl, inr, arith, eqb}
+use Rattle.std.proofs.Common.{◌≡◌, ℕ, ◌≤◌, Bool, true, false, cond, Option, Some, None, IsSome, refl, ap, ◌∙◌, inl, inr, eqb}
 use Rattle.std.specs.Prelude.{◌≢◌, ◌&&◌, ◌||◌, nat_lt}
-use Rattle.std.proofs.lemmas.Bool.{cases_Bool, cases_eq, eq-eqb, ne_eqb, eqb-true, lt-ltb, le-ltb}
+use Rattle.std.proofs.lemmas.Bool.{cases_Bool, cases_eq, eq-eqb, ne_eqb, lt-ltb, le-ltb}
 use Rattle.walk.specs.Leads.{Tables}
 use Rattle.walk.specs.Pointers.{pointed}
 use Rattle.spaces.specs.declared.places.Place.{Place}

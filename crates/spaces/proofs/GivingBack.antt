@@ -1,6 +1,6 @@
 -- Giving back the frames of a space, word by word and frame by frame.
 use Rattle.std.proofs.Common.{◌≡◌, ℕ, zero, suc, ◌+◌, ◌-◌, ◌*◌, ◌/◌, ◌%◌, ◌<◌, ◌≤◌, cond, eqb, ◌&&◌, ◌||◌, Bool, true, false, List, [], ◌∷◌, get_or, Option, Some, None, length, ap, sym, ◌∙◌, subst, refl, inl, inr, arith}
-use Rattle.std.specs.Prelude.{slice_set, slice_get, nat_le, nat_lt}
+use Rattle.std.specs.Prelude.{slice_get, nat_lt}
 use Rattle.std.proofs.Math.Path.{fun_ext}
 use Rattle.std.proofs.lemmas.Bool.{cases_eq, cases_lt, lt-ltb, le-ltb, le-leb, eq-eqb, ne_eqb}
 use Rattle.std.proofs.lemmas.Option.{slice_get-get_or}
@@ -11,13 +11,12 @@ use Rattle.pte.specs.Address.{table_length}
 use Rattle.walk.specs.Leads.{Tables}
 use Rattle.spaces.specs.declared.places.Place.{Place}
 use Rattle.spaces.specs.declared.places.Place.TheVariants.{Space}
-use Rattle.spaces.specs.Layout.{Layout, frame_count, is_frame, root_ppn, user_slots}
+use Rattle.spaces.specs.Layout.{frame_count, is_frame, root_ppn, user_slots}
 use Rattle.spaces.specs.Opening.{is_word}
 use Rattle.spaces.specs.Held.{Held, IsMemory, held_at, holders_of, is_own_at, word_index, words_of}
 use Rattle.spaces.specs.Holders.{Holders, is_held_for, is_word_of, zero_word, emptied, given_back}
 use Rattle.spaces.specs.Effects.{EmptiesSpace}
 use Rattle.spaces.specs.Tree.{IsTree}
-use Rattle.spaces.proofs.Lists.{slice_get-set_same, slice_get-set_other}
 use Rattle.spaces.proofs.Applying.{in-memory}
 use Rattle.spaces.proofs.Emptying.{tree-emptied, empties-space}
 

@@ -1,8 +1,7 @@
 -- The frame that a new table takes is the lowest one of its home that is unused.
-use Rattle.std.proofs.Common.{◌≡◌, ℕ, zero, suc, ◌+◌, ◌-◌, ◌<◌, ◌≤◌, ◌⊎◌, Bool, true, false, cond, Option, Some, None, refl, ap, sym, ◌∙◌, subst, inl, inr, arith}
+use Rattle.std.proofs.Common.{◌≡◌, ℕ, zero, suc, ◌+◌, ◌-◌, ◌<◌, ◌≤◌, true, false, cond, Option, Some, None, refl, ap, sym, ◌∙◌, subst, inl, inr, arith}
 use Rattle.std.specs.Prelude.{◌↔◌, ◌≢◌, is_none, slice_index}
 use Rattle.std.proofs.lemmas.Bool.{cases_Bool, cases_eq, true≢false}
-use Rattle.spaces.specs.declared.places.Place.{Place}
 use Rattle.spaces.specs.Layout.{Layout, spare_ppn}
 use Rattle.spaces.specs.Holders.{Holders, first_unused, unused_spare}
 use Rattle.spaces.specs.Effects.{IsLowestUnused}
@@ -30,20 +29,20 @@ module _ (holders : Holders) where
   found zero from ppn e = absurd (cc (e))
   found (suc n) from ppn e = elim (cases_Bool (is_none (holders from))) [
     | inl free ↦ let same : from ≡ ppn = here free in record {
-        low = omega (arith, same);
-        high = omega (arith, same);
-        unused = subst (λ f. holders f ≡ None) same (none-by (holders from) free);
-        first = λ m up down. absurd (omega (arith, same, up, down));
-      }
+      low = omega (arith, same);
+      high = omega (arith, same);
+      unused = subst (λ f. holders f ≡ None) same (none-by (holders from) free);
+      first = λ m up down. absurd (omega (arith, same, up, down));
+    }
     | inr taken ↦ let rest = found n (from + 1) ppn (ap (λ b. cond b (Some from) (first_unused holders n (from + 1))) (sym taken) ∙ e) in record {
-        low = (let l = rest.low in omega arith);
-        high = (let l = rest.high in omega arith);
-        unused = rest.unused;
-        first = λ m up down. elim (cases_eq from m) [
-          | inl same ↦ subst (λ f. holders f ≢ None) same (busy-by (holders from) taken)
-          | inr other ↦ rest.first m (omega (arith, up, other)) down
-        ];
-      }
+      low = (let l = rest.low in omega arith);
+      high = (let l = rest.high in omega arith);
+      unused = rest.unused;
+      first = λ m up down. elim (cases_eq from m) [
+        | inl same ↦ subst (λ f. holders f ≢ None) same (busy-by (holders from) taken)
+        | inr other ↦ rest.first m (omega (arith, up, other)) down
+      ];
+    }
   ]
     where
       here : is_none (holders from) ≡ true → from ≡ ppn
@@ -82,15 +81,15 @@ module _ (holders : Holders) where
 pub lowest-is : (l : Layout) (holders : Holders) (h ppn : ℕ) → (unused_spare l holders h ≡ Some ppn) ↔ IsLowestUnused l holders h ppn
 lowest-is l holders h ppn = (
   λ e. let f = found holders (slice_index l.spares h) (spare_ppn l h) ppn e in
-  let low = f.low in
-  let high = f.high in
-  record {
-    number = ppn - spare_ppn l h;
-    below = omega arith;
-    is = omega arith;
-    unused = f.unused;
-    lowest = λ n less. f.first (spare_ppn l h + n) (omega arith) (omega (arith, less));
-  },
+      let low = f.low in
+      let high = f.high in
+      record {
+        number = ppn - spare_ppn l h;
+        below = omega arith;
+        is = omega arith;
+        unused = f.unused;
+        lowest = λ n less. f.first (spare_ppn l h + n) (omega arith) (omega (arith, less));
+      },
   λ is. is-found holders (slice_index l.spares h) (spare_ppn l h) ppn (record {
     low = (let at = is.is in omega arith);
     high = (let at = is.is in let b = is.below in omega arith);
@@ -106,6 +105,6 @@ pub none-is : (l : Layout) (holders : Holders) (h : ℕ) → (unused_spare l hol
 none-is l holders h = (
   λ e n less. none-found holders (slice_index l.spares h) (spare_ppn l h) e (spare_ppn l h + n) (omega arith) (omega (arith, less)),
   λ all. is-none-found holders (slice_index l.spares h) (spare_ppn l h) (λ m up down.
-  let same : spare_ppn l h + (m - spare_ppn l h) ≡ m = omega (arith, up) in
-  subst (λ f. holders f ≢ None) same (all (m - spare_ppn l h) (omega (arith, up, down)))),
+      let same : spare_ppn l h + (m - spare_ppn l h) ≡ m = omega (arith, up) in
+      subst (λ f. holders f ≢ None) same (all (m - spare_ppn l h) (omega (arith, up, down)))),
 )

@@ -1,4 +1,4 @@
-use Rattle.std.proofs.Common.{◌≡◌, ◌<◌, ◌∙◌, ap, sym, length, length-set, slice_get, None, arith}
+use Rattle.std.proofs.Common.{◌∙◌, ap, sym, length, length-set, slice_get, arith}
 use Rattle.spaces.specs.Held.{is_own_at}
 use Rattle.spaces.specs.Holders.{zero_word}
 use Rattle.spaces.proofs.Lists.{slice_get-set_same, slice_get-set_other}

@@ -1,7 +1,5 @@
-use Rattle.std.proofs.Common.{rules, ◌≡◌, ℕ, ◌+◌, ◌∙◌, ap, length, arith}
-use Rattle.std.proofs.lemmas.List.{with_items_is}
-use Rattle.std.specs.Vec.{with_items}
-use Rattle.spaces.proofs.GivingBack.{left-of, left-lists, own-lists}
+use Rattle.std.proofs.Common.{rules, ◌+◌, arith}
+use Rattle.spaces.proofs.GivingBack.{left-of, left-lists}
 use Rattle.spaces.proofs.frames.Memory.give_back.Goals as goal
 
 pub invariant_of-self : goal.invariant_of-self
