@@ -1,15 +1,15 @@
 -- What contracts see of the two ends of a ring: the sender's, which posts requests, and the receiver's, which takes them.
 use Rattle.std.specs.Prelude.{ℕ, ◌+◌, ◌-◌, Bool, true, false, List, [], ◌∷◌, ◌++◌, Option, Some, None, nat_le, if◌then◌else◌}
 use Rattle.std.specs.Global.{Global}
-use Rattle.rtrb.specs.declared.producer.Producer.{Producer}
-use Rattle.rtrb.specs.declared.AnyItems.{AnyItems}
+use denote.RawPtr.{Ptr}
+use Rattle.rtrb.specs.Shared.{Names}
 use Rattle.shoot.specs.Request.{Message}
 use Rattle.shoot.specs.declared.mailbox.PostFault.{PostFault}
 use Rattle.shoot.specs.declared.mailbox.PostFault.TheVariants.{Closed, Full}
 
--- which ring an end is of
+-- which ring an end is of: where its words and its places lie, their names in proofs, and where their memory is from
 abbrev pub Ring : Type 0
-Ring = Producer Message Global AnyItems
+Ring = Ptr × Ptr × Names × Global
 
 -- The sender's end: its ring; the requests that were accepted, oldest first; how many free places of the ring it knows of; how
 -- many requests were accepted whose acknowledgement is not collected yet; whether later posts are refused; and the bound on the

@@ -3,30 +3,24 @@
 ghost use Rattle.std.specs.Prelude.{◌≡◌, ◌<◌, [], ◌∷◌, length, IfSome, IfNone};
 ghost use mathlib.Core.List.{IsPrefix};
 
-use rtrb::{Consumer, Producer};
+use rtrb::Consumer;
 use shoot::Request;
 use std::alloc::Global;
 use std::marker::Model;
-use std::snapshot::Snapshot;
 
 /// The end by which one hart takes the requests of another. No call waits for the other end, or takes memory.
 #[derive(Drop)]
 pub struct Inbox {
     pub(crate) consumer: Consumer<Request, Global>,
-    // Names the ring, for contracts alone.
-    pub(crate) ring: Snapshot<Producer<Request, Global>>,
 }
 
 impl Model for Inbox {
-    ghost use Rattle.std.specs.Prelude.{◌≡◌};
-    ghost use Rattle.rtrb.specs.Ring.{received, known_items, producer_capacity, consumer_capacity, IsPair};
+    ghost use Rattle.rtrb.specs.Ring.{received, known_items, consumer_capacity};
     ghost use Rattle.rings.specs.Ends.{InboxState};
 
     ghost Value = { InboxState };
 
-    ghost view = { λ i. record { ring = i.ring.value; taken = received i.consumer; known = known_items i.consumer; capacity = consumer_capacity i.consumer } };
-
-    ghost invariant = { λ i. IsPair i.ring.value i.consumer × (consumer_capacity i.consumer ≡ producer_capacity i.ring.value) };
+    ghost view = { λ i. record { ring = (i.consumer.end.words, i.consumer.end.slots, i.consumer.end.names, i.consumer.end.heap); taken = received i.consumer; known = known_items i.consumer; capacity = consumer_capacity i.consumer } };
 }
 
 impl Inbox {

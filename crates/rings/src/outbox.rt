@@ -6,7 +6,6 @@ use rtrb::{Producer, PushError};
 use shoot::{PostFault, Request};
 use std::alloc::Global;
 use std::marker::Model;
-use std::snapshot::Snapshot;
 
 /// The end by which one hart posts requests to another.
 ///
@@ -18,20 +17,18 @@ pub struct Outbox {
     pub(crate) capacity: usize,
     pub(crate) outstanding: usize,
     pub(crate) closed: bool,
-    // Names the ring, for contracts alone.
-    pub(crate) ring: Snapshot<Producer<Request, Global>>,
 }
 
 impl Model for Outbox {
     ghost use Rattle.std.specs.Prelude.{◌≡◌, ◌≤◌};
-    ghost use Rattle.rtrb.specs.Ring.{sent, known_free, producer_capacity, SameProducer};
+    ghost use Rattle.rtrb.specs.Ring.{sent, known_free, producer_capacity};
     ghost use Rattle.rings.specs.Ends.{OutboxState};
 
     ghost Value = { OutboxState };
 
-    ghost view = { λ o. record { ring = o.ring.value; accepted = sent o.producer; room = known_free o.producer; outstanding = o.outstanding; closed = o.closed; capacity = o.capacity } };
+    ghost view = { λ o. record { ring = (o.producer.end.words, o.producer.end.slots, o.producer.end.names, o.producer.end.heap); accepted = sent o.producer; room = known_free o.producer; outstanding = o.outstanding; closed = o.closed; capacity = o.capacity } };
 
-    ghost invariant = { λ o. SameProducer o.ring.value o.producer × (producer_capacity o.producer ≡ o.capacity) × (o.outstanding ≤ o.capacity) };
+    ghost invariant = { λ o. (producer_capacity o.producer ≡ o.capacity) × (o.outstanding ≤ o.capacity) };
 }
 
 impl Outbox {

@@ -10,7 +10,6 @@ use crate::outbox::Outbox;
 use rtrb::RingBuffer;
 use shoot::Request;
 use std::alloc::{AllocError, Global};
-use std::snapshot::Snapshot;
 
 /// The two ends of an empty ring that is open. The capacity is from 1 to 64.
 pub fn ends(alloc: Global, capacity: usize) -> Result<(Outbox, Inbox), AllocError>
@@ -20,19 +19,13 @@ pub fn ends(alloc: Global, capacity: usize) -> Result<(Outbox, Inbox), AllocErro
     ensures inbox { IfOk result (λ e. e.1 ≡ new_inbox e.0.ring capacity) }
 {
     let (producer, consumer) = RingBuffer::new(alloc, capacity)?;
-    let inbox = Inbox {
-        consumer,
-        ring: Snapshot::of(&producer),
-    };
-    let ring = Snapshot::of(&producer);
     let outbox = Outbox {
         producer,
         capacity,
         outstanding: 0,
         closed: false,
-        ring,
     };
-    Ok((outbox, inbox))
+    Ok((outbox, Inbox { consumer }))
 }
 
 /// With both ends in one thread: how many requests wait. What was accepted is then what was taken, followed by these, and so

@@ -16,6 +16,16 @@ fn request(ticket: u32) -> Request
     }
 }
 
+// How many requests wait, and then the oldest of them.
+fn settle_and_take(outbox: &mut Outbox, inbox: &mut Inbox) -> (usize, Option<Request>)
+    requires { outbox.old.ring ≡ inbox.old.ring }
+    ensures ring { outbox.new.ring ≡ inbox.new.ring }
+    ensures outbox { outbox.new ≡ record outbox.old { room = outbox.new.room } }
+{
+    let waiting = settle(outbox, inbox);
+    (waiting, inbox.take())
+}
+
 #[test]
 fn ends_of_two(rt: HostRuntime) -> Result<(), Fail> {
     let [a, b, c, d] = [request(0), request(1), request(2), request(3)];
@@ -23,8 +33,7 @@ fn ends_of_two(rt: HostRuntime) -> Result<(), Fail> {
     assert!(&rt; outbox.post(a) == Ok(()));
     assert!(&rt; outbox.post(b) == Ok(()));
     assert!(&rt; outbox.post(c) == Err((PostFault::Full, c)));
-    assert!(&rt; settle(&mut outbox, &mut inbox) == 2);
-    assert!(&rt; inbox.take() == Some(a));
+    assert!(&rt; settle_and_take(&mut outbox, &mut inbox) == (2, Some(a)));
     assert!(&rt; outbox.post(c) == Err((PostFault::Full, c)));
     assert!(&rt; outbox.outstanding() == 2);
     outbox.release();
@@ -36,12 +45,9 @@ fn ends_of_two(rt: HostRuntime) -> Result<(), Fail> {
     assert!(&rt; outbox.is_closed());
     assert!(&rt; outbox.post_fault() == Some(PostFault::Closed));
     assert!(&rt; outbox.post(d) == Err((PostFault::Closed, d)));
-    assert!(&rt; settle(&mut outbox, &mut inbox) == 2);
-    assert!(&rt; inbox.take() == Some(b));
-    assert!(&rt; settle(&mut outbox, &mut inbox) == 1);
-    assert!(&rt; inbox.take() == Some(c));
-    assert!(&rt; settle(&mut outbox, &mut inbox) == 0);
-    assert!(&rt; inbox.take() == None);
+    assert!(&rt; settle_and_take(&mut outbox, &mut inbox) == (2, Some(b)));
+    assert!(&rt; settle_and_take(&mut outbox, &mut inbox) == (1, Some(c)));
+    assert!(&rt; settle_and_take(&mut outbox, &mut inbox) == (0, None));
     Ok(())
 }
 
@@ -64,7 +70,7 @@ fn ring_of_three_turns_around(rt: HostRuntime) -> Result<(), Fail> {
     assert!(&rt; outbox.post(request(4)) == Ok(()));
     outbox.close();
     take_waiting(&mut outbox, &mut inbox, &mut waiting);
-    assert!(&rt; waiting.as_slice() == &[request(5), request(4)]);
+    assert!(&rt; waiting.as_slice() == [request(5), request(4)].as_slice());
     assert!(&rt; inbox.take() == None && outbox.outstanding() == 2);
     Ok(())
 }
@@ -76,7 +82,7 @@ fn post_all(mut outbox: Outbox) -> (Outbox, u32)
     let mut accepted = 0;
     for ticket in 0..64 {
         if outbox.post(request(ticket)).is_ok() {
-            accepted += 1;
+            accepted = ticket + 1;
         }
     }
     (outbox, accepted)
