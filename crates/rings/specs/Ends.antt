@@ -1,5 +1,5 @@
 -- What contracts see of the two ends of a ring: the sender's, which posts requests, and the receiver's, which takes them.
-use Rattle.std.specs.Prelude.{ℕ, ◌+◌, ◌-◌, Bool, true, false, List, [], ◌∷◌, ◌++◌, Option, Some, None, nat_le, if◌then◌else◌}
+use Rattle.std.specs.Prelude.{ℕ, ◌+◌, ◌-◌, Bool, true, false, List, [], ◌∷◌, ◌++◌, length, min, ◌^◌, Option, Some, None, nat_le, if◌then◌else◌}
 use Rattle.std.specs.Global.{Global}
 use denote.RawPtr.{Ptr}
 use Rattle.rtrb.specs.Shared.{Names}
@@ -28,6 +28,10 @@ pub record InboxState : Type 0 where
   pub taken : List Message
   pub known : List Message
   pub capacity : ℕ
+
+-- how many they are, as far as 64 bits count
+abbrev pub count_of : List Message → ℕ
+count_of messages = min (length messages) (2 ^ 64 - 1)
 
 abbrev pub new_outbox : Ring → ℕ → OutboxState
 new_outbox ring capacity = record { ring = ring; accepted = []; room = capacity; outstanding = 0; closed = false; capacity = capacity }

@@ -17,22 +17,24 @@ pub struct Outbox {
     pub(crate) capacity: usize,
     pub(crate) outstanding: usize,
     pub(crate) closed: bool,
+    // How many requests were accepted, which stays at the greatest number.
+    pub(crate) accepted: u64,
 }
 
 impl Model for Outbox {
     ghost use Rattle.std.specs.Prelude.{◌≡◌, ◌≤◌};
     ghost use Rattle.rtrb.specs.Ring.{sent, known_free, producer_capacity};
-    ghost use Rattle.rings.specs.Ends.{OutboxState};
+    ghost use Rattle.rings.specs.Ends.{OutboxState, count_of};
 
     ghost Value = { OutboxState };
 
     ghost view = { λ o. record { ring = (o.producer.end.words, o.producer.end.slots, o.producer.end.names, o.producer.end.heap); accepted = sent o.producer; room = known_free o.producer; outstanding = o.outstanding; closed = o.closed; capacity = o.capacity } };
 
-    ghost invariant = { λ o. (producer_capacity o.producer ≡ o.capacity) × (o.outstanding ≤ o.capacity) };
+    ghost invariant = { λ o. (producer_capacity o.producer ≡ o.capacity) × (o.outstanding ≤ o.capacity) × (o.accepted ≡ count_of (sent o.producer)) };
 }
 
 impl Outbox {
-    ghost use Rattle.rings.specs.Ends.{post_fault, with_accepted, after_release, after_close};
+    ghost use Rattle.rings.specs.Ends.{count_of, post_fault, with_accepted, after_release, after_close};
 
     /// Why a post would be refused now, whatever the ring has room for.
     pub fn post_fault(&self) -> Option<PostFault>
@@ -61,6 +63,7 @@ impl Outbox {
         match self.producer.push(request) {
             Ok(()) => {
                 self.outstanding += 1;
+                self.accepted = self.accepted.saturating_add(1);
                 Ok(())
             }
             Err(PushError::Full(back)) => Err((PostFault::Full, back)),
@@ -88,6 +91,13 @@ impl Outbox {
         ensures bounded { result ≤ self.now.capacity }
     {
         self.outstanding
+    }
+
+    /// How many requests were accepted. The count stays at the greatest number of 64 bits.
+    pub fn accepted(&self) -> u64
+        ensures { result ≡ count_of self.now.accepted }
+    {
+        self.accepted
     }
 
     /// Whether later posts are refused.

@@ -24,8 +24,9 @@ pub fn ends(alloc: Global, capacity: usize) -> Result<(Outbox, Inbox), AllocErro
         capacity,
         outstanding: 0,
         closed: false,
+        accepted: 0,
     };
-    Ok((outbox, Inbox { consumer }))
+    Ok((outbox, Inbox { consumer, taken: 0 }))
 }
 
 /// With both ends in one thread: how many requests wait. What was accepted is then what was taken, followed by these, and so
