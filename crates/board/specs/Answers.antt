@@ -143,4 +143,4 @@ close_answer port to = answer_or (refused_if (not (are_pair port.setup port.hart
 
 abbrev pub after_close_to : PortState → ℕ → PortState
 after_close_to port to =
-    if are_pair port.setup port.hart to then record port { outboxes = slice_set port.outboxes to (option_map after_close (outbox_to port to)) } else port
+    if are_pair port.setup port.hart to && not (is_closed_to (outbox_to port to)) then record port { outboxes = slice_set port.outboxes to (option_map after_close (outbox_to port to)) } else port

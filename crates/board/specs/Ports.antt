@@ -22,12 +22,15 @@ abbrev pub if_there : {X : Type 0} → Option (Option X) → Option X
 if_there None = None
 if_there (Some element) = element
 
+abbrev pub element : {X : Type 0} → List (Option X) → ℕ → Option X
+element row number = if_there (slice_get row number)
+
 -- the end to another hart, and the end from it
 abbrev pub outbox_to : PortState → ℕ → Option OutboxState
-outbox_to port hart = if_there (slice_get port.outboxes hart)
+outbox_to port hart = element port.outboxes hart
 
 abbrev pub inbox_from : PortState → ℕ → Option InboxState
-inbox_from port hart = if_there (slice_get port.inboxes hart)
+inbox_from port hart = element port.inboxes hart
 
 -- which end it is: its ring, and its capacity
 pub record End : Type 0 where
@@ -68,7 +71,7 @@ abbrev pub row : {X : Type 0} → List (List X) → ℕ → List X
 row rows number = unwrap_or (slice_get rows number) []
 
 abbrev pub cell : {X : Type 0} → List (List (Option X)) → ℕ → ℕ → Option X
-cell rows number column = if_there (slice_get (row rows number) column)
+cell rows number column = element (row rows number) column
 
 -- they are the ports of one board, in the order of the harts: the end from one hart to another and the end by which that takes
 -- from it are of one ring
