@@ -1,12 +1,13 @@
 -- A row of ends with one more.
-use Rattle.std.proofs.Common.{◌≡◌, ◌∙◌, sym, ap, ap₂, refl, ℕ, zero, suc, ◌+◌, ◌<◌, ◌++◌, List, [], ◌∷◌, length, ◌⊎◌, inl, inr, map, Option, Some, None, slice_get, arith}
+use Rattle.std.proofs.Common.{◌≡◌, ◌∙◌, sym, ap, ap₂, refl, ℕ, zero, suc, ◌+◌, ◌<◌, ◌++◌, List, [], ◌∷◌, length, ◌⊎◌, inl, inr, map, Option, Some, None, slice_get, arith, length-append}
 use Rattle.std.proofs.lemmas.Bool.{cases_lt}
 use Rattle.std.proofs.lemmas.List.{length-map, map-append}
 use Rattle.std.proofs.lemmas.List.FromFn.{length-map-range_with_len}
 use Rattle.std.specs.Option.{option_map}
 use Rattle.std.specs.List.{range_with_len}
 use Rattle.board.specs.Ports.{End, element, if_there}
-use Rattle.board.specs.Rows.{IsRow, capacity_of, capacity_between}
+use Rattle.std.specs.Global.{Vec}
+use Rattle.board.specs.Rows.{items_at, items_of, IsRow, capacity_of, capacity_between}
 
 range_last : (from n : ℕ) → range_with_len from (suc n) ≡ range_with_len from n ++ (from + n) ∷ []
 range_last from zero = ap (λ k. k ∷ []) (omega arith)
@@ -62,3 +63,25 @@ same_or_not a b = elim (cases_lt a b) [
       | inr not-above ↦ inl (omega arith)
     ]
 ]
+
+-- the rows of a longer list
+module _ {X : Type 0} where
+  pub items-old : (rows : List (Vec X)) (row : Vec X) (number : ℕ) → number < length rows → items_at (rows ++ row ∷ []) number ≡ items_at rows number
+  items-old [] row number within = absurd (omega arith)
+  items-old (y ∷ ys) row zero within = refl
+  items-old (y ∷ ys) row (suc number) within = items-old ys row number (omega arith)
+
+  pub items-last : (rows : List (Vec X)) (row : Vec X) (number : ℕ) → number ≡ length rows → items_at (rows ++ row ∷ []) number ≡ row.items
+  items-last [] row number is = ap (λ k. items_at (row ∷ []) k) is
+  items-last (y ∷ ys) row zero is = absurd (omega arith)
+  items-last (y ∷ ys) row (suc number) is = items-last ys row number (omega arith)
+
+  -- an empty row more makes no row longer
+  pub items-empty : (rows : List (Vec X)) (row : Vec X) → row.items ≡ [] → ((number : ℕ) → items_at rows number ≡ []) → (number : ℕ) → items_at (rows ++ row ∷ []) number ≡ []
+  items-empty [] row none all zero = none
+  items-empty [] row none all (suc number) = refl
+  items-empty (y ∷ ys) row none all zero = all zero
+  items-empty (y ∷ ys) row none all (suc number) = items-empty ys row none (λ k. all (suc k)) number
+
+pub length-one_more : {X : Type 0} (xs : List X) (x : X) → length (xs ++ x ∷ []) ≡ length xs + 1
+length-one_more xs x = length-append xs (x ∷ [])

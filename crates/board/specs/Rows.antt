@@ -42,3 +42,11 @@ items_at rows number = items_of (slice_get rows number)
 abbrev pub AreLinked : List (Vec (Option OutboxState)) → List (Vec (Option InboxState)) → ℕ → ℕ → Type 0
 AreLinked outs ins sender receiver =
     option_map end_of_outbox (element (items_at outs sender) receiver) ≡ option_map end_of_inbox (element (items_at ins receiver) sender)
+
+-- a row for each hart, all of them just opened
+pub record IsNet (capacity harts : ℕ) (outs : List (Vec (Option OutboxState))) (ins : List (Vec (Option InboxState))) : Type 0 where
+  pub out_rows : length outs ≡ harts
+  pub in_rows : length ins ≡ harts
+  pub outs_are : (hart : ℕ) → hart < harts → IsOutRow capacity hart harts (items_at outs hart)
+  pub ins_are : (hart : ℕ) → hart < harts → IsInRow capacity hart harts (items_at ins hart)
+  pub linked : (sender receiver : ℕ) → sender < harts → receiver < harts → AreLinked outs ins sender receiver

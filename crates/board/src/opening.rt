@@ -4,7 +4,7 @@ ghost use Rattle.std.specs.Prelude.{◌≡◌, ◌≢◌, ◌≤◌, ◌<◌, �
 ghost use Rattle.std.specs.Option.{option_map};
 ghost use Rattle.shoot.specs.declared.TheConstants.{MAX_CAPACITY};
 ghost use Rattle.board.specs.Ports.{element, end_of_outbox, end_of_inbox};
-ghost use Rattle.board.specs.Rows.{AreLinked, IsInRow, IsOutRow, capacity_between, capacity_of, items_at, new_inbox_of, new_outbox_of};
+ghost use Rattle.board.specs.Rows.{AreLinked, IsInRow, IsNet, IsOutRow, capacity_between, capacity_of, items_at, new_inbox_of, new_outbox_of};
 
 use crate::receiver::Receiver;
 use rings::{Outbox, ends};
@@ -72,4 +72,35 @@ fn open_row(
         push_at(inboxes, receiver, inbox)?;
     }
     Ok(row)
+}
+
+/// So many empty rows.
+fn empty_rows(alloc: Global, harts: usize) -> Result<Vec<Vec<Option<Receiver>>>, AllocError>
+    ensures count { IfOk result (λ rows. length rows.items ≡ harts) }
+    ensures empty { IfOk result (λ rows. (hart : ℕ) → items_at rows.items hart ≡ []) }
+{
+    let mut rows = Vec::new(alloc);
+    for _ in 0..harts {
+        rows.push(Vec::new(alloc))?;
+    }
+    Ok(rows)
+}
+
+/// A ring from each hart to each other one: by sender the ends that post, and by receiver the ends that take.
+pub(crate) fn open_rows(
+    alloc: Global,
+    capacity: usize,
+    harts: usize,
+) -> Result<(Vec<Vec<Option<Outbox>>>, Vec<Vec<Option<Receiver>>>), AllocError>
+    requires some { 1 ≤ capacity }
+    requires bounded { capacity ≤ MAX_CAPACITY }
+    ensures { IfOk result (λ net. IsNet capacity harts net.0.items net.1.items) }
+{
+    let mut inboxes = empty_rows(alloc, harts)?;
+    let mut outboxes = Vec::new(alloc);
+    for sender in 0..harts {
+        let row = open_row(alloc, capacity, harts, sender, &mut inboxes)?;
+        outboxes.push(row)?;
+    }
+    Ok((outboxes, inboxes))
 }
