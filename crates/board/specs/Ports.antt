@@ -91,3 +91,7 @@ new_port name = record {
   outboxes = map (option_map (λ e. new_outbox e.ring e.capacity)) name.outs;
   inboxes = map (option_map (λ e. new_inbox e.ring e.capacity)) name.ins;
 }
+
+-- ports that were just opened
+abbrev pub AreNew : List PortState → Type 0
+AreNew ports = All (λ port. port ≡ new_port (name_of port)) ports

@@ -1,6 +1,7 @@
 //! Harts that are threads and share no lock: a port for each hart, with which it posts requests to other harts and serves theirs.
 #![tactic(auto)]
 
+mod board;
 mod opening;
 mod port;
 mod receiver;

@@ -163,8 +163,52 @@ impl HartPort {
     ghost use Rattle.history.specs.Due.{are_harts, are_pair, is_scope};
     ghost use Rattle.history.specs.Orders.{scope_request};
     ghost use Rattle.shoot.specs.Tickets.{names};
-    ghost use Rattle.board.specs.Ports.{inbox_from, name_of, outbox_to};
+    ghost use Rattle.std.specs.Arc.{arc_value};
+    ghost use Rattle.spaces.specs.Limits.{max_live_frames, MeetsLimits};
+    ghost use Rattle.history.specs.Setup.{setup_of};
+    ghost use Rattle.board.specs.Rows.{IsInRow, IsOutRow};
+    ghost use Rattle.board.specs.Ports.{inbox_from, IsPort, name_of, new_port, outbox_to};
     ghost use Rattle.board.specs.Answers.{ack_self_answer, after_ack_self, after_close_to, after_finish_of, after_flush, after_post, after_serve, close_answer, finish_answer, flush_answer, flush_refusal, post_refusal, request_of, ticket_refusal};
+
+    /// A port of a hart that has done nothing yet.
+    pub(crate) fn new(
+        config: Arc<Config, Global>,
+        hart: u8,
+        outboxes: Vec<Option<Outbox>>,
+        inboxes: Vec<Option<Receiver>>,
+    ) -> HartPort
+        requires limits { MeetsLimits max_live_frames (arc_value config) }
+        requires hart { hart < (arc_value config).harts }
+        requires outboxes { IsOutRow (arc_value config).capacity hart (arc_value config).harts outboxes.items }
+        requires inboxes { IsInRow (arc_value config).capacity hart (arc_value config).harts inboxes.items }
+        ensures setup { result.setup ≡ setup_of (arc_value config) }
+        ensures hart { result.hart ≡ hart }
+        ensures ends { (result.outboxes ≡ outboxes.items) × (result.inboxes ≡ inboxes.items) }
+        ensures port { IsPort (name_of result) }
+        ensures new { result ≡ new_port (name_of result) }
+    {
+        let scheme = config.scheme;
+        HartPort {
+            config,
+            hart,
+            tickets: Tickets::new(hart),
+            tlb: Tlb::new_in(scheme),
+            outboxes,
+            inboxes,
+        }
+    }
+
+    /// The ends by which the hart posts and takes.
+    pub(crate) fn into_ends(self) -> (Vec<Option<Outbox>>, Vec<Option<Receiver>>)
+        ensures { (result.0.items ≡ self.outboxes) × (result.1.items ≡ self.inboxes) }
+    {
+        let HartPort {
+            outboxes,
+            inboxes,
+            ..
+        } = self;
+        (outboxes, inboxes)
+    }
 
     /// How many harts there are.
     fn harts(&self) -> u16
