@@ -7,6 +7,7 @@ mod port;
 mod receiver;
 mod report;
 
+pub use board::Board;
 pub use port::HartPort;
 pub use report::{PairReport, Report};
 
