@@ -1,0 +1,146 @@
+-- What a port answers, and what a call leaves of it.
+use Rattle.std.specs.Prelude.{ℕ, Bool, false, ◌&&◌, not, List, [], Option, Some, None, is_none, Result, Ok, Err, if◌then◌else◌, slice_set}
+use Rattle.std.specs.Option.{option_map}
+use Rattle.pte.specs.declared.address.What.{What}
+use Rattle.pte.specs.declared.address.What.TheVariants.{All}
+use Rattle.tlb.specs.Entries.{TlbState}
+use Rattle.tlb.specs.Service.{served}
+use Rattle.shoot.specs.Request.{Message}
+use Rattle.shoot.specs.declared.mailbox.PostFault.{PostFault}
+use Rattle.shoot.specs.declared.mailbox.PostFault.TheVariants as fault
+use Rattle.shoot.specs.declared.tickets.TicketFault.{TicketFault}
+use Rattle.shoot.specs.declared.tickets.TicketFault.TheVariants as ticket_fault
+use Rattle.shoot.specs.declared.tickets.Collected.{Collected}
+use Rattle.shoot.specs.Tickets.{TicketTable, is_open, names, is_posted, is_done_at, what_at, open_answer, progress_at, after_open, after_posted, after_acked, after_finish}
+use Rattle.history.specs.declared.refusal.Refusal.{Refusal}
+use Rattle.history.specs.declared.refusal.Refusal.TheVariants.{NoHart, NoSpace, HomeNotNamed, NoTicket, NotOpen, NotNamed, AlreadyPosted, Closed, Full, NotDone}
+use Rattle.history.specs.declared.event.Scope.{Scope}
+use Rattle.history.specs.Due.{are_pair, are_harts, is_scope}
+use Rattle.history.specs.Orders.{scope_request}
+use Rattle.rings.specs.Ends.{OutboxState, InboxState, post_fault, with_accepted, with_taken, after_close}
+use Rattle.board.specs.Ports.{PortState, outbox_to, inbox_from}
+
+-- refused if the test holds, else as the rest says
+abbrev pub refused_if : Bool → Refusal → Option Refusal → Option Refusal
+refused_if test refusal rest = if test then Some refusal else rest
+
+-- what a refusal answers, and else the rest
+abbrev pub answer_or : {X : Type 0} → Option Refusal → Result X Refusal → Result X Refusal
+answer_or (Some refusal) rest = Err refusal
+answer_or None rest = rest
+
+-- Flush
+abbrev pub flush_refusal : PortState → Scope → ℕ → Option Refusal
+flush_refusal port scope named = refused_if (not (are_harts port.setup named)) NoHart (refused_if (not (is_scope port.setup scope)) NoSpace None)
+
+abbrev pub opened : Result ℕ TicketFault → Result ℕ Refusal
+opened (Ok ticket) = Ok ticket
+opened (Err ticket_fault.HomeNotNamed) = Err HomeNotNamed
+opened (Err ticket_fault.NoTicket) = Err NoTicket
+
+abbrev pub flush_answer : PortState → Scope → ℕ → Result ℕ Refusal
+flush_answer port scope named = answer_or (flush_refusal port scope named) (opened (open_answer port.tickets named))
+
+abbrev pub with_tickets : PortState → TicketTable → PortState
+with_tickets port tickets = record port { tickets = tickets }
+
+abbrev pub after_flush : PortState → Scope → ℕ → PortState
+after_flush port scope named =
+    if is_none (flush_refusal port scope named) then with_tickets port (after_open port.tickets (scope_request port.setup scope) named) else port
+
+-- Post: what the ticket and the two harts say, and then what the mailbox says
+abbrev pub box_refusal : Option PostFault → Option Refusal
+box_refusal None = None
+box_refusal (Some fault.Closed) = Some Closed
+box_refusal (Some fault.Full) = Some Full
+
+abbrev pub outbox_refusal : Option OutboxState → Option Refusal
+outbox_refusal None = Some NoHart
+outbox_refusal (Some outbox) = box_refusal (post_fault outbox)
+
+abbrev pub ticket_refusal : PortState → ℕ → ℕ → Option Refusal
+ticket_refusal port ticket to =
+    refused_if (not (are_pair port.setup port.hart to)) NoHart
+    (refused_if (not (is_open port.tickets ticket)) NotOpen
+    (refused_if (not (names port.tickets ticket to)) NotNamed
+    (refused_if (is_posted port.tickets ticket to) AlreadyPosted None)))
+
+abbrev pub or_refusal : Option Refusal → Option Refusal → Option Refusal
+or_refusal None rest = rest
+or_refusal (Some refusal) rest = Some refusal
+
+abbrev pub post_refusal : PortState → ℕ → ℕ → Option Refusal
+post_refusal port ticket to = or_refusal (ticket_refusal port ticket to) (outbox_refusal (outbox_to port to))
+
+-- how many free places of its ring an end knows of, and which requests it knows to wait
+abbrev pub known_room : Option OutboxState → ℕ
+known_room None = 0
+known_room (Some outbox) = outbox.room
+
+abbrev pub known_waiting : Option InboxState → List Message
+known_waiting None = []
+known_waiting (Some inbox) = inbox.known
+
+-- the request of an open ticket
+abbrev pub what_of : Option What → What
+what_of None = All
+what_of (Some what) = what
+
+abbrev pub request_of : TicketTable → ℕ → Message
+request_of tickets ticket = record { ticket = ticket; what = what_of (what_at tickets ticket) }
+
+-- an end once it accepted a request, and one once it took one
+abbrev pub outbox_with : Message → ℕ → Option OutboxState → Option OutboxState
+outbox_with message room outbox = option_map (λ o. with_accepted o message room) outbox
+
+abbrev pub inbox_with : Message → List Message → Option InboxState → Option InboxState
+inbox_with message known inbox = option_map (λ i. with_taken i message known) inbox
+
+-- a port once the request of a ticket was accepted; the end then knows of so many free places
+abbrev pub after_post : PortState → ℕ → ℕ → ℕ → PortState
+after_post port ticket to room = record port {
+  tickets = after_posted port.tickets ticket to;
+  outboxes = slice_set port.outboxes to (outbox_with (request_of port.tickets ticket) room (outbox_to port to));
+}
+
+-- a TLB once a request was served
+abbrev pub tlb_served : TlbState → What → TlbState
+tlb_served tlb what = record tlb { entries = served tlb.entries what }
+
+-- Serve: a port once it took a request and served it; the end then knows these to wait
+abbrev pub after_serve : PortState → ℕ → Message → List Message → PortState
+after_serve port from message known = record port {
+  tlb = tlb_served port.tlb message.what;
+  inboxes = slice_set port.inboxes from (inbox_with message known (inbox_from port from));
+}
+
+-- AckSelf: the hart acknowledges its own ticket, if that names it
+abbrev pub acked_by : TicketTable → ℕ → ℕ → TicketTable
+acked_by tickets ticket hart = if names tickets ticket hart then after_acked tickets ticket hart else tickets
+
+abbrev pub ack_self_answer : PortState → ℕ → Result Collected Refusal
+ack_self_answer port ticket = if is_open port.tickets ticket then Ok (progress_at (acked_by port.tickets ticket port.hart) ticket) else Err NotOpen
+
+abbrev pub after_ack_self : PortState → ℕ → PortState
+after_ack_self port ticket =
+    if is_open port.tickets ticket then record port { tickets = acked_by port.tickets ticket port.hart; tlb = tlb_served port.tlb (what_of (what_at port.tickets ticket)) }
+    else port
+
+-- Finish
+abbrev pub finish_answer : PortState → ℕ → Result (Unit {0}) Refusal
+finish_answer port ticket = answer_or (refused_if (not (is_open port.tickets ticket)) NotOpen (refused_if (not (is_done_at port.tickets ticket)) NotDone None)) (Ok tt)
+
+abbrev pub after_finish_of : PortState → ℕ → PortState
+after_finish_of port ticket = if is_open port.tickets ticket then with_tickets port (after_finish port.tickets ticket) else port
+
+-- Close
+abbrev pub is_closed_to : Option OutboxState → Bool
+is_closed_to None = false
+is_closed_to (Some outbox) = outbox.closed
+
+abbrev pub close_answer : PortState → ℕ → Result (Unit {0}) Refusal
+close_answer port to = answer_or (refused_if (not (are_pair port.setup port.hart to)) NoHart (refused_if (is_closed_to (outbox_to port to)) Closed None)) (Ok tt)
+
+abbrev pub after_close_to : PortState → ℕ → PortState
+after_close_to port to =
+    if are_pair port.setup port.hart to && not (is_closed_to (outbox_to port to)) then record port { outboxes = slice_set port.outboxes to (option_map after_close (outbox_to port to)) } else port

@@ -1,0 +1,4 @@
+pub mod Ports
+pub mod Answers
+pub mod Reports
+pub mod Rows

@@ -1,0 +1,42 @@
+-- What is told at the end of each mailbox.
+use Rattle.std.specs.Prelude.{ℕ, zero, suc, ◌≡◌, ◌==◌, List, [], ◌∷◌, ◌++◌, map, Option, Some, None, All, if◌then◌else◌}
+use Rattle.shoot.specs.Request.{Message}
+use Rattle.rings.specs.Ends.{OutboxState, InboxState, count_of}
+use Rattle.board.specs.Ports.{PortState, cell}
+use Rattle.board.specs.declared.report.PairReport.{PairReport}
+
+-- what an end accepted, and what an end took
+abbrev pub accepted_by : Option OutboxState → List Message
+accepted_by None = []
+accepted_by (Some outbox) = outbox.accepted
+
+abbrev pub taken_by : Option InboxState → List Message
+taken_by None = []
+taken_by (Some inbox) = inbox.taken
+
+-- what one of the ports accepted to another hart, and what that hart's port took of it
+abbrev pub accepted : List PortState → ℕ → ℕ → List Message
+accepted ports sender receiver = accepted_by (cell (map (λ port. port.outboxes) ports) sender receiver)
+
+abbrev pub taken : List PortState → ℕ → ℕ → List Message
+taken ports sender receiver = taken_by (cell (map (λ port. port.inboxes) ports) receiver sender)
+
+-- the ordered pairs of different harts, by sender and then by receiver
+abbrev pub pairs_to : ℕ → ℕ → List (ℕ × ℕ)
+pairs_to sender zero = []
+pairs_to sender (suc receiver) = pairs_to sender receiver ++ (if receiver == sender then [] else (sender, receiver) ∷ [])
+
+abbrev pub pairs_of : ℕ → ℕ → List (ℕ × ℕ)
+pairs_of harts zero = []
+pairs_of harts (suc sender) = pairs_of harts sender ++ pairs_to sender harts
+
+-- accepted is taken, followed by what waits, and the counts are their lengths
+pub record IsReportOf (ports : List PortState) (pair : PairReport) : Type 0 where
+  pub order : accepted ports pair.sender pair.receiver ≡ taken ports pair.sender pair.receiver ++ pair.waiting.items
+  pub accepted_count : pair.accepted ≡ count_of (accepted ports pair.sender pair.receiver)
+  pub taken_count : pair.taken ≡ count_of (taken ports pair.sender pair.receiver)
+
+-- each pair has its report, in order
+pub record IsReport (harts : ℕ) (ports : List PortState) (pairs : List PairReport) : Type 0 where
+  pub pairs_are : map (λ pair. (pair.sender, pair.receiver)) pairs ≡ pairs_of harts harts
+  pub each : All (IsReportOf ports) pairs

@@ -1,0 +1,15 @@
+//! Harts that are threads and share no lock: a port for each hart, with which it posts requests to other harts and serves theirs.
+#![tactic(auto)]
+
+mod board;
+mod opening;
+mod port;
+mod receiver;
+mod report;
+
+pub use board::Board;
+pub use port::HartPort;
+pub use report::{PairReport, Report};
+
+#[cfg(test)]
+mod tests;

@@ -1,0 +1,381 @@
+//! A hart's port.
+
+ghost use Rattle.std.specs.Prelude.{◌≡◌, ◌<◌, true, false, IfOk, IfErr, OnOk, OnErr, IfSome, IfNone, IsTrue, Some, None, Err, Ok, length, [], ◌∷◌, map, slice_set};
+ghost use mathlib.Core.List.{IsPrefix};
+ghost use Rattle.std.specs.Option.{option_map};
+ghost use Rattle.rings.specs.Ends.{after_close};
+ghost use Rattle.shoot.specs.Tickets.{is_open, progress_at};
+ghost use Rattle.board.specs.Ports.{element, end_of_outbox, end_of_inbox};
+ghost use Rattle.board.specs.Answers.{acked_by, outbox_refusal, outbox_with, inbox_with, known_room, known_waiting, is_closed_to};
+
+use crate::receiver::Receiver;
+use arrayvec::ArrayVec;
+use history::{Refusal, Scope};
+use pte::What;
+use rings::Outbox;
+use shoot::{Collected, NotDone, PostFault, Request, TicketFault, Tickets};
+use spaces::Config;
+use std::alloc::Global;
+use std::marker::Model;
+use std::sync::Arc;
+use tlb::Tlb;
+
+/// What one hart does, in whatever thread it is. No call waits for another hart, or takes memory.
+#[derive(Drop)]
+pub struct HartPort {
+    config: Arc<Config, Global>,
+    hart: u8,
+    tickets: Tickets,
+    tlb: Tlb,
+    outboxes: Vec<Option<Outbox>>,
+    inboxes: Vec<Option<Receiver>>,
+}
+
+impl Model for HartPort {
+    ghost use Rattle.std.specs.Prelude.{◌≡◌, map};
+    ghost use Rattle.std.specs.Arc.{arc_value};
+    ghost use Rattle.std.specs.Option.{option_map};
+    ghost use Rattle.spaces.specs.Limits.{max_live_frames, MeetsLimits};
+    ghost use Rattle.history.specs.Setup.{setup_of};
+    ghost use Rattle.board.specs.Ports.{PortState, IsPort, end_of_outbox, end_of_inbox};
+
+    ghost Value = { PortState };
+
+    ghost view = { λ p. record { setup = setup_of (arc_value p.config); hart = p.hart; tickets = p.tickets; tlb = p.tlb; outboxes = p.outboxes.items; inboxes = p.inboxes.items } };
+
+    ghost invariant = { λ p. MeetsLimits max_live_frames (arc_value p.config) × (p.tickets.hart ≡ p.hart)
+        × IsPort (record { setup = setup_of (arc_value p.config); hart = p.hart; outs = map (option_map end_of_outbox) p.outboxes.items; ins = map (option_map end_of_inbox) p.inboxes.items }) };
+}
+
+/// Posts to an end, if it is there.
+fn post_to(outbox: &mut Option<Outbox>, request: Request) -> Result<(), Refusal>
+    ensures refused { (refusal : Refusal) → outbox_refusal outbox.old ≡ Some refusal → result ≡ Err refusal }
+    ensures full { outbox_refusal outbox.old ≡ None → IfErr result (λ refusal. (refusal ≡ Refusal.Full) × (known_room outbox.old ≡ 0)) }
+    ensures accepted { OnOk result (outbox.new ≡ outbox_with request (known_room outbox.new) outbox.old) }
+    ensures unchanged { OnErr result (outbox.new ≡ outbox.old) }
+    ensures same { option_map end_of_outbox outbox.new ≡ option_map end_of_outbox outbox.old }
+{
+    let Some(outbox) = outbox else {
+        return Err(Refusal::NoHart);
+    };
+    match outbox.post(request) {
+        Ok(()) => Ok(()),
+        Err((PostFault::Closed, _)) => Err(Refusal::Closed),
+        Err((PostFault::Full, _)) => Err(Refusal::Full),
+    }
+}
+
+/// Takes from an end, if it is there.
+fn take_from(inbox: &mut Option<Receiver>) -> Option<Request>
+    ensures taken { IfSome result (λ request. inbox.new ≡ inbox_with request (known_waiting inbox.new) inbox.old) }
+    ensures oldest { IfSome result (λ request. IsPrefix (known_waiting inbox.old) (request ∷ known_waiting inbox.new)) }
+    ensures none { IfNone result ((known_waiting inbox.old ≡ []) × (inbox.new ≡ inbox.old)) }
+    ensures same { option_map end_of_inbox inbox.new ≡ option_map end_of_inbox inbox.old }
+{
+    let Some(receiver) = inbox else {
+        return None;
+    };
+    receiver.take()
+}
+
+/// Closes an end, if it is there.
+fn close_end(outbox: &mut Option<Outbox>)
+    ensures closed { outbox.new ≡ option_map after_close outbox.old }
+    ensures same { option_map end_of_outbox outbox.new ≡ option_map end_of_outbox outbox.old }
+{
+    if let Some(outbox) = outbox {
+        outbox.close();
+    }
+}
+
+/// Whether an end is there and closed.
+fn is_closed(outbox: &Option<Outbox>) -> bool
+    ensures { result ≡ is_closed_to outbox.now }
+{
+    match outbox {
+        Some(outbox) => outbox.is_closed(),
+        None => false,
+    }
+}
+
+/// Posts to one of the ends.
+#[tactic(auto, using(crate::proofs::Counts::outboxes_kept, crate::proofs::Counts::there_set, crate::proofs::Counts::put_back))]
+fn post_at(outboxes: &mut Vec<Option<Outbox>>, to: u8, request: Request) -> Result<(), Refusal>
+    requires { to < length outboxes.old.items }
+    ensures refused { (refusal : Refusal) → outbox_refusal (element outboxes.old.items to) ≡ Some refusal → result ≡ Err refusal }
+    ensures full { outbox_refusal (element outboxes.old.items to) ≡ None → IfErr result (λ refusal. (refusal ≡ Refusal.Full) × (known_room (element outboxes.old.items to) ≡ 0)) }
+    ensures accepted { OnOk result (outboxes.new.items ≡ slice_set outboxes.old.items to (outbox_with request (known_room (element outboxes.new.items to)) (element outboxes.old.items to))) }
+    ensures unchanged { OnErr result (outboxes.new.items ≡ outboxes.old.items) }
+    ensures same { map (option_map end_of_outbox) outboxes.new.items ≡ map (option_map end_of_outbox) outboxes.old.items }
+{
+    let outbox = &mut outboxes[usize::from(to)];
+    post_to(outbox, request)
+}
+
+/// Takes from one of the ends.
+#[tactic(auto, using(crate::proofs::Counts::inboxes_kept, crate::proofs::Counts::there_set, crate::proofs::Counts::put_back))]
+fn take_at(inboxes: &mut Vec<Option<Receiver>>, from: u8) -> Option<Request>
+    requires { from < length inboxes.old.items }
+    ensures taken { IfSome result (λ request. inboxes.new.items ≡ slice_set inboxes.old.items from (inbox_with request (known_waiting (element inboxes.new.items from)) (element inboxes.old.items from))) }
+    ensures oldest { IfSome result (λ request. IsPrefix (known_waiting (element inboxes.old.items from)) (request ∷ known_waiting (element inboxes.new.items from))) }
+    ensures none { IfNone result (known_waiting (element inboxes.old.items from) ≡ []) }
+    ensures unchanged { IfNone result (inboxes.new.items ≡ inboxes.old.items) }
+    ensures same { map (option_map end_of_inbox) inboxes.new.items ≡ map (option_map end_of_inbox) inboxes.old.items }
+{
+    let inbox = &mut inboxes[usize::from(from)];
+    take_from(inbox)
+}
+
+/// Closes one of the ends.
+#[tactic(auto, using(crate::proofs::Counts::outboxes_kept, crate::proofs::Counts::there_set, crate::proofs::Counts::put_back))]
+fn close_at(outboxes: &mut Vec<Option<Outbox>>, to: u8)
+    requires { to < length outboxes.old.items }
+    ensures closed { outboxes.new.items ≡ slice_set outboxes.old.items to (option_map after_close (element outboxes.old.items to)) }
+    ensures same { map (option_map end_of_outbox) outboxes.new.items ≡ map (option_map end_of_outbox) outboxes.old.items }
+{
+    let outbox = &mut outboxes[usize::from(to)];
+    close_end(outbox);
+}
+
+/// Whether one of the ends is closed.
+#[tactic(auto, using(crate::proofs::Counts::at_index))]
+fn is_closed_at(outboxes: &Vec<Option<Outbox>>, to: u8) -> bool
+    requires { to < length outboxes.now.items }
+    ensures { result ≡ is_closed_to (element outboxes.now.items to) }
+{
+    is_closed(&outboxes[usize::from(to)])
+}
+
+/// The hart acknowledges an open ticket of its own, if that names it, and is told how far the ticket is then.
+fn acknowledge_own(tickets: &mut Tickets, ticket: u32, hart: u8) -> Collected
+    requires { IsTrue (is_open tickets.old ticket) }
+    ensures answer { result ≡ progress_at tickets.new ticket }
+    ensures after { tickets.new ≡ acked_by tickets.old ticket hart }
+    ensures hart { tickets.new.hart ≡ tickets.old.hart }
+{
+    if tickets.names(ticket, hart) {
+        tickets.acked(ticket, hart);
+    }
+    tickets.progress(ticket)
+}
+
+impl HartPort {
+    ghost use Rattle.history.specs.Due.{are_harts, are_pair, is_scope};
+    ghost use Rattle.history.specs.Orders.{scope_request};
+    ghost use Rattle.shoot.specs.Tickets.{names};
+    ghost use Rattle.std.specs.Arc.{arc_value};
+    ghost use Rattle.spaces.specs.Limits.{max_live_frames, MeetsLimits};
+    ghost use Rattle.history.specs.Setup.{setup_of};
+    ghost use Rattle.board.specs.Rows.{IsInRow, IsOutRow};
+    ghost use Rattle.board.specs.Ports.{inbox_from, IsPort, name_of, new_port, outbox_to};
+    ghost use Rattle.board.specs.Answers.{ack_self_answer, after_ack_self, after_close_to, after_finish_of, after_flush, after_post, after_serve, close_answer, finish_answer, flush_answer, flush_refusal, post_refusal, request_of, ticket_refusal};
+
+    /// A port of a hart that has done nothing yet.
+    pub(crate) fn new(
+        config: Arc<Config, Global>,
+        hart: u8,
+        outboxes: Vec<Option<Outbox>>,
+        inboxes: Vec<Option<Receiver>>,
+    ) -> HartPort
+        requires limits { MeetsLimits max_live_frames (arc_value config) }
+        requires hart { hart < (arc_value config).harts }
+        requires outboxes { IsOutRow (arc_value config).capacity hart (arc_value config).harts outboxes.items }
+        requires inboxes { IsInRow (arc_value config).capacity hart (arc_value config).harts inboxes.items }
+        ensures setup { result.setup ≡ setup_of (arc_value config) }
+        ensures hart { result.hart ≡ hart }
+        ensures ends { (result.outboxes ≡ outboxes.items) × (result.inboxes ≡ inboxes.items) }
+        ensures port { IsPort (name_of result) }
+        ensures new { result ≡ new_port (name_of result) }
+    {
+        let scheme = config.scheme;
+        HartPort {
+            config,
+            hart,
+            tickets: Tickets::new(hart),
+            tlb: Tlb::new_in(scheme),
+            outboxes,
+            inboxes,
+        }
+    }
+
+    /// The ends by which the hart posts and takes.
+    pub(crate) fn into_ends(self) -> (Vec<Option<Outbox>>, Vec<Option<Receiver>>)
+        ensures { (result.0.items ≡ self.outboxes) × (result.1.items ≡ self.inboxes) }
+    {
+        let HartPort {
+            outboxes,
+            inboxes,
+            ..
+        } = self;
+        (outboxes, inboxes)
+    }
+
+    /// How many harts there are.
+    fn harts(&self) -> u16
+        ensures harts { result ≡ self.now.setup.harts }
+        ensures own { self.now.hart < result }
+        ensures outboxes { length self.now.outboxes ≡ result }
+        ensures inboxes { length self.now.inboxes ≡ result }
+    {
+        let _ = &self.outboxes;
+        self.config.harts
+    }
+
+    /// Whether it is a hart that is there, and another one.
+    fn is_other(&self, hart: u8) -> bool
+        ensures pair { result ≡ are_pair self.now.setup self.now.hart hart }
+        ensures outbox { IsTrue result → hart < length self.now.outboxes }
+        ensures inbox { IsTrue result → hart < length self.now.inboxes }
+    {
+        u16::from(hart) < self.harts() && hart != self.hart
+    }
+
+    /// What a flush of a scope asks harts to drop.
+    fn what(&self, scope: Scope) -> Option<What>
+        ensures some { IfSome result (λ what. IsTrue (is_scope self.now.setup scope) × (what ≡ scope_request self.now.setup scope)) }
+        ensures none { IfNone result (is_scope self.now.setup scope ≡ false) }
+    {
+        match scope {
+            Scope::All => Some(What::All),
+            Scope::Space(number) => {
+                let space = self.config.spaces.get(usize::from(number))?;
+                Some(What::SpaceOf(space.asid))
+            }
+        }
+    }
+
+    /// Whether each member of the set is a hart that is there: bit h stands for hart h.
+    fn are_harts(&self, named: u8) -> bool
+        ensures { result ≡ are_harts self.now.setup named }
+    {
+        u16::from(named) < 1 << self.config.harts
+    }
+
+    /// Opens a ticket for a space or for everything. Bit h of `named` stands for hart h.
+    pub fn flush(&mut self, scope: Scope, named: u8) -> Result<u32, Refusal>
+        ensures answer { result ≡ flush_answer self.old scope named }
+        ensures after { self.new ≡ after_flush self.old scope named }
+        ensures same { name_of self.new ≡ name_of self.old }
+    {
+        if !self.are_harts(named) {
+            return Err(Refusal::NoHart);
+        }
+        let Some(what) = self.what(scope) else {
+            return Err(Refusal::NoSpace);
+        };
+        match self.tickets.open(what, named) {
+            Ok(ticket) => Ok(ticket),
+            Err(TicketFault::HomeNotNamed) => Err(Refusal::HomeNotNamed),
+            Err(TicketFault::NoTicket) => Err(Refusal::NoTicket),
+        }
+    }
+
+    /// Frees the number of a ticket whose named harts are all collected.
+    pub fn finish(&mut self, ticket: u32) -> Result<(), Refusal>
+        ensures answer { result ≡ finish_answer self.old ticket }
+        ensures after { self.new ≡ after_finish_of self.old ticket }
+        ensures same { name_of self.new ≡ name_of self.old }
+    {
+        if !self.tickets.is_open(ticket) {
+            return Err(Refusal::NotOpen);
+        }
+        match self.tickets.finish(ticket) {
+            Ok(()) => Ok(()),
+            Err(NotDone) => Err(Refusal::NotDone),
+        }
+    }
+
+    /// Serves an own ticket's request on the own TLB, and counts as collected. How far the ticket is then.
+    pub fn ack_self(&mut self, ticket: u32) -> Result<Collected, Refusal>
+        ensures answer { result ≡ ack_self_answer self.old ticket }
+        ensures after { self.new ≡ after_ack_self self.old ticket }
+        ensures same { name_of self.new ≡ name_of self.old }
+    {
+        if !self.tickets.is_open(ticket) {
+            return Err(Refusal::NotOpen);
+        }
+        let what = self.tickets.what(ticket);
+        self.tlb.serve(&what);
+        Ok(acknowledge_own(&mut self.tickets, ticket, self.hart))
+    }
+
+    /// The request of an open ticket for another hart, to whom it was not posted yet.
+    fn request_to(&self, ticket: u32, to: u8) -> Result<Request, Refusal>
+        ensures refused { IfErr result (λ refusal. ticket_refusal self.now ticket to ≡ Some refusal) }
+        ensures request { ticket_refusal self.now ticket to ≡ None → result ≡ Ok (request_of self.now.tickets ticket) }
+        ensures allowed { OnOk result (ticket_refusal self.now ticket to ≡ None) }
+        ensures names { OnOk result (IsTrue (names self.now.tickets ticket to)) }
+        ensures there { OnOk result (to < length self.now.outboxes) }
+    {
+        if !self.is_other(to) {
+            return Err(Refusal::NoHart);
+        }
+        if !self.tickets.is_open(ticket) {
+            return Err(Refusal::NotOpen);
+        }
+        if !self.tickets.names(ticket, to) {
+            return Err(Refusal::NotNamed);
+        }
+        if self.tickets.is_posted(ticket, to) {
+            return Err(Refusal::AlreadyPosted);
+        }
+        Ok(Request {
+            ticket,
+            what: self.tickets.what(ticket),
+        })
+    }
+
+    /// Posts the request of an open ticket to another hart that it names. `Full` also where the ring between the harts has no
+    /// place that this end knows to be free.
+    #[tactic(auto, using(crate::proofs::Counts::outboxes_kept))]
+    pub fn post(&mut self, ticket: u32, to: u8) -> Result<(), Refusal>
+        ensures refused { (refusal : Refusal) → post_refusal self.old ticket to ≡ Some refusal → result ≡ Err refusal }
+        ensures full { post_refusal self.old ticket to ≡ None → IfErr result (λ refusal. (refusal ≡ Refusal.Full) × (known_room (outbox_to self.old to) ≡ 0)) }
+        ensures accepted { OnOk result (self.new ≡ after_post self.old ticket to (known_room (outbox_to self.new to))) }
+        ensures unchanged { OnErr result (self.new ≡ self.old) }
+        ensures same { name_of self.new ≡ name_of self.old }
+    {
+        let request = self.request_to(ticket, to)?;
+        post_at(&mut self.outboxes, to, request)?;
+        self.tickets.posted(ticket, to);
+        Ok(())
+    }
+
+    /// Takes the oldest request of another hart that came through, and drops what it names from the own TLB. `Empty` only where
+    /// this end knew of no request that waits.
+    #[tactic(auto, using(crate::proofs::Counts::inboxes_kept))]
+    pub fn serve(&mut self, from: u8) -> Result<Request, Refusal>
+        ensures no_hart { are_pair self.old.setup self.old.hart from ≡ false → result ≡ Err Refusal.NoHart }
+        ensures empty { are_pair self.old.setup self.old.hart from ≡ true → IfErr result (λ refusal. (refusal ≡ Refusal.Empty) × (known_waiting (inbox_from self.old from) ≡ [])) }
+        ensures taken { IfOk result (λ request. self.new ≡ after_serve self.old from request (known_waiting (inbox_from self.new from))) }
+        ensures oldest { IfOk result (λ request. IsPrefix (known_waiting (inbox_from self.old from)) (request ∷ known_waiting (inbox_from self.new from))) }
+        ensures unchanged { OnErr result (self.new ≡ self.old) }
+        ensures same { name_of self.new ≡ name_of self.old }
+    {
+        if !self.is_other(from) {
+            return Err(Refusal::NoHart);
+        }
+        let Some(request) = take_at(&mut self.inboxes, from) else {
+            return Err(Refusal::Empty);
+        };
+        self.tlb.serve(&request.what);
+        Ok(request)
+    }
+
+    /// Closes the mailbox to another hart: later posts are refused, and what waits stays.
+    #[tactic(auto, using(crate::proofs::Counts::outboxes_kept))]
+    pub fn close_to(&mut self, to: u8) -> Result<(), Refusal>
+        ensures answer { result ≡ close_answer self.old to }
+        ensures after { self.new ≡ after_close_to self.old to }
+        ensures same { name_of self.new ≡ name_of self.old }
+    {
+        if !self.is_other(to) {
+            return Err(Refusal::NoHart);
+        }
+        if is_closed_at(&self.outboxes, to) {
+            return Err(Refusal::Closed);
+        }
+        close_at(&mut self.outboxes, to);
+        Ok(())
+    }
+}
