@@ -6,6 +6,7 @@ use Rattle.history.specs.Setup.{Setup}
 use Rattle.history.specs.Turns.{History}
 use Rattle.history.specs.Runs.{with_turn}
 use Rattle.history.specs.Due.{Lawful, due}
+use Rattle.laws.specs.Kept.{HavePages}
 
 -- what is kept, on top of a history; and as a history of its own
 abbrev pub kept_on : List (Event × Reply) → History → History
@@ -15,6 +16,6 @@ kept_on (turn ∷ turns) H = kept_on turns (with_turn turn.0 turn.1 H)
 abbrev pub history_of : List (Event × Reply) → History
 history_of turns = kept_on turns []
 
--- the reply is due to the event after some lawful history
+-- the reply is due to the event after some lawful history, whose events speak of pages
 abbrev pub IsDueAfterSome : Setup → Event → Reply → Type 0
-IsDueAfterSome C event reply = (H : History) × Lawful C H × (reply ≡ due C H event)
+IsDueAfterSome C event reply = (H : History) × Lawful C H × HavePages H × (reply ≡ due C H event)

@@ -4,6 +4,7 @@ ghost use Rattle.std.specs.Prelude.{◌≡◌, ◌++◌, ◌∷◌, [], Err, IfO
 ghost use Rattle.spaces.specs.Limits.{max_frames, MeetsLimits};
 ghost use Rattle.history.specs.Setup.{setup_of};
 ghost use Rattle.history.specs.Due.{Lawful, due};
+ghost use Rattle.laws.specs.Kept.{HavePages};
 ghost use Rattle.stepcore.specs.Stands.{Stands};
 ghost use Rattle.harts.specs.Books.{history_of};
 
@@ -50,6 +51,7 @@ impl<C: Named> Book<C> {
     pub fn open(alloc: Global, config: &Config) -> Result<Book<C>, OpenFault>
         requires { C.config ≡ config.now }
         ensures bad_layout { (result ≡ Err OpenFault.BadLayout) ↔ (¬ MeetsLimits max_frames config.now) }
+        ensures limits { OnOk result (MeetsLimits max_frames config.now) }
         ensures empty { IfOk result (λ book. book ≡ []) }
     {
         let machine = Machine::open(alloc, config)?;
@@ -63,6 +65,7 @@ impl<C: Named> Book<C> {
     /// Steps the machine, and appends the event with its reply, which is the due one. At `AllocError` nothing changed.
     pub fn note(&mut self, event: Event) -> Result<Reply, AllocError>
         ensures lawful { Lawful (setup_of C.config) (history_of self.old) }
+        ensures pages { HavePages (history_of self.old) }
         ensures due { IfOk result (λ reply. reply ≡ due (setup_of C.config) (history_of self.old) event) }
         ensures appended { IfOk result (λ reply. self.new ≡ self.old ++ (event, reply) ∷ []) }
         ensures unchanged { OnErr result (self.new ≡ self.old) }

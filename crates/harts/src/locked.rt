@@ -68,6 +68,7 @@ impl<C: Named> Locked<C> {
         requires name { blank.name ≡ C.name }
         requires parts { (blank.parts ≡ C.parts) × (C.parts ≡ config.now.harts) }
         ensures bad_layout { (result ≡ Err OpenFault.BadLayout) ↔ (¬ MeetsLimits max_frames config.now) }
+        ensures limits { OnOk result (MeetsLimits max_frames config.now) }
         ensures each { IfOk result (λ r. vec_len r.1 ≡ C.parts) }
         ensures none { IfOk result (λ r. sum_by (λ tally. tally.share.amount) r.1.items ≡ 0) }
     {

@@ -1,6 +1,6 @@
 //! Opening a machine.
 
-ghost use Rattle.std.specs.Prelude.{◌≡◌, ◌↔◌, ◌<◌, ◌≤◌, ◌^◌, [], Err, IfOk, All, length, map, replicate};
+ghost use Rattle.std.specs.Prelude.{◌≡◌, ◌↔◌, ◌<◌, ◌≤◌, ◌^◌, [], Err, IfOk, OnOk, All, length, map, replicate};
 ghost use Rattle.std.specs.List.{range_with_len};
 ghost use Rattle.shoot.specs.Mailbox.{empty_mailbox};
 ghost use Rattle.shoot.specs.Tickets.{no_tickets};
@@ -90,6 +90,7 @@ impl Machine {
     /// `NoMemory` if the room cannot be allocated.
     pub fn open(alloc: Global, config: &Config) -> Result<Machine, OpenFault>
         ensures bad_layout { (result ≡ Err fault.BadLayout) ↔ (¬ MeetsLimits max_frames config.now) }
+        ensures limits { OnOk result (MeetsLimits max_frames config.now) }
         ensures ok { IfOk result (λ machine. Stands (setup_of config.now) machine []) }
     {
         let memory = Memory::open(alloc, config)?;
