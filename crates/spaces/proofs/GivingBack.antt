@@ -169,19 +169,14 @@ own-lists ws ws' hs hs' root root' s n o e f g is =
     ∙ ap (λ l. cond (is_own_at l root s n) (zero_word (slice_get ws' n)) (slice_get ws' n)) f
     ∙ ap (λ k. cond (is_own_at hs' k s n) (zero_word (slice_get ws' n)) (slice_get ws' n)) g
 
--- the lists that the loops leave, written back
-pub left-lists : {Z Y : Type 0} (v : Vec ℕ Z) (u : Vec (Option Place) Y) (ws ws' : List ℕ) (gs gs' hs : List (Option Place)) (root root' s : ℕ)
-    → ws ≡ v.items → hs ≡ u.items → gs ≡ u.items → root ≡ root' → length ws' ≡ v.len → length gs' ≡ u.len → length ws' ≡ length ws → length gs' ≡ length gs
+-- the list that the loop leaves, written back
+pub left-list : {Z : Type 0} (v : Vec ℕ Z) (ws ws' : List ℕ) (hs hs' : List (Option Place)) (root root' s : ℕ)
+    → ws ≡ v.items → hs ≡ hs' → root ≡ root' → length ws' ≡ v.len → length ws' ≡ length ws
     → ((n : ℕ) → slice_get ws' n ≡ cond (is_own_at hs root s n) (zero_word (slice_get ws n)) (slice_get ws n))
-    → ((n : ℕ) → held_at (slice_get gs' n) ≡ given_back (held_at (slice_get gs n)) s)
-    → (length (with_items v ws').items ≡ length v.items) × (length (with_items u gs').items ≡ length u.items)
-    × ((n : ℕ) → slice_get (with_items v ws').items n ≡ cond (is_own_at u.items root' s n) (zero_word (slice_get v.items n)) (slice_get v.items n))
-    × ((n : ℕ) → held_at (slice_get (with_items u gs').items n) ≡ given_back (held_at (slice_get u.items n)) s)
-left-lists v u ws ws' gs gs' hs root root' s e f g r lv lu lw lg words holders =
-    let a = with_items_is v ws' lv in
-    let b = with_items_is u gs' lu in (
+    → (length (with_items v ws').items ≡ length v.items)
+    × ((n : ℕ) → slice_get (with_items v ws').items n ≡ cond (is_own_at hs' root' s n) (zero_word (slice_get v.items n)) (slice_get v.items n))
+left-list v ws ws' hs hs' root root' s e f r lv lw words =
+    let a = with_items_is v ws' lv in (
       ap (λ l. length l) a ∙ lw ∙ ap (λ l. length l) e,
-      ap (λ l. length l) b ∙ lg ∙ ap (λ l. length l) g,
-      (λ n. own-lists ws v.items hs u.items root root' s n _ e f r (ap (λ l. slice_get l n) a ∙ words n)),
-      (λ n. ap (λ l. held_at (slice_get l n)) b ∙ holders n ∙ ap (λ l. given_back (held_at (slice_get l n)) s) g),
+      (λ n. own-lists ws v.items hs hs' root root' s n _ e f r (ap (λ l. slice_get l n) a ∙ words n)),
     )

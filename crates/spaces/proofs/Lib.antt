@@ -23,3 +23,5 @@ pub mod Dues
 pub mod Spares
 pub mod Unused
 pub mod Given
+pub mod Marks
+pub mod MarkedFrames

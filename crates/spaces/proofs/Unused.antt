@@ -19,7 +19,7 @@ busy-by o e none = true≢false (sym (ap is_none none) ∙ e)
 
 module _ (holders : Holders) where
   -- of so many frames from a PPN on, this one is the first that is unused
-  record FirstFrom (count from ppn : ℕ) : Type 0 where
+  pub record FirstFrom (count from ppn : ℕ) : Type 0 where
     pub low : from ≤ ppn
     pub high : ppn < from + count
     pub unused : holders ppn ≡ None
@@ -48,7 +48,7 @@ module _ (holders : Holders) where
       here : is_none (holders from) ≡ true → from ≡ ppn
       here free = let both : Some from ≡ Some ppn = ap (λ b. cond b (Some from) (first_unused holders n (from + 1))) (sym free) ∙ e in cc
 
-  is-found : (count from ppn : ℕ) → FirstFrom count from ppn → first_unused holders count from ≡ Some ppn
+  pub is-found : (count from ppn : ℕ) → FirstFrom count from ppn → first_unused holders count from ≡ Some ppn
   is-found zero from ppn is = absurd (let l = is.low in let h = is.high in omega arith)
   is-found (suc n) from ppn is = elim (cases_eq from ppn) [
     | inl same ↦ ap (λ b. cond b (Some from) (first_unused holders n (from + 1))) (ap is_none (ap holders same ∙ is.unused)) ∙ ap Some same
@@ -72,7 +72,7 @@ module _ (holders : Holders) where
     ]
   ]
 
-  is-none-found : (count from : ℕ) → ((m : ℕ) → from ≤ m → m < from + count → holders m ≢ None) → first_unused holders count from ≡ None
+  pub is-none-found : (count from : ℕ) → ((m : ℕ) → from ≤ m → m < from + count → holders m ≢ None) → first_unused holders count from ≡ None
   is-none-found zero from all = refl
   is-none-found (suc n) from all =
       ap (λ b. cond b (Some from) (first_unused holders n (from + 1))) (some-by (holders from) (all from (omega arith) (omega arith)))

@@ -8,3 +8,4 @@ pub mod Tree
 pub mod Applied
 pub mod Accepted
 pub mod Effects
+pub mod UnusedFrames

@@ -8,12 +8,13 @@ ghost use Rattle.spaces.specs.Limits.{max_frames, max_harts, max_spaces, MeetsLi
 ghost use Rattle.spaces.specs.Opening.{first_word, first_words, is_word, opening};
 ghost use Rattle.walk.specs.Pointers.{pointed};
 ghost use Rattle.spaces.specs.Edits.{is_wrong_half, path_root};
-ghost use Rattle.spaces.specs.Held.{held_at, holders_of, IsMemory, is_own_at, spare_of, word_index, words_of};
-ghost use Rattle.spaces.specs.Holders.{first_unused, given_back, is_held_for, zero_word};
+ghost use Rattle.spaces.specs.Held.{holders_of, IsMemory, is_own_at, spare_of, word_index, words_of};
+ghost use Rattle.spaces.specs.Holders.{given_back, is_held_for, zero_word};
 ghost use Rattle.spaces.specs.declared.places.Place.TheVariants as place;
 
 use crate::configuration::{Config, MAX_HARTS, MAX_SPACES, Space, total};
 use crate::faults::OpenFault;
+use crate::frame_use::{FrameUse, is_held_for};
 use crate::places::Place;
 use arrayvec::ArrayVec;
 use pte::{Kind, Page, Pte, Scheme, TABLE_LENGTH};
@@ -32,7 +33,7 @@ pub struct Memory {
     base: u64,
     homes: ArrayVec<u8, MAX_SPACES>,
     spares: ArrayVec<u16, MAX_HARTS>,
-    holders: Vec<Option<Place>>,
+    frames: FrameUse,
     words: Vec<u64>,
 }
 
@@ -44,13 +45,13 @@ impl Model for Memory {
     ghost view = { λ m. record {
       layout = record { scheme = m.scheme; window = m.window; base = m.base; homes = m.homes.items; spares = m.spares.items };
       words = m.words.items;
-      holders = m.holders.items;
+      holders = m.frames;
     } };
 
     ghost invariant = { λ m. IsMemory (record {
       layout = record { scheme = m.scheme; window = m.window; base = m.base; homes = m.homes.items; spares = m.spares.items };
       words = m.words.items;
-      holders = m.holders.items;
+      holders = m.frames;
     }) };
 }
 
@@ -76,18 +77,6 @@ fn copy_of(spares: &[u16]) -> ArrayVec<u16, MAX_HARTS>
         copy.push(*spare);
     }
     copy
-}
-
-/// For which place each frame is in use, where none is.
-fn unused(alloc: Global, count: u64) -> Result<Vec<Option<Place>>, AllocError>
-    requires { count ≤ max_frames }
-    ensures { IfOk result (λ holders. holders.items ≡ replicate count None) }
-{
-    let mut holders = Vec::with_capacity(alloc, count as usize)?;
-    for _ in 0..count {
-        holders.push(None)?;
-    }
-    Ok(holders)
 }
 
 /// The words of all frames at the opening, frame by frame.
@@ -137,14 +126,14 @@ impl Memory {
             return Err(OpenFault::BadLayout);
         }
         let words = first_words(alloc, config)?;
-        let holders = unused(alloc, config.frame_count())?;
+        let frames = FrameUse::new(alloc, config.frame_count())?;
         Ok(Memory {
             scheme: config.scheme,
             window: config.window,
             base: config.base,
             homes: homes_of(&config.spaces),
             spares: copy_of(&config.spares),
-            holders,
+            frames,
             words,
         })
     }
@@ -233,33 +222,6 @@ impl Memory {
         }
     }
 
-    /// The place that a frame is in use for as a spare one.
-    fn holder(&self, ppn: u64) -> Option<Place>
-        ensures { result ≡ holders_of self.now ppn }
-    {
-        let is_frame = self.base <= ppn && ppn < self.base + self.frame_count();
-        if is_frame {
-            *self.holders.get((ppn - self.base) as usize)?
-        } else {
-            None
-        }
-    }
-
-    /// The first unused one of so many frames.
-    fn first_unused(&self, first: u64, count: u16) -> Option<u64>
-        requires { first + count ≤ 2 ^ ppn_bits }
-        ensures value { result ≡ first_unused (holders_of self.now) count first }
-        ensures range { IfSome result (λ frame. frame < 2 ^ ppn_bits) }
-    {
-        for n in 0..count {
-            let frame = first + u64::from(n);
-            if self.holder(frame).is_none() {
-                return Some(frame);
-            }
-        }
-        None
-    }
-
     /// The lowest unused spare frame of a hart.
     #[tactic(auto, using(crate::proofs::Homes::sums))]
     pub(crate) fn spare(&self, hart: u8) -> Option<u64>
@@ -267,9 +229,12 @@ impl Memory {
         ensures range { IfSome result (λ frame. frame < 2 ^ ppn_bits) }
     {
         let hart = usize::from(hart);
-        let count = *self.spares.get(hart)?;
-        let before = u64::from(self.window) + self.homes.len() as u64 + total(&self.spares[..hart]);
-        self.first_unused(self.base + before, count)
+        let count = usize::from(*self.spares.get(hart)?);
+        let first = usize::from(self.window)
+            + self.homes.len()
+            + total(&self.spares[..hart]) as usize;
+        let frame = self.frames.lowest(first, first + count)?;
+        Some(self.base + frame as u64)
     }
 }
 
@@ -298,19 +263,8 @@ impl Memory {
         let at = (ppn - self.base) * u64::from(TABLE_LENGTH) + u64::from(index);
         self.words[at as usize] = word;
         if let Some(table) = target(word) {
-            self.holders[(table - self.base) as usize] = Some(place);
+            self.frames.take((table - self.base) as usize, place);
         }
-    }
-}
-
-/// Whether a frame is in use for a space.
-fn is_held_for(holder: Option<Place>, space: u8) -> bool
-    ensures { result ≡ is_held_for holder (place.Space space) }
-{
-    match holder {
-        Some(Place::Space(other)) => other == space,
-        Some(Place::Kernel) => false,
-        None => false,
     }
 }
 
@@ -336,18 +290,6 @@ fn empty_words(words: &mut [u64], holders: &[Option<Place>], root: usize, space:
     }
 }
 
-/// Leaves the frames unused that are in use for a space.
-fn free_frames(holders: &mut [Option<Place>], space: u8)
-    ensures length { length holders.new ≡ length holders.old }
-    ensures holders { (n : ℕ) → held_at (slice_get holders.new n) ≡ given_back (held_at (slice_get holders.old n)) space }
-{
-    for at in 0..holders.len() {
-        if is_held_for(holders[at], space) {
-            holders[at] = None;
-        }
-    }
-}
-
 impl Memory {
     ghost use Rattle.spaces.specs.Effects.{EmptiesSpace};
     ghost use Rattle.spaces.specs.Holders.{emptied};
@@ -361,8 +303,8 @@ impl Memory {
         ensures empties { EmptiesSpace self.old.layout space (words_of self.old) (words_of self.new) }
     {
         let root = usize::from(self.window) + usize::from(space);
-        empty_words(&mut self.words, &self.holders, root, space);
-        free_frames(&mut self.holders, space);
+        empty_words(&mut self.words, self.frames.holders(), root, space);
+        self.frames.give_back(space);
     }
 }
 

@@ -4,9 +4,11 @@
 mod configuration;
 mod edits;
 mod faults;
+mod frame_use;
 mod frames;
 mod laws;
 mod places;
+mod unused_frames;
 mod wishes;
 
 pub use configuration::{

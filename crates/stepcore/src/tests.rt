@@ -419,7 +419,7 @@ fn map_last(rt: &impl Abort) -> Event {
 fn translated_of_largest(rt: &impl Abort, machine: &Machine) -> usize {
     let mut count = 0_usize;
     for k in 0..512_u64 {
-        if translates(rt, machine, 0x80_0000_0000 + k * 0x4000_0000) && count < 512 {
+        if translates(rt, machine, 1, 0x80_0000_0000 + k * 0x4000_0000) && count < 512 {
             count += 1;
         }
     }
@@ -448,7 +448,7 @@ fn largest_page_is_shot_down(rt: HostRuntime) {
         &[(serve_fence(), Reply::Ok), (ack(), Reply::Ok)],
     );
     assert!(rt; translated_of_largest(&rt, &machine) == 0);
-    assert!(rt; !translates(&rt, &machine, 0xFF_FFFF_FFFF));
+    assert!(rt; !translates(&rt, &machine, 1, 0xFF_FFFF_FFFF));
     let after = [
         (map_last(&rt), Reply::Table(0x8_0002)),
         (map_last(&rt), Reply::Table(0x8_0003)),

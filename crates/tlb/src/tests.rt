@@ -387,81 +387,95 @@ fn schemes_of_new_tlbs(rt: HostRuntime) {
 }
 
 /// The 512 GiB at 0x8000000000, which a leaf of PPN 0x10000000 maps, and the 4 KiB before them.
-#[test]
-fn an_entry_of_512_gib(rt: HostRuntime) {
-    let whole = page(&rt, PageSize::Gib512, 0x80_0000_0000);
-    let before = page(&rt, PageSize::Kib4, 0x7F_FFFF_F000);
-    let widest = Entry {
+/// The page of 512 GiB at 0x80_0000_0000.
+fn widest_page(rt: &impl Abort) -> Page {
+    page(rt, PageSize::Gib512, 0x80_0000_0000)
+}
+
+/// The page of 4 KiB right before it.
+fn page_before(rt: &impl Abort) -> Page {
+    page(rt, PageSize::Kib4, 0x7F_FFFF_F000)
+}
+
+fn entry_of(page: Page, ppn: u64) -> Entry {
+    Entry {
         asid: 1,
         global: false,
-        page: whole,
-        ppn: 0x1000_0000,
+        page,
+        ppn,
         flags: PteFlags::R | PteFlags::U | PteFlags::A,
-    };
-    let small = Entry {
-        page: before,
-        ppn: 0x40000,
-        ..widest
-    };
-    let probes = [
+    }
+}
+
+fn widest_entry(rt: &impl Abort) -> Entry {
+    entry_of(widest_page(rt), 0x1000_0000)
+}
+
+fn entry_before(rt: &impl Abort) -> Entry {
+    entry_of(page_before(rt), 0x40000)
+}
+
+/// The entry of 4 KiB, and then the one of 512 GiB, each with an address that finds it.
+fn neighbours(rt: &impl Abort) -> [Probe; 2] {
+    [
         Probe {
-            entry: small,
+            entry: entry_before(rt),
             asid: 1,
             va: 0x7F_FFFF_F000,
         },
         Probe {
-            entry: widest,
+            entry: widest_entry(rt),
             asid: 1,
             va: 0xFF_FFFF_FFFF,
         },
-    ];
+    ]
+}
+
+/// Which of the two are there.
+fn are_there(rt: &impl Abort, tlb: &Tlb) -> [bool; 2] {
+    let probes = neighbours(rt);
+    [is_there(rt, tlb, &probes[0]), is_there(rt, tlb, &probes[1])]
+}
+
+#[test]
+fn an_entry_of_512_gib_is_looked_up_and_fenced(rt: HostRuntime) {
     let rows = [
-        (0x7F_FFFF_FFFF, Some(small), [false, true]),
-        (0x80_0000_0000, Some(widest), [true, false]),
-        (0x80_8040_3ABC, Some(widest), [true, false]),
-        (0xFF_FFFF_FFFF, Some(widest), [true, false]),
+        (0x7F_FFFF_FFFF, Some(entry_before(&rt)), [false, true]),
+        (0x80_0000_0000, Some(widest_entry(&rt)), [true, false]),
+        (0x80_8040_3ABC, Some(widest_entry(&rt)), [true, false]),
+        (0xFF_FFFF_FFFF, Some(widest_entry(&rt)), [true, false]),
         (0x100_0000_0000, None, [true, true]),
     ];
     for (va, answer, stays) in &rows {
-        let mut tlb = filled_in(Scheme::Sv48, &probes);
+        let mut tlb = filled_in(Scheme::Sv48, &neighbours(&rt));
         assert_eq!(rt; lookup(&rt, &tlb, 1, *va), *answer, "{va:x}");
         tlb.fence(Some(*va), Some(1));
-        for (i, probe) in probes.iter().enumerate() {
-            assert_eq!(rt;
-                is_there(&rt, &tlb, probe),
-                stays[i],
-                "entry {i} after {va:x}"
-            );
-        }
+        assert_eq!(rt; are_there(&rt, &tlb), *stays, "after {va:x}");
     }
+}
+
+#[test]
+fn an_entry_of_512_gib_translates(rt: HostRuntime) {
     let va = address(&rt, 0x80_8040_3ABC);
-    assert_eq!(rt;
-        widest.translate(va, Access::Load, USER),
-        Ok(0x100_8040_3ABC)
-    );
+    let answer = widest_entry(&rt).translate(va, Access::Load, USER);
+    assert_eq!(rt; answer, Ok(0x100_8040_3ABC));
+}
+
+#[test]
+fn an_entry_of_512_gib_is_served(rt: HostRuntime) {
+    let first = page(&rt, PageSize::Gib512, 0);
+    let last = page(&rt, PageSize::Kib4, 0xFF_FFFF_F000);
     let services = [
-        (What::PageOf(before, Some(1)), [false, true]),
-        (What::PageOf(whole, Some(1)), [true, false]),
-        (What::PageOf(whole, Some(2)), [true, true]),
-        (What::PageOf(whole, None), [true, false]),
-        (
-            What::PageOf(page(&rt, PageSize::Kib4, 0xFF_FFFF_F000), Some(1)),
-            [true, false],
-        ),
-        (
-            What::PageOf(page(&rt, PageSize::Gib512, 0), Some(1)),
-            [false, true],
-        ),
+        (What::PageOf(first, Some(1)), [false, true]),
+        (What::PageOf(page_before(&rt), Some(1)), [false, true]),
+        (What::PageOf(widest_page(&rt), Some(1)), [true, false]),
+        (What::PageOf(widest_page(&rt), Some(2)), [true, true]),
+        (What::PageOf(widest_page(&rt), None), [true, false]),
+        (What::PageOf(last, Some(1)), [true, false]),
     ];
     for (what, stays) in &services {
-        let mut tlb = filled_in(Scheme::Sv48, &probes);
+        let mut tlb = filled_in(Scheme::Sv48, &neighbours(&rt));
         tlb.serve(what);
-        for (i, probe) in probes.iter().enumerate() {
-            assert_eq!(rt;
-                is_there(&rt, &tlb, probe),
-                stays[i],
-                "entry {i} after {what:?}"
-            );
-        }
+        assert_eq!(rt; are_there(&rt, &tlb), *stays);
     }
 }

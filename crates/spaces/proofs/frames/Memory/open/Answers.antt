@@ -7,11 +7,11 @@ use Rattle.spaces.proofs.OpenedMemory.{memory-open, holders-open}
 use Rattle.spaces.proofs.frames.Memory.open.Goals as goal
 use Rattle.spaces.proofs.frames.Memory.open.Goals.{After-copy_of}
 
-is_opened : (c : After-copy_of) → made c.args.config.now c.homes_of.result.items c.copy_of.result.items c.in_ok-words.words.items c.in_ok-holders.holders.items ≡ opened c.args.config.now
+is_opened : (c : After-copy_of) → made c.args.config.now c.homes_of.result.items c.copy_of.result.items c.in_ok-words.words.items c.in_ok-frames.frames ≡ opened c.args.config.now
 is_opened c =
-    opened-is c.args.config.now c.homes_of.result.items c.copy_of.result.items c.in_ok-words.words.items c.in_ok-holders.holders.items
+    opened-is c.args.config.now c.homes_of.result.items c.copy_of.result.items c.in_ok-words.words.items c.in_ok-frames.frames
     (c.homes_of.ensures ∙ ap (map (λ s. s.home)) c.deref.ensures.0) (c.copy_of.ensures ∙ c.deref-2.ensures.0) c.in_ok-words.ensures
-    (c.in_ok-holders.ensures ∙ ap (λ n. replicate n None) c.frame_count.ensures)
+    (c.in_ok-frames.ensures ∙ ap (λ n. replicate n None) c.frame_count.ensures)
 
 limits : (c : After-copy_of) → MeetsLimits max_frames c.args.config.now
 limits c = search rules

@@ -1,4 +1,4 @@
-use Rattle.std.proofs.Common.{◌<◌, ◌-◌, sym, ◌∙◌, ap, subst, refl, arith}
+use Rattle.std.proofs.Common.{◌<◌, ◌-◌, sym, ◌∙◌, ap, subst, arith}
 use Rattle.spaces.specs.Held.{IsMemory, holders_of, words_of}
 use Rattle.spaces.proofs.Applying.{facts-of, held-by, at-index, product-bound, sum-bound, held-pointer, held-leaf}
 use Rattle.spaces.proofs.frames.Memory.store.Goals as goal
@@ -31,8 +31,8 @@ index_mut-requires c =
 pub overflow_sub-table : goal.overflow_sub-table
 overflow_sub-table c = ((facts-of _ _ _ c.self.view_is c.self.invariant c.requires).table c.in-Some.table (sym c.target.ensures ∙ c.in-Some.is)).0
 
-pub index_mut-requires-in-Some : goal.index_mut-requires-in-Some
-index_mut-requires-in-Some c =
+pub take-requires : goal.take-requires
+take-requires c =
     let there = (facts-of _ _ _ c.self.view_is c.self.invariant c.requires).table c.in-Some.table (sym c.target.ensures ∙ c.in-Some.is) in
     let below = there.1 in
     omega arith
@@ -41,29 +41,29 @@ pub invariant_of-self : goal.invariant_of-self
 invariant_of-self c =
     let f = facts-of _ _ _ c.self.view_is c.self.invariant c.requires in
     subst IsMemory (sym (held-by _ (record { place = c.args.place; ppn = c.args.ppn; index = c.args.index; word = c.args.word }) _ _ (at-index c.self.inside.base c.args.ppn c.args.index c.from.result c.from-2.result c.from.ensures c.from-2.ensures)
-    (held-pointer c.self.inside.base c.self.inside.holders.items _ c.args.place c.args.word c.in-Some.table c.target.result c.target.ensures c.in-Some.is refl))) f.memory
+    (held-pointer c.self.inside.base c.self.inside.frames _ c.args.place c.args.word c.in-Some.table c.target.result c.target.ensures c.in-Some.is c.take.ensures))) f.memory
 
 pub invariant_of-self-in_default : goal.invariant_of-self-in_default
 invariant_of-self-in_default c =
     let f = facts-of _ _ _ c.self.view_is c.self.invariant c.requires in
     subst IsMemory (sym (held-by _ (record { place = c.args.place; ppn = c.args.ppn; index = c.args.index; word = c.args.word }) _ _ (at-index c.self.inside.base c.args.ppn c.args.index c.from.result c.from-2.result c.from.ensures c.from-2.ensures)
-    (held-leaf c.self.inside.base c.self.inside.holders.items c.args.place c.args.word c.target.result c.target.ensures c.in_default.is))) f.memory
+    (held-leaf c.self.inside.base c.self.inside.frames c.args.place c.args.word c.target.result c.target.ensures c.in_default.is))) f.memory
 
 pub returns-in-Some-clause-words : goal.returns-in-Some-clause-words
 returns-in-Some-clause-words c f i =
     let fact = facts-of _ _ _ c.self.view_is c.self.invariant c.requires in
     ap (λ h. words_of h f i) (held-by _ (record { place = c.args.place; ppn = c.args.ppn; index = c.args.index; word = c.args.word }) _ _ (at-index c.self.inside.base c.args.ppn c.args.index c.from.result c.from-2.result c.from.ensures c.from-2.ensures)
-    (held-pointer c.self.inside.base c.self.inside.holders.items _ c.args.place c.args.word c.in-Some.table c.target.result c.target.ensures c.in-Some.is refl)) ∙ fact.words f i
+    (held-pointer c.self.inside.base c.self.inside.frames _ c.args.place c.args.word c.in-Some.table c.target.result c.target.ensures c.in-Some.is c.take.ensures)) ∙ fact.words f i
 
 pub returns-in-Some-clause-holders : goal.returns-in-Some-clause-holders
 returns-in-Some-clause-holders c f =
     let fact = facts-of _ _ _ c.self.view_is c.self.invariant c.requires in
-    ap (λ h. holders_of h f) (held-by (record { layout = record { scheme = c.self.inside.scheme; window = c.self.inside.window; base = c.self.inside.base; homes = c.self.inside.homes.items; spares = c.self.inside.spares.items }; words = c.self.inside.words.items; holders = c.self.inside.holders.items })
+    ap (λ h. holders_of h f) (held-by (record { layout = record { scheme = c.self.inside.scheme; window = c.self.inside.window; base = c.self.inside.base; homes = c.self.inside.homes.items; spares = c.self.inside.spares.items }; words = c.self.inside.words.items; holders = c.self.inside.frames })
     (record { place = c.args.place; ppn = c.args.ppn; index = c.args.index; word = c.args.word }) _ _ (at-index c.self.inside.base c.args.ppn c.args.index c.from.result c.from-2.result c.from.ensures c.from-2.ensures)
-    (held-pointer c.self.inside.base c.self.inside.holders.items _ c.args.place c.args.word c.in-Some.table c.target.result c.target.ensures c.in-Some.is refl)) ∙ fact.holders f
+    (held-pointer c.self.inside.base c.self.inside.frames _ c.args.place c.args.word c.in-Some.table c.target.result c.target.ensures c.in-Some.is c.take.ensures)) ∙ fact.holders f
 
 pub returns-in_default-clause-words : goal.returns-in_default-clause-words
 returns-in_default-clause-words c f i =
     let fact = facts-of _ _ _ c.self.view_is c.self.invariant c.requires in
     ap (λ h. words_of h f i) (held-by _ (record { place = c.args.place; ppn = c.args.ppn; index = c.args.index; word = c.args.word }) _ _ (at-index c.self.inside.base c.args.ppn c.args.index c.from.result c.from-2.result c.from.ensures c.from-2.ensures)
-    (held-leaf c.self.inside.base c.self.inside.holders.items c.args.place c.args.word c.target.result c.target.ensures c.in_default.is)) ∙ fact.words f i
+    (held-leaf c.self.inside.base c.self.inside.frames c.args.place c.args.word c.target.result c.target.ensures c.in_default.is)) ∙ fact.words f i

@@ -6,8 +6,11 @@ use Rattle.spaces.specs.Holders.{is_held_for}
 use Rattle.spaces.specs.declared.places.Place.TheVariants.{Space}
 use Rattle.spaces.proofs.Lists.{slice_get-set_same, slice_get-set_other}
 use Rattle.spaces.proofs.GivingBack.{keeps-done, more-done, all-done, get-past}
-use Rattle.spaces.proofs.frames.free_frames.Goals as goal
-use Rattle.spaces.proofs.frames.free_frames.Goals.{then-is_held_for, else-is_held_for}
+use Rattle.std.specs.Prelude.{is_none}
+use Rattle.spaces.specs.UnusedFrames.{marked_in}
+use Rattle.spaces.proofs.MarkedFrames.{changed}
+use Rattle.spaces.proofs.frame_use.free_frames.Goals as goal
+use Rattle.spaces.proofs.frame_use.free_frames.Goals.{then-is_held_for, else-is_held_for}
 
 pub loop-at-preserved : goal.loop-at-preserved
 loop-at-preserved c =
@@ -28,11 +31,19 @@ loop-at-preserved c =
             more-done (λ k. held_at (slice_get xs k)) (λ k. held_at (slice_get now k)) (λ _. None) own at (λ k. held_at (slice_get c.if-is_held_for.holders k)) i.holders (sym told ∙ w.if-is_held_for.true)
             (ap (λ l. held_at (slice_get l at)) w.holders-is ∙ ap held_at (slice_get-set_same now at None (omega (arith, less, i.length))))
             (λ n apart. ap (λ l. held_at (slice_get l n)) w.holders-is ∙ ap held_at (slice_get-set_other now at n None apart));
+        marks = λ n down.
+            ap (λ u. marked_in u n) w.unused-is
+            ∙ changed (marked_in c.loop-at.unused) (marked_in w.insert.new.self) now at None i.marks w.insert.ensures.here w.insert.ensures.others n
+            (omega (arith, down, c.if-is_held_for.auto.holders, length-set now at None))
+            ∙ sym (ap (λ l. is_none (held_at (slice_get l n))) w.holders-is);
       }
       | else-is_held_for w ↦ record {
         length = ap (λ l. length l) w.holders-is ∙ i.length;
         holders = λ n. ap (λ l. held_at (slice_get l n)) w.holders-is
             ∙ keeps-done (λ k. held_at (slice_get xs k)) (λ k. held_at (slice_get now k)) (λ _. None) own at i.holders (sym told ∙ w.if-is_held_for.false) n;
+        marks = λ n down.
+            ap (λ u. marked_in u n) w.unused-is ∙ i.marks n (omega (arith, down, c.if-is_held_for.auto.holders))
+            ∙ sym (ap (λ l. is_none (held_at (slice_get l n))) w.holders-is);
       }
     ]
 
