@@ -1,7 +1,6 @@
 -- What Begin and Load answer.
-use Rattle.std.proofs.Common.{◌≡◌, ℕ, Bool, true, false, cond, ◌<◌, ◌&&◌, ◌||◌, ◌⊎◌, not, inl, inr, List, [], ◌∷◌, ◌++◌, Option, Some, None, refl, ap, sym, ◌∙◌, eqb, IsTrue}
-use Rattle.std.specs.Prelude.{is_some, Result, Ok, Err}
-use Rattle.std.specs.List.{find}
+use Rattle.std.proofs.Common.{◌≡◌, ℕ, true, false, cond, ◌<◌, ◌||◌, not, inl, inr, List, [], ◌∷◌, Option, Some, None, refl, ap, sym, ◌∙◌, eqb}
+use Rattle.std.specs.Prelude.{Result, Ok, Err}
 use Rattle.std.proofs.lemmas.Bool.{and_parts, and_from, or_cases, or_left, or_right, eqb-true, eq-eqb, lt-ltb, ltb-true, not-false, false_from_ne_true, false≢true}
 use Rattle.std.proofs.lemmas.List.Folds.{find-append}
 use Rattle.pte.specs.Address.{IsCanonical, is_canonical}
@@ -21,13 +20,11 @@ use Rattle.tlb.proofs.Overlapping.{holds-Holds}
 use Rattle.history.specs.Setup.{Setup, is_hart}
 use Rattle.history.specs.declared.event.Event.TheVariants.{Begin, Load}
 use Rattle.history.specs.declared.refusal.Refusal.TheVariants.{NoHart, NotWalking}
-use Rattle.history.specs.declared.reply.Reply.{Reply}
 use Rattle.history.specs.declared.reply.Reply.TheVariants as reply
 use Rattle.history.specs.Turns.{History}
 use Rattle.history.specs.Runs.{with_turn}
 use Rattle.history.specs.Tables.{words_of}
 use Rattle.history.specs.Spaces.{asid_of}
-use Rattle.history.specs.Service.{served}
 use Rattle.history.specs.Harts.{Walking, walk_of, space_of, entries_of, outcome_of}
 use Rattle.history.specs.Occurrences.{LeadsOn}
 use Rattle.history.specs.Due.{goes_on, begin_reply, match_reply, end_reply, load_reply, due, Lawful}

@@ -1,5 +1,5 @@
 -- What lasts from a turn on: the space, the service, the fence, and each word.
-use Rattle.std.proofs.Common.{◌≡◌, ℕ, ◌+◌, Bool, true, false, cond, ◌&&◌, ◌||◌, ◌⊎◌, inl, inr, [], ◌∷◌, length, Option, Some, None, Ok as Good, Err, slice_get, refl, ap, sym, ◌∙◌, eqb, arith}
+use Rattle.std.proofs.Common.{◌≡◌, ℕ, Bool, true, false, cond, ◌&&◌, ◌||◌, ◌⊎◌, inl, inr, [], ◌∷◌, length, Option, Some, None, Ok as Good, Err, slice_get, refl, ap, sym, ◌∙◌, eqb}
 use Rattle.std.proofs.lemmas.Bool.{and_parts, eqb-true, eq-eqb, false≢true}
 use Rattle.std.specs.Prelude.{◌↔◌, Result}
 use Rattle.spaces.specs.declared.wishes.Wish.{Wish}
@@ -23,11 +23,10 @@ use Rattle.history.specs.Service.{served, served_after, has_fenced, fenced_after
 use Rattle.history.specs.Harts.{space_of, space_after}
 use Rattle.history.specs.Tables.{words_of, words_after, with_store, edit_due}
 use Rattle.history.specs.Spaces.{holder_of, holder_after}
-use Rattle.history.specs.Occurrences.{Since, SinceOr, IsSwitch, Switches, IsTake, TakesPost, TakesOrAcks, IsServeFence, IsEdit, IsStore, Empties, Puts, Stores, IsNewTable, TakesOrGivesBack}
+use Rattle.history.specs.Occurrences.{Since, SinceOr, IsSwitch, Switches, IsTake, TakesPost, TakesOrAcks, IsServeFence, IsEdit, Empties, Puts, Stores, IsNewTable, TakesOrGivesBack}
 use Rattle.history.proofs.Splits.{not_sometime-empty, not_since-empty, sometime-here, sometime-later, sometime_cases, since-here, since-later, since_cases, read_since}
 use Rattle.history.proofs.Occurred.{turn_of, ok_is, opened_is}
 use Rattle.history.proofs.OpenOrders.{same_parts, same_with}
-use Rattle.shoot.proofs.HartSets.{by_test}
 
 -- what is so at the opening, and then as the last turn that matters made it
 pub read_since_or : (P Q : Turn → History → Type 0) (R : History → Type 0) (opening : Type 0) → R [] ↔ opening

@@ -1,10 +1,9 @@
 -- What each event leaves of the entries of a TLB.
-use Rattle.std.proofs.Common.{◌≡◌, ℕ, Bool, true, cond, ◌&&◌, inl, inr, List, ◌∷◌, Option, Some, refl, ap, sym, ◌∙◌, eqb}
+use Rattle.std.proofs.Common.{◌≡◌, ℕ, true, cond, ◌&&◌, inl, inr, ◌∷◌, Option, Some, refl, ap, sym, eqb}
 use Rattle.std.specs.Prelude.{Ok}
 use Rattle.std.proofs.lemmas.Bool.{and_parts, eqb-true, eq-eqb, false≢true}
 use Rattle.walk.specs.declared.found_or_trap.Found.{Found}
 use Rattle.shoot.proofs.HartSets.{by_test}
-use Rattle.tlb.specs.declared.store.Entry.{Entry}
 use Rattle.tlb.specs.Answer.{entry_of}
 use Rattle.tlb.specs.Entries.{filled}
 use Rattle.tlb.specs.Fence.{fenced}

@@ -1,18 +1,17 @@
 -- What an accepted Retire, Reclaim or Create leaves.
-use Rattle.std.proofs.Common.{◌≡◌, ℕ, ◌<◌, Bool, true, false, cond, ◌&&◌, ◌∷◌, length, Option, Some, None, refl, ap, sym, ◌∙◌, eqb, inl, inr, arith}
+use Rattle.std.proofs.Common.{◌≡◌, ℕ, ◌<◌, Bool, true, cond, ◌&&◌, length, Option, Some, refl, ap, sym, ◌∙◌, eqb, inl, inr}
 use Rattle.std.specs.Prelude.{◌≢◌}
 use Rattle.std.proofs.lemmas.Bool.{cases_eq, eq-eqb, ne_eqb, ltb-true, lt-ltb}
-use Rattle.spaces.specs.Holders.{emptied, given_back}
 use Rattle.spaces.proofs.Given.{words-emptied, frames-left}
 use Rattle.shoot.specs.HartSet.{contains, harts_where}
 use Rattle.shoot.specs.declared.TheConstants.{MAX_HARTS}
 use Rattle.shoot.proofs.HartSets.{contains_where}
 use Rattle.history.specs.Setup.{Setup, is_hart}
-use Rattle.history.specs.Turns.{Turn, History, are_same}
-use Rattle.history.specs.Spaces.{Status, Live, Retires, Free, status_of, asid_of, holder_of}
-use Rattle.history.specs.Orders.{Order, open_order, order_at, order_or}
+use Rattle.history.specs.Turns.{History, are_same}
+use Rattle.history.specs.Spaces.{Live, Retires, Free, status_of, asid_of, holder_of}
+use Rattle.history.specs.Orders.{open_order, order_at}
 use Rattle.history.specs.Tables.{words_of}
-use Rattle.history.specs.Retirements.{retire, reclaim, create, KeepsTables, KeepsHarts, KeepsMailboxes, KeepsOrders, KeepsOtherSpaces, IsOrderToDrop, AfterRetire, AfterReclaim, AfterCreate}
+use Rattle.history.specs.Retirements.{AfterRetire, AfterReclaim, AfterCreate}
 
 -- a value that a test on equal or different numbers replaces
 here : {A : Type 0} (a : ℕ) (x y : A) → cond (eqb a a) x y ≡ x

@@ -1,8 +1,6 @@
 -- What the promises forbid a TLB to hold once a space was given back, and where they say nothing.
 use Rattle.pte.specs.declared.scheme.Scheme.TheVariants.{Sv39}
-use Rattle.std.proofs.Common.{◌≡◌, ℕ, zero, suc, ◌+◌, ◌<◌, ◌||◌, ◌==◌, true, false, List, [], ◌∷◌, Option, Some, None, refl, sym, ap, subst, ◌∙◌, arith, inl, inr}
-use Rattle.std.specs.Prelude.{All, Contains}
-use Rattle.std.specs.List.{slice_index_or}
+use Rattle.std.proofs.Common.{◌≡◌, ℕ, zero, suc, ◌+◌, ◌||◌, ◌==◌, false, [], ◌∷◌, Some, refl, ap, subst, ◌∙◌, arith, inl, inr}
 use Rattle.std.proofs.lemmas.Bool.{and_parts, eqb-true, true≢false}
 use Rattle.std.proofs.lemmas.List.Elements.{All-nil, All-cons}
 use Rattle.pte.specs.Entry.{kind_of}
@@ -12,12 +10,12 @@ use Rattle.tlb.specs.declared.store.Entry.{Entry}
 use Rattle.tlb.specs.Entries.{holds}
 use Rattle.tlb.specs.Mappings.{Mapping, IsMappedBy, Translates}
 use Rattle.history.specs.Turns.{History}
-use Rattle.history.specs.Spaces.{Status, Live, Retires, Free, status_of}
+use Rattle.history.specs.Spaces.{Live, Retires, Free}
 use Rattle.history.specs.Orders.{Unmapped}
 use Rattle.history.specs.Tables.{words_of}
 use Rattle.history.specs.Harts.{entries_of}
 use Rattle.history.specs.Staleness.{HasAsid, IsMapped, IsOfUsedAsid, HoldsUsedAsids, WalksUsedFrames, Clear}
-use Rattle.history.specs.WorkedRuns.{history_of, small_page, flags, R, U, A, D, user, two_harts}
+use Rattle.history.specs.WorkedRuns.{history_of, small_page, flags, R, U, A, D, user}
 use Rattle.history.specs.ShootdownRuns.{spaces_of_one_home}
 use Rattle.history.specs.RetireRuns as run
 use Rattle.history.specs.UnlawfulRuns as unlawful

@@ -1,12 +1,11 @@
 -- Whether a space is live, retiring or free, and which ASID it has, is by the last turn that decided it.
-use Rattle.std.proofs.Common.{◌≡◌, ℕ, Bool, true, false, cond, ◌&&◌, ◌⊎◌, inl, inr, [], ◌∷◌, length, refl, ap, sym, ◌∙◌, eqb, slice_index}
+use Rattle.std.proofs.Common.{◌≡◌, ℕ, Bool, true, false, ◌&&◌, ◌⊎◌, inl, inr, length, refl, ap, sym, ◌∙◌, eqb, slice_index}
 use Rattle.std.specs.Prelude.{◌↔◌}
 use Rattle.std.proofs.lemmas.Bool.{and_parts, eqb-true, eq-eqb, false≢true}
 use Rattle.history.specs.Setup.{Setup}
 use Rattle.history.specs.declared.event.Event.{Event}
 use Rattle.history.specs.declared.event.Event.TheVariants.{Retire, Reclaim, Create}
 use Rattle.history.specs.declared.reply.Reply.{Reply}
-use Rattle.history.specs.declared.reply.Reply.TheVariants.{Opened, Ok}
 use Rattle.history.specs.Turns.{Turn, History, is_ok, is_opened}
 use Rattle.history.specs.Spaces.{Status, Live, Retires, Free, status_of, status_after, asid_of, asid_after}
 use Rattle.history.specs.Occurrences.{Since, SinceOr, IsRetire, IsReclaim, IsCreate, Creates, Decides}

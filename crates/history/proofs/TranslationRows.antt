@@ -34,3 +34,7 @@ pages_of_sv48 = refl
 pub spaces_of_each_hart : IsRun spaces_of_one_home run.spaces_of_each_hart
 unfolding IsRun kind_of wish_fault path_end edit_of byte_of difference
 spaces_of_each_hart = refl
+
+pub walks_of_two_harts : IsRun two_harts run.walks_of_two_harts
+unfolding IsRun kind_of wish_fault path_end edit_of byte_of difference
+walks_of_two_harts = refl

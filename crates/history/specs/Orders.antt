@@ -5,7 +5,6 @@ use Rattle.pte.specs.Address.{Span}
 use Rattle.pte.specs.declared.address.What.{What}
 use Rattle.pte.specs.declared.address.What.TheVariants.{PageOf, SpaceOf, All}
 use Rattle.history.specs.Setup.{Setup, is_hart}
-use Rattle.spaces.specs.declared.places.Place.{Place}
 use Rattle.shoot.specs.HartSet.{harts_in, harts_where}
 use Rattle.history.specs.declared.event.Event.{Event}
 use Rattle.history.specs.declared.event.Event.TheVariants.{Unmap, Protect, Flush, Retire, Finish}

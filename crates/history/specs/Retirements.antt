@@ -1,6 +1,6 @@
 -- What is due to a Retire, a Reclaim and a Create, what each of them leaves once it was accepted, and what it does not touch.
 -- The laws of src/retirements.rt say that the definitions of Due, Spaces, Orders and Tables give just this.
-use Rattle.std.specs.Prelude.{ℕ, ◌≡◌, ◌≢◌, ◌<◌, Bool, true, ◌∷◌, length, Some, IsSome}
+use Rattle.std.specs.Prelude.{ℕ, ◌≡◌, ◌≢◌, ◌<◌, true, ◌∷◌, length, Some}
 use Rattle.pte.specs.declared.address.What.TheVariants.{SpaceOf}
 use Rattle.spaces.specs.Layout.{home_of}
 use Rattle.spaces.specs.Effects.{EmptiesWords, GivesBack}

@@ -1,6 +1,6 @@
 -- Worked runs of accesses: a leaf of each size filled and hit, fetches, SUM and MXR, and traps by the flags of a match
 -- (privileged manual 4.1.1.2, SUM and MXR; 4.3.2, steps 5 to 8; 4.4.1, the sizes of pages; 4.5.1, Sv48).
-use Rattle.std.specs.Prelude.{ℕ, ◌+◌, true, false, List, [], ◌∷◌, ◌++◌, None}
+use Rattle.std.specs.Prelude.{ℕ, ◌+◌, true, false, List, [], ◌∷◌, None}
 use Rattle.pte.specs.declared.scheme.Scheme.TheVariants.{Sv48}
 use Rattle.pte.specs.Address.{Span}
 use Rattle.pte.specs.declared.address.PageSize.TheVariants.{Gib512}
@@ -9,11 +9,11 @@ use Rattle.pte.specs.declared.permission.Ctx.{Ctx}
 use Rattle.pte.specs.declared.permission.Mode.TheVariants.{User, Super}
 use Rattle.walk.specs.declared.found_or_trap.Why.TheVariants.{NotCanonical, Invalid, Denied, NotAccessed, NotDirty}
 use Rattle.spaces.specs.declared.places.Place.TheVariants.{Space}
-use Rattle.history.specs.declared.event.Event.TheVariants.{Begin, Load, Map, Switch, Fence}
+use Rattle.history.specs.declared.event.Event.TheVariants.{Begin, Load, Map, Unmap, Switch, Fence}
 use Rattle.history.specs.declared.refusal.Refusal.TheVariants.{NoSpace, Walking, NotWalking}
-use Rattle.history.specs.declared.reply.Reply.TheVariants.{Hit, More, Filled, Table, Leaf, Ok}
+use Rattle.history.specs.declared.reply.Reply.TheVariants.{Hit, More, Filled, Table, Leaf, Opened, Ok}
 use Rattle.history.specs.Setup.{Setup}
-use Rattle.history.specs.WorkedRuns.{Step, small_page, large_page, flags, R, W, X, U, A, D, user, supervisor, refused, trap}
+use Rattle.history.specs.WorkedRuns.{Step, small_page, large_page, flags, R, W, X, U, A, D, user, supervisor, hart_0, hart_1, refused, trap}
 use Rattle.history.specs.EditRuns.{huge_page}
 
 -- accesses with SUM or MXR set
@@ -189,4 +189,24 @@ spaces_of_each_hart =
     ∷ (Load 0, More)
     ∷ (Load 0, Filled 0x101004)
     ∷ (Begin 1 0x1004 access.Load user, Hit 0x101004)
+    ∷ []
+
+-- two harts walk to one page at once: what the one fills the other does not hold, and it finds the page unmapped
+abbrev pub walks_of_two_harts : List Step
+walks_of_two_harts =
+    (Map 0 (Space 0) (large_page 0x400000) 0x200 (flags (R + W + U + A + D)), Table 0x80002)
+    ∷ (Map 0 (Space 0) (large_page 0x400000) 0x200 (flags (R + W + U + A + D)), Leaf)
+    ∷ (Begin 0 0x400000 access.Load user, More)
+    ∷ (Begin 1 0x400000 access.Load user, More)
+    ∷ (Load 1, More)
+    ∷ (Load 1, Filled 0x200000)
+    ∷ (Unmap 0 (Space 0) (large_page 0x400000) (hart_0 + hart_1), Opened 0)
+    ∷ (Load 0, More)
+    ∷ (Load 0, trap 13 Invalid)
+    ∷ (Begin 0 0x400000 access.Load user, More)
+    ∷ (Load 0, More)
+    ∷ (Load 0, trap 13 Invalid)
+    ∷ (Begin 1 0x400000 access.Store user, Hit 0x200000)
+    ∷ (Begin 0 0x4000000000 access.Store user, trap 15 NotCanonical)
+    ∷ (Begin 1 0xffffffbfffffffff access.Fetch supervisor, trap 12 NotCanonical)
     ∷ []

@@ -1,6 +1,5 @@
 -- Which events touch a TLB, and what they find there or in the tables: for the laws of src/translations.rt.
-use Rattle.std.specs.Prelude.{ℕ, Bool, true, ◌≡◌, ◌<◌, ◌⊎◌, List, ◌∷◌, ◌++◌, Option, Some, None, Result}
-use Rattle.std.specs.List.{AllPass}
+use Rattle.std.specs.Prelude.{ℕ, true, ◌≡◌, ◌<◌, ◌⊎◌, List, ◌∷◌, ◌++◌, Option, Some, None, Result}
 use Rattle.pte.specs.Address.{Holds}
 use Rattle.walk.specs.declared.found_or_trap.Found.{Found}
 use Rattle.walk.specs.declared.found_or_trap.Trap.{Trap}

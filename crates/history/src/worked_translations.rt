@@ -50,6 +50,12 @@ pub fn spaces_of_each_hart()
     ensures { IsRun spaces_of_one_home translations.spaces_of_each_hart }
 {}
 
+/// What one hart fills in the middle of another's walk the other does not hold; and an address that is not canonical traps by the access.
+#[tactic(auto, using(crate::proofs::TranslationRows::walks_of_two_harts))]
+pub fn walks_of_two_harts()
+    ensures { IsRun two_harts translations.walks_of_two_harts }
+{}
+
 /// A hart that serves the request for a page of a space drops that page, and no other page, nor the same one of another space, nor
 /// a kernel page.
 #[tactic(auto, using(crate::proofs::ServiceRows::service_of_a_page))]

@@ -1,8 +1,8 @@
 -- ASIDs of spaces over a lawful history: they differ, harts are in live spaces, and no TLB holds what is of an ASID that is free.
-use Rattle.std.proofs.Common.{◌≡◌, ℕ, zero, suc, ◌%◌, ◌^◌, ◌<◌, ◌≤◌, ◌⊎◌, Bool, true, false, cond, ◌&&◌, not, [], ◌∷◌, length, Some, refl, ap, sym, ◌∙◌, subst, eqb, inl, inr, arith}
+use Rattle.std.proofs.Common.{◌≡◌, ℕ, ◌%◌, ◌^◌, ◌<◌, ◌≤◌, ◌⊎◌, Bool, true, false, cond, ◌&&◌, not, [], ◌∷◌, length, Some, refl, ap, sym, ◌∙◌, subst, eqb, inl, inr, arith}
 use Rattle.std.specs.Prelude.{All}
 use Rattle.std.specs.List.{slice_index_or}
-use Rattle.std.proofs.lemmas.Bool.{and_parts, and_from, eqb-true, eq-eqb, ne_eqb, cases_Bool, cases_eq, cases_lt, false≢true, true≢false, not-false, not-true, ltb-true, lt-ltb, or_parts}
+use Rattle.std.proofs.lemmas.Bool.{and_parts, and_from, eqb-true, eq-eqb, ne_eqb, cases_Bool, cases_lt, false≢true, true≢false, not-false, not-true, ltb-true, lt-ltb}
 use Rattle.std.proofs.lemmas.List.Elements.{All-nil, All-weaker}
 use Rattle.pte.specs.declared.address.What.TheVariants.{SpaceOf}
 use Rattle.shoot.specs.HartSet.{contains, harts_where, is_empty}
@@ -24,7 +24,7 @@ use Rattle.history.specs.Turns.{Turn, History, is_ok, is_opened, is_filled, open
 use Rattle.history.specs.Orders.{Order, Flushed, order_at, what_asked}
 use Rattle.history.specs.Acknowledgements.{is_acked, is_collected}
 use Rattle.history.specs.Harts.{space_of, entries_of}
-use Rattle.history.specs.Due.{due, is_space, is_in_use, is_asid_of, names, Lawful}
+use Rattle.history.specs.Due.{due, is_space, is_in_use, names, Lawful}
 use Rattle.history.specs.Staleness.{HasAsid, IsOfUsedAsid, HoldsUsedAsids}
 pub use Rattle.history.proofs.Retiring.{asid_found}
 use Rattle.laws.specs.Fills.{Fills}

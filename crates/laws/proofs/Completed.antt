@@ -1,8 +1,8 @@
 -- An order that was answered Done is acknowledged by each hart that it names, and its page is clear.
-use Rattle.std.proofs.Common.{◌≡◌, ℕ, ◌<◌, Bool, true, false, cond, ◌&&◌, ◌⊎◌, inl, inr, not, [], ◌∷◌, length, Option, Some, None, refl, ap, sym, ◌∙◌, arith}
+use Rattle.std.proofs.Common.{◌≡◌, ℕ, ◌<◌, true, false, cond, ◌&&◌, ◌⊎◌, inl, inr, not, [], ◌∷◌, length, Option, Some, None, refl, ap, sym, ◌∙◌, arith}
 use Rattle.std.specs.Prelude.{is_some}
 use Rattle.std.proofs.lemmas.Bool.{not-false}
-use Rattle.shoot.specs.HartSet.{byte_of, contains, harts_where, is_empty}
+use Rattle.shoot.specs.HartSet.{byte_of, contains, is_empty}
 use Rattle.shoot.specs.declared.TheConstants.{MAX_HARTS}
 use Rattle.history.specs.Setup.{Setup}
 use Rattle.history.specs.declared.event.Event.{Event}
@@ -14,12 +14,11 @@ use Rattle.history.specs.Orders.{open_order, order_at}
 use Rattle.history.specs.Harts.{entries_of, walk_of}
 use Rattle.history.specs.Acknowledgements.{is_acked, is_collected, collected_after}
 use Rattle.history.specs.Due.{ack_self_reply, collect_reply, due, Lawful, left_after, left_reply, names}
-use Rattle.history.specs.Completion.{ClearOnceDone, IsDoneAt, IsDoneFor}
+use Rattle.history.specs.Completion.{ClearOnceDone, IsDoneAt}
 use Rattle.history.specs.Occurrences.{Sometime}
 use Rattle.history.specs.Staleness.{Clear}
 use Rattle.history.proofs.Occurred.{acked}
 use Rattle.history.proofs.Splits.{not_sometime-empty, sometime-later, sometime_cases}
-use Rattle.laws.specs.Kept.{HavePages}
 use Rattle.laws.proofs.Tools.{by_test, none_where}
 use Rattle.laws.proofs.Accepted.{passed}
 use Rattle.laws.proofs.Orders.{known, open_below, open_known, order_stays}
@@ -33,9 +32,9 @@ module _ (C : Setup) where
       by_test (λ t. cond t reply.Done (reply.Waiting (byte_of (left_after C H event k))) ≡ reply.Done → collected_after C event reply.Done H k h (is_collected C H k h) ≡ true)
       (is_empty (left_after C H event k))
       (λ t _.
-          let out : (names (order_at C H k) h && not (collected_after C event reply.Done H k h (is_collected C H k h))) ≡ false =
-          none_where (λ b. names (order_at C H k) b && not (collected_after C event reply.Done H k b (is_collected C H k b))) h t below in
-          not-false (collected_after C event reply.Done H k h (is_collected C H k h)) (rw named at out))
+      let out : (names (order_at C H k) h && not (collected_after C event reply.Done H k h (is_collected C H k h))) ≡ false =
+      none_where (λ b. names (order_at C H k) b && not (collected_after C event reply.Done H k b (is_collected C H k b))) h t below in
+      not-false (collected_after C event reply.Done H k h (is_collected C H k h)) (rw named at out))
       (λ _ w. absurd (cc (w))) e
 
   own_told : (H : History) (s t k : ℕ) (o : Option ℕ) → o ≡ Some k → ack_self_reply C H s t o ≡ reply.Done → left_reply (left_after C H (AckSelf s t) k) ≡ reply.Done

@@ -29,3 +29,4 @@ mod Staying
 mod Requested
 mod RetiredRefuted
 pub mod DoneFacts
+pub mod PointersKept

@@ -1,9 +1,7 @@
 -- Each order asks for a page of the scheme, or for no page; so what a service leaves is what stays under all its fences.
-use Rattle.std.proofs.Common.{◌≡◌, ℕ, List, [], ◌∷◌, Bool, length, Option, Some, None, refl, sym, subst, inl, inr}
-use Rattle.pte.specs.Address.{Span}
+use Rattle.std.proofs.Common.{◌≡◌, ℕ, List, [], ◌∷◌, Bool, length, Option, Some, subst, inl, inr}
 use Rattle.pte.specs.declared.address.What.{What}
-use Rattle.pte.specs.declared.address.What.TheVariants.{PageOf, SpaceOf, All}
-use Rattle.pte.specs.declared.scheme.Scheme.{Scheme}
+use Rattle.pte.specs.declared.address.What.TheVariants.{PageOf, SpaceOf}
 use Rattle.shoot.specs.HartSet.{harts_in, harts_where}
 use Rattle.spaces.specs.declared.wishes.Wish.TheVariants as wish
 use Rattle.spaces.proofs.Accepting.{fit-page}

@@ -1,6 +1,6 @@
 -- What is false of runs in which spaces do what no lawful run has, computed from their histories.
 use Rattle.pte.specs.declared.scheme.Scheme.TheVariants.{Sv39}
-use Rattle.std.proofs.Common.{◌≡◌, ℕ, ◌+◌, false, Ok, refl, arith, inl}
+use Rattle.std.proofs.Common.{◌≡◌, ◌+◌, false, Ok, refl, arith, inl}
 use Rattle.pte.specs.declared.permission.Access.TheVariants as access
 use Rattle.pte.specs.Entry.{kind_of}
 use Rattle.walk.specs.declared.found_or_trap.Found.{Found}

@@ -1,12 +1,10 @@
 -- Tests, options and lists.
-use Rattle.std.proofs.Common.{◌≡◌, ℕ, zero, suc, ◌+◌, ◌<◌, ◌≤◌, Bool, true, false, ◌&&◌, ◌||◌, not, List, [], ◌∷◌, drop, map, Option, Some, None, slice_get, refl, ap, subst, arith, ◌⊎◌, inl, inr, eqb, ltb}
+use Rattle.std.proofs.Common.{◌≡◌, ℕ, zero, suc, ◌<◌, Bool, true, false, ◌&&◌, ◌||◌, List, [], ◌∷◌, drop, Option, Some, None, slice_get, refl, ap, subst, ◌⊎◌, inl, inr, ltb}
 use Rattle.std.specs.Prelude.{All, is_some}
-use Rattle.std.proofs.lemmas.Bool.{and_parts, or_cases, eqb-true, false≢true, not-true, ltb-true, ltb-false}
+use Rattle.std.proofs.lemmas.Bool.{or_cases, false≢true, ltb-true, ltb-false}
 use Rattle.std.proofs.lemmas.Option.{slice_get_past}
 use Rattle.std.proofs.lemmas.List.Elements.{All-head, All-tail}
-use Rattle.std.proofs.lemmas.Bool.Decides.{nat_tests}
-use Rattle.std.specs.List.{list_all, range_with_len}
-use Rattle.shoot.specs.HartSet.{contains, harts_where, is_empty}
+use Rattle.shoot.specs.HartSet.{contains, harts_where}
 use Rattle.shoot.specs.declared.TheConstants.{MAX_HARTS}
 pub use Rattle.shoot.proofs.HartSets.{by_test}
 pub use Rattle.history.proofs.Occurred.{and3, none_by}

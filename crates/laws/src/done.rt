@@ -1,20 +1,22 @@
-//! What a sender may rely on once it was told that its order is done, and what is left once a request is served. Each function does
+//! What a sender may rely on once it was told that its order is done, what is left once a request is served, and what stays. Each function does
 //! nothing, and its contract is the law.
 
-ghost use Rattle.std.specs.Prelude.{ℕ, ◌≡◌, ◌++◌, false, Some, true};
+ghost use Rattle.std.specs.Prelude.{ℕ, ◌≡◌, ◌⊎◌, ◌∷◌, ◌++◌, false, Some, true};
+ghost use Rattle.walk.specs.Leads.{PointsTo};
 ghost use Rattle.tlb.specs.Service.{Served};
 ghost use Rattle.history.specs.declared.event.Event.TheVariants.{AckSelf, ServeFence};
 ghost use Rattle.history.specs.declared.reply.Reply.{Reply};
 ghost use Rattle.history.specs.declared.reply.Reply.TheVariants as reply;
 ghost use Rattle.history.specs.Setup.{Setup};
-ghost use Rattle.history.specs.Turns.{History};
+ghost use Rattle.history.specs.Turns.{History, Turn};
+ghost use Rattle.history.specs.Tables.{words_of};
 ghost use Rattle.history.specs.Runs.{with_turn};
 ghost use Rattle.history.specs.Orders.{open_order, Order, order_at};
 ghost use Rattle.history.specs.Mailboxes.{is_closed, Sent};
 ghost use Rattle.history.specs.Service.{served};
 ghost use Rattle.history.specs.Harts.{entries_of};
 ghost use Rattle.history.specs.Acknowledgements.{is_acked, is_posted};
-ghost use Rattle.history.specs.Occurrences.{IsProgress, Sometime};
+ghost use Rattle.history.specs.Occurrences.{Empties, IsProgress, Sometime};
 ghost use Rattle.history.specs.Completion.{ClearOnceDone, IsDoneAt};
 ghost use Rattle.history.specs.Due.{Lawful, names};
 ghost use Rattle.laws.specs.Kept.{HavePages, IsSetup};
@@ -48,4 +50,10 @@ pub fn own_acknowledgement_leaves_what_its_fences_leave()
     ensures { (C : Setup) (H : History) (h ticket k : ℕ) (order : Order) (answer : Reply) → Lawful C H → HavePages H → open_order H h ticket ≡ Some k
         → order_at C H k ≡ Some order → IsProgress answer
         → Served C.layout.scheme (entries_of C H h) order.what (entries_of C (with_turn (AckSelf h ticket) answer H) h) }
+{}
+
+/// A pointer that was stored stays, turn by turn, until the space whose own word it is is reclaimed.
+pub fn pointer_stays_until_given_back()
+    ensures { (C : Setup) → IsSetup C → (turn : Turn) (H : History) → Lawful C (turn ∷ H) → HavePages H → (ppn i next : ℕ) → PointsTo (words_of C H ppn i) next
+        → (words_of C (turn ∷ H) ppn i ≡ words_of C H ppn i) ⊎ Empties C ppn i turn H }
 {}

@@ -19,6 +19,7 @@ use Rattle.laws.proofs.Accepted.{turn_of}
 use Rattle.laws.proofs.Live.{finished_collected}
 use Rattle.laws.proofs.Orders.{known, order_stays, open_cases, open_stays}
 use Rattle.laws.proofs.Posts.{order_is}
+use Rattle.stepcore.proofs.Tools.{both_ways}
 
 -- a new order is open
 held_now : (number : Option ℕ) (hart : ℕ) (named : List Bool) (what : What) (cause : Cause) (order : Order) (place : ℕ) (old : Option ℕ)
@@ -75,15 +76,10 @@ closed_done C H k order l is closed =
     ]
 
 -- whether an order is open stays, unless its ticket is finished
-same_tests : (a b : Bool) → (a ≡ true → b ≡ true) → (b ≡ true → a ≡ true) → a ≡ b
-same_tests true b f g = sym (f refl)
-same_tests false true f g = g refl
-same_tests false false f g = refl
-
 pub open_kept : (C : Setup) (event : Event) (r : Reply) (H : History) (a n k : ℕ) → r ≡ due C H event → k < length H → (Finishes (turn_of event r) a n → ⊥)
     → is_order (open_order H a n) k ≡ is_order (open_order (turn_of event r ∷ H) a n) k
 open_kept C event r H a n k d below none =
-    same_tests _ _
+    both_ways _ _
     (λ t. is_order_of (open_order (turn_of event r ∷ H) a n) k (elim (open_stays C event r H a n k d (order_is (open_order H a n) k t)) [ inl stays ↦ stays | inr finishes ↦ absurd (none finishes) ]))
     (λ t. elim (open_cases C event r H a n (length H) (open_order H a n) k (order_is (open_order (turn_of event r ∷ H) a n) k t)) [
       | inl new ↦ absurd (let at = new.1 in omega arith)

@@ -1,5 +1,5 @@
 -- What a machine that stands at a history answers to the retirement, the reclaim and the creation of a space is what is due.
-use Rattle.std.proofs.Common.{◌≡◌, ℕ, Bool, true, cond, not, Option, Some, None, refl, ap, sym, subst, ◌∙◌, eqb}
+use Rattle.std.proofs.Common.{◌≡◌, ℕ, cond, not, Option, Some, None, refl, ap, sym, subst, ◌∙◌, eqb}
 use Rattle.std.proofs.lemmas.Bool.{eqb-true}
 use Rattle.spaces.specs.declared.places.Place.TheVariants.{Space}
 use Rattle.spaces.specs.Layout.{Layout, home_of}
@@ -11,7 +11,7 @@ use Rattle.history.specs.declared.reply.Reply.TheVariants as reply
 use Rattle.laws.proofs.Tools.{by_test}
 use Rattle.laws.proofs.Asids.{retirement}
 use Rattle.laws.proofs.Posts.{order_is}
-use Rattle.stepcore.proofs.Tools.{hart_there}
+use Rattle.stepcore.proofs.Tools.{hart_there, refused_alike}
 use Rattle.stepcore.proofs.SpaceReplies.{free_same, number_there, retiring_same, space_there}
 use Rattle.stepcore.proofs.HartReplies.{layout_same}
 use Rattle.history.specs.Setup.{Setup}
@@ -32,15 +32,12 @@ use Rattle.stepcore.specs.Answers.{every_hart, is_asid_used, is_free, is_in_use,
 use Rattle.stepcore.specs.declared.space_state.Phase.TheVariants as phase
 use Rattle.stepcore.specs.Stands.{ticket_now, phase_with, tickets_of, Stands}
 
-home_refused : (test : Bool) (r q : Reply) → (test ≡ true → r ≡ q) → refuse (not test) NotHome r ≡ refuse (not test) NotHome q
-home_refused test r q f = by_test (λ v. refuse (not v) NotHome r ≡ refuse (not v) NotHome q) test f (λ _. refl)
-
 module _ (C : Setup) (m : State) (H : History) (st : Stands C m H) where
   pub retire_due : IsMachine m → (hart space : ℕ) → reply_to m (Retire hart space) ≡ due C H (Retire hart space)
   retire_due is hart space =
       hart_there C m hart _ _ st.setup (λ below. space_there C m H st space _ _ (λ there.
       ap (λ (l : Layout). refuse (not (eqb hart (home_of l (Space space)))) NotHome (refuse (is_retiring (space_at m space).phase) Retiring (refuse (is_in_use m space) InUse (open_in m hart (every_hart m))))) (layout_same C m H st)
-      ∙ home_refused (eqb hart (home_of C.layout (Space space))) _ _ (λ home.
+      ∙ refused_alike NotHome (eqb hart (home_of C.layout (Space space))) _ _ (λ home.
       ap (λ v. refuse v Retiring (refuse (is_in_use m space) InUse (open_in m hart (every_hart m)))) (retiring_same C m H st space there)
       ∙ ap (λ v. refuse (spaces.is_retiring (status_of H space)) Retiring (refuse v InUse (open_in m hart (every_hart m)))) (in_use_same C m H st space)
       ∙ ap (λ (r : Reply). refuse (spaces.is_retiring (status_of H space)) Retiring (refuse (due_tests.is_in_use C H space) InUse r))
@@ -65,7 +62,7 @@ module _ (C : Setup) (m : State) (H : History) (st : Stands C m H) where
   reclaim_due hart space =
       hart_there C m hart _ _ st.setup (λ below. space_there C m H st space _ _ (λ there.
       ap (λ (l : Layout). refuse (not (eqb hart (home_of l (Space space)))) NotHome (reclaim_answer (tickets_at m hart) (space_at m space).phase)) (layout_same C m H st)
-      ∙ home_refused (eqb hart (home_of C.layout (Space space))) _ _ (λ home.
+      ∙ refused_alike NotHome (eqb hart (home_of C.layout (Space space))) _ _ (λ home.
       ap (reclaim_answer (tickets_at m hart)) (st.spaces space there).phase_is ∙ ap (λ (x : TicketTable). reclaim_answer x (phase_with C H (status_of H space))) (st.tickets hart below)
       ∙ reclaim_with hart space (eqb-true hart (home_of C.layout (Space space)) home) (status_of H space) refl)))
 

@@ -1,5 +1,5 @@
 -- Which spaces, places and scopes are there and retire, for a machine that stands at a history and for the history alike.
-use Rattle.std.proofs.Common.{◌≡◌, ℕ, ◌<◌, Bool, true, ◌&&◌, not, length, Some, refl, ap, ◌∙◌}
+use Rattle.std.proofs.Common.{◌≡◌, ℕ, ◌<◌, true, ◌&&◌, not, length, Some, refl, ap, ◌∙◌}
 use Rattle.std.specs.Prelude.{nat_lt}
 use Rattle.std.proofs.lemmas.Bool.{and_parts, ltb-true}
 use Rattle.pte.specs.Address.{Span}
@@ -21,6 +21,7 @@ use Rattle.laws.proofs.Tools.{by_test}
 use Rattle.stepcore.specs.State.{State, space_at}
 use Rattle.stepcore.specs.Answers as answers
 use Rattle.stepcore.specs.Stands.{phase_with, Stands}
+use Rattle.stepcore.proofs.Tools.{refused_alike}
 
 free_alike : (C : Setup) (H : History) (status : Status) → answers.is_free (phase_with C H status) ≡ spaces.is_free status
 free_alike C H Live = refl
@@ -31,10 +32,6 @@ retiring_alike : (C : Setup) (H : History) (status : Status) → answers.is_reti
 retiring_alike C H Live = refl
 retiring_alike C H (Retires k) = refl
 retiring_alike C H Free = refl
-
--- two replies that agree where the test holds, and are refused elsewhere
-refused_alike : (test : Bool) (r q : Reply) → (test ≡ true → r ≡ q) → refuse (not test) NoSpace r ≡ refuse (not test) NoSpace q
-refused_alike test r q f = by_test (λ v. refuse (not v) NoSpace r ≡ refuse (not v) NoSpace q) test f (λ _. refl)
 
 module _ (C : Setup) (m : State) (H : History) (st : Stands C m H) where
   pub number_same : (s : ℕ) → answers.is_number m s ≡ due_tests.is_number C s
@@ -76,21 +73,21 @@ module _ (C : Setup) (m : State) (H : History) (st : Stands C m H) where
       ≡ refuse (not (due_tests.is_place C H place)) NoSpace (refuse (due_tests.retires H place) Retiring q)
   place_there place r q e =
       ap (λ v. refuse (not v) NoSpace (refuse (answers.retires m place) Retiring r)) (place_same place)
-      ∙ refused_alike (due_tests.is_place C H place) _ _ (λ there. ap (λ v. refuse v Retiring r) (retires_same place there) ∙ ap (λ (x : Reply). refuse (due_tests.retires H place) Retiring x) e)
+      ∙ refused_alike NoSpace (due_tests.is_place C H place) _ _ (λ there. ap (λ v. refuse v Retiring r) (retires_same place there) ∙ ap (λ (x : Reply). refuse (due_tests.retires H place) Retiring x) e)
 
   pub scope_there : (scope : Scope) (r q : Reply) → r ≡ q → refuse (not (answers.is_scope m scope)) NoSpace (refuse (answers.scope_retires m scope) Retiring r)
       ≡ refuse (not (due_tests.is_scope C H scope)) NoSpace (refuse (due_tests.scope_retires H scope) Retiring q)
   scope_there scope r q e =
       ap (λ v. refuse (not v) NoSpace (refuse (answers.scope_retires m scope) Retiring r)) (scope_same scope)
-      ∙ refused_alike (due_tests.is_scope C H scope) _ _ (λ there. ap (λ v. refuse v Retiring r) (scope_retires_same scope there) ∙ ap (λ (x : Reply). refuse (due_tests.scope_retires H scope) Retiring x) e)
+      ∙ refused_alike NoSpace (due_tests.is_scope C H scope) _ _ (λ there. ap (λ v. refuse v Retiring r) (scope_retires_same scope there) ∙ ap (λ (x : Reply). refuse (due_tests.scope_retires H scope) Retiring x) e)
 
   pub space_there : (s : ℕ) (r q : Reply) → (s < length C.asids → r ≡ q) → refuse (not (answers.is_space m s)) NoSpace r ≡ refuse (not (due_tests.is_space C H s)) NoSpace q
   space_there s r q f =
-      ap (λ v. refuse (not v) NoSpace r) (space_same s) ∙ refused_alike (due_tests.is_space C H s) r q (λ there. f (space_below s there))
+      ap (λ v. refuse (not v) NoSpace r) (space_same s) ∙ refused_alike NoSpace (due_tests.is_space C H s) r q (λ there. f (space_below s there))
 
   pub number_there : (s : ℕ) (r q : Reply) → (s < length C.asids → r ≡ q) → refuse (not (answers.is_number m s)) NoSpace r ≡ refuse (not (due_tests.is_number C s)) NoSpace q
   number_there s r q f =
-      ap (λ v. refuse (not v) NoSpace r) (number_same s) ∙ refused_alike (due_tests.is_number C s) r q (λ there. f (ltb-true s (length C.asids) there))
+      ap (λ v. refuse (not v) NoSpace r) (number_same s) ∙ refused_alike NoSpace (due_tests.is_number C s) r q (λ there. f (ltb-true s (length C.asids) there))
 
   -- what the harts are asked to drop
   asid_same : (place : Place) → due_tests.is_place C H place ≡ true → answers.asid_of m place ≡ asid_in C H place

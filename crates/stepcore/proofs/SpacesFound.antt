@@ -1,7 +1,7 @@
 -- Whether some hart is in a space, and whether some space has an ASID, for a machine that stands at a history and for the history alike.
-use Rattle.std.proofs.Common.{◌≡◌, ℕ, zero, suc, ◌<◌, Bool, true, false, ◌&&◌, ◌||◌, not, List, [], ◌∷◌, length, slice_get, unwrap_or, refl, ap, sym, ◌∙◌, subst, inl, inr, eqb, arith}
+use Rattle.std.proofs.Common.{◌≡◌, ℕ, zero, suc, ◌<◌, Bool, true, false, ◌&&◌, not, List, [], ◌∷◌, length, slice_get, unwrap_or, ap, sym, ◌∙◌, subst, inl, inr, eqb, arith}
 use Rattle.std.specs.List.{list_any}
-use Rattle.std.proofs.lemmas.Bool.{and_parts, and_from, or_cases, false≢true, true≢false, cases_Bool, cases_lt, lt-ltb, ltb-true, false_from_ne_true}
+use Rattle.std.proofs.lemmas.Bool.{and_parts, and_from, or_cases, or_left, or_right, false≢true, true≢false, cases_Bool, cases_lt, lt-ltb, ltb-true, false_from_ne_true}
 use Rattle.std.proofs.lemmas.List.Folds.{list_any_at}
 use Rattle.std.proofs.lemmas.Option.{unwrap_or-slice_get}
 use Rattle.shoot.specs.HartSet.{harts_where, is_empty}
@@ -18,19 +18,7 @@ use Rattle.stepcore.specs.State.{State, HartState, idle_hart, no_space, space_at
 use Rattle.stepcore.specs.Answers.{has_asid, is_asid_used, is_in_use}
 use Rattle.stepcore.specs.Stands.{Stands}
 use Rattle.stepcore.proofs.SpaceReplies.{free_same}
-
-both_ways : (a b : Bool) → (a ≡ true → b ≡ true) → (b ≡ true → a ≡ true) → a ≡ b
-both_ways true b f g = sym (f refl)
-both_ways false true f g = g refl
-both_ways false false f g = refl
-
-or_left : (a b : Bool) → a ≡ true → (a || b) ≡ true
-or_left true b e = refl
-or_left false b e = absurd (false≢true e)
-
-or_right : (a b : Bool) → b ≡ true → (a || b) ≡ true
-or_right true b e = refl
-or_right false b e = e
+use Rattle.stepcore.proofs.Tools.{both_ways}
 
 -- an element that passes the test, by its number
 any_found : {A : Type 0} (f : A → Bool) (d : A) (xs : List A) → list_any f xs ≡ true → (s : ℕ) × (s < length xs) × (f (unwrap_or (slice_get xs s) d) ≡ true)

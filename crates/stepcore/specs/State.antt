@@ -1,4 +1,5 @@
--- What contracts see of a machine: its table memory, and its harts, tickets and mailboxes by the numbers of the harts.
+-- What contracts see of a machine: its table memory, its spaces by their numbers, and its harts, tickets and mailboxes by the
+-- numbers of the harts.
 use Rattle.std.specs.Prelude.{ℕ, ◌≡◌, ◌+◌, ◌*◌, ◌<◌, ◌≤◌, List, [], length, Option, None, slice_get, unwrap_or, All}
 use Rattle.pte.specs.declared.scheme.Scheme.{Scheme}
 use Rattle.pte.specs.declared.scheme.Scheme.TheVariants.{Sv39}

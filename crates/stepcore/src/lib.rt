@@ -1,4 +1,4 @@
-//! The machine: table memory, and harts with their TLBs, walks, tickets and mailboxes, moved by one event at a time.
+//! The machine: table memory, spaces, and harts with their TLBs, walks, tickets and mailboxes, moved by one event at a time.
 #![tactic(auto)]
 
 mod accesses;

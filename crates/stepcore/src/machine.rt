@@ -13,7 +13,8 @@ use shoot::{MAX_HARTS, Mailbox, Tickets};
 use spaces::{MAX_SPACES, Memory, Place};
 use std::marker::Model;
 
-/// Table memory, and harts with their TLBs, walks, tickets and mailboxes. It moves by one event of one hart at a time.
+/// Table memory, the spaces with their ASIDs and whether they are live, retiring or free, and harts with their TLBs, walks,
+/// tickets and mailboxes. It moves by one event of one hart at a time.
 #[derive(Drop)]
 pub struct Machine {
     pub(crate) memory: Memory,

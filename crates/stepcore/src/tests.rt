@@ -409,6 +409,12 @@ fn pages_of_sv48(rt: HostRuntime) {
     steps(&rt, &mut machine, &rows);
 }
 
+/// Maps the last page of 4 KiB of the page of 512 GiB.
+fn map_last(rt: &impl Abort) -> Event {
+    let last = page(rt, 0xFF_FFFF_F000, PageSize::Kib4);
+    map(0, last, 0x100, R | U | A | D)
+}
+
 /// How many of the pages of 1 GiB in the page of 512 GiB at 0x80_0000_0000 hart 1 translates at their first address.
 fn translated_of_largest(rt: &impl Abort, machine: &Machine) -> usize {
     let mut count = 0_usize;
@@ -443,13 +449,11 @@ fn largest_page_is_shot_down(rt: HostRuntime) {
     );
     assert!(rt; translated_of_largest(&rt, &machine) == 0);
     assert!(rt; !translates(&rt, &machine, 0xFF_FFFF_FFFF));
-    let last = page(&rt, 0xFF_FFFF_F000, PageSize::Kib4);
-    let map_last = map(0, last, 0x100, R | U | A | D);
     let after = [
-        (map_last, Reply::Table(0x8_0002)),
-        (map_last, Reply::Table(0x8_0003)),
-        (map_last, Reply::Table(0x8_0004)),
-        (map_last, Reply::Leaf),
+        (map_last(&rt), Reply::Table(0x8_0002)),
+        (map_last(&rt), Reply::Table(0x8_0003)),
+        (map_last(&rt), Reply::Table(0x8_0004)),
+        (map_last(&rt), Reply::Leaf),
         (begin(1, 0xFF_FFFF_FFFF), Reply::More),
         (load(1), Reply::More),
         (load(1), Reply::More),

@@ -7,6 +7,5 @@ pub mod NextWord
 pub mod NumLemmas
 pub mod RunLemmas
 pub mod StepLemmas
-pub mod WiderSteps
 pub mod WordLemmas
 mod WorkedRows

@@ -15,7 +15,7 @@ mod text;
 pub use fault::StepFault;
 pub use laws::{
     harts_are_told_between_steps_and_pages, num_is_written, run_step_is_written,
-    steps_of_sv39_are_steps_of_sv48, walk_step_is_written,
+    walk_step_is_written,
 };
 pub use numbers::num;
 pub use run::{run_step, run_step_among};

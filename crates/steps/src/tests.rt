@@ -370,40 +370,38 @@ fn steps_of_harts_and_pages_that_are_not_there(rt: HostRuntime) {
 }
 
 /// The text writes the event in Sv48, and no step in Sv39.
-fn assert_step_of_sv48(rt: &impl Abort, text: &str, event: Event) {
-    assert_eq!(rt; run_step_among(Scheme::Sv48, 2, text), Ok(event), "{text}");
-    assert_eq!(rt; run_step(Scheme::Sv48, text), Some(event), "{text}");
+fn assert_step_of_sv48(rt: &impl Abort, text: &str, event: &Event) {
+    assert_eq!(rt; run_step_among(Scheme::Sv48, 2, text), Ok(*event), "{text}");
+    assert_eq!(rt; run_step(Scheme::Sv48, text), Some(*event), "{text}");
     assert_no_step(rt, Scheme::Sv39, text);
 }
 
 /// Pages of 512 GiB are steps of Sv48 alone.
 #[test]
 fn pages_of_512_gib(rt: HostRuntime) -> Result<(), Fail> {
-    let flags = PteFlags::from_bits_retain(0xd2);
-    let page_of_user = page(0x80_0000_0000, PageSize::Gib512)?;
     let map = Event::Map {
         hart: 0,
         place: Place::Space(0),
-        page: page_of_user,
+        page: page(0x80_0000_0000, PageSize::Gib512)?,
         ppn: 0x1000_0000,
-        flags,
+        flags: PteFlags::from_bits_retain(0xd2),
     };
     let unmap = Event::Unmap {
         hart: 1,
         place: Place::Space(0),
-        page: page_of_user,
+        page: page(0x80_0000_0000, PageSize::Gib512)?,
         named: 3,
     };
     let protect = Event::Protect {
         hart: 0,
         place: Place::Kernel,
         page: page(0xffff_ff80_0000_0000, PageSize::Gib512)?,
-        flags,
+        flags: PteFlags::from_bits_retain(0xd2),
         named: 0,
     };
-    assert_step_of_sv48(&rt, "0 map 0 512G:0x8000000000 0x10000000 ruad", map);
-    assert_step_of_sv48(&rt, "1 unmap 0 512G:549755813888 0,1", unmap);
-    assert_step_of_sv48(&rt, "0 protect k 512G:0xffffff8000000000 ruad -", protect);
+    assert_step_of_sv48(&rt, "0 map 0 512G:0x8000000000 0x10000000 ruad", &map);
+    assert_step_of_sv48(&rt, "1 unmap 0 512G:549755813888 0,1", &unmap);
+    assert_step_of_sv48(&rt, "0 protect k 512G:0xffffff8000000000 ruad -", &protect);
     assert_no_step(&rt, Scheme::Sv39, "9 map 0 512G:0x1 0x1 r");
     assert_no_step(&rt, Scheme::Sv39, "0 unmap 0 512G:0x0 9");
     Ok(())

@@ -389,21 +389,26 @@ fn schemes_of_new_tlbs(rt: HostRuntime) {
 /// The 512 GiB at 0x8000000000, which a leaf of PPN 0x10000000 maps, and the 4 KiB before them.
 #[test]
 fn an_entry_of_512_gib(rt: HostRuntime) {
+    let whole = page(&rt, PageSize::Gib512, 0x80_0000_0000);
+    let before = page(&rt, PageSize::Kib4, 0x7F_FFFF_F000);
     let widest = Entry {
         asid: 1,
         global: false,
-        page: page(&rt, PageSize::Gib512, 0x80_0000_0000),
+        page: whole,
         ppn: 0x1000_0000,
         flags: PteFlags::R | PteFlags::U | PteFlags::A,
     };
-    let small = seen_at(
-        1,
-        false,
-        page(&rt, PageSize::Kib4, 0x7F_FFFF_F000),
-        (1, 0x7F_FFFF_F000),
-    );
+    let small = Entry {
+        page: before,
+        ppn: 0x40000,
+        ..widest
+    };
     let probes = [
-        small,
+        Probe {
+            entry: small,
+            asid: 1,
+            va: 0x7F_FFFF_F000,
+        },
         Probe {
             entry: widest,
             asid: 1,
@@ -411,19 +416,22 @@ fn an_entry_of_512_gib(rt: HostRuntime) {
         },
     ];
     let rows = [
-        (0x7F_FFFF_FFFF, Some(small.entry)),
-        (0x80_0000_0000, Some(widest)),
-        (0x80_8040_3ABC, Some(widest)),
-        (0xFF_FFFF_FFFF, Some(widest)),
-        (0x100_0000_0000, None),
+        (0x7F_FFFF_FFFF, Some(small), [false, true]),
+        (0x80_0000_0000, Some(widest), [true, false]),
+        (0x80_8040_3ABC, Some(widest), [true, false]),
+        (0xFF_FFFF_FFFF, Some(widest), [true, false]),
+        (0x100_0000_0000, None, [true, true]),
     ];
-    for (va, answer) in &rows {
+    for (va, answer, stays) in &rows {
         let mut tlb = filled_in(Scheme::Sv48, &probes);
         assert_eq!(rt; lookup(&rt, &tlb, 1, *va), *answer, "{va:x}");
         tlb.fence(Some(*va), Some(1));
         for (i, probe) in probes.iter().enumerate() {
-            let stays = *answer != Some(probe.entry);
-            assert_eq!(rt; is_there(&rt, &tlb, probe), stays, "entry {i} after {va:x}");
+            assert_eq!(rt;
+                is_there(&rt, &tlb, probe),
+                stays[i],
+                "entry {i} after {va:x}"
+            );
         }
     }
     let va = address(&rt, 0x80_8040_3ABC);
@@ -432,10 +440,10 @@ fn an_entry_of_512_gib(rt: HostRuntime) {
         Ok(0x100_8040_3ABC)
     );
     let services = [
-        (What::PageOf(small.entry.page, Some(1)), [false, true]),
-        (What::PageOf(widest.page, Some(1)), [true, false]),
-        (What::PageOf(widest.page, Some(2)), [true, true]),
-        (What::PageOf(widest.page, None), [true, false]),
+        (What::PageOf(before, Some(1)), [false, true]),
+        (What::PageOf(whole, Some(1)), [true, false]),
+        (What::PageOf(whole, Some(2)), [true, true]),
+        (What::PageOf(whole, None), [true, false]),
         (
             What::PageOf(page(&rt, PageSize::Kib4, 0xFF_FFFF_F000), Some(1)),
             [true, false],
