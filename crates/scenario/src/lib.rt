@@ -20,7 +20,10 @@ mod texts;
 mod trouble;
 
 pub use fault::Fault;
-pub use format_laws::{first_wrong_step, least_unknown_key, limits_are_checked, worked_endings};
+pub use format_laws::{
+    first_wrong_step, least_unknown_key, limits_are_checked, mode_is_sv39_by_default,
+    worked_endings, worked_modes,
+};
 pub use lines::one_text;
 pub use program::{Which, command};
 pub use steps::StepFault;
