@@ -40,7 +40,6 @@ pub fn harts_are_told_between_steps_and_pages()
 {}
 
 /// A text that writes a step in Sv39 writes the same step in Sv48.
-#[tactic(auto, using(crate::proofs::WiderSteps::wider_step))]
 pub fn steps_of_sv39_are_steps_of_sv48()
     ensures { (harts : ℕ) (text : List ℕ) (event : Event) → step_among Sv39 harts text ≡ Ok event → step_among Sv48 harts text ≡ Ok event }
 {}
