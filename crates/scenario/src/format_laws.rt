@@ -3,7 +3,7 @@ ghost use Rattle.pte.specs.declared.scheme.Scheme.{Scheme};
 ghost use Rattle.pte.specs.declared.scheme.Scheme.TheVariants.{Sv39, Sv48};
 ghost use Rattle.std.specs.Prelude.{◌≡◌, ◌↔◌, List, [], ℕ, pos, Some, None, Ok, Err, codes, true, false, IsTrue};
 ghost use Rattle.steps.specs.declared.fault.StepFault.TheVariants.{NotStep};
-ghost use Rattle.scenario.specs.Command.{done, IsTold, no_memory, output_failed, refused, too_large, unreadable};
+ghost use Rattle.scenario.specs.Command.{done, IsTold, misused, no_memory, output_failed, refused, too_large, unreadable};
 ghost use Rattle.history.specs.declared.event.Event.{Event};
 ghost use Rattle.spaces.specs.declared.configuration.Config.{Config};
 ghost use Rattle.spaces.specs.Limits.{max_frames, MeetsLimits};
@@ -57,6 +57,7 @@ pub fn worked_modes()
 /// The status of each ending, and its line on standard error, written out.
 pub fn worked_endings()
     ensures done { IsTold done 0 [] }
+    ensures misused { IsTold misused 2 (codes "svsim: usage: svsim COMMAND FILE\n") }
     ensures unreadable { IsTold unreadable 2 (codes "svsim: cannot read f\n") }
     ensures too_large { IsTold too_large 2 (codes "svsim: file too large\n") }
     ensures not_toml { IsTold (refused not_toml) 2 (codes "svsim: not TOML\n") }
