@@ -12,7 +12,7 @@ use Rattle.scenario.specs.declared.trouble.Trouble.{Trouble}
 use Rattle.scenario.specs.declared.trouble.Trouble.TheVariants as troubles
 use Rattle.scenario.specs.declared.program.Which.{Which}
 use Rattle.scenario.specs.declared.program.Which.TheVariants.{Walk, Run}
-use Rattle.scenario.specs.Command.{done, Ending, ending_of, ending_of_fault, Ends, EndsAs, file_fault, FileLines, IsToldAs, Leaves, no_memory, output_failed, refused, Reports, status_of, too_large, unreadable}
+use Rattle.scenario.specs.Command.{done, Ending, misused, ending_of, ending_of_fault, Ends, EndsAs, file_fault, FileLines, IsToldAs, Leaves, no_memory, output_failed, refused, Reports, status_of, too_large, unreadable}
 use Rattle.scenario.specs.Faults.{Failure, fault_in, not_toml}
 use Rattle.scenario.specs.Input.{AreLeft, IsReadTrouble}
 use Rattle.scenario.specs.Limits.{most_bytes}
@@ -74,6 +74,7 @@ long_bytes n = let byte : ℕ = 0 in (replicate (n + 1) byte, omega (arith, leng
 -- a file that was not read ends so, whatever is known of its bytes
 pub unread_ends : (which : Which) (left : Option (List ℕ)) (trouble : Trouble) (out : Option (List ℕ)) → IsReadTrouble trouble left
     → (bytes : List ℕ) × AreLeft left bytes × EndsAs which bytes (ending_of trouble) out out
+unread_ends which left troubles.Usage out h = absurd h
 unread_ends which left troubles.Unreadable out h = let any = some_bytes left in (any.0, any.1, record { suits = tt; leaves = Keeps-refl out })
 unread_ends which None troubles.TooLarge out h =
     let long = long_bytes most_bytes in (long.0, tt, record { suits = long.1; leaves = Keeps-refl out })
@@ -85,6 +86,7 @@ unread_ends which left (troubles.Refused fault) out h =
 
 -- a trouble is told as it is, or as want of memory
 pub told_itself : (trouble : Trouble) → IsToldAs (ending_of trouble) (ending_of trouble)
+told_itself troubles.Usage = inl refl
 told_itself troubles.Unreadable = inl refl
 told_itself troubles.TooLarge = inl refl
 told_itself (troubles.Refused faults.NotToml) = inl refl
@@ -96,6 +98,7 @@ told_itself (troubles.Refused faults.Output) = inl refl
 told_itself (troubles.Refused faults.NoMemory) = inl refl
 
 pub told_memory : (trouble : Trouble) → IsToldAs (ending_of trouble) no_memory
+told_memory troubles.Usage = inr refl
 told_memory troubles.Unreadable = inr refl
 told_memory troubles.TooLarge = inr refl
 told_memory (troubles.Refused faults.NotToml) = inr refl
@@ -136,6 +139,7 @@ not_memory (inr e) = cc
 
 silent_by : (Lines : List ℕ → Type 0) (ending told : Ending) (old new : Option (List ℕ)) → IsToldAs ending told → IsRefusal (status_of told) → Leaves Lines ending old new → Keeps old new
 silent_by Lines done told old new is refused_so h = absurd (not_done (subst (λ e. IsRefusal (status_of e)) is refused_so))
+silent_by Lines misused told old new is refused_so h = h
 silent_by Lines unreadable told old new is refused_so h = h
 silent_by Lines too_large told old new is refused_so h = h
 silent_by Lines (refused failure) told old new is refused_so h = h

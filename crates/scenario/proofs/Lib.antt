@@ -7,3 +7,4 @@ pub mod OutputLemmas
 pub mod RunLemmas
 pub mod StepLemmas
 pub mod TextLemmas
+pub mod CommandLemmas

@@ -10,6 +10,7 @@ use Rattle.scenario.specs.declared.fault.Fault.TheVariants as faults
 use Rattle.scenario.specs.Faults.{Failure, not_toml, wrong_key, bad_layout, too_many, wrong_step, failure_text, fault_in}
 use Rattle.scenario.specs.Prints.{LinesOf, Prints, PrintsReplies}
 use Rattle.scenario.specs.Output.{AppendsFront, WritesAll, WritesFront}
+use Rattle.scenario.specs.Input.{AreLeft}
 use Rattle.scenario.specs.Limits.{most_bytes}
 use Rattle.scenario.specs.WalkFile.{walk_file}
 use Rattle.scenario.specs.RunFile.{run_file}
@@ -26,6 +27,7 @@ FileLines Run bytes = LinesOf PrintsReplies (run_file bytes)
 
 pub data Ending : Type 0 where
   done : Ending
+  misused : Ending
   unreadable : Ending
   too_large : Ending
   refused : Failure → Ending
@@ -38,6 +40,7 @@ failure_status _ = 3
 
 abbrev pub status_of : Ending → ℕ
 status_of done = 0
+status_of misused = 2
 status_of unreadable = 2
 status_of too_large = 2
 status_of (refused failure) = failure_status failure
@@ -46,6 +49,7 @@ status_of no_memory = 5
 
 abbrev pub reason : List ℕ → Ending → List ℕ
 reason file done = []
+reason file misused = codes "usage: svsim COMMAND FILE"
 reason file unreadable = codes "cannot read " ++ file
 reason file too_large = codes "file too large"
 reason file (refused failure) = failure_text failure
@@ -64,6 +68,7 @@ IsTold ending status line = (status_of ending ≡ status) × (error_line (codes 
 -- when a file of these bytes may end so; each may be unreadable, or want memory
 abbrev pub Suits : Which → List ℕ → Ending → Type 0
 Suits which bytes done = (length bytes ≤ most_bytes) × (file_fault which bytes ≡ None)
+Suits which bytes misused = ⊥
 Suits which bytes unreadable = Unit {0}
 Suits which bytes too_large = most_bytes < length bytes
 Suits which bytes (refused failure) = (length bytes ≤ most_bytes) × (file_fault which bytes ≡ Some failure)
@@ -99,6 +104,12 @@ pub record Ends (which : Which) (file bytes : List ℕ) (status : ℕ) (out_old 
   pub ends_as : EndsAs which bytes ending out_old out_new
   pub reports : Reports file ending status err_old err_new
 
+-- how a command ends on a reader that was opened; without one the file is unreadable, and nothing is written of it
+abbrev pub EndsOn : {R : Type 0} → (R → Option (List ℕ)) → Which → List ℕ → Option R → ℕ → Option (List ℕ) → Option (List ℕ) → Option (List ℕ) → Option (List ℕ) → Type 0
+EndsOn remaining which file None status out_old out_new err_old err_new = Reports file unreadable status err_old err_new × Keeps out_old out_new
+EndsOn remaining which file (Some reader) status out_old out_new err_old err_new =
+    (bytes : List ℕ) × AreLeft (remaining reader) bytes × Ends which file bytes status out_old out_new err_old err_new
+
 -- ---- how the code's troubles stand for endings
 
 abbrev pub ending_of_fault : Fault → Ending
@@ -111,6 +122,7 @@ ending_of_fault faults.Output = output_failed
 ending_of_fault faults.NoMemory = no_memory
 
 abbrev pub ending_of : Trouble → Ending
+ending_of troubles.Usage = misused
 ending_of troubles.Unreadable = unreadable
 ending_of troubles.TooLarge = too_large
 ending_of (troubles.Refused fault) = ending_of_fault fault

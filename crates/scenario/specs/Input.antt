@@ -3,7 +3,7 @@ use Rattle.std.specs.Prelude.{◌≡◌, ℕ, ◌≤◌, ◌<◌, List, ◌++◌
 use Rattle.std.specs.Io.KnownBytes.{Consumes, IsAtEnd}
 use Rattle.scenario.specs.Limits.{most_bytes}
 use Rattle.scenario.specs.declared.trouble.Trouble.{Trouble}
-use Rattle.scenario.specs.declared.trouble.Trouble.TheVariants.{Unreadable, TooLarge, Refused}
+use Rattle.scenario.specs.declared.trouble.Trouble.TheVariants.{Usage, Unreadable, TooLarge, Refused}
 use Rattle.scenario.specs.declared.fault.Fault.TheVariants.{NoMemory}
 
 -- these are the bytes that a reader has, where they are known
@@ -21,12 +21,14 @@ ReadsPiece left rest room old new count =
 
 -- the reader failed, or memory ran out
 abbrev pub IsPieceTrouble : Trouble → Type 0
+IsPieceTrouble Usage = ⊥
 IsPieceTrouble Unreadable = Unit {0}
 IsPieceTrouble TooLarge = ⊥
 IsPieceTrouble (Refused fault) = fault ≡ NoMemory
 
 -- the same, or the reader has more than a file may have
 abbrev pub IsReadTrouble : Trouble → Option (List ℕ) → Type 0
+IsReadTrouble Usage left = ⊥
 IsReadTrouble Unreadable left = Unit {0}
 IsReadTrouble TooLarge left = IfSome left (λ bytes. most_bytes < length bytes)
 IsReadTrouble (Refused fault) left = fault ≡ NoMemory

@@ -10,3 +10,4 @@ pub mod Prints
 pub mod Output
 pub mod Input
 pub mod Command
+pub mod CommandLine

@@ -1,12 +1,14 @@
 //! What the keys of a document hold.
-ghost use Rattle.std.specs.Prelude.{◌≡◌, IfOk, map, option_map, option_and_then, string_bytes, Ok, Err};
+ghost use Rattle.std.specs.Prelude.{◌≡◌, IfErr, IfOk, map, option_map, option_and_then, string_bytes, Ok, Err};
 ghost use Rattle.std.specs.List.{list_any};
 ghost use Rattle.std.specs.Option.{ok_or};
 ghost use Rattle.std.specs.Str.{bytes_eq};
 ghost use Rattle.toml.specs.Data.{get_member, as_str};
+ghost use Rattle.toml.specs.Errors.{IsMemory};
 ghost use Rattle.toml.specs.Parse.{parse_document};
 ghost use Rattle.toml.specs.View.{table_view, view};
 ghost use Rattle.scenario.specs.Faults.{Fails, Gives, not_toml, wrong_key};
+ghost use Rattle.scenario.specs.declared.fault.Fault.TheVariants.{NoMemory, NotToml};
 ghost use Rattle.scenario.specs.Keys.{each, is_known, key_texts, known_only, least_unknown, one_number, one_word, text_views, texts_at, texts_of};
 ghost use Rattle.steps.specs.Num.{num_of};
 
@@ -19,7 +21,16 @@ use toml::{Table, Value};
 pub fn document(alloc: Global, text: &str) -> Result<Table, Fault>
     ensures { Gives table_view result (ok_or (parse_document text.now) not_toml) }
 {
-    match toml::table_from_str(alloc, text) {
+    document_of(toml::table_from_str(alloc, text))
+}
+
+/// What the reader of TOML answered: want of memory exactly where it says so.
+fn document_of(read: Result<Table, toml::de::Error>) -> Result<Table, Fault>
+    ensures table { IfOk read (λ table. result ≡ Ok table) }
+    ensures memory { IfErr read (λ error. IsMemory error → result ≡ Err NoMemory) }
+    ensures not_toml { IfErr read (λ error. ¬ IsMemory error → result ≡ Err NotToml) }
+{
+    match read {
         Ok(table) => Ok(table),
         Err(error) if error.is_memory() => Err(Fault::NoMemory),
         Err(_) => Err(Fault::NotToml),

@@ -61,3 +61,49 @@ fn too_many_steps(rt: HostRuntime) -> Result<(), Fail> {
     }
     Ok(())
 }
+
+/// With ample memory a key of a million bytes is told whole.
+#[test]
+fn longest_key_is_told(rt: HostRuntime) -> Result<(), Fail> {
+    let alloc = rt.alloc();
+    let key = vec![in alloc; b'k'; 1_000_000]?;
+    let Ok(name) = str::from_utf8(key.as_slice()) else {
+        return Err(Fail::from("not a text"));
+    };
+    let text = format!(in alloc; "{name} = 1")?;
+    let reason = format!(in alloc; "key {name}: wrong")?;
+    for which in [Which::Walk, Which::Run] {
+        assert!(rt; refuses(alloc, which, text.as_bytes(), 3, reason.as_str())?);
+    }
+    Ok(())
+}
+
+/// With ample memory the largest machine makes its steps.
+#[test]
+fn largest_machine(rt: HostRuntime) -> Result<(), Fail> {
+    let alloc = rt.alloc();
+    let mut keys = String::from_str(
+        alloc,
+        "harts = 8\nwindow = 4\ncapacity = 64\nspares = [62, 62, 62, 62, 62, 62, 62, 42]\nspaces = [",
+    )?;
+    for asid in 0..32_u32 {
+        write!(keys, "\"7 {asid}\",")?;
+    }
+    keys.push_str("]\n")?;
+    let text = steps_file(alloc, keys.as_str(), "7 switch 31", "7 load", 1_000)?;
+    let ended = end_of(alloc, Which::Run, &mut text.as_bytes());
+    assert_eq!(rt; ended.status, 0);
+    assert!(rt;
+        ended
+            .out
+            .as_slice()
+            .starts_with(b"1 ok\n2 refused NotWalking\n")
+    );
+    assert!(rt;
+        ended
+            .out
+            .as_slice()
+            .ends_with(b"\n1000 refused NotWalking\n")
+    );
+    Ok(())
+}

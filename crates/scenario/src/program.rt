@@ -37,7 +37,10 @@ fn status(trouble: &Trouble) -> u8
     ensures { result ≡ status_of (ending_of trouble.now) }
 {
     match trouble {
-        Trouble::Unreadable | Trouble::TooLarge | Trouble::Refused(Fault::NotToml) => NOT_READ,
+        Trouble::Usage
+        | Trouble::Unreadable
+        | Trouble::TooLarge
+        | Trouble::Refused(Fault::NotToml) => NOT_READ,
         Trouble::Refused(Fault::Output) => OUTPUT_FAILED,
         Trouble::Refused(Fault::NoMemory) => NO_MEMORY,
         Trouble::Refused(_) => REFUSED,
@@ -50,6 +53,7 @@ fn error_text(alloc: Global, file: &str, trouble: &Trouble) -> Result<String, Al
 {
     let mut text = String::new(alloc);
     match trouble {
+        Trouble::Usage => writeln!(text, "svsim: usage: svsim COMMAND FILE")?,
         Trouble::Unreadable => writeln!(text, "svsim: cannot read {file}")?,
         Trouble::TooLarge => writeln!(text, "svsim: file too large")?,
         Trouble::Refused(fault) => writeln!(text, "svsim: {fault}")?,
@@ -90,7 +94,7 @@ fn run<R: Read, W: Write>(
 }
 
 /// Writes the line of a trouble, as far as it goes, and answers the status.
-fn report<E: Write>(alloc: Global, file: &str, trouble: &Trouble, err: &mut E) -> u8
+pub(crate) fn report<E: Write>(alloc: Global, file: &str, trouble: &Trouble, err: &mut E) -> u8
     ensures { Reports file.now (ending_of trouble.now) result (E.contents err.old) (E.contents err.new) }
 {
     match error_text(alloc, file, trouble) {

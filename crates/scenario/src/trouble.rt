@@ -1,4 +1,4 @@
-//! Why a command was not done: its file was not read, or its scenario was refused or not answered.
+//! Why a command was not done: the words ask for none, its file was not read, or its scenario was refused or not answered.
 ghost use Rattle.std.specs.Prelude.{◌≡◌};
 ghost use Rattle.scenario.specs.declared.trouble.Trouble.TheVariants.{Refused};
 ghost use Rattle.scenario.specs.declared.fault.Fault.TheVariants.{NoMemory};
@@ -9,6 +9,8 @@ use std::alloc::AllocError;
 /// Why a command was not done.
 #[derive(Debug, Drop)]
 pub enum Trouble {
+    /// The words ask for nothing.
+    Usage,
     Unreadable,
     TooLarge,
     Refused(Fault),

@@ -5,4 +5,4 @@ pub mod MailboxLaws
 pub mod Rings
 pub mod TicketLaws
 pub mod TicketOpenings
-mod WorkedRows
+pub mod WorkedRows

@@ -6,3 +6,4 @@ pub mod Request
 pub mod Ring
 pub mod TicketHistory
 pub mod Tickets
+pub mod WorkedRows

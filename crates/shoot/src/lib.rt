@@ -12,6 +12,7 @@ mod request;
 mod ring;
 mod ticket_laws;
 mod tickets;
+mod worked_rows;
 
 pub use hart_set::HartSet;
 pub use hart_set_laws::{bytes_are_sets_of_harts, sets_of_harts_are_tests};
@@ -26,6 +27,9 @@ pub use ticket_laws::{
     ticket_is_done_once_all_are_collected, tickets_stand_at_their_calls, tickets_tell_their_calls,
 };
 pub use tickets::{Collected, NotDone, Ticket, TicketFault, Tickets};
+pub use worked_rows::{
+    worked_bytes, worked_mailboxes, worked_marks, worked_numbers, worked_tickets,
+};
 
 /// A machine has at most this many harts, with numbers from 0 on.
 pub const MAX_HARTS: usize = pte::MAX_HARTS;

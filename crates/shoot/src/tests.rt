@@ -239,3 +239,13 @@ fn lowest_free_number_is_opened(rt: HostRuntime) {
     }
     assert!(&rt; tickets.would_open(0b1) == Ok(0));
 }
+
+/// Each of the worked rows is a law that a caller gets.
+#[test]
+fn worked_rows_are_laws(_rt: HostRuntime) {
+    crate::worked_mailboxes();
+    crate::worked_tickets();
+    crate::worked_marks();
+    crate::worked_numbers();
+    crate::worked_bytes();
+}

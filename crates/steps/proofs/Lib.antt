@@ -7,5 +7,6 @@ pub mod NextWord
 pub mod NumLemmas
 pub mod RunLemmas
 pub mod StepLemmas
+pub mod WiderSteps
 pub mod WordLemmas
-mod WorkedRows
+pub mod WorkedRows

@@ -1,124 +1,96 @@
--- Worked rows: what was worked out by hand, computed from the definitions alone.
-use Rattle.pte.specs.declared.scheme.Scheme.TheVariants.{Sv39, Sv48}
-use Rattle.std.proofs.Common.{◌≡◌, ℕ, Bool, true, false, codes, List, [], ◌∷◌, Option, Some, None, option_map, Err, refl}
-use Rattle.pte.specs.Entry.{is_accessed, is_dirty, is_global, is_user, may_execute, may_read, may_write}
-use Rattle.pte.specs.declared.address.PageSize.TheVariants.{Mib2, Gib512}
-use Rattle.pte.specs.declared.permission.Access.TheVariants.{Load, Store}
-use Rattle.pte.specs.declared.permission.Mode.TheVariants.{User, Super}
-use Rattle.spaces.specs.declared.places.Place.TheVariants as places
+-- The worked rows, computed.
+use Rattle.std.proofs.Common.{refl}
 use Rattle.shoot.specs.HartSet.{byte_of}
-use Rattle.history.specs.declared.event.Event.TheVariants as events
-use Rattle.history.specs.declared.event.Scope.TheVariants as scopes
-use Rattle.steps.specs.declared.fault.StepFault.TheVariants.{NotStep, NoSuchHart, NotPage}
-use Rattle.steps.specs.Fields.{bits_of}
-use Rattle.steps.specs.RunStep.{run_step_of, step_among}
-use Rattle.steps.specs.Step.{walk_step_of}
-use Rattle.steps.specs.Words.{words_of}
+use Rattle.steps.specs.WorkedRows as rows
 
--- ---- each letter is the flag of its name
+pub letter_r : rows.letter_r
+letter_r = refl
 
--- what an entry with these flags says: R, W, X, U, G, A, D
-abbrev said : ℕ → List Bool
-said bits = may_read bits ∷ may_write bits ∷ may_execute bits ∷ is_user bits ∷ is_global bits ∷ is_accessed bits ∷ is_dirty bits ∷ []
+pub letter_w : rows.letter_w
+letter_w = refl
 
-abbrev letters : List ℕ → Option (List Bool)
-letters word = option_map said (bits_of word)
+pub letter_x : rows.letter_x
+letter_x = refl
 
-r : letters (codes "r") ≡ Some (true ∷ false ∷ false ∷ false ∷ false ∷ false ∷ false ∷ [])
-r = refl
+pub letter_u : rows.letter_u
+letter_u = refl
 
-w : letters (codes "w") ≡ Some (false ∷ true ∷ false ∷ false ∷ false ∷ false ∷ false ∷ [])
-w = refl
+pub letter_g : rows.letter_g
+letter_g = refl
 
-x : letters (codes "x") ≡ Some (false ∷ false ∷ true ∷ false ∷ false ∷ false ∷ false ∷ [])
-x = refl
+pub letter_a : rows.letter_a
+letter_a = refl
 
-u : letters (codes "u") ≡ Some (false ∷ false ∷ false ∷ true ∷ false ∷ false ∷ false ∷ [])
-u = refl
+pub letter_d : rows.letter_d
+letter_d = refl
 
-g : letters (codes "g") ≡ Some (false ∷ false ∷ false ∷ false ∷ true ∷ false ∷ false ∷ [])
-g = refl
+pub three_letters : rows.three_letters
+three_letters = refl
 
-a : letters (codes "a") ≡ Some (false ∷ false ∷ false ∷ false ∷ false ∷ true ∷ false ∷ [])
-a = refl
+pub no_letters : rows.no_letters
+no_letters = refl
 
-d : letters (codes "d") ≡ Some (false ∷ false ∷ false ∷ false ∷ false ∷ false ∷ true ∷ [])
-d = refl
+pub letter_twice : rows.letter_twice
+letter_twice = refl
 
-three : letters (codes "dux") ≡ Some (false ∷ false ∷ true ∷ true ∷ false ∷ false ∷ true ∷ [])
-three = refl
+pub letter_v : rows.letter_v
+letter_v = refl
 
-none : letters (codes "-") ≡ Some (false ∷ false ∷ false ∷ false ∷ false ∷ false ∷ false ∷ [])
-none = refl
+pub blanks_between_words : rows.blanks_between_words
+blanks_between_words = refl
 
-twice : letters (codes "uru") ≡ None
-twice = refl
+pub store_of_walk : rows.store_of_walk
+store_of_walk = refl
 
-valid : letters (codes "v") ≡ None
-valid = refl
+pub begin_with_mxr : rows.begin_with_mxr
+begin_with_mxr = refl
 
--- ---- words and steps
+pub fence_of_a_space : rows.fence_of_a_space
+fence_of_a_space = refl
 
-blanks : words_of (codes " \ta  bc\t") ≡ codes "a" ∷ codes "bc" ∷ []
-blanks = refl
-
-walk : walk_step_of (codes "s+sum store 0x1F") ≡ Some (record { ctx = record { mode = Super; sum = true; mxr = false }; access = Store; va = 31 })
-walk = refl
-
-begin : run_step_of Sv39 (codes "7 begin u+mxr load 10") ≡ Some (events.Begin 7 10 Load (record { mode = User; sum = false; mxr = true }))
-begin = refl
-
-fence : run_step_of Sv39 (codes "0 fence x0 2") ≡ Some (events.Fence 0 None (Some 2))
-fence = refl
-
-unmap : run_step_of Sv39 (codes "1 unmap k 2M:0x400000 1,7,1") ≡ Some (events.Unmap 1 places.Kernel (record { base = 0x400000; size = Mib2 }) 0x82)
+pub unmap_of_the_kernel : rows.unmap_of_the_kernel
 unfolding byte_of
-unmap = refl
+unmap_of_the_kernel = refl
 
-flush : run_step_of Sv39 (codes "0 flush all -") ≡ Some (events.Flush 0 scopes.All 0)
-flush = refl
+pub flush_of_all : rows.flush_of_all
+flush_of_all = refl
 
-take : run_step_of Sv39 (codes "1 take 0") ≡ Some (events.Take 1 0)
-take = refl
+pub take_from_hart_0 : rows.take_from_hart_0
+take_from_hart_0 = refl
 
-retire : run_step_of Sv39 (codes "0 retire 255") ≡ Some (events.Retire 0 255)
-retire = refl
+pub retire_of_a_space : rows.retire_of_a_space
+retire_of_a_space = refl
 
-reclaim : run_step_of Sv39 (codes "0 reclaim 1") ≡ Some (events.Reclaim 0 1)
-reclaim = refl
+pub reclaim_of_a_space : rows.reclaim_of_a_space
+reclaim_of_a_space = refl
 
-create : run_step_of Sv39 (codes "1 create 31 65535") ≡ Some (events.Create 1 31 65535)
-create = refl
+pub create_of_a_space : rows.create_of_a_space
+create_of_a_space = refl
 
--- an ASID has 16 bits
-wide_asid : run_step_of Sv39 (codes "0 create 1 65536") ≡ None
+pub wide_asid : rows.wide_asid
 wide_asid = refl
 
--- ---- the first fault of several
-
-no_step : step_among Sv39 1 (codes "9 flush all 9,x") ≡ Err NotStep
+pub no_step : rows.no_step
 no_step = refl
 
-no_hart : step_among Sv39 8 (codes "8 unmap 0 4K:0x1 0") ≡ Err NoSuchHart
+pub no_hart : rows.no_hart
 no_hart = refl
 
-no_page : step_among Sv39 8 (codes "7 unmap 0 4K:0x1 0") ≡ Err NotPage
+pub no_page : rows.no_page
 no_page = refl
 
--- ---- pages of 512 GiB, and addresses, by the scheme
-
-terapage : run_step_of Sv48 (codes "1 unmap k 512G:0xffffff8000000000 0") ≡ Some (events.Unmap 1 places.Kernel (record { base = 0xffffff8000000000; size = Gib512 }) 0x01)
+pub terapage : rows.terapage
 unfolding byte_of
 terapage = refl
 
-no_terapage : step_among Sv39 1 (codes "9 unmap 0 512G:0x1 9") ≡ Err NotStep
+pub no_terapage : rows.no_terapage
 no_terapage = refl
 
-unaligned_terapage : step_among Sv48 1 (codes "0 unmap 0 512G:0x40000000 0") ≡ Err NotPage
+pub unaligned_terapage : rows.unaligned_terapage
 unaligned_terapage = refl
 
-far_page : step_among Sv39 1 (codes "0 unmap 0 4K:0x4000000000 0") ≡ Err NotPage
+pub far_page : rows.far_page
 far_page = refl
 
-farther_page : step_among Sv48 1 (codes "0 unmap 0 4K:0x800000000000 0") ≡ Err NotPage
+pub farther_page : rows.farther_page
 farther_page = refl

@@ -6,3 +6,4 @@ pub mod StepFaults
 pub mod Fields
 pub mod RunStep
 pub mod RunGrammar
+pub mod WorkedRows

@@ -1,6 +1,7 @@
 //! Laws of the texts: each call makes no step, and its clauses hold of the definitions alone.
 ghost use Rattle.std.specs.Prelude.{◌≡◌, ◌≤◌, List, ℕ, Ok, Err, Some, ◌↔◌};
 ghost use Rattle.pte.specs.declared.scheme.Scheme.{Scheme};
+ghost use Rattle.pte.specs.declared.scheme.Scheme.TheVariants.{Sv39, Sv48};
 ghost use Rattle.history.specs.declared.event.Event.{Event};
 ghost use Rattle.shoot.specs.declared.TheConstants.{MAX_HARTS};
 ghost use Rattle.steps.specs.declared.fault.StepFault.TheVariants.{NoSuchHart, NotStep};
@@ -36,4 +37,9 @@ pub fn run_step_is_written()
 pub fn harts_are_told_between_steps_and_pages()
     ensures not_step { (scheme : Scheme) (m n : ℕ) (text : List ℕ) → step_among scheme m text ≡ Err NotStep → step_among scheme n text ≡ Err NotStep }
     ensures more_harts { (scheme : Scheme) (m n : ℕ) (text : List ℕ) → m ≤ n → ¬ (step_among scheme m text ≡ Err NoSuchHart) → step_among scheme n text ≡ step_among scheme m text }
+{}
+
+/// A text that writes a step in Sv39 writes the same step in Sv48.
+pub fn steps_of_sv39_are_steps_of_sv48()
+    ensures { (harts : ℕ) (text : List ℕ) (event : Event) → step_among Sv39 harts text ≡ Ok event → step_among Sv48 harts text ≡ Ok event }
 {}

@@ -11,16 +11,18 @@ mod numbers;
 mod run;
 mod step;
 mod text;
+mod worked_rows;
 
 pub use fault::StepFault;
 pub use laws::{
     harts_are_told_between_steps_and_pages, num_is_written, run_step_is_written,
-    walk_step_is_written,
+    steps_of_sv39_are_steps_of_sv48, walk_step_is_written,
 };
 pub use numbers::num;
 pub use run::{run_step, run_step_among};
 pub use step::{WalkStep, walk_step};
 pub use text::{next_word, words};
+pub use worked_rows::{worked_faults, worked_letters, worked_pages, worked_steps};
 
 #[cfg(test)]
 mod space_tests;

@@ -463,3 +463,24 @@ fn faults_are_printed(rt: HostRuntime) -> Result<(), Fail> {
     }
     Ok(())
 }
+
+/// Each of the worked rows is a law that a caller gets.
+#[test]
+fn worked_rows_are_laws(_rt: HostRuntime) {
+    crate::worked_letters();
+    crate::worked_steps();
+    crate::worked_faults();
+    crate::worked_pages();
+}
+
+/// With ample memory a text has its words, however many.
+#[test]
+fn words_of_a_long_text(rt: HostRuntime) -> Result<(), Fail> {
+    let alloc = rt.alloc();
+    let mut text = String::new(alloc);
+    for _ in 0..100_000_u32 {
+        text.push_str("a\t")?;
+    }
+    assert_eq!(rt; words(alloc, text.as_str())?.len(), 100_000);
+    Ok(())
+}

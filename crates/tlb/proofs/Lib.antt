@@ -4,4 +4,3 @@ pub mod Keeping
 pub mod Translating
 pub mod Mapped
 pub mod Walked
-mod WorkedRows

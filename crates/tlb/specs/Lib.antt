@@ -3,3 +3,4 @@ pub mod Fence
 pub mod Service
 pub mod Mappings
 pub mod Answer
+pub mod WorkedRows

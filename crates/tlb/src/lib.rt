@@ -3,6 +3,7 @@
 
 mod laws;
 mod store;
+mod worked_rows;
 
 pub use laws::{
     each_entry_is_kept_or_dropped, fill_drops_at_most_the_oldest, found_entry_is_mapped,
@@ -11,6 +12,10 @@ pub use laws::{
     unmapped_page_is_not_translated, what_goes_is_gone,
 };
 pub use store::{Entry, TLB_SIZE, Tlb};
+pub use worked_rows::{
+    worked_answers, worked_ends_of_the_halves, worked_fences, worked_fills, worked_matches,
+    worked_services,
+};
 
 #[cfg(test)]
 mod tests;

@@ -479,3 +479,14 @@ fn an_entry_of_512_gib_is_served(rt: HostRuntime) {
         assert_eq!(rt; are_there(&rt, &tlb), *stays);
     }
 }
+
+/// Each of the worked rows is a law that a caller gets.
+#[test]
+fn worked_rows_are_laws(_rt: HostRuntime) {
+    crate::worked_fences();
+    crate::worked_ends_of_the_halves();
+    crate::worked_matches();
+    crate::worked_services();
+    crate::worked_fills();
+    crate::worked_answers();
+}

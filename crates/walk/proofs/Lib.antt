@@ -3,8 +3,8 @@ pub mod Pages
 pub mod Ending
 pub mod Unique
 pub mod Members
-mod WorkedRows
-mod WorkedRowsSv48
+pub mod WorkedRows
+pub mod WorkedRowsSv48
 pub mod FoundMembers
 pub mod MappedAnswers
 pub mod Stored

@@ -8,3 +8,5 @@ pub mod Loads
 pub mod Pointers
 pub mod Stores
 pub mod Frames
+pub mod WorkedRows
+pub mod WorkedRowsSv48

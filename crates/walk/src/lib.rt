@@ -7,6 +7,7 @@ mod laws;
 mod memory;
 mod translation;
 mod walking;
+mod worked_rows;
 
 pub use found_or_trap::{Found, Trap, Why, flags_fault};
 pub use laws::{
@@ -23,6 +24,11 @@ pub use laws::{
 pub use memory::Words;
 pub use translation::{translate, translate_in};
 pub use walking::{Progress, Walk};
+pub use worked_rows::{
+    worked_accessed_and_dirty, worked_ends_of_paths, worked_faults_of_sv48, worked_global_bits,
+    worked_halves_of_sv48, worked_orders_of_faults, worked_pages, worked_pages_of_sv48,
+    worked_permissions, worked_words,
+};
 
 #[cfg(test)]
 mod tests;
