@@ -1,5 +1,5 @@
 -- What a port answers, and what a call leaves of it.
-use Rattle.std.specs.Prelude.{ℕ, Bool, false, ◌&&◌, not, List, [], Option, Some, None, is_none, Result, Ok, Err, if◌then◌else◌, slice_set}
+use Rattle.std.specs.Prelude.{ℕ, Bool, true, false, ◌&&◌, not, List, [], Option, Some, None, is_none, Result, Ok, Err, if◌then◌else◌, slice_set}
 use Rattle.std.specs.Option.{option_map}
 use Rattle.pte.specs.declared.address.What.{What}
 use Rattle.pte.specs.declared.address.What.TheVariants.{All}
@@ -15,8 +15,10 @@ use Rattle.shoot.specs.Tickets.{TicketTable, is_open, names, is_posted, is_done_
 use Rattle.history.specs.declared.refusal.Refusal.{Refusal}
 use Rattle.history.specs.declared.refusal.Refusal.TheVariants.{NoHart, NoSpace, HomeNotNamed, NoTicket, NotOpen, NotNamed, AlreadyPosted, Closed, Full, NotDone}
 use Rattle.history.specs.declared.event.Scope.{Scope}
-use Rattle.history.specs.Due.{are_pair, are_harts, is_scope}
+use Rattle.history.specs.Due.{are_pair, are_harts, is_number}
+use Rattle.history.specs.declared.event.Scope.TheVariants as scope
 use Rattle.history.specs.Orders.{scope_request}
+use Rattle.history.specs.Setup.{Setup}
 use Rattle.rings.specs.Ends.{OutboxState, InboxState, post_fault, with_accepted, with_taken, after_close}
 use Rattle.board.specs.Ports.{PortState, outbox_to, inbox_from}
 
@@ -29,9 +31,14 @@ abbrev pub answer_or : {X : Type 0} → Option Refusal → Result X Refusal → 
 answer_or (Some refusal) rest = Err refusal
 answer_or None rest = rest
 
+-- the space of the scope is there; those of a board stay as they were opened
+abbrev pub is_there : Setup → Scope → Bool
+is_there C (scope.Space s) = is_number C s
+is_there C scope.All = true
+
 -- Flush
 abbrev pub flush_refusal : PortState → Scope → ℕ → Option Refusal
-flush_refusal port scope named = refused_if (not (are_harts port.setup named)) NoHart (refused_if (not (is_scope port.setup scope)) NoSpace None)
+flush_refusal port scope named = refused_if (not (are_harts port.setup named)) NoHart (refused_if (not (is_there port.setup scope)) NoSpace None)
 
 abbrev pub opened : Result ℕ TicketFault → Result ℕ Refusal
 opened (Ok ticket) = Ok ticket
@@ -46,7 +53,7 @@ with_tickets port tickets = record port { tickets = tickets }
 
 abbrev pub after_flush : PortState → Scope → ℕ → PortState
 after_flush port scope named =
-    if is_none (flush_refusal port scope named) then with_tickets port (after_open port.tickets (scope_request port.setup scope) named) else port
+    if is_none (flush_refusal port scope named) then with_tickets port (after_open port.tickets (scope_request port.setup [] scope) named) else port
 
 -- Post: what the ticket and the two harts say, and then what the mailbox says
 abbrev pub box_refusal : Option PostFault → Option Refusal

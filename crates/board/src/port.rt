@@ -160,7 +160,7 @@ fn acknowledge_own(tickets: &mut Tickets, ticket: u32, hart: u8) -> Collected
 }
 
 impl HartPort {
-    ghost use Rattle.history.specs.Due.{are_harts, are_pair, is_scope};
+    ghost use Rattle.history.specs.Due.{are_harts, are_pair};
     ghost use Rattle.history.specs.Orders.{scope_request};
     ghost use Rattle.shoot.specs.Tickets.{names};
     ghost use Rattle.std.specs.Arc.{arc_value};
@@ -168,7 +168,7 @@ impl HartPort {
     ghost use Rattle.history.specs.Setup.{setup_of};
     ghost use Rattle.board.specs.Rows.{IsInRow, IsOutRow};
     ghost use Rattle.board.specs.Ports.{inbox_from, IsPort, name_of, new_port, outbox_to};
-    ghost use Rattle.board.specs.Answers.{ack_self_answer, after_ack_self, after_close_to, after_finish_of, after_flush, after_post, after_serve, close_answer, finish_answer, flush_answer, flush_refusal, post_refusal, request_of, ticket_refusal};
+    ghost use Rattle.board.specs.Answers.{ack_self_answer, after_ack_self, after_close_to, after_finish_of, after_flush, after_post, after_serve, close_answer, finish_answer, flush_answer, flush_refusal, is_there, post_refusal, request_of, ticket_refusal};
 
     /// A port of a hart that has done nothing yet.
     pub(crate) fn new(
@@ -232,8 +232,8 @@ impl HartPort {
 
     /// What a flush of a scope asks harts to drop.
     fn what(&self, scope: Scope) -> Option<What>
-        ensures some { IfSome result (λ what. IsTrue (is_scope self.now.setup scope) × (what ≡ scope_request self.now.setup scope)) }
-        ensures none { IfNone result (is_scope self.now.setup scope ≡ false) }
+        ensures some { IfSome result (λ what. IsTrue (is_there self.now.setup scope) × (what ≡ scope_request self.now.setup [] scope)) }
+        ensures none { IfNone result (is_there self.now.setup scope ≡ false) }
     {
         match scope {
             Scope::All => Some(What::All),
