@@ -92,6 +92,12 @@ pub struct Tally<C: Named> {
     ghost named: { slice_index_or C.lists number 0 ≡ turns.name },
 }
 
+unsafe impl<C: Named + Send> Send for Kept<C> {}
+
+unsafe impl<C: Named + Send> Send for Tally<C> {}
+
+unsafe impl<C: Named + Send> Sync for Locked<C> {}
+
 impl<C: Named> Locked<C> {
     /// A machine of a configuration under a lock, and one tally for each list of the blank, whose turns are none. `BadLayout`
     /// exactly if `Config::check` says no, `NoMemory` if memory is wanting. `C` names the configuration and the lists.

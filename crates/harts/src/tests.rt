@@ -267,32 +267,29 @@ fn book_shows_its_history(rt: HostRuntime) -> Result<(), Fail> {
     Ok(())
 }
 
-fn fence_of(hart: u8, rs1: Option<u64>, rs2: Option<u16>) -> Event {
+fn fence_of(hart: u8, rs1: Option<u64>, rs2: Option<u64>) -> Event {
     Event::Fence { hart, rs1, rs2 }
 }
 
 /// A hart walks to the page of 2 MiB, and finds it until a fence names its address or its address space. A fence of the page
 /// behind it, and one of another address space, leave it.
 fn found_until_fenced(hart: u8) -> [(Event, Reply); 15] {
-    let begin = load_of(hart, 0x5f_ffff);
-    let load = Event::Load { hart };
-    let found = Reply::Hit(0x3f_ffff);
     [
-        (begin, Reply::More),
-        (load, Reply::More),
-        (load, Reply::Filled(0x3f_ffff)),
+        (load_of(hart, 0x5f_ffff), Reply::More),
+        (Event::Load { hart }, Reply::More),
+        (Event::Load { hart }, Reply::Filled(0x3f_ffff)),
         (fence_of(hart, Some(0x60_0000), None), Reply::Ok),
-        (begin, found),
+        (load_of(hart, 0x5f_ffff), Reply::Hit(0x3f_ffff)),
         (fence_of(hart, Some(0x40_0000), None), Reply::Ok),
-        (begin, Reply::More),
-        (load, Reply::More),
-        (load, Reply::Filled(0x3f_ffff)),
+        (load_of(hart, 0x5f_ffff), Reply::More),
+        (Event::Load { hart }, Reply::More),
+        (Event::Load { hart }, Reply::Filled(0x3f_ffff)),
         (fence_of(hart, None, Some(2)), Reply::Ok),
-        (begin, found),
+        (load_of(hart, 0x5f_ffff), Reply::Hit(0x3f_ffff)),
         (fence_of(hart, None, Some(1)), Reply::Ok),
-        (begin, Reply::More),
-        (load, Reply::More),
-        (load, Reply::Filled(0x3f_ffff)),
+        (load_of(hart, 0x5f_ffff), Reply::More),
+        (Event::Load { hart }, Reply::More),
+        (Event::Load { hart }, Reply::Filled(0x3f_ffff)),
     ]
 }
 
