@@ -1,27 +1,23 @@
 -- `pair` makes a new name, and each half owns one side of it.
-use Rattle.std.proofs.Common.{◌≡◌, ℕ, List, [], ◌∷◌, ◌++◌, sym, refl, ap, ◌∙◌}
-use mir.Syntax.{a_type, dcons, dnil, named}
-use mir.Val.{Val, vunit, vptr, vstruct, vcons, vnil, of_list}
+use Rattle.std.proofs.Common.{List, [], ◌∷◌, ◌++◌, refl}
+use mir.Syntax.{a_type, dnil}
+use mir.Val.{Val, vstruct, vcons, vnil, of_list}
 use mir.MapTy.{inst_fn}
 use base.Logic.{SProp, emp}
 use base.Stored.{coded_list}
-use base.Fml.{Fml, ftrue, fsep, feq, flft, fobs, fauth}
-use types.Logic.{sem}
-use types.Kit.{‵, raw, ◌⊛◌, given, ◌$◌, ◌∵◌, !, qed, by, move, keep, drop, split, join, fsplit, fsplit3, fjoin, fjoin3, fpack, learn, use0, feq_i}
-use types.Tokens.{name_new, name_agree, name_set}
-use types.Run.{unit_lit, of_opd, no_more, and_then, returns, enter}
+use base.Fml.{Fml, ftrue, fsep, feq, flft}
+use types.Kit.{‵, raw, ◌⊛◌, ◌$◌, ◌∵◌, !, qed, by, move, keep, split, fjoin, fjoin3, fpack, use0, feq_i}
+use types.Tokens.{name_new}
+use types.Run.{no_more, and_then, returns, enter}
 use types.ByLocal.{alloc_all, pass_all, free_all, look_at, get, sets}
 use types.Part.{agg}
-use contract.Monad.{fact, fact_i}
+use contract.Monad.{fact_i}
 use contract.Running.{tables}
-use denote.Exit.{yes}
 use denote.RattleType.{RattleType, owns, Valss}
-use denote.Signature.{types_at, plain}
-use denote.Builtin.{RefOf}
-use denote.Ref.{mut_vals, mut_Tells, shr_vals, shr_Tells}
-use denote.Steps.{nothing, opens, closes}
+use denote.Signature.{types_at}
+use denote.Steps.{nothing}
 use denote.Param.{param, bounded}
-use denote.Triple.Walked.{Stays, stay_dropped, stay_ref, walk_of, Goes-dropped, Goes-ref}
+use denote.Triple.Walked.{Stays, walk_of}
 use Rattle.std.proofs.raw_atomic.Walks.{proved}
 use Rattle.twins.proofs.Walks.{token, Token, token_made, ends}
 use Rattle.twins.specs.contracts.halves.Inner as Inner

@@ -1,21 +1,19 @@
 -- `push` opens both halves, and sets their name to the longer list.
-use Rattle.std.proofs.Common.{◌≡◌, ℕ, List, [], ◌∷◌, ◌++◌, sym, refl, ap, ◌∙◌}
-use mir.Syntax.{a_type, dcons, dnil, named}
-use mir.Val.{Val, vunit, vptr, vstruct, vcons, vnil, of_list}
+use Rattle.std.proofs.Common.{ℕ, List, [], ◌∷◌, ◌++◌, sym, refl, ap}
+use mir.Syntax.{a_type, dnil, named}
+use mir.Val.{Val, vunit, vptr}
 use mir.MapTy.{inst_fn}
 use base.Logic.{SProp, emp}
 use base.Stored.{coded_list}
-use base.Fml.{Fml, ftrue, fsep, feq, flft, fobs, fauth}
-use types.Logic.{sem}
+use base.Fml.{Fml, ftrue, fsep, flft, fauth}
 use types.Kit.{‵, raw, ◌⊛◌, given, ◌$◌, ◌∵◌, !, qed, by, move, keep, drop, split, join, fsplit, fsplit3, fjoin, fjoin3, fpack, learn, use0, feq_i}
-use types.Tokens.{name_new, name_agree, name_set}
-use types.Run.{unit_lit, of_opd, no_more, and_then, returns, enter}
-use types.ByLocal.{alloc_all, pass_all, free_all, look_at, get, sets}
-use types.Part.{agg}
+use types.Tokens.{name_agree, name_set}
+use types.Run.{unit_lit, of_opd, returns, enter}
+use types.ByLocal.{alloc_all, pass_all, free_all, look_at, sets}
 use contract.Monad.{fact, fact_i}
 use contract.Running.{tables}
 use denote.Exit.{yes}
-use denote.RattleType.{RattleType, owns, Valss}
+use denote.RattleType.{RattleType, owns}
 use denote.Signature.{types_at, plain}
 use denote.Builtin.{RefOf}
 use denote.Ref.{mut_vals, mut_Tells, shr_vals, shr_Tells}
@@ -23,7 +21,7 @@ use denote.Steps.{nothing, opens, closes}
 use denote.Param.{param, bounded}
 use denote.Triple.Walked.{Stays, stay_dropped, stay_ref, walk_of, Goes-dropped, Goes-ref}
 use Rattle.std.proofs.raw_atomic.Walks.{proved}
-use Rattle.twins.proofs.Walks.{token, Token, token_made, ends}
+use Rattle.twins.proofs.Walks.{ends}
 use Rattle.twins.specs.contracts.halves.Inner as Inner
 use Rattle.twins.specs.contracts.halves.Outer as Outer
 use Rattle.twins.specs.contracts.halves.Inner.push.{ended, clauses}
