@@ -39,7 +39,7 @@ impl<C: Named> Model for Book<C> {
 }
 
 /// An event with its reply.
-fn turn_of(event: &Event, reply: &Reply) -> (Event, Reply)
+pub(crate) fn turn_of(event: &Event, reply: &Reply) -> (Event, Reply)
     ensures { result ≡ (event.now, reply.now) }
 {
     (*event, *reply)

@@ -1,10 +1,12 @@
 //! Harts as threads: a machine under one lock, with the history at which it stands.
 #![tactic(auto)]
 
+mod blank;
 mod book;
 mod locked;
 mod named;
 
+pub use blank::{Blank, List, Turns};
 pub use book::Book;
 pub use locked::{Locked, Tally};
 pub use named::Named;

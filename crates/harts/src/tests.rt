@@ -1,4 +1,4 @@
-ghost use Rattle.std.specs.Prelude.{◌≡◌};
+ghost use Rattle.std.specs.Prelude.{◌≡◌, IfOk};
 
 use super::*;
 use arrayvec::ArrayVec;
@@ -8,16 +8,13 @@ use spaces::{Config, OpenFault, Place, Space};
 use std::alloc::{AllocError, Global};
 use std::marker::Brand;
 use std::sync::Wait;
-use std::sync::ledger::Blank;
 use std::test::Fail;
 use std::thread::{Threads, join};
 use stepcore::{Event, Refusal, Reply};
 use walk::{Trap, Why};
 
 /// Two harts and one space, with 8 spare frames for each hart: the first spare frame is 0x80002.
-fn two_harts() -> Config
-    ensures { result.harts ≡ 2 }
-{
+fn two_harts() -> Config {
     let mut spaces = ArrayVec::new();
     spaces.push(Space { home: 0, asid: 1 });
     let mut spares = ArrayVec::new();
@@ -39,7 +36,9 @@ fn many<C: Named, R: Wait>(
     locked: &Locked<C>,
     mut tally: Tally<C>,
     hart: u8,
-) -> Result<Tally<C>, AllocError> {
+) -> Result<Tally<C>, AllocError>
+    ensures { IfOk result (λ back. back.turns.name ≡ tally.turns.name) }
+{
     for _ in 0..100_u32 {
         let fence = Event::Fence {
             hart,
@@ -66,8 +65,7 @@ fn by_two<C: Named + Send + Sync, R: Threads + Wait + Sync>(
     config: &Config,
 ) -> Option<[usize; 3]>
     requires config { C.config ≡ config.now }
-    requires name { blank.name ≡ C.name }
-    requires parts { (blank.parts ≡ C.parts) × (C.parts ≡ config.now.harts) × (config.now.harts ≡ 2) }
+    requires lists { C.lists ≡ blank }
 {
     let Ok((locked, mut tallies)) = Locked::<C>::open(alloc, blank, config) else {
         return None;
@@ -87,7 +85,8 @@ fn by_two<C: Named + Send + Sync, R: Threads + Wait + Sync>(
 #[test]
 fn locked_counts(rt: HostRuntime) -> Result<(), Fail> {
     let config = two_harts();
-    let counts = by_two::<Brand, _>(&rt, rt.alloc(), Blank::new(2), &config);
+    let blank = Blank::new(rt.alloc(), 2)?;
+    let counts = by_two::<Brand, _>(&rt, rt.alloc(), blank, &config);
     assert!(rt; counts == Some([200, 100, 100]));
     Ok(())
 }
@@ -119,8 +118,7 @@ fn answers<C: Named, R: Wait>(
     steps: &[(Event, Reply)],
 ) -> Option<bool>
     requires config { C.config ≡ config.now }
-    requires name { blank.name ≡ C.name }
-    requires parts { (blank.parts ≡ C.parts) × (C.parts ≡ config.now.harts) × (config.now.harts ≡ 2) }
+    requires lists { C.lists ≡ blank }
 {
     let Ok((locked, mut tallies)) = Locked::<C>::open(alloc, blank, config) else {
         return None;
@@ -246,7 +244,8 @@ fn superpage_shootdown_through_calls(rt: HostRuntime) -> Result<(), Fail> {
         steps.push(step)?;
     }
     let config = two_harts();
-    let same = answers::<Brand, _>(&rt, rt.alloc(), Blank::new(2), &config, steps.as_slice());
+    let blank = Blank::new(rt.alloc(), 2)?;
+    let same = answers::<Brand, _>(&rt, rt.alloc(), blank, &config, steps.as_slice());
     assert!(rt; same == Some(true));
     Ok(())
 }
@@ -264,6 +263,96 @@ fn book_shows_its_history(rt: HostRuntime) -> Result<(), Fail> {
     steps.push((finish(), Reply::Refused(Refusal::NotDone)))?;
     let config = two_harts();
     let same = book_shows::<Brand>(rt.alloc(), &config, steps.as_slice());
+    assert!(rt; same == Some(true));
+    Ok(())
+}
+
+fn fence_of(hart: u8, rs1: Option<u64>, rs2: Option<u64>) -> Event {
+    Event::Fence { hart, rs1, rs2 }
+}
+
+/// A hart walks to the page of 2 MiB, and finds it until a fence names its address or its address space. A fence of the page
+/// behind it, and one of another address space, leave it.
+fn found_until_fenced(hart: u8) -> [(Event, Reply); 15] {
+    [
+        (load_of(hart, 0x5f_ffff), Reply::More),
+        (Event::Load { hart }, Reply::More),
+        (Event::Load { hart }, Reply::Filled(0x3f_ffff)),
+        (fence_of(hart, Some(0x60_0000), None), Reply::Ok),
+        (load_of(hart, 0x5f_ffff), Reply::Hit(0x3f_ffff)),
+        (fence_of(hart, Some(0x40_0000), None), Reply::Ok),
+        (load_of(hart, 0x5f_ffff), Reply::More),
+        (Event::Load { hart }, Reply::More),
+        (Event::Load { hart }, Reply::Filled(0x3f_ffff)),
+        (fence_of(hart, None, Some(2)), Reply::Ok),
+        (load_of(hart, 0x5f_ffff), Reply::Hit(0x3f_ffff)),
+        (fence_of(hart, None, Some(1)), Reply::Ok),
+        (load_of(hart, 0x5f_ffff), Reply::More),
+        (Event::Load { hart }, Reply::More),
+        (Event::Load { hart }, Reply::Filled(0x3f_ffff)),
+    ]
+}
+
+/// The tally, and whether each event, called with it in this order, is answered so.
+fn plays<C: Named, R: Wait>(
+    rt: &R,
+    locked: &Locked<C>,
+    mut tally: Tally<C>,
+    steps: &[(Event, Reply)],
+) -> Result<(Tally<C>, bool), AllocError>
+    ensures { IfOk result (λ back. back.0.turns.name ≡ tally.turns.name) }
+{
+    let mut same = true;
+    for step in steps {
+        let reply = locked.call(rt, &mut tally, step.0)?;
+        same &= reply == step.1;
+    }
+    Ok((tally, same))
+}
+
+/// Whether each of two harts, played by a thread of its own, finds a page until its own fence.
+fn both_find_until_fenced<C: Named + Send + Sync, R: Threads + Wait + Sync>(
+    rt: &R,
+    alloc: Global,
+    blank: Blank,
+    config: &Config,
+    page: &Page,
+) -> Option<bool>
+    requires config { C.config ≡ config.now }
+    requires lists { C.lists ≡ blank }
+{
+    let Ok((locked, mut tallies)) = Locked::<C>::open(alloc, blank, config) else {
+        return None;
+    };
+    let (b, a) = (tallies.pop()?, tallies.pop()?);
+    let mapped = [
+        (map_of(page), Reply::Table(0x8_0002)),
+        (map_of(page), Reply::Leaf),
+    ];
+    let Ok((a, is_mapped)) = plays(rt, &locked, a, mapped.as_slice()) else {
+        return None;
+    };
+    let shared = &locked;
+    let (of_0, of_1) = (found_until_fenced(0), found_until_fenced(1));
+    let (a, b) = join(
+        rt,
+        || plays(rt, shared, a, of_0.as_slice()),
+        || plays(rt, shared, b, of_1.as_slice()),
+    );
+    let (Ok((_, by_a)), Ok((_, by_b))) = (a, b) else {
+        return None;
+    };
+    Some(is_mapped && by_a && by_b)
+}
+
+#[test]
+fn fences_by_registers_through_calls(rt: HostRuntime) -> Result<(), Fail> {
+    let Some(page) = superpage() else {
+        return Err(Fail::new("no page"));
+    };
+    let config = two_harts();
+    let blank = Blank::new(rt.alloc(), 2)?;
+    let same = both_find_until_fenced::<Brand, _>(&rt, rt.alloc(), blank, &config, &page);
     assert!(rt; same == Some(true));
     Ok(())
 }
