@@ -114,11 +114,7 @@ fn picked(alloc: Global, scheme: Scheme) -> Result<Vec<u64>, AllocError> {
         state = state
             .wrapping_mul(6_364_136_223_846_793_005)
             .wrapping_add(1_442_695_040_888_963_407);
-        let (middle, low, leaf) = (
-            (state >> 33) % middles,
-            (state >> 40) % LOWS,
-            state >> 48,
-        );
+        let (middle, low, leaf) = ((state >> 33) % middles, (state >> 40) % LOWS, state >> 48);
         let low = if number % 16 == 15 { LOWS } else { low };
         addresses.push(address(middle, low, leaf))?;
     }

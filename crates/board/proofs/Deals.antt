@@ -81,9 +81,9 @@ module _ (setup : Setup) (capacity : ℕ) (outs : List (Vec (Option OutboxState)
       let no-ins : n ≤ h → option_map end_of_inbox (element (items_at ins h) s) ≡ None = λ high. ap (λ (r : List (Option InboxState)). option_map end_of_inbox (element r s)) (items-past ins h (omega (arith, net.in_rows))) in
       elim (cases_lt s n) [
         | inl s-low ↦ elim (cases_lt h n) [
-            | inl h-low ↦ net.linked s h s-low h-low
-            | inr h-high ↦ ap (option_map end_of_outbox) (nothing-past outs n s h net.out_rows out_long (omega arith)) ∙ sym (no-ins (omega arith))
-          ]
+          | inl h-low ↦ net.linked s h s-low h-low
+          | inr h-high ↦ ap (option_map end_of_outbox) (nothing-past outs n s h net.out_rows out_long (omega arith)) ∙ sym (no-ins (omega arith))
+        ]
         | inr s-high ↦ no-outs (omega arith) ∙ sym (ap (option_map end_of_inbox) (nothing-past ins n h s net.in_rows in_long (omega arith)))
       ]
 
@@ -95,12 +95,12 @@ module _ (setup : Setup) (capacity : ℕ) (outs : List (Vec (Option OutboxState)
     of_setup = all-named (λ name. name.setup ≡ setup) ports of_setup;
     each = all-named IsPort ports each;
     linked = λ s h.
-      ap (λ (rows : List (List (Option End))). cell rows s h) (named_outs ports)
-      ∙ (cell-map end_of_outbox (map (λ port. port.outboxes) ports) s h
-      ∙ (ap (λ (rows : List (List (Option OutboxState))). option_map end_of_outbox (cell rows s h)) same-outs
-      ∙ (ap (λ (r : List (Option OutboxState)). option_map end_of_outbox (element r h)) (row-items outs s)
-      ∙ (linked_rows s h
-      ∙ sym (ap (λ (rows : List (List (Option End))). cell rows h s) (named_ins ports)
+        ap (λ (rows : List (List (Option End))). cell rows s h) (named_outs ports)
+        ∙ (cell-map end_of_outbox (map (λ port. port.outboxes) ports) s h
+        ∙ (ap (λ (rows : List (List (Option OutboxState))). option_map end_of_outbox (cell rows s h)) same-outs
+        ∙ (ap (λ (r : List (Option OutboxState)). option_map end_of_outbox (element r h)) (row-items outs s)
+        ∙ (linked_rows s h
+        ∙ sym (ap (λ (rows : List (List (Option End))). cell rows h s) (named_ins ports)
         ∙ (cell-map end_of_inbox (map (λ port. port.inboxes) ports) h s
         ∙ (ap (λ (rows : List (List (Option InboxState))). option_map end_of_inbox (cell rows h s)) same-ins
         ∙ ap (λ (r : List (Option InboxState)). option_map end_of_inbox (element r s)) (row-items ins h))))))));

@@ -39,13 +39,13 @@ module _ {X : Type 0} (name : X → End) (new : End → X) (capacity hart : ℕ)
       let names : map (option_map name) (row ++ x ∷ []) ≡ map (option_map name) row ++ option_map name x ∷ [] = map-append (option_map name) row (x ∷ []) in
       record {
         capacities =
-          ap (map capacity_of) names
-          ∙ (map-append capacity_of (map (option_map name) row) (option_map name x ∷ [])
-          ∙ (ap₂ (λ front last. front ++ last ∷ []) is.capacities right
-          ∙ sym (ap (map (capacity_between capacity hart)) (range_up_to count) ∙ map-append (capacity_between capacity hart) (range_with_len 0 count) (count ∷ []))));
+            ap (map capacity_of) names
+            ∙ (map-append capacity_of (map (option_map name) row) (option_map name x ∷ [])
+            ∙ (ap₂ (λ front last. front ++ last ∷ []) is.capacities right
+            ∙ sym (ap (map (capacity_between capacity hart)) (range_up_to count) ∙ map-append (capacity_between capacity hart) (range_with_len 0 count) (count ∷ []))));
         are_new =
-          ap₂ (λ front last. front ++ last ∷ []) is.are_new fresh
-          ∙ sym (ap (map (option_map new)) names ∙ map-append (option_map new) (map (option_map name) row) (option_map name x ∷ []));
+            ap₂ (λ front last. front ++ last ∷ []) is.are_new fresh
+            ∙ sym (ap (map (option_map new)) names ∙ map-append (option_map new) (map (option_map name) row) (option_map name x ∷ []));
       }
 
 -- a number below the next one, and two numbers
@@ -59,9 +59,9 @@ pub same_or_not : (a b : ℕ) → (a ≡ b) ⊎ (a ≡ b → ⊥)
 same_or_not a b = elim (cases_lt a b) [
   | inl low ↦ inr (λ same. absurd (omega arith))
   | inr high ↦ elim (cases_lt b a) [
-      | inl above ↦ inr (λ same. absurd (omega arith))
-      | inr not-above ↦ inl (omega arith)
-    ]
+    | inl above ↦ inr (λ same. absurd (omega arith))
+    | inr not-above ↦ inl (omega arith)
+  ]
 ]
 
 -- the rows of a longer list

@@ -55,7 +55,9 @@ fn requests_go_from_port_to_port(rt: HostRuntime) {
     assert!(&rt; zero.post(0, 1) == Ok(()));
     assert!(&rt; zero.post(0, 1) == Err(Refusal::AlreadyPosted));
     assert!(&rt; one.serve(1) == Err(Refusal::NoHart));
-    assert!(&rt; one.serve(0).is_ok_and(|request| request.ticket == 0 && request.what == What::SpaceOf(7)));
+    assert!(&rt;
+        one.serve(0).is_ok_and(|request| request.ticket == 0 && request.what == What::SpaceOf(7))
+    );
     assert!(&rt; one.serve(0) == Err(Refusal::Empty));
     assert!(&rt; zero.ack_self(2) == Err(Refusal::NotOpen));
     assert!(&rt; zero.ack_self(0) == Ok(Collected::Waiting(0b10)));

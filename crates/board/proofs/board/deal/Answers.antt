@@ -32,19 +32,19 @@ loop-outs-preserved c =
       same = omega (arith, lo, li, i.same);
       count = rw put (omega (arith, lo, i.count));
       outs_are = λ h below. subst (λ (r : List (Option OutboxState)). IsOutRow config.capacity h config.harts r)
-        (ap (λ (rows : List (Vec (Option OutboxState))). items_at rows h) po ∙ items-old outs out h below) (i.outs_are h (omega (arith, lo)));
+          (ap (λ (rows : List (Vec (Option OutboxState))). items_at rows h) po ∙ items-old outs out h below) (i.outs_are h (omega (arith, lo)));
       ins_are = λ h below. subst (λ (r : List (Option InboxState)). IsInRow config.capacity h config.harts r)
-        (ap (λ (rows : List (Vec (Option InboxState))). items_at rows h) pi ∙ items-old ins in' h (omega (arith, lo, li, i.same))) (i.ins_are h (omega (arith, lo)));
+          (ap (λ (rows : List (Vec (Option InboxState))). items_at rows h) pi ∙ items-old ins in' h (omega (arith, lo, li, i.same))) (i.ins_are h (omega (arith, lo)));
       outs = rw put (
-        ap (λ (r : List (Option OutboxState)). map (λ row. row.items) outs ++ r ∷ map (λ p. p.outboxes) old) c.new-port.ensures.ends.0
-        ∙ (sym (append_assoc (map (λ row. row.items) outs) (out.items ∷ []) (map (λ p. p.outboxes) old))
-        ∙ (ap (λ (rows : List (List (Option OutboxState))). rows ++ map (λ p. p.outboxes) old) (sym (map-append (λ row. row.items) outs (out ∷ [])))
-        ∙ (ap (λ (rows : List (Vec (Option OutboxState))). map (λ row. row.items) rows ++ map (λ p. p.outboxes) old) (sym po) ∙ i.outs))));
+          ap (λ (r : List (Option OutboxState)). map (λ row. row.items) outs ++ r ∷ map (λ p. p.outboxes) old) c.new-port.ensures.ends.0
+          ∙ (sym (append_assoc (map (λ row. row.items) outs) (out.items ∷ []) (map (λ p. p.outboxes) old))
+          ∙ (ap (λ (rows : List (List (Option OutboxState))). rows ++ map (λ p. p.outboxes) old) (sym (map-append (λ row. row.items) outs (out ∷ [])))
+          ∙ (ap (λ (rows : List (Vec (Option OutboxState))). map (λ row. row.items) rows ++ map (λ p. p.outboxes) old) (sym po) ∙ i.outs))));
       ins = rw put (
-        ap (λ (r : List (Option InboxState)). map (λ row. row.items) ins ++ r ∷ map (λ p. p.inboxes) old) c.new-port.ensures.ends.1
-        ∙ (sym (append_assoc (map (λ row. row.items) ins) (in'.items ∷ []) (map (λ p. p.inboxes) old))
-        ∙ (ap (λ (rows : List (List (Option InboxState))). rows ++ map (λ p. p.inboxes) old) (sym (map-append (λ row. row.items) ins (in' ∷ [])))
-        ∙ (ap (λ (rows : List (Vec (Option InboxState))). map (λ row. row.items) rows ++ map (λ p. p.inboxes) old) (sym pi) ∙ i.ins))));
+          ap (λ (r : List (Option InboxState)). map (λ row. row.items) ins ++ r ∷ map (λ p. p.inboxes) old) c.new-port.ensures.ends.1
+          ∙ (sym (append_assoc (map (λ row. row.items) ins) (in'.items ∷ []) (map (λ p. p.inboxes) old))
+          ∙ (ap (λ (rows : List (List (Option InboxState))). rows ++ map (λ p. p.inboxes) old) (sym (map-append (λ row. row.items) ins (in' ∷ [])))
+          ∙ (ap (λ (rows : List (Vec (Option InboxState))). map (λ row. row.items) rows ++ map (λ p. p.inboxes) old) (sym pi) ∙ i.ins))));
       numbered = rw put (ap₂ (λ (h : ℕ) (rest : List ℕ). h ∷ rest) hart (i.numbered ∙ ap (λ n. range_with_len n (length old)) lo));
       of_setup = rw put (all_and_first (λ (p : PortState). p.setup ≡ setup_of config) port old (c.new-port.ensures.setup ∙ ap (λ (a : Config). setup_of a) c.in_ok-shared.ensures) i.of_setup);
       each = rw put (all_and_first (λ (p : PortState). IsPort (name_of p)) port old c.new-port.ensures.port i.each);
@@ -61,8 +61,8 @@ returns-clause-ports c =
     let zero-left : length c.loop-outs.outboxes.items ≡ 0 = ap length none in
     let all-there : length ports ≡ config.harts = omega (arith, i.count, zero-left) in
     dealt (setup_of config) config.capacity c.args.outboxes.items c.args.inboxes.items c.requires.net ports
-      (ap (λ (rows : List (Vec (Option OutboxState))). map (λ row. row.items) rows ++ map (λ p. p.outboxes) ports) (sym none) ∙ i.outs)
-      (ap (λ (rows : List (Vec (Option InboxState))). map (λ row. row.items) rows ++ map (λ p. p.inboxes) ports) (sym none') ∙ i.ins)
-      (i.numbered ∙ ap₂ range_with_len zero-left all-there)
-      i.of_setup
-      i.each
+    (ap (λ (rows : List (Vec (Option OutboxState))). map (λ row. row.items) rows ++ map (λ p. p.outboxes) ports) (sym none) ∙ i.outs)
+    (ap (λ (rows : List (Vec (Option InboxState))). map (λ row. row.items) rows ++ map (λ p. p.inboxes) ports) (sym none') ∙ i.ins)
+    (i.numbered ∙ ap₂ range_with_len zero-left all-there)
+    i.of_setup
+    i.each

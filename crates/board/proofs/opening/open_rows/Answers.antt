@@ -24,7 +24,7 @@ loop-sender-preserved c =
             (sym (ap (λ (rows : List (Vec (Option OutboxState))). items_at rows hart) pushed ∙ items-old old row hart (omega (arith, i.out_rows)))) (i.outs hart low)
         | inr same ↦ subst (λ (h : ℕ). IsOutRow c.args.capacity h c.args.harts (items_at c.push.new.self.items h)) (sym same)
             (subst (λ (r : List (Option OutboxState)). IsOutRow c.args.capacity k c.args.harts r)
-              (sym (ap (λ (rows : List (Vec (Option OutboxState))). items_at rows k) pushed ∙ items-last old row k (sym i.out_rows))) opened.own)
+            (sym (ap (λ (rows : List (Vec (Option OutboxState))). items_at rows k) pushed ∙ items-last old row k (sym i.out_rows))) opened.own)
       ];
       ins = opened.rows;
       linked = λ sender receiver below there. elim (below_next sender k below) [
