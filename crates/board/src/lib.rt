@@ -10,6 +10,3 @@ mod report;
 pub use board::Board;
 pub use port::HartPort;
 pub use report::{PairReport, Report};
-
-#[cfg(test)]
-mod tests;

@@ -10,6 +10,3 @@ pub use blank::{Blank, List, Turns};
 pub use book::Book;
 pub use locked::{Locked, Tally};
 pub use named::Named;
-
-#[cfg(test)]
-mod tests;

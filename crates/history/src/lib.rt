@@ -15,6 +15,3 @@ pub mod worked_translations;
 pub use event::{Event, Scope};
 pub use refusal::Refusal;
 pub use reply::Reply;
-
-#[cfg(test)]
-mod tests;

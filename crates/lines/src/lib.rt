@@ -8,6 +8,3 @@ mod replies;
 pub use answers::walk_lines;
 pub use laws::one_text;
 pub use replies::reply_lines;
-
-#[cfg(test)]
-mod tests;

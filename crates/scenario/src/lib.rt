@@ -32,14 +32,3 @@ pub use program::{Which, command};
 pub use steps::StepFault;
 pub use system::start;
 pub use texts::{run_text, walk_text};
-
-#[cfg(test)]
-mod limit_tests;
-#[cfg(test)]
-mod program_tests;
-#[cfg(test)]
-mod run_tests;
-#[cfg(test)]
-mod tests;
-#[cfg(test)]
-mod walk_tests;

@@ -39,6 +39,3 @@ pub const MAX_CAPACITY: usize = pte::MAX_CAPACITY as usize;
 
 /// How many tickets a hart has, with numbers from 0 on.
 pub const MAX_TICKETS: usize = MAX_CAPACITY;
-
-#[cfg(test)]
-mod tests;

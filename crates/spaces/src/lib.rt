@@ -27,6 +27,3 @@ pub use laws::{
 };
 pub use places::Place;
 pub use wishes::Wish;
-
-#[cfg(test)]
-mod tests;

@@ -18,6 +18,3 @@ pub use history::{Event, Refusal, Reply, Scope};
 pub use machine::Machine;
 pub use shoot::Request;
 pub use spaces::{Config, OpenFault, Place, Space};
-
-#[cfg(test)]
-mod tests;

@@ -23,8 +23,3 @@ pub use run::{run_step, run_step_among};
 pub use step::{WalkStep, walk_step};
 pub use text::{next_word, words};
 pub use worked_rows::{worked_faults, worked_letters, worked_pages, worked_steps};
-
-#[cfg(test)]
-mod space_tests;
-#[cfg(test)]
-mod tests;

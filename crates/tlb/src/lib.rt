@@ -16,6 +16,3 @@ pub use worked_rows::{
     worked_answers, worked_ends_of_the_halves, worked_fences, worked_fills, worked_matches,
     worked_services,
 };
-
-#[cfg(test)]
-mod tests;

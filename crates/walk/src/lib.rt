@@ -29,6 +29,3 @@ pub use worked_rows::{
     worked_halves_of_sv48, worked_orders_of_faults, worked_pages, worked_pages_of_sv48,
     worked_permissions, worked_words,
 };
-
-#[cfg(test)]
-mod tests;
