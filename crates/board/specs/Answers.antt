@@ -12,8 +12,8 @@ use Rattle.shoot.specs.declared.tickets.TicketFault.{TicketFault}
 use Rattle.shoot.specs.declared.tickets.TicketFault.TheVariants as ticket_fault
 use Rattle.shoot.specs.declared.tickets.Collected.{Collected}
 use Rattle.shoot.specs.Tickets.{TicketTable, is_open, names, is_posted, is_done_at, what_at, open_answer, progress_at, after_open, after_posted, after_acked, after_finish}
-use Rattle.history.specs.declared.refusal.Refusal.{Refusal}
-use Rattle.history.specs.declared.refusal.Refusal.TheVariants.{NoHart, NoSpace, HomeNotNamed, NoTicket, NotOpen, NotNamed, AlreadyPosted, Closed, Full, NotDone}
+use Rattle.refusals.specs.declared.refusal.Refusal.{Refusal}
+use Rattle.refusals.specs.declared.refusal.Refusal.TheVariants.{NoHart, NoSpace, HomeNotNamed, NoTicket, NotOpen, NotNamed, AlreadyPosted, Closed, Full, NotDone}
 use Rattle.history.specs.declared.event.Scope.{Scope}
 use Rattle.history.specs.Due.{are_pair, are_harts, is_number}
 use Rattle.history.specs.declared.event.Scope.TheVariants as scope

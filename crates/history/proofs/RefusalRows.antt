@@ -5,7 +5,7 @@ use Rattle.pte.specs.Entry.{kind_of}
 use Rattle.spaces.specs.Edits.{wish_fault, path_end, edit_of}
 use Rattle.shoot.specs.HartSet.{byte_of, difference}
 use Rattle.history.specs.WorkedRuns.{IsRun, two_harts}
-use Rattle.history.specs.Refusal.{code_of}
+use Rattle.refusals.specs.Numbers.{code_of}
 use Rattle.history.specs.RefusalRuns as run
 
 pub refusals_in_order : IsRun two_harts run.refusals_in_order

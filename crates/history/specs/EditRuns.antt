@@ -5,7 +5,7 @@ use Rattle.pte.specs.declared.address.PageSize.TheVariants.{Gib1}
 use Rattle.pte.specs.declared.permission.Access.TheVariants as access
 use Rattle.spaces.specs.declared.places.Place.TheVariants.{Space, Kernel}
 use Rattle.history.specs.declared.event.Event.TheVariants.{Begin, Load, Map, Unmap}
-use Rattle.history.specs.declared.refusal.Refusal.TheVariants.{NoSpace, NotHome, WrongHalf, BadFlags, PpnTooLarge, Misaligned, AlreadyMapped, LeafInWay, TableInWay, NoFrame, NotMapped, WrongSize, HomeNotNamed}
+use Rattle.refusals.specs.declared.refusal.Refusal.TheVariants.{NoSpace, NotHome, WrongHalf, BadFlags, PpnTooLarge, Misaligned, AlreadyMapped, LeafInWay, TableInWay, NoFrame, NotMapped, WrongSize, HomeNotNamed}
 use Rattle.history.specs.declared.reply.Reply.TheVariants.{Hit, More, Filled, Table, Leaf}
 use Rattle.history.specs.Setup.{Setup}
 use Rattle.history.specs.WorkedRuns.{Step, with_spares, small_page, large_page, flags, R, W, X, U, G, A, D, user, hart_0, hart_1, refused}

@@ -4,7 +4,7 @@ use Rattle.pte.specs.declared.address.What.TheVariants.{SpaceOf, All}
 use Rattle.spaces.specs.declared.places.Place.TheVariants.{Space}
 use Rattle.history.specs.declared.event.Event.TheVariants.{Unmap, Flush, Post, Take, ServeFence, Ack, AckSelf, Collect, Finish, Close}
 use Rattle.history.specs.declared.event.Scope.TheVariants as scope
-use Rattle.history.specs.declared.refusal.Refusal.TheVariants.{NotMapped, HomeNotNamed, NoTicket, NotOpen, NotNamed, AlreadyPosted, Closed, Full, Empty, Serving, NotFenced, NotDone}
+use Rattle.refusals.specs.declared.refusal.Refusal.TheVariants.{NotMapped, HomeNotNamed, NoTicket, NotOpen, NotNamed, AlreadyPosted, Closed, Full, Empty, Serving, NotFenced, NotDone}
 use Rattle.history.specs.declared.reply.Reply.TheVariants.{Opened, Ok, Done, Waiting}
 use Rattle.history.specs.Setup.{Setup}
 use Rattle.history.specs.WorkedRuns.{Step, one_space, small_page, hart_0, hart_1, hart_2, refused, taken}

@@ -6,8 +6,8 @@ use Rattle.walk.specs.declared.found_or_trap.Why.TheVariants.{NotCanonical, Inva
 use Rattle.spaces.specs.declared.places.Place.TheVariants.{Space}
 use Rattle.history.specs.declared.event.Event.TheVariants.{Begin, Load, Map, Unmap, Protect, Flush, Switch, Fence, Post, Take, ServeFence, Ack, AckSelf, Collect, Finish, Close}
 use Rattle.history.specs.declared.event.Scope.TheVariants as scope
-use Rattle.history.specs.declared.refusal.Refusal.{Refusal}
-use Rattle.history.specs.declared.refusal.Refusal.TheVariants.{NoHart, NoSpace, NotHome, WrongHalf, BadFlags, PpnTooLarge, Misaligned, AlreadyMapped, LeafInWay, TableInWay, NoFrame, NotMapped, WrongSize, HomeNotNamed, NoTicket, NotOpen, NotNamed, AlreadyPosted, Closed, Full, Empty, Walking, NotWalking, Serving, NotServing, NotFenced, NotDone, Retiring, InUse, NotAcked, NotRetiring, NotFree, AsidInUse}
+use Rattle.refusals.specs.declared.refusal.Refusal.{Refusal}
+use Rattle.refusals.specs.declared.refusal.Refusal.TheVariants.{NoHart, NoSpace, NotHome, WrongHalf, BadFlags, PpnTooLarge, Misaligned, AlreadyMapped, LeafInWay, TableInWay, NoFrame, NotMapped, WrongSize, HomeNotNamed, NoTicket, NotOpen, NotNamed, AlreadyPosted, Closed, Full, Empty, Walking, NotWalking, Serving, NotServing, NotFenced, NotDone, Retiring, InUse, NotAcked, NotRetiring, NotFree, AsidInUse}
 use Rattle.history.specs.declared.reply.Reply.TheVariants.{More, Opened, Ok, Done, Waiting}
 use Rattle.history.specs.WorkedRuns.{Step, small_page, flags, R, W, U, A, D, user, hart_0, hart_1, hart_2, refused, trap, taken}
 

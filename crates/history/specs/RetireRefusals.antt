@@ -7,7 +7,7 @@ use Rattle.pte.specs.declared.permission.Access.TheVariants as access
 use Rattle.spaces.specs.declared.places.Place.TheVariants.{Space, Kernel}
 use Rattle.history.specs.declared.event.Event.TheVariants.{Begin, Map, Unmap, Protect, Flush, Switch, Post, Take, ServeFence, Ack, AckSelf, Collect, Finish, Retire, Reclaim, Create}
 use Rattle.history.specs.declared.event.Scope.TheVariants as scope
-use Rattle.history.specs.declared.refusal.Refusal.TheVariants.{NoHart, NoSpace, NotHome, NotMapped, HomeNotNamed, NoTicket, Walking, Retiring, InUse, NotAcked, NotRetiring, NotFree, AsidInUse}
+use Rattle.refusals.specs.declared.refusal.Refusal.TheVariants.{NoHart, NoSpace, NotHome, NotMapped, HomeNotNamed, NoTicket, Walking, Retiring, InUse, NotAcked, NotRetiring, NotFree, AsidInUse}
 use Rattle.history.specs.declared.reply.Reply.TheVariants.{More, Table, Opened, Ok, Done, Waiting}
 use Rattle.history.specs.Setup.{Setup}
 use Rattle.history.specs.WorkedRuns.{Step, small_page, flags, R, W, U, G, A, D, user, hart_0, hart_1, hart_2, refused, taken}

@@ -5,7 +5,7 @@ use Rattle.pte.specs.declared.address.What.TheVariants.{PageOf, SpaceOf}
 use Rattle.spaces.specs.declared.places.Place.TheVariants.{Space, Kernel}
 use Rattle.history.specs.declared.event.Event.TheVariants.{Begin, Load, Map, Unmap, Protect, Flush, Switch, Post, Take, ServeFence, Ack, AckSelf, Collect, Finish, Retire, Reclaim, Create}
 use Rattle.history.specs.declared.event.Scope.TheVariants as scope
-use Rattle.history.specs.declared.refusal.Refusal.TheVariants.{NoSpace, NotHome, Retiring, InUse, NotAcked, NotRetiring, NotFree, AsidInUse}
+use Rattle.refusals.specs.declared.refusal.Refusal.TheVariants.{NoSpace, NotHome, Retiring, InUse, NotAcked, NotRetiring, NotFree, AsidInUse}
 use Rattle.history.specs.declared.reply.Reply.TheVariants.{Hit, More, Filled, Table, Leaf, Opened, Ok, Done, Waiting}
 use Rattle.history.specs.WorkedRuns.{Step, small_page, flags, R, U, G, A, D, user, supervisor, hart_0, hart_1, refused, taken}
 

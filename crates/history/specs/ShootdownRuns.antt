@@ -7,7 +7,7 @@ use Rattle.walk.specs.declared.found_or_trap.Why.TheVariants.{Invalid, Denied}
 use Rattle.spaces.specs.declared.places.Place.TheVariants.{Space}
 use Rattle.history.specs.declared.event.Event.TheVariants.{Begin, Load, Map, Unmap, Protect, Flush, Switch, Post, Take, ServeFence, Ack, AckSelf, Collect, Finish}
 use Rattle.history.specs.declared.event.Scope.TheVariants as scope
-use Rattle.history.specs.declared.refusal.Refusal.TheVariants.{AlreadyPosted, Walking, Serving, NotServing, NotFenced, NotDone}
+use Rattle.refusals.specs.declared.refusal.Refusal.TheVariants.{AlreadyPosted, Walking, Serving, NotServing, NotFenced, NotDone}
 use Rattle.history.specs.declared.reply.Reply.TheVariants.{Hit, More, Filled, Table, Leaf, Opened, Ok, Done, Waiting}
 use Rattle.history.specs.Setup.{Setup}
 use Rattle.history.specs.WorkedRuns.{Step, two_spaces, small_page, large_page, flags, R, W, U, A, D, user, hart_0, hart_1, hart_2, refused, trap, taken}

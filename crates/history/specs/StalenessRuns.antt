@@ -4,7 +4,7 @@ use Rattle.std.specs.Prelude.{◌+◌, List, [], ◌∷◌, ◌++◌}
 use Rattle.pte.specs.declared.permission.Access.TheVariants as access
 use Rattle.spaces.specs.declared.places.Place.TheVariants.{Space}
 use Rattle.history.specs.declared.event.Event.TheVariants.{Begin, Load, Map, Unmap, Protect, Post, Take, ServeFence, Ack, AckSelf, Finish}
-use Rattle.history.specs.declared.refusal.Refusal.TheVariants.{Misaligned, NotMapped}
+use Rattle.refusals.specs.declared.refusal.Refusal.TheVariants.{Misaligned, NotMapped}
 use Rattle.history.specs.declared.reply.Reply.TheVariants.{Hit, More, Filled, Table, Leaf, Opened, Ok, Done}
 use Rattle.history.specs.WorkedRuns.{Step, small_page, large_page, flags, R, U, A, D, user, hart_0, hart_1, refused, taken}
 use Rattle.history.specs.ShootdownRuns.{map_superpage, superpage_until_acknowledged, read_only_until_acknowledged, held_in_both_spaces, page_of_space}

@@ -9,7 +9,7 @@ use Rattle.pte.specs.declared.scheme.Scheme.TheVariants.{Sv48}
 use Rattle.walk.specs.declared.found_or_trap.Why.TheVariants.{Invalid, NotCanonical}
 use Rattle.spaces.specs.declared.places.Place.TheVariants.{Space, Kernel}
 use Rattle.history.specs.declared.event.Event.TheVariants.{Begin, Load, Map, Unmap, Protect, Switch, Fence, Post, Take, ServeFence, Ack, AckSelf, Collect, Finish}
-use Rattle.history.specs.declared.refusal.Refusal.TheVariants.{WrongHalf, Misaligned, AlreadyMapped, LeafInWay, TableInWay, NotMapped, WrongSize, NotDone}
+use Rattle.refusals.specs.declared.refusal.Refusal.TheVariants.{WrongHalf, Misaligned, AlreadyMapped, LeafInWay, TableInWay, NotMapped, WrongSize, NotDone}
 use Rattle.history.specs.declared.reply.Reply.TheVariants.{Hit, More, Filled, Table, Leaf, Opened, Ok, Done, Waiting}
 use Rattle.history.specs.Setup.{Setup}
 use Rattle.history.specs.WorkedRuns.{Step, one_hart, two_harts, small_page, large_page, flags, R, W, U, G, A, D, user, supervisor, hart_0, hart_1, refused, trap, taken}

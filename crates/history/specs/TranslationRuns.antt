@@ -10,7 +10,7 @@ use Rattle.pte.specs.declared.permission.Mode.TheVariants.{User, Super}
 use Rattle.walk.specs.declared.found_or_trap.Why.TheVariants.{NotCanonical, Invalid, Denied, NotAccessed, NotDirty}
 use Rattle.spaces.specs.declared.places.Place.TheVariants.{Space}
 use Rattle.history.specs.declared.event.Event.TheVariants.{Begin, Load, Map, Unmap, Switch, Fence}
-use Rattle.history.specs.declared.refusal.Refusal.TheVariants.{NoSpace, Walking, NotWalking}
+use Rattle.refusals.specs.declared.refusal.Refusal.TheVariants.{NoSpace, Walking, NotWalking}
 use Rattle.history.specs.declared.reply.Reply.TheVariants.{Hit, More, Filled, Table, Leaf, Opened, Ok}
 use Rattle.history.specs.Setup.{Setup}
 use Rattle.history.specs.WorkedRuns.{Step, small_page, large_page, flags, R, W, X, U, A, D, user, supervisor, hart_0, hart_1, refused, trap}

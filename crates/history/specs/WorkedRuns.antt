@@ -12,7 +12,7 @@ use Rattle.walk.specs.declared.found_or_trap.Why.{Why}
 use Rattle.spaces.specs.declared.configuration.Config.{Config}
 use Rattle.spaces.specs.Layout.{Layout}
 use Rattle.history.specs.declared.event.Event.{Event}
-use Rattle.history.specs.declared.refusal.Refusal.{Refusal}
+use Rattle.refusals.specs.declared.refusal.Refusal.{Refusal}
 use Rattle.history.specs.declared.reply.Reply.{Reply}
 use Rattle.history.specs.declared.reply.Reply.TheVariants as reply
 use Rattle.history.specs.Setup.{Setup}

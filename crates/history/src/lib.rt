@@ -4,8 +4,6 @@
 pub mod counterexamples;
 mod event;
 pub mod occurrences;
-mod refusal;
-pub mod refusal_numbers;
 mod reply;
 pub mod retirements;
 pub mod translations;
@@ -13,5 +11,5 @@ pub mod worked_runs;
 pub mod worked_translations;
 
 pub use event::{Event, Scope};
-pub use refusal::Refusal;
+pub use refusals::Refusal;
 pub use reply::Reply;

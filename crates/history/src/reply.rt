@@ -1,6 +1,6 @@
 //! What a step answers.
 
-use crate::refusal::Refusal;
+use refusals::Refusal;
 use shoot::Request;
 use walk::Trap;
 

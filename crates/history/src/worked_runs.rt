@@ -8,7 +8,7 @@ ghost use Rattle.tlb.specs.Mappings.{IsMappedBy, Translates};
 ghost use Rattle.spaces.specs.declared.configuration.Config.{Config};
 ghost use Rattle.history.specs.Setup.{Setup, setup_of};
 ghost use Rattle.std.specs.List.{range_with_len};
-ghost use Rattle.history.specs.Refusal.{code_of};
+ghost use Rattle.refusals.specs.Numbers.{code_of};
 ghost use Rattle.history.specs.Due.{Lawful};
 ghost use Rattle.history.specs.Harts.{entries_of};
 ghost use Rattle.history.specs.WorkedRuns.{IsEachDueAfter, IsOfThreeHarts, IsRun, Step, history_of, large_page, one_hart, three_harts, two_harts};

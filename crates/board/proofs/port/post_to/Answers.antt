@@ -3,8 +3,8 @@ use Rattle.std.specs.Prelude.{Result}
 use Rattle.shoot.specs.Request.{Message}
 use Rattle.shoot.specs.declared.mailbox.PostFault.{PostFault}
 use Rattle.shoot.specs.declared.mailbox.PostFault.TheVariants as fault
-use Rattle.history.specs.declared.refusal.Refusal.{Refusal}
-use Rattle.history.specs.declared.refusal.Refusal.TheVariants.{Closed, Full}
+use Rattle.refusals.specs.declared.refusal.Refusal.{Refusal}
+use Rattle.refusals.specs.declared.refusal.Refusal.TheVariants.{Closed, Full}
 use Rattle.rings.specs.Ends.{post_fault}
 use Rattle.board.specs.Answers.{box_refusal, outbox_refusal}
 use Rattle.board.proofs.port.post_to.Goals as goal

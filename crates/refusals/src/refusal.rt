@@ -1,7 +1,7 @@
 //! Why a step is refused.
 
 ghost use Rattle.std.specs.Prelude.{◌≡◌};
-ghost use Rattle.history.specs.Refusal.{code_of};
+ghost use Rattle.refusals.specs.Numbers.{code_of};
 
 /// Why an event changed nothing.
 #[derive(Clone, Copy, PartialEq, Eq, Debug)]

@@ -1,8 +1,8 @@
 //! The number of each refusal, one equation each. Programs may store these numbers, so none ever changes.
 
 ghost use Rattle.std.specs.Prelude.{◌≡◌};
-ghost use Rattle.history.specs.Refusal.{code_of};
-ghost use Rattle.history.specs.declared.refusal.Refusal.TheVariants.{AlreadyMapped, AlreadyPosted, AsidInUse, BadFlags, Closed, Empty, Full, HomeNotNamed, InUse, LeafInWay, Misaligned, NoFrame, NoHart, NoSpace, NoTicket, NotAcked, NotDone, NotFenced, NotFree, NotHome, NotMapped, NotNamed, NotOpen, NotRetiring, NotServing, NotWalking, PpnTooLarge, Retiring, Serving, TableInWay, Walking, WrongHalf, WrongSize};
+ghost use Rattle.refusals.specs.Numbers.{code_of};
+ghost use Rattle.refusals.specs.declared.refusal.Refusal.TheVariants.{AlreadyMapped, AlreadyPosted, AsidInUse, BadFlags, Closed, Empty, Full, HomeNotNamed, InUse, LeafInWay, Misaligned, NoFrame, NoHart, NoSpace, NoTicket, NotAcked, NotDone, NotFenced, NotFree, NotHome, NotMapped, NotNamed, NotOpen, NotRetiring, NotServing, NotWalking, PpnTooLarge, Retiring, Serving, TableInWay, Walking, WrongHalf, WrongSize};
 
 /// The numbers of what is not there, of edits and of openings, 1 to 15.
 pub fn numbers_of_edits_and_openings()

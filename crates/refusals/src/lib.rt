@@ -1,0 +1,7 @@
+//! Why an event is refused, and the number of each refusal.
+#![tactic(auto)]
+
+pub mod numbers;
+mod refusal;
+
+pub use refusal::Refusal;
