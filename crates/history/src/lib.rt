@@ -1,14 +1,11 @@
 //! What a run of the harts leaves, and which reply is due to an event after it: definitions, with no machine.
 #![tactic(auto)]
 
-pub mod counterexamples;
 mod event;
 pub mod occurrences;
 mod reply;
 pub mod retirements;
 pub mod translations;
-pub mod worked_runs;
-pub mod worked_translations;
 
 pub use event::{Event, Scope};
 pub use refusals::Refusal;

@@ -19,14 +19,10 @@ pub mod Halves
 pub mod Changing
 pub mod MapsKept
 pub mod Setups
-mod PremisesMet
-mod Refuted
 pub mod Asids
 mod Remaining
 pub mod Walkers
 pub mod Completed
 mod Staying
 mod Requested
-mod RetiredRefuted
-pub mod DoneFacts
 pub mod PointersKept

@@ -1,7 +1,5 @@
-pub mod Counterexamples
 pub mod Fills
 pub mod Kept
 pub mod Orders
 pub mod Outstanding
 pub mod Posts
-pub mod DoneCounterexamples

@@ -1,11 +1,8 @@
 //! The laws of all lawful histories, over the definitions alone: each function does nothing, and its contract is the law.
 #![tactic(auto)]
 
-pub mod counterexamples;
 pub mod done;
-pub mod done_counterexamples;
 mod laws;
-pub mod premises;
 
 pub use laws::{
     acknowledged_hart_holds_only_what_it_filled_since, acknowledged_was_posted,

@@ -3,4 +3,3 @@ pub mod Answers
 pub mod Changes
 pub mod Stands
 pub mod Runs
-pub mod Counterexamples

@@ -2,7 +2,6 @@
 #![tactic(auto)]
 
 mod accesses;
-pub mod counterexamples;
 mod editing;
 mod events;
 mod hart;

@@ -1,0 +1,12 @@
+mod Promises
+mod Sv48Entries
+mod ClearFacts
+mod CoherentFacts
+mod MailboxFacts
+mod StillTranslated
+mod RetiredFacts
+mod PremisesMet
+mod Refuted
+mod RetiredRefuted
+mod DoneFacts
+mod HeadlineFacts

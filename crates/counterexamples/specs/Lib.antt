@@ -1,0 +1,4 @@
+pub mod Counterexamples
+pub mod RecordCounterexamples
+pub mod DoneCounterexamples
+pub mod MachineCounterexamples

@@ -1,0 +1,8 @@
+//! What the promises refuse, and where they say nothing. Each function does nothing, and its contract is what is told.
+#![tactic(auto)]
+
+pub mod of_done;
+pub mod of_machines;
+pub mod of_promises;
+pub mod of_records;
+pub mod premises;

@@ -1,5 +1,0 @@
-use Rattle.history.proofs.CoherentFacts.{kernel_page}
-use Rattle.history.proofs.counterexamples.acknowledged_hart_holds_only_what_is_mapped.Goals as goal
-
-pub returns-clause-kernel_page : goal.returns-clause-kernel_page
-returns-clause-kernel_page c = kernel_page

@@ -1,5 +1,0 @@
-use Rattle.history.proofs.ClearFacts.{other_asid}
-use Rattle.history.proofs.counterexamples.clear_lets_other_pages_be_held.Goals as goal
-
-pub returns-clause-other_space : goal.returns-clause-other_space
-returns-clause-other_space c = other_asid

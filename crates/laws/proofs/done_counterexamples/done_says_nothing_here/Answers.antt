@@ -1,8 +1,0 @@
-use Rattle.laws.proofs.DoneFacts.{not_done, unnamed}
-use Rattle.laws.proofs.done_counterexamples.done_says_nothing_here.Goals as goal
-
-pub returns-clause-not_done : goal.returns-clause-not_done
-returns-clause-not_done c = not_done
-
-pub returns-clause-unnamed : goal.returns-clause-unnamed
-returns-clause-unnamed c = unnamed

@@ -1,5 +1,0 @@
-use Rattle.stepcore.proofs.HeadlineFacts.{run_is}
-use Rattle.stepcore.proofs.counterexamples.run_adds_a_turn_for_each_reply.Goals as goal
-
-pub returns : goal.returns
-returns c = run_is
