@@ -22,8 +22,6 @@ use Rattle.worked_runs.specs.EditRuns.{huge_page}
 use Rattle.worked_runs.specs.Sv48Runs as run
 use Rattle.worked_runs.specs.Sv48Runs.{terapage, two_harts_in_sv48}
 use Rattle.worked_runs.specs.WorkedEntries.{entry, global_entry}
-use Rattle.counterexamples.specs.Counterexamples.{ClearForbids, CoherentForbids}
-use Rattle.counterexamples.proofs.Promises.{clear_forbids, clear_allows, coherent_forbids, not_mapped, one_match}
 
 held_until_service : entries_of two_harts_in_sv48 (history_of run.terapage_until_service) 1 ≡ entry 1 (terapage 0x8000000000) 0x10000000 ∷ []
 unfolding kind_of wish_fault path_end edit_of
