@@ -2,6 +2,7 @@
 #![tactic(auto)]
 
 mod board;
+mod closing;
 mod opening;
 mod port;
 mod receiver;
