@@ -1,14 +1,21 @@
-//! `bench [all|events|sv39|sv48] [N]`: makes about N events on a machine of 8 harts, N translations over the tables of a
-//! scheme, or all of these, and prints what they came to, by counts. N is 10,000,000 where no number is given. The clock is the caller's.
+//! `bench [all|events|sv39|sv48|rings|lock|words] [N]`: makes about N events on a machine of 8 harts, N translations over the
+//! tables of a scheme, N shootdowns between two threads, over rings or under one lock, N numbers that go there and back between
+//! two threads, or all of these, and prints what they came to, by counts. N is 10,000,000 where no number is given. The clock is
+//! the caller's.
 #![tactic(auto)]
 
 mod cycle;
+mod locked;
+mod pause;
 mod tally;
 mod tree;
+mod trips;
 
 use pte::Scheme;
-use std::alloc::AllocError;
+use std::alloc::{AllocError, Global};
 use std::process::ExitCode;
+use std::sync::Wait;
+use std::thread::Threads;
 use std::{env, io};
 use tally::Tally;
 
@@ -45,6 +52,9 @@ enum Part {
     All,
     Events,
     Translations(Scheme),
+    Rings,
+    Lock,
+    Words,
 }
 
 /// What the words ask for: the part, and how many.
@@ -56,6 +66,9 @@ fn asked(words: &[String]) -> Result<(Part, u64), Failure> {
             "events" => Part::Events,
             "sv39" => Part::Translations(Scheme::Sv39),
             "sv48" => Part::Translations(Scheme::Sv48),
+            "rings" => Part::Rings,
+            "lock" => Part::Lock,
+            "words" => Part::Words,
             _ => return Err(Failure::Usage),
         },
     };
@@ -66,7 +79,13 @@ fn asked(words: &[String]) -> Result<(Part, u64), Failure> {
     Ok((part, count))
 }
 
-fn print_events(rt: &HostRuntime, cycles: u64, tally: &Tally) -> Result<(), Failure> {
+/// What the words of the command line ask for.
+fn asked_by(rt: &HostRuntime) -> Result<(Part, u64), Failure> {
+    let words: Vec<String> = env::args(rt)?.collect(rt.alloc())?;
+    asked(&words)
+}
+
+fn print_events<R: Print>(rt: &R, cycles: u64, tally: &Tally) -> Result<(), Failure> {
     println!(rt; "cycles {cycles}")?;
     for (name, count) in tally.counts() {
         println!(rt; "{name} {count}")?;
@@ -74,10 +93,8 @@ fn print_events(rt: &HostRuntime, cycles: u64, tally: &Tally) -> Result<(), Fail
     Ok(())
 }
 
-fn run(rt: &HostRuntime) -> Result<(), Failure> {
-    let alloc = rt.alloc();
-    let words: Vec<String> = env::args(rt)?.collect(alloc)?;
-    let (part, count) = asked(&words)?;
+/// The parts of one thread.
+fn run_alone<R: Print>(rt: &R, alloc: Global, part: Part, count: u64) -> Result<(), Failure> {
     if matches!(part, Part::All | Part::Events) {
         let (cycles, tally) = cycle::run(alloc, count)?;
         print_events(rt, cycles, &tally)?;
@@ -92,12 +109,46 @@ fn run(rt: &HostRuntime) -> Result<(), Failure> {
     Ok(())
 }
 
+/// The parts of two threads.
+fn run_beside<R: Threads + Wait + Sync + Print>(
+    rt: &R,
+    alloc: Global,
+    part: Part,
+    count: u64,
+) -> Result<(), Failure> {
+    if matches!(part, Part::All | Part::Rings) {
+        let made = trips::over_rings(rt, alloc, count)?;
+        println!(rt; "rings {made}")?;
+    }
+    if matches!(part, Part::All | Part::Lock) {
+        let made = locked::under_lock(rt, alloc, count)?;
+        println!(rt; "lock {made}")?;
+    }
+    if matches!(part, Part::All | Part::Words) {
+        let made = trips::over_words(rt, count);
+        println!(rt; "words {made}")?;
+    }
+    Ok(())
+}
+
+fn run<R: Threads + Wait + Sync + Print>(
+    rt: &R,
+    alloc: Global,
+    asked: Result<(Part, u64), Failure>,
+) -> Result<(), Failure> {
+    let (part, count) = asked?;
+    run_alone(rt, alloc, part, count)?;
+    run_beside(rt, alloc, part, count)
+}
+
 fn main(rt: HostRuntime) -> ExitCode {
-    let Err(failure) = run(&rt) else {
+    let Err(failure) = run(&rt, rt.alloc(), asked_by(&rt)) else {
         return ExitCode::SUCCESS;
     };
     let _ = match failure {
-        Failure::Usage => eprintln!(rt; "usage: bench [all|events|sv39|sv48] [N]"),
+        Failure::Usage => {
+            eprintln!(rt; "usage: bench [all|events|sv39|sv48|rings|lock|words] [N]")
+        }
         Failure::NoMemory => eprintln!(rt; "bench: no memory"),
         Failure::NotOpened => eprintln!(rt; "bench: nothing to measure on"),
         Failure::Io => eprintln!(rt; "bench: cannot read the words or write the counts"),

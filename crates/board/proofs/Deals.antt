@@ -1,5 +1,5 @@
 -- Ports that were made of the rows of a net are the ports of one board.
-use Rattle.std.proofs.Common.{◌≡◌, ◌∙◌, sym, ap, refl, ℕ, zero, suc, ◌<◌, ◌≤◌, List, [], ◌∷◌, length, map, Option, Some, None, All, inl, inr, arith}
+use Rattle.std.proofs.Common.{◌≡◌, ◌∙◌, sym, ap, refl, ℕ, zero, suc, ◌<◌, ◌≤◌, List, [], ◌∷◌, length, map, Option, None, All, inl, inr, arith}
 use Rattle.std.proofs.lemmas.Bool.{cases_lt}
 use Rattle.std.specs.Global.{Vec}
 use Rattle.std.specs.Option.{option_map}
@@ -19,7 +19,7 @@ nothing_in [] none = refl
 nothing_in (x ∷ xs) none = absurd (omega arith)
 
 module _ {X Y : Type 0} (f : X → Y) where
-  element-map : (xs : List (Option X)) (k : ℕ) → element (map (option_map f) xs) k ≡ option_map f (element xs k)
+  pub element-map : (xs : List (Option X)) (k : ℕ) → element (map (option_map f) xs) k ≡ option_map f (element xs k)
   element-map [] k = refl
   element-map (x ∷ xs) zero = refl
   element-map (x ∷ xs) (suc k) = element-map xs k
@@ -29,11 +29,11 @@ module _ {X Y : Type 0} (f : X → Y) where
   row-map (x ∷ xs) zero = refl
   row-map (x ∷ xs) (suc k) = row-map xs k
 
-  cell-map : (rows : List (List (Option X))) (s h : ℕ) → cell (map (map (option_map f)) rows) s h ≡ option_map f (cell rows s h)
+  pub cell-map : (rows : List (List (Option X))) (s h : ℕ) → cell (map (map (option_map f)) rows) s h ≡ option_map f (cell rows s h)
   cell-map rows s h = ap (λ (r : List (Option Y)). element r h) (row-map rows s) ∙ element-map (row rows s) h
 
 module _ {X : Type 0} where
-  row-items : (rows : List (Vec (Option X))) (k : ℕ) → row (map (λ r. r.items) rows) k ≡ items_at rows k
+  pub row-items : (rows : List (Vec (Option X))) (k : ℕ) → row (map (λ r. r.items) rows) k ≡ items_at rows k
   row-items [] k = refl
   row-items (x ∷ xs) zero = refl
   row-items (x ∷ xs) (suc k) = row-items xs k
@@ -54,11 +54,11 @@ module _ {X : Type 0} where
     | inr high ↦ ap (λ (r : List (Option X)). element r h) (items-past rows s (omega (arith, count)))
   ]
 
-named_outs : (ports : List PortState) → map (λ name. name.outs) (map name_of ports) ≡ map (map (option_map end_of_outbox)) (map (λ port. port.outboxes) ports)
+pub named_outs : (ports : List PortState) → map (λ name. name.outs) (map name_of ports) ≡ map (map (option_map end_of_outbox)) (map (λ port. port.outboxes) ports)
 named_outs [] = refl
 named_outs (p ∷ ps) = ap (λ rest. map (option_map end_of_outbox) p.outboxes ∷ rest) (named_outs ps)
 
-named_ins : (ports : List PortState) → map (λ name. name.ins) (map name_of ports) ≡ map (map (option_map end_of_inbox)) (map (λ port. port.inboxes) ports)
+pub named_ins : (ports : List PortState) → map (λ name. name.ins) (map name_of ports) ≡ map (map (option_map end_of_inbox)) (map (λ port. port.inboxes) ports)
 named_ins [] = refl
 named_ins (p ∷ ps) = ap (λ rest. map (option_map end_of_inbox) p.inboxes ∷ rest) (named_ins ps)
 
@@ -70,6 +70,23 @@ all-named : (P : PortName → Type 0) (ports : List PortState) → All (λ port.
 all-named P [] all k d within = absurd (omega arith)
 all-named P (p ∷ ps) all zero d within = all zero p (omega arith)
 all-named P (p ∷ ps) all (suc k) d within = all-named P ps (λ j e below. all (suc j) e (omega arith)) k d (omega arith)
+
+-- the ends of ports from rows, which are those that their names tell
+pub out-cell : (ports : List PortState) (outs : List (Vec (Option OutboxState))) → map (λ port. port.outboxes) ports ≡ map (λ r. r.items) outs
+    → (s h : ℕ) → cell (map (λ name. name.outs) (map name_of ports)) s h ≡ option_map end_of_outbox (element (items_at outs s) h)
+out-cell ports outs same s h =
+    ap (λ (rows : List (List (Option End))). cell rows s h) (named_outs ports)
+    ∙ (cell-map end_of_outbox (map (λ port. port.outboxes) ports) s h
+    ∙ (ap (λ (rows : List (List (Option OutboxState))). option_map end_of_outbox (cell rows s h)) same
+    ∙ ap (λ (r : List (Option OutboxState)). option_map end_of_outbox (element r h)) (row-items outs s)))
+
+pub in-cell : (ports : List PortState) (ins : List (Vec (Option InboxState))) → map (λ port. port.inboxes) ports ≡ map (λ r. r.items) ins
+    → (s h : ℕ) → cell (map (λ name. name.ins) (map name_of ports)) h s ≡ option_map end_of_inbox (element (items_at ins h) s)
+in-cell ports ins same s h =
+    ap (λ (rows : List (List (Option End))). cell rows h s) (named_ins ports)
+    ∙ (cell-map end_of_inbox (map (λ port. port.inboxes) ports) h s
+    ∙ (ap (λ (rows : List (List (Option InboxState))). option_map end_of_inbox (cell rows h s)) same
+    ∙ ap (λ (r : List (Option InboxState)). option_map end_of_inbox (element r s)) (row-items ins h)))
 
 module _ (setup : Setup) (capacity : ℕ) (outs : List (Vec (Option OutboxState))) (ins : List (Vec (Option InboxState))) (net : IsNet capacity setup.harts outs ins) where
   linked_rows : (s h : ℕ) → option_map end_of_outbox (element (items_at outs s) h) ≡ option_map end_of_inbox (element (items_at ins h) s)
@@ -94,14 +111,5 @@ module _ (setup : Setup) (capacity : ℕ) (outs : List (Vec (Option OutboxState)
     numbered = named_harts ports ∙ numbered;
     of_setup = all-named (λ name. name.setup ≡ setup) ports of_setup;
     each = all-named IsPort ports each;
-    linked = λ s h.
-        ap (λ (rows : List (List (Option End))). cell rows s h) (named_outs ports)
-        ∙ (cell-map end_of_outbox (map (λ port. port.outboxes) ports) s h
-        ∙ (ap (λ (rows : List (List (Option OutboxState))). option_map end_of_outbox (cell rows s h)) same-outs
-        ∙ (ap (λ (r : List (Option OutboxState)). option_map end_of_outbox (element r h)) (row-items outs s)
-        ∙ (linked_rows s h
-        ∙ sym (ap (λ (rows : List (List (Option End))). cell rows h s) (named_ins ports)
-        ∙ (cell-map end_of_inbox (map (λ port. port.inboxes) ports) h s
-        ∙ (ap (λ (rows : List (List (Option InboxState))). option_map end_of_inbox (cell rows h s)) same-ins
-        ∙ ap (λ (r : List (Option InboxState)). option_map end_of_inbox (element r s)) (row-items ins h))))))));
+    linked = λ s h. out-cell ports outs same-outs s h ∙ (linked_rows s h ∙ sym (in-cell ports ins same-ins s h));
   }

@@ -1,13 +1,13 @@
 -- A row of ends with one more.
-use Rattle.std.proofs.Common.{◌≡◌, ◌∙◌, sym, ap, ap₂, refl, ℕ, zero, suc, ◌+◌, ◌<◌, ◌++◌, List, [], ◌∷◌, length, ◌⊎◌, inl, inr, map, Option, Some, None, slice_get, arith, length-append}
+use Rattle.std.proofs.Common.{◌≡◌, ◌∙◌, sym, ap, ap₂, refl, ℕ, zero, suc, ◌+◌, ◌<◌, ◌++◌, List, [], ◌∷◌, length, ◌⊎◌, inl, inr, map, Option, arith, length-append}
 use Rattle.std.proofs.lemmas.Bool.{cases_lt}
 use Rattle.std.proofs.lemmas.List.{length-map, map-append}
 use Rattle.std.proofs.lemmas.List.FromFn.{length-map-range_with_len}
 use Rattle.std.specs.Option.{option_map}
 use Rattle.std.specs.List.{range_with_len}
-use Rattle.board.specs.Ports.{End, element, if_there}
+use Rattle.board.specs.Ports.{End, element}
 use Rattle.std.specs.Global.{Vec}
-use Rattle.board.specs.Rows.{items_at, items_of, IsRow, capacity_of, capacity_between}
+use Rattle.board.specs.Rows.{items_at, IsRow, capacity_of, capacity_between}
 
 range_last : (from n : ℕ) → range_with_len from (suc n) ≡ range_with_len from n ++ (from + n) ∷ []
 range_last from zero = ap (λ k. k ∷ []) (omega arith)

@@ -1,5 +1,5 @@
 -- What contracts see of a hart's port, and what makes ports the ports of one board.
-use Rattle.std.specs.Prelude.{ℕ, ◌<◌, ◌≡◌, ◌==◌, Bool, List, [], length, map, Option, Some, None, slice_get, unwrap_or, All, if◌then◌else◌}
+use Rattle.std.specs.Prelude.{ℕ, ◌<◌, ◌≡◌, ◌==◌, List, [], map, Option, Some, None, slice_get, unwrap_or, All, if◌then◌else◌}
 use Rattle.std.specs.Option.{option_map}
 use Rattle.std.specs.List.{range_with_len}
 use Rattle.shoot.specs.Tickets.{TicketTable, no_tickets}

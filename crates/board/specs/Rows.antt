@@ -1,10 +1,13 @@
 -- The ends of one hart in a row, by the numbers of the other harts, as a board is opened.
-use Rattle.std.specs.Prelude.{ℕ, ◌≡◌, ◌<◌, ◌==◌, List, [], length, map, Option, Some, None, slice_get, unwrap_or, if◌then◌else◌}
+use Rattle.std.specs.Prelude.{ℕ, ◌≡◌, ◌≢◌, ◌<◌, ◌==◌, ◌++◌, List, [], length, map, Option, Some, None, slice_get, is_some, IsTrue, if◌then◌else◌}
 use Rattle.std.specs.Global.{Vec}
 use Rattle.std.specs.Option.{option_map}
 use Rattle.std.specs.List.{range_with_len}
-use Rattle.rings.specs.Ends.{OutboxState, InboxState, new_outbox, new_inbox}
+use Rattle.shoot.specs.Request.{Message}
+use Rattle.rings.specs.Ends.{OutboxState, InboxState, count_of, new_outbox, new_inbox}
 use Rattle.board.specs.Ports.{End, end_of_outbox, end_of_inbox, element}
+use Rattle.board.specs.Reports.{accepted_by, taken_by}
+use Rattle.board.specs.declared.report.PairReport.{PairReport}
 
 abbrev pub new_outbox_of : End → OutboxState
 new_outbox_of e = new_outbox e.ring e.capacity
@@ -50,3 +53,25 @@ pub record IsNet (capacity harts : ℕ) (outs : List (Vec (Option OutboxState)))
   pub outs_are : (hart : ℕ) → hart < harts → IsOutRow capacity hart harts (items_at outs hart)
   pub ins_are : (hart : ℕ) → hart < harts → IsInRow capacity hart harts (items_at ins hart)
   pub linked : (sender receiver : ℕ) → sender < harts → receiver < harts → AreLinked outs ins sender receiver
+
+-- a row for each hart, with an end to each other one or from it
+pub record AreEnds (harts : ℕ) (outs : List (Vec (Option OutboxState))) (ins : List (Vec (Option InboxState))) : Type 0 where
+  pub out_rows : length outs ≡ harts
+  pub in_rows : length ins ≡ harts
+  pub outs_long : (hart : ℕ) → hart < harts → length (items_at outs hart) ≡ harts
+  pub ins_long : (hart : ℕ) → hart < harts → length (items_at ins hart) ≡ harts
+  pub are_there : (sender receiver : ℕ) → sender < harts → receiver < harts → receiver ≢ sender → IsTrue (is_some (element (items_at outs sender) receiver))
+  pub linked : (sender receiver : ℕ) → AreLinked outs ins sender receiver
+
+-- what the end from one hart to another accepted, and what the end by which that takes from it took
+abbrev pub accepted_in : List (Vec (Option OutboxState)) → ℕ → ℕ → List Message
+accepted_in outs sender receiver = accepted_by (element (items_at outs sender) receiver)
+
+abbrev pub taken_in : List (Vec (Option InboxState)) → ℕ → ℕ → List Message
+taken_in ins sender receiver = taken_by (element (items_at ins receiver) sender)
+
+-- the report of a pair of these ends
+pub record IsPairOf (outs : List (Vec (Option OutboxState))) (ins : List (Vec (Option InboxState))) (pair : PairReport) : Type 0 where
+  pub order : accepted_in outs pair.sender pair.receiver ≡ taken_in ins pair.sender pair.receiver ++ pair.waiting.items
+  pub accepted_count : pair.accepted ≡ count_of (accepted_in outs pair.sender pair.receiver)
+  pub taken_count : pair.taken ≡ count_of (taken_in ins pair.sender pair.receiver)

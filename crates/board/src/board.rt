@@ -5,12 +5,14 @@ ghost use Rattle.std.specs.Arc.{arc_value};
 ghost use Rattle.spaces.specs.Limits.{max_live_frames, MeetsLimits};
 ghost use Rattle.history.specs.Setup.{setup_of};
 ghost use Rattle.board.specs.Ports.{AreNew, ArePorts, name_of};
+ghost use Rattle.board.specs.Reports.{IsReport};
 ghost use Rattle.board.specs.Rows.{IsNet};
 
+use crate::closing::{gather, pair_reports};
 use crate::opening::open_rows;
 use crate::port::HartPort;
 use crate::receiver::Receiver;
-use crate::report::PairReport;
+use crate::report::{PairReport, Report};
 use rings::Outbox;
 use shoot::MAX_HARTS;
 use spaces::{Config, OpenFault};
@@ -90,6 +92,7 @@ impl Model for Board {
     ghost use Rattle.std.specs.Prelude.{◌≡◌, ◌≤◌, ◌*◌, [], vec_capacity};
     ghost use Rattle.std.specs.Arc.{arc_value};
     ghost use Rattle.shoot.specs.declared.TheConstants.{MAX_HARTS};
+    ghost use Rattle.spaces.specs.Limits.{max_live_frames, MeetsLimits};
     ghost use Rattle.history.specs.Setup.{Setup, setup_of};
 
     ghost Value = { Setup };
@@ -98,11 +101,13 @@ impl Model for Board {
 
     ghost invariant = { λ b. ((b.pairs.items ≡ []) × (MAX_HARTS * MAX_HARTS ≤ vec_capacity b.pairs))
         × ((b.outboxes.items ≡ []) × ((arc_value b.config).harts ≤ vec_capacity b.outboxes))
-        × ((b.inboxes.items ≡ []) × ((arc_value b.config).harts ≤ vec_capacity b.inboxes)) };
+        × ((b.inboxes.items ≡ []) × ((arc_value b.config).harts ≤ vec_capacity b.inboxes))
+        × MeetsLimits max_live_frames (arc_value b.config) };
 }
 
 /// A board, and the rings between its harts.
 fn with_room(alloc: Global, config: Arc<Config, Global>) -> Result<Board, AllocError>
+    requires { MeetsLimits max_live_frames (arc_value config) }
     ensures { IfOk result (λ board. board ≡ setup_of (arc_value config)) }
 {
     let harts = usize::from(config.harts);
@@ -135,5 +140,21 @@ impl Board {
         let (outboxes, inboxes) = open_rows(alloc, capacity, usize::from(config.harts))?;
         let ports = deal(alloc, &shared, outboxes, inboxes)?;
         Ok((board, ports))
+    }
+
+    /// What became of the requests, once all ports have come back, in the order of the harts. Takes no memory.
+    pub fn close(self, ports: Vec<HartPort>) -> Report
+        requires ports { ArePorts self (map name_of ports.items) }
+        ensures report { IsReport self.harts ports.items result.pairs.items }
+    {
+        let Board {
+            config,
+            pairs,
+            outboxes,
+            inboxes,
+        } = self;
+        let (outboxes, inboxes) = gather(ports, outboxes, inboxes);
+        let pairs = pair_reports(pairs, outboxes, inboxes, config.harts as u8);
+        Report { pairs }
     }
 }

@@ -2,11 +2,14 @@
 #![tactic(auto)]
 
 mod board;
+mod closing;
+mod laws;
 mod opening;
 mod port;
 mod receiver;
 mod report;
 
 pub use board::Board;
+pub use laws::pairs_of_three_harts;
 pub use port::HartPort;
 pub use report::{PairReport, Report};

@@ -1,4 +1,4 @@
-//! Harts as threads: a machine under one lock, with the history at which it stands.
+//! Harts as threads: a machine under one lock, with the history at which it stands; and ports, which share no lock.
 #![tactic(auto)]
 
 mod blank;
@@ -7,6 +7,7 @@ mod locked;
 mod named;
 
 pub use blank::{Blank, List, Turns};
+pub use board::{Board, HartPort, PairReport, Report};
 pub use book::Book;
 pub use locked::{Locked, Tally};
 pub use named::Named;

@@ -1,3 +1,6 @@
+ghost use Rattle.std.specs.Prelude.{◌≡◌, IfOk, map};
+ghost use Rattle.board.specs.Ports.{ArePorts, name_of};
+
 use board::*;
 use arrayvec::ArrayVec;
 use history::{Refusal, Scope};
@@ -5,6 +8,9 @@ use pte::{Scheme, What};
 use shoot::Collected;
 use spaces::{Config, OpenFault, Space};
 use std::alloc::Global;
+use std::test::Fail;
+use std::thread;
+use std::thread::Threads;
 
 /// Two harts and one space of ASID 7, whose mailboxes have a capacity of 4.
 fn two_harts(harts: u16) -> Config {
@@ -78,4 +84,90 @@ fn layout_is_refused(rt: HostRuntime) {
         let refused = Board::open(rt.alloc(), &two_harts(harts)).err();
         assert!(&rt; refused == Some(OpenFault::BadLayout));
     }
+}
+
+// Hart 0 opens five tickets, posts each to hart 1, and closes its mailbox twice. Whether it was answered as a mailbox of four
+// answers.
+fn post_five(mut port: HartPort) -> (HartPort, bool)
+    ensures { name_of result.0 ≡ name_of port }
+{
+    let mut as_expected = true;
+    for ticket in 0..5 {
+        let posted = if ticket < 4 {
+            Ok(())
+        } else {
+            Err(Refusal::Full)
+        };
+        as_expected &= port.flush(Scope::All, 0b11) == Ok(ticket);
+        as_expected &= port.post(ticket, 1) == posted;
+    }
+    as_expected &= port.close_to(1) == Ok(());
+    as_expected &= port.close_to(1) == Err(Refusal::Closed);
+    (port, as_expected)
+}
+
+// Hart 1 serves until it was answered `Ok` three times, in at most so many tries, and counts those that came in order.
+fn serve_three(mut port: HartPort) -> (HartPort, u32)
+    ensures { name_of result.0 ≡ name_of port }
+{
+    let mut in_order = 0;
+    for _ in 0..1_000_000_000_u64 {
+        if in_order == 3 {
+            break;
+        }
+        match port.serve(0) {
+            Ok(request) if request.ticket == in_order && request.what == What::All => in_order += 1,
+            Ok(_) => break,
+            Err(_) => thread::yield_now(),
+        }
+    }
+    (port, in_order)
+}
+
+// What both harts do in threads of their own, and then the report.
+fn in_two_threads(
+    rt: &impl Threads,
+    board: Board,
+    mut ports: Vec<HartPort>,
+) -> Result<(bool, u32, Report), Fail>
+    requires { ArePorts board (map name_of ports.items) }
+{
+    let (Some(one), Some(zero)) = (ports.pop(), ports.pop()) else {
+        return Err(Fail::new("not two ports"));
+    };
+    let ((zero, posted), (one, served)) = thread::join(
+        rt,
+        move || -> (HartPort, bool)
+            ensures { name_of result.0 ≡ name_of zero }
+        { post_five(zero) },
+        move || -> (HartPort, u32)
+            ensures { name_of result.0 ≡ name_of one }
+        { serve_three(one) },
+    );
+    ports.push(zero)?;
+    ports.push(one)?;
+    Ok((posted, served, board.close(ports)))
+}
+
+#[test]
+fn requests_cross_threads(rt: HostRuntime) -> Result<(), Fail> {
+    let opened = Board::open(rt.alloc(), &two_harts(2)).ok();
+    assert!(&rt; opened.is_some());
+    let Some((board, ports)) = opened else {
+        return Ok(());
+    };
+    let (posted, served, report) = in_two_threads(&rt, board, ports)?;
+    assert!(&rt; posted);
+    assert!(&rt; served == 3);
+    assert!(&rt; report.pairs.len() == 2);
+    let there = &report.pairs[0];
+    assert!(&rt; there.sender == 0 && there.receiver == 1);
+    assert!(&rt; there.accepted == 4 && there.taken == 3);
+    assert!(&rt; there.waiting.len() == 1);
+    assert!(&rt; there.waiting[0].ticket == 3 && there.waiting[0].what == What::All);
+    let back = &report.pairs[1];
+    assert!(&rt; back.sender == 1 && back.receiver == 0);
+    assert!(&rt; back.accepted == 0 && back.taken == 0);
+    assert!(&rt; back.waiting.is_empty());
+    Ok(())
 }

@@ -1,4 +1,4 @@
-use Rattle.std.proofs.Common.{◌≡◌, ◌∙◌, ap, ℕ, ◌+◌, List, Option}
+use Rattle.std.proofs.Common.{◌∙◌, ap, ◌+◌, List, Option}
 use Rattle.std.specs.Global.{Vec}
 use Rattle.rings.specs.Ends.{InboxState}
 use Rattle.board.specs.Rows.{items_at}

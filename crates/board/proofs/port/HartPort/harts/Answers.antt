@@ -1,4 +1,3 @@
-use Rattle.std.proofs.Common.{◌≡◌}
 use Rattle.std.specs.Arc.{arc_value}
 use Rattle.history.specs.Setup.{setup_of}
 use Rattle.board.proofs.Counts.{outboxes_count, inboxes_count}

@@ -1,0 +1,23 @@
+use Rattle.board.proofs.PairsClosed.{closed_none, closed_pair, closed_self}
+use Rattle.board.proofs.closing.pair_reports.Goals as goal
+
+pub loop-sender-init : goal.loop-sender-init
+loop-sender-init c = record {
+  closed = rw c.requires.empty (closed_none c.args.harts c.args.outboxes.items c.args.inboxes.items c.requires.ends);
+  room = c.requires.room;
+}
+
+pub loop-receiver-preserved-then-receiver-sender : goal.loop-receiver-preserved-then-receiver-sender
+loop-receiver-preserved-then-receiver-sender c = record {
+  closed = closed_self _ _ _ _ _ _ _ _ c.if-receiver-sender.true c.loop-receiver.invariant.closed;
+  room = c.loop-receiver.invariant.room;
+}
+
+pub loop-receiver-preserved : goal.loop-receiver-preserved
+loop-receiver-preserved c =
+    let e = c.close_pair-pair.ensures in
+    record {
+      closed = rw c.push_reserved.ensures.items (
+          closed_pair _ _ _ _ _ _ _ _ _ _ _ c.if-receiver-sender.false c.loop-receiver.invariant.closed e.pair e.report e.outs_kept e.ins_kept e.count e.out_counts e.in_counts);
+      room = rw c.push_reserved.ensures.capacity c.loop-receiver.invariant.room;
+    }

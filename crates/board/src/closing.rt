@@ -1,0 +1,107 @@
+//! What the two ends of each ring carried, once the ports have come back.
+
+ghost use Rattle.std.specs.Prelude.{◌≡◌, ◌≤◌, ◌<◌, ◌*◌, [], ℕ, All, IsTrue, None, is_some, length, map, slice_set, vec_capacity};
+ghost use Rattle.board.specs.Ports.{element};
+ghost use Rattle.board.specs.Reports.{pairs_of};
+ghost use Rattle.board.specs.Rows.{AreEnds, AreLinked, IsPairOf, items_at};
+
+use crate::port::HartPort;
+use crate::receiver::Receiver;
+use crate::report::PairReport;
+use rings::Outbox;
+
+/// Takes an end out of a row. None is left in its place.
+fn take_of<T>(row: &mut Vec<Option<T>>, column: u8) -> Option<T>
+    requires { column < length row.old.items }
+    ensures taken { result ≡ element row.old.items column }
+    ensures after { row.new.items ≡ slice_set row.old.items column None }
+{
+    row[usize::from(column)].take()
+}
+
+/// Takes an end out of the rows. All other ends stay.
+fn take_out<T>(rows: &mut Vec<Vec<Option<T>>>, number: u8, column: u8) -> Option<T>
+    requires row { number < length rows.old.items }
+    requires column { column < length (items_at rows.old.items number) }
+    ensures taken { result ≡ element (items_at rows.old.items number) column }
+    ensures others { (r c : ℕ) → (r ≡ number → c ≡ column → ⊥) → element (items_at rows.new.items r) c ≡ element (items_at rows.old.items r) c }
+    ensures count { length rows.new.items ≡ length rows.old.items }
+    ensures counts { (r : ℕ) → length (items_at rows.new.items r) ≡ length (items_at rows.old.items r) }
+{
+    let row = &mut rows[usize::from(number)];
+    take_of(row, column)
+}
+
+/// What became of the requests of one hart to another, whose ends are taken out of the rows. All other ends stay.
+fn close_pair(
+    outboxes: &mut Vec<Vec<Option<Outbox>>>,
+    inboxes: &mut Vec<Vec<Option<Receiver>>>,
+    sender: u8,
+    receiver: u8,
+) -> PairReport
+    requires out_row { sender < length outboxes.old.items }
+    requires out_column { receiver < length (items_at outboxes.old.items sender) }
+    requires in_row { receiver < length inboxes.old.items }
+    requires in_column { sender < length (items_at inboxes.old.items receiver) }
+    requires there { IsTrue (is_some (element (items_at outboxes.old.items sender) receiver)) }
+    requires linked { AreLinked outboxes.old.items inboxes.old.items sender receiver }
+    ensures pair { (result.sender ≡ sender) × (result.receiver ≡ receiver) }
+    ensures report { IsPairOf outboxes.old.items inboxes.old.items result }
+    ensures outs_kept { (r c : ℕ) → (r ≡ sender → c ≡ receiver → ⊥) → element (items_at outboxes.new.items r) c ≡ element (items_at outboxes.old.items r) c }
+    ensures ins_kept { (r c : ℕ) → (r ≡ receiver → c ≡ sender → ⊥) → element (items_at inboxes.new.items r) c ≡ element (items_at inboxes.old.items r) c }
+    ensures count { (length outboxes.new.items ≡ length outboxes.old.items) × (length inboxes.new.items ≡ length inboxes.old.items) }
+    ensures out_counts { (r : ℕ) → length (items_at outboxes.new.items r) ≡ length (items_at outboxes.old.items r) }
+    ensures in_counts { (r : ℕ) → length (items_at inboxes.new.items r) ≡ length (items_at inboxes.old.items r) }
+{
+    let Some(outbox) = take_out(outboxes, sender, receiver) else {
+        unreachable!()
+    };
+    let Some(inbox) = take_out(inboxes, receiver, sender) else {
+        unreachable!()
+    };
+    inbox.into_report(outbox, sender, receiver)
+}
+
+/// What became of the requests of each hart to each other one, by sender and then by receiver.
+pub(crate) fn pair_reports(
+    mut pairs: Vec<PairReport>,
+    mut outboxes: Vec<Vec<Option<Outbox>>>,
+    mut inboxes: Vec<Vec<Option<Receiver>>>,
+    harts: u8,
+) -> Vec<PairReport>
+    requires ends { AreEnds harts outboxes.items inboxes.items }
+    requires empty { pairs.items ≡ [] }
+    requires room { harts * harts ≤ vec_capacity pairs }
+    ensures pairs { map (λ pair. (pair.sender, pair.receiver)) result.items ≡ pairs_of harts harts }
+    ensures each { All (IsPairOf outboxes.items inboxes.items) result.items }
+{
+    for sender in 0..harts {
+        for receiver in 0..harts {
+            if receiver == sender {
+                continue;
+            }
+            let pair = close_pair(&mut outboxes, &mut inboxes, sender, receiver);
+            pairs.push_reserved(pair);
+        }
+    }
+    pairs
+}
+
+/// The ends of the ports, in the ports' order.
+pub(crate) fn gather(
+    ports: Vec<HartPort>,
+    mut outboxes: Vec<Vec<Option<Outbox>>>,
+    mut inboxes: Vec<Vec<Option<Receiver>>>,
+) -> (Vec<Vec<Option<Outbox>>>, Vec<Vec<Option<Receiver>>>)
+    requires empty { (outboxes.items ≡ []) × (inboxes.items ≡ []) }
+    requires room { (length ports.items ≤ vec_capacity outboxes) × (length ports.items ≤ vec_capacity inboxes) }
+    ensures outboxes { map (λ row. row.items) result.0.items ≡ map (λ port. port.outboxes) ports.items }
+    ensures inboxes { map (λ row. row.items) result.1.items ≡ map (λ port. port.inboxes) ports.items }
+{
+    for port in ports {
+        let (outs, ins) = port.into_ends();
+        outboxes.push_reserved(outs);
+        inboxes.push_reserved(ins);
+    }
+    (outboxes, inboxes)
+}
