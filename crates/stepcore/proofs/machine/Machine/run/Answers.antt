@@ -8,8 +8,8 @@ use Rattle.history.specs.Setup.{Setup}
 use Rattle.history.specs.Turns.{History}
 use Rattle.history.specs.declared.reply.Reply.{Reply}
 use Rattle.stepcore.specs.Stands.{Stands}
-use Rattle.stepcore.specs.Runs.{after_run, appended, with_turns}
-use Rattle.stepcore.proofs.Running.{appended_none, no_turns, run_more, appended_more, mailbox_order, none_after_close, entries_clear, entries_coherent, entries_done, used_asids, live_spaces, used_frames}
+use Rattle.stepcore.specs.Runs.{after_run, appended, with_turns, AreDue}
+use Rattle.stepcore.proofs.Running.{appended_none, no_turns, run_more, appended_more, due_more, all_due, mailbox_order, none_after_close, entries_clear, entries_coherent, entries_done, used_asids, live_spaces, used_frames}
 use Rattle.stepcore.proofs.machine.Machine.run.Goals as goal
 
 pub loop-event-init : goal.loop-event-init
@@ -19,6 +19,7 @@ loop-event-init c =
       more = omega arith;
       kept = take-length old;
       count = ap length (appended_none old);
+      due = λ C H st. subst (AreDue C H c.args.events.now) (sym (appended_none old)) refl;
       stands = λ C H st. subst (Stands C c.args.self.now) (sym (ap (λ (rs : List Reply). with_turns c.args.events.now rs H) (appended_none old) ∙ no_turns c.args.events.now H)) st;
     }
 
@@ -26,6 +27,12 @@ pushed : (c : goal.After-push) → c.push.new.self.items ≡ c.loop-event.replie
 pushed c =
     let room : vec_len c.reserve.new.self + 1 ≤ vec_capacity c.reserve.new.self = c.in_ok-reserve.ensures.ok in
     c.push.ensures.items ∙ (cond-true _ _ _ (c.push.ensures.succeeds (omega arith)) ∙ rw c.in_ok-reserve.ensures.items refl)
+
+-- the event of this turn is the one after those that were answered
+answers_at : (c : goal.After-push) → slice_get c.args.events.now (length (appended c.args.replies.now.items c.loop-event.replies.items)) ≡ Some c.event-item.result
+answers_at c =
+    rw c.loop-event.invariant.count
+    (slice_get-get_or c.args.events.now c.loop-event.event-index c.event-item.result c.loop-event-test.true ∙ ap Some (sym c.event-item.is))
 
 pub loop-event-preserved : goal.loop-event-preserved
 loop-event-preserved c =
@@ -36,9 +43,10 @@ loop-event-preserved c =
       more = rw (pushed c) (omega (arith, i.more, length-append now (c.step-reply.result ∷ [])));
       kept = rw (pushed c) (take-append-le (length old) now (c.step-reply.result ∷ []) i.more ∙ i.kept);
       count = rw (pushed c, appended_more old now c.step-reply.result i.more) (omega (arith, i.count, length-append (appended old now) (c.step-reply.result ∷ [])));
-      stands = λ C H st.
-          let at : slice_get c.args.events.now (length (appended old now)) ≡ Some c.event-item.result = rw i.count (slice_get-get_or c.args.events.now c.loop-event.event-index c.event-item.result c.loop-event-test.true ∙ ap Some (sym c.event-item.is)) in
-          rw (pushed c, run_more c.args.events.now old now c.event-item.result c.step-reply.result H i.more at) (c.step-reply.ensures.stands C _ (i.stands C H st));
+      due = λ C H st.
+          rw (pushed c, appended_more old now c.step-reply.result i.more)
+          (due_more C H c.args.events.now (appended old now) c.event-item.result c.step-reply.result (answers_at c) (c.step-reply.ensures.due C _ (i.stands C H st)) (i.due C H st));
+      stands = λ C H st. rw (pushed c, run_more c.args.events.now old now c.event-item.result c.step-reply.result H i.more (answers_at c)) (c.step-reply.ensures.stands C _ (i.stands C H st));
     }
 
 stays : (c : goal.After-from_residual) (C : Setup) (H : History) → Stands C c.args.self.now H
@@ -92,3 +100,8 @@ returns-in_err-reserve-clause-done c C H st = entries_done C _ _ (stays c C H st
 
 pub returns-clause-done : goal.returns-clause-done
 returns-clause-done c C H st = entries_done C _ _ (c.loop-event.invariant.stands C H st)
+
+pub returns-clause-all_due : goal.returns-clause-all_due
+returns-clause-all_due c C H st =
+    let i = c.loop-event.invariant in
+    all_due C H c.args.events.now _ (omega (arith, i.count, c.loop-event.auto.event-index-end, c.loop-event-test.false)) (i.due C H st)
