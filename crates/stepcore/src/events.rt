@@ -43,13 +43,13 @@ impl Machine {
     }
 
     /// What the event asks, done or refused.
-    pub(crate) fn do_event(&mut self, event: Event) -> Reply
-        ensures reply { result ≡ reply_to self.old event }
-        ensures follows { Follows self.old event result self.new }
+    pub(crate) fn do_event(&mut self, event: &Event) -> Reply
+        ensures reply { result ≡ reply_to self.old event.now }
+        ensures follows { Follows self.old event.now result self.new }
         ensures refused { is_accepted result ≡ false → self.new ≡ self.old }
-        ensures pages { HasPage event }
+        ensures pages { HasPage event.now }
     {
-        match event {
+        match *event {
             Event::Begin {
                 hart,
                 va,
@@ -57,7 +57,7 @@ impl Machine {
                 ctx,
             } => self.begin(hart, va, access, ctx),
             Event::Load { hart } => self.load(hart),
-            Event::Map { .. } | Event::Unmap { .. } | Event::Protect { .. } => self.do_edit(event),
+            Event::Map { .. } | Event::Unmap { .. } | Event::Protect { .. } => self.do_edit(*event),
             Event::Flush { hart, scope, named } => self.flush(hart, scope, named),
             Event::Switch { hart, space } => self.switch(hart, space),
             Event::Fence { hart, rs1, rs2 } => self.fence(hart, rs1, rs2),

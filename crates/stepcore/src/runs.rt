@@ -14,6 +14,17 @@ use history::{Event, Reply};
 use std::alloc::AllocError;
 
 impl Machine {
+    /// Does one event, as `step` has it.
+    fn answer(&mut self, event: &Event) -> Reply
+        ensures stands { (C : Setup) (H : History) → Stands C self.old H → Stands C self.new (with_turn event.now result H) }
+        ensures due { (C : Setup) (H : History) → Stands C self.old H → result ≡ due C H event.now }
+        ensures refused { is_accepted result ≡ false → self.new ≡ self.old }
+    {
+        // A machine tells here what every machine keeps.
+        let _memory = &self.memory;
+        self.do_event(event)
+    }
+
     /// Does one event of one hart, or refuses it. It takes no memory. The reply is the one that is due, and a refusal changes
     /// nothing. For every history at which the machine stood, it stands at that history with this turn. No TLB holds an entry,
     /// unless it is global, of an ASID that no live or retiring space has; each hart, so each walk, is in a live space; and no
@@ -31,9 +42,7 @@ impl Machine {
         ensures spaces { (C : Setup) (H : History) → Stands C self.old H → HartsAreInLiveSpaces C (with_turn event result H) self.new }
         ensures frames { (C : Setup) (H : History) → Stands C self.old H → WalksHoldUsedFrames C (with_turn event result H) self.new }
     {
-        // A machine tells here what every machine keeps.
-        let _memory = &self.memory;
-        self.do_event(event)
+        self.answer(&event)
     }
 
     /// Does the events in order, and appends one reply an event: for every history at which the machine stood, the one that is
@@ -57,7 +66,7 @@ impl Machine {
     {
         for event in events {
             replies.reserve(1)?;
-            let reply = self.step(*event);
+            let reply = self.answer(event);
             let _ = replies.push(reply);
         }
         Ok(())

@@ -23,7 +23,7 @@ loop-event-init c =
       stands = λ C H st. subst (Stands C c.args.self.now) (sym (ap (λ (rs : List Reply). with_turns c.args.events.now rs H) (appended_none old) ∙ no_turns c.args.events.now H)) st;
     }
 
-pushed : (c : goal.After-push) → c.push.new.self.items ≡ c.loop-event.replies.items ++ c.step-reply.result ∷ []
+pushed : (c : goal.After-push) → c.push.new.self.items ≡ c.loop-event.replies.items ++ c.answer-reply.result ∷ []
 pushed c =
     let room : vec_len c.reserve.new.self + 1 ≤ vec_capacity c.reserve.new.self = c.in_ok-reserve.ensures.ok in
     c.push.ensures.items ∙ (cond-true _ _ _ (c.push.ensures.succeeds (omega arith)) ∙ rw c.in_ok-reserve.ensures.items refl)
@@ -40,13 +40,13 @@ loop-event-preserved c =
     let old = c.args.replies.now.items in
     let now = c.loop-event.replies.items in
     record {
-      more = rw (pushed c) (omega (arith, i.more, length-append now (c.step-reply.result ∷ [])));
-      kept = rw (pushed c) (take-append-le (length old) now (c.step-reply.result ∷ []) i.more ∙ i.kept);
-      count = rw (pushed c, appended_more old now c.step-reply.result i.more) (omega (arith, i.count, length-append (appended old now) (c.step-reply.result ∷ [])));
+      more = rw (pushed c) (omega (arith, i.more, length-append now (c.answer-reply.result ∷ [])));
+      kept = rw (pushed c) (take-append-le (length old) now (c.answer-reply.result ∷ []) i.more ∙ i.kept);
+      count = rw (pushed c, appended_more old now c.answer-reply.result i.more) (omega (arith, i.count, length-append (appended old now) (c.answer-reply.result ∷ [])));
       due = λ C H st.
-          rw (pushed c, appended_more old now c.step-reply.result i.more)
-          (due_more C H c.args.events.now (appended old now) c.event-item.result c.step-reply.result (answers_at c) (c.step-reply.ensures.due C _ (i.stands C H st)) (i.due C H st));
-      stands = λ C H st. rw (pushed c, run_more c.args.events.now old now c.event-item.result c.step-reply.result H i.more (answers_at c)) (c.step-reply.ensures.stands C _ (i.stands C H st));
+          rw (pushed c, appended_more old now c.answer-reply.result i.more)
+          (due_more C H c.args.events.now (appended old now) c.event-item.result c.answer-reply.result (answers_at c) (c.answer-reply.ensures.due C _ (i.stands C H st)) (i.due C H st));
+      stands = λ C H st. rw (pushed c, run_more c.args.events.now old now c.event-item.result c.answer-reply.result H i.more (answers_at c)) (c.answer-reply.ensures.stands C _ (i.stands C H st));
     }
 
 stays : (c : goal.After-from_residual) (C : Setup) (H : History) → Stands C c.args.self.now H
