@@ -9,22 +9,12 @@ ghost use Rattle.stepcore.specs.Changes.{is_accepted};
 ghost use Rattle.stepcore.specs.Runs.{after_run, appended, AreDue, HartsAreInLiveSpaces, IsClear, IsClearOnceDone, IsCoherent, MailboxesKeepOrder, NothingAfterCloses, TlbsHoldUsedAsids, WalksHoldUsedFrames};
 ghost use Rattle.stepcore.specs.Stands.{Stands};
 
+use crate::events::is_access;
 use crate::machine::Machine;
 use history::{Event, Reply};
 use std::alloc::AllocError;
 
 impl Machine {
-    /// Does one event, as `step` has it.
-    fn answer(&mut self, event: &Event) -> Reply
-        ensures stands { (C : Setup) (H : History) → Stands C self.old H → Stands C self.new (with_turn event.now result H) }
-        ensures due { (C : Setup) (H : History) → Stands C self.old H → result ≡ due C H event.now }
-        ensures refused { is_accepted result ≡ false → self.new ≡ self.old }
-    {
-        // A machine tells here what every machine keeps.
-        let _memory = &self.memory;
-        self.do_event(event)
-    }
-
     /// Does one event of one hart, or refuses it. It takes no memory. The reply is the one that is due, and a refusal changes
     /// nothing. For every history at which the machine stood, it stands at that history with this turn. No TLB holds an entry,
     /// unless it is global, of an ASID that no live or retiring space has; each hart, so each walk, is in a live space; and no
@@ -42,7 +32,9 @@ impl Machine {
         ensures spaces { (C : Setup) (H : History) → Stands C self.old H → HartsAreInLiveSpaces C (with_turn event result H) self.new }
         ensures frames { (C : Setup) (H : History) → Stands C self.old H → WalksHoldUsedFrames C (with_turn event result H) self.new }
     {
-        self.answer(&event)
+        // A machine tells here what every machine keeps.
+        let _memory = &self.memory;
+        self.do_event(&event)
     }
 
     /// Does the events in order, and appends one reply an event: for every history at which the machine stood, the one that is
@@ -66,8 +58,14 @@ impl Machine {
     {
         for event in events {
             replies.reserve(1)?;
-            let reply = self.answer(event);
-            let _ = replies.push(reply);
+            // A machine tells here what every machine keeps.
+            let _memory = &self.memory;
+            // The reply to an access is short, and a path of its own stores it by fewer moves.
+            let _ = if is_access(event) {
+                replies.push(self.do_access(event))
+            } else {
+                replies.push(self.do_other(event))
+            };
         }
         Ok(())
     }

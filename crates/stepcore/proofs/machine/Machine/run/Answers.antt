@@ -1,4 +1,4 @@
-use Rattle.std.proofs.Common.{◌≡◌, Some, slice_get, ◌+◌, ◌≤◌, List, ◌++◌, ◌∷◌, [], length, refl, ap, sym, subst, ◌∙◌, vec_len, arith, length-append}
+use Rattle.std.proofs.Common.{◌≡◌, Some, slice_get, ◌+◌, ◌≤◌, List, ◌∷◌, [], length, refl, ap, sym, subst, ◌∙◌, vec_len, arith, length-append}
 use Rattle.std.proofs.Math.Seq.{take-length}
 use Rattle.std.proofs.lemmas.Bool.{cond-true}
 use Rattle.std.proofs.lemmas.List.{take-append-le}
@@ -7,10 +7,13 @@ use Rattle.std.specs.Vec.{vec_capacity}
 use Rattle.history.specs.Setup.{Setup}
 use Rattle.history.specs.Turns.{History}
 use Rattle.history.specs.declared.reply.Reply.{Reply}
+use Rattle.stepcore.specs.State.{IsMachine}
 use Rattle.stepcore.specs.Stands.{Stands}
+use Rattle.stepcore.proofs.Standing.{answers_due, stands_after, Turn}
 use Rattle.stepcore.specs.Runs.{after_run, appended, with_turns, AreDue}
 use Rattle.stepcore.proofs.Running.{appended_none, no_turns, run_more, appended_more, due_more, all_due, mailbox_order, none_after_close, entries_clear, entries_coherent, entries_done, used_asids, live_spaces, used_frames}
 use Rattle.stepcore.proofs.machine.Machine.run.Goals as goal
+use Rattle.stepcore.proofs.machine.Machine.run.Goals.{then-is_access, else-is_access}
 
 pub loop-event-init : goal.loop-event-init
 loop-event-init c =
@@ -23,30 +26,43 @@ loop-event-init c =
       stands = λ C H st. subst (Stands C c.args.self.now) (sym (ap (λ (rs : List Reply). with_turns c.args.events.now rs H) (appended_none old) ∙ no_turns c.args.events.now H)) st;
     }
 
-pushed : (c : goal.After-push) → c.push.new.self.items ≡ c.loop-event.replies.items ++ c.answer-reply.result ∷ []
-pushed c =
-    let room : vec_len c.reserve.new.self + 1 ≤ vec_capacity c.reserve.new.self = c.in_ok-reserve.ensures.ok in
-    c.push.ensures.items ∙ (cond-true _ _ _ (c.push.ensures.succeeds (omega arith)) ∙ rw c.in_ok-reserve.ensures.items refl)
-
--- the event of this turn is the one after those that were answered
-answers_at : (c : goal.After-push) → slice_get c.args.events.now (length (appended c.args.replies.now.items c.loop-event.replies.items)) ≡ Some c.event-item.result
-answers_at c =
-    rw c.loop-event.invariant.count
-    (slice_get-get_or c.args.events.now c.loop-event.event-index c.event-item.result c.loop-event-test.true ∙ ap Some (sym c.event-item.is))
-
 pub loop-event-preserved : goal.loop-event-preserved
 loop-event-preserved c =
     let i = c.loop-event.invariant in
+    let events = c.args.events.now in
+    let event = c.event-item.result in
     let old = c.args.replies.now.items in
     let now = c.loop-event.replies.items in
+    let room : vec_len c.reserve.new.self + 1 ≤ vec_capacity c.reserve.new.self = c.in_ok-reserve.ensures.ok in
+    let machine : IsMachine c.loop-event.self = subst IsMachine c.self.view_is c.self.invariant in
+    let turn : Turn c.loop-event.self event c.if-is_access.self now c.if-is_access.replies.items = elim c.if-is_access.branch [
+      | then-is_access w ↦ rw (w.self-is, w.replies-is) (record {
+        reply = w.do_access.result;
+        pushed = w.push.ensures.items ∙ (cond-true _ _ _ (w.push.ensures.succeeds (omega arith)) ∙ rw c.in_ok-reserve.ensures.items refl);
+        answers = w.do_access.ensures.reply;
+        follows = w.do_access.ensures.follows;
+        page = w.do_access.ensures.pages;
+      })
+      | else-is_access w ↦ rw (w.self-is, w.replies-is) (record {
+        reply = w.do_other.result;
+        pushed = w.push-else-is_access.ensures.items ∙ (cond-true _ _ _ (w.push-else-is_access.ensures.succeeds (omega arith)) ∙ rw c.in_ok-reserve.ensures.items refl);
+        answers = w.do_other.ensures.reply;
+        follows = w.do_other.ensures.follows;
+        page = w.do_other.ensures.pages;
+      })
+    ] in
+    let at : slice_get events (length (appended old now)) ≡ Some event =
+    rw i.count (slice_get-get_or events c.loop-event.event-index event c.loop-event-test.true ∙ ap Some (sym c.event-item.is)) in
     record {
-      more = rw (pushed c) (omega (arith, i.more, length-append now (c.answer-reply.result ∷ [])));
-      kept = rw (pushed c) (take-append-le (length old) now (c.answer-reply.result ∷ []) i.more ∙ i.kept);
-      count = rw (pushed c, appended_more old now c.answer-reply.result i.more) (omega (arith, i.count, length-append (appended old now) (c.answer-reply.result ∷ [])));
+      more = rw turn.pushed (omega (arith, i.more, length-append now (turn.reply ∷ [])));
+      kept = rw turn.pushed (take-append-le (length old) now (turn.reply ∷ []) i.more ∙ i.kept);
+      count = rw (turn.pushed, appended_more old now turn.reply i.more) (omega (arith, i.count, length-append (appended old now) (turn.reply ∷ [])));
       due = λ C H st.
-          rw (pushed c, appended_more old now c.answer-reply.result i.more)
-          (due_more C H c.args.events.now (appended old now) c.event-item.result c.answer-reply.result (answers_at c) (c.answer-reply.ensures.due C _ (i.stands C H st)) (i.due C H st));
-      stands = λ C H st. rw (pushed c, run_more c.args.events.now old now c.event-item.result c.answer-reply.result H i.more (answers_at c)) (c.answer-reply.ensures.stands C _ (i.stands C H st));
+          rw (turn.pushed, appended_more old now turn.reply i.more)
+          (due_more C H events (appended old now) event turn.reply at (turn.answers ∙ answers_due C _ _ (i.stands C H st) machine event) (i.due C H st));
+      stands = λ C H st.
+          rw (turn.pushed, run_more events old now event turn.reply H i.more at)
+          (stands_after C _ _ (i.stands C H st) machine event turn.reply c.if-is_access.self turn.page turn.answers turn.follows);
     }
 
 stays : (c : goal.After-from_residual) (C : Setup) (H : History) → Stands C c.args.self.now H
