@@ -1,5 +1,6 @@
 -- Runs, one answered event at a time, and what holds of a machine that stands at a history.
-use Rattle.std.proofs.Common.{◌≡◌, ℕ, ◌+◌, ◌-◌, ◌<◌, ◌≤◌, List, [], ◌∷◌, ◌++◌, length, Option, None, Some, slice_get, refl, ap, sym, ◌∙◌, subst, arith}
+use Rattle.std.proofs.Common.{◌≡◌, ℕ, ◌+◌, ◌-◌, ◌<◌, ◌≤◌, List, [], ◌∷◌, ◌++◌, take, length, Option, None, Some, slice_get, refl, ap, sym, ◌∙◌, subst, arith}
+use Rattle.std.proofs.Math.Seq.{take-length}
 use Rattle.std.specs.Prelude.{slice_index}
 use Rattle.pte.specs.declared.scheme.Scheme.{Scheme}
 use Rattle.pte.specs.Address.{top_level}
@@ -16,7 +17,8 @@ use Rattle.history.specs.declared.event.Event.{Event}
 use Rattle.history.specs.declared.reply.Reply.{Reply}
 use Rattle.history.specs.Turns.{History}
 use Rattle.history.specs.Mailboxes.{accepted, taken, NoneAfterClose}
-use Rattle.history.specs.Runs.{with_turn}
+use Rattle.history.specs.Runs.{with_turn, due_replies}
+use Rattle.history.specs.Due.{due}
 use Rattle.history.specs.Completion.{ClearOnceDone}
 use Rattle.history.specs.Staleness.{Clear, Coherent, HoldsUsedAsids}
 use Rattle.history.specs.Spaces.{Live, status_of, holder_of}
@@ -31,7 +33,7 @@ use Rattle.laws.proofs.MapsKept.{stays_mapped, stays_unmapped, user_plain, windo
 use Rattle.laws.proofs.Walkers.{walks_used}
 use Rattle.stepcore.specs.State.{State, hart_at}
 use Rattle.stepcore.specs.Stands.{AreSameWalk, Stands}
-use Rattle.stepcore.specs.Runs.{with_turns, appended, waiting_in, entries_in}
+use Rattle.stepcore.specs.Runs.{with_turns, appended, AreDue, waiting_in, entries_in}
 
 -- no reply, no turn; and one answered event more
 pub no_turns : (events : List Event) (H : History) → with_turns events [] H ≡ H
@@ -62,6 +64,33 @@ pub run_more : (events : List Event) (old now : List Reply) (event : Event) (r :
     → with_turns events (appended old (now ++ r ∷ [])) H ≡ with_turn event r (with_turns events (appended old now) H)
 run_more events old now event r H l e =
     ap (λ (replies : List Reply). with_turns events replies H) (appended_more old now r l) ∙ turns_more events (appended old now) event r H e
+
+-- as many replies are due as there are events
+pub due_count : (C : Setup) (H : History) (events : List Event) → length (due_replies C H events) ≡ length events
+due_count C H [] = refl
+due_count C H (event ∷ events) = omega (arith, due_count C (with_turn event (due C H event) H) events)
+
+-- no reply is due to no event; one more that is due; and all of them
+pub due_more : (C : Setup) (H : History) (events : List Event) (replies : List Reply) (event : Event) (r : Reply)
+    → slice_get events (length replies) ≡ Some event → r ≡ due C (with_turns events replies H) event
+    → AreDue C H events replies → AreDue C H events (replies ++ r ∷ [])
+due_more C H [] [] event r e d are = absurd cc
+due_more C H [] (x ∷ replies) event r e d are = absurd cc
+due_more C H (y ∷ events) [] event r e d are =
+    let same : y ≡ event = cc (e) in
+    ap (λ z. z ∷ []) (d ∙ ap (due C H) (sym same))
+due_more C H (y ∷ events) (x ∷ replies) event r e d are =
+    let here : x ≡ due C H y = cc (are) in
+    let later : AreDue C (with_turn y x H) events replies =
+    subst (λ z. AreDue C (with_turn y z H) events replies) (sym here) (cc (are)) in
+    ap (λ (rs : List Reply). x ∷ rs) (due_more C (with_turn y x H) events replies event r e d later)
+    ∙ ap (λ (z : Reply). x ∷ take (length (replies ++ r ∷ [])) (due_replies C (with_turn y z H) events)) here
+    ∙ ap (λ (z : Reply). z ∷ take (length (replies ++ r ∷ [])) (due_replies C (with_turn y (due C H y) H) events)) here
+
+pub all_due : (C : Setup) (H : History) (events : List Event) (replies : List Reply) → length replies ≡ length events
+    → AreDue C H events replies → replies ≡ due_replies C H events
+all_due C H events replies n are =
+    are ∙ ap (λ k. take k (due_replies C H events)) (n ∙ sym (due_count C H events)) ∙ take-length (due_replies C H events)
 
 -- the walk of a hart has come to the table that as many pointers lead to
 walk_told : (scheme : Scheme) (words : Tables) (root : ℕ) (stage : Option Stage) (walk : Option Walking) (at : Stage) → AreSameWalk scheme words root stage walk → stage ≡ Some at

@@ -1,5 +1,5 @@
 -- A machine that stands at a history answers what is due, and stands at the history with one more turn.
-use Rattle.std.proofs.Common.{◌≡◌, ◌<◌, List, unwrap_or, slice_get, ap, sym, subst, ◌∙◌}
+use Rattle.std.proofs.Common.{◌≡◌, ◌<◌, List, [], ◌∷◌, ◌++◌, unwrap_or, slice_get, ap, sym, subst, ◌∙◌}
 use Rattle.shoot.specs.Mailbox.{MailboxState, empty_mailbox}
 use Rattle.shoot.specs.Tickets.{TicketTable, no_tickets}
 use Rattle.history.specs.Setup.{Setup}
@@ -65,3 +65,11 @@ module _ (C : Setup) (m : State) (H : History) (st : Stands C m H) (is : IsMachi
         mailboxes = λ s h ls lh.
             ap (λ (xs : List MailboxState). unwrap_or (slice_get xs (mailbox_index s h)) (empty_mailbox 0)) follows.mailboxes ∙ mailboxes_stand C m H st is event r d s h ls lh;
       }
+
+-- a turn of a run: an event was answered, and its reply put behind those before
+pub record Turn (old : State) (event : Event) (new : State) (before after : List Reply) : Type 0 where
+  pub reply : Reply
+  pub pushed : after ≡ before ++ reply ∷ []
+  pub answers : reply ≡ reply_to old event
+  pub follows : Follows old event reply new
+  pub page : HasPage event

@@ -43,6 +43,8 @@ use Rattle.spaces.specs.declared.places.Place.TheVariants.{Space, Kernel}
 use Rattle.spaces.specs.Layout.{home_of}
 use Rattle.stepcore.specs.declared.space_state.Phase.{Phase}
 use Rattle.stepcore.specs.declared.space_state.Phase.TheVariants as phase
+use Rattle.stepcore.specs.declared.hart.AtOnce.{AtOnce}
+use Rattle.stepcore.specs.declared.hart.AtOnce.TheVariants as at_once
 use Rattle.stepcore.specs.declared.serving.Serving.{Serving as Service}
 use Rattle.stepcore.specs.declared.space_state.SpaceState.{SpaceState}
 use Rattle.stepcore.specs.State.{State, HartState, setup_in, words_in, holders_in, hart_at, space_at, tickets_at, mailbox_at}
@@ -93,6 +95,12 @@ scope_request m scope.All = All
 -- Begin: the TLB answers, or a walk begins
 abbrev pub asid_in : State → HartState → ℕ
 asid_in m hart = (space_at m hart.space).asid
+
+-- what an access is answered at once, as a reply
+abbrev pub reply_at_once : AtOnce → Reply
+reply_at_once (at_once.Hit pa) = reply.Hit pa
+reply_at_once (at_once.Trap trap) = reply.Trap trap
+reply_at_once (at_once.Refused why) = reply.Refused why
 
 abbrev pub begin_answer : State → HartState → ℕ → Access → Ctx → Reply
 begin_answer m hart va access ctx =

@@ -53,6 +53,12 @@ with_served None hart = hart
 with_served (Some serving) hart =
     record hart { serving = Some (record { from = serving.from; request = serving.request; fenced = true }); entries = served hart.entries serving.request.what }
 
+-- the event is an access, or a load of its walk
+abbrev pub is_access : Event → Bool
+is_access (Begin hart va access ctx) = true
+is_access (Load hart) = true
+is_access _ = false
+
 -- the event asks for a store to the tables
 abbrev pub is_edit : Event → Bool
 is_edit (Map hart place page ppn flags) = true

@@ -1,5 +1,5 @@
 -- What a run of events appends to a history, and what a machine shows of its mailboxes and TLBs.
-use Rattle.std.specs.Prelude.{ℕ, ◌≡◌, ◌≢◌, ◌+◌, ◌<◌, List, [], ◌∷◌, drop, length, None, Some, slice_index}
+use Rattle.std.specs.Prelude.{ℕ, ◌≡◌, ◌≢◌, ◌+◌, ◌<◌, List, [], ◌∷◌, drop, take, length, None, Some, slice_index}
 use Rattle.walk.specs.Stage.{Stage}
 use Rattle.spaces.specs.Layout.{spare_ppn}
 use Rattle.tlb.specs.declared.store.Entry.{Entry}
@@ -12,7 +12,7 @@ use Rattle.history.specs.Mailboxes.{KeepsOrder, NoneAfterClose}
 use Rattle.history.specs.Spaces.{Live, status_of, holder_of}
 use Rattle.history.specs.Completion.{ClearOnceDone}
 use Rattle.history.specs.Staleness.{Clear, Coherent, HoldsUsedAsids}
-use Rattle.history.specs.Runs.{with_turn}
+use Rattle.history.specs.Runs.{with_turn, due_replies}
 use Rattle.stepcore.specs.State.{State, hart_at, mailbox_at}
 
 -- the history once these events were answered so, as far as there are replies
@@ -35,6 +35,10 @@ entries_in m hart = (hart_at m hart).entries
 -- the history after a run that appended replies
 abbrev pub after_run : List Event → List Reply → List Reply → History → History
 after_run events old new H = with_turns events (appended old new) H
+
+-- these are the first so many of the replies that are due to the events
+abbrev pub AreDue : Setup → History → List Event → List Reply → Type 0
+AreDue C H events replies = replies ≡ take (length replies) (due_replies C H events)
 
 -- each mailbox keeps its order: what was accepted is what was taken, followed by what waits in this machine
 abbrev pub MailboxesKeepOrder : Setup → History → State → Type 0

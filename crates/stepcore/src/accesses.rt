@@ -8,10 +8,11 @@ ghost use Rattle.history.specs.Turns.{is_more};
 ghost use Rattle.history.specs.declared.reply.Reply.TheVariants.{More};
 ghost use Rattle.history.specs.declared.event.Event.TheVariants.{Begin, Load, Switch, Fence};
 ghost use Rattle.stepcore.specs.State.{hart_at, words_in};
-ghost use Rattle.stepcore.specs.Answers.{reply_to, asid_in, next_of, progress_answer};
+ghost use Rattle.stepcore.specs.Answers.{reply_at_once, reply_to, asid_in, next_of, progress_answer};
 ghost use Rattle.stepcore.specs.Runs.{entries_in};
 ghost use Rattle.stepcore.specs.Changes.{Follows, is_accepted, with_progress};
 
+use crate::hart::AtOnce;
 use crate::machine::Machine;
 use history::{Refusal, Reply};
 use pte::{Access, Ctx, VirtAddr};
@@ -31,31 +32,31 @@ fn progress_reply(progress: &Progress) -> Reply
 
 impl Machine {
     /// The walk that an access begins, or what it is answered at once.
-    fn first_walk(&self, hart: u8, va: u64, access: Access, ctx: Ctx) -> Result<Walk, Reply>
+    fn first_walk(&self, hart: u8, va: u64, access: Access, ctx: Ctx) -> Result<Walk, AtOnce>
         ensures walks { IfOk result (λ walk. (reply_to self.now (Begin hart va access ctx) ≡ More)
             × (hart < length self.now.harts)
             × (walk ≡ start_of self.now.memory.layout.scheme (root_ppn self.now.memory.layout (hart_at self.now hart).space) va access ctx)) }
-        ensures answers { IfErr result (λ reply. (reply ≡ reply_to self.now (Begin hart va access ctx)) × (is_more reply ≡ false)) }
+        ensures answers { IfErr result (λ answer. (reply_at_once answer ≡ reply_to self.now (Begin hart va access ctx)) × (is_more (reply_at_once answer) ≡ false)) }
     {
         if !self.is_hart(hart) {
-            return Err(Reply::Refused(Refusal::NoHart));
+            return Err(AtOnce::Refused(Refusal::NoHart));
         }
         let this = self.hart(hart);
         if this.is_walking() {
-            return Err(Reply::Refused(Refusal::Walking));
+            return Err(AtOnce::Refused(Refusal::Walking));
         }
         if this.is_serving() {
-            return Err(Reply::Refused(Refusal::Serving));
+            return Err(AtOnce::Refused(Refusal::Serving));
         }
         let scheme = self.memory.scheme();
         let Some(address) = VirtAddr::new_in(scheme, va) else {
-            return Err(Reply::Trap(Trap::page(access, Why::NotCanonical)));
+            return Err(AtOnce::Trap(Trap::page(access, Why::NotCanonical)));
         };
         match this.access(self.asid(hart), address, access, ctx) {
-            Some(reply) => Err(reply),
+            Some(answer) => Err(answer),
             None => {
                 let root = self.memory.root(this.space());
-                Walk::begin_in(scheme, root, va, access, ctx).map_err(Reply::Trap)
+                Walk::begin_in(scheme, root, va, access, ctx).map_err(AtOnce::Trap)
             }
         }
     }
@@ -72,7 +73,9 @@ impl Machine {
                 this.begin(walk);
                 Reply::More
             }
-            Err(reply) => reply,
+            Err(AtOnce::Hit(pa)) => Reply::Hit(pa),
+            Err(AtOnce::Trap(trap)) => Reply::Trap(trap),
+            Err(AtOnce::Refused(refusal)) => Reply::Refused(refusal),
         }
     }
 

@@ -3,10 +3,17 @@
 ghost use Rattle.std.specs.Prelude.{◌≡◌, false, IsTrue};
 ghost use Rattle.laws.specs.Kept.{HasPage};
 ghost use Rattle.stepcore.specs.Answers.{reply_to};
-ghost use Rattle.stepcore.specs.Changes.{Follows, is_accepted, is_edit};
+ghost use Rattle.stepcore.specs.Changes.{Follows, is_accepted, is_access, is_edit};
 
 use crate::machine::Machine;
 use history::{Event, Reply};
+
+/// Whether an event is an access, or a load of its walk.
+pub(crate) fn is_access(event: &Event) -> bool
+    ensures { result ≡ is_access event.now }
+{
+    matches!(event, Event::Begin { .. } | Event::Load { .. })
+}
 
 impl Machine {
     /// What an event asks that edits the tables, done or refused.
@@ -42,14 +49,16 @@ impl Machine {
         }
     }
 
-    /// What the event asks, done or refused.
-    pub(crate) fn do_event(&mut self, event: Event) -> Reply
-        ensures reply { result ≡ reply_to self.old event }
-        ensures follows { Follows self.old event result self.new }
+    /// What an access asks, or its next load, done or refused.
+    #[inline(always)]
+    pub(crate) fn do_access(&mut self, event: &Event) -> Reply
+        requires { IsTrue (is_access event.now) }
+        ensures reply { result ≡ reply_to self.old event.now }
+        ensures follows { Follows self.old event.now result self.new }
         ensures refused { is_accepted result ≡ false → self.new ≡ self.old }
-        ensures pages { HasPage event }
+        ensures pages { HasPage event.now }
     {
-        match event {
+        match *event {
             Event::Begin {
                 hart,
                 va,
@@ -57,7 +66,22 @@ impl Machine {
                 ctx,
             } => self.begin(hart, va, access, ctx),
             Event::Load { hart } => self.load(hart),
-            Event::Map { .. } | Event::Unmap { .. } | Event::Protect { .. } => self.do_edit(event),
+            _ => unreachable!(),
+        }
+    }
+
+    /// What an event asks that is no access, done or refused.
+    #[inline(never)]
+    pub(crate) fn do_other(&mut self, event: &Event) -> Reply
+        requires { is_access event.now ≡ false }
+        ensures reply { result ≡ reply_to self.old event.now }
+        ensures follows { Follows self.old event.now result self.new }
+        ensures refused { is_accepted result ≡ false → self.new ≡ self.old }
+        ensures pages { HasPage event.now }
+    {
+        match *event {
+            Event::Begin { .. } | Event::Load { .. } => unreachable!(),
+            Event::Map { .. } | Event::Unmap { .. } | Event::Protect { .. } => self.do_edit(*event),
             Event::Flush { hart, scope, named } => self.flush(hart, scope, named),
             Event::Switch { hart, space } => self.switch(hart, space),
             Event::Fence { hart, rs1, rs2 } => self.fence(hart, rs1, rs2),
@@ -72,6 +96,19 @@ impl Machine {
             Event::Retire { hart, space } => self.retire(hart, space),
             Event::Reclaim { hart, space } => self.reclaim(hart, space),
             Event::Create { hart, space, asid } => self.create(hart, space, asid),
+        }
+    }
+    /// What the event asks, done or refused.
+    pub(crate) fn do_event(&mut self, event: &Event) -> Reply
+        ensures reply { result ≡ reply_to self.old event.now }
+        ensures follows { Follows self.old event.now result self.new }
+        ensures refused { is_accepted result ≡ false → self.new ≡ self.old }
+        ensures pages { HasPage event.now }
+    {
+        if is_access(event) {
+            self.do_access(event)
+        } else {
+            self.do_other(event)
         }
     }
 }

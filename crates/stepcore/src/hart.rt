@@ -9,15 +9,24 @@ ghost use Rattle.history.specs.Due.{match_reply};
 ghost use Rattle.history.specs.Turns.{is_more};
 ghost use Rattle.history.specs.declared.reply.Reply.TheVariants.{More};
 ghost use Rattle.stepcore.specs.State.{new_hart};
+ghost use Rattle.stepcore.specs.Answers.{reply_at_once};
 ghost use Rattle.stepcore.specs.Changes.{with_progress, with_served};
 
 use crate::serving::Serving;
-use history::Reply;
+use history::Refusal;
 use pte::{Access, Ctx, Scheme, VirtAddr, What};
 use shoot::Request;
 use std::marker::Model;
 use tlb::{Entry, Tlb};
-use walk::{Progress, Walk};
+use walk::{Progress, Trap, Walk};
+
+/// What an access is answered at once, with no walk: less than a reply can be.
+#[derive(Clone, Copy, PartialEq, Eq, Debug)]
+pub(crate) enum AtOnce {
+    Hit(u64),
+    Trap(Trap),
+    Refused(Refusal),
+}
 
 /// A hart: the space that it runs in, the walk in flight, the request that it serves, and its TLB.
 #[derive(Drop)]
@@ -88,15 +97,15 @@ impl Hart {
     }
 
     /// What the TLB answers to an access of an address, if an entry matches.
-    pub(crate) fn access(&self, asid: u16, va: VirtAddr, access: Access, ctx: Ctx) -> Option<Reply>
-        ensures answers { IfSome result (λ reply. match_reply va access ctx (first_match self.now.entries asid va) ≡ reply) }
-        ensures ends { IfSome result (λ reply. is_more reply ≡ false) }
+    pub(crate) fn access(&self, asid: u16, va: VirtAddr, access: Access, ctx: Ctx) -> Option<AtOnce>
+        ensures answers { IfSome result (λ answer. match_reply va access ctx (first_match self.now.entries asid va) ≡ reply_at_once answer) }
+        ensures ends { IfSome result (λ answer. is_more (reply_at_once answer) ≡ false) }
         ensures misses { IfNone result (match_reply va access ctx (first_match self.now.entries asid va) ≡ More) }
     {
         let entry = self.lookup(asid, va)?;
         match entry.translate(va, access, ctx) {
-            Ok(pa) => Some(Reply::Hit(pa)),
-            Err(trap) => Some(Reply::Trap(trap)),
+            Ok(pa) => Some(AtOnce::Hit(pa)),
+            Err(trap) => Some(AtOnce::Trap(trap)),
         }
     }
 

@@ -1,14 +1,15 @@
 //! Steps and runs.
 
-ghost use Rattle.std.specs.Prelude.{◌≡◌, ◌≤◌, ◌↔◌, IsOk, false, length, take};
+ghost use Rattle.std.specs.Prelude.{◌≡◌, ◌≤◌, ◌↔◌, IsOk, OnOk, false, length, take};
 ghost use Rattle.history.specs.Setup.{Setup};
 ghost use Rattle.history.specs.Turns.{History};
-ghost use Rattle.history.specs.Runs.{with_turn};
+ghost use Rattle.history.specs.Runs.{due_replies, with_turn};
 ghost use Rattle.history.specs.Due.{due};
 ghost use Rattle.stepcore.specs.Changes.{is_accepted};
-ghost use Rattle.stepcore.specs.Runs.{after_run, appended, HartsAreInLiveSpaces, IsClear, IsClearOnceDone, IsCoherent, MailboxesKeepOrder, NothingAfterCloses, TlbsHoldUsedAsids, WalksHoldUsedFrames};
+ghost use Rattle.stepcore.specs.Runs.{after_run, appended, AreDue, HartsAreInLiveSpaces, IsClear, IsClearOnceDone, IsCoherent, MailboxesKeepOrder, NothingAfterCloses, TlbsHoldUsedAsids, WalksHoldUsedFrames};
 ghost use Rattle.stepcore.specs.Stands.{Stands};
 
+use crate::events::is_access;
 use crate::machine::Machine;
 use history::{Event, Reply};
 use std::alloc::AllocError;
@@ -33,15 +34,18 @@ impl Machine {
     {
         // A machine tells here what every machine keeps.
         let _memory = &self.memory;
-        self.do_event(event)
+        self.do_event(&event)
     }
 
-    /// Does the events in order, and appends one reply an event. An error comes only if there is no memory for a reply: the
-    /// machine then has done the events whose replies were appended, and no other.
+    /// Does the events in order, and appends one reply an event: for every history at which the machine stood, the one that is
+    /// due to the event after those before it. An error comes only if there is no memory for a reply: the machine then has done
+    /// the events whose replies were appended, and no other.
     pub fn run(&mut self, events: &[Event], replies: &mut Vec<Reply>) -> Result<(), AllocError>
         ensures kept { take (length replies.old.items) replies.new.items ≡ replies.old.items }
         ensures all { IsOk result ↔ (length (appended replies.old.items replies.new.items) ≡ length events.now) }
         ensures no_more { length (appended replies.old.items replies.new.items) ≤ length events.now }
+        ensures due { (C : Setup) (H : History) → Stands C self.old H → AreDue C H events.now (appended replies.old.items replies.new.items) }
+        ensures all_due { OnOk result ((C : Setup) (H : History) → Stands C self.old H → appended replies.old.items replies.new.items ≡ due_replies C H events.now) }
         ensures stands { (C : Setup) (H : History) → Stands C self.old H → Stands C self.new (after_run events.now replies.old.items replies.new.items H) }
         ensures mailboxes { (C : Setup) (H : History) → Stands C self.old H → MailboxesKeepOrder C (after_run events.now replies.old.items replies.new.items H) self.new }
         ensures closed { (C : Setup) (H : History) → Stands C self.old H → NothingAfterCloses C (after_run events.now replies.old.items replies.new.items H) }
@@ -54,8 +58,14 @@ impl Machine {
     {
         for event in events {
             replies.reserve(1)?;
-            let reply = self.step(*event);
-            let _ = replies.push(reply);
+            // A machine tells here what every machine keeps.
+            let _memory = &self.memory;
+            // The reply to an access is short, and a path of its own stores it by fewer moves.
+            let _ = if is_access(event) {
+                replies.push(self.do_access(event))
+            } else {
+                replies.push(self.do_other(event))
+            };
         }
         Ok(())
     }

@@ -1,4 +1,4 @@
-use Rattle.std.proofs.Common.{◌≡◌, Some, slice_get, ◌+◌, ◌≤◌, List, ◌++◌, ◌∷◌, [], length, refl, ap, sym, subst, ◌∙◌, vec_len, arith, length-append}
+use Rattle.std.proofs.Common.{◌≡◌, Some, slice_get, ◌+◌, ◌≤◌, List, ◌∷◌, [], length, refl, ap, sym, subst, ◌∙◌, vec_len, arith, length-append}
 use Rattle.std.proofs.Math.Seq.{take-length}
 use Rattle.std.proofs.lemmas.Bool.{cond-true}
 use Rattle.std.proofs.lemmas.List.{take-append-le}
@@ -7,10 +7,13 @@ use Rattle.std.specs.Vec.{vec_capacity}
 use Rattle.history.specs.Setup.{Setup}
 use Rattle.history.specs.Turns.{History}
 use Rattle.history.specs.declared.reply.Reply.{Reply}
+use Rattle.stepcore.specs.State.{IsMachine}
 use Rattle.stepcore.specs.Stands.{Stands}
-use Rattle.stepcore.specs.Runs.{after_run, appended, with_turns}
-use Rattle.stepcore.proofs.Running.{appended_none, no_turns, run_more, appended_more, mailbox_order, none_after_close, entries_clear, entries_coherent, entries_done, used_asids, live_spaces, used_frames}
+use Rattle.stepcore.proofs.Standing.{answers_due, stands_after, Turn}
+use Rattle.stepcore.specs.Runs.{after_run, appended, with_turns, AreDue}
+use Rattle.stepcore.proofs.Running.{appended_none, no_turns, run_more, appended_more, due_more, all_due, mailbox_order, none_after_close, entries_clear, entries_coherent, entries_done, used_asids, live_spaces, used_frames}
 use Rattle.stepcore.proofs.machine.Machine.run.Goals as goal
+use Rattle.stepcore.proofs.machine.Machine.run.Goals.{then-is_access, else-is_access}
 
 pub loop-event-init : goal.loop-event-init
 loop-event-init c =
@@ -19,26 +22,47 @@ loop-event-init c =
       more = omega arith;
       kept = take-length old;
       count = ap length (appended_none old);
+      due = λ C H st. subst (AreDue C H c.args.events.now) (sym (appended_none old)) refl;
       stands = λ C H st. subst (Stands C c.args.self.now) (sym (ap (λ (rs : List Reply). with_turns c.args.events.now rs H) (appended_none old) ∙ no_turns c.args.events.now H)) st;
     }
-
-pushed : (c : goal.After-push) → c.push.new.self.items ≡ c.loop-event.replies.items ++ c.step-reply.result ∷ []
-pushed c =
-    let room : vec_len c.reserve.new.self + 1 ≤ vec_capacity c.reserve.new.self = c.in_ok-reserve.ensures.ok in
-    c.push.ensures.items ∙ (cond-true _ _ _ (c.push.ensures.succeeds (omega arith)) ∙ rw c.in_ok-reserve.ensures.items refl)
 
 pub loop-event-preserved : goal.loop-event-preserved
 loop-event-preserved c =
     let i = c.loop-event.invariant in
+    let events = c.args.events.now in
+    let event = c.event-item.result in
     let old = c.args.replies.now.items in
     let now = c.loop-event.replies.items in
+    let room : vec_len c.reserve.new.self + 1 ≤ vec_capacity c.reserve.new.self = c.in_ok-reserve.ensures.ok in
+    let machine : IsMachine c.loop-event.self = subst IsMachine c.self.view_is c.self.invariant in
+    let turn : Turn c.loop-event.self event c.if-is_access.self now c.if-is_access.replies.items = elim c.if-is_access.branch [
+      | then-is_access w ↦ rw (w.self-is, w.replies-is) (record {
+        reply = w.do_access.result;
+        pushed = w.push.ensures.items ∙ (cond-true _ _ _ (w.push.ensures.succeeds (omega arith)) ∙ rw c.in_ok-reserve.ensures.items refl);
+        answers = w.do_access.ensures.reply;
+        follows = w.do_access.ensures.follows;
+        page = w.do_access.ensures.pages;
+      })
+      | else-is_access w ↦ rw (w.self-is, w.replies-is) (record {
+        reply = w.do_other.result;
+        pushed = w.push-else-is_access.ensures.items ∙ (cond-true _ _ _ (w.push-else-is_access.ensures.succeeds (omega arith)) ∙ rw c.in_ok-reserve.ensures.items refl);
+        answers = w.do_other.ensures.reply;
+        follows = w.do_other.ensures.follows;
+        page = w.do_other.ensures.pages;
+      })
+    ] in
+    let at : slice_get events (length (appended old now)) ≡ Some event =
+    rw i.count (slice_get-get_or events c.loop-event.event-index event c.loop-event-test.true ∙ ap Some (sym c.event-item.is)) in
     record {
-      more = rw (pushed c) (omega (arith, i.more, length-append now (c.step-reply.result ∷ [])));
-      kept = rw (pushed c) (take-append-le (length old) now (c.step-reply.result ∷ []) i.more ∙ i.kept);
-      count = rw (pushed c, appended_more old now c.step-reply.result i.more) (omega (arith, i.count, length-append (appended old now) (c.step-reply.result ∷ [])));
+      more = rw turn.pushed (omega (arith, i.more, length-append now (turn.reply ∷ [])));
+      kept = rw turn.pushed (take-append-le (length old) now (turn.reply ∷ []) i.more ∙ i.kept);
+      count = rw (turn.pushed, appended_more old now turn.reply i.more) (omega (arith, i.count, length-append (appended old now) (turn.reply ∷ [])));
+      due = λ C H st.
+          rw (turn.pushed, appended_more old now turn.reply i.more)
+          (due_more C H events (appended old now) event turn.reply at (turn.answers ∙ answers_due C _ _ (i.stands C H st) machine event) (i.due C H st));
       stands = λ C H st.
-          let at : slice_get c.args.events.now (length (appended old now)) ≡ Some c.event-item.result = rw i.count (slice_get-get_or c.args.events.now c.loop-event.event-index c.event-item.result c.loop-event-test.true ∙ ap Some (sym c.event-item.is)) in
-          rw (pushed c, run_more c.args.events.now old now c.event-item.result c.step-reply.result H i.more at) (c.step-reply.ensures.stands C _ (i.stands C H st));
+          rw (turn.pushed, run_more events old now event turn.reply H i.more at)
+          (stands_after C _ _ (i.stands C H st) machine event turn.reply c.if-is_access.self turn.page turn.answers turn.follows);
     }
 
 stays : (c : goal.After-from_residual) (C : Setup) (H : History) → Stands C c.args.self.now H
@@ -92,3 +116,8 @@ returns-in_err-reserve-clause-done c C H st = entries_done C _ _ (stays c C H st
 
 pub returns-clause-done : goal.returns-clause-done
 returns-clause-done c C H st = entries_done C _ _ (c.loop-event.invariant.stands C H st)
+
+pub returns-clause-all_due : goal.returns-clause-all_due
+returns-clause-all_due c C H st =
+    let i = c.loop-event.invariant in
+    all_due C H c.args.events.now _ (omega (arith, i.count, c.loop-event.auto.event-index-end, c.loop-event-test.false)) (i.due C H st)
