@@ -1,6 +1,6 @@
 //! Table memory.
 
-ghost use Rattle.std.specs.Prelude.{◌≡◌, ◌+◌, ◌*◌, ◌<◌, ◌≤◌, ◌^◌, ◌↔◌, ◌&&◌, ◌||◌, IsTrue, IfOk, IfSome, length, map, nat_lt, slice_index, slice_get, slice_set, sum, take, Some, None, replicate, ℕ, is_some, if◌then◌else◌};
+ghost use Rattle.std.specs.Prelude.{◌≡◌, ◌+◌, ◌*◌, ◌<◌, ◌≤◌, ◌^◌, ◌↔◌, ◌&&◌, ◌||◌, IsTrue, IfOk, IfSome, length, map, nat_le, nat_lt, slice_index, slice_get, slice_set, sum, take, Some, None, replicate, ℕ, is_some, if◌then◌else◌};
 ghost use Rattle.pte.specs.Address.{table_length};
 ghost use Rattle.pte.specs.Entry.{ppn_bits};
 ghost use Rattle.spaces.specs.Layout.{frame_count, HasPlace, home_of, layout_of, root_ppn, user_slots};
@@ -268,26 +268,31 @@ impl Memory {
     }
 }
 
-/// Whether a word is one of a space alone: of its root's user half, or of a frame in use for it.
-fn is_own_word(holder: Option<Place>, is_root: bool, index: usize, space: u8) -> bool
-    ensures { result ≡ ((is_root && nat_lt index user_slots) || is_held_for holder (place.Space space)) }
+/// Stores 0 on so many words from one on.
+fn clear(words: &mut [u64], first: usize, count: usize)
+    requires { first + count ≤ length words.old }
+    ensures length { length words.new ≡ length words.old }
+    ensures words { (n : ℕ) → slice_get words.new n ≡ (if nat_lt n (first + count) && nat_le first n then zero_word (slice_get words.old n) else slice_get words.old n) }
 {
-    is_root && index < usize::from(USER_SLOTS) || is_held_for(holder, space)
+    for at in first..first + count {
+        words[at] = 0;
+    }
 }
 
-/// Stores 0 on each word of a space, whose root is the frame of this number.
+/// Stores 0 on each word of a space, whose root is the frame of this number. Words of no other frame are read or stored.
 fn empty_words(words: &mut [u64], holders: &[Option<Place>], root: usize, space: u8)
-    requires { length words.old ≡ length holders.now * table_length }
+    requires length { length words.old ≡ length holders.now * table_length }
+    requires root { root < length holders.now }
     ensures length { length words.new ≡ length words.old }
     ensures words { (n : ℕ) → slice_get words.new n ≡ (if is_own_at holders.now root space n then zero_word (slice_get words.old n) else slice_get words.old n) }
 {
-    for at in 0..words.len() {
-        let frame = at / usize::from(TABLE_LENGTH);
-        let index = at % usize::from(TABLE_LENGTH);
-        if is_own_word(holders[frame], frame == root, index, space) {
-            words[at] = 0;
+    let table = usize::from(TABLE_LENGTH);
+    for frame in 0..holders.len() {
+        if is_held_for(holders[frame], space) {
+            clear(words, frame * table, table);
         }
     }
+    clear(words, root * table, usize::from(USER_SLOTS));
 }
 
 impl Memory {
