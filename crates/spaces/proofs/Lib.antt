@@ -14,6 +14,8 @@ pub mod Numbers
 pub mod Leaves
 pub mod Effecting
 pub mod EditLaws
+pub mod Stages
+pub mod HomeReads
 pub mod Emptying
 pub mod Reaching
 pub mod OpenedMemory

@@ -1,12 +1,13 @@
 //! What is wished of a page, and which word it takes.
 
-ghost use Rattle.std.specs.Prelude.{◌≡◌, ◌<◌, ◌≤◌, ◌^◌, IfSome, None, false, Ok};
+ghost use Rattle.std.specs.Prelude.{ℕ, ◌≡◌, ◌<◌, ◌≤◌, ◌^◌, IfSome, None, false, Ok};
 ghost use Rattle.pte.specs.Entry.{is_no_leaf, leaf_word, ppn_bits};
 
+use crate::edit_walks::USER_SLOTS;
 use crate::faults::MapFault;
 use crate::places::Place;
 use bitflags::Flags;
-use pte::{Kind, LeafFault, PPN_BITS, Page, Pte, PteFlags};
+use pte::{Kind, LeafFault, PPN_BITS, Page, Pte, PteFlags, Scheme, TABLE_LENGTH};
 
 /// A page to map, to unmap or to protect.
 #[derive(Clone, Copy, PartialEq, Eq, Debug)]
@@ -73,9 +74,10 @@ impl Place {
 }
 
 impl Wish {
-    ghost use Rattle.pte.specs.Address.{level_of, top_level, widest};
+    ghost use Rattle.pte.specs.Address.{level_of, table_length, top_level, widest};
     ghost use Rattle.pte.specs.Entry.{kind_of};
-    ghost use Rattle.spaces.specs.Edits.{due_word, leaf_fault, page_of, page_word, place_of, upper_word};
+    ghost use Rattle.spaces.specs.EditStages.{bare_layout, table_fault};
+    ghost use Rattle.spaces.specs.Edits.{due_word, is_wrong_half, leaf_fault, page_of, page_word, place_of, upper_word};
 
     pub(crate) fn place(&self) -> Place
         ensures { result ≡ place_of self.now }
@@ -102,6 +104,33 @@ impl Wish {
     {
         let page = self.page();
         page.size().level()
+    }
+
+    /// Whether the page is none of the scheme, or lies outside the part of the root that the place has beside a window of so
+    /// many slots.
+    pub(crate) fn is_wrong_half(&self, scheme: Scheme, window: u16) -> bool
+        requires { window ≤ table_length }
+        ensures page { result ≡ false → level_of (page_of self.now).size ≤ top_level scheme }
+        ensures value { (base : ℕ) → result ≡ is_wrong_half (bare_layout scheme window base) (place_of self.now) (page_of self.now) }
+    {
+        let page = self.page();
+        let base = page.base();
+        let slot = base.vpn(scheme.top_level());
+        let is_outside = match self.place() {
+            Place::Space(_) => slot >= USER_SLOTS,
+            Place::Kernel => slot < TABLE_LENGTH - window,
+        };
+        !page.fits(scheme) || is_outside
+    }
+
+    /// Why the wish is refused if it has a table at its page's level.
+    pub(crate) fn table_fault(&self) -> MapFault
+        ensures { result ≡ table_fault self.now }
+    {
+        match *self {
+            Wish::Map { .. } => MapFault::TableInWay,
+            Wish::Unmap { .. } | Wish::Protect { .. } => MapFault::WrongSize,
+        }
     }
 
     /// What is wrong with the flags and the PPN.
