@@ -1,6 +1,6 @@
 -- An edit waits for words at home, and what is stored of it points to a frame of the home.
-use Rattle.std.proofs.Common.{◌≡◌, ℕ, ◌+◌, ◌-◌, ◌<◌, ◌≤◌, ◌⊎◌, ◌==◌, ◌&&◌, cond, Bool, true, false, Option, Some, None, Result, Ok, Err, IsTrue, length, ap, sym, ◌∙◌, subst, refl, inl, inr, arith}
-use Rattle.std.specs.Prelude.{slice_index, nat_le, nat_lt}
+use Rattle.std.proofs.Common.{◌≡◌, ℕ, ◌+◌, ◌-◌, ◌<◌, ◌≤◌, ◌==◌, ◌&&◌, cond, Bool, true, false, Option, Some, None, Result, Ok, Err, IsTrue, ap, sym, ◌∙◌, subst, refl, inl, inr, arith}
+use Rattle.std.specs.Prelude.{nat_le, nat_lt}
 use Rattle.std.proofs.lemmas.Bool.{and_from, eqb-false, le-leb, lt-ltb}
 use Rattle.pte.specs.declared.scheme.Scheme.{Scheme}
 use Rattle.pte.specs.declared.scheme.Scheme.TheVariants.{Sv39, Sv48}
@@ -11,14 +11,13 @@ use Rattle.spaces.specs.declared.wishes.Wish.{Wish}
 use Rattle.spaces.specs.declared.places.Place.{Place}
 use Rattle.spaces.specs.declared.places.Place.TheVariants.{Space, Kernel}
 use Rattle.spaces.specs.declared.faults.MapFault.{MapFault}
-use Rattle.spaces.specs.declared.edit_walks.Next.{Next}
 use Rattle.spaces.specs.declared.edit_walks.Next.TheVariants as next
 use Rattle.spaces.specs.Layout.{Layout, HasPlace, home_of, is_frame, frame_count}
 use Rattle.spaces.specs.Held.{IsLayout}
 use Rattle.spaces.specs.Holders.{Holders, unused_spare}
-use Rattle.spaces.specs.Edits.{EditStage, IsStage, Store, is_kernel, leaf_fault, place_of, page_of, store_due, wish_fault}
+use Rattle.spaces.specs.Edits.{EditStage, IsStage, Store, is_kernel, place_of, page_of, wish_fault}
 use Rattle.spaces.specs.EditStages.{WaitsAtHome, edit_next, edit_start, ended, first_stage, gone_on, index_of, next_of, path_start, table_fault, unless_fault}
-use Rattle.spaces.specs.Tree.{IsAtHome, IsHome, IsIn, IsOwn, start_level, start_table}
+use Rattle.spaces.specs.Tree.{IsHome, IsOwn, start_level, start_table}
 use Rattle.spaces.specs.Accepted.{Writes, adds_table, adds_leaf, removes_leaf, changes_leaf}
 use Rattle.spaces.specs.Effects.{IsEdit}
 use Rattle.walk.proofs.FoundMembers.{leaf-ppn}

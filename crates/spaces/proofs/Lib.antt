@@ -6,6 +6,7 @@ pub mod Paths
 pub mod Stored
 pub mod Trees
 pub mod EntryWords
+pub mod Pointers
 pub mod EndPaths
 pub mod Accepting
 pub mod Keeping

@@ -1,6 +1,6 @@
 -- An edit that is fed the words of one memory.
-use Rattle.std.proofs.Common.{◌≡◌, ℕ, ◌+◌, ◌-◌, ◌<◌, ◌≤◌, ◌==◌, ◌&&◌, not, cond, Bool, true, false, Option, Some, None, Result, Ok, Err, ap, sym, ◌∙◌, subst, refl, arith}
-use Rattle.std.specs.Prelude.{unwrap_or}
+use Rattle.std.proofs.Common.{◌≡◌, ℕ, ◌-◌, ◌<◌, ◌≤◌, ◌==◌, ◌&&◌, not, cond, Bool, true, false, Option, Some, None, Result, Ok, Err, ap, sym, ◌∙◌, subst, refl, arith}
+use Rattle.std.specs.Prelude.{is_none, unwrap_or}
 use Rattle.std.proofs.lemmas.Bool.{eqb-true, eq-eqb, ne_eqb}
 use Rattle.std.proofs.lemmas.Bool.Decides.{nat_tests}
 use Rattle.pte.specs.declared.entry.Kind.{Kind}
@@ -21,7 +21,7 @@ use Rattle.spaces.specs.Layout.{Layout, home_of, root_ppn}
 use Rattle.spaces.specs.Held.{Held, IsLayout, IsMemory, holders_of, spare_of, words_of}
 use Rattle.spaces.specs.Holders.{Holders}
 use Rattle.spaces.specs.Edits.{EditStage, IsStage, Store, is_kernel, place_of, page_of, end_at, path_end, path_root, page_word, upper_word, due_word, store_at, store_due, unless, wish_fault, edit_of}
-use Rattle.spaces.specs.EditStages.{Continues, answer_from, answer_of, at_home_fault, bare_layout, edit_next, edit_start, ended, first_stage, gone_on, index_of, next_of, path_start, start_at_home, table_fault, unless_fault}
+use Rattle.spaces.specs.EditStages.{Continues, answer_from, answer_of, at_home_fault, bare_layout, edit_next, edit_start, ended, gone_on, index_of, next_of, path_start, start_at_home, table_fault, unless_fault}
 use Rattle.spaces.specs.Tree.{IsTree, IsIn, start_level, start_table}
 use Rattle.spaces.proofs.Accepting.{unfaulted, within, fit-level}
 use Rattle.spaces.proofs.Ends.{path_end-below, path_end-here, path_end-lowest, whole}
@@ -133,17 +133,34 @@ module _ (l : Layout) (fits : IsLayout l) (words : Tables) (holders : Holders) (
           by-place (place_of wish) (fit-level l (place_of wish) (page_of wish) u.half) (within l (place_of wish) (page_of wish) u.half)
 
 -- the same as the steps of a loop
-pub begun-as : (m : Held) → IsMemory m → (hart : ℕ) (wish : Wish) (spare : Option ℕ) → spare ≡ spare_of m hart → (r : Result EditStage MapFault)
-    → r ≡ edit_start m.layout hart wish → answer_of r (words_of m) spare ≡ edit_of m.layout (words_of m) (spare_of m hart) hart wish
-begun-as m held hart wish spare s r e =
-    ap (λ x. answer_of x (words_of m) spare) e ∙ starts m.layout held.layout (words_of m) (holders_of m) held.tree hart wish spare
-    ∙ ap (λ o. edit_of m.layout (words_of m) o hart wish) s
+pub begun-as : (m : Held) → IsMemory m → (hart : ℕ) (wish : Wish) (r : Result EditStage MapFault)
+    → r ≡ edit_start m.layout hart wish → answer_of r (words_of m) (spare_of m hart) ≡ edit_of m.layout (words_of m) (spare_of m hart) hart wish
+begun-as m held hart wish r e =
+    ap (λ x. answer_of x (words_of m) (spare_of m hart)) e ∙ starts m.layout held.layout (words_of m) (holders_of m) held.tree hart wish (spare_of m hart)
 
-pub goes-on : (e : EditStage) (words : Tables) (spare o : Option ℕ) (word ppn index : ℕ) (made : Next) → IsStage e → o ≡ words ppn index → ppn ≡ e.table → index ≡ index_of e
-    → word ≡ unwrap_or o 0 → made ≡ edit_next e word spare → Continues e words spare made
-goes-on e words spare o word ppn index made stage is p i w m =
+pub goes-on : (e : EditStage) (words : Tables) (spare used o : Option ℕ) (word ppn index : ℕ) (made : Next) → IsStage e → o ≡ words ppn index → ppn ≡ e.table → index ≡ index_of e
+    → word ≡ unwrap_or o 0 → edit_next e word used ≡ edit_next e word spare → made ≡ edit_next e word used → Continues e words spare made
+goes-on e words spare used o word ppn index made stage is p i w same m =
     let read : o ≡ word_at words (page_of e.wish).base e.level e.table = is ∙ ap (λ t. words t index) p ∙ ap (words e.table) i in
-    subst (Continues e words spare) (sym m) (continues e words spare word (w ∙ ap (λ x. unwrap_or x 0) read) stage)
+    subst (Continues e words spare) (sym (m ∙ same)) (continues e words spare word (w ∙ ap (λ x. unwrap_or x 0) read) stage)
 
 pub continues-words : (e : EditStage) (words : Tables) (spare : Option ℕ) → IsStage e → Continues e words spare (edit_next e (unwrap_or (words e.table (index_of e)) 0) spare)
 continues-words e words spare stage = continues e words spare (unwrap_or (words e.table (index_of e)) 0) refl stage
+
+-- the spare frame counts for nothing but where a table is missing
+pub needless : (e : EditStage) (word : ℕ) (o : Option ℕ) → (not (e.level == level_of (page_of e.wish).size) && is_none (pointed (Some word))) ≡ false → edit_next e word None ≡ edit_next e word o
+needless e word o no-need = by-level (e.level == level_of (page_of e.wish).size) refl no-need
+  where
+    by-pointer : (p : Option ℕ) → is_none p ≡ false → gone_on e word None p ≡ gone_on e word o p
+    by-pointer None none = absurd (let bad : true ≡ false = none in cc)
+    by-pointer (Some table) none = refl
+
+    at-page : (b : Bool) → b ≡ true → next_of (store_at (place_of e.wish) (page_of e.wish).base (record { level = e.level; table = e.table; entry = word }) (cond b (page_word e.wish (kind_of word)) (upper_word e.wish None (kind_of word))))
+        ≡ next_of (store_at (place_of e.wish) (page_of e.wish).base (record { level = e.level; table = e.table; entry = word }) (cond b (page_word e.wish (kind_of word)) (upper_word e.wish o (kind_of word))))
+    at-page true t = refl
+    at-page false t = absurd (let bad : false ≡ true = t in cc)
+
+    by-level : (b : Bool) → (e.level == level_of (page_of e.wish).size) ≡ b → (not b && is_none (pointed (Some word))) ≡ false
+        → cond b (ended e word None) (gone_on e word None (pointed (Some word))) ≡ cond b (ended e word o) (gone_on e word o (pointed (Some word)))
+    by-level true t need = at-page (e.level == level_of (page_of e.wish).size) t
+    by-level false t need = by-pointer (pointed (Some word)) need

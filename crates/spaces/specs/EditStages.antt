@@ -1,14 +1,13 @@
 -- An edit that reads its page's path word by word.
-use Rattle.std.specs.Prelude.{ℕ, ◌≡◌, ◌+◌, ◌-◌, ◌==◌, ◌&&◌, if◌then◌else◌, Option, Some, None, Result, Ok, Err, unwrap_or, []}
+use Rattle.std.specs.Prelude.{ℕ, ◌≡◌, ◌+◌, ◌-◌, ◌==◌, ◌&&◌, if◌then◌else◌, Option, Some, None, Result, Ok, Err, []}
 use Rattle.pte.specs.declared.scheme.Scheme.{Scheme}
 use Rattle.pte.specs.Address.{top_level, level_of, vpn_of}
-use Rattle.walk.specs.Leads.{Tables, word_at}
+use Rattle.walk.specs.Leads.{Tables}
 use Rattle.walk.specs.Pointers.{pointed}
 use Rattle.spaces.specs.declared.wishes.Wish.{Wish}
 use Rattle.spaces.specs.declared.wishes.Wish.TheVariants.{Map, Unmap, Protect}
-use Rattle.spaces.specs.declared.wishes.PathEnd.{PathEnd}
 use Rattle.spaces.specs.declared.faults.MapFault.{MapFault}
-use Rattle.spaces.specs.declared.faults.MapFault.TheVariants.{NotHome, WrongHalf, TableInWay, WrongSize}
+use Rattle.spaces.specs.declared.faults.MapFault.TheVariants.{WrongHalf, TableInWay, WrongSize}
 use Rattle.spaces.specs.declared.edit_walks.Next.{Next}
 use Rattle.spaces.specs.declared.edit_walks.Next.TheVariants as next
 use Rattle.spaces.specs.Layout.{Layout}

@@ -14,7 +14,7 @@ use crate::edits::Edit;
 use crate::faults::MapFault;
 use crate::places::Place;
 use crate::wishes::{PathEnd, Wish};
-use pte::{Kind, Pte, Scheme, TABLE_LENGTH};
+use pte::{Scheme, TABLE_LENGTH};
 use std::marker::Model;
 
 /// How many of a root's slots are the user's half.
@@ -54,18 +54,19 @@ pub enum Next {
     Refused(MapFault),
 }
 
-/// The table that a word points to.
+/// The table that a word points to. A pointer has V, no other flag but G, and no bit from 54 on.
+#[inline(always)]
+#[tactic(auto, using(crate::proofs::Pointers::targets))]
 pub(crate) fn target(word: u64) -> Option<u64>
     ensures { result ≡ pointed (Some word) }
 {
-    match Pte(word).kind() {
-        Kind::Table { ppn, .. } => Some(ppn),
-        Kind::Invalid | Kind::Reserved | Kind::Leaf { .. } => None,
-    }
+    let flags = word % 256;
+    let is_pointer = word >> 54 == 0 && (flags == 0x01 || flags == 0x21);
+    if is_pointer { Some(word >> 10) } else { None }
 }
 
 impl EditWalk {
-    ghost use Rattle.std.specs.Prelude.{Some};
+    ghost use Rattle.std.specs.Prelude.{ℕ, false, None, Option, Some};
 
     /// The edit that a hart begins. The refusals that no word decides come here, in the order of `MapFault`; last that of a
     /// page of the kernel of the root's level, where the window's table stands: `TableInWay`, or `WrongSize` to unmap or
@@ -82,6 +83,7 @@ impl EditWalk {
     }
 
     /// The edit that its home begins, in memory of a scheme and a window of so many slots, from a PPN on.
+    #[inline(always)]
     pub(crate) fn start(
         scheme: Scheme,
         window: u16,
@@ -121,6 +123,7 @@ impl EditWalk {
     }
 
     /// The word that the edit waits for: the PPN of its table, and the index there, below 512.
+    #[inline(always)]
     pub fn wants(&self) -> (u64, u16)
         ensures table { result.0 ≡ self.now.table }
         ensures index { result.1 ≡ index_of self.now }
@@ -130,8 +133,18 @@ impl EditWalk {
         (self.table, page.base().vpn(self.level))
     }
 
+    /// Whether it is the spare frame that the load of a word may turn on.
+    #[inline(always)]
+    #[tactic(auto, using(crate::proofs::Stages::needless))]
+    pub(crate) fn needs_frame(&self, word: u64) -> bool
+        ensures { result ≡ false → (o : Option ℕ) → edit_next self.now word None ≡ edit_next self.now word o }
+    {
+        self.level != self.wish.level() && target(word).is_none()
+    }
+
     /// Goes on with the word that the edit waited for; `spare` is the PPN of the home's lowest unused spare frame, which is
     /// below 2^44.
+    #[inline(always)]
     pub fn load(self, word: u64, spare: Option<u64>) -> Next
         requires { IfSome spare (λ frame. frame < 2 ^ ppn_bits) }
         ensures { result ≡ edit_next self word spare }

@@ -1,17 +1,17 @@
 //! Edits: the one store that maps, unmaps or protects a page.
 
-ghost use Rattle.std.specs.Prelude.{◌≡◌, ◌<◌, ◌^◌, ◌-◌, ◌≤◌, IfNone, IfOk, None, ℕ};
-ghost use Rattle.pte.specs.Address.{table_length, level_of, top_level, widest};
+ghost use Rattle.std.specs.Prelude.{◌≡◌, ◌<◌, ◌^◌, ◌-◌, ◌≤◌, IfOk, IfSome, ℕ};
 ghost use Rattle.pte.specs.Entry.{ppn_bits};
 ghost use Rattle.spaces.specs.Layout.{HasPlace};
 ghost use Rattle.spaces.specs.Held.{holders_of, IsDue, spare_of, words_of};
 ghost use Rattle.spaces.specs.Applied.{holders_after, words_after};
 ghost use Rattle.spaces.specs.Effects.{HasEffect, IsEdit};
 ghost use Rattle.spaces.specs.declared.wishes.Wish.{Wish as WishOf};
-ghost use Rattle.spaces.specs.Edits.{edit_of, leaf_fault, path_end, page_of, path_root, place_of, wish_fault};
+ghost use Rattle.spaces.specs.Edits.{edit_of, place_of};
+ghost use Rattle.spaces.specs.EditStages.{edit_next};
 ghost use Rattle.spaces.specs.declared.wishes.Wish.TheVariants as wish;
 
-use crate::edit_walks::Next;
+use crate::edit_walks::{EditWalk, Next};
 use crate::faults::MapFault;
 use crate::frames::Memory;
 use crate::places::Place;
@@ -40,6 +40,7 @@ impl Model for Edit {
 }
 
 impl Edit {
+    #[inline(always)]
     pub(crate) fn new(place: Place, ppn: u64, index: u16, word: u64) -> Edit
         ensures { result ≡ record { place = place; ppn = ppn; index = index; word = word } }
     {
@@ -73,16 +74,30 @@ impl Edit {
     }
 }
 
+/// The lowest unused spare frame of the hart, which is looked for only where the load of a word may turn on it.
+#[inline(always)]
+fn spare_for(memory: &Memory, hart: u8, walk: &EditWalk, word: u64) -> Option<u64>
+    ensures same { edit_next walk.now word result ≡ edit_next walk.now word (spare_of memory.now hart) }
+    ensures range { IfSome result (λ frame. frame < 2 ^ ppn_bits) }
+{
+    if walk.needs_frame(word) {
+        memory.spare(hart)
+    } else {
+        None
+    }
+}
+
 /// The store that is due, or why none is.
+#[inline(always)]
 fn edit_due(memory: &Memory, hart: u8, wish: &Wish) -> Result<Edit, MapFault>
     requires { HasPlace memory.now.layout (place_of wish.now) }
     ensures outcome { result ≡ edit_of memory.now.layout (words_of memory.now) (spare_of memory.now hart) hart wish.now }
 {
-    let spare = memory.spare(hart);
     let mut walk = memory.begin(hart, wish)?;
     loop {
         let (ppn, index) = walk.wants();
         let word = memory.word(ppn, index).unwrap_or(0);
+        let spare = spare_for(memory, hart, &walk, word);
         match walk.load(word, spare) {
             Next::More(next) => walk = next,
             Next::Edit(edit) => return Ok(edit),

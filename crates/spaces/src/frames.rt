@@ -199,6 +199,7 @@ impl Memory {
     }
 
     /// The edit that a hart begins. `EditWalk::begin` has its refusals.
+    #[inline(always)]
     pub(crate) fn begin(&self, hart: u8, wish: &Wish) -> Result<EditWalk, MapFault>
         requires { HasPlace self.now.layout (place_of wish.now) }
         ensures start { result ≡ edit_start self.now.layout hart wish.now }

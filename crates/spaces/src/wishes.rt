@@ -57,6 +57,7 @@ fn leaf_word(ppn: u64, flags: PteFlags) -> Result<u64, MapFault>
 impl Place {
     ghost use Rattle.spaces.specs.Edits.{is_bad, is_kernel};
 
+    #[inline(always)]
     pub(crate) fn is_kernel(self) -> bool
         ensures { result ≡ is_kernel self }
     {
@@ -79,6 +80,7 @@ impl Wish {
     ghost use Rattle.spaces.specs.EditStages.{bare_layout, table_fault};
     ghost use Rattle.spaces.specs.Edits.{due_word, is_wrong_half, leaf_fault, page_of, page_word, place_of, upper_word};
 
+    #[inline(always)]
     pub(crate) fn place(&self) -> Place
         ensures { result ≡ place_of self.now }
     {
@@ -89,6 +91,7 @@ impl Wish {
         }
     }
 
+    #[inline(always)]
     pub(crate) fn page(&self) -> Page
         ensures { result ≡ page_of self.now }
     {
@@ -98,6 +101,7 @@ impl Wish {
     }
 
     /// The level of the page's leaf.
+    #[inline(always)]
     pub(crate) fn level(&self) -> u8
         ensures level { result ≡ level_of (page_of self.now).size }
         ensures range { result ≤ top_level widest }
@@ -108,6 +112,7 @@ impl Wish {
 
     /// Whether the page is none of the scheme, or lies outside the part of the root that the place has beside a window of so
     /// many slots.
+    #[inline(always)]
     pub(crate) fn is_wrong_half(&self, scheme: Scheme, window: u16) -> bool
         requires { window ≤ table_length }
         ensures page { result ≡ false → level_of (page_of self.now).size ≤ top_level scheme }
@@ -134,6 +139,7 @@ impl Wish {
     }
 
     /// What is wrong with the flags and the PPN.
+    #[inline(always)]
     pub(crate) fn leaf_fault(&self) -> Option<MapFault>
         ensures { result ≡ leaf_fault self.now }
     {
@@ -166,6 +172,7 @@ impl Wish {
     }
 
     /// The word that is due at the page's own level, by what stands there.
+    #[inline(always)]
     fn page_word(&self, entry: u64) -> Result<u64, MapFault>
         requires { leaf_fault self.now ≡ None }
         ensures { result ≡ page_word self.now (kind_of entry) }
@@ -190,6 +197,7 @@ impl Wish {
     }
 
     /// The word that is due above the page's level, by what stands there and the lowest unused spare frame.
+    #[inline(always)]
     fn upper_word(&self, spare: Option<u64>, entry: u64) -> Result<u64, MapFault>
         requires { IfSome spare (λ frame. frame < 2 ^ ppn_bits) }
         ensures { result ≡ upper_word self.now spare (kind_of entry) }
@@ -210,6 +218,7 @@ impl Wish {
     }
 
     /// The word that is due where the path of the page ends.
+    #[inline(always)]
     pub(crate) fn due_word(&self, spare: Option<u64>, end: &PathEnd) -> Result<u64, MapFault>
         requires wish { leaf_fault self.now ≡ None }
         requires frame { IfSome spare (λ frame. frame < 2 ^ ppn_bits) }

@@ -1,4 +1,4 @@
-use Rattle.std.proofs.Common.{ap, sym, ◌∙◌}
+use Rattle.std.proofs.Common.{ap, ◌∙◌}
 use Rattle.spaces.specs.Held.{Held}
 use Rattle.spaces.specs.EditStages.{bare_layout, start_at_home}
 use Rattle.spaces.proofs.Stages.{begun-away, begun-home}
