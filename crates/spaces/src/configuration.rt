@@ -102,6 +102,16 @@ impl Config {
         u64::from(self.window) + self.spaces.len() as u64 + total(&self.spares)
     }
 
+    /// Whether the place is there.
+    pub fn has(&self, place: Place) -> bool
+        ensures { IsTrue result ↔ HasPlace (layout_of self.now) place }
+    {
+        match place {
+            Place::Space(space) => usize::from(space) < self.spaces.len(),
+            Place::Kernel => true,
+        }
+    }
+
     /// The home of a place.
     pub(crate) fn home(&self, place: Place) -> u8
         requires { HasPlace (layout_of self.now) place }
