@@ -58,7 +58,7 @@ pub record Unfaulted (l : Layout) (hart : ℕ) (wish : Wish) : Type 0 where
   pub half : is_wrong_half l (place_of wish) (page_of wish) ≡ false
   pub leaf : leaf_fault wish ≡ None
 
-unfaulted : (l : Layout) (hart : ℕ) (wish : Wish) → wish_fault l hart wish ≡ None → Unfaulted l hart wish
+pub unfaulted : (l : Layout) (hart : ℕ) (wish : Wish) → wish_fault l hart wish ≡ None → Unfaulted l hart wish
 unfolding wish_fault
 unfaulted l hart wish e =
     let first = cond-none (not (hart == home_of l (place_of wish))) NotHome _ e in

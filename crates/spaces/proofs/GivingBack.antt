@@ -1,9 +1,8 @@
 -- Giving back the frames of a space, word by word and frame by frame.
-use Rattle.std.proofs.Common.{◌≡◌, ℕ, zero, suc, ◌+◌, ◌-◌, ◌*◌, ◌/◌, ◌%◌, ◌<◌, ◌≤◌, cond, eqb, ◌&&◌, ◌||◌, Bool, true, false, List, [], ◌∷◌, get_or, Option, Some, None, length, ap, sym, ◌∙◌, subst, refl, inl, inr, arith}
-use Rattle.std.specs.Prelude.{slice_get, nat_lt}
+use Rattle.std.proofs.Common.{◌≡◌, ℕ, zero, suc, ◌+◌, ◌-◌, ◌*◌, ◌/◌, ◌%◌, ◌<◌, ◌≤◌, cond, eqb, ◌&&◌, ◌||◌, Bool, true, false, List, [], ◌∷◌, Option, Some, None, length, ap, sym, ◌∙◌, subst, refl, inl, inr, arith}
+use Rattle.std.specs.Prelude.{slice_get, nat_le, nat_lt}
 use Rattle.std.proofs.Math.Path.{fun_ext}
-use Rattle.std.proofs.lemmas.Bool.{cases_eq, cases_lt, lt-ltb, le-ltb, le-leb, eq-eqb, ne_eqb}
-use Rattle.std.proofs.lemmas.Option.{slice_get-get_or}
+use Rattle.std.proofs.lemmas.Bool.{cases_eq, cases_lt, lt-ltb, le-ltb, le-leb, lt-leb, eq-eqb, ne_eqb, and_from, and_left, and_right}
 use Rattle.std.specs.Prelude.{Vec}
 use Rattle.std.proofs.lemmas.List.{with_items_is}
 use Rattle.std.specs.Vec.{with_items}
@@ -63,17 +62,85 @@ get-past [] n from = refl
 get-past (x ∷ xs) zero from = absurd (omega arith)
 get-past (x ∷ xs) (suc n) from = get-past xs n (omega arith)
 
-pub zero-there : (xs : List ℕ) (n : ℕ) → n < length xs → zero_word (slice_get xs n) ≡ Some 0
-zero-there xs n less = ap zero_word (slice_get-get_or xs n 0 less)
+-- the words are cleared of the frames before one
+module _ (xs : ℕ → Option ℕ) (own : ℕ → Bool) where
+  abbrev Cleared : ℕ → (ℕ → Option ℕ) → Type 0
+  Cleared to ws = (n : ℕ) → ws n ≡ cond (nat_lt (n / table_length) to && own (n / table_length)) (zero_word (xs n)) (xs n)
 
--- the test of a word, as it is computed
-pub own-at : (holders : List (Option Place)) (root s at a b : ℕ) (d : Option Place) (r : Bool) → a ≡ 512 → b ≡ 512 → at < length holders * table_length
-    → r ≡ ((eqb (at / a) root && nat_lt (at % b) user_slots) || is_held_for (get_or holders (at / a) d) (Space s)) → r ≡ is_own_at holders root s at
-own-at holders root s at a b d r ea eb less e =
-    e
-    ∙ ap (λ x. (eqb (at / x) root && nat_lt (at % b) user_slots) || is_held_for (get_or holders (at / x) d) (Space s)) ea
-    ∙ ap (λ x. (eqb (at / 512) root && nat_lt (at % x) user_slots) || is_held_for (get_or holders (at / 512) d) (Space s)) eb
-    ∙ ap (λ o. (eqb (at / 512) root && nat_lt (at % 512) user_slots) || is_held_for (held_at o) (Space s)) (sym (slice_get-get_or holders (at / 512) d (omega arith)))
+  module _ (ys : ℕ → Option ℕ) (at : ℕ) (done : Cleared at ys) where
+    pub keeps-cleared : own at ≡ false → Cleared (at + 1) ys
+    keeps-cleared none n = done n ∙ ap (λ b. cond b (zero_word (xs n)) (xs n)) (elim (cases_eq at (n / table_length)) [
+      | inl same ↦ let other : own (n / table_length) ≡ false = sym (ap own same) ∙ none in and_right _ _ other ∙ sym (and_right _ _ other)
+      | inr apart ↦ ap (λ b. b && own (n / table_length)) (later (n / table_length) at apart)
+    ])
+
+    pub more-cleared : (zs : ℕ → Option ℕ) (first count : ℕ) → own at ≡ true → first ≡ at * table_length → count ≡ table_length
+        → ((n : ℕ) → zs n ≡ cond (nat_lt n (first + count) && nat_le first n) (zero_word (ys n)) (ys n)) → Cleared (at + 1) zs
+    more-cleared zs first count held f c is n = elim (cases_eq at (n / table_length)) [
+      | inl same ↦
+          let before : ys n ≡ xs n = done n ∙ ap (λ b. cond (b && own (n / table_length)) (zero_word (xs n)) (xs n)) (le-ltb (n / table_length) at (omega (arith, same))) in
+          let inside : (nat_lt n (first + count) && nat_le first n) ≡ true =
+          and_from _ _ (lt-ltb n (first + count) (omega (arith, f, c, same))) (le-leb first n (omega (arith, f, same)))
+          in
+          is n ∙ ap (λ b. cond b (zero_word (ys n)) (ys n)) inside ∙ ap zero_word before
+          ∙ sym (ap (λ b. cond b (zero_word (xs n)) (xs n)) (and_from _ _ (lt-ltb (n / table_length) (at + 1) (omega (arith, same))) (sym (ap own same) ∙ held)))
+      | inr apart ↦
+          is n ∙ ap (λ b. cond b (zero_word (ys n)) (ys n)) (outside apart) ∙ done n
+          ∙ ap (λ b. cond (b && own (n / table_length)) (zero_word (xs n)) (xs n)) (later (n / table_length) at apart)
+    ]
+      where
+        outside : (at ≡ n / table_length → ⊥) → (nat_lt n (first + count) && nat_le first n) ≡ false
+        outside apart = elim (cases_lt n first) [
+          | inl less ↦ and_right _ _ (lt-leb first n less)
+          | inr from ↦ elim (cases_lt n (first + count)) [
+            | inl to ↦ absurd (apart (omega (arith, f, c, from, to)))
+            | inr past ↦ and_left _ _ (le-ltb n (first + count) past)
+          ]
+        ]
+
+    -- once the user half of a root is cleared too, of which there are no words past the frames
+    pub all-cleared : (zs : ℕ → Option ℕ) (root first count : ℕ) → first ≡ root * table_length → count ≡ user_slots
+        → ((n : ℕ) → at ≤ n / table_length → xs n ≡ None)
+        → ((n : ℕ) → zs n ≡ cond (nat_lt n (first + count) && nat_le first n) (zero_word (ys n)) (ys n))
+        → (n : ℕ) → zs n ≡ cond ((eqb (n / table_length) root && nat_lt (n % table_length) user_slots) || own (n / table_length)) (zero_word (xs n)) (xs n)
+    all-cleared zs root first count f c past is n =
+        is n ∙ ap (λ y. cond (nat_lt n (first + count) && nat_le first n) (zero_word y) y) frames
+        ∙ twice (nat_lt n (first + count) && nat_le first n) (own (n / table_length)) (xs n)
+        ∙ ap (λ b. cond (b || own (n / table_length)) (zero_word (xs n)) (xs n)) half
+      where
+        twice : (a b : Bool) (o : Option ℕ) → cond a (zero_word (cond b (zero_word o) o)) (cond b (zero_word o) o) ≡ cond (a || b) (zero_word o) o
+        twice true true None = refl
+        twice true true (Some w) = refl
+        twice true false o = refl
+        twice false b o = refl
+
+        same-none : (a b : Bool) (o : Option ℕ) → o ≡ None → cond a (zero_word o) o ≡ cond b (zero_word o) o
+        same-none true true o e = refl
+        same-none true false o e = rw e refl
+        same-none false true o e = rw e refl
+        same-none false false o e = refl
+
+        frames : ys n ≡ cond (own (n / table_length)) (zero_word (xs n)) (xs n)
+        frames = done n ∙ elim (cases_lt (n / table_length) at) [
+          | inl less ↦ ap (λ b. cond (b && own (n / table_length)) (zero_word (xs n)) (xs n)) (lt-ltb (n / table_length) at less)
+          | inr from ↦ same-none _ _ (xs n) (past n from)
+        ]
+
+        half : (nat_lt n (first + count) && nat_le first n) ≡ (eqb (n / table_length) root && nat_lt (n % table_length) user_slots)
+        half = elim (cases_eq (n / table_length) root) [
+          | inl same ↦ elim (cases_lt (n % table_length) user_slots) [
+            | inl low ↦ and_from _ _ (lt-ltb n (first + count) (omega (arith, f, c, same, low))) (le-leb first n (omega (arith, f, same)))
+                ∙ sym (and_from _ _ (eq-eqb (n / table_length) root same) (lt-ltb (n % table_length) user_slots low))
+            | inr high ↦ and_left _ _ (le-ltb n (first + count) (omega (arith, f, c, same, high))) ∙ sym (and_right _ _ (le-ltb (n % table_length) user_slots high))
+          ]
+          | inr apart ↦ elim (cases_lt n first) [
+            | inl less ↦ and_right _ _ (lt-leb first n less) ∙ sym (and_left _ _ (ne_eqb (n / table_length) root apart))
+            | inr from ↦ elim (cases_lt n (first + count)) [
+              | inl to ↦ absurd (apart (omega (arith, f, c, from, to)))
+              | inr beyond ↦ and_left _ _ (le-ltb n (first + count) beyond) ∙ sym (and_left _ _ (ne_eqb (n / table_length) root apart))
+            ]
+          ]
+        ]
 
 -- the words and the holders of a memory, by its lists
 module _ (m : Held) (ws : List ℕ) (hs : List (Option Place)) (s : ℕ)

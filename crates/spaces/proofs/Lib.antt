@@ -6,6 +6,7 @@ pub mod Paths
 pub mod Stored
 pub mod Trees
 pub mod EntryWords
+pub mod Pointers
 pub mod EndPaths
 pub mod Accepting
 pub mod Keeping
@@ -14,6 +15,8 @@ pub mod Numbers
 pub mod Leaves
 pub mod Effecting
 pub mod EditLaws
+pub mod Stages
+pub mod HomeReads
 pub mod Emptying
 pub mod Reaching
 pub mod OpenedMemory

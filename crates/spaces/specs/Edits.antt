@@ -1,9 +1,9 @@
 -- Which store is due to map, unmap or protect a page, or why it is refused.
-use Rattle.std.specs.Prelude.{ℕ, Bool, zero, suc, ◌+◌, ◌-◌, ◌%◌, ◌^◌, ◌==◌, ◌||◌, not, nat_le, nat_lt, if◌then◌else◌, true, false, Option, Some, None, Result, Ok, Err, unwrap_or}
+use Rattle.std.specs.Prelude.{ℕ, Bool, ◌≡◌, ◌≤◌, zero, suc, ◌+◌, ◌-◌, ◌%◌, ◌^◌, ◌==◌, ◌||◌, not, nat_le, nat_lt, if◌then◌else◌, true, false, Option, Some, None, Result, Ok, Err, unwrap_or}
 use Rattle.pte.specs.declared.flags.PteFlags.{PteFlags}
 use Rattle.pte.specs.declared.entry.Kind.{Kind}
 use Rattle.pte.specs.declared.entry.Kind.TheVariants as kinds
-use Rattle.pte.specs.Address.{Span, fits, top_level, level_of, pages_of, vpn_of}
+use Rattle.pte.specs.Address.{Span, fits, top_level, widest, level_of, pages_of, vpn_of}
 use Rattle.pte.specs.Entry.{kind_of, ppn_bits, table_word, leaf_word, is_no_leaf, is_global}
 use Rattle.walk.specs.Leads.{Tables, word_at}
 use Rattle.spaces.specs.declared.places.Place.{Place}
@@ -71,6 +71,18 @@ leaf_fault (Map place page ppn flags) =
     else None
 leaf_fault (Unmap place page) = None
 leaf_fault (Protect place page flags) = if is_bad place flags then Some BadFlags else None
+
+-- an edit that waits for a word of a table of a level
+pub record EditStage : Type 0 where
+  pub wish : Wish
+  pub level : ℕ
+  pub table : ℕ
+
+-- what every such edit keeps
+pub record IsStage (e : EditStage) : Type 0 where
+  pub leaf : leaf_fault e.wish ≡ None
+  pub from : level_of (page_of e.wish).size ≤ e.level
+  pub to : e.level ≤ top_level widest
 
 -- what is wrong before any table is read
 unfoldable pub wish_fault : Layout → ℕ → Wish → Option MapFault

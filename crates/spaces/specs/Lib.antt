@@ -2,6 +2,7 @@ pub mod Layout
 pub mod Limits
 pub mod Opening
 pub mod Edits
+pub mod EditStages
 pub mod Held
 pub mod Holders
 pub mod Tree

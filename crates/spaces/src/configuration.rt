@@ -4,6 +4,7 @@ ghost use Rattle.std.specs.Prelude.{◌≡◌, ◌+◌, ◌≤◌, ◌<◌, ◌^
 ghost use Rattle.std.specs.List.{list_any};
 ghost use Rattle.spaces.specs.Limits.{asids_differ, max_harts};
 
+use crate::places::Place;
 use arrayvec::ArrayVec;
 use pte::{PPN_BITS, Scheme};
 pub use pte::{MAX_CAPACITY, MAX_HARTS};
@@ -77,7 +78,7 @@ fn asids_differ(spaces: &[Space]) -> bool
 
 impl Config {
     ghost use Rattle.pte.specs.Entry.{ppn_bits};
-    ghost use Rattle.spaces.specs.Layout.{layout_of, frame_count};
+    ghost use Rattle.spaces.specs.Layout.{layout_of, frame_count, HasPlace, home_of};
     ghost use Rattle.spaces.specs.Limits.{max_frames, max_live_frames, MeetsLimits};
 
     /// Whether the limits hold that the fields tell, with at most 512 table frames.
@@ -99,6 +100,27 @@ impl Config {
         ensures { result ≡ frame_count (layout_of self.now) }
     {
         u64::from(self.window) + self.spaces.len() as u64 + total(&self.spares)
+    }
+
+    /// Whether the place is there.
+    pub fn has(&self, place: Place) -> bool
+        ensures { IsTrue result ↔ HasPlace (layout_of self.now) place }
+    {
+        match place {
+            Place::Space(space) => usize::from(space) < self.spaces.len(),
+            Place::Kernel => true,
+        }
+    }
+
+    /// The home of a place.
+    pub(crate) fn home(&self, place: Place) -> u8
+        requires { HasPlace (layout_of self.now) place }
+        ensures { result ≡ home_of (layout_of self.now) place }
+    {
+        match place {
+            Place::Space(space) => self.spaces[usize::from(space)].home,
+            Place::Kernel => 0,
+        }
     }
 
     fn homes_are_there(&self) -> bool

@@ -1,21 +1,22 @@
 //! Edits: the one store that maps, unmaps or protects a page.
 
-ghost use Rattle.std.specs.Prelude.{◌≡◌, ◌<◌, ◌^◌, ◌-◌, ◌≤◌, IfNone, IfOk, None, ℕ};
-ghost use Rattle.pte.specs.Address.{table_length, level_of, top_level, widest};
+ghost use Rattle.std.specs.Prelude.{◌≡◌, ◌<◌, ◌^◌, ◌-◌, ◌≤◌, IfOk, IfSome, ℕ};
 ghost use Rattle.pte.specs.Entry.{ppn_bits};
 ghost use Rattle.spaces.specs.Layout.{HasPlace};
 ghost use Rattle.spaces.specs.Held.{holders_of, IsDue, spare_of, words_of};
 ghost use Rattle.spaces.specs.Applied.{holders_after, words_after};
 ghost use Rattle.spaces.specs.Effects.{HasEffect, IsEdit};
 ghost use Rattle.spaces.specs.declared.wishes.Wish.{Wish as WishOf};
-ghost use Rattle.spaces.specs.Edits.{edit_of, leaf_fault, path_end, page_of, path_root, place_of, wish_fault};
+ghost use Rattle.spaces.specs.Edits.{edit_of, place_of};
+ghost use Rattle.spaces.specs.EditStages.{edit_next};
 ghost use Rattle.spaces.specs.declared.wishes.Wish.TheVariants as wish;
 
+use crate::edit_walks::{EditWalk, Next};
 use crate::faults::MapFault;
 use crate::frames::Memory;
 use crate::places::Place;
-use crate::wishes::{PathEnd, Wish};
-use pte::{Kind, Page, Pte, PteFlags, VirtAddr};
+use crate::wishes::Wish;
+use pte::{Page, PteFlags};
 use std::marker::Model;
 use walk::Words;
 
@@ -39,6 +40,18 @@ impl Model for Edit {
 }
 
 impl Edit {
+    #[inline(always)]
+    pub(crate) fn new(place: Place, ppn: u64, index: u16, word: u64) -> Edit
+        ensures { result ≡ record { place = place; ppn = ppn; index = index; word = word } }
+    {
+        Edit {
+            place,
+            ppn,
+            index,
+            word,
+        }
+    }
+
     /// The PPN of the table.
     pub fn ppn(&self) -> u64
         ensures { result ≡ self.now.ppn }
@@ -61,75 +74,36 @@ impl Edit {
     }
 }
 
-/// Where the path of an address ends, which is looked at down to a level.
-fn path_end(memory: &Memory, va: VirtAddr, lowest: u8, root: u64) -> PathEnd
-    requires { lowest ≤ top_level memory.now.layout.scheme }
-    ensures value { result ≡ path_end (words_of memory.now) va lowest (top_level memory.now.layout.scheme - lowest) root }
-    ensures range { result.level ≤ top_level widest }
+/// The lowest unused spare frame of the hart, which is looked for only where the load of a word may turn on it.
+#[inline(always)]
+fn spare_for(memory: &Memory, hart: u8, walk: &EditWalk, word: u64) -> Option<u64>
+    ensures same { edit_next walk.now word result ≡ edit_next walk.now word (spare_of memory.now hart) }
+    ensures range { IfSome result (λ frame. frame < 2 ^ ppn_bits) }
 {
-    let mut level = memory.scheme().top_level();
-    let mut table = root;
-    loop {
-        let entry = memory.word(table, va.vpn(level)).unwrap_or(0);
-        if level == lowest {
-            return PathEnd {
-                level,
-                table,
-                entry,
-            };
-        }
-        match Pte(entry).kind() {
-            Kind::Table { ppn, .. } => {
-                table = ppn;
-                level -= 1;
-            }
-            Kind::Invalid | Kind::Reserved | Kind::Leaf { .. } => {
-                return PathEnd {
-                    level,
-                    table,
-                    entry,
-                };
-            }
-        }
+    if walk.needs_frame(word) {
+        memory.spare(hart)
+    } else {
+        None
     }
-}
-
-/// What is wrong before any table is read.
-#[tactic(auto, unfolding(crate::specs::Edits::wish_fault))]
-fn wish_fault(memory: &Memory, hart: u8, wish: &Wish) -> Option<MapFault>
-    requires { HasPlace memory.now.layout (place_of wish.now) }
-    ensures value { result ≡ wish_fault memory.now.layout hart wish.now }
-    ensures page { IfNone result (level_of (page_of wish.now).size ≤ top_level memory.now.layout.scheme) }
-    ensures leaf { IfNone result (leaf_fault wish.now ≡ None) }
-{
-    if hart != memory.home(wish.place()) {
-        return Some(MapFault::NotHome);
-    }
-    if memory.is_wrong_half(wish.place(), wish.page()) {
-        return Some(MapFault::WrongHalf);
-    }
-    wish.leaf_fault()
 }
 
 /// The store that is due, or why none is.
-#[tactic(auto, unfolding(crate::specs::Edits::edit_of))]
+#[inline(always)]
 fn edit_due(memory: &Memory, hart: u8, wish: &Wish) -> Result<Edit, MapFault>
     requires { HasPlace memory.now.layout (place_of wish.now) }
     ensures outcome { result ≡ edit_of memory.now.layout (words_of memory.now) (spare_of memory.now hart) hart wish.now }
 {
-    if let Some(fault) = wish_fault(memory, hart, wish) {
-        return Err(fault);
+    let mut walk = memory.begin(hart, wish)?;
+    loop {
+        let (ppn, index) = walk.wants();
+        let word = memory.word(ppn, index).unwrap_or(0);
+        let spare = spare_for(memory, hart, &walk, word);
+        match walk.load(word, spare) {
+            Next::More(next) => walk = next,
+            Next::Edit(edit) => return Ok(edit),
+            Next::Refused(fault) => return Err(fault),
+        }
     }
-    let page = wish.page();
-    let va = page.base();
-    let end = path_end(memory, va, wish.level(), memory.path_root(wish.place()));
-    let word = wish.due_word(memory.spare(hart), &end)?;
-    Ok(Edit {
-        place: wish.place(),
-        ppn: end.table,
-        index: va.vpn(end.level),
-        word,
-    })
 }
 
 /// The one store that is due next to map the page to the PPN with these flags: a pointer where a table is missing, which

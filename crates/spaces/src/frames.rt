@@ -1,29 +1,28 @@
 //! Table memory.
 
-ghost use Rattle.std.specs.Prelude.{◌≡◌, ◌+◌, ◌*◌, ◌<◌, ◌≤◌, ◌^◌, ◌↔◌, ◌&&◌, ◌||◌, IsTrue, IfOk, IfSome, length, map, nat_lt, slice_index, slice_get, slice_set, sum, take, Some, None, replicate, ℕ, is_some, if◌then◌else◌};
+ghost use Rattle.std.specs.Prelude.{◌≡◌, ◌+◌, ◌*◌, ◌<◌, ◌≤◌, ◌^◌, ◌↔◌, ◌&&◌, ◌||◌, IsTrue, IfOk, IfSome, length, map, nat_le, nat_lt, slice_index, slice_get, slice_set, sum, take, Some, None, replicate, ℕ, is_some, if◌then◌else◌};
 ghost use Rattle.pte.specs.Address.{table_length};
 ghost use Rattle.pte.specs.Entry.{ppn_bits};
 ghost use Rattle.spaces.specs.Layout.{frame_count, HasPlace, home_of, layout_of, root_ppn, user_slots};
 ghost use Rattle.spaces.specs.Limits.{max_frames, max_harts, max_spaces, MeetsLimits};
 ghost use Rattle.spaces.specs.Opening.{first_word, first_words, is_word, opening};
-ghost use Rattle.walk.specs.Pointers.{pointed};
-ghost use Rattle.spaces.specs.Edits.{is_wrong_half, path_root};
+ghost use Rattle.spaces.specs.Edits.{place_of};
+ghost use Rattle.spaces.specs.EditStages.{edit_start};
 ghost use Rattle.spaces.specs.Held.{holders_of, IsMemory, is_own_at, spare_of, word_index, words_of};
 ghost use Rattle.spaces.specs.Holders.{given_back, is_held_for, zero_word};
 ghost use Rattle.spaces.specs.declared.places.Place.TheVariants as place;
 
 use crate::configuration::{Config, MAX_HARTS, MAX_SPACES, Space, total};
-use crate::faults::OpenFault;
+use crate::edit_walks::{EditWalk, USER_SLOTS, target};
+use crate::faults::{MapFault, OpenFault};
 use crate::frame_use::{FrameUse, is_held_for};
 use crate::places::Place;
+use crate::wishes::Wish;
 use arrayvec::ArrayVec;
-use pte::{Kind, Page, Pte, Scheme, TABLE_LENGTH};
+use pte::{Pte, Scheme, TABLE_LENGTH};
 use std::alloc::{AllocError, Global};
 use std::marker::Model;
 use walk::Words;
-
-/// How many of a root's slots are the user's half.
-const USER_SLOTS: u16 = TABLE_LENGTH / 2;
 
 /// Table memory: the words of the tables of all spaces, which are at home on the harts.
 #[derive(Drop)]
@@ -190,7 +189,8 @@ impl Memory {
     /// The home of a place.
     pub fn home(&self, place: Place) -> u8
         requires { HasPlace self.now.layout place }
-        ensures { result ≡ home_of self.now.layout place }
+        ensures value { result ≡ home_of self.now.layout place }
+        ensures memory { IsMemory self.now }
     {
         match place {
             Place::Space(space) => self.homes[usize::from(space)],
@@ -198,28 +198,17 @@ impl Memory {
         }
     }
 
-    /// Whether the page is none of the scheme, or lies outside the part of the root that the place has.
-    pub(crate) fn is_wrong_half(&self, place: Place, page: Page) -> bool
-        ensures { result ≡ is_wrong_half self.now.layout place page }
+    /// The edit that a hart begins. `EditWalk::begin` has its refusals.
+    #[inline(always)]
+    pub(crate) fn begin(&self, hart: u8, wish: &Wish) -> Result<EditWalk, MapFault>
+        requires { HasPlace self.now.layout (place_of wish.now) }
+        ensures start { result ≡ edit_start self.now.layout hart wish.now }
+        ensures memory { IsMemory self.now }
     {
-        let base = page.base();
-        let slot = base.vpn(self.scheme.top_level());
-        let is_outside = match place {
-            Place::Space(_) => slot >= USER_SLOTS,
-            Place::Kernel => slot < TABLE_LENGTH - self.window,
-        };
-        !page.fits(self.scheme) || is_outside
-    }
-
-    /// The root that the path of a page starts at.
-    pub(crate) fn path_root(&self, place: Place) -> u64
-        ensures { result ≡ path_root self.now.layout place }
-    {
-        let roots = self.base + u64::from(self.window);
-        match place {
-            Place::Space(space) => roots + u64::from(space),
-            Place::Kernel => roots,
+        if hart != self.home(wish.place()) {
+            return Err(MapFault::NotHome);
         }
+        EditWalk::start(self.scheme, self.window, self.base, *wish)
     }
 
     /// The lowest unused spare frame of a hart.
@@ -235,16 +224,6 @@ impl Memory {
             + total(&self.spares[..hart]) as usize;
         let frame = self.frames.lowest(first, first + count)?;
         Some(self.base + frame as u64)
-    }
-}
-
-/// The table that a word points to.
-fn target(word: u64) -> Option<u64>
-    ensures { result ≡ pointed (Some word) }
-{
-    match Pte(word).kind() {
-        Kind::Table { ppn, .. } => Some(ppn),
-        Kind::Invalid | Kind::Reserved | Kind::Leaf { .. } => None,
     }
 }
 
@@ -268,26 +247,31 @@ impl Memory {
     }
 }
 
-/// Whether a word is one of a space alone: of its root's user half, or of a frame in use for it.
-fn is_own_word(holder: Option<Place>, is_root: bool, index: usize, space: u8) -> bool
-    ensures { result ≡ ((is_root && nat_lt index user_slots) || is_held_for holder (place.Space space)) }
+/// Stores 0 on so many words from one on.
+fn clear(words: &mut [u64], first: usize, count: usize)
+    requires { first + count ≤ length words.old }
+    ensures length { length words.new ≡ length words.old }
+    ensures words { (n : ℕ) → slice_get words.new n ≡ (if nat_lt n (first + count) && nat_le first n then zero_word (slice_get words.old n) else slice_get words.old n) }
 {
-    is_root && index < usize::from(USER_SLOTS) || is_held_for(holder, space)
+    for at in first..first + count {
+        words[at] = 0;
+    }
 }
 
-/// Stores 0 on each word of a space, whose root is the frame of this number.
+/// Stores 0 on each word of a space, whose root is the frame of this number. Words of no other frame are read or stored.
 fn empty_words(words: &mut [u64], holders: &[Option<Place>], root: usize, space: u8)
-    requires { length words.old ≡ length holders.now * table_length }
+    requires length { length words.old ≡ length holders.now * table_length }
+    requires root { root < length holders.now }
     ensures length { length words.new ≡ length words.old }
     ensures words { (n : ℕ) → slice_get words.new n ≡ (if is_own_at holders.now root space n then zero_word (slice_get words.old n) else slice_get words.old n) }
 {
-    for at in 0..words.len() {
-        let frame = at / usize::from(TABLE_LENGTH);
-        let index = at % usize::from(TABLE_LENGTH);
-        if is_own_word(holders[frame], frame == root, index, space) {
-            words[at] = 0;
+    let table = usize::from(TABLE_LENGTH);
+    for frame in 0..holders.len() {
+        if is_held_for(holders[frame], space) {
+            clear(words, frame * table, table);
         }
     }
+    clear(words, root * table, usize::from(USER_SLOTS));
 }
 
 impl Memory {

@@ -2,6 +2,8 @@
 #![tactic(auto)]
 
 mod configuration;
+mod edit_walk_laws;
+mod edit_walks;
 mod edits;
 mod faults;
 mod frame_use;
@@ -14,6 +16,11 @@ mod wishes;
 pub use configuration::{
     Config, MAX_CAPACITY, MAX_FRAMES, MAX_HARTS, MAX_LIVE_FRAMES, MAX_SPACES, MAX_WINDOW, Space,
 };
+pub use edit_walk_laws::{
+    edit_points_to_a_frame, edit_replaces_no_pointer, edit_walk_continues, edit_walk_starts,
+    edit_walk_stays_at_home,
+};
+pub use edit_walks::{EditWalk, Next};
 pub use edits::{Edit, apply, next_map_edit, protect_edit, unmap_edit};
 pub use faults::{MapFault, OpenFault};
 pub use frames::Memory;

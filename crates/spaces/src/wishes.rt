@@ -1,12 +1,13 @@
 //! What is wished of a page, and which word it takes.
 
-ghost use Rattle.std.specs.Prelude.{◌≡◌, ◌<◌, ◌≤◌, ◌^◌, IfSome, None, false, Ok};
+ghost use Rattle.std.specs.Prelude.{ℕ, ◌≡◌, ◌<◌, ◌≤◌, ◌^◌, IfSome, None, false, Ok};
 ghost use Rattle.pte.specs.Entry.{is_no_leaf, leaf_word, ppn_bits};
 
+use crate::edit_walks::USER_SLOTS;
 use crate::faults::MapFault;
 use crate::places::Place;
 use bitflags::Flags;
-use pte::{Kind, LeafFault, PPN_BITS, Page, Pte, PteFlags};
+use pte::{Kind, LeafFault, PPN_BITS, Page, Pte, PteFlags, Scheme, TABLE_LENGTH};
 
 /// A page to map, to unmap or to protect.
 #[derive(Clone, Copy, PartialEq, Eq, Debug)]
@@ -56,6 +57,7 @@ fn leaf_word(ppn: u64, flags: PteFlags) -> Result<u64, MapFault>
 impl Place {
     ghost use Rattle.spaces.specs.Edits.{is_bad, is_kernel};
 
+    #[inline(always)]
     pub(crate) fn is_kernel(self) -> bool
         ensures { result ≡ is_kernel self }
     {
@@ -73,10 +75,12 @@ impl Place {
 }
 
 impl Wish {
-    ghost use Rattle.pte.specs.Address.{level_of, top_level, widest};
+    ghost use Rattle.pte.specs.Address.{level_of, table_length, top_level, widest};
     ghost use Rattle.pte.specs.Entry.{kind_of};
-    ghost use Rattle.spaces.specs.Edits.{due_word, leaf_fault, page_of, page_word, place_of, upper_word};
+    ghost use Rattle.spaces.specs.EditStages.{bare_layout, table_fault};
+    ghost use Rattle.spaces.specs.Edits.{due_word, is_wrong_half, leaf_fault, page_of, page_word, place_of, upper_word};
 
+    #[inline(always)]
     pub(crate) fn place(&self) -> Place
         ensures { result ≡ place_of self.now }
     {
@@ -87,6 +91,7 @@ impl Wish {
         }
     }
 
+    #[inline(always)]
     pub(crate) fn page(&self) -> Page
         ensures { result ≡ page_of self.now }
     {
@@ -96,6 +101,7 @@ impl Wish {
     }
 
     /// The level of the page's leaf.
+    #[inline(always)]
     pub(crate) fn level(&self) -> u8
         ensures level { result ≡ level_of (page_of self.now).size }
         ensures range { result ≤ top_level widest }
@@ -104,7 +110,36 @@ impl Wish {
         page.size().level()
     }
 
+    /// Whether the page is none of the scheme, or lies outside the part of the root that the place has beside a window of so
+    /// many slots.
+    #[inline(always)]
+    pub(crate) fn is_wrong_half(&self, scheme: Scheme, window: u16) -> bool
+        requires { window ≤ table_length }
+        ensures page { result ≡ false → level_of (page_of self.now).size ≤ top_level scheme }
+        ensures value { (base : ℕ) → result ≡ is_wrong_half (bare_layout scheme window base) (place_of self.now) (page_of self.now) }
+    {
+        let page = self.page();
+        let base = page.base();
+        let slot = base.vpn(scheme.top_level());
+        let is_outside = match self.place() {
+            Place::Space(_) => slot >= USER_SLOTS,
+            Place::Kernel => slot < TABLE_LENGTH - window,
+        };
+        !page.fits(scheme) || is_outside
+    }
+
+    /// Why the wish is refused if it has a table at its page's level.
+    pub(crate) fn table_fault(&self) -> MapFault
+        ensures { result ≡ table_fault self.now }
+    {
+        match *self {
+            Wish::Map { .. } => MapFault::TableInWay,
+            Wish::Unmap { .. } | Wish::Protect { .. } => MapFault::WrongSize,
+        }
+    }
+
     /// What is wrong with the flags and the PPN.
+    #[inline(always)]
     pub(crate) fn leaf_fault(&self) -> Option<MapFault>
         ensures { result ≡ leaf_fault self.now }
     {
@@ -137,6 +172,7 @@ impl Wish {
     }
 
     /// The word that is due at the page's own level, by what stands there.
+    #[inline(always)]
     fn page_word(&self, entry: u64) -> Result<u64, MapFault>
         requires { leaf_fault self.now ≡ None }
         ensures { result ≡ page_word self.now (kind_of entry) }
@@ -161,6 +197,7 @@ impl Wish {
     }
 
     /// The word that is due above the page's level, by what stands there and the lowest unused spare frame.
+    #[inline(always)]
     fn upper_word(&self, spare: Option<u64>, entry: u64) -> Result<u64, MapFault>
         requires { IfSome spare (λ frame. frame < 2 ^ ppn_bits) }
         ensures { result ≡ upper_word self.now spare (kind_of entry) }
@@ -181,6 +218,7 @@ impl Wish {
     }
 
     /// The word that is due where the path of the page ends.
+    #[inline(always)]
     pub(crate) fn due_word(&self, spare: Option<u64>, end: &PathEnd) -> Result<u64, MapFault>
         requires wish { leaf_fault self.now ≡ None }
         requires frame { IfSome spare (λ frame. frame < 2 ^ ppn_bits) }

@@ -11,6 +11,7 @@ use std::alloc::Global;
 use std::process::Abort;
 use walk::Words;
 
+mod edit_walks;
 mod sv48;
 
 const R: u8 = 0x02;

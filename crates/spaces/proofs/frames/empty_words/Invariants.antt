@@ -1,11 +1,14 @@
-use Rattle.std.proofs.Common.{◌≡◌, ℕ, cond, ◌&&◌, length, slice_get}
+use Rattle.std.proofs.Common.{◌≡◌, ℕ, ◌/◌, cond, ◌&&◌, length, slice_get}
 use Rattle.std.specs.Prelude.{nat_lt}
-use Rattle.spaces.specs.Held.{is_own_at}
-use Rattle.spaces.specs.Holders.{zero_word}
+use Rattle.pte.specs.Address.{table_length}
+use Rattle.spaces.specs.Held.{held_at}
+use Rattle.spaces.specs.Holders.{is_held_for, zero_word}
+use Rattle.spaces.specs.declared.places.Place.TheVariants.{Space}
 use Rattle.spaces.proofs.frames.empty_words.Given as goal
 
-abbrev pub invariant-loop-at : goal.invariant-loop-at
-invariant-loop-at l = record {
+abbrev pub invariant-loop-frame : goal.invariant-loop-frame
+invariant-loop-frame l = record {
   length : length l.words ≡ length l.fn.words;
-  words : (n : ℕ) → slice_get l.words n ≡ cond (nat_lt n l.at && is_own_at l.holders l.root l.space n) (zero_word (slice_get l.fn.words n)) (slice_get l.fn.words n);
+  words : (n : ℕ) → slice_get l.words n
+      ≡ cond (nat_lt (n / table_length) l.frame && is_held_for (held_at (slice_get l.holders (n / table_length))) (Space l.space)) (zero_word (slice_get l.fn.words n)) (slice_get l.fn.words n);
 }
