@@ -1,3 +1,4 @@
+pub mod Lanes
 pub mod Overlapping
 pub mod Serving
 pub mod Keeping

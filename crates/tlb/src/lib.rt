@@ -2,6 +2,7 @@
 #![tactic(auto)]
 
 mod laws;
+mod slots;
 mod store;
 mod worked_rows;
 
