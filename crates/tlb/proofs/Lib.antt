@@ -1,3 +1,5 @@
+pub mod Ranking
+pub mod ByAge
 pub mod Lanes
 pub mod Overlapping
 pub mod Serving

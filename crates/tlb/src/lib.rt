@@ -1,6 +1,7 @@
 //! The TLB of a hart: entries that stay until a fence or the service of a request takes them out.
 #![tactic(auto)]
 
+mod banks;
 mod laws;
 mod slots;
 mod store;
