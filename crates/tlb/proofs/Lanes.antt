@@ -1,6 +1,7 @@
 -- The search of 16 slots at once: bit k of the mask tells of slot k.
 use Rattle.std.proofs.Common.{◌≡◌, sym, ◌∙◌, ap, subst, ℕ, ◌^◌, ◌<◌, Bool, true, false, cond, eqb, List, map, length, get_or, inl, inr, arith}
-use Rattle.std.specs.Prelude.{◌==◌, slice_index}
+use Rattle.std.specs.Prelude.{◌==◌, bit_and, bit_or, slice_index}
+use Rattle.std.proofs.lemmas.Nat.Bits.{bit_at-lt, bit_at-zero, bit_at_and, bit_at_or}
 use Rattle.std.specs.Int.Count.{count_trailing_zeros}
 use Rattle.std.specs.Simd.Lanes.{mask_l}
 use Rattle.std.proofs.lemmas.Bool.{cases_Bool, eq-eqb}
@@ -27,3 +28,18 @@ lowest_in_mask ages age long within =
       | inl none ↦ absurd (let past : 16 ≡ slot_of ages age = rw none at first in omega arith)
       | inr some ↦ rw some at first
     ]
+
+-- a slot of one of two sets is in both together
+pub is_in_left : (a b slot : ℕ) → IsIn a slot → IsIn (bit_or a b) slot
+is_in_left a b slot on = let bits = bit_at_or a b slot in omega (arith, bits, on, bit_at-lt b slot)
+
+pub is_in_right : (a b slot : ℕ) → IsIn b slot → IsIn (bit_or a b) slot
+is_in_right a b slot on = let bits = bit_at_or a b slot in omega (arith, bits, on, bit_at-lt a slot)
+
+-- and of both it is in what they share
+pub is_in_both : (a b slot : ℕ) → IsIn a slot → IsIn b slot → IsIn (bit_and a b) slot
+is_in_both a b slot left right = let bits = bit_at_and a b slot in omega (arith, bits, left, right)
+
+-- the empty set has no slot
+pub none_in_empty : (slot : ℕ) → ¬ IsIn 0 slot
+none_in_empty slot on = let one : ◌≡◌ {A = ℕ} 0 1 = sym (bit_at-zero slot) ∙ on in omega arith

@@ -1,3 +1,6 @@
+pub mod Oldest
+pub mod Kept
+pub mod Dropping
 pub mod Ranking
 pub mod ByAge
 pub mod Lanes

@@ -51,7 +51,7 @@ opened dropped age within age_within =
     ]
 
 module _ (ages : List ℕ) (dropped : ℕ) (ranks : IsRanking ages) (within : dropped < 16) where
-  now_at : (slot : ℕ) → slot < 16 → slice_index (map (closed_up dropped) ages) slot ≡ closed_up dropped (slice_index ages slot)
+  pub now_at : (slot : ℕ) → slot < 16 → slice_index (map (closed_up dropped) ages) slot ≡ closed_up dropped (slice_index ages slot)
   now_at slot there = get_or-map (closed_up dropped) ages slot 0 0 (omega (arith, ranks.length))
 
   long : length (map (closed_up dropped) ages) ≡ 16

@@ -69,6 +69,7 @@ pub(crate) fn with_slot(set: SlotSet, slot: usize) -> SlotSet
 /// A set without a slot.
 pub(crate) fn without_slot(set: SlotSet, slot: usize) -> SlotSet
     requires { slot < 16 }
+    ensures less { IsIn set slot → result < set }
     ensures gone { bit_at result slot ≡ 0 }
     ensures others { (k : ℕ) → k < 16 → k ≢ slot → bit_at result k ≡ bit_at set k }
 {
