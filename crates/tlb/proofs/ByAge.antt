@@ -1,5 +1,5 @@
 -- The entries by age: what a look-up finds in them, and what a drop and a fill make of them.
-use Rattle.std.proofs.Common.{◌≡◌, ◌≢◌, sym, ◌∙◌, ap, subst, refl, ℕ, zero, suc, ◌+◌, ◌-◌, ◌<◌, ◌≤◌, Bool, true, false, not, cond, Option, Some, None, List, [], ◌∷◌, ◌++◌, map, length, filter, inl, inr, arith}
+use Rattle.std.proofs.Common.{◌≡◌, sym, ◌∙◌, ap, refl, ℕ, zero, suc, ◌+◌, ◌<◌, ◌≤◌, Bool, true, false, Option, Some, None, List, [], ◌∷◌, ◌++◌, length, filter, inl, inr, arith}
 use Rattle.std.specs.Prelude.{find}
 use Rattle.std.specs.List.{filter_map, range_with_len, cons_option, AllByRecursion}
 use Rattle.std.proofs.lemmas.Bool.{cases_eq}
@@ -81,3 +81,8 @@ pub without_failing : (p : Entry → Bool) (xs ys : List Entry) (e : Entry) → 
 without_failing p xs ys e fails =
     let tail : filter p (e ∷ ys) ≡ filter p ys = rw fails refl in
     filter-append p xs (e ∷ ys) ∙ ap (λ zs. filter p xs ++ zs) tail ∙ sym (filter-append p xs ys)
+
+-- what passes in each element loses none
+pub filter_kept : (p : Entry → Bool) (xs : List Entry) → AllByRecursion (λ e. p e ≡ true) xs → filter p xs ≡ xs
+filter_kept p [] all = refl
+filter_kept p (x ∷ xs) all = rw all.0 (ap (λ (es : List Entry). x ∷ es) (filter_kept p xs all.1))

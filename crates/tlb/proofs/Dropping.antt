@@ -1,16 +1,15 @@
 -- What a drop of one slot, and a fill of one, make of the entries by age.
-use Rattle.std.proofs.Common.{◌≡◌, ◌≢◌, sym, ◌∙◌, ap, refl, ℕ, zero, suc, ◌+◌, ◌-◌, ◌<◌, ◌≤◌, Bool, true, false, Option, Some, List, [], ◌∷◌, ◌++◌, map, length, filter, arith, set}
-use Rattle.std.specs.Prelude.{slice_get, slice_index, All}
+use Rattle.std.proofs.Common.{◌≡◌, sym, ◌∙◌, ap, refl, ℕ, zero, suc, ◌+◌, ◌-◌, ◌<◌, ◌≤◌, Bool, true, false, Option, Some, List, [], ◌∷◌, ◌++◌, map, length, filter, arith, set}
+use Rattle.std.specs.Prelude.{slice_get, slice_index}
 use Rattle.std.specs.List.{cons_option, filter_map, range_with_len}
 use Rattle.std.proofs.lemmas.List.Elements.{All-from_recursion}
-use Rattle.std.proofs.lemmas.Option.{slice_get-get_or}
 use Rattle.pte.specs.Address.{IsPage}
 use Rattle.tlb.specs.declared.store.Entry.{Entry}
 use Rattle.tlb.specs.declared.banks.Banks.{Banks}
 use Rattle.tlb.specs.Banks.{InUse, IsBanks, by_age, entries_of}
 use Rattle.tlb.specs.Entries.{IsTlb, filled}
 use Rattle.tlb.specs.Slots.{IsRanking, closed_up, slot_of}
-use Rattle.tlb.proofs.ByAge.{each_given, length_at_most, length_of_all, same_from, split, without_failing}
+use Rattle.tlb.proofs.ByAge.{each_given, filter_kept, length_of_all, same_from, split, without_failing}
 use Rattle.tlb.proofs.Keeping.{filled_when_full, filled_with_room}
 use Rattle.tlb.proofs.Ranking.{age_at, closed_above, closed_below, moved_slot}
 
@@ -132,3 +131,12 @@ module _ (b : Banks) (is : IsBanks b) where
 -- the entries of banks after a drop, by what the drop says
 pub entries_after_drop : (b now : Banks) (dropped count : ℕ) → now.held ≡ b.held → now.ages ≡ map (closed_up dropped) b.ages → now.count ≡ count → entries_of now ≡ by_age b.held (map (closed_up dropped) b.ages) count
 entries_after_drop b now dropped count held ages many = λ i. by_age (held i) (ages i) (many i)
+
+-- where no entry in use passes a test, all stay
+pub none_dropped : (p : Entry → Bool) (b : Banks) → IsBanks b → ((k : ℕ) (e : Entry) → k < 16 → InUse b k → slice_get b.held k ≡ Some e → p e ≡ true) → filter p (entries_of b) ≡ entries_of b
+none_dropped p b is stays =
+    filter_kept p (entries_of b)
+    (each_given (λ age. slice_get b.held (slot_of b.ages age)) (λ e. p e ≡ true) b.count 0
+    (λ age e from below at.
+    let small : age < 16 = omega (arith, is.count) in
+    stays (slot_of b.ages age) e (is.ages.each age small) (omega (arith, age_at b.ages age is.ages small)) at))

@@ -1,5 +1,5 @@
 -- A drop of one slot and a fill of one keep what banks keep.
-use Rattle.std.proofs.Common.{◌≡◌, ◌≢◌, sym, ◌∙◌, ap, subst, refl, ℕ, zero, suc, ◌+◌, ◌-◌, ◌<◌, ◌≤◌, true, false, Option, Some, None, List, map, length, inl, inr, arith, set, get_or-set_same, get_or-set_other, length-set}
+use Rattle.std.proofs.Common.{◌≡◌, ◌≢◌, sym, ◌∙◌, ap, subst, refl, ℕ, zero, suc, ◌+◌, ◌-◌, ◌<◌, ◌≤◌, Some, map, length, inl, inr, arith, set, get_or-set_same, get_or-set_other, length-set}
 use Rattle.std.specs.Prelude.{◌↔◌, slice_get, slice_index}
 use Rattle.std.specs.Int.{bit_at}
 use Rattle.std.proofs.lemmas.Bool.{cases_eq}
@@ -65,16 +65,16 @@ module _ (b : Banks) (is : IsBanks b) (four : length b.banks ≡ 4) where
           let now : bank_of dropped size ≡ bits = bank_set e.page.size size bits same in
           let before : bank_of b e.page.size ≡ bank_of b size = ap (slice_index b.banks) (sym same) in (
             (λ on.
-            let set_now : bit_at bits k ≡ 1 = sym (ap (λ n. bit_at n k) now) ∙ on in
-            let apart : k ≢ slot = λ one. let zero_one : ◌≡◌ {A = ℕ} 0 1 = sym (ap (bit_at bits) one ∙ gone) ∙ set_now in omega arith in
-            (sym (ap (λ n. bit_at n k) before) ∙ sym (others k within apart) ∙ set_now, apart)),
+                let set_now : bit_at bits k ≡ 1 = sym (ap (λ n. bit_at n k) now) ∙ on in
+                let apart : k ≢ slot = λ one. let zero_one : ◌≡◌ {A = ℕ} 0 1 = sym (ap (bit_at bits) one ∙ gone) ∙ set_now in omega arith in
+                (sym (ap (λ n. bit_at n k) before) ∙ sym (others k within apart) ∙ set_now, apart)),
             (λ both. ap (λ n. bit_at n k) now ∙ others k within both.1 ∙ ap (λ n. bit_at n k) before ∙ both.0),
           )
       | inr apart ↦
           let now : bank_of dropped size ≡ bank_of b size = bank_other e.page.size size bits apart in (
             (λ on.
-            let before : IsIn (bank_of b size) k = sym (ap (λ n. bit_at n k) now) ∙ on in
-            (before, λ one. apart (sym (ap level_of (((is.slots slot e at).bank size).0 (ap (bit_at (bank_of b size)) (sym one) ∙ before)).1)))),
+                let before : IsIn (bank_of b size) k = sym (ap (λ n. bit_at n k) now) ∙ on in
+                (before, λ one. apart (sym (ap level_of (((is.slots slot e at).bank size).0 (ap (bit_at (bank_of b size)) (sym one) ∙ before)).1)))),
             (λ both. ap (λ n. bit_at n k) now ∙ both.0),
           )
     ]
@@ -83,11 +83,11 @@ module _ (b : Banks) (is : IsBanks b) (four : length b.banks ≡ 4) where
     dropped_use k within =
         let now : slice_index (map (closed_up (slice_index b.ages slot)) b.ages) k ≡ closed_up (slice_index b.ages slot) (slice_index b.ages k) = now_at b.ages (slice_index b.ages slot) is.ages (is.ages.below slot there) k within in (
           (λ on.
-          let parts = still_below (slice_index b.ages slot) (slice_index b.ages k) b.count in_use is.count (omega (arith, now, on)) in
-          (parts.0, λ one. parts.1 (ap (slice_index b.ages) one))),
+              let parts = still_below (slice_index b.ages slot) (slice_index b.ages k) b.count in_use is.count (omega (arith, now, on)) in
+              (parts.0, λ one. parts.1 (ap (slice_index b.ages) one))),
           (λ both.
-          let less = below_still (slice_index b.ages slot) (slice_index b.ages k) b.count in_use both.0 (λ one. both.1 (same_slot b.ages k slot is.ages within there one)) in
-          omega (arith, now, less)),
+              let less = below_still (slice_index b.ages slot) (slice_index b.ages k) b.count in_use both.0 (λ one. both.1 (same_slot b.ages k slot is.ages within there one)) in
+              omega (arith, now, less)),
         )
 
     pub kept_by_drop : IsBanks dropped
@@ -96,21 +96,21 @@ module _ (b : Banks) (is : IsBanks b) (four : length b.banks ≡ 4) where
       count = omega (arith, is.count);
       held = is.held;
       slots = λ k x here.
-        let within = in_range k x here in
-        let old = is.slots k x here in
-        record {
-          bank = λ size. (
-            (λ on.
-            let parts = (dropped_bank size k within).0 on in
-            let was = (old.bank size).0 parts.0 in
-            ((dropped_use k within).1 (was.0, parts.1), was.1)),
-            (λ both.
-            let was = (dropped_use k within).0 both.0 in
-            (dropped_bank size k within).1 ((old.bank size).1 (was.0, both.1), was.1)),
-          );
-          tag = λ on. old.tag ((dropped_use k within).0 on).0;
-          page = λ on. old.page ((dropped_use k within).0 on).0;
-        };
+          let within = in_range k x here in
+          let old = is.slots k x here in
+          record {
+            bank = λ size. (
+              (λ on.
+                  let parts = (dropped_bank size k within).0 on in
+                  let was = (old.bank size).0 parts.0 in
+                  ((dropped_use k within).1 (was.0, parts.1), was.1)),
+              (λ both.
+                  let was = (dropped_use k within).0 both.0 in
+                  (dropped_bank size k within).1 ((old.bank size).1 (was.0, both.1), was.1)),
+            );
+            tag = λ on. old.tag ((dropped_use k within).0 on).0;
+            page = λ on. old.page ((dropped_use k within).0 on).0;
+          };
     }
 
   module _ (e : Entry) (room : b.count < 16) (page : IsPage e.page) (sixteen : length b.tags ≡ 16) (bits : ℕ) (there : IsIn bits (slot_of b.ages b.count)) (others : (k : ℕ) → k ≢ slot_of b.ages b.count → bit_at bits k ≡ bit_at (bank_of b e.page.size) k) where
@@ -138,13 +138,13 @@ module _ (b : Banks) (is : IsBanks b) (four : length b.banks ≡ 4) where
         let used : slice_index b.ages slot < b.count + 1 = omega (arith, age_there) in
         elim (cases_eq (level_of size) (level_of e.page.size)) [
           | inl same ↦ (
-              (λ on. (used, sym (same_size size e.page.size same))),
-              (λ both. ap (λ n. bit_at n slot) (bank_set e.page.size size bits same) ∙ there),
-            )
+            (λ on. (used, sym (same_size size e.page.size same))),
+            (λ both. ap (λ n. bit_at n slot) (bank_set e.page.size size bits same) ∙ there),
+          )
           | inr apart ↦ (
-              (λ on. absurd (in_no_bank size (sym (ap (λ n. bit_at n slot) (bank_other e.page.size size bits apart)) ∙ on))),
-              (λ both. absurd (apart (sym (ap level_of both.1)))),
-            )
+            (λ on. absurd (in_no_bank size (sym (ap (λ n. bit_at n slot) (bank_other e.page.size size bits apart)) ∙ on))),
+            (λ both. absurd (apart (sym (ap level_of both.1)))),
+          )
         ]
 
     new_slot : IsSlot added slot e
@@ -168,8 +168,8 @@ module _ (b : Banks) (is : IsBanks b) (four : length b.banks ≡ 4) where
         record {
           bank = λ size. (
             (λ on.
-            let was = (old.bank size).0 (sym (same_bit size k apart) ∙ on) in
-            (omega (arith, was.0), was.1)),
+                let was = (old.bank size).0 (sym (same_bit size k apart) ∙ on) in
+                (omega (arith, was.0), was.1)),
             (λ both. same_bit size k apart ∙ (old.bank size).1 (still_used k within apart both.0, both.1)),
           );
           tag = λ on. get_or-set_other b.tags slot k (tag_of e.page.base e.page.size) 0 apart ∙ old.tag (still_used k within apart on);
@@ -188,3 +188,11 @@ module _ (b : Banks) (is : IsBanks b) (four : length b.banks ≡ 4) where
 
     pub kept_by_fill : IsBanks added
     kept_by_fill = record { ages = is.ages; count = omega (arith, room); held = length-set b.held slot e ∙ is.held; slots = one_slot }
+
+-- a slot in use after a drop was so before, and is not the one that was dropped
+pub used_before_drop : (b now : Banks) (slot k : ℕ) → IsBanks b → slot < 16 → InUse b slot → now.ages ≡ map (closed_up (slice_index b.ages slot)) b.ages → now.count + 1 ≡ b.count → k < 16 → InUse now k → InUse b k × (k ≢ slot)
+used_before_drop b now slot k is there in_use ages count within on =
+    let dropped : ℕ = slice_index b.ages slot in
+    let age : slice_index now.ages k ≡ closed_up dropped (slice_index b.ages k) = ap (λ xs. slice_index xs k) ages ∙ now_at b.ages dropped is.ages (is.ages.below slot there) k within in
+    let parts = still_below dropped (slice_index b.ages k) b.count in_use is.count (omega (arith, age, on, count)) in
+    (parts.0, λ one. parts.1 (ap (slice_index b.ages) one))

@@ -1,8 +1,7 @@
 -- The ages of the slots: what a drop makes of them.
-use Rattle.std.proofs.Common.{◌≡◌, ◌≢◌, sym, ◌∙◌, ap, subst, refl, ℕ, suc, ◌+◌, ◌-◌, ◌<◌, ◌≤◌, Bool, true, false, not, List, map, length, get_or, inl, inr, arith}
-use Rattle.std.specs.Prelude.{◌==◌, nat_lt, slice_index}
-use Rattle.std.specs.List.{prefix_len}
-use Rattle.std.proofs.lemmas.Bool.{cases_eq, cases_lt, eqb-true, eq-eqb, ne_eqb, lt-ltb, not-true, not-false}
+use Rattle.std.proofs.Common.{◌≡◌, ◌≢◌, sym, ◌∙◌, ap, subst, refl, ℕ, ◌+◌, ◌<◌, ◌≤◌, false, not, List, map, length, inl, inr, arith}
+use Rattle.std.specs.Prelude.{◌==◌, slice_index}
+use Rattle.std.proofs.lemmas.Bool.{cases_eq, cases_lt, eqb-true, eq-eqb, ne_eqb, not-false}
 use Rattle.std.proofs.lemmas.List.{length-map, get_or-map}
 use Rattle.std.proofs.lemmas.List.Sums.{prefix_len_is, prefix_len_stops}
 use Rattle.tlb.specs.Slots.{IsRanking, closed_up, slot_of}
@@ -76,9 +75,9 @@ module _ (ages : List ℕ) (dropped : ℕ) (ranks : IsRanking ages) (within : dr
   closed_ranking = record {
     length = long;
     each = λ age there.
-      let old = opened dropped age within there in
-      let P : ℕ → Type 0 = λ a. slot_of (map (closed_up dropped) ages) a < 16 in
-      subst P old.2 (omega (arith, moved_slot old.0 old.1, ranks.each old.0 old.1));
+        let old = opened dropped age within there in
+        let P : ℕ → Type 0 = λ a. slot_of (map (closed_up dropped) ages) a < 16 in
+        subst P old.2 (omega (arith, moved_slot old.0 old.1, ranks.each old.0 old.1));
     below = λ slot there. omega (arith, now_at slot there, closed_within dropped (slice_index ages slot) (ranks.below slot there));
     once = stays_at;
   }

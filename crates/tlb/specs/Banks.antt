@@ -1,5 +1,5 @@
 -- The entries of a TLB in 16 slots, which the banks share: there is one bank for each size of page.
-use Rattle.std.specs.Prelude.{ℕ, ◌≡◌, ◌↔◌, ◌/◌, ◌%◌, ◌^◌, ◌<◌, ◌≤◌, Option, Some, List, length, slice_get, slice_index}
+use Rattle.std.specs.Prelude.{ℕ, ◌≡◌, ◌↔◌, ◌/◌, ◌%◌, ◌^◌, ◌<◌, ◌≤◌, Some, List, length, slice_get, slice_index}
 use Rattle.std.specs.List.{filter_map, range_with_len}
 use Rattle.pte.specs.declared.address.PageSize.{PageSize}
 use Rattle.pte.specs.Address.{IsPage, bytes_of, level_of}

@@ -1,5 +1,5 @@
 -- The slots of a TLB and their ages.
-use Rattle.std.specs.Prelude.{ℕ, ◌≡◌, ◌-◌, ◌<◌, ◌==◌, Bool, not, nat_lt, if◌then◌else◌, List, length, slice_index}
+use Rattle.std.specs.Prelude.{ℕ, ◌≡◌, ◌-◌, ◌<◌, ◌==◌, not, nat_lt, if◌then◌else◌, List, length, slice_index}
 use Rattle.std.specs.List.{prefix_len}
 use Rattle.std.specs.Int.{bit_at}
 

@@ -1,9 +1,8 @@
-use Rattle.std.proofs.Common.{◌≡◌, ◌+◌, ◌<◌, ◌++◌, ◌∷◌, [], ◌∙◌, ap, sym, ℕ, List, map, slice_index, arith}
+use Rattle.std.proofs.Common.{◌≡◌, ◌++◌, ◌∷◌, [], ◌∙◌, ap, sym, List, map, slice_index, arith}
 use Rattle.tlb.specs.declared.store.Entry.{Entry}
 use Rattle.tlb.specs.declared.banks.Banks.{Banks}
-use Rattle.tlb.specs.Banks.{by_age, entries_of}
-use Rattle.tlb.specs.Entries.{filled}
-use Rattle.tlb.specs.Slots.{closed_up, slot_of}
+use Rattle.tlb.specs.Banks.{entries_of}
+use Rattle.tlb.specs.Slots.{closed_up}
 use Rattle.tlb.proofs.Dropping.{entries_after_drop, filled_full, filled_room}
 use Rattle.tlb.proofs.Ranking.{age_at}
 use Rattle.tlb.proofs.banks.Banks.add.Goals.{then-self-eq16, else-self-eq16}

@@ -16,8 +16,8 @@ loop-left-init c = record {
   within = omega arith;
   found = λ less. absurd (omega arith);
   left = λ k e at used on.
-    let tagged = match_is_tagged c.args.self.now c.requires c.args.asid c.args.va k e at used on in
-    c.candidates-left.ensures k e.page.size (omega (arith, slice_get_within c.args.self.now.held k e at, c.requires.held)) tagged.0 tagged.1;
+      let tagged = match_is_tagged c.args.self.now c.requires c.args.asid c.args.va k e at used on in
+      c.candidates-left.ensures k e.page.size (omega (arith, slice_get_within c.args.self.now.held k e at, c.requires.held)) tagged.0 tagged.1;
 }
 
 pub loop-left-smaller-then-is_match : goal.loop-left-smaller-then-is_match
@@ -37,8 +37,8 @@ loop-left-preserved-then-is_match c =
       within = c.lowest_slot-slot.ensures.within;
       found = λ less. (refl, λ e at. let both : Some x ≡ Some e = sym here ∙ at in let one : x ≡ e = cc in subst (λ (y : Entry). is_match c.args.asid c.args.va y ≡ true) one on);
       left = λ k e at less match.
-        let apart : k ≡ slot → ⊥ = λ same. let age : slice_index c.args.self.now.ages k ≡ slice_index c.args.self.now.ages slot = ap (slice_index c.args.self.now.ages) same in omega (arith, less) in
-        c.without_slot-left.ensures.others k (omega (arith, slice_get_within c.args.self.now.held k e at, c.requires.held)) apart ∙ c.loop-left.invariant.left k e at (omega (arith, less, c.if-self-slot.true)) match;
+          let apart : k ≡ slot → ⊥ = λ same. let age : slice_index c.args.self.now.ages k ≡ slice_index c.args.self.now.ages slot = ap (slice_index c.args.self.now.ages) same in omega (arith, less) in
+          c.without_slot-left.ensures.others k (omega (arith, slice_get_within c.args.self.now.held k e at, c.requires.held)) apart ∙ c.loop-left.invariant.left k e at (omega (arith, less, c.if-self-slot.true)) match;
     }
 
 pub loop-left-preserved : goal.loop-left-preserved
@@ -49,20 +49,20 @@ loop-left-preserved c =
       within = c.loop-left.invariant.within;
       found = c.loop-left.invariant.found;
       left = λ k e at less match.
-        let apart : k ≡ slot → ⊥ =
-        λ same.
-        let here : slice_get c.args.self.now.held slot ≡ Some e = ap (slice_get c.args.self.now.held) (sym same) ∙ at in
-        elim c.else-self-slot.branch [
-          | else-self-slot-via-then-self-slot+else-is_match w ↦
-              let there : slice_get c.args.self.now.held slot ≡ Some w.index-self-slot.result = slice_get_read c.args.self.now.held 16 slot w.index-self-slot.result (sym c.requires.held) c.lowest_slot-slot.ensures.within w.index-self-slot.is in
-              let both : Some w.index-self-slot.result ≡ Some e = sym there ∙ here in
-              let one : w.index-self-slot.result ≡ e = cc in
-              true≢false (sym match ∙ ap (is_match c.args.asid c.args.va) (sym one ∙ w.index-self-slot.is) ∙ sym w.is_match.ensures ∙ w.if-is_match.false)
-          | else-self-slot-via-else-self-slot w ↦
-              let age : slice_index c.args.self.now.ages k ≡ slice_index c.args.self.now.ages slot = ap (slice_index c.args.self.now.ages) same in
-              omega (arith, less, age, w.if-self-slot.false)
-        ] in
-        c.without_slot-left.ensures.others k (omega (arith, slice_get_within c.args.self.now.held k e at, c.requires.held)) apart ∙ c.loop-left.invariant.left k e at less match;
+          let apart : k ≡ slot → ⊥ =
+          λ same.
+          let here : slice_get c.args.self.now.held slot ≡ Some e = ap (slice_get c.args.self.now.held) (sym same) ∙ at in
+          elim c.else-self-slot.branch [
+            | else-self-slot-via-then-self-slot+else-is_match w ↦
+                let there : slice_get c.args.self.now.held slot ≡ Some w.index-self-slot.result = slice_get_read c.args.self.now.held 16 slot w.index-self-slot.result (sym c.requires.held) c.lowest_slot-slot.ensures.within w.index-self-slot.is in
+                let both : Some w.index-self-slot.result ≡ Some e = sym there ∙ here in
+                let one : w.index-self-slot.result ≡ e = cc in
+                true≢false (sym match ∙ ap (is_match c.args.asid c.args.va) (sym one ∙ w.index-self-slot.is) ∙ sym w.is_match.ensures ∙ w.if-is_match.false)
+            | else-self-slot-via-else-self-slot w ↦
+                let age : slice_index c.args.self.now.ages k ≡ slice_index c.args.self.now.ages slot = ap (slice_index c.args.self.now.ages) same in
+                omega (arith, less, age, w.if-self-slot.false)
+          ] in
+          c.without_slot-left.ensures.others k (omega (arith, slice_get_within c.args.self.now.held k e at, c.requires.held)) apart ∙ c.loop-left.invariant.left k e at less match;
     }
 
 pub returns-then-least-self : goal.returns-then-least-self
