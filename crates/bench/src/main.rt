@@ -1,11 +1,14 @@
-//! `bench [all|events|sv39|sv48] [N]`: makes about N events on a machine of 8 harts, N translations over the tables of a
-//! scheme, or all of these, and prints what they came to, by counts. N is 10,000,000 where no number is given. The clock is the caller's.
+//! `bench [all|events|sv39|sv48|tlb|KIND] [N]`: makes about N events on a machine of 8 harts, N translations over the tables of
+//! a scheme, N calls of each kind or of one on a TLB alone, or all of these, and prints what they came to, by counts. N is
+//! 10,000,000 where no number is given. The clock is the caller's.
 #![tactic(auto)]
 
 mod cycle;
+mod entries;
 mod tally;
 mod tree;
 
+use entries::Kind;
 use pte::Scheme;
 use std::alloc::AllocError;
 use std::process::ExitCode;
@@ -45,6 +48,18 @@ enum Part {
     All,
     Events,
     Translations(Scheme),
+    Tlb,
+    Kind(Kind),
+}
+
+/// The kind of call with a name.
+fn kind_of(word: &str) -> Option<Kind> {
+    for (kind, name) in entries::kinds() {
+        if name == word {
+            return Some(kind);
+        }
+    }
+    None
 }
 
 /// What the words ask for: the part, and how many.
@@ -56,7 +71,8 @@ fn asked(words: &[String]) -> Result<(Part, u64), Failure> {
             "events" => Part::Events,
             "sv39" => Part::Translations(Scheme::Sv39),
             "sv48" => Part::Translations(Scheme::Sv48),
-            _ => return Err(Failure::Usage),
+            "tlb" => Part::Tlb,
+            word => Part::Kind(kind_of(word).ok_or(Failure::Usage)?),
         },
     };
     let count = match words.get(2) {
@@ -89,6 +105,11 @@ fn run(rt: &HostRuntime) -> Result<(), Failure> {
             println!(rt; "found {found}")?;
         }
     }
+    for (kind, name) in entries::kinds() {
+        if matches!(part, Part::All | Part::Tlb) || part == Part::Kind(kind) {
+            println!(rt; "{name} {}", entries::run(kind, count))?;
+        }
+    }
     Ok(())
 }
 
@@ -97,7 +118,7 @@ fn main(rt: HostRuntime) -> ExitCode {
         return ExitCode::SUCCESS;
     };
     let _ = match failure {
-        Failure::Usage => eprintln!(rt; "usage: bench [all|events|sv39|sv48] [N]"),
+        Failure::Usage => eprintln!(rt; "usage: bench [all|events|sv39|sv48|tlb|KIND] [N]"),
         Failure::NoMemory => eprintln!(rt; "bench: no memory"),
         Failure::NotOpened => eprintln!(rt; "bench: nothing to measure on"),
         Failure::Io => eprintln!(rt; "bench: cannot read the words or write the counts"),

@@ -15,8 +15,8 @@ pub use laws::{
 };
 pub use store::{Entry, TLB_SIZE, Tlb};
 pub use worked_rows::{
-    worked_answers, worked_ends_of_the_halves, worked_fences, worked_fills, worked_matches,
-    worked_services,
+    worked_ages, worked_answers, worked_ends_of_the_halves, worked_fences, worked_fills,
+    worked_matches, worked_services,
 };
 
 #[cfg(test)]
