@@ -1,16 +1,18 @@
-//! `bench [all|events|sv39|sv48|rings|lock|words] [N]`: makes about N events on a machine of 8 harts, N translations over the
-//! tables of a scheme, N shootdowns between two threads, over rings or under one lock, N numbers that go there and back between
-//! two threads, or all of these, and prints what they came to, by counts. N is 10,000,000 where no number is given. The clock is
-//! the caller's.
+//! `bench [all|events|sv39|sv48|tlb|KIND|rings|lock|words] [N]`: makes about N events on a machine of 8 harts, N translations over
+//! the tables of a scheme, N calls of each kind or of one on a TLB alone, N shootdowns between two threads, over rings or under
+//! one lock, N numbers that go there and back between two threads, or all of these, and prints what they came to, by counts. N
+//! is 10,000,000 where no number is given. The clock is the caller's.
 #![tactic(auto)]
 
 mod cycle;
+mod entries;
 mod locked;
 mod pause;
 mod tally;
 mod tree;
 mod trips;
 
+use entries::Kind;
 use pte::Scheme;
 use std::alloc::{AllocError, Global};
 use std::process::ExitCode;
@@ -52,9 +54,21 @@ enum Part {
     All,
     Events,
     Translations(Scheme),
+    Tlb,
+    Kind(Kind),
     Rings,
     Lock,
     Words,
+}
+
+/// The kind of call with a name.
+fn kind_of(word: &str) -> Option<Kind> {
+    for (kind, name) in entries::kinds() {
+        if name == word {
+            return Some(kind);
+        }
+    }
+    None
 }
 
 /// What the words ask for: the part, and how many.
@@ -66,10 +80,11 @@ fn asked(words: &[String]) -> Result<(Part, u64), Failure> {
             "events" => Part::Events,
             "sv39" => Part::Translations(Scheme::Sv39),
             "sv48" => Part::Translations(Scheme::Sv48),
+            "tlb" => Part::Tlb,
             "rings" => Part::Rings,
             "lock" => Part::Lock,
             "words" => Part::Words,
-            _ => return Err(Failure::Usage),
+            word => Part::Kind(kind_of(word).ok_or(Failure::Usage)?),
         },
     };
     let count = match words.get(2) {
@@ -104,6 +119,11 @@ fn run_alone<R: Print>(rt: &R, alloc: Global, part: Part, count: u64) -> Result<
             let found = tree::run(alloc, scheme, count)?;
             println!(rt; "{name} {count}")?;
             println!(rt; "found {found}")?;
+        }
+    }
+    for (kind, name) in entries::kinds() {
+        if matches!(part, Part::All | Part::Tlb) || part == Part::Kind(kind) {
+            println!(rt; "{name} {}", entries::run(kind, count))?;
         }
     }
     Ok(())
@@ -147,7 +167,7 @@ fn main(rt: HostRuntime) -> ExitCode {
     };
     let _ = match failure {
         Failure::Usage => {
-            eprintln!(rt; "usage: bench [all|events|sv39|sv48|rings|lock|words] [N]")
+            eprintln!(rt; "usage: bench [all|events|sv39|sv48|tlb|KIND|rings|lock|words] [N]")
         }
         Failure::NoMemory => eprintln!(rt; "bench: no memory"),
         Failure::NotOpened => eprintln!(rt; "bench: nothing to measure on"),

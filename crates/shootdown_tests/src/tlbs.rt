@@ -251,6 +251,29 @@ fn a_page_filled_twice_is_there_twice(rt: HostRuntime) {
     assert_eq!(rt; ppn_at(&rt, &tlb, 0x1000), None);
 }
 
+/// Each with the page of a size at 0 or, of the smallest, at 0x1000: the address 0x1000 lies in all three.
+#[test]
+fn of_three_sizes_the_oldest_answers(rt: HostRuntime) {
+    let mut tlb = Tlb::new();
+    let sizes = [
+        (PageSize::Gib1, 0, 0x40000),
+        (PageSize::Kib4, 0x1000, 0x101),
+        (PageSize::Mib2, 0, 0x200),
+    ];
+    for (size, base, ppn) in sizes {
+        tlb.fill(entry_of(page(&rt, size, base), ppn));
+    }
+    assert_eq!(rt; ppn_at(&rt, &tlb, 0x1000), Some(0x40000));
+    tlb.serve(&What::PageOf(page(&rt, PageSize::Kib4, 0x40000), Some(1)));
+    assert_eq!(rt; ppn_at(&rt, &tlb, 0x1000), Some(0x101));
+    for k in 2..17_u64 {
+        tlb.fill(numbered(&rt, k, 0x300));
+    }
+    assert_eq!(rt; ppn_at(&rt, &tlb, 0x1000), Some(0x101));
+    tlb.fill(numbered(&rt, 17, 0x300));
+    assert_eq!(rt; ppn_at(&rt, &tlb, 0x1000), None);
+}
+
 #[test]
 fn what_a_walk_found_answers(rt: HostRuntime) {
     let found = Found {
@@ -488,5 +511,6 @@ fn worked_rows_are_laws(_rt: HostRuntime) {
     tlb::worked_matches();
     tlb::worked_services();
     tlb::worked_fills();
+    tlb::worked_ages();
     tlb::worked_answers();
 }

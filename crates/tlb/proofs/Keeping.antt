@@ -1,5 +1,5 @@
 -- What a fence, a service and a fill keep of what holds of each entry.
-use Rattle.std.proofs.Common.{◌≡◌, ap, ℕ, ◌+◌, ◌-◌, ◌<◌, ◌≤◌, Bool, true, Option, List, [], ◌∷◌, ◌++◌, length, drop, filter, arith, length-append, length-drop}
+use Rattle.std.proofs.Common.{◌≡◌, ap, refl, None, ℕ, ◌+◌, ◌-◌, ◌<◌, ◌≤◌, Bool, true, Option, List, [], ◌∷◌, ◌++◌, length, drop, filter, arith, length-append, length-drop}
 use Rattle.std.specs.Prelude.{◌⊎◌, not, All, Contains, IsTrue}
 use Rattle.std.specs.List.{AllPass}
 use Rattle.std.proofs.lemmas.List.Elements.{All-nil, All-push, All-drop, All-filter, All-contains, All-contains_itself, filter_passes, Contains-push_cases}
@@ -65,3 +65,8 @@ Contains-filled entries new e at =
     let all = entries ++ new ∷ [] in
     let gone = length all - tlb_size in
     Contains-push_cases entries new e (All-contains (Contains all) (drop gone all) e (All-drop (Contains all) gone all (All-contains_itself all)) at)
+
+-- a fence of every address and every ASID leaves nothing
+pub fenced_all : (scheme : Scheme) (entries : List Entry) → fenced scheme entries None None ≡ []
+fenced_all scheme [] = refl
+fenced_all scheme (e ∷ entries) = fenced_all scheme entries

@@ -1,3 +1,9 @@
+pub mod Oldest
+pub mod Kept
+pub mod Dropping
+pub mod Ranking
+pub mod ByAge
+pub mod Lanes
 pub mod Overlapping
 pub mod Serving
 pub mod Keeping

@@ -15,7 +15,7 @@ has_bytes : (size : PageSize) → 0 < bytes_of size
 has_bytes size = pow_pos (12 + 9 * level_of size)
 
 -- an address of a page that begins at a multiple of its size lies in the same row as its base
-same_row : (base va k : ℕ) → base % 2 ^ k ≡ 0 → base ≤ va → va < base + 2 ^ k → base / 2 ^ k ≡ va / 2 ^ k
+pub same_row : (base va k : ℕ) → base % 2 ^ k ≡ 0 → base ≤ va → va < base + 2 ^ k → base / 2 ^ k ≡ va / 2 ^ k
 same_row base va k aligned from below =
     let whole : base / 2 ^ k * 2 ^ k + base % 2 ^ k ≡ base = shr_split base k in
     let rest : base / 2 ^ k * 2 ^ k + (va - base) ≡ va = omega arith in

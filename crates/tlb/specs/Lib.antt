@@ -1,3 +1,5 @@
+pub mod Slots
+pub mod Banks
 pub mod Entries
 pub mod Fence
 pub mod Service

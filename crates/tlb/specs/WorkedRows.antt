@@ -1,6 +1,6 @@
 -- Worked rows: what was worked out by hand from the rules of fences, matches and services; in the first part whatever the
 -- entries' PPNs and flags are.
-use Rattle.std.specs.Prelude.{◌≡◌, ℕ, zero, suc, ◌+◌, ◌*◌, Bool, true, false, Some, None, Ok, Err, List, [], ◌∷◌}
+use Rattle.std.specs.Prelude.{◌≡◌, ℕ, zero, suc, ◌+◌, ◌*◌, Bool, true, false, Some, None, Ok, Err, List, [], ◌∷◌, map}
 use Rattle.pte.specs.declared.scheme.Scheme.TheVariants.{Sv39, Sv48}
 use Rattle.pte.specs.declared.flags.PteFlags.{PteFlags}
 use Rattle.pte.specs.declared.address.PageSize.{PageSize}
@@ -14,9 +14,11 @@ use Rattle.walk.specs.declared.found_or_trap.Found.{Found}
 use Rattle.walk.specs.declared.found_or_trap.Why.TheVariants.{Denied, NotDirty}
 use Rattle.tlb.specs.declared.store.Entry.{Entry}
 use Rattle.tlb.specs.Answer.{answer_of, entry_of}
+use Rattle.tlb.specs.Banks.{by_age, tag_of}
 use Rattle.tlb.specs.Entries.{filled, first_match}
 use Rattle.tlb.specs.Fence.{fenced}
 use Rattle.tlb.specs.Service.{served}
+use Rattle.tlb.specs.Slots.{closed_up}
 
 module _ (ppn : ℕ) (flags : PteFlags) where
   abbrev pub page : PageSize → ℕ → Span
@@ -241,6 +243,55 @@ module _ (ppn : ℕ) (flags : PteFlags) where
 
   abbrev pub older_answers : Type 0
   older_answers = first_match (filled (filled [] a) moved) 0 0 ≡ Some a
+
+  -- three entries hold an address, each of another size, filled in this order: the oldest answers. A service drops the larger
+  -- two, and the third is then the oldest of all: it is there after 15 fills of other pages and gone after one more
+  abbrev pub first_of_three : Entry
+  first_of_three = entry 1 false (page Gib1 0)
+
+  abbrev pub second_of_three : Entry
+  second_of_three = entry 1 false (page Kib4 0x1000)
+
+  abbrev pub third_of_three : Entry
+  third_of_three = entry 1 false (page Mib2 0)
+
+  abbrev pub three_sizes : List Entry
+  three_sizes = filled (filled (filled [] first_of_three) second_of_three) third_of_three
+
+  abbrev pub oldest_of_three_sizes : Type 0
+  oldest_of_three_sizes = first_match three_sizes 1 0x1000 ≡ Some first_of_three
+
+  abbrev pub one_of_three_stays : Type 0
+  one_of_three_stays = served three_sizes (PageOf (page Kib4 0x40000) (Some 1)) ≡ second_of_three ∷ []
+
+  -- the TLB of the entry alone after n fills more, of the pages of 4 KiB 2 to n + 1
+  abbrev pub fills_later : ℕ → List Entry
+  fills_later zero = second_of_three ∷ []
+  fills_later (suc n) = filled (fills_later n) (entry 1 false (page Kib4 ((n + 2) * 0x1000)))
+
+  abbrev pub there_after_fifteen : Type 0
+  there_after_fifteen = first_match (fills_later 15) 1 0x1000 ≡ Some second_of_three
+
+  abbrev pub gone_after_sixteen : Type 0
+  gone_after_sixteen = first_match (fills_later 16) 1 0x1000 ≡ None
+
+  -- three slots with the ages 2, 0 and 1, and a fourth that is not in use
+  abbrev pub ages : List ℕ
+  ages = 2 ∷ 0 ∷ 1 ∷ 3 ∷ []
+
+  abbrev pub order_by_age : Type 0
+  order_by_age = by_age (a ∷ b ∷ c ∷ d ∷ []) ages 3 ≡ b ∷ c ∷ a ∷ []
+
+  -- a drop of the age 1 lowers the ages above it
+  abbrev pub ages_close_up : Type 0
+  ages_close_up = map (closed_up 1) ages ≡ 1 ∷ 0 ∷ 15 ∷ 2 ∷ []
+
+  abbrev pub order_after_a_drop : Type 0
+  order_after_a_drop = by_age (a ∷ b ∷ c ∷ d ∷ []) (map (closed_up 1) ages) 2 ≡ b ∷ a ∷ []
+
+  -- the tag of an address is the number of its page there, of which 32 bits count
+  abbrev pub tags : Type 0
+  tags = (tag_of 0x8080403FFF Kib4 ≡ 0x8080403) × (tag_of 0x8080403FFF Gib512 ≡ 1) × (tag_of 0xFFFFFFFFFFFFFFFF Kib4 ≡ 0xFFFFFFFF)
 
   -- what a walk found on a leaf of 2 MiB, and under a global mapping or not
   abbrev pub found : Bool → Found

@@ -1,7 +1,9 @@
 //! The TLB of a hart: entries that stay until a fence or the service of a request takes them out.
 #![tactic(auto)]
 
+mod banks;
 mod laws;
+mod slots;
 mod store;
 mod worked_rows;
 
@@ -13,6 +15,6 @@ pub use laws::{
 };
 pub use store::{Entry, TLB_SIZE, Tlb};
 pub use worked_rows::{
-    worked_answers, worked_ends_of_the_halves, worked_fences, worked_fills, worked_matches,
-    worked_services,
+    worked_ages, worked_answers, worked_ends_of_the_halves, worked_fences, worked_fills,
+    worked_matches, worked_services,
 };

@@ -1,14 +1,15 @@
 //! The entries of a TLB, oldest first.
 
 ghost use Rattle.std.specs.Prelude.{◌≡◌, ◌↔◌, [], IsSome};
+ghost use Rattle.tlb.specs.Banks.{IsBanks, entries_of};
 ghost use Rattle.pte.specs.declared.scheme.Scheme.TheVariants.{Sv39};
 ghost use Rattle.tlb.specs.Answer.{answer_of, entry_of};
-ghost use Rattle.tlb.specs.Entries.{IsTlb, filled, first_match, is_match};
+ghost use Rattle.tlb.specs.Entries.{IsTlb, filled, first_match};
 ghost use Rattle.tlb.specs.Fence.{fenced, is_fenced, is_of_space};
 ghost use Rattle.tlb.specs.Mappings.{IsMappedBy, Translates};
 ghost use Rattle.tlb.specs.Service.{is_served, overlaps, served, Served};
 
-use arrayvec::ArrayVec;
+use crate::banks::Banks;
 use pte::{Access, Ctx, PAGE_BYTES, PPN_BITS, Page, PteFlags, Scheme, VirtAddr, What, page_cause};
 use std::marker::Model;
 use walk::{Found, Trap, flags_fault};
@@ -70,24 +71,18 @@ impl Entry {
 #[derive(Drop)]
 pub struct Tlb {
     scheme: Scheme,
-    entries: ArrayVec<Entry, TLB_SIZE>,
+    banks: Banks,
 }
 
 impl Model for Tlb {
-    ghost use Rattle.tlb.specs.Entries.{IsTlb, TlbState};
+    ghost use Rattle.tlb.specs.Banks.{IsBanks, entries_of};
+    ghost use Rattle.tlb.specs.Entries.{TlbState};
 
     ghost Value = { TlbState };
 
-    ghost view = { λ t. record { scheme = t.scheme; entries = t.entries.items } };
+    ghost view = { λ t. record { scheme = t.scheme; entries = entries_of t.banks } };
 
-    ghost invariant = { λ t. IsTlb t.entries.items };
-}
-
-// The page has the address, and the entry is global or of the ASID.
-fn is_match(entry: &Entry, asid: u16, va: VirtAddr) -> bool
-    ensures { result ≡ is_match asid va entry.now }
-{
-    entry.page.contains(va) && (entry.global || entry.asid == asid)
+    ghost invariant = { λ t. IsBanks t.banks };
 }
 
 // The entry is of the ASID that the low bits of rs2 name, and not global.
@@ -133,40 +128,26 @@ fn is_served(entry: &Entry, page: &Page, asid: Option<u16>) -> bool
         }
 }
 
-// The oldest entry that matches.
-fn first_match(entries: &[Entry], asid: u16, va: VirtAddr) -> Option<Entry>
-    ensures { result ≡ first_match entries.now asid va }
-{
-    entries.iter().copied().find(|e| is_match(e, asid, va))
-}
-
 // Leaves what the fence does not take out.
-fn drop_fenced(
-    scheme: Scheme,
-    entries: &mut ArrayVec<Entry, TLB_SIZE>,
-    rs1: Option<u64>,
-    rs2: Option<u64>,
-)
-    ensures { entries.new.items ≡ fenced scheme entries.old.items rs1 rs2 }
+fn drop_fenced(scheme: Scheme, banks: &mut Banks, rs1: Option<u64>, rs2: Option<u64>)
+    requires { IsBanks banks.old }
+    ensures kept { IsBanks banks.new }
+    ensures entries { entries_of banks.new ≡ fenced scheme (entries_of banks.old) rs1 rs2 }
 {
-    entries.retain(|e| !is_fenced(scheme, e, rs1, rs2));
+    if let (None, None) = (rs1, rs2) {
+        banks.clear();
+        return;
+    }
+    banks.drop_where(|e| is_fenced(scheme, e, rs1, rs2));
 }
 
 // Leaves what the service of a page does not take out.
-fn drop_served(entries: &mut ArrayVec<Entry, TLB_SIZE>, page: &Page, asid: Option<u16>)
-    ensures { entries.new.items ≡ served entries.old.items (What.PageOf page.now asid) }
+fn drop_served(banks: &mut Banks, page: &Page, asid: Option<u16>)
+    requires { IsBanks banks.old }
+    ensures kept { IsBanks banks.new }
+    ensures entries { entries_of banks.new ≡ served (entries_of banks.old) (What.PageOf page.now asid) }
 {
-    entries.retain(|e| !is_served(e, page, asid));
-}
-
-// Makes room at the old end, and adds an entry at the young end.
-fn push_youngest(entries: &mut ArrayVec<Entry, TLB_SIZE>, entry: Entry)
-    ensures { entries.new.items ≡ filled entries.old.items entry }
-{
-    if entries.is_full() {
-        entries.remove(0);
-    }
-    entries.push(entry);
+    banks.drop_where(|e| is_served(e, page, asid));
 }
 
 impl Default for Tlb {
@@ -193,7 +174,7 @@ impl Tlb {
     {
         Tlb {
             scheme,
-            entries: ArrayVec::new(),
+            banks: Banks::new(),
         }
     }
 
@@ -204,7 +185,7 @@ impl Tlb {
         ensures kept { IsTlb self.now.entries }
         ensures translates { IsSome result ↔ Translates (IsMappedBy self.now.entries) asid va }
     {
-        first_match(&self.entries, asid, va)
+        self.banks.oldest_match(asid, va)
     }
 
     /// Adds an entry as the youngest. A full TLB drops its oldest entry; no other entry goes, be it of the same page.
@@ -213,7 +194,7 @@ impl Tlb {
     {
         // A page tells here that it is aligned and canonical, which the TLB keeps of each entry.
         let _base = entry.page.base();
-        push_youngest(&mut self.entries, entry);
+        self.banks.add(entry);
     }
 
     /// SFENCE.VMA with the registers rs1, for an address, and rs2, for an ASID, each `None` for x0 (privileged manual 4.2.1).
@@ -221,7 +202,7 @@ impl Tlb {
     pub fn fence(&mut self, rs1: Option<u64>, rs2: Option<u64>)
         ensures { self.new ≡ record self.old { entries = fenced self.old.scheme self.old.entries rs1 rs2 } }
     {
-        drop_fenced(self.scheme, &mut self.entries, rs1, rs2);
+        drop_fenced(self.scheme, &mut self.banks, rs1, rs2);
     }
 
     /// Serves a request: drops each entry whose page overlaps the request's and that is of its ASID, or all of its space, or all.
@@ -242,6 +223,6 @@ impl Tlb {
         ensures list { self.new ≡ record self.old { entries = served self.old.entries (What.PageOf page.now asid) } }
         ensures meaning { IsRequest self.old.scheme (What.PageOf page.now asid) → Served self.old.scheme self.old.entries (What.PageOf page.now asid) self.new.entries }
     {
-        drop_served(&mut self.entries, page, asid);
+        drop_served(&mut self.banks, page, asid);
     }
 }

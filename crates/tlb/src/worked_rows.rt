@@ -64,12 +64,24 @@ pub fn worked_services()
     ensures everything { (ppn : ℕ) (flags : PteFlags) → rows.everything ppn flags }
 {}
 
-/// What fills leave: the oldest of 16 goes first, and of two entries of one page the older answers.
+/// What fills leave: the oldest of 16 goes first, and of entries of one address the oldest answers, whatever their sizes.
 pub fn worked_fills()
     ensures seventeenth_drops_first { (ppn : ℕ) (flags : PteFlags) → rows.seventeenth_drops_first ppn flags }
     ensures seventeenth_keeps_second { (ppn : ℕ) (flags : PteFlags) → rows.seventeenth_keeps_second ppn flags }
     ensures twice_filled { (ppn : ℕ) (flags : PteFlags) → rows.twice_filled ppn flags }
     ensures older_answers { (ppn : ℕ) (flags : PteFlags) → rows.older_answers ppn flags }
+    ensures oldest_of_three_sizes { (ppn : ℕ) (flags : PteFlags) → rows.oldest_of_three_sizes ppn flags }
+    ensures one_of_three_stays { (ppn : ℕ) (flags : PteFlags) → rows.one_of_three_stays ppn flags }
+    ensures there_after_fifteen { (ppn : ℕ) (flags : PteFlags) → rows.there_after_fifteen ppn flags }
+    ensures gone_after_sixteen { (ppn : ℕ) (flags : PteFlags) → rows.gone_after_sixteen ppn flags }
+{}
+
+/// Which entries the ages of slots tell in which order, what a drop makes of them, and the tags of addresses.
+pub fn worked_ages()
+    ensures order_by_age { (ppn : ℕ) (flags : PteFlags) → rows.order_by_age ppn flags }
+    ensures ages_close_up { (ppn : ℕ) (flags : PteFlags) → rows.ages_close_up ppn flags }
+    ensures order_after_a_drop { (ppn : ℕ) (flags : PteFlags) → rows.order_after_a_drop ppn flags }
+    ensures tags { (ppn : ℕ) (flags : PteFlags) → rows.tags ppn flags }
 {}
 
 /// What an entry answers an access.

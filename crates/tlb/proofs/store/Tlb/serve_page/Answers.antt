@@ -3,14 +3,10 @@ use Rattle.std.specs.Prelude.{filter, not}
 use Rattle.pte.specs.declared.address.What.TheVariants.{PageOf}
 use Rattle.tlb.specs.Entries.{TlbState}
 use Rattle.tlb.specs.Service.{is_served}
-use Rattle.tlb.proofs.Keeping.{IsTlb-filter}
 use Rattle.tlb.proofs.Serving.{served_is_meant}
 use Rattle.tlb.proofs.store.Tlb.serve_page.Goals as goal
-
-pub invariant_of-self : goal.invariant_of-self
-invariant_of-self c = rw c.drop_served.ensures (IsTlb-filter (λ e. not (is_served (PageOf c.args.page.now c.args.asid) e)) _ c.self.invariant)
 
 pub returns-clause-meaning : goal.returns-clause-meaning
 returns-clause-meaning c =
     λ asked. served_is_meant _ _ _ (PageOf c.args.page.now c.args.asid) asked
-    (c.drop_served.ensures ∙ ap (λ (t : TlbState). filter (λ e. not (is_served (PageOf c.args.page.now c.args.asid) e)) t.entries) c.self.view_is)
+    (c.drop_served.ensures.entries ∙ ap (λ (t : TlbState). filter (λ e. not (is_served (PageOf c.args.page.now c.args.asid) e)) t.entries) c.self.view_is)

@@ -1,0 +1,174 @@
+//! The entries of a TLB in banks, one for each size of page, each entry with an age.
+
+ghost use Rattle.std.specs.Prelude.{ℕ, Bool, ◌≡◌, ◌+◌, ◌<◌, ◌++◌, [], ◌∷◌, filter, map, not, slice_index};
+ghost use Rattle.std.specs.Fn.{FnReturnsAt};
+ghost use Rattle.pte.specs.Address.{IsPage};
+ghost use Rattle.pte.specs.declared.address.PageSize.{PageSize};
+ghost use Rattle.tlb.specs.declared.store.Entry.{Entry};
+ghost use Rattle.tlb.specs.Banks.{InUse, IsBanks, bank_of, entries_of, tag_of};
+ghost use Rattle.tlb.specs.Entries.{filled, first_match, is_match};
+ghost use Rattle.tlb.specs.Slots.{IsIn, closed_up};
+
+use crate::slots::{
+    SlotSet, close_up, lowest_slot, slot_of, slots_with_tag, with_slot, without_slot,
+};
+use crate::store::Entry;
+use pte::{PageSize, VirtAddr};
+
+/// At most 16 entries, in slots that the banks share. Each slot has an age, each number below 16 once. The slots in use are
+/// those with an age below the count, and 0 is the age of the oldest entry.
+#[derive(Drop)]
+pub(crate) struct Banks {
+    // For each level the slots in use that hold an entry of a page of that size.
+    banks: [SlotSet; 4],
+    // The tag of each slot's page.
+    tags: [u32; 16],
+    ages: [u8; 16],
+    held: [Entry; 16],
+    count: u8,
+}
+
+// The low bits of the number of the page of a size that has the address.
+fn tag_of(va: VirtAddr, size: PageSize) -> u32
+    ensures { result ≡ tag_of va size }
+{
+    ((va.get() >> (12 + 9 * u32::from(size.level()))) % (1 << 32)) as u32
+}
+
+// The page has the address, and the entry is global or of the ASID.
+fn is_match(entry: &Entry, asid: u16, va: VirtAddr) -> bool
+    ensures { result ≡ is_match asid va entry.now }
+{
+    entry.page.contains(va) && (entry.global || entry.asid == asid)
+}
+
+impl Banks {
+    /// No entry.
+    pub(crate) fn new() -> Banks
+        ensures kept { IsBanks result }
+        ensures empty { entries_of result ≡ [] }
+    {
+        Banks {
+            banks: [0; 4],
+            tags: [0; 16],
+            ages: [0, 1, 2, 3, 4, 5, 6, 7, 8, 9, 10, 11, 12, 13, 14, 15],
+            held: [Entry::default(); 16],
+            count: 0,
+        }
+    }
+
+    // The slots of the bank of a size that have the tag of the address.
+    fn in_bank(&self, size: PageSize, va: VirtAddr) -> SlotSet
+        ensures { (slot : ℕ) → slot < 16 → IsIn (bank_of self.now size) slot → slice_index self.now.tags slot ≡ tag_of va size → IsIn result slot }
+    {
+        let bank = self.banks[usize::from(size.level())];
+        if bank == 0 {
+            return 0;
+        }
+        bank & slots_with_tag(&self.tags, tag_of(va, size))
+    }
+
+    // The slots of all banks that have the tag of the address there: each one that has a match is among them.
+    fn candidates(&self, va: VirtAddr) -> SlotSet
+        ensures { (slot : ℕ) (size : PageSize) → slot < 16 → IsIn (bank_of self.now size) slot → slice_index self.now.tags slot ≡ tag_of va size → IsIn result slot }
+    {
+        self.in_bank(PageSize::Kib4, va)
+            | self.in_bank(PageSize::Mib2, va)
+            | self.in_bank(PageSize::Gib1, va)
+            | self.in_bank(PageSize::Gib512, va)
+    }
+
+    /// The entry that matches and has the least age.
+    pub(crate) fn oldest_match(&self, asid: u16, va: VirtAddr) -> Option<Entry>
+        requires { IsBanks self.now }
+        ensures { result ≡ first_match (entries_of self.now) asid va }
+    {
+        let mut left = self.candidates(va);
+        let mut least = self.count;
+        let mut oldest = 0_usize;
+        while left != 0 {
+            let slot = lowest_slot(left);
+            left = without_slot(left, slot);
+            if self.ages[slot] < least && is_match(&self.held[slot], asid, va) {
+                least = self.ages[slot];
+                oldest = slot;
+            }
+        }
+        if least < self.count {
+            Some(self.held[oldest])
+        } else {
+            None
+        }
+    }
+
+    // Takes out the entry of a slot, and lowers the ages above its age.
+    fn drop_slot(&mut self, slot: usize)
+        requires kept { IsBanks self.old }
+        requires within { slot < 16 }
+        requires in_use { InUse self.old slot }
+        ensures kept { IsBanks self.new }
+        ensures held { self.new.held ≡ self.old.held }
+        ensures ages { self.new.ages ≡ map (closed_up (slice_index self.old.ages slot)) self.old.ages }
+        ensures count { self.new.count + 1 ≡ self.old.count }
+    {
+        let age = self.ages[slot];
+        let level = usize::from(self.held[slot].page.size().level());
+        self.banks[level] = without_slot(self.banks[level], slot);
+        close_up(&mut self.ages, age);
+        self.count -= 1;
+    }
+
+    // Adds an entry where there is room.
+    fn add_youngest(&mut self, entry: Entry)
+        requires kept { IsBanks self.old }
+        requires room { self.old.count < 16 }
+        requires page { IsPage entry.page }
+        ensures kept { IsBanks self.new }
+        ensures entries { entries_of self.new ≡ entries_of self.old ++ entry ∷ [] }
+    {
+        let slot = slot_of(&self.ages, self.count);
+        let level = usize::from(entry.page.size().level());
+        self.banks[level] = with_slot(self.banks[level], slot);
+        self.tags[slot] = tag_of(entry.page.base(), entry.page.size());
+        self.held[slot] = entry;
+        self.count += 1;
+    }
+
+    /// Adds an entry as the youngest, and where there is no room takes out the oldest first.
+    pub(crate) fn add(&mut self, entry: Entry)
+        requires kept { IsBanks self.old }
+        requires page { IsPage entry.page }
+        ensures kept { IsBanks self.new }
+        ensures entries { entries_of self.new ≡ filled (entries_of self.old) entry }
+    {
+        if self.count == 16 {
+            let oldest = slot_of(&self.ages, 0);
+            self.drop_slot(oldest);
+        }
+        self.add_youngest(entry);
+    }
+
+    /// Takes out each entry that goes.
+    pub(crate) fn drop_where<F: Fn(&Entry) -> bool>(&mut self, goes: F)
+        requires kept { IsBanks self.old }
+        requires callable { F.IsAlwaysCallable goes }
+        ensures kept { IsBanks self.new }
+        ensures entries { (test : Entry → Bool) → ((e : Entry) (r : Bool) → FnReturnsAt F.Fn goes e r → r ≡ test e) → entries_of self.new ≡ filter (λ e. not (test e)) (entries_of self.old) }
+    {
+        for slot in 0..16_usize {
+            if self.ages[slot] < self.count && goes(&self.held[slot]) {
+                self.drop_slot(slot);
+            }
+        }
+    }
+
+    /// Takes out all entries.
+    pub(crate) fn clear(&mut self)
+        requires { IsBanks self.old }
+        ensures kept { IsBanks self.new }
+        ensures empty { entries_of self.new ≡ [] }
+    {
+        self.banks = [0; 4];
+        self.count = 0;
+    }
+}

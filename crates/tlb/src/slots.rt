@@ -1,0 +1,77 @@
+//! The slots of a TLB: sets of them, and the search of all 16 at once.
+
+ghost use Rattle.std.specs.Prelude.{ℕ, ◌≡◌, ◌≢◌, ◌<◌, map, slice_index};
+ghost use Rattle.std.specs.Int.{bit_at};
+ghost use Rattle.tlb.specs.Slots.{IsIn, closed_up, slot_of};
+
+use std::simd::prelude::*;
+
+/// A set of slots: bit k is set where slot k is in it.
+pub(crate) type SlotSet = u16;
+
+/// The slots that have a tag.
+pub(crate) fn slots_with_tag(tags: &[u32; 16], tag: u32) -> SlotSet
+    ensures { (slot : ℕ) → slot < 16 → slice_index tags.now slot ≡ tag → IsIn result slot }
+{
+    let same = u32x16::from_array(*tags).simd_eq(u32x16::splat(tag));
+    same.to_bitmask() as u16
+}
+
+/// The slot of an age that some slot has.
+pub(crate) fn slot_of(ages: &[u8; 16], age: u8) -> usize
+    requires { slot_of ages.now age < 16 }
+    ensures { result ≡ slot_of ages.now age }
+{
+    let same = u8x16::from_array(*ages).simd_eq(u8x16::splat(age));
+    same.to_bitmask().trailing_zeros() as usize
+}
+
+// What becomes of an age where one is dropped: those above it come one down, and the dropped one goes to the end.
+fn closed_up(dropped: u8, age: u8) -> u8
+    ensures { result ≡ closed_up dropped age }
+{
+    if age == dropped {
+        15
+    } else if age > dropped {
+        age - 1
+    } else {
+        age
+    }
+}
+
+/// Closes the gap that an age leaves: each age above it comes one down, and its slot has the last age from now on.
+pub(crate) fn close_up(ages: &mut [u8; 16], dropped: u8)
+    ensures { ages.new ≡ map (closed_up dropped) ages.old }
+{
+    for age in ages.iter_mut() {
+        *age = closed_up(dropped, *age);
+    }
+}
+
+/// The lowest slot of a set.
+pub(crate) fn lowest_slot(set: SlotSet) -> usize
+    requires { 0 < set }
+    ensures within { result < 16 }
+    ensures there { IsIn set result }
+{
+    set.trailing_zeros() as usize
+}
+
+/// A set and one slot more.
+pub(crate) fn with_slot(set: SlotSet, slot: usize) -> SlotSet
+    requires { slot < 16 }
+    ensures there { IsIn result slot }
+    ensures others { (k : ℕ) → k ≢ slot → bit_at result k ≡ bit_at set k }
+{
+    set | 1 << slot
+}
+
+/// A set without a slot.
+pub(crate) fn without_slot(set: SlotSet, slot: usize) -> SlotSet
+    requires { slot < 16 }
+    ensures less { IsIn set slot → result < set }
+    ensures gone { bit_at result slot ≡ 0 }
+    ensures others { (k : ℕ) → k < 16 → k ≢ slot → bit_at result k ≡ bit_at set k }
+{
+    set & !(1 << slot)
+}
