@@ -1,12 +1,9 @@
 -- Machines and histories of which the statements of the headline are false.
-use Rattle.std.proofs.Common.{◌≡◌, ℕ, zero, suc, ◌<◌, List, [], ◌∷◌, ◌++◌, refl, ap, ◌∙◌, arith}
-use Rattle.tlb.specs.declared.store.Entry.{Entry}
+use Rattle.std.proofs.Common.{◌≡◌, zero, suc, List, [], ◌∷◌, ◌++◌, refl, ap, ◌∙◌, arith}
 use Rattle.history.specs.declared.reply.Reply.{Reply}
-use Rattle.history.specs.Setup.{Setup}
 use Rattle.history.specs.Turns.{History}
-use Rattle.history.specs.Mailboxes.{KeepsOrder}
 use Rattle.history.specs.Runs.{with_turn}
-use Rattle.history.specs.Counterexamples.{ClearForbids, CoherentForbids, entry, global_entry, global_read_only_entry, read_only_entry, request_of}
+use Rattle.history.specs.Counterexamples.{entry, global_entry, global_read_only_entry, read_only_entry, request_of}
 use Rattle.history.specs.MailboxRuns.{mailboxes_of_two, two_requests_wait}
 use Rattle.history.specs.ShootdownRuns as shootdowns
 use Rattle.history.specs.UnlawfulRuns as unlawful
@@ -15,9 +12,8 @@ use Rattle.history.proofs.ClearFacts as clear
 use Rattle.history.proofs.CoherentFacts as coherent
 use Rattle.history.proofs.MailboxFacts as mailbox
 use Rattle.laws.proofs.DoneFacts as done
-use Rattle.stepcore.specs.State.{State}
 use Rattle.stepcore.specs.Counterexamples.{machine_holding, machine_with}
-use Rattle.stepcore.specs.Runs.{after_run, appended, entries_in, IsClear, IsClearOnceDone, IsCoherent, MailboxesKeepOrder, NothingAfterCloses, waiting_in, with_turns}
+use Rattle.stepcore.specs.Runs.{after_run, IsClear, IsClearOnceDone, IsCoherent, MailboxesKeepOrder, NothingAfterCloses, with_turns}
 use Rattle.stepcore.proofs.Running.{appended_is, no_turns}
 
 -- clear
