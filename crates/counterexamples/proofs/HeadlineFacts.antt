@@ -1,13 +1,10 @@
 -- Machines and histories of which the statements of the headline are false.
-use Rattle.std.proofs.Common.{◌≡◌, ℕ, zero, suc, ◌<◌, List, [], ◌∷◌, ◌++◌, refl, ap, ◌∙◌, arith}
-use Rattle.tlb.specs.declared.store.Entry.{Entry}
+use Rattle.std.proofs.Common.{◌≡◌, zero, suc, List, [], ◌∷◌, ◌++◌, refl, ap, ◌∙◌, arith}
 use Rattle.history.specs.declared.reply.Reply.{Reply}
-use Rattle.history.specs.Setup.{Setup}
 use Rattle.history.specs.Turns.{History}
-use Rattle.history.specs.Mailboxes.{KeepsOrder}
 use Rattle.history.specs.Runs.{with_turn}
 use Rattle.worked_runs.specs.WorkedEntries.{entry, global_entry, global_read_only_entry, read_only_entry}
-use Rattle.counterexamples.specs.Counterexamples.{ClearForbids, CoherentForbids, request_of}
+use Rattle.counterexamples.specs.Counterexamples.{request_of}
 use Rattle.worked_runs.specs.MailboxRuns.{mailboxes_of_two, two_requests_wait}
 use Rattle.worked_runs.specs.ShootdownRuns as shootdowns
 use Rattle.worked_runs.specs.UnlawfulRuns as unlawful
@@ -16,9 +13,8 @@ use Rattle.counterexamples.proofs.ClearFacts as clear
 use Rattle.counterexamples.proofs.CoherentFacts as coherent
 use Rattle.counterexamples.proofs.MailboxFacts as mailbox
 use Rattle.counterexamples.proofs.DoneFacts as done
-use Rattle.stepcore.specs.State.{State}
 use Rattle.counterexamples.specs.MachineCounterexamples.{machine_holding, machine_with}
-use Rattle.stepcore.specs.Runs.{after_run, appended, entries_in, IsClear, IsClearOnceDone, IsCoherent, MailboxesKeepOrder, NothingAfterCloses, waiting_in, with_turns}
+use Rattle.stepcore.specs.Runs.{after_run, IsClear, IsClearOnceDone, IsCoherent, MailboxesKeepOrder, NothingAfterCloses, with_turns}
 use Rattle.stepcore.proofs.Running.{appended_is, no_turns}
 
 -- clear

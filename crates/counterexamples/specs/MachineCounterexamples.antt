@@ -1,5 +1,5 @@
 -- Machines with which the statements of the headline are tried: two harts with given entries and waiting requests.
-use Rattle.std.specs.Prelude.{ℕ, ◌<◌, ◌≡◌, false, List, [], ◌∷◌, ◌++◌, None, replicate}
+use Rattle.std.specs.Prelude.{false, List, [], ◌∷◌, ◌++◌, None, replicate}
 use Rattle.pte.specs.declared.scheme.Scheme.TheVariants.{Sv39}
 use Rattle.spaces.specs.Held.{Held}
 use Rattle.tlb.specs.declared.store.Entry.{Entry}

@@ -2,7 +2,10 @@
 //! nothing, and its clauses are the facts.
 
 ghost use Rattle.std.specs.Prelude.{[], ◌++◌, ◌∷◌, ◌≡◌, List};
+ghost use Rattle.history.specs.declared.event.Event.TheVariants.{Load, ServeFence};
+ghost use Rattle.refusals.specs.declared.refusal.Refusal.TheVariants.{NotServing, NotWalking};
 ghost use Rattle.history.specs.declared.reply.Reply.{Reply};
+ghost use Rattle.history.specs.declared.reply.Reply.TheVariants as reply;
 ghost use Rattle.history.specs.Turns.{History};
 ghost use Rattle.worked_runs.specs.WorkedEntries.{entry, global_entry, global_read_only_entry, read_only_entry};
 ghost use Rattle.counterexamples.specs.Counterexamples.{request_of};
@@ -11,7 +14,7 @@ ghost use Rattle.worked_runs.specs.ShootdownRuns as shootdowns;
 ghost use Rattle.worked_runs.specs.UnlawfulRuns as unlawful;
 ghost use Rattle.worked_runs.specs.WorkedRuns.{events, history_after, history_of, large_page, replies, small_page, Step, two_harts};
 ghost use Rattle.counterexamples.specs.MachineCounterexamples.{machine_holding, machine_with};
-ghost use Rattle.stepcore.specs.Runs.{after_run, IsClear, IsClearOnceDone, IsCoherent, MailboxesKeepOrder, NothingAfterCloses};
+ghost use Rattle.stepcore.specs.Runs.{after_run, AreDue, IsClear, IsClearOnceDone, IsCoherent, MailboxesKeepOrder, NothingAfterCloses};
 
 /// Once both harts have acknowledged the unmapping of a page of 2 MiB, no machine is clear in which either holds the page, and
 /// none in which hart 1 holds a small page or a global page of it; also when the ticket's number was given to another order.
@@ -66,4 +69,15 @@ pub fn nothing_is_accepted_after_any_close()
 /// turns before, whatever replies stood in the list before. Events without a reply add none.
 pub fn run_adds_a_turn_for_each_reply()
     ensures { (steps more : List Step) (old : List Reply) (H : History) → after_run (events (steps ++ more)) old (old ++ replies steps) H ≡ history_after H steps }
+{}
+
+/// Of two events that are refused, each for a reason of its own, both replies are due in their order, and so is the first alone;
+/// not the other alone, nor the two the other way round, nor one of them and the first once more, nor a third.
+pub fn replies_are_due_in_order()
+    ensures both { AreDue two_harts [] (Load 0 ∷ ServeFence 0 ∷ []) (reply.Refused NotWalking ∷ reply.Refused NotServing ∷ []) }
+    ensures first { AreDue two_harts [] (Load 0 ∷ ServeFence 0 ∷ []) (reply.Refused NotWalking ∷ []) }
+    ensures other { ¬ AreDue two_harts [] (Load 0 ∷ ServeFence 0 ∷ []) (reply.Refused NotServing ∷ []) }
+    ensures swapped { ¬ AreDue two_harts [] (Load 0 ∷ ServeFence 0 ∷ []) (reply.Refused NotServing ∷ reply.Refused NotWalking ∷ []) }
+    ensures twice { ¬ AreDue two_harts [] (Load 0 ∷ ServeFence 0 ∷ []) (reply.Refused NotWalking ∷ reply.Refused NotWalking ∷ []) }
+    ensures third { ¬ AreDue two_harts [] (Load 0 ∷ ServeFence 0 ∷ []) (reply.Refused NotWalking ∷ reply.Refused NotServing ∷ reply.Ok ∷ []) }
 {}
