@@ -16,7 +16,7 @@ use Rattle.spaces.specs.Layout.{Layout, HasPlace, home_of, is_frame, frame_count
 use Rattle.spaces.specs.Held.{IsLayout}
 use Rattle.spaces.specs.Holders.{Holders, unused_spare}
 use Rattle.spaces.specs.Edits.{EditStage, IsStage, Store, is_kernel, place_of, page_of, wish_fault}
-use Rattle.spaces.specs.EditStages.{WaitsAtHome, edit_next, edit_start, ended, first_stage, gone_on, index_of, next_of, path_start, table_fault, unless_fault}
+use Rattle.spaces.specs.EditStages.{WaitsAtHome, edit_next, below_of, due_here, edit_start, first_stage, index_of, more_or_end, next_of, stage_below, path_start, table_fault, unless_fault}
 use Rattle.spaces.specs.Tree.{IsHome, IsOwn, start_level, start_table}
 use Rattle.spaces.specs.Accepted.{Writes, adds_table, adds_leaf, removes_leaf, changes_leaf}
 use Rattle.spaces.specs.Effects.{IsEdit}
@@ -93,25 +93,32 @@ module _ (l : Layout) (words : Tables) (hart : ℕ) (holders : Holders) (tree : 
   next-ends (Ok store) after e = cc
   next-ends (Err fault) after e = cc
 
-  module _ (e : EditStage) (word : ℕ) (spare : Option ℕ) (after : EditStage) where
-    by-pointer : (o : Option ℕ) → gone_on e word spare o ≡ next.More after → o ≡ Some after.table
-    by-pointer None is = absurd (next-ends _ after is)
+  module _ (e : EditStage) (word : ℕ) (after : EditStage) where
+    by-pointer : (o : Option ℕ) → stage_below e o ≡ Some after → o ≡ Some after.table
+    by-pointer None is = absurd (let bad : None ≡ Some after = is in cc)
     by-pointer (Some table) is =
         let below : EditStage = record { wish = e.wish; level = e.level - 1; table = table } in
         let same : below ≡ after = cc in
         ap (λ (x : EditStage). Some x.table) same
 
-    by-level : (b : Bool) → cond b (ended e word spare) (gone_on e word spare (pointed (Some word))) ≡ next.More after → pointed (Some word) ≡ Some after.table
-    by-level true is = absurd (next-ends _ after is)
+    by-level : (b : Bool) → cond b None (stage_below e (pointed (Some word))) ≡ Some after → pointed (Some word) ≡ Some after.table
+    by-level true is = absurd (let bad : None ≡ Some after = is in cc)
     by-level false is = by-pointer (pointed (Some word)) is
 
-    pub goes-home : WaitsAtHome l hart e → words e.table (index_of e) ≡ Some word → edit_next e word spare ≡ next.More after → WaitsAtHome l hart after
-    goes-home at read is =
+    pub below-home : WaitsAtHome l hart e → words e.table (index_of e) ≡ Some word → below_of e word ≡ Some after → WaitsAtHome l hart after
+    below-home at read is =
         let step = tree.closed e.table (index_of e) after.table at.home at.own (ap pointed read ∙ by-level (e.level == level_of (page_of e.wish).size) is) in
         record {
           home = spare-home l hart holders step.place after.table step.to;
           own = subst (λ f. IsOwn l f (index_of after)) (sym step.to.is) (spare-own l hart step.to.number _);
         }
+
+    more-below : (spare : Option ℕ) (o : Option EditStage) → more_or_end o (due_here e word spare) ≡ next.More after → o ≡ Some after
+    more-below spare None is = absurd (next-ends _ after is)
+    more-below spare (Some below) is = let same : below ≡ after = cc in ap Some same
+
+    pub goes-home : (spare : Option ℕ) → WaitsAtHome l hart e → words e.table (index_of e) ≡ Some word → edit_next e word spare ≡ next.More after → WaitsAtHome l hart after
+    goes-home spare at read is = below-home at read (more-below spare (below_of e word) is)
 
 module _ (l : Layout) (words : Tables) (holders : Holders) (hart : ℕ) (wish : Wish) (store : Store) (e : IsEdit l words holders hart wish store) where
   pub index-below : store.index < table_length
