@@ -138,9 +138,12 @@ pub begun-as : (m : Held) → IsMemory m → (hart : ℕ) (wish : Wish) (r : Res
 begun-as m held hart wish r e =
     ap (λ x. answer_of x (words_of m) (spare_of m hart)) e ∙ starts m.layout held.layout (words_of m) (holders_of m) held.tree hart wish (spare_of m hart)
 
-module _ (e : EditStage) (words : Tables) (spare o : Option ℕ) (word ppn index : ℕ) (stage : IsStage e) (is : o ≡ words ppn index) (p : ppn ≡ e.table) (i : index ≡ index_of e) (w : word ≡ unwrap_or o 0) where
+module _ (e : EditStage) (words : Tables) (spare : Option ℕ) (word ppn index : ℕ) (stage : IsStage e) (p : ppn ≡ e.table) (i : index ≡ index_of e) (is : words ppn index ≡ Some word) where
+  pub read-there : words e.table (index_of e) ≡ Some word
+  read-there = sym (ap (λ t. words t index) p ∙ ap (words e.table) i) ∙ is
+
   goes-on : Continues e words spare (edit_next e word spare)
-  goes-on = continues e words spare word (w ∙ ap (λ x. unwrap_or x 0) (is ∙ ap (λ t. words t index) p ∙ ap (words e.table) i)) stage
+  goes-on = continues e words spare word (sym (ap (λ o. unwrap_or o 0) read-there)) stage
 
   pub goes-below : (after : EditStage) → Some after ≡ below_of e word → (after.level + 1 ≡ e.level) × (answer_from after words spare ≡ answer_from e words spare)
   goes-below after b =

@@ -18,7 +18,6 @@ use crate::places::Place;
 use crate::wishes::Wish;
 use pte::{Page, PteFlags};
 use std::marker::Model;
-use walk::Words;
 
 /// One store of a word of a table, for a place.
 #[derive(Clone, Copy, PartialEq, Eq, Debug)]
@@ -96,7 +95,7 @@ fn edit_due(memory: &Memory, hart: u8, wish: &Wish) -> Result<Edit, MapFault>
     let mut walk = memory.begin(hart, wish)?;
     loop {
         let (ppn, index) = walk.wants();
-        let word = memory.word(ppn, index).unwrap_or(0);
+        let word = memory.word_there(ppn, index);
         let Some(next) = walk.below(word) else {
             return walk.end(word, spare_for(memory, hart, &walk));
         };
