@@ -1,5 +1,5 @@
 -- What memory is after a store that is due.
-use Rattle.std.proofs.Common.{◌≡◌, ℕ, ◌+◌, ◌-◌, ◌*◌, ◌^◌, ◌<◌, ◌≤◌, cond, eqb, Bool, true, false, List, Option, Some, None, length, ap, sym, ◌∙◌, subst, refl, inl, inr, arith, length-set}
+use Rattle.std.proofs.Common.{◌≡◌, ℕ, ◌+◌, ◌-◌, ◌*◌, ◌^◌, ◌<◌, ◌≤◌, cond, eqb, Bool, true, false, List, Option, Some, None, length, ap, sym, ◌∙◌, subst, refl, inl, inr, arith, length-set, get_or}
 use Rattle.std.specs.Prelude.{slice_set, slice_get, nat_le, nat_lt}
 use Rattle.std.proofs.lemmas.Bool.{and_parts, cases_eq, eq-eqb, ne_eqb}
 use borrow.Author.Tests.{ltb-true, leb-true}
@@ -21,6 +21,7 @@ use Rattle.spaces.proofs.Paths.{vpn-below, some-same}
 use Rattle.spaces.proofs.Stored.{is-word, stored-here, stored-there}
 use Rattle.spaces.proofs.Accepting.{accepted}
 use Rattle.spaces.proofs.Keeping.{keeps-tree, there, leaf-or-pointer}
+use Rattle.std.proofs.lemmas.Option.{slice_get-get_or}
 use Rattle.spaces.proofs.OpeningTree.{word-is, frame-is}
 
 abbrev pub held_list : ℕ → List (Option Place) → Place → Option ℕ → List (Option Place)
@@ -44,6 +45,8 @@ in-memory l f i h =
     let parts = and_parts (is_frame l f) (nat_lt i table_length) h in
     let frame = and_parts (nat_le l.base f) (nat_lt f (l.base + frame_count l)) parts.0 in
     record { from = leb-true l.base f frame.0; to = ltb-true f (l.base + frame_count l) frame.1; index = ltb-true i table_length parts.1 }
+
+pub ruleset in_memory = (in-memory)
 
 module _ (m : Held) (held : IsMemory m) (store : Store) (due : IsDue m store) where
   pub at-home : Accepted m.layout (words_of m) (unused_spare m.layout (holders_of m) (home_of m.layout (place_of due.wish))) (home_of m.layout (place_of due.wish)) due.wish store
@@ -193,3 +196,15 @@ held-pointer base holders list place word t o is some e = e ∙ ap (held_list ba
 pub held-leaf : (base : ℕ) (holders : List (Option Place)) (place : Place) (word : ℕ) (o : Option ℕ) → o ≡ pointed (Some word) → o ≡ None
     → holders ≡ held_list base holders place (pointed (Some word))
 held-leaf base holders place word o is none = ap (held_list base holders place) (sym none ∙ is)
+
+-- the word of a list that stands at its place
+pub word-held : (m now : Held) (ppn index at n k : ℕ) (word d : ℕ) → IsMemory m → m ≡ now → is_word now.layout ppn index ≡ true → n ≡ 512 → at ≡ (ppn - m.layout.base) * n + k → k ≡ index
+    → word ≡ get_or m.words at d → words_of now ppn index ≡ Some word
+unfolding words_of
+word-held m now ppn index at n k word d held e is n-is at-is k-is got =
+    let place : at ≡ word_index m.layout ppn index = at-is ∙ ap (λ x. (ppn - m.layout.base) * x + k) n-is ∙ ap (λ x. (ppn - m.layout.base) * 512 + x) k-is in
+    let here = in-memory m.layout ppn index (ap (λ (x : Held). is_word x.layout ppn index) e ∙ is) in
+    let less : at < length m.words = omega (arith, place, here.from, here.to, here.index, held.words) in
+    ap (λ b. cond b (slice_get now.words (word_index now.layout ppn index)) None) is
+    ∙ sym (ap (λ (x : Held). slice_get x.words (word_index x.layout ppn index)) e) ∙ sym (ap (slice_get m.words) place)
+    ∙ slice_get-get_or m.words at d less ∙ sym (ap Some got)

@@ -1,6 +1,6 @@
 -- An edit waits for words at home, and what is stored of it points to a frame of the home.
-use Rattle.std.proofs.Common.{◌≡◌, ℕ, ◌+◌, ◌-◌, ◌<◌, ◌≤◌, ◌==◌, ◌&&◌, cond, Bool, true, false, Option, Some, None, Result, Ok, Err, IsTrue, ap, sym, ◌∙◌, subst, refl, inl, inr, arith}
-use Rattle.std.specs.Prelude.{nat_le, nat_lt}
+use Rattle.std.proofs.Common.{length, List, [], ◌∷◌, zero, suc, ◌≡◌, ℕ, ◌+◌, ◌-◌, ◌<◌, ◌≤◌, ◌==◌, ◌&&◌, cond, Bool, true, false, Option, Some, None, Result, Ok, Err, IsTrue, ap, sym, ◌∙◌, subst, refl, inl, inr, arith}
+use Rattle.std.specs.Prelude.{nat_le, nat_lt, slice_index}
 use Rattle.std.proofs.lemmas.Bool.{and_from, eqb-false, le-leb, lt-ltb}
 use Rattle.pte.specs.declared.scheme.Scheme.{Scheme}
 use Rattle.pte.specs.declared.scheme.Scheme.TheVariants.{Sv39, Sv48}
@@ -13,19 +13,21 @@ use Rattle.spaces.specs.declared.places.Place.TheVariants.{Space, Kernel}
 use Rattle.spaces.specs.declared.faults.MapFault.{MapFault}
 use Rattle.spaces.specs.declared.edit_walks.Next.TheVariants as next
 use Rattle.spaces.specs.Layout.{Layout, HasPlace, home_of, is_frame, frame_count}
-use Rattle.spaces.specs.Held.{IsLayout}
+use Rattle.spaces.specs.Held.{Held, IsLayout, IsMemory, holders_of, words_of}
+use Rattle.spaces.specs.Opening.{is_word}
 use Rattle.spaces.specs.Holders.{Holders, unused_spare}
 use Rattle.spaces.specs.Edits.{EditStage, IsStage, Store, is_kernel, place_of, page_of, wish_fault}
-use Rattle.spaces.specs.EditStages.{WaitsAtHome, edit_next, edit_start, ended, first_stage, gone_on, index_of, next_of, path_start, table_fault, unless_fault}
-use Rattle.spaces.specs.Tree.{IsHome, IsOwn, start_level, start_table}
+use Rattle.spaces.specs.EditStages.{WaitsAtHome, edit_next, below_of, due_here, edit_start, first_stage, index_of, more_or_end, next_of, stage_below, path_start, table_fault, unless_fault}
+use Rattle.spaces.specs.Tree.{IsAtHome, of_root, of_window, of_spare, IsHome, IsOwn, start_level, start_table}
 use Rattle.spaces.specs.Accepted.{Writes, adds_table, adds_leaf, removes_leaf, changes_leaf}
 use Rattle.spaces.specs.Effects.{IsEdit}
 use Rattle.walk.proofs.FoundMembers.{leaf-ppn}
-use Rattle.spaces.proofs.Accepting.{unfaulted, within, fit-level, Unfaulted}
+use Rattle.spaces.proofs.Accepting.{home-there, unfaulted, within, fit-level, Unfaulted}
 use Rattle.spaces.proofs.EditLaws.{at-home, edit-accepted}
 use Rattle.spaces.proofs.EntryWords.{kind-stored, pointed-table}
 use Rattle.spaces.proofs.Homes.{spare-home, spare-own, sum-within}
 use Rattle.spaces.proofs.Keeping.{fresh-of, fresh-range, leaf-or-pointer}
+use Rattle.spaces.proofs.OpeningTree.{word-is}
 use Rattle.spaces.proofs.Paths.{on, vpn-below}
 use Rattle.spaces.proofs.Trees.{pointed-zero}
 
@@ -93,25 +95,32 @@ module _ (l : Layout) (words : Tables) (hart : ℕ) (holders : Holders) (tree : 
   next-ends (Ok store) after e = cc
   next-ends (Err fault) after e = cc
 
-  module _ (e : EditStage) (word : ℕ) (spare : Option ℕ) (after : EditStage) where
-    by-pointer : (o : Option ℕ) → gone_on e word spare o ≡ next.More after → o ≡ Some after.table
-    by-pointer None is = absurd (next-ends _ after is)
+  module _ (e : EditStage) (word : ℕ) (after : EditStage) where
+    by-pointer : (o : Option ℕ) → stage_below e o ≡ Some after → o ≡ Some after.table
+    by-pointer None is = absurd (let bad : None ≡ Some after = is in cc)
     by-pointer (Some table) is =
         let below : EditStage = record { wish = e.wish; level = e.level - 1; table = table } in
         let same : below ≡ after = cc in
         ap (λ (x : EditStage). Some x.table) same
 
-    by-level : (b : Bool) → cond b (ended e word spare) (gone_on e word spare (pointed (Some word))) ≡ next.More after → pointed (Some word) ≡ Some after.table
-    by-level true is = absurd (next-ends _ after is)
+    by-level : (b : Bool) → cond b None (stage_below e (pointed (Some word))) ≡ Some after → pointed (Some word) ≡ Some after.table
+    by-level true is = absurd (let bad : None ≡ Some after = is in cc)
     by-level false is = by-pointer (pointed (Some word)) is
 
-    pub goes-home : WaitsAtHome l hart e → words e.table (index_of e) ≡ Some word → edit_next e word spare ≡ next.More after → WaitsAtHome l hart after
-    goes-home at read is =
+    pub below-home : WaitsAtHome l hart e → words e.table (index_of e) ≡ Some word → below_of e word ≡ Some after → WaitsAtHome l hart after
+    below-home at read is =
         let step = tree.closed e.table (index_of e) after.table at.home at.own (ap pointed read ∙ by-level (e.level == level_of (page_of e.wish).size) is) in
         record {
           home = spare-home l hart holders step.place after.table step.to;
           own = subst (λ f. IsOwn l f (index_of after)) (sym step.to.is) (spare-own l hart step.to.number _);
         }
+
+    more-below : (spare : Option ℕ) (o : Option EditStage) → more_or_end o (due_here e word spare) ≡ next.More after → o ≡ Some after
+    more-below spare None is = absurd (next-ends _ after is)
+    more-below spare (Some below) is = let same : below ≡ after = cc in ap Some same
+
+    pub goes-home : (spare : Option ℕ) → WaitsAtHome l hart e → words e.table (index_of e) ≡ Some word → edit_next e word spare ≡ next.More after → WaitsAtHome l hart after
+    goes-home spare at read is = below-home at read (more-below spare (below_of e word) is)
 
 module _ (l : Layout) (words : Tables) (holders : Holders) (hart : ℕ) (wish : Wish) (store : Store) (e : IsEdit l words holders hart wish store) where
   pub index-below : store.index < table_length
@@ -149,3 +158,30 @@ module _ (l : Layout) (words : Tables) (holders : Holders) (hart : ℕ) (wish : 
       let part = sum-within l.spares hart in
       and_from (nat_le l.base ppn) (nat_lt ppn (l.base + frame_count l)) (le-leb l.base ppn (omega (arith, fresh.is)))
       (lt-ltb ppn (l.base + frame_count l) (omega (arith, fresh.is, fresh.below)))
+
+-- an edit over a memory waits for a word that is there
+module _ (m : Held) (held : IsMemory m) (hart : ℕ) where
+  pub starts-home : (wish : Wish) (e : EditStage) → HasPlace m.layout (place_of wish) → Ok e ≡ edit_start m.layout hart wish → WaitsAtHome m.layout hart e
+  starts-home wish e has started =
+      let b = begun m.layout hart wish e (sym started) in
+      let less : hart < length m.layout.spares = let h = home-there m.layout held.layout (words_of m) (holders_of m) held.tree (place_of wish) has in omega (arith, b.unfaulted.home) in
+      begins m.layout (words_of m) hart (holders_of m) (held.tree hart less) held.layout wish e has (sym started)
+
+  pub there : (e : EditStage) (ppn index : ℕ) → WaitsAtHome m.layout hart e → ppn ≡ e.table → index ≡ index_of e → is_word m.layout ppn index ≡ true
+  there e ppn index at p i =
+      let slot = vpn-below (page_of e.wish).base e.level in
+      ap (λ t. is_word m.layout t index) p ∙ ap (is_word m.layout e.table) i ∙ word-is m.layout hart e.table (index_of e) at.home slot
+
+  hart-there : (f : ℕ) → IsAtHome m.layout hart f → hart < length m.layout.spares
+  hart-there f (of_root s has at is) = let h = held.layout.homes s 0 has in omega (arith, at)
+  hart-there f (of_window k has at is) = let h = held.layout.homes 0 0 held.layout.some_space in omega (arith, at)
+  hart-there f (of_spare n less is) = beyond m.layout.spares hart n less
+    where
+      beyond : (xs : List ℕ) (h n : ℕ) → n < slice_index xs h → h < length xs
+      beyond [] h n less = absurd (omega arith)
+      beyond (x ∷ xs) zero n less = omega arith
+      beyond (x ∷ xs) (suc h) n less = let rest = beyond xs h n less in omega arith
+
+  pub stays-home : (e after : EditStage) (word : ℕ) → WaitsAtHome m.layout hart e → words_of m e.table (index_of e) ≡ Some word → Some after ≡ below_of e word → WaitsAtHome m.layout hart after
+  stays-home e after word at read is =
+      below-home m.layout (words_of m) hart (holders_of m) (held.tree hart (hart-there e.table at.home)) e word after at read (sym is)

@@ -1,6 +1,6 @@
 -- An edit that is fed the words of one memory.
-use Rattle.std.proofs.Common.{◌≡◌, ℕ, ◌-◌, ◌<◌, ◌≤◌, ◌==◌, ◌&&◌, not, cond, Bool, true, false, Option, Some, None, Result, Ok, Err, ap, sym, ◌∙◌, subst, refl, arith}
-use Rattle.std.specs.Prelude.{is_none, unwrap_or}
+use Rattle.std.proofs.Common.{◌≡◌, ℕ, ◌+◌, ◌-◌, ◌<◌, ◌≤◌, ◌==◌, ◌&&◌, not, cond, Bool, true, false, Option, Some, None, Result, Ok, Err, ap, sym, ◌∙◌, subst, refl, arith}
+use Rattle.std.specs.Prelude.{unwrap_or}
 use Rattle.std.proofs.lemmas.Bool.{eqb-true, eq-eqb, ne_eqb}
 use Rattle.std.proofs.lemmas.Bool.Decides.{nat_tests}
 use Rattle.pte.specs.declared.entry.Kind.{Kind}
@@ -8,7 +8,7 @@ use Rattle.pte.specs.declared.entry.Kind.TheVariants as kinds
 use Rattle.pte.specs.Address.{top_level, level_of}
 use Rattle.pte.specs.Entry.{kind_of}
 use Rattle.pte.proofs.EntryKinds.{kind-table}
-use Rattle.walk.specs.Leads.{Tables, word_at}
+use Rattle.walk.specs.Leads.{Tables}
 use Rattle.walk.specs.Pointers.{pointed, pointed_kind}
 use Rattle.spaces.specs.declared.wishes.Wish.{Wish}
 use Rattle.spaces.specs.declared.wishes.Wish.TheVariants.{Map, Unmap, Protect}
@@ -16,12 +16,12 @@ use Rattle.spaces.specs.declared.places.Place.{Place}
 use Rattle.spaces.specs.declared.places.Place.TheVariants.{Space, Kernel}
 use Rattle.spaces.specs.declared.faults.MapFault.{MapFault}
 use Rattle.spaces.specs.declared.faults.MapFault.TheVariants.{NotHome}
-use Rattle.spaces.specs.declared.edit_walks.Next.{Next}
+use Rattle.spaces.specs.declared.edit_walks.Next.TheVariants as next
 use Rattle.spaces.specs.Layout.{Layout, home_of, root_ppn}
 use Rattle.spaces.specs.Held.{Held, IsLayout, IsMemory, holders_of, spare_of, words_of}
 use Rattle.spaces.specs.Holders.{Holders}
 use Rattle.spaces.specs.Edits.{EditStage, IsStage, Store, is_kernel, place_of, page_of, end_at, path_end, path_root, page_word, upper_word, due_word, store_at, store_due, unless, wish_fault, edit_of}
-use Rattle.spaces.specs.EditStages.{Continues, answer_from, answer_of, at_home_fault, bare_layout, edit_next, edit_start, ended, gone_on, index_of, next_of, path_start, start_at_home, table_fault, unless_fault}
+use Rattle.spaces.specs.EditStages.{Continues, answer_from, answer_of, at_home_fault, bare_layout, below_of, due_here, edit_next, edit_start, index_of, more_or_end, next_of, path_start, stage_below, start_at_home, table_fault, unless_fault}
 use Rattle.spaces.specs.Tree.{IsTree, IsIn, start_level, start_table}
 use Rattle.spaces.proofs.Accepting.{unfaulted, within, fit-level}
 use Rattle.spaces.proofs.Ends.{path_end-below, path_end-here, path_end-lowest, whole}
@@ -61,10 +61,10 @@ module _ (e : EditStage) (words : Tables) (spare : Option ℕ) where
 
   module _ (w : ℕ) (same : w ≡ (end_at words (page_of e.wish).base e.level e.table).entry) where
     at-end : path_end words (page_of e.wish).base (level_of (page_of e.wish).size) (e.level - level_of (page_of e.wish).size) e.table ≡ end_at words (page_of e.wish).base e.level e.table
-        → Continues e words spare (ended e w spare)
+        → Continues e words spare (next_of (due_here e w spare))
     at-end path = ends-as _ (ap (store_due e.wish spare) (path ∙ sym (whole words (page_of e.wish).base (level_of (page_of e.wish).size) e.level e.table w same)))
 
-    by-pointer : (stage : IsStage e) → level_of (page_of e.wish).size < e.level → (k : Kind) → kind_of w ≡ k → Continues e words spare (gone_on e w spare (pointed_kind k))
+    by-pointer : (stage : IsStage e) → level_of (page_of e.wish).size < e.level → (k : Kind) → kind_of w ≡ k → Continues e words spare (more_or_end (stage_below e (pointed_kind k)) (due_here e w spare))
     by-pointer stage less kinds.Invalid is = at-end (path_end-here words (page_of e.wish).base (level_of (page_of e.wish).size) e.level e.table less (λ ppn global t. let bad : kinds.Invalid ≡ kinds.Table ppn global = sym is ∙ ap kind_of same ∙ t in cc))
     by-pointer stage less kinds.Reserved is = at-end (path_end-here words (page_of e.wish).base (level_of (page_of e.wish).size) e.level e.table less (λ ppn global t. let bad : kinds.Reserved ≡ kinds.Table ppn global = sym is ∙ ap kind_of same ∙ t in cc))
     by-pointer stage less (kinds.Leaf q f) is = at-end (path_end-here words (page_of e.wish).base (level_of (page_of e.wish).size) e.level e.table less (λ ppn global t. let bad : kinds.Leaf q f ≡ kinds.Table ppn global = sym is ∙ ap kind_of same ∙ t in cc))
@@ -76,7 +76,7 @@ module _ (e : EditStage) (words : Tables) (spare : Option ℕ) where
     )
 
     by-level : (b : Bool) → (e.level == level_of (page_of e.wish).size) ≡ b → IsStage e
-        → Continues e words spare (cond b (ended e w spare) (gone_on e w spare (pointed (Some w))))
+        → Continues e words spare (more_or_end (cond b None (stage_below e (pointed (Some w)))) (due_here e w spare))
     by-level true t stage = at-end (path_end-lowest words (page_of e.wish).base (level_of (page_of e.wish).size) e.level e.table (eqb-true e.level (level_of (page_of e.wish).size) t))
     by-level false t stage = by-pointer stage (let apart = t in let from = stage.from in grind (arith, nat_tests)) (kind_of w) refl
 
@@ -138,29 +138,30 @@ pub begun-as : (m : Held) → IsMemory m → (hart : ℕ) (wish : Wish) (r : Res
 begun-as m held hart wish r e =
     ap (λ x. answer_of x (words_of m) (spare_of m hart)) e ∙ starts m.layout held.layout (words_of m) (holders_of m) held.tree hart wish (spare_of m hart)
 
-pub goes-on : (e : EditStage) (words : Tables) (spare used o : Option ℕ) (word ppn index : ℕ) (made : Next) → IsStage e → o ≡ words ppn index → ppn ≡ e.table → index ≡ index_of e
-    → word ≡ unwrap_or o 0 → edit_next e word used ≡ edit_next e word spare → made ≡ edit_next e word used → Continues e words spare made
-goes-on e words spare used o word ppn index made stage is p i w same m =
-    let read : o ≡ word_at words (page_of e.wish).base e.level e.table = is ∙ ap (λ t. words t index) p ∙ ap (words e.table) i in
-    subst (Continues e words spare) (sym (m ∙ same)) (continues e words spare word (w ∙ ap (λ x. unwrap_or x 0) read) stage)
+module _ (e : EditStage) (words : Tables) (spare : Option ℕ) (word ppn index : ℕ) (stage : IsStage e) (p : ppn ≡ e.table) (i : index ≡ index_of e) (is : words ppn index ≡ Some word) where
+  pub read-there : words e.table (index_of e) ≡ Some word
+  read-there = sym (ap (λ t. words t index) p ∙ ap (words e.table) i) ∙ is
+
+  goes-on : Continues e words spare (edit_next e word spare)
+  goes-on = continues e words spare word (sym (ap (λ o. unwrap_or o 0) read-there)) stage
+
+  pub goes-below : (after : EditStage) → Some after ≡ below_of e word → (after.level + 1 ≡ e.level) × (answer_from after words spare ≡ answer_from e words spare)
+  goes-below after b =
+      let on : Continues e words spare (next.More after) = subst (λ r. Continues e words spare (more_or_end r (due_here e word spare))) (sym b) goes-on in
+      (on.2, on.3)
+
+  pub ends-here : None ≡ below_of e word → (r : Result Store MapFault) (used : Option ℕ) → r ≡ due_here e word used → due_here e word used ≡ due_here e word spare → r ≡ answer_from e words spare
+  ends-here b r used due same = due ∙ same ∙ by-due (due_here e word spare) (subst (λ r. Continues e words spare (more_or_end r (due_here e word spare))) (sym b) goes-on)
+    where
+      by-due : (r : Result Store MapFault) → Continues e words spare (next_of r) → r ≡ answer_from e words spare
+      by-due (Ok store) on = sym on
+      by-due (Err fault) on = sym on
 
 pub continues-words : (e : EditStage) (words : Tables) (spare : Option ℕ) → IsStage e → Continues e words spare (edit_next e (unwrap_or (words e.table (index_of e)) 0) spare)
 continues-words e words spare stage = continues e words spare (unwrap_or (words e.table (index_of e)) 0) refl stage
 
--- the spare frame counts for nothing but where a table is missing
-pub needless : (e : EditStage) (word : ℕ) (o : Option ℕ) → (not (e.level == level_of (page_of e.wish).size) && is_none (pointed (Some word))) ≡ false → edit_next e word None ≡ edit_next e word o
-needless e word o no-need = by-level (e.level == level_of (page_of e.wish).size) refl no-need
-  where
-    by-pointer : (p : Option ℕ) → is_none p ≡ false → gone_on e word None p ≡ gone_on e word o p
-    by-pointer None none = absurd (let bad : true ≡ false = none in cc)
-    by-pointer (Some table) none = refl
-
-    at-page : (b : Bool) → b ≡ true → next_of (store_at (place_of e.wish) (page_of e.wish).base (record { level = e.level; table = e.table; entry = word }) (cond b (page_word e.wish (kind_of word)) (upper_word e.wish None (kind_of word))))
-        ≡ next_of (store_at (place_of e.wish) (page_of e.wish).base (record { level = e.level; table = e.table; entry = word }) (cond b (page_word e.wish (kind_of word)) (upper_word e.wish o (kind_of word))))
-    at-page true t = refl
-    at-page false t = absurd (let bad : false ≡ true = t in cc)
-
-    by-level : (b : Bool) → (e.level == level_of (page_of e.wish).size) ≡ b → (not b && is_none (pointed (Some word))) ≡ false
-        → cond b (ended e word None) (gone_on e word None (pointed (Some word))) ≡ cond b (ended e word o) (gone_on e word o (pointed (Some word)))
-    by-level true t need = at-page (e.level == level_of (page_of e.wish).size) t
-    by-level false t need = by-pointer (pointed (Some word)) need
+-- the spare frame counts for nothing at the page's level
+pub needless : (e : EditStage) → (e.level == level_of (page_of e.wish).size) ≡ true → (word : ℕ) (o : Option ℕ) → due_here e word None ≡ due_here e word o
+needless e at word o =
+    ap (λ b. store_at (place_of e.wish) (page_of e.wish).base (record { level = e.level; table = e.table; entry = word }) (cond b (page_word e.wish (kind_of word)) (upper_word e.wish None (kind_of word)))) at
+    ∙ sym (ap (λ b. store_at (place_of e.wish) (page_of e.wish).base (record { level = e.level; table = e.table; entry = word }) (cond b (page_word e.wish (kind_of word)) (upper_word e.wish o (kind_of word)))) at)

@@ -62,19 +62,25 @@ abbrev pub next_of : Result Store MapFault → Next
 next_of (Ok store) = next.Edit store
 next_of (Err fault) = next.Refused fault
 
--- the end of the path, if it ends at this word
-abbrev pub ended : EditStage → ℕ → Option ℕ → Next
-ended e word spare = next_of (store_due e.wish spare (record { level = e.level; table = e.table; entry = word }))
+-- the store that is due, if the path ends at this word
+abbrev pub due_here : EditStage → ℕ → Option ℕ → Result Store MapFault
+due_here e word spare = store_due e.wish spare (record { level = e.level; table = e.table; entry = word })
 
--- above the page's level it goes on at a pointer, and ends at anything else
-abbrev pub gone_on : EditStage → ℕ → Option ℕ → Option ℕ → Next
-gone_on e word spare None = ended e word spare
-gone_on e word spare (Some table) = next.More (record { wish = e.wish; level = e.level - 1; table = table })
+abbrev pub stage_below : EditStage → Option ℕ → Option EditStage
+stage_below e None = None
+stage_below e (Some table) = Some (record { wish = e.wish; level = e.level - 1; table = table })
 
--- what an edit makes of the next word
+-- above the page's level the path goes on at a pointer
+abbrev pub below_of : EditStage → ℕ → Option EditStage
+below_of e word = if e.level == level_of (page_of e.wish).size then None else stage_below e (pointed (Some word))
+
+abbrev pub more_or_end : Option EditStage → Result Store MapFault → Next
+more_or_end None due = next_of due
+more_or_end (Some after) due = next.More after
+
+-- what an edit makes of the next word: it goes on, or ends there
 abbrev pub edit_next : EditStage → ℕ → Option ℕ → Next
-edit_next e word spare =
-    if e.level == level_of (page_of e.wish).size then ended e word spare else gone_on e word spare (pointed (Some word))
+edit_next e word spare = more_or_end (below_of e word) (due_here e word spare)
 
 -- the index of the word that an edit waits for
 abbrev pub index_of : EditStage → ℕ

@@ -7,7 +7,7 @@ ghost use Rattle.walk.specs.Pointers.{pointed};
 ghost use Rattle.spaces.specs.Layout.{HasPlace, layout_of};
 ghost use Rattle.spaces.specs.Limits.{max_frames, MeetsLimits};
 ghost use Rattle.spaces.specs.Edits.{IsStage, is_wrong_half, page_of, place_of};
-ghost use Rattle.spaces.specs.EditStages.{bare_layout, edit_next, edit_start, index_of, start_at_home};
+ghost use Rattle.spaces.specs.EditStages.{bare_layout, below_of, due_here, edit_next, edit_start, index_of, start_at_home};
 
 use crate::configuration::Config;
 use crate::edits::Edit;
@@ -66,7 +66,7 @@ pub(crate) fn target(word: u64) -> Option<u64>
 }
 
 impl EditWalk {
-    ghost use Rattle.std.specs.Prelude.{ℕ, false, None, Option, Some};
+    ghost use Rattle.std.specs.Prelude.{ℕ, IsTrue, None, Option, Some};
 
     /// The edit that a hart begins. The refusals that no word decides come here, in the order of `MapFault`; last that of a
     /// page of the kernel of the root's level, where the window's table stands: `TableInWay`, or `WrongSize` to unmap or
@@ -133,13 +133,45 @@ impl EditWalk {
         (self.table, page.base().vpn(self.level))
     }
 
-    /// Whether it is the spare frame that the load of a word may turn on.
+    /// The edit one level below, if the word is a pointer above the page's level.
+    #[inline(always)]
+    pub(crate) fn below(self, word: u64) -> Option<EditWalk>
+        ensures { result ≡ below_of self word }
+    {
+        if self.level == self.wish.level() {
+            return None;
+        }
+        let table = target(word)?;
+        Some(EditWalk {
+            wish: self.wish,
+            level: self.level - 1,
+            table,
+        })
+    }
+
+    /// The store that is due where the path ends at a word, or why none is.
+    #[inline(always)]
+    pub(crate) fn end(self, word: u64, spare: Option<u64>) -> Result<Edit, MapFault>
+        requires { IfSome spare (λ frame. frame < 2 ^ ppn_bits) }
+        ensures { result ≡ due_here self word spare }
+    {
+        let end = PathEnd {
+            level: self.level,
+            table: self.table,
+            entry: word,
+        };
+        let word = self.wish.due_word(spare, &end)?;
+        let (ppn, index) = self.wants();
+        Ok(Edit::new(self.wish.place(), ppn, index, word))
+    }
+
+    /// Whether the store that is due does not turn on the spare frame: the edit waits for a word of its page's level.
     #[inline(always)]
     #[tactic(auto, using(crate::proofs::Stages::needless))]
-    pub(crate) fn needs_frame(&self, word: u64) -> bool
-        ensures { result ≡ false → (o : Option ℕ) → edit_next self.now word None ≡ edit_next self.now word o }
+    pub(crate) fn is_at_page(&self) -> bool
+        ensures { IsTrue result → (word : ℕ) (o : Option ℕ) → due_here self.now word None ≡ due_here self.now word o }
     {
-        self.level != self.wish.level() && target(word).is_none()
+        self.level == self.wish.level()
     }
 
     /// Goes on with the word that the edit waited for; `spare` is the PPN of the home's lowest unused spare frame, which is
@@ -149,25 +181,11 @@ impl EditWalk {
         requires { IfSome spare (λ frame. frame < 2 ^ ppn_bits) }
         ensures { result ≡ edit_next self word spare }
     {
-        if self.level != self.wish.level() {
-            if let Some(table) = target(word) {
-                return Next::More(EditWalk {
-                    wish: self.wish,
-                    level: self.level - 1,
-                    table,
-                });
-            }
+        if let Some(next) = self.below(word) {
+            return Next::More(next);
         }
-        let end = PathEnd {
-            level: self.level,
-            table: self.table,
-            entry: word,
-        };
-        match self.wish.due_word(spare, &end) {
-            Ok(word) => {
-                let (ppn, index) = self.wants();
-                Next::Edit(Edit::new(self.wish.place(), ppn, index, word))
-            }
+        match self.end(word, spare) {
+            Ok(edit) => Next::Edit(edit),
             Err(fault) => Next::Refused(fault),
         }
     }

@@ -8,17 +8,16 @@ ghost use Rattle.spaces.specs.Applied.{holders_after, words_after};
 ghost use Rattle.spaces.specs.Effects.{HasEffect, IsEdit};
 ghost use Rattle.spaces.specs.declared.wishes.Wish.{Wish as WishOf};
 ghost use Rattle.spaces.specs.Edits.{edit_of, place_of};
-ghost use Rattle.spaces.specs.EditStages.{edit_next};
+ghost use Rattle.spaces.specs.EditStages.{due_here};
 ghost use Rattle.spaces.specs.declared.wishes.Wish.TheVariants as wish;
 
-use crate::edit_walks::{EditWalk, Next};
+use crate::edit_walks::EditWalk;
 use crate::faults::MapFault;
 use crate::frames::Memory;
 use crate::places::Place;
 use crate::wishes::Wish;
 use pte::{Page, PteFlags};
 use std::marker::Model;
-use walk::Words;
 
 /// One store of a word of a table, for a place.
 #[derive(Clone, Copy, PartialEq, Eq, Debug)]
@@ -74,16 +73,16 @@ impl Edit {
     }
 }
 
-/// The lowest unused spare frame of the hart, which is looked for only where the load of a word may turn on it.
+/// The lowest unused spare frame of the hart, which is looked for only where the store that is due turns on it.
 #[inline(always)]
-fn spare_for(memory: &Memory, hart: u8, walk: &EditWalk, word: u64) -> Option<u64>
-    ensures same { edit_next walk.now word result ≡ edit_next walk.now word (spare_of memory.now hart) }
+fn spare_for(memory: &Memory, hart: u8, walk: &EditWalk) -> Option<u64>
+    ensures same { (word : ℕ) → due_here walk.now word result ≡ due_here walk.now word (spare_of memory.now hart) }
     ensures range { IfSome result (λ frame. frame < 2 ^ ppn_bits) }
 {
-    if walk.needs_frame(word) {
-        memory.spare(hart)
-    } else {
+    if walk.is_at_page() {
         None
+    } else {
+        memory.spare(hart)
     }
 }
 
@@ -96,13 +95,11 @@ fn edit_due(memory: &Memory, hart: u8, wish: &Wish) -> Result<Edit, MapFault>
     let mut walk = memory.begin(hart, wish)?;
     loop {
         let (ppn, index) = walk.wants();
-        let word = memory.word(ppn, index).unwrap_or(0);
-        let spare = spare_for(memory, hart, &walk, word);
-        match walk.load(word, spare) {
-            Next::More(next) => walk = next,
-            Next::Edit(edit) => return Ok(edit),
-            Next::Refused(fault) => return Err(fault),
-        }
+        let word = memory.word_there(ppn, index);
+        let Some(next) = walk.below(word) else {
+            return walk.end(word, spare_for(memory, hart, &walk));
+        };
+        walk = next;
     }
 }
 

@@ -1,6 +1,6 @@
 //! Table memory.
 
-ghost use Rattle.std.specs.Prelude.{◌≡◌, ◌+◌, ◌*◌, ◌<◌, ◌≤◌, ◌^◌, ◌↔◌, ◌&&◌, ◌||◌, IsTrue, IfOk, IfSome, length, map, nat_le, nat_lt, slice_index, slice_get, slice_set, sum, take, Some, None, replicate, ℕ, is_some, if◌then◌else◌};
+ghost use Rattle.std.specs.Prelude.{◌≡◌, ◌+◌, ◌*◌, ◌<◌, ◌≤◌, ◌^◌, ◌↔◌, ◌&&◌, ◌||◌, IsTrue, IfOk, IfSome, length, map, nat_le, nat_lt, slice_index, slice_get, slice_set, sum, take, Some, None, replicate, ℕ, true, is_some, if◌then◌else◌};
 ghost use Rattle.pte.specs.Address.{table_length};
 ghost use Rattle.pte.specs.Entry.{ppn_bits};
 ghost use Rattle.spaces.specs.Layout.{frame_count, HasPlace, home_of, layout_of, root_ppn, user_slots};
@@ -209,6 +209,17 @@ impl Memory {
             return Err(MapFault::NotHome);
         }
         EditWalk::start(self.scheme, self.window, self.base, *wish)
+    }
+
+    /// A word that is there.
+    #[inline(always)]
+    #[tactic(auto, using(crate::proofs::Applying::in_memory), unfolding(crate::specs::Held::words_of))]
+    pub(crate) fn word_there(&self, ppn: u64, index: u16) -> u64
+        requires { is_word self.now.layout ppn index ≡ true }
+        ensures { words_of self.now ppn index ≡ Some result }
+    {
+        let at = (ppn - self.base) * u64::from(TABLE_LENGTH) + u64::from(index);
+        self.words[at as usize]
     }
 
     /// The lowest unused spare frame of a hart.

@@ -5,4 +5,4 @@ pub returns-clause-begins : goal.returns-clause-begins
 returns-clause-begins c l words hart holders fits tree = begins l words hart holders tree fits
 
 pub returns-clause-goes_on : goal.returns-clause-goes_on
-returns-clause-goes_on c l words hart holders tree e after word spare = goes-home l words hart holders tree e word spare after
+returns-clause-goes_on c l words hart holders tree e after word spare = goes-home l words hart holders tree e word after spare

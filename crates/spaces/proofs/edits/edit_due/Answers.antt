@@ -1,8 +1,8 @@
-use Rattle.std.proofs.Common.{sym, ◌∙◌, Ok, Err, arith}
+use Rattle.std.proofs.Common.{sym, ◌∙◌, Ok, Err}
 use Rattle.std.proofs.lemmas.Result.{err_from_is_err_and}
-use Rattle.spaces.specs.declared.edit_walks.Next.TheVariants as next
 use Rattle.spaces.specs.Held.{spare_of, words_of}
-use Rattle.spaces.proofs.Stages.{begun-as, goes-on}
+use Rattle.spaces.proofs.HomeReads.{starts-home, stays-home, there}
+use Rattle.spaces.proofs.Stages.{begun-as, ends-here, goes-below, read-there}
 use Rattle.spaces.proofs.edits.edit_due.Goals as goal
 
 pub returns-in_err-walk : goal.returns-in_err-walk
@@ -13,28 +13,31 @@ returns-in_err-walk c =
     })
 
 pub loop-next-init : goal.loop-next-init
-loop-next-init c = begun-as c.args.memory.now c.begin.ensures.memory c.args.hart c.args.wish.now (Ok c.in_ok-walk.walk) c.in_ok-walk.ensures.start
+loop-next-init c = record {
+  answer = begun-as c.args.memory.now c.begin.ensures.memory c.args.hart c.args.wish.now (Ok c.in_ok-walk.walk) c.in_ok-walk.ensures.start;
+  home = starts-home c.args.memory.now c.begin.ensures.memory c.args.hart c.args.wish.now c.in_ok-walk.walk c.requires c.in_ok-walk.ensures.start;
+}
 
-pub loop-next-smaller : goal.loop-next-smaller
-loop-next-smaller c =
-    let on = (goes-on c.loop-next.walk (words_of c.args.memory.now) (spare_of c.args.memory.now c.args.hart) c.spare_for-spare.result c.word.result c.unwrap_or-word.result c.wants-ppn.result.0 c.wants-ppn.result.1 (next.More c.in-More.next)
-    c.wants-ppn.ensures.stage c.word.ensures c.wants-ppn.ensures.table c.wants-ppn.ensures.index c.unwrap_or-word.ensures c.spare_for-spare.ensures.same c.in-More.ensures) in
-    omega (arith, on.2)
+pub word_there-word-requires : goal.word_there-word-requires
+word_there-word-requires c =
+    there c.args.memory.now c.begin.ensures.memory c.args.hart c.loop-next.walk c.wants-ppn.result.0 c.wants-ppn.result.1 c.loop-next.invariant.home c.wants-ppn.ensures.table c.wants-ppn.ensures.index
 
 pub loop-next-preserved : goal.loop-next-preserved
 loop-next-preserved c =
-    let on = (goes-on c.loop-next.walk (words_of c.args.memory.now) (spare_of c.args.memory.now c.args.hart) c.spare_for-spare.result c.word.result c.unwrap_or-word.result c.wants-ppn.result.0 c.wants-ppn.result.1 (next.More c.in-More.next)
-    c.wants-ppn.ensures.stage c.word.ensures c.wants-ppn.ensures.table c.wants-ppn.ensures.index c.unwrap_or-word.ensures c.spare_for-spare.ensures.same c.in-More.ensures) in
-    on.3 ∙ c.loop-next.invariant
+    let on = goes-below c.loop-next.walk (words_of c.args.memory.now) (spare_of c.args.memory.now c.args.hart) c.word_there-word.result c.wants-ppn.result.0 c.wants-ppn.result.1
+    c.wants-ppn.ensures.stage c.wants-ppn.ensures.table c.wants-ppn.ensures.index c.word_there-word.ensures c.in-Some.next c.in-Some.ensures in
+    record {
+      answer = on.1 ∙ c.loop-next.invariant.answer;
+      home =
+          stays-home c.args.memory.now c.begin.ensures.memory c.args.hart c.loop-next.walk c.in-Some.next c.word_there-word.result c.loop-next.invariant.home
+          (read-there c.loop-next.walk (words_of c.args.memory.now) (spare_of c.args.memory.now c.args.hart) c.word_there-word.result c.wants-ppn.result.0 c.wants-ppn.result.1
+          c.wants-ppn.ensures.stage c.wants-ppn.ensures.table c.wants-ppn.ensures.index c.word_there-word.ensures)
+          c.in-Some.ensures;
+    }
 
-pub returns-in-Edit : goal.returns-in-Edit
-returns-in-Edit c =
-    let on = (goes-on c.loop-next.walk (words_of c.args.memory.now) (spare_of c.args.memory.now c.args.hart) c.spare_for-spare.result c.word.result c.unwrap_or-word.result c.wants-ppn.result.0 c.wants-ppn.result.1 (next.Edit c.in-Edit.edit)
-    c.wants-ppn.ensures.stage c.word.ensures c.wants-ppn.ensures.table c.wants-ppn.ensures.index c.unwrap_or-word.ensures c.spare_for-spare.ensures.same c.in-Edit.ensures) in
-    record { outcome = sym on ∙ c.loop-next.invariant }
-
-pub returns-in-Refused : goal.returns-in-Refused
-returns-in-Refused c =
-    let on = (goes-on c.loop-next.walk (words_of c.args.memory.now) (spare_of c.args.memory.now c.args.hart) c.spare_for-spare.result c.word.result c.unwrap_or-word.result c.wants-ppn.result.0 c.wants-ppn.result.1 (next.Refused c.in-Refused.fault)
-    c.wants-ppn.ensures.stage c.word.ensures c.wants-ppn.ensures.table c.wants-ppn.ensures.index c.unwrap_or-word.ensures c.spare_for-spare.ensures.same c.in-Refused.ensures) in
-    record { outcome = sym on ∙ c.loop-next.invariant }
+pub returns-in_default : goal.returns-in_default
+returns-in_default c =
+    let end = ends-here c.loop-next.walk (words_of c.args.memory.now) (spare_of c.args.memory.now c.args.hart) c.word_there-word.result c.wants-ppn.result.0 c.wants-ppn.result.1
+    c.wants-ppn.ensures.stage c.wants-ppn.ensures.table c.wants-ppn.ensures.index c.word_there-word.ensures
+    c.in_default.ensures c.end.result c.spare_for.result c.end.ensures (c.spare_for.ensures.same c.word_there-word.result) in
+    record { outcome = end ∙ c.loop-next.invariant.answer }
