@@ -1,7 +1,7 @@
 //! `bench [all|events|sv39|sv48|tlb|KIND|rings|lock|words] [N]`: makes about N events on a machine of 8 harts, N translations over
 //! the tables of a scheme, N calls of each kind or of one on a TLB alone, N shootdowns between two threads, over rings or under
-//! one lock, N numbers that go there and back between two threads, or all of these, and prints what they came to, by counts. N
-//! is 10,000,000 where no number is given. The clock is the caller's.
+//! one lock, N numbers that go there and back between two threads, or all of these (then a tenth of N between the threads), and
+//! prints what they came to, by counts. N is 10,000,000 where no number is given. The clock is the caller's.
 #![tactic(auto)]
 
 mod cycle;
@@ -158,7 +158,8 @@ fn run<R: Threads + Wait + Sync + Print>(
 ) -> Result<(), Failure> {
     let (part, count) = asked?;
     run_alone(rt, alloc, part, count)?;
-    run_beside(rt, alloc, part, count)
+    let between = if part == Part::All { count / 10 } else { count };
+    run_beside(rt, alloc, part, between)
 }
 
 fn main(rt: HostRuntime) -> ExitCode {
