@@ -12,19 +12,22 @@ ghost use Rattle.tlb.specs.Slots.{IsIn, closed_up};
 use crate::slots::{
     SlotSet, close_up, lowest_slot, slot_of, slots_with_tag, with_slot, without_slot,
 };
-use crate::store::Entry;
+use crate::store::{Entry, TLB_SIZE};
 use pte::{PageSize, VirtAddr};
 
-/// At most 16 entries, in slots that the banks share. Each slot has an age, each number below 16 once. The slots in use are
-/// those with an age below the count, and 0 is the age of the oldest entry.
+/// At most 16 entries, in 16 slots that the banks share. Each slot has an age, each number below 16 once. The slots in use are
+/// those with an age below the count, so the ages of the entries are the numbers below the count, and the oldest has 0. A slot in
+/// use is in the bank of its entry's size and in no other.
 #[derive(Drop)]
 pub(crate) struct Banks {
-    // For each level the slots in use that hold an entry of a page of that size.
+    // For each level the bank of that size: the slots in use that hold an entry of such a page.
     banks: [SlotSet; 4],
-    // The tag of each slot's page.
-    tags: [u32; 16],
-    ages: [u8; 16],
-    held: [Entry; 16],
+    // Of each slot, the tag of its page in its bank.
+    tags: [u32; TLB_SIZE],
+    ages: [u8; TLB_SIZE],
+    // What each slot holds, in no order; of a slot that is not in use, what it held last.
+    held: [Entry; TLB_SIZE],
+    // How many slots are in use.
     count: u8,
 }
 
@@ -50,9 +53,9 @@ impl Banks {
     {
         Banks {
             banks: [0; 4],
-            tags: [0; 16],
+            tags: [0; TLB_SIZE],
             ages: [0, 1, 2, 3, 4, 5, 6, 7, 8, 9, 10, 11, 12, 13, 14, 15],
-            held: [Entry::default(); 16],
+            held: [Entry::default(); TLB_SIZE],
             count: 0,
         }
     }
@@ -78,7 +81,9 @@ impl Banks {
             | self.in_bank(PageSize::Gib512, va)
     }
 
-    /// The entry that matches and has the least age.
+    /// The entry that matches and has the least age. Only what has the address's tag in its bank is looked at whole: no other
+    /// slot can match.
+    #[inline(always)]
     pub(crate) fn oldest_match(&self, asid: u16, va: VirtAddr) -> Option<Entry>
         requires { IsBanks self.now }
         ensures { result ≡ first_match (entries_of self.now) asid va }
@@ -141,7 +146,7 @@ impl Banks {
         ensures kept { IsBanks self.new }
         ensures entries { entries_of self.new ≡ filled (entries_of self.old) entry }
     {
-        if self.count == 16 {
+        if usize::from(self.count) == TLB_SIZE {
             let oldest = slot_of(&self.ages, 0);
             self.drop_slot(oldest);
         }
@@ -155,7 +160,7 @@ impl Banks {
         ensures kept { IsBanks self.new }
         ensures entries { (test : Entry → Bool) → ((e : Entry) (r : Bool) → FnReturnsAt F.Fn goes e r → r ≡ test e) → entries_of self.new ≡ filter (λ e. not (test e)) (entries_of self.old) }
     {
-        for slot in 0..16_usize {
+        for slot in 0..TLB_SIZE {
             if self.ages[slot] < self.count && goes(&self.held[slot]) {
                 self.drop_slot(slot);
             }

@@ -4,13 +4,14 @@ ghost use Rattle.std.specs.Prelude.{ℕ, ◌≡◌, ◌≢◌, ◌<◌, map, sli
 ghost use Rattle.std.specs.Int.{bit_at};
 ghost use Rattle.tlb.specs.Slots.{IsIn, closed_up, slot_of};
 
+use crate::TLB_SIZE;
 use std::simd::prelude::*;
 
 /// A set of slots: bit k is set where slot k is in it.
 pub(crate) type SlotSet = u16;
 
 /// The slots that have a tag.
-pub(crate) fn slots_with_tag(tags: &[u32; 16], tag: u32) -> SlotSet
+pub(crate) fn slots_with_tag(tags: &[u32; TLB_SIZE], tag: u32) -> SlotSet
     ensures { (slot : ℕ) → slot < 16 → slice_index tags.now slot ≡ tag → IsIn result slot }
 {
     let same = u32x16::from_array(*tags).simd_eq(u32x16::splat(tag));
@@ -18,7 +19,7 @@ pub(crate) fn slots_with_tag(tags: &[u32; 16], tag: u32) -> SlotSet
 }
 
 /// The slot of an age that some slot has.
-pub(crate) fn slot_of(ages: &[u8; 16], age: u8) -> usize
+pub(crate) fn slot_of(ages: &[u8; TLB_SIZE], age: u8) -> usize
     requires { slot_of ages.now age < 16 }
     ensures { result ≡ slot_of ages.now age }
 {
@@ -40,7 +41,7 @@ fn closed_up(dropped: u8, age: u8) -> u8
 }
 
 /// Closes the gap that an age leaves: each age above it comes one down, and its slot has the last age from now on.
-pub(crate) fn close_up(ages: &mut [u8; 16], dropped: u8)
+pub(crate) fn close_up(ages: &mut [u8; TLB_SIZE], dropped: u8)
     ensures { ages.new ≡ map (closed_up dropped) ages.old }
 {
     for age in ages.iter_mut() {

@@ -1,4 +1,4 @@
-//! The entries of a TLB, oldest first.
+//! The TLB of one hart: look-ups, fills, fences and services.
 
 ghost use Rattle.std.specs.Prelude.{◌≡◌, ◌↔◌, [], IsSome};
 ghost use Rattle.tlb.specs.Banks.{IsBanks, entries_of};
@@ -65,9 +65,9 @@ impl Entry {
     }
 }
 
-/// The TLB of one hart: at most `TLB_SIZE` entries in the order of their fills, and the scheme that tells which addresses its
-/// fences count. Nothing but `fence`, `serve` and the fill of a
-/// full TLB takes an entry out, whatever becomes of the page tables meanwhile.
+/// The TLB of one hart: at most `TLB_SIZE` entries, each with its age, in a bank for each size of page, and the scheme that tells
+/// which addresses its fences count. In contracts it is the list of its entries by age, the oldest first. Nothing but `fence`,
+/// `serve` and the fill of a full TLB takes an entry out, whatever becomes of the page tables meanwhile.
 #[derive(Drop)]
 pub struct Tlb {
     scheme: Scheme,
@@ -180,6 +180,7 @@ impl Tlb {
 
     /// The oldest entry whose page has the address and that is global or of the ASID. There is one exactly if the mappings
     /// of the entries translate the address for that ASID.
+    #[inline(always)]
     pub fn lookup(&self, asid: u16, va: VirtAddr) -> Option<Entry>
         ensures oldest { result ≡ first_match self.now.entries asid va }
         ensures kept { IsTlb self.now.entries }
