@@ -101,13 +101,18 @@ fn full() -> Tlb {
     tlb
 }
 
-/// How many of so many look-ups find an entry, at one address after another of the 4 KiB that begin there.
-fn count_found(tlb: &Tlb, base: u64, count: u64) -> u64 {
+/// Whether a look-up of an address finds an entry.
+fn is_found(tlb: &Tlb, va: u64) -> bool {
+    tlb.lookup(1, VirtAddr::new(va).unwrap_or_default())
+        .is_some()
+}
+
+/// How many of so many look-ups find an entry. The addresses are read from a table, so that each look-up is made anew.
+fn count_found(tlb: &Tlb, addresses: &[u64], count: u64) -> u64 {
     let mut found: u64 = 0;
     for number in 0..count {
-        let va = VirtAddr::new(base | number % pte::PAGE_BYTES).unwrap_or_default();
-        if tlb.lookup(1, va).is_some() {
-            found = found.wrapping_add(1);
+        if let Some(va) = addresses.get((number % PAGES) as usize) {
+            found = found.wrapping_add(u64::from(is_found(tlb, *va)));
         }
     }
     found
@@ -135,16 +140,21 @@ fn count_left(kind: Kind, count: u64) -> u64 {
     }
     let mut left: u64 = 0;
     for number in 0..PAGES {
-        left = left.wrapping_add(count_found(&tlb, address(number), 1));
+        left = left.wrapping_add(u64::from(is_found(&tlb, address(number))));
     }
     left
 }
 
 /// Does a kind of call so many times, and tells what is counted.
 pub fn run(kind: Kind, count: u64) -> u64 {
-    match kind {
-        Kind::Find(number) => count_found(&full(), first_page(number).base().get(), count),
-        Kind::Miss => count_found(&full(), 0x20_0000_0000, count),
-        _ => count_left(kind, count),
+    let base = match kind {
+        Kind::Find(number) => first_page(number).base().get(),
+        Kind::Miss => 0x20_0000_0000,
+        _ => return count_left(kind, count),
+    };
+    let mut addresses = [base; PAGES as usize];
+    for (number, va) in addresses.iter_mut().enumerate() {
+        *va |= number as u64 * 8;
     }
+    count_found(&full(), &addresses, count)
 }
