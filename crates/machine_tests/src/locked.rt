@@ -1,7 +1,7 @@
 ghost use Rattle.std.specs.Prelude.{◌≡◌, IfOk};
 
-use harts::*;
 use arrayvec::ArrayVec;
+use harts::*;
 use pte::{Access, Ctx, Mode, Page, PageSize, PteFlags, VirtAddr, What};
 use shoot::Request;
 use spaces::{Config, OpenFault, Place, Space};

@@ -4,13 +4,13 @@
 ghost use Rattle.std.specs.Prelude.{◌<◌};
 ghost use Rattle.shoot.specs.declared.TheConstants.{MAX_TICKETS};
 
-use stepcore::{Config, Event, Machine, OpenFault, Place, Refusal, Reply, Request, Scope, Space};
 use arrayvec::ArrayVec;
 use bitflags::Flags;
 use pte::{Access, Ctx, Mode, Page, PageSize, PteFlags, Scheme, VirtAddr, What};
 use std::alloc::Global;
 use std::process::Abort;
 use std::test::*;
+use stepcore::{Config, Event, Machine, OpenFault, Place, Refusal, Reply, Request, Scope, Space};
 use walk::{Trap, Why};
 
 const R: u8 = 0x02;

@@ -1,8 +1,8 @@
 ghost use Rattle.std.specs.Prelude.{◌≡◌, IfOk, map};
 ghost use Rattle.board.specs.Ports.{ArePorts, name_of};
 
-use board::*;
 use arrayvec::ArrayVec;
+use board::*;
 use history::{Refusal, Scope};
 use pte::{Scheme, What};
 use shoot::Collected;

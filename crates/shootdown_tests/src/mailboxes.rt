@@ -1,7 +1,7 @@
 ghost use Rattle.std.specs.Prelude.{◌<◌};
 
-use shoot::*;
 use pte::{Page, PageSize, VirtAddr, What};
+use shoot::*;
 use std::process::Abort;
 use std::test::*;
 

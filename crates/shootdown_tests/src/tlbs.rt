@@ -1,8 +1,8 @@
 ghost use Rattle.std.specs.Prelude.{◌<◌, ◌^◌};
 
-use tlb::*;
 use pte::{Access, Ctx, Mode, Page, PageSize, PteFlags, Scheme, VirtAddr, What};
 use std::process::Abort;
+use tlb::*;
 use walk::{Found, Trap, Why};
 
 /// An entry, with an ASID and an address at which it is the oldest match in the TLBs below where it is there at all.

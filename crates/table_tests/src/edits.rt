@@ -1,12 +1,12 @@
 //! The worked table of words, the layouts at their limits, and each refusal.
 
+use arrayvec::ArrayVec;
+use bitflags::Flags;
+use pte::{Page, PageSize, PteFlags, Scheme, VirtAddr};
 use spaces::{
     Config, MapFault, Memory, OpenFault, Place, Space, apply, next_map_edit, protect_edit,
     unmap_edit,
 };
-use arrayvec::ArrayVec;
-use bitflags::Flags;
-use pte::{Page, PageSize, PteFlags, Scheme, VirtAddr};
 use std::alloc::Global;
 use std::process::Abort;
 use walk::Words;

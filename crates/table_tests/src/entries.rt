@@ -1,10 +1,10 @@
 //! Tables worked by hand from the bits, fields and rules of the RISC-V privileged manual, chapter 4.
 
+use bitflags::Flags;
 use pte::{
     Access, Ctx, Kind, LeafFault, Mode, Page, PageSize, Pte, PteFlags, Scheme, VirtAddr,
     access_cause, allowed, page_cause,
 };
-use bitflags::Flags;
 use std::process::Abort;
 
 fn flags(bits: u8) -> PteFlags {

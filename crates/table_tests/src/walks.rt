@@ -2,10 +2,10 @@
 
 ghost use Rattle.std.specs.Prelude.{◌≡◌};
 
-use walk::{Found, Progress, Trap, Walk, Why, Words, flags_fault, translate, translate_in};
 use pte::{Access, Ctx, Kind, Mode, Page, PageSize, Pte, Scheme, VirtAddr};
 use std::cell::Cell;
 use std::process::Abort;
+use walk::{Found, Progress, Trap, Walk, Why, Words, flags_fault, translate, translate_in};
 
 /// Three frames at 0x80000 to 0x80002: a root and a middle table whose word at index 2 is not 0, and a low table whose
 /// word at index 3 is not. The loads are counted.

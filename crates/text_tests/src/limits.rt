@@ -1,6 +1,6 @@
 //! The most steps of a file, and where their number stands in the order of checking.
-use scenario::Which;
 use crate::commands::{end_of, refuses};
+use scenario::Which;
 use std::alloc::Global;
 use std::test::Fail;
 

@@ -1,8 +1,8 @@
 //! The text of each answer and of each reply, with ample memory. The lines are those of the tables in README.md.
 ghost use Rattle.std.specs.Prelude.{◌<◌};
 
-use lines::{reply_lines, walk_lines};
 use history::{Refusal, Reply};
+use lines::{reply_lines, walk_lines};
 use pte::{Access, Ctx, Mode, Page, PageSize, Scheme, VirtAddr, What};
 use shoot::Request;
 use std::test::Fail;

@@ -1,6 +1,6 @@
 //! What no clause says of `run`: texts of known files, whose lines were worked out by hand.
-use scenario::Which;
 use crate::commands::{prints, refuses};
+use scenario::Which;
 use std::test::Fail;
 
 /// A page of 2 MiB that hart 0 maps and unmaps, and that hart 1 fills, still hits and then drops.

@@ -1,8 +1,8 @@
 //! Texts of the steps by which spaces come and go, and what they write.
-use steps::{StepFault, run_step, run_step_among};
 use history::Event;
 use pte::Scheme;
 use std::process::Abort;
+use steps::{StepFault, run_step, run_step_among};
 
 /// Each text writes its event where there are 8 harts, in either scheme.
 fn assert_steps(rt: &impl Abort, scheme: Scheme, steps: &[(&str, Event)]) {

@@ -1,11 +1,11 @@
 //! Known texts, and what they write.
-use steps::{StepFault, WalkStep, num, run_step, run_step_among, walk_step, words};
 use bitflags::Flags;
 use history::{Event, Scope};
 use pte::{Access, Ctx, Mode, Page, PageSize, PteFlags, Scheme, VirtAddr};
 use spaces::Place;
 use std::process::Abort;
 use std::test::Fail;
+use steps::{StepFault, WalkStep, num, run_step, run_step_among, walk_step, words};
 
 #[test]
 fn numbers_of_words(rt: HostRuntime) {

@@ -1,6 +1,6 @@
 //! What no clause says of `walk`: texts of known files, whose lines were worked out by hand.
-use scenario::Which;
 use crate::commands::{FILE, LINES, prints, refuses};
+use scenario::Which;
 use std::alloc::Global;
 use std::test::Fail;
 

@@ -2,8 +2,8 @@
 //! and V.
 
 use super::{A, D, G, KERNEL, R, RUAD, U, W, X, default_config, flags, page};
-use spaces::{Config, EditWalk, MapFault, Next, Place, Wish};
 use pte::{Page, PageSize, Scheme};
+use spaces::{Config, EditWalk, MapFault, Next, Place, Wish};
 use std::process::Abort;
 
 const SPACE: Place = Place::Space(0);

@@ -4,8 +4,8 @@ use super::{
     A, Call, D, G, KERNEL, R, RUAD, W, default_config, edited, map, opened, page, spares_of,
     two_harts,
 };
-use spaces::{Config, MapFault, Memory, Place};
 use pte::{Access, Ctx, Mode, Page, PageSize, Scheme};
+use spaces::{Config, MapFault, Memory, Place};
 use std::process::Abort;
 use walk::{Words, translate_in};
 
