@@ -1,4 +1,5 @@
-use Rattle.board.proofs.PairsClosed.{closed_none, closed_pair, closed_self}
+use Rattle.std.proofs.Common.{◌≡◌, subst, arith}
+use Rattle.board.proofs.PairsClosed.{IsClosedTo, closed_none, closed_pair, closed_row, closed_self}
 use Rattle.board.proofs.closing.pair_reports.Goals as goal
 
 pub loop-sender-init : goal.loop-sender-init
@@ -20,4 +21,15 @@ loop-receiver-preserved c =
       closed = rw c.push_reserved.ensures.items (
           closed_pair _ _ _ _ _ _ _ _ _ _ _ c.if-receiver-sender.false c.loop-receiver.invariant.closed e.pair e.report e.outs_kept e.ins_kept e.count e.out_counts e.in_counts);
       room = rw c.push_reserved.ensures.capacity c.loop-receiver.invariant.room;
+    }
+
+pub loop-sender-preserved : goal.loop-sender-preserved
+loop-sender-preserved c =
+    let last : c.loop-receiver.receiver ≡ c.args.harts = omega (arith, c.loop-receiver.auto.receiver-end, c.loop-receiver-test.false) in
+    record {
+      closed = closed_row _ _ _ _ _ _ _ (
+          subst
+          (IsClosedTo c.args.harts c.args.outboxes.items c.args.inboxes.items c.loop-receiver.outboxes.items c.loop-receiver.inboxes.items c.loop-receiver.pairs.items c.loop-sender.sender)
+          last c.loop-receiver.invariant.closed);
+      room = c.loop-receiver.invariant.room;
     }
