@@ -15,7 +15,7 @@ use Rattle.spaces.specs.Edits.{Store, place_of, page_of}
 use Rattle.spaces.specs.Tree.{start_level, of_spare, IsTree}
 use Rattle.walk.specs.Pointers.{pointed}
 use Rattle.spaces.specs.Accepted.{Accepted}
-use Rattle.spaces.specs.Applied.{words_after, points_at, holders_after}
+use Rattle.spaces.specs.Applied.{words_after, points_at, holders_after, list_after, memory_after}
 use Rattle.spaces.proofs.Lists.{slice_get-set_same, slice_get-set_other}
 use Rattle.spaces.proofs.Paths.{vpn-below, some-same}
 use Rattle.spaces.proofs.Stored.{is-word, stored-here, stored-there}
@@ -23,17 +23,6 @@ use Rattle.spaces.proofs.Accepting.{accepted}
 use Rattle.spaces.proofs.Keeping.{keeps-tree, there, leaf-or-pointer}
 use Rattle.std.proofs.lemmas.Option.{slice_get-get_or}
 use Rattle.spaces.proofs.OpeningTree.{word-is, frame-is}
-
-abbrev pub held_list : ℕ → List (Option Place) → Place → Option ℕ → List (Option Place)
-held_list base holders place None = holders
-held_list base holders place (Some table) = slice_set holders (table - base) (Some place)
-
-abbrev pub held_after : Held → Store → Held
-held_after m store = record {
-  layout = m.layout;
-  words = slice_set m.words (word_index m.layout store.ppn store.index) store.word;
-  holders = held_list m.layout.base m.holders store.place (pointed (Some store.word));
-}
 
 pub record InMemory (l : Layout) (f i : ℕ) : Type 0 where
   pub from : l.base ≤ f
@@ -76,7 +65,7 @@ module _ (m : Held) (held : IsMemory m) (store : Store) (due : IsDue m store) wh
       let same-frame : store.ppn ≡ f = omega (arith, a.from, a.index, b.from, b.index) in
       apart same-frame (omega (arith, a.from, a.index, b.from, b.index))
 
-  pub words-held : (f i : ℕ) → words_of (held_after m store) f i ≡ words_after (words_of m) store f i
+  pub words-held : (f i : ℕ) → words_of (memory_after m store) f i ≡ words_after (words_of m) store f i
   unfolding words_of
   words-held f i = elim (is-word store.ppn store.index f i) [
     | inl same ↦
@@ -112,7 +101,7 @@ module _ (m : Held) (held : IsMemory m) (store : Store) (due : IsDue m store) wh
   table-index t e = let r = frame-there t (table-there t e) in (r.0, omega (arith, r.0, r.1, held.holders))
 
   holders-by : (f : ℕ) (o : Option ℕ) → ((t : ℕ) → o ≡ Some t → is_frame m.layout t ≡ true)
-      → cond (is_frame m.layout f) (held_at (slice_get (held_list m.layout.base m.holders store.place o) (f - m.layout.base))) None ≡ cond (points_at o f) (Some store.place) (holders_of m f)
+      → cond (is_frame m.layout f) (held_at (slice_get (list_after m.layout.base m.holders store.place o) (f - m.layout.base))) None ≡ cond (points_at o f) (Some store.place) (holders_of m f)
   holders-by f None there = refl
   holders-by f (Some t) there = elim (cases_eq t f) [
     | inl same ↦
@@ -134,27 +123,27 @@ module _ (m : Held) (held : IsMemory m) (store : Store) (due : IsDue m store) wh
           ap held_at (slice_get-set_other m.holders (t - m.layout.base) (f - m.layout.base) (Some store.place) (λ e. apart (omega (arith, a.0, b.0, e))))
       by_frame false is apart = refl
 
-  pub holders-held : (f : ℕ) → holders_of (held_after m store) f ≡ holders_after (holders_of m) store.place store f
+  pub holders-held : (f : ℕ) → holders_of (memory_after m store) f ≡ holders_after (holders_of m) store.place store f
   holders-held f = holders-by f (pointed (Some store.word)) table-there
 
-  length-held : (o : Option ℕ) → length (held_list m.layout.base m.holders store.place o) ≡ length m.holders
+  length-held : (o : Option ℕ) → length (list_after m.layout.base m.holders store.place o) ≡ length m.holders
   length-held None = refl
   length-held (Some t) = length-set m.holders (t - m.layout.base) (Some store.place)
 
-  pub memory-held : IsMemory (held_after m store)
+  pub memory-held : IsMemory (memory_after m store)
   memory-held = record {
     layout = held.layout;
     words = length-set m.words (word_index m.layout store.ppn store.index) store.word ∙ held.words;
     holders = length-held (pointed (Some store.word)) ∙ held.holders;
     tree =
-        subst (λ (x : Holders). IsTree m.layout (words_of (held_after m store)) x) (fun_ext (λ f. ap (λ p. holders_after (holders_of m) p store f) (sym at-home.by) ∙ sym (holders-held f)))
+        subst (λ (x : Holders). IsTree m.layout (words_of (memory_after m store)) x) (fun_ext (λ f. ap (λ p. holders_after (holders_of m) p store f) (sym at-home.by) ∙ sym (holders-held f)))
         (subst (λ (x : Tables). IsTree m.layout x (holders_after (holders_of m) (place_of due.wish) store)) (fun_ext (λ f. fun_ext (λ i. sym (words-held f i)))) tree-after);
   }
 
 -- the same, put together field by field
 pub held-by : (m : Held) (store : Store) (at : ℕ) (holders : List (Option Place)) → at ≡ word_index m.layout store.ppn store.index
-    → holders ≡ held_list m.layout.base m.holders store.place (pointed (Some store.word))
-    → record { layout = m.layout; words = slice_set m.words at store.word; holders = holders } ≡ held_after m store
+    → holders ≡ list_after m.layout.base m.holders store.place (pointed (Some store.word))
+    → record { layout = m.layout; words = slice_set m.words at store.word; holders = holders } ≡ memory_after m store
 held-by m store at holders e u =
     ap (λ k. let x : Held = record { layout = m.layout; words = slice_set m.words k store.word; holders = holders } in x) e
     ∙ ap (λ k. let x : Held = record { layout = m.layout; words = slice_set m.words (word_index m.layout store.ppn store.index) store.word; holders = k } in x) u
@@ -164,9 +153,9 @@ pub record Facts (m now : Held) (store : Store) : Type 0 where
   pub place : InMemory m.layout store.ppn store.index
   pub index : word_index m.layout store.ppn store.index < length m.words
   pub table : (t : ℕ) → pointed (Some store.word) ≡ Some t → (m.layout.base ≤ t) × (t - m.layout.base < length m.holders)
-  pub memory : IsMemory (held_after m store)
-  pub words : (f i : ℕ) → words_of (held_after m store) f i ≡ words_after (words_of now) store f i
-  pub holders : (f : ℕ) → holders_of (held_after m store) f ≡ holders_after (holders_of now) store.place store f
+  pub memory : IsMemory (memory_after m store)
+  pub words : (f i : ℕ) → words_of (memory_after m store) f i ≡ words_after (words_of now) store f i
+  pub holders : (f : ℕ) → holders_of (memory_after m store) f ≡ holders_after (holders_of now) store.place store f
 
 pub facts-of : (m now : Held) (store : Store) → m ≡ now → IsMemory m → IsDue now store → Facts m now store
 facts-of m now store is held due =
@@ -190,12 +179,12 @@ pub sum-bound : (d a b : ℕ) → a ≡ 512 → b < 512 → d < 512 → d * a + 
 sum-bound d a b e below less = subst (λ n. d * n + b < 2 ^ 64) (sym e) (omega arith)
 
 pub held-pointer : (base : ℕ) (holders list : List (Option Place)) (place : Place) (word t : ℕ) (o : Option ℕ) → o ≡ pointed (Some word) → o ≡ Some t
-    → list ≡ slice_set holders (t - base) (Some place) → list ≡ held_list base holders place (pointed (Some word))
-held-pointer base holders list place word t o is some e = e ∙ ap (held_list base holders place) (sym some ∙ is)
+    → list ≡ slice_set holders (t - base) (Some place) → list ≡ list_after base holders place (pointed (Some word))
+held-pointer base holders list place word t o is some e = e ∙ ap (list_after base holders place) (sym some ∙ is)
 
 pub held-leaf : (base : ℕ) (holders : List (Option Place)) (place : Place) (word : ℕ) (o : Option ℕ) → o ≡ pointed (Some word) → o ≡ None
-    → holders ≡ held_list base holders place (pointed (Some word))
-held-leaf base holders place word o is none = ap (held_list base holders place) (sym none ∙ is)
+    → holders ≡ list_after base holders place (pointed (Some word))
+held-leaf base holders place word o is none = ap (list_after base holders place) (sym none ∙ is)
 
 -- the word of a list that stands at its place
 pub word-held : (m now : Held) (ppn index at n k : ℕ) (word d : ℕ) → IsMemory m → m ≡ now → is_word now.layout ppn index ≡ true → n ≡ 512 → at ≡ (ppn - m.layout.base) * n + k → k ≡ index

@@ -1,0 +1,5 @@
+pub mod Rule
+pub mod Board
+pub mod Turns
+pub mod Walks
+pub mod Edits

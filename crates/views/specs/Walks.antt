@@ -1,0 +1,83 @@
+-- What a whole walk answers, by the words that its own loads found.
+use Rattle.std.specs.Prelude.{ℕ, ◌≡◌, ◌+◌, ◌⊎◌, ◌<◌, ◌≤◌, List, [], ◌∷◌, ◌++◌, length, slice_index, Some, Result, Ok, Err}
+use Rattle.pte.specs.declared.permission.Access.{Access}
+use Rattle.pte.specs.declared.permission.Ctx.{Ctx}
+use Rattle.pte.specs.Address.{IsCanonical, level_count, top_level, vpn_of}
+use Rattle.walk.specs.declared.found_or_trap.Found.{Found}
+use Rattle.walk.specs.declared.found_or_trap.Trap.{Trap}
+use Rattle.walk.specs.declared.found_or_trap.Why.TheVariants.{NotCanonical}
+use Rattle.walk.specs.Answer.{page_trap}
+use Rattle.walk.specs.Leads.{Tables}
+use Rattle.walk.specs.Outcome.{Outcome}
+use Rattle.walk.specs.Pointers.{pointed}
+use Rattle.walk.specs.Stage.{Stage, OnPath, IsFor}
+use Rattle.walk.specs.Step.{load_of}
+use Rattle.spaces.specs.Layout.{Layout, first_window_slot, root_ppn}
+use Rattle.spaces.specs.Held.{words_of}
+use Rattle.spaces.specs.Tree.{IsAtHome, IsOwn}
+use Rattle.tlb.specs.declared.store.Entry.{Entry}
+use Rattle.tlb.specs.Answer.{entry_of}
+use Rattle.views.specs.declared.view.View.{View}
+use Rattle.views.specs.Rule.{Has, memory_of}
+use Rattle.views.specs.Turns.{asid_at, onward, TellsFrame, with_fill}
+
+-- a walk changes nothing of what the hart edits
+pub record IsSameHome (v w : View) : Type 0 where
+  pub config : w.config ≡ v.config
+  pub next : w.next ≡ v.next
+  pub hart : w.hart ≡ v.hart
+  pub words : w.words ≡ v.words
+  pub holders : w.holders ≡ v.holders
+  pub used : w.used ≡ v.used
+  pub stores : w.stores ≡ v.stores
+  pub orders : w.orders ≡ v.orders
+
+-- the root is that of a space at home, and the address lies outside the window
+pub record IsHomePath (l : Layout) (v : View) (root va s : ℕ) : Type 0 where
+  pub has : s < length l.homes
+  pub home : slice_index l.homes s ≡ v.hart
+  pub root_is : root ≡ root_ppn l s
+  pub outside : vpn_of va (top_level l.scheme) < first_window_slot l
+
+-- the entries after a walk, whose leaf is filled in
+abbrev pub with_found : ℕ → List Entry → Result Found Trap → List Entry
+with_found asid entries (Ok found) = entries ++ entry_of asid found ∷ []
+with_found asid entries (Err trap) = entries
+
+-- The answer follows from the words that the walk's own loads found, which the view holds: some memory has them all, and in
+-- each memory that has them this is the answer. The loads are counted, at most one a level, and what is found is filled in. A
+-- home reads back its own stores.
+pub record AnswersByLoads (l : Layout) (v : View) (root va : ℕ) (access : Access) (ctx : Ctx) (answer : Result Found Trap) (w : View) : Type 0 where
+  pub some_memory : (words : Tables) × Has words w.reads
+  pub each_memory : (words : Tables) → Has words w.reads → Outcome l.scheme words root va access ctx answer
+  pub read_back : (s : ℕ) → IsHomePath l v root va s → Outcome l.scheme (words_of (memory_of l v)) root va access ctx answer
+  pub count : w.loads ≡ v.loads + length w.reads
+  pub few : length w.reads ≤ level_count l.scheme
+  pub entries : w.entries ≡ with_found (asid_at v.config root) v.entries answer
+  pub home : IsSameHome v w
+
+-- an address that is not canonical takes no load
+abbrev pub Walked : Layout → View → ℕ → ℕ → Access → Ctx → Result Found Trap → View → Type 0
+Walked l v root va access ctx answer w =
+    ((¬ IsCanonical l.scheme va) × (answer ≡ Err (page_trap access NotCanonical)) × (w ≡ v))
+    ⊎ AnswersByLoads l v root va access ctx answer w
+
+-- the words of a walk's path at home are as the view says, and its table is at home; a pointer there is in a slot that edits write
+pub record IsGoingHome (l : Layout) (v w : View) (st : Stage) (word : ℕ) : Type 0 where
+  pub has : Has (words_of (memory_of l v)) w.reads
+  pub table : IsAtHome l v.hart st.table
+  pub own : (g : ℕ) → pointed (Some word) ≡ Some g → IsOwn l st.table (vpn_of st.va st.level)
+
+-- a walk in mid course: its last word was found, and not yet taken
+pub record IsGoing (l : Layout) (v : View) (root va : ℕ) (access : Access) (ctx : Ctx) (st : Stage) (word : ℕ) (w : View) : Type 0 where
+  pub about : IsFor st va access ctx
+  pub on : (words : Tables) → Has words w.reads → OnPath l.scheme words root st × (words st.table (vpn_of st.va st.level) ≡ Some word)
+  pub frame : TellsFrame l st word
+  pub some_memory : (words : Tables) × Has words w.reads
+  pub at_home : (s : ℕ) → IsHomePath l v root va s → IsGoingHome l v w st word
+  pub stands : w.walk ≡ onward (load_of st (Some word))
+  pub at_root : w.root ≡ root
+  pub entries : w.entries ≡ with_fill (asid_at v.config root) v.entries (load_of st (Some word))
+  pub count : w.loads ≡ v.loads + length w.reads
+  pub depth : st.level + length w.reads ≡ level_count l.scheme
+  pub home : IsSameHome v w
