@@ -4,7 +4,7 @@ use Rattle.std.specs.Prelude.{slice_set, slice_get, nat_le, nat_lt}
 use Rattle.std.proofs.lemmas.Bool.{and_parts, cases_eq, eq-eqb, ne_eqb}
 use borrow.Author.Tests.{ltb-true, leb-true}
 use Rattle.pte.specs.Address.{table_length}
-use Rattle.spaces.specs.Layout.{Layout, home_of, is_frame, frame_count}
+use Rattle.spaces.specs.Layout.{home_of, is_frame, frame_count}
 use Rattle.spaces.specs.Opening.{is_word}
 use Rattle.spaces.specs.Held.{Held, IsMemory, IsDue, spare_of, held_at, holders_of, word_index, words_of}
 use Rattle.spaces.specs.Holders.{Holders, unused_spare}
@@ -18,24 +18,11 @@ use Rattle.spaces.specs.Accepted.{Accepted}
 use Rattle.spaces.specs.Applied.{words_after, points_at, holders_after, list_after, memory_after}
 use Rattle.spaces.proofs.Lists.{slice_get-set_same, slice_get-set_other}
 use Rattle.spaces.proofs.Paths.{vpn-below, some-same}
-use Rattle.spaces.proofs.Stored.{is-word, stored-here, stored-there}
+use Rattle.spaces.proofs.WordLists.{InMemory, in-memory, list-same, list-stored}
 use Rattle.spaces.proofs.Accepting.{accepted}
 use Rattle.spaces.proofs.Keeping.{keeps-tree, there, leaf-or-pointer}
 use Rattle.std.proofs.lemmas.Option.{slice_get-get_or}
 use Rattle.spaces.proofs.OpeningTree.{word-is, frame-is}
-
-pub record InMemory (l : Layout) (f i : ℕ) : Type 0 where
-  pub from : l.base ≤ f
-  pub to : f < l.base + frame_count l
-  pub index : i < table_length
-
-pub in-memory : (l : Layout) (f i : ℕ) → is_word l f i ≡ true → InMemory l f i
-in-memory l f i h =
-    let parts = and_parts (is_frame l f) (nat_lt i table_length) h in
-    let frame = and_parts (nat_le l.base f) (nat_lt f (l.base + frame_count l)) parts.0 in
-    record { from = leb-true l.base f frame.0; to = ltb-true f (l.base + frame_count l) frame.1; index = ltb-true i table_length parts.1 }
-
-pub ruleset in_memory = (in-memory)
 
 module _ (m : Held) (held : IsMemory m) (store : Store) (due : IsDue m store) where
   pub at-home : Accepted m.layout (words_of m) (unused_spare m.layout (holders_of m) (home_of m.layout (place_of due.wish))) (home_of m.layout (place_of due.wish)) due.wish store
@@ -58,30 +45,10 @@ module _ (m : Held) (held : IsMemory m) (store : Store) (due : IsDue m store) wh
   tree-after : IsTree m.layout (words_after (words_of m) store) (holders_after (holders_of m) (place_of due.wish) store)
   tree-after = keeps-tree m.layout held.layout (words_of m) (holders_of m) held.tree due.wish due.has store at-home
 
-  apart-index : (f i : ℕ) → is_word m.layout f i ≡ true → (store.ppn ≡ f → store.index ≡ i → ⊥) → word_index m.layout store.ppn store.index ≡ word_index m.layout f i → ⊥
-  apart-index f i is apart e =
-      let a = place-there in
-      let b = in-memory m.layout f i is in
-      let same-frame : store.ppn ≡ f = omega (arith, a.from, a.index, b.from, b.index) in
-      apart same-frame (omega (arith, a.from, a.index, b.from, b.index))
-
   pub words-held : (f i : ℕ) → words_of (memory_after m store) f i ≡ words_after (words_of m) store f i
-  unfolding words_of
-  words-held f i = elim (is-word store.ppn store.index f i) [
-    | inl same ↦
-        let is : is_word m.layout f i ≡ true = ap (λ g. is_word m.layout g i) (sym same.0) ∙ ap (λ j. is_word m.layout store.ppn j) (sym same.1) ∙ word-there in
-        let at : word_index m.layout f i ≡ word_index m.layout store.ppn store.index = omega (arith, same.0, same.1) in
-        ap (λ b. cond b (slice_get (slice_set m.words (word_index m.layout store.ppn store.index) store.word) (word_index m.layout f i)) None) is
-        ∙ ap (λ k. slice_get (slice_set m.words (word_index m.layout store.ppn store.index) store.word) k) at
-        ∙ slice_get-set_same m.words (word_index m.layout store.ppn store.index) store.word index-there
-        ∙ sym (stored-here (words_of m) store.ppn store.index store.word f i same.0 same.1)
-    | inr apart ↦ by_test (is_word m.layout f i) refl apart ∙ sym (stored-there (words_of m) store.ppn store.index store.word f i apart)
-  ]
-    where
-      by_test : (b : Bool) → is_word m.layout f i ≡ b → (store.ppn ≡ f → store.index ≡ i → ⊥)
-          → cond b (slice_get (slice_set m.words (word_index m.layout store.ppn store.index) store.word) (word_index m.layout f i)) None ≡ cond b (slice_get m.words (word_index m.layout f i)) None
-      by_test true is apart = slice_get-set_other m.words (word_index m.layout store.ppn store.index) (word_index m.layout f i) store.word (apart-index f i is apart)
-      by_test false is apart = refl
+  words-held f i =
+      ap (λ (t : Tables). t f i) (list-same m.layout (slice_set m.words (word_index m.layout store.ppn store.index) store.word) (list_after m.layout.base m.holders store.place (pointed (Some store.word))) m.holders)
+      ∙ list-stored m.layout m.words m.holders (omega (arith, held.words)) store.ppn store.index word-there store.word f i
 
   -- the new table is a frame that is there
   pub table-there : (t : ℕ) → pointed (Some store.word) ≡ Some t → is_frame m.layout t ≡ true

@@ -16,7 +16,7 @@ use Rattle.spaces.specs.Held.{Held, IsMemory, held_at, holders_of, is_own_at, wo
 use Rattle.spaces.specs.Holders.{Holders, is_held_for, is_word_of, zero_word, emptied, given_back}
 use Rattle.spaces.specs.Effects.{EmptiesSpace}
 use Rattle.spaces.specs.Tree.{IsTree}
-use Rattle.spaces.proofs.Applying.{in-memory}
+use Rattle.spaces.proofs.WordLists.{in-memory}
 use Rattle.spaces.proofs.Emptying.{tree-emptied, empties-space}
 
 later : (n at : ℕ) → (at ≡ n → ⊥) → nat_lt n at ≡ nat_lt n (at + 1)

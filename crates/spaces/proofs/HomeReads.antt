@@ -16,17 +16,15 @@ use Rattle.spaces.specs.Layout.{Layout, HasPlace, home_of, is_frame, frame_count
 use Rattle.spaces.specs.Held.{Held, IsLayout, IsMemory, holders_of, words_of}
 use Rattle.spaces.specs.Opening.{is_word}
 use Rattle.spaces.specs.Holders.{Holders, unused_spare}
-use Rattle.spaces.specs.Edits.{EditStage, IsStage, Store, is_kernel, place_of, page_of, wish_fault}
+use Rattle.spaces.specs.Edits.{EditStage, IsStage, Store, edit_of, is_kernel, place_of, page_of, wish_fault}
 use Rattle.spaces.specs.EditStages.{WaitsAtHome, edit_next, below_of, due_here, edit_start, first_stage, index_of, more_or_end, next_of, stage_below, path_start, table_fault, unless_fault}
-use Rattle.spaces.specs.Tree.{IsAtHome, of_root, of_window, of_spare, IsHome, IsOwn, start_level, start_table}
-use Rattle.spaces.specs.Accepted.{Writes, adds_table, adds_leaf, removes_leaf, changes_leaf}
-use Rattle.spaces.specs.Effects.{IsEdit}
+use Rattle.spaces.specs.Tree.{IsAtHome, of_root, of_window, of_spare, IsHome, IsTree, IsOwn, start_level, start_table}
+use Rattle.spaces.specs.Accepted.{Accepted, Writes, adds_table, adds_leaf, removes_leaf, changes_leaf}
 use Rattle.walk.proofs.FoundMembers.{leaf-ppn}
-use Rattle.spaces.proofs.Accepting.{home-there, unfaulted, within, fit-level, Unfaulted}
-use Rattle.spaces.proofs.EditLaws.{at-home, edit-accepted}
+use Rattle.spaces.proofs.Accepting.{accepted, home-there, unfaulted, within, fit-level, Unfaulted}
 use Rattle.spaces.proofs.EntryWords.{kind-stored, pointed-table}
 use Rattle.spaces.proofs.Homes.{spare-home, spare-own, sum-within}
-use Rattle.spaces.proofs.Keeping.{fresh-of, fresh-range, leaf-or-pointer}
+use Rattle.spaces.proofs.Keeping.{fresh-of, fresh-range, leaf-or-pointer, there as written-there}
 use Rattle.spaces.proofs.OpeningTree.{word-is}
 use Rattle.spaces.proofs.Paths.{on, vpn-below}
 use Rattle.spaces.proofs.Trees.{pointed-zero}
@@ -122,17 +120,26 @@ module _ (l : Layout) (words : Tables) (hart : ℕ) (holders : Holders) (tree : 
     pub goes-home : (spare : Option ℕ) → WaitsAtHome l hart e → words e.table (index_of e) ≡ Some word → edit_next e word spare ≡ next.More after → WaitsAtHome l hart after
     goes-home spare at read is = below-home at read (more-below spare (below_of e word) is)
 
-module _ (l : Layout) (words : Tables) (holders : Holders) (hart : ℕ) (wish : Wish) (store : Store) (e : IsEdit l words holders hart wish store) where
+-- a store that is due over a tree
+module _ (l : Layout) (fits : IsLayout l) (words : Tables) (holders : Holders) (tree : IsTree l words holders) (hart : ℕ) (wish : Wish) (has : HasPlace l (place_of wish)) (store : Store)
+    (is : edit_of l words (unused_spare l holders hart) hart wish ≡ Ok store) where
+  pub due-accepted : Accepted l words (unused_spare l holders hart) hart wish store
+  due-accepted = accepted l fits words holders tree (unused_spare l holders hart) hart wish store has is
+
+  at-home : Accepted l words (unused_spare l holders (home_of l (place_of wish))) (home_of l (place_of wish)) wish store
+  at-home = subst (λ h. Accepted l words (unused_spare l holders h) h wish store) due-accepted.home due-accepted
+
+  pub written-home : IsAtHome l hart store.ppn
+  written-home = let here = written-there l fits words holders tree wish has store at-home in subst (λ h. IsAtHome l h store.ppn) (sym due-accepted.home) here.home
+
   pub index-below : store.index < table_length
   index-below =
-      let acc = at-home l words holders hart wish store e in
-      let vpn = vpn-below (page_of wish).base (start_level l (place_of wish) - acc.depth) in
-      omega (arith, acc.index)
+      let vpn = vpn-below (page_of wish).base (start_level l (place_of wish) - at-home.depth) in
+      omega (arith, at-home.index)
 
   pub was-no-pointer : pointed (words store.ppn store.index) ≡ None
   was-no-pointer =
-      let acc = at-home l words holders hart wish store e in
-      ap pointed acc.word ∙ elim (leaf-or-pointer l e.layout (home_of l (place_of wish)) holders _ acc.old wish store.word acc.writes) [
+      ap pointed at-home.word ∙ elim (leaf-or-pointer l fits (home_of l (place_of wish)) holders _ at-home.old wish store.word at-home.writes) [
         | inl leaf ↦ leaf.was
         | inr p ↦ ap (λ w. pointed (Some w)) p.was ∙ pointed-zero
       ]
@@ -140,7 +147,7 @@ module _ (l : Layout) (words : Tables) (holders : Holders) (hart : ℕ) (wish : 
   -- a pointer that is stored is one to the spare frame
   by-writes : (level old word ppn : ℕ) (w : Wish) → Writes (unused_spare l holders hart) level old w word → pointed (Some word) ≡ Some ppn → unused_spare l holders hart ≡ Some ppn
   by-writes level old word ppn w (adds_table place page q flags frame above zero-word spare) points =
-      spare ∙ sym (pointed-table frame (is_kernel place) (fresh-range l e.layout hart holders frame (fresh-of l hart holders frame spare))) ∙ points
+      spare ∙ sym (pointed-table frame (is_kernel place) (fresh-range l fits hart holders frame (fresh-of l hart holders frame spare))) ∙ points
   by-writes level old word ppn w (adds_leaf place page q flags at zero-word ok fit aligned) points =
       absurd (let bad : None ≡ Some ppn = sym (ap pointed_kind (kind-stored q flags fit ok.byte ok.leaf)) ∙ points in cc)
   by-writes level old word ppn w (removes_leaf place page q f at is) points = absurd (let bad : None ≡ Some ppn = sym pointed-zero ∙ points in cc)
@@ -148,9 +155,7 @@ module _ (l : Layout) (words : Tables) (holders : Holders) (hart : ℕ) (wish : 
       absurd (let bad : None ≡ Some ppn = sym (ap pointed_kind (kind-stored q flags (leaf-ppn old q f is) ok.byte ok.leaf)) ∙ points in cc)
 
   pub points-to-spare : (ppn : ℕ) → pointed (Some store.word) ≡ Some ppn → unused_spare l holders hart ≡ Some ppn
-  points-to-spare ppn points =
-      let acc = edit-accepted l words holders hart wish store e in
-      by-writes _ acc.old store.word ppn wish acc.writes points
+  points-to-spare ppn points = by-writes _ due-accepted.old store.word ppn wish due-accepted.writes points
 
   pub points-to-frame : (ppn : ℕ) → pointed (Some store.word) ≡ Some ppn → IsTrue (is_frame l ppn)
   points-to-frame ppn points =

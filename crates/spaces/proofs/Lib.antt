@@ -4,6 +4,7 @@ pub mod Ends
 pub mod Homes
 pub mod Paths
 pub mod Stored
+pub mod WordLists
 pub mod Trees
 pub mod EntryWords
 pub mod Pointers

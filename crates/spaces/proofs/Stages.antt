@@ -142,7 +142,7 @@ module _ (e : EditStage) (words : Tables) (spare : Option ℕ) (word ppn index :
   pub read-there : words e.table (index_of e) ≡ Some word
   read-there = sym (ap (λ t. words t index) p ∙ ap (words e.table) i) ∙ is
 
-  goes-on : Continues e words spare (edit_next e word spare)
+  pub goes-on : Continues e words spare (edit_next e word spare)
   goes-on = continues e words spare word (sym (ap (λ o. unwrap_or o 0) read-there)) stage
 
   pub goes-below : (after : EditStage) → Some after ≡ below_of e word → (after.level + 1 ≡ e.level) × (answer_from after words spare ≡ answer_from e words spare)

@@ -1,6 +1,6 @@
 //! What memory is opened with, and its limits.
 
-ghost use Rattle.std.specs.Prelude.{◌≡◌, ◌+◌, ◌≤◌, ◌<◌, ◌^◌, ◌↔◌, IsTrue, ◌==◌, All, length, sum};
+ghost use Rattle.std.specs.Prelude.{◌≡◌, ◌+◌, ◌≤◌, ◌<◌, ◌^◌, ◌↔◌, IfSome, IsTrue, None, Some, ◌==◌, All, if◌then◌else◌, length, nat_lt, slice_index, sum};
 ghost use Rattle.std.specs.List.{list_any};
 ghost use Rattle.spaces.specs.Limits.{asids_differ, max_harts};
 
@@ -78,7 +78,7 @@ fn asids_differ(spaces: &[Space]) -> bool
 
 impl Config {
     ghost use Rattle.pte.specs.Entry.{ppn_bits};
-    ghost use Rattle.spaces.specs.Layout.{layout_of, frame_count, HasPlace, home_of};
+    ghost use Rattle.spaces.specs.Layout.{layout_of, frame_count, HasPlace, home_of, root_ppn, spare_ppn};
     ghost use Rattle.spaces.specs.Limits.{max_frames, max_live_frames, MeetsLimits};
 
     /// Whether the limits hold that the fields tell, with at most 512 table frames.
@@ -96,7 +96,7 @@ impl Config {
     }
 
     /// The number of table frames.
-    pub(crate) fn frame_count(&self) -> u64
+    pub fn frame_count(&self) -> u64
         ensures { result ≡ frame_count (layout_of self.now) }
     {
         u64::from(self.window) + self.spaces.len() as u64 + total(&self.spares)
@@ -120,6 +120,35 @@ impl Config {
         match place {
             Place::Space(space) => self.spaces[usize::from(space)].home,
             Place::Kernel => 0,
+        }
+    }
+
+    /// The PPN of the root of a space.
+    pub fn root(&self, space: u8) -> u64
+        requires limits { MeetsLimits max_frames self.now }
+        requires space { space < length self.now.spaces.items }
+        ensures value { result ≡ root_ppn (layout_of self.now) space }
+        ensures range { result < 2 ^ ppn_bits }
+    {
+        self.base + u64::from(self.window) + u64::from(space)
+    }
+
+    /// The PPN of the spare frame of a hart with this number, from 0 on, if it has so many.
+    #[tactic(auto, using(crate::proofs::Homes::sums))]
+    pub fn spare(&self, hart: u8, number: u16) -> Option<u64>
+        requires limits { MeetsLimits max_frames self.now }
+        requires hart { hart < length self.now.spares.items }
+        ensures value { result ≡ (if nat_lt number (slice_index self.now.spares.items hart) then Some (spare_ppn (layout_of self.now) hart + number) else None) }
+        ensures range { IfSome result (λ frame. frame < 2 ^ ppn_bits) }
+    {
+        let hart = usize::from(hart);
+        if number < self.spares[hart] {
+            let before = u64::from(self.window)
+                + self.spaces.len() as u64
+                + total(&self.spares[..hart]);
+            Some(self.base + before + u64::from(number))
+        } else {
+            None
         }
     }
 

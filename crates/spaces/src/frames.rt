@@ -79,7 +79,7 @@ fn copy_of(spares: &[u16]) -> ArrayVec<u16, MAX_HARTS>
 }
 
 /// The words of all frames at the opening, frame by frame.
-fn first_words(alloc: Global, config: &Config) -> Result<Vec<u64>, AllocError>
+pub fn first_words(alloc: Global, config: &Config) -> Result<Vec<u64>, AllocError>
     requires { MeetsLimits max_frames config.now }
     ensures { IfOk result (λ words. words.items ≡ first_words (layout_of config.now) (frame_count (layout_of config.now) * table_length)) }
 {
@@ -213,7 +213,7 @@ impl Memory {
 
     /// A word that is there.
     #[inline(always)]
-    #[tactic(auto, using(crate::proofs::Applying::in_memory), unfolding(crate::specs::Held::words_of))]
+    #[tactic(auto, using(crate::proofs::WordLists::in_memory), unfolding(crate::specs::Held::words_of))]
     pub(crate) fn word_there(&self, ppn: u64, index: u16) -> u64
         requires { is_word self.now.layout ppn index ≡ true }
         ensures { words_of self.now ppn index ≡ Some result }

@@ -23,7 +23,7 @@ pub use edit_walk_laws::{
 pub use edit_walks::{EditWalk, Next};
 pub use edits::{Edit, apply, next_map_edit, protect_edit, unmap_edit};
 pub use faults::{MapFault, OpenFault};
-pub use frames::Memory;
+pub use frames::{Memory, first_words};
 pub use laws::{
     edit_changes_its_page, edit_is_accepted, edit_keeps_tree, edit_stays_at_home,
     giving_back_empties_the_space, giving_back_empties_the_words, giving_back_keeps_tree,

@@ -1,0 +1,7 @@
+pub mod TableWords
+pub mod Readings
+pub mod Keeps
+pub mod WalkKeeps
+pub mod EditKeeps
+pub mod Goings
+pub mod Homeward

@@ -1,5 +1,5 @@
 -- A walk that stands on the path answers what the path leads to.
-use Rattle.std.proofs.Common.{◌≡◌, ℕ, ◌+◌, ◌-◌, Bool, Option, Some, None, Result, Ok, Err, IsTrue, ap, sym, ◌∙◌, subst, refl, inl, inr, arith}
+use Rattle.std.proofs.Common.{◌≡◌, ℕ, ◌+◌, ◌-◌, cond, Bool, true, false, Option, Some, None, Result, Ok, Err, IsTrue, ap, sym, ◌∙◌, subst, refl, inl, inr, arith}
 use Rattle.std.specs.Prelude.{◌↔◌, ◌||◌, ◌==◌}
 use Rattle.std.proofs.lemmas.Bool.{cases_lt, eqb-true, eqb-false, cond_both}
 use Rattle.pte.specs.declared.scheme.Scheme.{Scheme}
@@ -13,6 +13,8 @@ use Rattle.pte.proofs.EntryKinds.{Table-global, Leaf-global}
 use Rattle.walk.specs.declared.found_or_trap.Found.{Found}
 use Rattle.walk.specs.declared.found_or_trap.Trap.{Trap}
 use Rattle.walk.specs.declared.walking.Progress.{Progress}
+use Rattle.walk.specs.declared.walking.Progress.TheVariants as progress
+use Rattle.walk.specs.Pointers.{pointed, pointed_kind}
 use Rattle.walk.specs.Answer.{answer_at, kind_answer, leaf_answer}
 use Rattle.walk.specs.Stage.{Stage, start_of, OnPath, IsFor}
 use Rattle.walk.specs.Loads.{GoesOn}
@@ -114,3 +116,24 @@ outcome-same scheme words root s va access ctx answer same h =
 
 pub same-access : (next s : Stage) (va : ℕ) (access : Access) (ctx : Ctx) → IsFor next s.va s.access s.ctx → IsFor s va access ctx → IsFor next va access ctx
 same-access next s va access ctx a b = record { same_va = a.same_va ∙ b.same_va; same_access = a.same_access ∙ b.same_access; same_ctx = a.same_ctx ∙ b.same_ctx }
+
+-- a walk goes on where a word points
+ended-ends : (r : Result Found Trap) (next : Stage) → ended r ≡ progress.More next → ⊥
+ended-ends (Ok found) next e = cc
+ended-ends (Err trap) next e = cc
+
+more-kind : (s : Stage) (kind : Kind) (next : Stage) → step_of s kind ≡ progress.More next → pointed_kind kind ≡ Some next.table
+more-kind s kinds.Invalid next e = absurd (ended-ends (kind_answer s.va s.access s.ctx s.level s.global kinds.Invalid) next e)
+more-kind s kinds.Reserved next e = absurd (ended-ends (kind_answer s.va s.access s.ctx s.level s.global kinds.Reserved) next e)
+more-kind s (kinds.Leaf ppn flags) next e = absurd (ended-ends _ next e)
+more-kind s (kinds.Table ppn global) next e = by-level (s.level == 0) (kind_answer s.va s.access s.ctx s.level s.global (kinds.Table ppn global)) e
+  where
+    below : Stage
+    below = record { va = s.va; access = s.access; ctx = s.ctx; level = s.level - 1; table = ppn; global = s.global || global }
+
+    by-level : (b : Bool) (r : Result Found Trap) → cond b (ended r) (progress.More below) ≡ progress.More next → Some ppn ≡ Some next.table
+    by-level true r e = absurd (ended-ends r next e)
+    by-level false r e = let same : below ≡ next = cc in ap (λ (x : Stage). Some x.table) same
+
+pub more-points : (s : Stage) (word : ℕ) (next : Stage) → load_of s (Some word) ≡ progress.More next → pointed (Some word) ≡ Some next.table
+more-points s word next e = more-kind s (kind_of word) next e

@@ -1,0 +1,168 @@
+-- A whole walk, load by load.
+use Rattle.std.proofs.Common.{◌≡◌, ℕ, ◌+◌, ◌<◌, List, [], ◌∷◌, ◌++◌, length, Some, None, Ok, Err, sym, refl, ap, ◌∙◌, subst, inl, inr, arith, length-append}
+use Rattle.std.proofs.lemmas.Bool.{cases_lt}
+use Rattle.pte.specs.declared.permission.Access.{Access}
+use Rattle.pte.specs.declared.permission.Ctx.{Ctx}
+use Rattle.pte.specs.Address.{IsCanonical, top_level, vpn_of}
+use Rattle.walk.specs.declared.found_or_trap.Found.{Found}
+use Rattle.walk.specs.declared.found_or_trap.Trap.{Trap}
+use Rattle.walk.specs.declared.walking.Progress.{Progress}
+use Rattle.walk.specs.declared.walking.Progress.TheVariants as progress
+use Rattle.walk.specs.Leads.{Tables}
+use Rattle.walk.specs.Loads.{GoesOn}
+use Rattle.walk.specs.Pointers.{pointed}
+use Rattle.walk.specs.Stage.{Stage, start_of}
+use Rattle.walk.specs.Step.{load_of}
+use Rattle.walk.proofs.Ending.{goes-load, more-points, on_path-start, outcome-same, same-access}
+use Rattle.spaces.specs.Layout.{Layout, user_slots}
+use Rattle.spaces.specs.Held.{holders_of, words_of}
+use Rattle.spaces.specs.Tree.{IsAtHome, of_root, IsOwn, IsHome}
+use Rattle.spaces.proofs.Homes.{spare-home, spare-own}
+use Rattle.spaces.proofs.Trees.{pointed-zero}
+use Rattle.views.specs.declared.view.Read.{Read}
+use Rattle.views.specs.declared.view.View.{View}
+use Rattle.views.specs.Rule.{Has, Local, memory_of}
+use Rattle.views.specs.Turns.{asid_at, onward, read_of, walked, with_fill, IsStart, TellsLoad}
+use Rattle.views.specs.Walks.{IsHomePath, AnswersByLoads, IsGoing, IsGoingHome}
+use Rattle.views.proofs.EditKeeps.{local-home}
+use Rattle.views.proofs.Readings.{has-snoc, snoc-has}
+
+length-snoc : (rs : List Read) (r : Read) → length (rs ++ r ∷ []) ≡ length rs + 1
+length-snoc rs r = omega (arith, length-append rs (r ∷ []))
+
+module _ (l : Layout) (v : View) (local : Local l v) (root va : ℕ) (access : Access) (ctx : Ctx) where
+  pub is-start : (st : Stage) → IsCanonical l.scheme va → st ≡ start_of l.scheme root va access ctx → IsStart l.scheme root st
+  is-start st canonical is = subst (IsStart l.scheme root) (sym is) (record { canonical = canonical; is = refl })
+
+  tree : IsHome l (words_of (memory_of l v)) v.hart (holders_of (memory_of l v))
+  tree = local-home l v local
+
+  -- the root's slots below the window: those of the user's half are written by edits, and the others are 0
+  root-own : (s : ℕ) (own : IsHomePath l v root va s) (word : ℕ) → words_of (memory_of l v) root (vpn_of va (top_level l.scheme)) ≡ Some word
+      → (g : ℕ) → pointed (Some word) ≡ Some g → IsOwn l root (vpn_of va (top_level l.scheme))
+  root-own s own word read g points = elim (cases_lt (vpn_of va (top_level l.scheme)) user_slots) [
+    | inl low ↦ λ _. low
+    | inr high ↦
+        let zero-word : words_of (memory_of l v) root (vpn_of va (top_level l.scheme)) ≡ Some 0 =
+        ap (λ f. words_of (memory_of l v) f (vpn_of va (top_level l.scheme))) own.root_is ∙ tree.upper s (vpn_of va (top_level l.scheme)) own.has own.home high own.outside
+        in
+        absurd (let bad : None ≡ Some g = sym pointed-zero ∙ ap pointed (sym zero-word ∙ read) ∙ points in cc)
+  ]
+
+  begun-at : (word : ℕ) → IsCanonical l.scheme va → TellsLoad l v (start_of l.scheme root va access ctx) [] word
+      → IsGoing l v root va access ctx (start_of l.scheme root va access ctx) word (walked v root (start_of l.scheme root va access ctx) [] word)
+  begun-at word canonical tells = record {
+    about = record { same_va = refl; same_access = refl; same_ctx = refl };
+    on = λ words has. (on_path-start l.scheme words root va access ctx canonical, has.0);
+    frame = tells.frame;
+    some_memory = tells.some_memory;
+    at_home = λ s own.
+        let home : IsAtHome l v.hart root = of_root s own.has own.home own.root_is in
+        let read = tells.at_home home in
+        record { has = (read, tt); table = home; own = root-own s own word read };
+    stands = refl;
+    at_root = refl;
+    entries = refl;
+    count = refl;
+    depth = refl;
+    home = record { config = refl; next = refl; hart = refl; words = refl; holders = refl; used = refl; stores = refl; orders = refl };
+  }
+
+  pub begun : (st : Stage) (word : ℕ) (w : View) → IsCanonical l.scheme va → st ≡ start_of l.scheme root va access ctx → w ≡ walked v root st [] word → TellsLoad l v st [] word
+      → IsGoing l v root va access ctx st word w
+  begun st word w canonical is after tells =
+      let after' : w ≡ walked v root (start_of l.scheme root va access ctx) [] word = after ∙ ap (λ s. walked v root s [] word) is in
+      let tells' : TellsLoad l v (start_of l.scheme root va access ctx) [] word = subst (λ s. TellsLoad l v s [] word) is tells in
+      subst (λ s. IsGoing l v root va access ctx s word w) (sym is)
+      (subst (IsGoing l v root va access ctx (start_of l.scheme root va access ctx) word) (sym after') (begun-at word canonical tells'))
+
+  module _ (st : Stage) (word : ℕ) (w : View) (going : IsGoing l v root va access ctx st word w) where
+    goes : (words : Tables) → Has words w.reads → (made : Progress) → made ≡ load_of st (Some word) → GoesOn l.scheme words root st made
+    goes words has made is =
+        let on = going.on words has in
+        goes-load l.scheme words root st (Some word) st.table (vpn_of st.va st.level) made on.0 (sym on.1) refl refl is
+
+    pub lower : (next : Stage) → progress.More next ≡ load_of st (Some word) → next.level < st.level
+    lower next is = let g = goes going.some_memory.0 going.some_memory.1 (progress.More next) is in omega (arith, g.1)
+
+    pub walks-on : (next : Stage) → progress.More next ≡ load_of st (Some word) → w.walk ≡ Some next
+    walks-on next is = going.stands ∙ ap onward (sym is)
+
+    -- the words and the holders are those of the view before
+    memory-is : memory_of l w ≡ memory_of l v
+    memory-is = ap (λ ws. record { layout = l; words = ws; holders = w.holders }) going.home.words ∙ ap (λ hs. record { layout = l; words = v.words; holders = hs }) going.home.holders
+
+    home-on : (next : Stage) (found : ℕ) → progress.More next ≡ load_of st (Some word) → TellsLoad l w next w.reads found → IsGoingHome l v w st word
+        → IsGoingHome l v (walked w root next w.reads found) next found
+    home-on next found is tells old =
+        let here = going.on (words_of (memory_of l v)) old.has in
+        let points = more-points st word next (sym is) in
+        let step = tree.closed st.table (vpn_of st.va st.level) next.table old.table (old.own next.table points) (ap pointed here.1 ∙ points) in
+        let home = spare-home l v.hart (holders_of (memory_of l v)) step.place next.table step.to in
+        let read = ap (λ m. words_of m next.table (vpn_of next.va next.level)) (sym memory-is) ∙ tells.at_home (subst (λ h. IsAtHome l h next.table) (sym going.home.hart) home) in
+        record {
+          has = has-snoc (words_of (memory_of l v)) w.reads (read_of next found) old.has read;
+          table = home;
+          own = λ g e. subst (λ f. IsOwn l f (vpn_of next.va next.level)) (sym step.to.is) (spare-own l v.hart step.to.number _);
+        }
+
+    gone-to : (next : Stage) (found : ℕ) → progress.More next ≡ load_of st (Some word) → TellsLoad l w next w.reads found → IsGoing l v root va access ctx next found (walked w root next w.reads found)
+    gone-to next found is tells =
+        let some = goes going.some_memory.0 going.some_memory.1 (progress.More next) is in
+        record {
+          about = same-access next st va access ctx some.2 going.about;
+          on = λ words has.
+              let parts = snoc-has words w.reads (read_of next found) has in
+              let g = goes words parts.0 (progress.More next) is in
+              (g.0, parts.1);
+          frame = tells.frame;
+          some_memory = tells.some_memory;
+          at_home = λ s own. home-on next found is tells (going.at_home s own);
+          stands = refl;
+          at_root = refl;
+          entries =
+              ap (λ a. with_fill (asid_at a root) w.entries (load_of next (Some found))) going.home.config
+              ∙ ap (λ es. with_fill (asid_at v.config root) es (load_of next (Some found))) (going.entries ∙ ap (with_fill (asid_at v.config root) v.entries) (sym is));
+          count = omega (arith, going.count, length-snoc w.reads (read_of next found));
+          depth = omega (arith, going.depth, length-snoc w.reads (read_of next found), some.1);
+          home = record {
+            config = going.home.config;
+            next = going.home.next;
+            hart = going.home.hart;
+            words = going.home.words;
+            holders = going.home.holders;
+            used = going.home.used;
+            stores = going.home.stores;
+            orders = going.home.orders;
+          };
+        }
+
+    pub gone : (next : Stage) (found : ℕ) (w' : View) → progress.More next ≡ load_of st (Some word) → w' ≡ walked w root next w.reads found → TellsLoad l w next w.reads found
+        → IsGoing l v root va access ctx next found w'
+    gone next found w' is after tells = subst (IsGoing l v root va access ctx next found) (sym after) (gone-to next found is tells)
+
+    pub found-at : (found : Found) → progress.Found found ≡ load_of st (Some word) → AnswersByLoads l v root va access ctx (Ok found) w
+    found-at found is = record {
+      some_memory = going.some_memory;
+      each_memory = λ words has. outcome-same l.scheme words root st va access ctx (Ok found) going.about (goes words has (progress.Found found) is);
+      read_back = λ s own.
+          let old = going.at_home s own in
+          outcome-same l.scheme (words_of (memory_of l v)) root st va access ctx (Ok found) going.about (goes (words_of (memory_of l v)) old.has (progress.Found found) is);
+      count = going.count;
+      few = omega (arith, going.depth);
+      entries = going.entries ∙ ap (with_fill (asid_at v.config root) v.entries) (sym is);
+      home = going.home;
+    }
+
+    pub trap-at : (trap : Trap) → progress.Trap trap ≡ load_of st (Some word) → AnswersByLoads l v root va access ctx (Err trap) w
+    trap-at trap is = record {
+      some_memory = going.some_memory;
+      each_memory = λ words has. outcome-same l.scheme words root st va access ctx (Err trap) going.about (goes words has (progress.Trap trap) is);
+      read_back = λ s own.
+          let old = going.at_home s own in
+          outcome-same l.scheme (words_of (memory_of l v)) root st va access ctx (Err trap) going.about (goes (words_of (memory_of l v)) old.has (progress.Trap trap) is);
+      count = going.count;
+      few = omega (arith, going.depth);
+      entries = going.entries ∙ ap (with_fill (asid_at v.config root) v.entries) (sym is);
+      home = going.home;
+    }

@@ -1,0 +1,49 @@
+-- An edit over a view reads words at home alone.
+use Rattle.std.proofs.Common.{◌≡◌, ℕ, ◌<◌, Option, Some, Ok, Err, sym, ap, ◌∙◌, subst, arith}
+use Rattle.spaces.specs.declared.faults.MapFault.{MapFault}
+use Rattle.spaces.specs.declared.wishes.Wish.{Wish}
+use Rattle.spaces.specs.declared.edit_walks.Next.{Next}
+use Rattle.spaces.specs.declared.edit_walks.Next.TheVariants as next
+use Rattle.spaces.specs.Layout.{Layout, HasPlace}
+use Rattle.spaces.specs.Held.{holders_of, spare_of, words_of}
+use Rattle.spaces.specs.Edits.{EditStage, IsStage, Store, place_of}
+use Rattle.spaces.specs.EditStages.{Continues, answer_of, edit_next, edit_start, index_of}
+use Rattle.spaces.proofs.HomeReads.{goes-home, starts-home}
+use Rattle.spaces.proofs.Stages.{begun-as, goes-on, read-there}
+use Rattle.views.specs.declared.view.View.{View}
+use Rattle.views.specs.Rule.{Local, memory_of}
+use Rattle.views.specs.Edits.{edit_over, IsReading}
+use Rattle.views.proofs.EditKeeps.{local-home}
+
+module _ (l : Layout) (v : View) (local : Local l v) (wish : Wish) (spare : Option ℕ) (spare-is : spare ≡ spare_of (memory_of l v) v.hart) where
+  pub begins-ok : (e : EditStage) → HasPlace l (place_of wish) → Ok e ≡ edit_start l v.hart wish → IsReading l v wish spare e
+  begins-ok e has is = record {
+    waits = starts-home (memory_of l v) local.memory v.hart wish e has is;
+    end = ap (answer_of (Ok e) (words_of (memory_of l v))) spare-is ∙ begun-as (memory_of l v) local.memory v.hart wish (Ok e) is;
+  }
+
+  pub begins-err : (fault : MapFault) → Err fault ≡ edit_start l v.hart wish → Err fault ≡ edit_over l v wish
+  begins-err fault is = begun-as (memory_of l v) local.memory v.hart wish (Err fault) is
+
+module _ (l : Layout) (v : View) (local : Local l v) (wish : Wish) (spare : Option ℕ) (e : EditStage) (reading : IsReading l v wish spare e) (stage : IsStage e) (table index word : ℕ)
+    (p : table ≡ e.table) (i : index ≡ index_of e) (read : words_of (memory_of l v) table index ≡ Some word) where
+  goes : (made : Next) → made ≡ edit_next e word spare → Continues e (words_of (memory_of l v)) spare made
+  goes made is = subst (Continues e (words_of (memory_of l v)) spare) (sym is) (goes-on e (words_of (memory_of l v)) spare word table index stage p i read)
+
+  pub reads-on : (after : EditStage) → next.More after ≡ edit_next e word spare → IsReading l v wish spare after × (after.level < e.level)
+  reads-on after is =
+      let on = goes (next.More after) is in (
+        record {
+          waits =
+              goes-home l (words_of (memory_of l v)) v.hart (holders_of (memory_of l v)) (local-home l v local) e word after spare reading.waits
+              (read-there e (words_of (memory_of l v)) spare word table index stage p i read) (sym is);
+          end = on.3 ∙ reading.end;
+        },
+        omega (arith, on.2),
+      )
+
+  pub ends-store : (store : Store) → next.Edit store ≡ edit_next e word spare → edit_over l v wish ≡ Ok store
+  ends-store store is = sym reading.end ∙ goes (next.Edit store) is
+
+  pub ends-fault : (fault : MapFault) → next.Refused fault ≡ edit_next e word spare → edit_over l v wish ≡ Err fault
+  ends-fault fault is = sym reading.end ∙ goes (next.Refused fault) is
