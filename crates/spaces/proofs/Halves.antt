@@ -89,11 +89,17 @@ high_address Sv39 va n (inr high) e slot = omega (arith, high.0, high.1, e, slot
 high_address Sv48 va n (inl low) e slot = absurd (omega (arith, low, e, slot))
 high_address Sv48 va n (inr high) e slot = omega (arith, high.0, high.1, e, slot)
 
+-- the parts of a page of the user's half
+low_page : (scheme : Scheme) (page : Span) (n : ℕ) → IsPageOf scheme page → vpn_of page.base (top_level scheme) < user_slots → IsPart page n → n < half_end scheme
+low_page scheme page n of low at = low_part scheme page.base page.size n of.level of.canonical of.aligned low at.below
+
+pub low_part_slot : (scheme : Scheme) (page : Span) (n : ℕ) → IsPageOf scheme page → vpn_of page.base (top_level scheme) < user_slots → IsPart page n
+    → vpn_of (n * bytes_of Kib4) (top_level scheme) < user_slots
+low_part_slot scheme page n of low at = let slot = part_slot scheme page n of at in omega (arith, slot, low)
+
 module _ (l : Layout) (layout : IsLayout l) where
   pub in_user : (s : ℕ) (page : Span) (n : ℕ) → IsPage page → is_wrong_half l (Space s) page ≡ false → IsPart page n → n < half_end l.scheme
-  in_user s page n is half at =
-      let of = fit-page l (Space s) page half is in
-      low_part l.scheme page.base page.size n of.level of.canonical of.aligned (within l (Space s) page half) at.below
+  in_user s page n is half at = low_page l.scheme page n (fit-page l (Space s) page half is) (within l (Space s) page half) at
 
   pub in_window : (page : Span) (n : ℕ) → IsPage page → is_wrong_half l Kernel page ≡ false → IsPart page n → half_end l.scheme ≤ n
   in_window page n is half at =
@@ -108,10 +114,7 @@ module _ (l : Layout) (layout : IsLayout l) where
       let low = in_user s page n is half at in let high = in_window window n is' half' at' in omega arith
 
   pub low_slot : (s : ℕ) (page : Span) (n : ℕ) → IsPage page → is_wrong_half l (Space s) page ≡ false → IsPart page n → vpn_of (n * bytes_of Kib4) (top_level l.scheme) < user_slots
-  low_slot s page n is half at =
-      let slot = part_slot l.scheme page n (fit-page l (Space s) page half is) at in
-      let low = within l (Space s) page half in
-      omega (arith, slot, low)
+  low_slot s page n is half at = low_part_slot l.scheme page n (fit-page l (Space s) page half is) (within l (Space s) page half) at
 
   pub high_slot : (page : Span) (n : ℕ) → IsPage page → is_wrong_half l Kernel page ≡ false → IsPart page n → user_slots ≤ vpn_of (n * bytes_of Kib4) (top_level l.scheme)
   high_slot page n is half at =

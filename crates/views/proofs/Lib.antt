@@ -5,3 +5,7 @@ pub mod WalkKeeps
 pub mod EditKeeps
 pub mod Goings
 pub mod Homeward
+pub mod OrderKeeps
+pub mod RealTree
+pub mod MappedAtHome
+pub mod Fills
