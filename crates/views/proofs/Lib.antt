@@ -9,3 +9,5 @@ pub mod OrderKeeps
 pub mod RealTree
 pub mod MappedAtHome
 pub mod Fills
+pub mod StoreKeeps
+pub mod CellKeeps
