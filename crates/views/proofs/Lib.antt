@@ -5,3 +5,4 @@ pub mod WalkKeeps
 pub mod EditKeeps
 pub mod Goings
 pub mod Homeward
+pub mod Pairs

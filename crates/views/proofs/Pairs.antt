@@ -1,0 +1,45 @@
+-- Each kind of step keeps the whole rule.
+use Rattle.std.proofs.Common.{◌≡◌, ℕ, ◌<◌, true, List, [], Option, Some, Ok, length}
+use Rattle.std.specs.Prelude.{slice_index}
+use Rattle.atomic_table.specs.Table.{State}
+use Rattle.pte.specs.Address.{table_length, vpn_of}
+use Rattle.walk.specs.Stage.{Stage}
+use Rattle.spaces.specs.declared.configuration.Config.{Config}
+use Rattle.spaces.specs.declared.wishes.Wish.{Wish}
+use Rattle.spaces.specs.Layout.{HasPlace, is_frame, layout_of}
+use Rattle.spaces.specs.Held.{word_index, words_of}
+use Rattle.spaces.specs.Edits.{Store, place_of}
+use Rattle.spaces.specs.Tree.{IsAtHome}
+use Rattle.views.specs.declared.view.Order.{Order}
+use Rattle.views.specs.declared.view.View.{View}
+use Rattle.views.specs.Rule.{memory_of}
+use Rattle.views.specs.Board.{Board, Steps}
+use Rattle.views.specs.Turns.{edited, walked, IsStart, TellsLoad}
+use Rattle.views.specs.Edits.{edit_over}
+use Rattle.views.proofs.WalkKeeps.{begun-walk, own-walk, read-keeps, read-tells, walk-keeps, walk-tells}
+use Rattle.views.proofs.EditKeeps.{edit-keeps}
+
+module _ (c : Config) (id : ℕ) (v : View) where
+  -- the first load of a walk
+  pub begins : (root : ℕ) (st : Stage) → is_frame (layout_of c) st.table ≡ true → IsStart c.scheme root st
+      → Steps c id v (word_index (layout_of c) st.table (vpn_of st.va st.level)) (λ n. n) (walked v root st []) (TellsLoad (layout_of c) v st [])
+  begins root st frame start s b at fits =
+      let walk = begun-walk c s b.tables id v at root st start in
+      (record { tables = walk-keeps c s b.tables id v at root st [] frame walk }, walk-tells c s b.tables id v at root st [] frame walk)
+
+  -- a further load
+  pub goes : (root : ℕ) (st : Stage) → is_frame (layout_of c) st.table ≡ true → v.walk ≡ Some st → v.root ≡ root
+      → Steps c id v (word_index (layout_of c) st.table (vpn_of st.va st.level)) (λ n. n) (walked v root st v.reads) (TellsLoad (layout_of c) v st v.reads)
+  goes root st frame walking same s b at fits =
+      let walk = own-walk c s b.tables id v at root st walking same in
+      (record { tables = walk-keeps c s b.tables id v at root st v.reads frame walk }, walk-tells c s b.tables id v at root st v.reads frame walk)
+
+  -- a home's reading of a word of its own
+  pub home-reads : (f i : ℕ) → IsAtHome (layout_of c) v.hart f → i < table_length
+      → Steps c id v (word_index (layout_of c) f i) (λ n. n) (λ _. v) (λ n. words_of (memory_of (layout_of c) v) f i ≡ Some n)
+  home-reads f i home less s b at fits = (record { tables = read-keeps c s b.tables id v at f i home less }, read-tells c s b.tables id v at f i home less)
+
+  -- the store of an edit by its home
+  pub edits : (wish : Wish) (store : Store) → HasPlace (layout_of c) (place_of wish) → edit_over (layout_of c) v wish ≡ Ok store
+      → Steps c id v (word_index (layout_of c) store.ppn store.index) (λ _. store.word) (λ _. edited (layout_of c) v store v.orders) (λ _. Unit {0})
+  edits wish store has is s b at fits = (record { tables = edit-keeps c s b.tables id v at wish has store is v.orders }, tt)
