@@ -5,4 +5,5 @@ pub mod WalkKeeps
 pub mod EditKeeps
 pub mod Goings
 pub mod Homeward
+pub mod Deals
 pub mod Pairs

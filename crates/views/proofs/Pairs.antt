@@ -1,23 +1,27 @@
 -- Each kind of step keeps the whole rule.
-use Rattle.std.proofs.Common.{◌≡◌, ℕ, ◌<◌, true, List, [], Option, Some, Ok, length}
-use Rattle.std.specs.Prelude.{slice_index}
-use Rattle.atomic_table.specs.Table.{State}
+use Rattle.std.proofs.Common.{◌≡◌, ℕ, ◌<◌, true, List, [], ◌∷◌, ◌++◌, Option, Some, Ok, length}
+use Rattle.std.specs.Prelude.{slice_index, slice_set}
+use mathlib.Core.Option.{some}
+use lib.ListN.{get_elem?}
+use Rattle.atomic_table.specs.Table.{State, opening as at_start}
 use Rattle.pte.specs.Address.{table_length, vpn_of}
 use Rattle.walk.specs.Stage.{Stage}
 use Rattle.spaces.specs.declared.configuration.Config.{Config}
 use Rattle.spaces.specs.declared.wishes.Wish.{Wish}
 use Rattle.spaces.specs.Layout.{HasPlace, is_frame, layout_of}
+use Rattle.spaces.specs.Limits.{MeetsLimits, max_live_frames}
 use Rattle.spaces.specs.Held.{word_index, words_of}
 use Rattle.spaces.specs.Edits.{Store, place_of}
 use Rattle.spaces.specs.Tree.{IsAtHome}
 use Rattle.views.specs.declared.view.Order.{Order}
 use Rattle.views.specs.declared.view.View.{View}
-use Rattle.views.specs.Rule.{memory_of}
+use Rattle.views.specs.Rule.{board_words, dealer, dealt, first_view, memory_of}
 use Rattle.views.specs.Board.{Board, Steps}
 use Rattle.views.specs.Turns.{edited, walked, IsStart, TellsLoad}
 use Rattle.views.specs.Edits.{edit_over}
 use Rattle.views.proofs.WalkKeeps.{begun-walk, own-walk, read-keeps, read-tells, walk-keeps, walk-tells}
 use Rattle.views.proofs.EditKeeps.{edit-keeps}
+use Rattle.views.proofs.Deals.{deal-keeps, open-keeps}
 
 module _ (c : Config) (id : ℕ) (v : View) where
   -- the first load of a walk
@@ -43,3 +47,10 @@ module _ (c : Config) (id : ℕ) (v : View) where
   pub edits : (wish : Wish) (store : Store) → HasPlace (layout_of c) (place_of wish) → edit_over (layout_of c) v wish ≡ Ok store
       → Steps c id v (word_index (layout_of c) store.ppn store.index) (λ _. store.word) (λ _. edited (layout_of c) v store v.orders) (λ _. Unit {0})
   edits wish store has is s b at fits = (record { tables = edit-keeps c s b.tables id v at wish has store is v.orders }, tt)
+
+pub opens : (c : Config) → MeetsLimits max_live_frames c → Board c (at_start (board_words (layout_of c)) [] (first_view c))
+opens c limits = record { tables = open-keeps c limits }
+
+pub deals-seat : (c : Config) (id : ℕ) (v : View) → 0 < v.next → v.next < length (layout_of c).spares → (s : State ℕ View) → Board c s → get_elem? s.views id ≡ some v
+    → Board c record { words = s.words; homes = s.homes; views = slice_set s.views id (dealer v) ++ dealt v ∷ [] }
+deals-seat c id v some' room s b at = record { tables = deal-keeps c id v some' room s b.tables at }

@@ -2,12 +2,14 @@
 #![tactic(auto)]
 
 mod edits;
+mod opening;
 mod rule;
 mod steps;
 mod view;
 mod walks;
 
 pub use edits::decide;
+pub use opening::{deal, open};
 pub use rule::{Deal, Memory, Place, Rule, To, Turn, Words};
 pub use steps::{load_first, load_next, read_home, store_edit};
 pub use view::{Cause, Order, Read, View};
