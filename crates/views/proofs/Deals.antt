@@ -1,5 +1,5 @@
 -- The rule of the table words at the opening, and with a seat that is dealt.
-use Rattle.std.proofs.Common.{◌≡◌, ◌≢◌, ◌⊎◌, ℕ, zero, suc, ◌*◌, ◌+◌, ◌<◌, ◌≤◌, List, [], ◌∷◌, ◌++◌, length, Option, Some, None, sym, refl, ap, ◌∙◌, subst, ⊎_elim, inl, inr, arith, append_assoc}
+use Rattle.std.proofs.Common.{◌≡◌, ◌≢◌, ◌⊎◌, ℕ, zero, suc, ◌*◌, ◌+◌, ◌<◌, ◌≤◌, List, [], ◌∷◌, ◌++◌, length, Some, None, sym, refl, ap, ◌∙◌, subst, ⊎_elim, inl, inr, arith}
 use Rattle.std.specs.Prelude.{slice_set, replicate}
 use Rattle.std.proofs.lemmas.Bool.{cases_lt}
 use mathlib.Core.Option.{some, some-injective, some-ne-none}
@@ -22,13 +22,6 @@ use Rattle.views.specs.declared.view.View.{View}
 use Rattle.views.specs.Rule.{size, tickets, board_size, board_words, Sits, seated, waits, tables_in, starting, first_view, dealer, dealt, Local, Seated, Tabled}
 use Rattle.views.proofs.Keeps.{below}
 use Rattle.views.proofs.EditKeeps.{live-layout, live-limits}
-
-zeros-snoc : (n : ℕ) → ◌≡◌ {A = List ℕ} (replicate n 0 ++ 0 ∷ []) (replicate (suc n) 0)
-zeros-snoc zero = refl
-zeros-snoc (suc n) = ap (λ (l : List ℕ). 0 ∷ l) (zeros-snoc n)
-
-pub one-more-cell : (xs : List ℕ) (n : ℕ) → (xs ++ replicate n 0) ++ 0 ∷ [] ≡ xs ++ replicate (suc n) 0
-one-more-cell xs n = append_assoc xs (replicate n 0) (0 ∷ []) ∙ ap (λ l. xs ++ l) (zeros-snoc n)
 
 length-zeros : (n : ℕ) → length {A = ℕ} (replicate n 0) ≡ n
 length-zeros zero = refl
@@ -172,7 +165,7 @@ module _ (c : Config) (id : ℕ) (v : View) (some' : 0 < v.next) (room : v.next 
   sits-more : (h : ℕ) → Sits s.views h → Sits more h
   sits-more h (seated j u here is) = dite (ℕ_discrete j id)
       (λ (e : j ≡ id). let same : v ≡ u = some-injective v u (sym at ∙ ap (λ n. get_elem? s.views n) (sym e) ∙ here) in
-          seated id (dealer v) (at_longer (slice_set s.views id (dealer v)) (dealt v ∷ []) id (dealer v) (set_here s.views id (dealer v) (below s.views id v at))) (ap (λ (z : View). z.hart) same ∙ is))
+      seated id (dealer v) (at_longer (slice_set s.views id (dealer v)) (dealt v ∷ []) id (dealer v) (set_here s.views id (dealer v) (below s.views id v at))) (ap (λ (z : View). z.hart) same ∙ is))
       (λ (n : j ≢ id). seated j u (at_longer (slice_set s.views id (dealer v)) (dealt v ∷ []) j u (set_else s.views id j (dealer v) n ∙ here)) is)
   sits-more h (waits j u here more-next from) =
       let mine : j ≡ id = sym ((b.deals id j v u at here some').1 more-next) in
@@ -181,7 +174,7 @@ module _ (c : Config) (id : ℕ) (v : View) (some' : 0 < v.next) (room : v.next 
       dite (ℕ_discrete v.next h)
       (λ (e : v.next ≡ h). seated (length (slice_set s.views id (dealer v))) (dealt v) (at_last (slice_set s.views id (dealer v)) (dealt v) (length (slice_set s.views id (dealer v))) refl) e)
       (λ (n : v.next ≢ h). waits id (dealer v) (at_longer (slice_set s.views id (dealer v)) (dealt v ∷ []) id (dealer v) (set_here s.views id (dealer v) (below s.views id v at))) (omega arith)
-          (elim (cases_lt v.next h) [ | inl less ↦ omega arith | inr above ↦ absurd (n (omega arith)) ]))
+      (elim (cases_lt v.next h) [ inl less ↦ omega arith | inr above ↦ absurd (n (omega arith)) ]))
 
   pub deal-keeps : Tabled c record { words = s.words; homes = s.homes; views = more }
   deal-keeps = record {

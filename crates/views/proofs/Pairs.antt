@@ -1,6 +1,6 @@
 -- Each kind of step keeps the whole rule.
-use Rattle.std.proofs.Common.{◌≡◌, ℕ, ◌<◌, true, List, [], ◌∷◌, ◌++◌, Option, Some, Ok, length}
-use Rattle.std.specs.Prelude.{slice_index, slice_set}
+use Rattle.std.proofs.Common.{◌≡◌, ℕ, ◌<◌, true, [], ◌∷◌, ◌++◌, Some, Ok, length}
+use Rattle.std.specs.Prelude.{slice_set}
 use mathlib.Core.Option.{some}
 use lib.ListN.{get_elem?}
 use Rattle.atomic_table.specs.Table.{State, opening as at_start}
@@ -13,7 +13,6 @@ use Rattle.spaces.specs.Limits.{MeetsLimits, max_live_frames}
 use Rattle.spaces.specs.Held.{word_index, words_of}
 use Rattle.spaces.specs.Edits.{Store, place_of}
 use Rattle.spaces.specs.Tree.{IsAtHome}
-use Rattle.views.specs.declared.view.Order.{Order}
 use Rattle.views.specs.declared.view.View.{View}
 use Rattle.views.specs.Rule.{board_words, dealer, dealt, first_view, memory_of}
 use Rattle.views.specs.Board.{Board, Steps}

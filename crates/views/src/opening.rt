@@ -6,11 +6,12 @@ ghost use Rattle.spaces.specs.Layout.{layout_of};
 ghost use Rattle.views.specs.Rule.{board_words, dealer, dealt, first_view, IsFit};
 
 use crate::rule::{Deal, Memory, Place, Words};
+use shoot::MAX_TICKETS;
 use spaces::{Config, first_words};
 use std::alloc::{AllocError, Global};
 
 /// How many tickets a hart has.
-pub(crate) const TICKETS: u64 = 64;
+pub(crate) const TICKETS: u64 = MAX_TICKETS as u64;
 
 /// The words of all frames at the opening, and the cells, which are 0.
 fn board_words(alloc: Global, config: &Config) -> Result<Vec<u64>, AllocError>
