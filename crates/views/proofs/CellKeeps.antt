@@ -1,8 +1,8 @@
 -- Arming a cell, acknowledging, and looking at a cell keep the rule.
-use Rattle.std.proofs.Common.{◌≡◌, ◌≢◌, ◌⊎◌, ℕ, zero, suc, ◌+◌, ◌*◌, ◌==◌, ◌<◌, ◌≤◌, ◌^◌, ◌&&◌, not, Bool, true, false, cond, List, [], ◌∷◌, length, Some, None, sym, refl, ap, ◌∙◌, subst, inl, inr, arith, length-set, get_or-set_other, get_or-set_same, mul-le-mul_left, mul-le-mul_right, suc-mul}
+use Rattle.std.proofs.Common.{◌≡◌, ◌≢◌, ◌⊎◌, ℕ, zero, suc, ◌+◌, ◌*◌, ◌==◌, ◌<◌, ◌≤◌, ◌^◌, ◌&&◌, not, Bool, true, false, cond, List, [], ◌∷◌, length, Option, Some, None, sym, refl, ap, ◌∙◌, subst, inl, inr, arith, length-set, get_or-set_other, get_or-set_same, mul-le-mul_left, mul-le-mul_right, suc-mul}
 use Rattle.std.specs.Prelude.{slice_index, slice_set}
 use Rattle.std.proofs.lemmas.List.{set-get_or}
-use Rattle.std.proofs.lemmas.Bool.{and_parts, eqb-true, or_cases}
+use Rattle.std.proofs.lemmas.Bool.{eqb-true, or_cases}
 use mathlib.Core.Logic.{dite}
 use mathlib.Core.Option.{some, some-injective, some-ne-none}
 use native.Mathlib.Decide.{ℕ_discrete}
@@ -27,15 +27,15 @@ use Rattle.tlb.proofs.Mapped.{served_global_page, served_space_page}
 use Rattle.views.specs.declared.view.Cause.TheVariants.{Unmapped}
 use Rattle.views.specs.declared.view.Order.{Order}
 use Rattle.views.specs.declared.view.View.{View}
-use Rattle.views.specs.Rule.{board_size, cell, memory_of, size, tables_in, tickets, Seated, Tabled}
+use Rattle.views.specs.Rule.{board_size, cell, memory_of, size, tickets, Seated, Tabled}
 use Rattle.shoot.specs.Acknowledgement.{IsAskable, acknowledgement}
-use Rattle.shoot.proofs.AcknowledgementWords.{not_zero, same_what}
+use Rattle.shoot.proofs.AcknowledgementWords.{not_zero}
 use Rattle.views.specs.Orders.{asid_for, asid_in, asked, dropping, is_in, IsLive, Misses, IsClean, Kept, ArePlain, Ordered}
 use Rattle.views.specs.Board.{Board, Steps}
-use Rattle.views.specs.OrderTurns.{armed, collected, dropped, for_ticket, looked, self_acked, self_collected, with_armed}
-use Rattle.views.proofs.Fills.{page-of, user-page}
+use Rattle.views.specs.OrderTurns.{IsAsking, IsAwaiting, armed, collected, dropped, for_ticket, looked, open_order, self_acked, with_armed, with_collected}
+use Rattle.views.proofs.Fills.{user-page}
 use Rattle.views.proofs.Keeps.{keeps-load}
-use Rattle.views.proofs.OrderKeeps.{Change, stays, clears, acks, receiver, clean-mine, stands, keeps-orders}
+use Rattle.views.proofs.OrderKeeps.{Change, stays, clears, acks, receiver, clean-mine, idle-orders, stands, keeps-orders}
 use Rattle.spaces.proofs.WordLists.{list-behind}
 
 -- the words of cells are of no table
@@ -60,19 +60,23 @@ cell-inside l s t h a b d =
     let three : suc (s * tickets + t) * length l.spares ≤ (length l.spares * tickets) * length l.spares = mul-le-mul_right (length l.spares) two in
     omega (arith, suc-mul (s * tickets + t) (length l.spares))
 
--- an order after a change of one
+-- an order after a change of the open one of a ticket
 for-ticket : (ticket : ℕ) (f : Order → Order) (ks : List Order) (n : ℕ) (k : Order) → get_elem? (for_ticket ticket f ks) n ≡ some k
-    → (k0 : Order) × (get_elem? ks n ≡ some k0) × ((k0 ≡ k) ⊎ ((k0.ticket ≡ ticket) × (f k0 ≡ k)))
+    → (k0 : Order) × (get_elem? ks n ≡ some k0) × ((k0 ≡ k) ⊎ ((k0.ticket ≡ ticket) × (f k0 ≡ k) × (open_order ticket ks ≡ Some k0)))
 for-ticket ticket f [] n k e = absurd (some-ne-none k (sym e))
 for-ticket ticket f (x ∷ xs) n k e = by (x.ticket == ticket) refl n e (λ m at. for-ticket ticket f xs m k at)
   where
     by : (t : Bool) → (x.ticket == ticket) ≡ t → (n : ℕ) → get_elem? (cond t (f x ∷ xs) (x ∷ for_ticket ticket f xs)) n ≡ some k
-        → ((m : ℕ) → get_elem? (for_ticket ticket f xs) m ≡ some k → (k0 : Order) × (get_elem? xs m ≡ some k0) × ((k0 ≡ k) ⊎ ((k0.ticket ≡ ticket) × (f k0 ≡ k))))
-        → (k0 : Order) × (get_elem? (x ∷ xs) n ≡ some k0) × ((k0 ≡ k) ⊎ ((k0.ticket ≡ ticket) × (f k0 ≡ k)))
-    by true is zero at more = (x, refl, inr (eqb-true x.ticket ticket is, some-injective (f x) k at))
+        → ((m : ℕ) → get_elem? (for_ticket ticket f xs) m ≡ some k
+        → (k0 : Order) × (get_elem? xs m ≡ some k0) × ((k0 ≡ k) ⊎ ((k0.ticket ≡ ticket) × (f k0 ≡ k) × (open_order ticket xs ≡ Some k0))))
+        → (k0 : Order) × (get_elem? (x ∷ xs) n ≡ some k0) × ((k0 ≡ k) ⊎ ((k0.ticket ≡ ticket) × (f k0 ≡ k) × (cond t (Some x) (open_order ticket xs) ≡ Some k0)))
+    by true is zero at more = (x, refl, inr (eqb-true x.ticket ticket is, some-injective (f x) k at, refl))
     by true is (suc n) at more = (k, at, inl refl)
     by false is zero at more = (x, refl, inl (some-injective x k at))
     by false is (suc n) at more = more n at
+
+some-one : (a d : Order) (o : Option Order) → o ≡ Some a → o ≡ Some d → a ≡ d
+some-one a d o e e' = let same : Some a ≡ Some d = sym e ∙ e' in cc
 
 module _ (c : Config) (id : ℕ) (v : View) where
   -- arming: the sender stores 0
@@ -202,21 +206,20 @@ module _ (c : Config) (id : ℕ) (v : View) where
       )
 
   -- looking at a cell
-  module _ (ticket from : ℕ) (small : from < length (layout_of c).spares) (s : State ℕ View) (b : Tabled c s) (o : Ordered c s) (at : get_elem? s.views id ≡ some v) where
-    abbrev found-word : ℕ
-    found-word = slice_index s.words (cell (layout_of c) v.hart ticket from)
-
+  module _ (ticket from : ℕ) (what : What) (small : from < length (layout_of c).spares) (awaits : IsAwaiting c v ticket from what) (s : State ℕ View) (b : Tabled c s) (o : Ordered c s)
+      (at : get_elem? s.views id ≡ some v) (found : slice_index s.words (cell (layout_of c) v.hart ticket from) ≡ acknowledgement what) where
     abbrev looked-views : List View
-    looked-views = slice_set s.views id (looked c ticket from v found-word)
+    looked-views = slice_set s.views id (with_collected ticket from v)
 
-    collected-order : (k : Order) → k.ticket ≡ ticket → (place : Place) (page : Span) → k.cause ≡ Unmapped place page → Kept c s.words looked-views v.hart (memory_of (layout_of c) v) k place page
-        → Kept c s.words looked-views v.hart (memory_of (layout_of c) v) (collected c from found-word k) place page
-    collected-order k same place page cause t = by (is_in from k.armed && (found-word == acknowledgement (asked c k.cause))) refl
-      where
-        by : (q : Bool) → (is_in from k.armed && (found-word == acknowledgement (asked c k.cause))) ≡ q
-            → Kept c s.words looked-views v.hart (memory_of (layout_of c) v) (cond q (record k { collected = from ∷ k.collected }) k) place page
-        by false e = t
-        by true e = record {
+    collected-order : (k : Order) → k.ticket ≡ ticket → open_order ticket v.orders ≡ Some k → (place : Place) (page : Span) → k.cause ≡ Unmapped place page
+        → Kept c s.words looked-views v.hart (memory_of (layout_of c) v) k place page → Kept c s.words looked-views v.hart (memory_of (layout_of c) v) (collected from k) place page
+    collected-order k same first place page cause t =
+        let mine : awaits.asking.order ≡ k = some-one awaits.asking.order k (open_order ticket v.orders) awaits.asking.is first in
+        let armed-for : is_in from k.armed ≡ true = ap (λ (z : Order). is_in from z.armed) (sym mine) ∙ awaits.armed in
+        let asks : what ≡ dropping c place page = sym awaits.asking.asks ∙ ap (λ (z : Order). asked c z.cause) mine ∙ ap (asked c) cause in
+        let now : slice_index s.words (cell (layout_of c) v.hart k.ticket from) ≡ acknowledgement (dropping c place page) =
+        ap (λ n. slice_index s.words (cell (layout_of c) v.hart n from)) same ∙ found ∙ ap acknowledgement asks in
+        record {
           has = t.has;
           at_home = t.at_home;
           right_half = t.right_half;
@@ -224,58 +227,54 @@ module _ (c : Config) (id : ℕ) (v : View) where
           unmapped = t.unmapped;
           acked = t.acked;
           gone = λ h less got. elim (or_cases (from == h) (is_in h k.collected) got) [
-            | inl me ↦
-                let both = and_parts (is_in from k.armed) (found-word == acknowledgement (asked c k.cause)) e in
-                let word : found-word ≡ acknowledgement (dropping c place page) = eqb-true found-word (acknowledgement (asked c k.cause)) both.1 ∙ ap (λ x. acknowledgement (asked c x)) cause in
-                let now : slice_index s.words (cell (layout_of c) v.hart k.ticket from) ≡ acknowledgement (dropping c place page) = ap (λ n. slice_index s.words (cell (layout_of c) v.hart n from)) same ∙ word in
-                subst (λ x. IsClean looked-views x page (asid_for c place)) (eqb-true from h me) (t.acked from small both.0 now)
+            | inl me ↦ subst (λ x. IsClean looked-views x page (asid_for c place)) (eqb-true from h me) (t.acked from small armed-for now)
             | inr before ↦ t.gone h less before
           ];
         }
 
     look-orders : Ordered c record { words = s.words; homes = s.homes; views = looked-views }
     look-orders =
-        keeps-orders c s b o id v (looked c ticket from v found-word) at refl s.words (λ j u at-u n k at-k place page live m. m) (λ a t h less. stays refl) (o.plain id v at)
+        keeps-orders c s b o id v (with_collected ticket from v) at refl s.words (λ j u at-u n k at-k place page live m. m) (λ a t h less. stays refl) (o.plain id v at)
         (λ n k at-k place page live.
-        let r = for-ticket ticket (collected c from found-word) v.orders n k at-k in
-        let stood = stands c s b o id v (looked c ticket from v found-word) at refl s.words (λ j u at-u n k at-k place page live m. m) (λ a t h less. stays refl) id v at n r.0 r.1 place page in
+        let r = for-ticket ticket (collected from) v.orders n k at-k in
+        let stood = stands c s b o id v (with_collected ticket from v) at refl s.words (λ j u at-u n k at-k place page live m. m) (λ a t h less. stays refl) id v at n r.0 r.1 place page in
         elim r.2 [
-          | inl same ↦ subst (λ (z : Order). Kept c s.words looked-views v.hart (memory_of (layout_of c) v) z place page) same (stood (subst (λ (z : Order). IsLive z place page) (sym same) live))
+          | inl same ↦
+              subst (λ (z : Order). Kept c s.words looked-views v.hart (memory_of (layout_of c) v) z place page) same (stood (subst (λ (z : Order). IsLive z place page) (sym same) live))
           | inr new ↦
               subst (λ (z : Order). IsLive z place page → Kept c s.words looked-views v.hart (memory_of (layout_of c) v) z place page) new.1
-              (λ l. let was = live-before r.0 place page l in collected-order r.0 new.0 place page was.0 (stood was)) live
+              (λ l. collected-order r.0 new.0 new.2 place page l.0 (stood l)) live
         ]) s.homes
-      where
-        live-before : (k : Order) (place : Place) (page : Span) → IsLive (collected c from found-word k) place page → IsLive k place page
-        live-before k place page = by (is_in from k.armed && (found-word == acknowledgement (asked c k.cause)))
-          where
-            by : (q : Bool) → IsLive (cond q (record k { collected = from ∷ k.collected }) k) place page → IsLive k place page
-            by true l = l
-            by false l = l
 
-  pub looks : (ticket from : ℕ) → from < length (layout_of c).spares → Steps c id v (cell (layout_of c) v.hart ticket from) (λ n. n) (looked c ticket from v) (λ _. Unit {0})
-  looks ticket from small s b at fits =
-      let t = b.tables.each id v at in
-      let w : View = looked c ticket from v (slice_index s.words (cell (layout_of c) v.hart ticket from)) in (
-        subst (λ (ws : List ℕ). Board c record { words = ws; homes = s.homes; views = slice_set s.views id w }) (sym (set-get_or s.words (cell (layout_of c) v.hart ticket from) 0))
-            (record {
-              tables = keeps-load c s b.tables id v w at refl refl record { local = record { hart = t.local.hart; memory = t.local.memory; alone = t.local.alone; lowest = t.local.lowest }; config = t.config; own = t.own; walk = t.walk };
-              orders = look-orders ticket from small s b.tables b.orders at;
-            }),
-        tt,
-      )
+  pub looks : (ticket from : ℕ) (what : What) → from < length (layout_of c).spares → IsAwaiting c v ticket from what
+      → Steps c id v (cell (layout_of c) v.hart ticket from) (λ n. n) (looked ticket from what v) (λ _. Unit {0})
+  looks ticket from what small awaits s b at fits = (
+    subst (λ (ws : List ℕ). Board c record { words = ws; homes = s.homes; views = slice_set s.views id (looked ticket from what v (slice_index s.words (cell (layout_of c) v.hart ticket from))) })
+        (sym (set-get_or s.words (cell (layout_of c) v.hart ticket from) 0)) (by (slice_index s.words (cell (layout_of c) v.hart ticket from) == acknowledgement what) refl),
+    tt,
+  )
+    where
+      by : (q : Bool) → (slice_index s.words (cell (layout_of c) v.hart ticket from) == acknowledgement what) ≡ q
+          → Board c record { words = s.words; homes = s.homes; views = slice_set s.views id (cond q (with_collected ticket from v) v) }
+      by true e =
+          let t = b.tables.each id v at in
+          record {
+            tables = keeps-load c s b.tables id v (with_collected ticket from v) at refl refl record { config = t.config; local = record { hart = t.local.hart; memory = t.local.memory; alone = t.local.alone; lowest = t.local.lowest }; own = t.own; walk = t.walk };
+            orders = look-orders ticket from what small awaits s b.tables b.orders at (eqb-true (slice_index s.words (cell (layout_of c) v.hart ticket from)) (acknowledgement what) e);
+          }
+      by false e = record { tables = keeps-load c s b.tables id v v at refl refl (b.tables.each id v at); orders = idle-orders c s b.tables b.orders id v at }
 
   -- the sender's own acknowledgement
-  pub acknowledges-self : (ticket : ℕ) (what : What) → ticket < tickets → IsAskable what
-      → Steps c id v (cell (layout_of c) v.hart ticket v.hart) (λ _. acknowledgement what) (λ _. self_acked c ticket what v) (λ _. Unit {0})
-  acknowledges-self ticket what small-ticket asks s b at fits =
+  pub acknowledges-self : (ticket : ℕ) (what : What) → ticket < tickets → IsAskable what → IsAsking c v ticket what
+      → Steps c id v (cell (layout_of c) v.hart ticket v.hart) (λ _. acknowledgement what) (λ _. self_acked ticket what v) (λ _. Unit {0})
+  acknowledges-self ticket what small-ticket asks asking s b at fits =
       let t = b.tables.each id v at in
-      let w : View = self_acked c ticket what v in (
+      let w : View = self_acked ticket what v in (
         record {
           tables = beyond-tables c s.words s.homes (slice_set s.views id w) (cell (layout_of c) v.hart ticket v.hart) (acknowledgement what) (omega arith)
-              (keeps-load c s b.tables id v w at refl refl record { local = record { hart = t.local.hart; memory = t.local.memory; alone = t.local.alone; lowest = t.local.lowest }; config = t.config; own = t.own; walk = t.walk });
+              (keeps-load c s b.tables id v w at refl refl record { config = t.config; local = record { hart = t.local.hart; memory = t.local.memory; alone = t.local.alone; lowest = t.local.lowest }; own = t.own; walk = t.walk });
           orders = ack-orders v.hart ticket what t.local.hart small-ticket asks w refl refl refl s b.tables b.orders at (λ n k at-k place page live.
-              let r = for-ticket ticket (self_collected c v.hart what) v.orders n k at-k in
+              let r = for-ticket ticket (collected v.hart) v.orders n k at-k in
               let stood = acked-stands v.hart ticket what t.local.hart small-ticket asks w refl refl refl s b.tables b.orders at n r.0 r.1 place page in
               elim r.2 [
                 | inl same ↦
@@ -284,37 +283,32 @@ module _ (c : Config) (id : ℕ) (v : View) where
                 | inr new ↦
                     subst
                     (λ (z : Order). IsLive z place page → Kept c (acked-words v.hart ticket what t.local.hart small-ticket asks w refl refl refl s b.tables b.orders at) (slice_set s.views id w) v.hart (memory_of (layout_of c) v) z place page)
-                    new.1 (self-order (slice_set s.words (cell (layout_of c) v.hart ticket v.hart) (acknowledgement what)) (slice_set s.views id w) what asks r.0 place page stood
+                    new.1 (λ l. self-order (slice_set s.words (cell (layout_of c) v.hart ticket v.hart) (acknowledgement what)) (slice_set s.views id w) r.0 new.2 place page l.0 (stood l)
                     (mine-clean v.hart ticket what t.local.hart small-ticket asks w refl refl refl s b.tables b.orders at place page)) live
               ]);
         },
         tt,
       )
     where
-      self-order : (ws : List ℕ) (views : List View) (what : What) → IsAskable what → (k : Order) (place : Place) (page : Span) → (IsLive k place page → Kept c ws views v.hart (memory_of (layout_of c) v) k place page)
+      self-order : (ws : List ℕ) (views : List View) (k : Order) → open_order ticket v.orders ≡ Some k → (place : Place) (page : Span) → k.cause ≡ Unmapped place page
+          → Kept c ws views v.hart (memory_of (layout_of c) v) k place page
           → (is_wrong_half (layout_of c) place page ≡ false → dropping c place page ≡ what → IsClean views v.hart page (asid_for c place))
-          → IsLive (self_collected c v.hart what k) place page → Kept c ws views v.hart (memory_of (layout_of c) v) (self_collected c v.hart what k) place page
-      self-order ws views what asks k place page stood clean = by (acknowledgement (asked c k.cause) == acknowledgement what) refl
-        where
-          by : (q : Bool) → (acknowledgement (asked c k.cause) == acknowledgement what) ≡ q → IsLive (cond q (record k { collected = v.hart ∷ k.collected }) k) place page
-              → Kept c ws views v.hart (memory_of (layout_of c) v) (cond q (record k { collected = v.hart ∷ k.collected }) k) place page
-          by false e live = stood live
-          by true e live =
-              let t = stood live in
-              record {
-                has = t.has;
-                at_home = t.at_home;
-                right_half = t.right_half;
-                askable = t.askable;
-                unmapped = t.unmapped;
-                acked = t.acked;
-                gone = λ h less got. elim (or_cases (v.hart == h) (is_in h k.collected) got) [
-                  | inl me ↦
-                      let word : acknowledgement (dropping c place page) ≡ acknowledgement what = ap (λ x. acknowledgement (asked c x)) (sym live.0) ∙ eqb-true (acknowledgement (asked c k.cause)) (acknowledgement what) e in
-                      subst (λ x. IsClean views x page (asid_for c place)) (eqb-true v.hart h me) (clean t.right_half (same_what (dropping c place page) what t.askable asks word))
-                  | inr before ↦ t.gone h less before
-                ];
-              }
+          → Kept c ws views v.hart (memory_of (layout_of c) v) (collected v.hart k) place page
+      self-order ws views k first place page cause t clean =
+          let mine : asking.order ≡ k = some-one asking.order k (open_order ticket v.orders) asking.is first in
+          let asked-for : dropping c place page ≡ what = sym (ap (asked c) cause) ∙ ap (λ (z : Order). asked c z.cause) (sym mine) ∙ asking.asks in
+          record {
+            has = t.has;
+            at_home = t.at_home;
+            right_half = t.right_half;
+            askable = t.askable;
+            unmapped = t.unmapped;
+            acked = t.acked;
+            gone = λ h less got. elim (or_cases (v.hart == h) (is_in h k.collected) got) [
+              | inl me ↦ subst (λ x. IsClean views x page (asid_for c place)) (eqb-true v.hart h me) (clean t.right_half asked-for)
+              | inr before ↦ t.gone h less before
+            ];
+          }
 
 -- how many words there are at most
 pub small-board : (c : Config) → MeetsLimits max_live_frames c → board_size (layout_of c) < 2 ^ 32

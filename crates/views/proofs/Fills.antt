@@ -1,6 +1,5 @@
 -- What a walk finds in the shared words has no mapping in the page of an unmapping that is not marked anew.
-use Rattle.std.proofs.Common.{◌≡◌, ◌≢◌, ℕ, ◌+◌, ◌-◌, ◌*◌, ◌<◌, ◌≤◌, ◌==◌, ◌&&◌, ◌||◌, not, Bool, true, false, List, [], ◌∷◌, ◌++◌, length, map, Option, Some, None, Ok, IsTrue, sym, refl, ap, ◌∙◌, subst, inl, inr, arith, ne_eqb}
-use Rattle.std.specs.Prelude.{slice_index}
+use Rattle.std.proofs.Common.{◌≡◌, ◌≢◌, ℕ, ◌-◌, ◌*◌, ◌<◌, ◌≤◌, ◌==◌, ◌&&◌, ◌||◌, not, Bool, true, false, List, [], ◌∷◌, ◌++◌, length, Option, Some, None, Ok, IsTrue, sym, refl, ap, ◌∙◌, subst, arith, ne_eqb}
 use Rattle.std.specs.List.{AllPass}
 use Rattle.std.proofs.lemmas.Bool.{false≢true, false_from_ne_true}
 use Rattle.std.proofs.lemmas.List.{length-map}
@@ -22,7 +21,7 @@ use Rattle.walk.proofs.FoundMembers.{found_page_member}
 use Rattle.spaces.specs.declared.configuration.Config.{Config}
 use Rattle.spaces.specs.declared.places.Place.{Place}
 use Rattle.spaces.specs.declared.places.Place.TheVariants.{Space, Kernel}
-use Rattle.spaces.specs.Layout.{Layout, HasPlace, layout_of, home_of, root_ppn, first_window_slot, user_slots}
+use Rattle.spaces.specs.Layout.{Layout, HasPlace, layout_of, home_of, root_ppn, first_window_slot}
 use Rattle.spaces.specs.Held.{IsLayout, holders_of, words_of}
 use Rattle.spaces.specs.Edits.{is_wrong_half}
 use Rattle.spaces.specs.Effects.{IsPart, HangsBelow}

@@ -61,12 +61,12 @@ module _ (c : Config) (s : State ℕ View) (b : Tabled c s) (id : ℕ) (v w : Vi
   sits-on : (h : ℕ) → Sits s.views h → Sits (slice_set s.views id w) h
   sits-on h (seated j u here is) = dite (ℕ_discrete j id)
       (λ (e : j ≡ id). let same : v ≡ u = some-injective v u (sym at ∙ ap (λ n. get_elem? s.views n) (sym e) ∙ here) in
-          seated id w (set_here s.views id w (below s.views id v at)) (hart ∙ (ap (λ (z : View). z.hart) same ∙ is)))
+      seated id w (set_here s.views id w (below s.views id v at)) (hart ∙ (ap (λ (z : View). z.hart) same ∙ is)))
       (λ (n : j ≢ id). seated j u (set_else s.views id j w n ∙ here) is)
   sits-on h (waits j u here some' from) = dite (ℕ_discrete j id)
       (λ (e : j ≡ id). let same : v ≡ u = some-injective v u (sym at ∙ ap (λ n. get_elem? s.views n) (sym e) ∙ here) in
-          let n : w.next ≡ u.next = next ∙ ap (λ (z : View). z.next) same in
-          waits id w (set_here s.views id w (below s.views id v at)) (omega arith) (omega arith))
+      let n : w.next ≡ u.next = next ∙ ap (λ (z : View). z.next) same in
+      waits id w (set_here s.views id w (below s.views id v at)) (omega arith) (omega arith))
       (λ (n : j ≢ id). waits j u (set_else s.views id j w n ∙ here) some' from)
 
   -- a load

@@ -1,5 +1,5 @@
 -- A step of one seat keeps what the board says of orders.
-use Rattle.std.proofs.Common.{◌≡◌, ◌≢◌, ℕ, ◌+◌, ◌*◌, ◌%◌, ◌<◌, false, List, length, Option, Some, sym, ap, ◌∙◌, subst, ⊎_elim, arith}
+use Rattle.std.proofs.Common.{◌≡◌, ◌≢◌, ℕ, ◌+◌, ◌*◌, ◌%◌, ◌<◌, false, List, length, Option, Some, sym, refl, ap, ◌∙◌, subst, ⊎_elim, arith}
 use Rattle.std.specs.Prelude.{slice_index, slice_set}
 use Rattle.std.proofs.lemmas.Nat.{mod-mul-add}
 use mathlib.Core.Option.{some}
@@ -14,7 +14,6 @@ use Rattle.spaces.specs.declared.configuration.Config.{Config}
 use Rattle.spaces.specs.declared.places.Place.{Place}
 use Rattle.spaces.specs.declared.places.Place.TheVariants.{Space, Kernel}
 use Rattle.spaces.specs.Layout.{Layout, layout_of}
-use Rattle.spaces.specs.Held.{Held}
 use Rattle.spaces.specs.Edits.{is_wrong_half}
 use Rattle.tlb.specs.declared.store.Entry.{Entry}
 use Rattle.shoot.specs.Acknowledgement.{IsAskable, acknowledgement}
@@ -103,6 +102,12 @@ module _ (c : Config) (s : State ℕ View) (b : Tabled c s) (o : Ordered c s) (i
         (λ (t : (j ≢ id) × (get_elem? s.views j ≡ some u)). stands j u t.1)
         (at_set s.views id j w u here);
   }
+
+-- a step that changes nothing
+pub idle-orders : (c : Config) (s : State ℕ View) (b : Tabled c s) (o : Ordered c s) (id : ℕ) (v : View) (at : get_elem? s.views id ≡ some v) → Ordered c record { words = s.words; homes = s.homes; views = slice_set s.views id v }
+idle-orders c s b o id v at =
+    keeps-orders c s b o id v v at refl s.words (λ j u at-u n k at-k place page live m. m) (λ a t h small. stays refl) (o.plain id v at)
+    (λ n k at-k place page live. stands c s b o id v v at refl s.words (λ j u at-u n k at-k place page live m. m) (λ a t h small. stays refl) id v at n k at-k place page live) s.homes
 
 -- what misses a page translates none of its addresses
 pub clear : (c : Config) (place : Place) (page : Span) (entries : List Entry) → Misses page (asid_for c place) entries → (asid va : ℕ) → IsAsidFor c place asid → Holds page va → ¬ Translates (IsMappedBy entries) asid va

@@ -1,5 +1,5 @@
 -- The store of an edit keeps what the board says of orders: it adds an order, marks others anew, or maps nothing.
-use Rattle.std.proofs.Common.{◌≡◌, ℕ, zero, suc, ◌<◌, ◌||◌, ◌&&◌, Bool, true, false, cond, eqb, List, [], ◌∷◌, length, map, is_some, Option, Some, None, Ok, sym, refl, ap, ◌∙◌, subst, inl, inr, arith, get_or-set_other}
+use Rattle.std.proofs.Common.{◌≡◌, ℕ, zero, suc, ◌<◌, ◌||◌, ◌&&◌, Bool, true, false, cond, eqb, List, [], ◌∷◌, length, map, is_some, Some, Ok, sym, refl, ap, ◌∙◌, subst, inl, inr, arith, get_or-set_other}
 use Rattle.std.specs.Prelude.{slice_index, slice_set}
 use Rattle.std.proofs.lemmas.Bool.{and_from, eq-eqb, or_parts, false≢true}
 use mathlib.Core.Option.{some, some-injective, some-ne-none}
@@ -7,7 +7,6 @@ use lib.ListN.{get_elem?}
 use Rattle.atomic_table.specs.Table.{State}
 use Rattle.pte.specs.declared.flags.PteFlags.{PteFlags}
 use Rattle.pte.specs.Address.{Span, IsPage}
-use Rattle.walk.specs.Leads.{Tables}
 use Rattle.walk.specs.Maps.{Maps}
 use Rattle.walk.specs.Pointers.{pointed}
 use Rattle.spaces.specs.declared.configuration.Config.{Config}
@@ -23,7 +22,7 @@ use Rattle.spaces.specs.Opening.{is_word}
 use Rattle.spaces.specs.Effects.{HangsBelow, HasEffect, IsAbout, IsEdit, IsPart}
 use Rattle.spaces.specs.Applied.{memory_after}
 use Rattle.spaces.proofs.Accepting.{unfaulted, unless-ok}
-use Rattle.spaces.proofs.EditLaws.{effect-in, unmapped-gone}
+use Rattle.spaces.proofs.EditLaws.{effect-in}
 use Rattle.spaces.proofs.Halves.{apart, common_part}
 use Rattle.spaces.proofs.WordLists.{in-memory}
 use Rattle.tlb.specs.Service.{overlaps}
@@ -210,4 +209,3 @@ module _ (c : Config) (id : ℕ) (v : View) (wish : Wish) (ticket : ℕ) (store 
 
   pub edit-orders : Ordered c record { words = shared-now; homes = s.homes; views = views-now }
   edit-orders = keeps-orders c s b o id v new-view at refl shared-now (λ j u at-u n k at-k place page live m. m) cells-stay (o.plain id v at) (mine-by wish refl) s.homes
-

@@ -1,5 +1,5 @@
 -- What a seat knows of its orders after each kind of step.
-use Rattle.std.specs.Prelude.{ℕ, ◌≡◌, ◌||◌, ◌==◌, ◌&&◌, if◌then◌else◌, is_some, false, List, [], ◌∷◌, map, Some}
+use Rattle.std.specs.Prelude.{ℕ, ◌≡◌, ◌||◌, ◌==◌, if◌then◌else◌, is_some, true, false, List, [], ◌∷◌, map, Option, Some, None}
 use Rattle.pte.specs.declared.address.What.{What}
 use Rattle.pte.specs.Address.{IsPage, Span}
 use Rattle.walk.specs.Pointers.{pointed}
@@ -58,16 +58,33 @@ with_armed ticket to v = record v { orders = for_ticket ticket (armed to) v.orde
 abbrev pub dropped : What → View → View
 dropped what v = record v { entries = served v.entries what }
 
--- the sender found a word in the cell of a hart: where the cell was armed and the word is the order's, the hart is collected
-abbrev pub collected : Config → ℕ → ℕ → Order → Order
-collected c from word k = if is_in from k.armed && (word == acknowledgement (asked c k.cause)) then record k { collected = from ∷ k.collected } else k
+-- a hart is collected
+abbrev pub collected : ℕ → Order → Order
+collected from k = record k { collected = from ∷ k.collected }
 
-abbrev pub looked : Config → ℕ → ℕ → View → ℕ → View
-looked c ticket from v word = record v { orders = for_ticket ticket (collected c from word) v.orders }
+abbrev pub with_collected : ℕ → ℕ → View → View
+with_collected ticket from v = record v { orders = for_ticket ticket (collected from) v.orders }
 
--- the sender is the receiver: it drops what its order asks, and is collected
-abbrev pub self_collected : Config → ℕ → What → Order → Order
-self_collected c hart what k = if acknowledgement (asked c k.cause) == acknowledgement what then record k { collected = hart ∷ k.collected } else k
+-- the sender looked at the cell of a hart, which is collected if the word is that of what was asked
+abbrev pub looked : ℕ → ℕ → What → View → ℕ → View
+looked ticket from what v word = if word == acknowledgement what then with_collected ticket from v else v
 
-abbrev pub self_acked : Config → ℕ → What → View → View
-self_acked c ticket what v = record v { entries = served v.entries what; orders = for_ticket ticket (self_collected c v.hart what) v.orders }
+-- the sender is the receiver: it drops what is asked, and is collected
+abbrev pub self_acked : ℕ → What → View → View
+self_acked ticket what v = record v { entries = served v.entries what; orders = for_ticket ticket (collected v.hart) v.orders }
+
+-- the open order of a ticket
+abbrev pub open_order : ℕ → List Order → Option Order
+open_order ticket [] = None
+open_order ticket (k ∷ ks) = if k.ticket == ticket then Some k else open_order ticket ks
+
+-- the open order of the ticket asks for this
+pub record IsAsking (c : Config) (v : View) (ticket : ℕ) (what : What) : Type 0 where
+  pub order : Order
+  pub is : open_order ticket v.orders ≡ Some order
+  pub asks : asked c order.cause ≡ what
+
+-- and the cell of this hart was armed for it
+pub record IsAwaiting (c : Config) (v : View) (ticket from : ℕ) (what : What) : Type 0 where
+  pub asking : IsAsking c v ticket what
+  pub armed : is_in from asking.order.armed ≡ true

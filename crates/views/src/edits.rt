@@ -1,0 +1,73 @@
+//! A whole edit by the home: decided by home reads, then stored.
+
+ghost use Rattle.std.specs.Prelude.{◌≡◌, MatchResult};
+ghost use Rattle.spaces.specs.Layout.{HasPlace, layout_of};
+ghost use Rattle.spaces.specs.Edits.{place_of};
+ghost use Rattle.views.specs.Rule.{IsFit};
+ghost use Rattle.views.specs.Edits.{edit_over};
+ghost use Rattle.views.specs.OrderTurns.{IsAsked, noted};
+
+use crate::rule::{Place, Words};
+use crate::steps::{read_home, store_edit};
+use spaces::{Config, Edit, EditWalk, MapFault, Next, Wish};
+
+/// The store that a wish takes, or why none is due, over the home's view. It is not made: `store_edit` makes it, and the view
+/// stays until then. `used` is how many of the hart's spare frames are in use.
+pub fn decide(
+    words: &Words,
+    seat: &mut Place,
+    config: &Config,
+    hart: u8,
+    used: u16,
+    wish: &Wish,
+) -> Result<Edit, MapFault>
+    requires fit { IsFit words.now.table_id words.now.key config.now seat.old }
+    requires hart { seat.old.me.0.hart ≡ hart }
+    requires used { seat.old.me.0.used ≡ used }
+    requires place { HasPlace (layout_of config.now) (place_of wish.now) }
+    ensures fit { IsFit words.now.table_id words.now.key config.now seat.new }
+    ensures view { seat.new.me.0 ≡ seat.old.me.0 }
+    ensures answer { result ≡ edit_over (layout_of config.now) seat.old.me.0 wish.now }
+{
+    let spare = config.spare(hart, used);
+    let mut walk = match EditWalk::begin(config, hart, *wish) {
+        Ok(walk) => walk,
+        Err(fault) => return Err(fault),
+    };
+    loop {
+        let (table, index) = walk.wants();
+        let word = read_home(words, seat, config, table, index);
+        match walk.load(word, spare) {
+            Next::More(next) => walk = next,
+            Next::Edit(edit) => return Ok(edit),
+            Next::Refused(fault) => return Err(fault),
+        }
+    }
+}
+
+/// Makes the one store that a wish takes, or tells why none is due, over the home's view.
+pub fn edit(
+    words: &Words,
+    seat: &mut Place,
+    config: &Config,
+    hart: u8,
+    used: u16,
+    wish: &Wish,
+    ticket: u32,
+) -> Result<Edit, MapFault>
+    requires fit { IsFit words.now.table_id words.now.key config.now seat.old }
+    requires hart { seat.old.me.0.hart ≡ hart }
+    requires used { seat.old.me.0.used ≡ used }
+    requires place { HasPlace (layout_of config.now) (place_of wish.now) }
+    requires asked { IsAsked config.now wish.now }
+    ensures fit { IsFit words.now.table_id words.now.key config.now seat.new }
+    ensures answer { result ≡ edit_over (layout_of config.now) seat.old.me.0 wish.now }
+    ensures view { MatchResult result (λ edit. seat.new.me.0 ≡ noted config.now wish.now ticket seat.old.me.0 edit) (λ _. seat.new.me.0 ≡ seat.old.me.0) }
+{
+    let edit = match decide(words, seat, config, hart, used, wish) {
+        Ok(edit) => edit,
+        Err(fault) => return Err(fault),
+    };
+    store_edit(words, seat, config, &edit, wish, ticket);
+    Ok(edit)
+}

@@ -1,0 +1,141 @@
+//! The atomic steps on table words, each with what its seat knows after it.
+
+ghost use Rattle.std.specs.Prelude.{◌≡◌, ℕ, ◌^◌, ◌<◌, [], true, Some, Ok};
+ghost use Rattle.pte.specs.Address.{table_length};
+ghost use Rattle.spaces.specs.Layout.{HasPlace, is_frame, layout_of};
+ghost use Rattle.spaces.specs.Edits.{place_of};
+ghost use Rattle.spaces.specs.Held.{word_index, words_of};
+ghost use Rattle.spaces.specs.Opening.{is_word};
+ghost use Rattle.spaces.specs.Tree.{IsAtHome};
+ghost use Rattle.views.specs.Rule.{IsFit, IsRoot, memory_of, size};
+ghost use Rattle.views.specs.Board.{Steps};
+ghost use Rattle.views.specs.OrderTurns.{IsAsked, noted};
+ghost use Rattle.views.specs.Turns.{IsStart, TellsLoad, walked};
+ghost use Rattle.views.specs.Edits.{edit_over};
+
+use crate::rule::{Place, Turn, Words, load, store};
+use pte::TABLE_LENGTH;
+use spaces::{Config, Edit, Wish};
+use std::marker::Brand;
+use walk::Walk;
+
+/// Where a word stands among the words of all frames.
+fn word_index(config: &Config, table: u64, index: u16) -> usize
+    requires word { is_word (layout_of config.now) table index ≡ true }
+    requires small { size (layout_of config.now) < 2 ^ 32 }
+    ensures value { result ≡ word_index (layout_of config.now) table index }
+    ensures range { result < size (layout_of config.now) }
+{
+    ((table - config.base) * u64::from(TABLE_LENGTH) + u64::from(index)) as usize
+}
+
+fn load_as<T: Turn>(words: &Words, seat: &mut Place, word: usize, _root: u64, _walk: Walk) -> u64
+    requires same { seat.old.table_id ≡ words.now.table_id }
+    requires inside { word < words.now.table_id.words }
+    requires bare { seat.old.me.1 ≡ [] }
+    requires steps { Steps words.now.key seat.old.id seat.old.me.0 word (λ n. n) T.after T.tells }
+    ensures same { seat.new.table_id ≡ seat.old.table_id }
+    ensures id { seat.new.id ≡ seat.old.id }
+    ensures view { seat.new.me ≡ (T.after result, []) }
+    ensures tells { T.tells result }
+{
+    load::<T>(words, seat, word)
+}
+
+/// The first load of a walk, of a word of the root.
+pub fn load_first(words: &Words, seat: &mut Place, config: &Config, root: u64, walk: Walk) -> u64
+    requires fit { IsFit words.now.table_id words.now.key config.now seat.old }
+    requires frame { is_frame (layout_of config.now) walk.table ≡ true }
+    requires root { IsRoot (layout_of config.now) root }
+    requires start { IsStart config.now.scheme root walk }
+    ensures fit { IsFit words.now.table_id words.now.key config.now seat.new }
+    ensures view { seat.new.me.0 ≡ walked seat.old.me.0 root walk [] result }
+    ensures tells { TellsLoad (layout_of config.now) seat.old.me.0 walk [] result }
+{
+    let (table, index) = walk.wants();
+    let at = word_index(config, table, index);
+    load_as::<Brand>(words, seat, at, root, walk)
+}
+
+/// A further load of the walk that the seat has in flight.
+pub fn load_next(words: &Words, seat: &mut Place, config: &Config, root: u64, walk: Walk) -> u64
+    requires fit { IsFit words.now.table_id words.now.key config.now seat.old }
+    requires frame { is_frame (layout_of config.now) walk.table ≡ true }
+    requires root { IsRoot (layout_of config.now) root }
+    requires walks { (seat.old.me.0.walk ≡ Some walk) × (seat.old.me.0.root ≡ root) }
+    ensures fit { IsFit words.now.table_id words.now.key config.now seat.new }
+    ensures view { seat.new.me.0 ≡ walked seat.old.me.0 root walk seat.old.me.0.reads result }
+    ensures tells { TellsLoad (layout_of config.now) seat.old.me.0 walk seat.old.me.0.reads result }
+{
+    let (table, index) = walk.wants();
+    let at = word_index(config, table, index);
+    load_as::<Brand>(words, seat, at, root, walk)
+}
+
+fn read_as<T: Turn>(words: &Words, seat: &mut Place, word: usize, _table: u64, _index: u16) -> u64
+    requires same { seat.old.table_id ≡ words.now.table_id }
+    requires inside { word < words.now.table_id.words }
+    requires bare { seat.old.me.1 ≡ [] }
+    requires steps { Steps words.now.key seat.old.id seat.old.me.0 word (λ n. n) T.after T.tells }
+    ensures same { seat.new.table_id ≡ seat.old.table_id }
+    ensures id { seat.new.id ≡ seat.old.id }
+    ensures view { seat.new.me ≡ (T.after result, []) }
+    ensures tells { T.tells result }
+{
+    load::<T>(words, seat, word)
+}
+
+/// A home's reading of a word of its own, for an edit. The view stays.
+pub fn read_home(words: &Words, seat: &mut Place, config: &Config, table: u64, index: u16) -> u64
+    requires fit { IsFit words.now.table_id words.now.key config.now seat.old }
+    requires home { IsAtHome (layout_of config.now) seat.old.me.0.hart table }
+    requires index { index < table_length }
+    ensures fit { IsFit words.now.table_id words.now.key config.now seat.new }
+    ensures view { seat.new.me.0 ≡ seat.old.me.0 }
+    ensures word { words_of (memory_of (layout_of config.now) seat.old.me.0) table index ≡ Some result }
+{
+    let at = word_index(config, table, index);
+    read_as::<Brand>(words, seat, at, table, index)
+}
+
+fn store_as<T: Turn>(
+    words: &Words,
+    seat: &mut Place,
+    word: usize,
+    new: u64,
+    _edit: Edit,
+    _wish: Wish,
+    _ticket: u32,
+)
+    requires same { seat.old.table_id ≡ words.now.table_id }
+    requires inside { word < words.now.table_id.words }
+    requires bare { seat.old.me.1 ≡ [] }
+    requires steps { Steps words.now.key seat.old.id seat.old.me.0 word (λ _. new) (λ _. T.after new) (λ _. T.tells new) }
+    ensures same { seat.new.table_id ≡ seat.old.table_id }
+    ensures id { seat.new.id ≡ seat.old.id }
+    ensures view { seat.new.me ≡ (T.after new, []) }
+    ensures tells { T.tells new }
+{
+    store::<T>(words, seat, word, new)
+}
+
+/// The one store of an edit that is due over the home's view. An unmap or a protect opens an order under the ticket; a leaf that
+/// is mapped marks anew each unmapping of its place whose page it overlaps.
+pub fn store_edit(
+    words: &Words,
+    seat: &mut Place,
+    config: &Config,
+    edit: &Edit,
+    wish: &Wish,
+    ticket: u32,
+)
+    requires fit { IsFit words.now.table_id words.now.key config.now seat.old }
+    requires place { HasPlace (layout_of config.now) (place_of wish.now) }
+    requires asked { IsAsked config.now wish.now }
+    requires due { edit_over (layout_of config.now) seat.old.me.0 wish.now ≡ Ok edit.now }
+    ensures fit { IsFit words.now.table_id words.now.key config.now seat.new }
+    ensures view { seat.new.me.0 ≡ noted config.now wish.now ticket seat.old.me.0 edit.now }
+{
+    let at = word_index(config, edit.ppn(), edit.index());
+    store_as::<Brand>(words, seat, at, edit.word(), *edit, *wish, ticket)
+}
