@@ -1,6 +1,7 @@
 //! A whole edit by the home: decided by home reads, then stored.
 
-ghost use Rattle.std.specs.Prelude.{◌≡◌, MatchResult};
+ghost use Rattle.std.specs.Prelude.{◌≡◌, is_some, MatchResult, Ok, Some};
+ghost use Rattle.walk.specs.Pointers.{pointed};
 ghost use Rattle.spaces.specs.Layout.{HasPlace, layout_of};
 ghost use Rattle.spaces.specs.Edits.{place_of};
 ghost use Rattle.views.specs.Rule.{IsFit};
@@ -9,6 +10,7 @@ ghost use Rattle.views.specs.Turns.{edited};
 
 use crate::rule::{Place, Words};
 use crate::steps::{read_home, store_edit};
+use pte::{Kind, Pte};
 use spaces::{Config, Edit, EditWalk, MapFault, Next, Wish};
 
 /// The store that a wish takes, or why none is due, over the home's view. It is not made: `store_edit` makes it, and the view
@@ -45,27 +47,62 @@ pub fn decide(
     }
 }
 
+/// Whether a word is a pointer.
+fn is_pointer(word: u64) -> bool
+    ensures { result ≡ is_some (pointed (Some word)) }
+{
+    match Pte(word).kind() {
+        Kind::Table { .. } => true,
+        Kind::Invalid | Kind::Reserved | Kind::Leaf { .. } => false,
+    }
+}
+
+/// Makes the one store that was decided, and counts the spare frame that a new table takes. No other hart's step changes
+/// what is due here, so what was decided is due until the hart's own next store.
+pub fn store(
+    words: &Words,
+    seat: &mut Place,
+    config: &Config,
+    used: &mut u16,
+    edit: &Edit,
+    wish: &Wish,
+)
+    requires fit { IsFit words.now.table_id words.now.key config.now seat.old }
+    requires used { seat.old.me.0.used ≡ used.old }
+    requires place { HasPlace (layout_of config.now) (place_of wish.now) }
+    requires due { edit_over (layout_of config.now) seat.old.me.0 wish.now ≡ Ok edit.now }
+    ensures fit { IsFit words.now.table_id words.now.key config.now seat.new }
+    ensures view { seat.new.me.0 ≡ edited (layout_of config.now) seat.old.me.0 edit.now seat.old.me.0.orders }
+    ensures used { seat.new.me.0.used ≡ used.new }
+{
+    store_edit(words, seat, config, edit, wish);
+    if is_pointer(edit.word()) {
+        *used += 1;
+    }
+}
+
 /// Makes the one store that a wish takes, or tells why none is due, over the home's view.
 pub fn edit(
     words: &Words,
     seat: &mut Place,
     config: &Config,
     hart: u8,
-    used: u16,
+    used: &mut u16,
     wish: &Wish,
 ) -> Result<Edit, MapFault>
     requires fit { IsFit words.now.table_id words.now.key config.now seat.old }
     requires hart { seat.old.me.0.hart ≡ hart }
-    requires used { seat.old.me.0.used ≡ used }
+    requires used { seat.old.me.0.used ≡ used.old }
     requires place { HasPlace (layout_of config.now) (place_of wish.now) }
     ensures fit { IsFit words.now.table_id words.now.key config.now seat.new }
     ensures answer { result ≡ edit_over (layout_of config.now) seat.old.me.0 wish.now }
     ensures view { MatchResult result (λ edit. seat.new.me.0 ≡ edited (layout_of config.now) seat.old.me.0 edit seat.old.me.0.orders) (λ _. seat.new.me.0 ≡ seat.old.me.0) }
+    ensures used { seat.new.me.0.used ≡ used.new }
 {
-    let edit = match decide(words, seat, config, hart, used, wish) {
+    let edit = match decide(words, seat, config, hart, *used, wish) {
         Ok(edit) => edit,
         Err(fault) => return Err(fault),
     };
-    store_edit(words, seat, config, &edit, wish);
+    store(words, seat, config, used, &edit, wish);
     Ok(edit)
 }

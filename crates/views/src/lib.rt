@@ -8,7 +8,7 @@ mod steps;
 mod view;
 mod walks;
 
-pub use edits::{decide, edit};
+pub use edits::{decide, edit, store};
 pub use opening::{deal, open};
 pub use rule::{Deal, Memory, Place, Rule, To, Turn, Words};
 pub use steps::{load_first, load_next, read_home, store_edit};
