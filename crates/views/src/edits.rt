@@ -1,6 +1,7 @@
 //! A whole edit by the home: decided by home reads, then stored.
 
-ghost use Rattle.std.specs.Prelude.{◌≡◌, MatchResult};
+ghost use Rattle.std.specs.Prelude.{◌≡◌, is_some, MatchResult, Ok, Some};
+ghost use Rattle.walk.specs.Pointers.{pointed};
 ghost use Rattle.spaces.specs.Layout.{HasPlace, layout_of};
 ghost use Rattle.spaces.specs.Edits.{place_of};
 ghost use Rattle.views.specs.Rule.{IsFit};
@@ -9,6 +10,7 @@ ghost use Rattle.views.specs.OrderTurns.{IsAsked, noted};
 
 use crate::rule::{Place, Words};
 use crate::steps::{read_home, store_edit};
+use pte::{Kind, Pte};
 use spaces::{Config, Edit, EditWalk, MapFault, Next, Wish};
 
 /// The store that a wish takes, or why none is due, over the home's view. It is not made: `store_edit` makes it, and the view
@@ -45,29 +47,68 @@ pub fn decide(
     }
 }
 
-/// Makes the one store that a wish takes, or tells why none is due, over the home's view.
+/// Whether a word is a pointer.
+fn is_pointer(word: u64) -> bool
+    ensures { result ≡ is_some (pointed (Some word)) }
+{
+    match Pte(word).kind() {
+        Kind::Table { .. } => true,
+        Kind::Invalid | Kind::Reserved | Kind::Leaf { .. } => false,
+    }
+}
+
+/// Makes the one store that was decided, and counts the spare frame that a new table takes; an unmap or a protect opens an
+/// order under the ticket. No other hart's step changes what is due here, so what was decided is due until the hart's own next
+/// store.
+pub fn store(
+    words: &Words,
+    seat: &mut Place,
+    config: &Config,
+    used: &mut u16,
+    edit: &Edit,
+    wish: &Wish,
+    ticket: u32,
+)
+    requires fit { IsFit words.now.table_id words.now.key config.now seat.old }
+    requires used { seat.old.me.0.used ≡ used.old }
+    requires place { HasPlace (layout_of config.now) (place_of wish.now) }
+    requires asked { IsAsked config.now wish.now }
+    requires due { edit_over (layout_of config.now) seat.old.me.0 wish.now ≡ Ok edit.now }
+    ensures fit { IsFit words.now.table_id words.now.key config.now seat.new }
+    ensures view { seat.new.me.0 ≡ noted config.now wish.now ticket seat.old.me.0 edit.now }
+    ensures used { seat.new.me.0.used ≡ used.new }
+{
+    store_edit(words, seat, config, edit, wish, ticket);
+    if is_pointer(edit.word()) {
+        *used += 1;
+    }
+}
+
+/// Makes the one store that a wish takes, or tells why none is due, over the home's view. The ticket is for the order that an
+/// unmap or a protect opens; a map takes none.
 pub fn edit(
     words: &Words,
     seat: &mut Place,
     config: &Config,
     hart: u8,
-    used: u16,
+    used: &mut u16,
     wish: &Wish,
     ticket: u32,
 ) -> Result<Edit, MapFault>
     requires fit { IsFit words.now.table_id words.now.key config.now seat.old }
     requires hart { seat.old.me.0.hart ≡ hart }
-    requires used { seat.old.me.0.used ≡ used }
+    requires used { seat.old.me.0.used ≡ used.old }
     requires place { HasPlace (layout_of config.now) (place_of wish.now) }
     requires asked { IsAsked config.now wish.now }
     ensures fit { IsFit words.now.table_id words.now.key config.now seat.new }
     ensures answer { result ≡ edit_over (layout_of config.now) seat.old.me.0 wish.now }
     ensures view { MatchResult result (λ edit. seat.new.me.0 ≡ noted config.now wish.now ticket seat.old.me.0 edit) (λ _. seat.new.me.0 ≡ seat.old.me.0) }
+    ensures used { seat.new.me.0.used ≡ used.new }
 {
-    let edit = match decide(words, seat, config, hart, used, wish) {
+    let edit = match decide(words, seat, config, hart, *used, wish) {
         Ok(edit) => edit,
         Err(fault) => return Err(fault),
     };
-    store_edit(words, seat, config, &edit, wish, ticket);
+    store(words, seat, config, used, &edit, wish, ticket);
     Ok(edit)
 }

@@ -12,7 +12,7 @@ mod view;
 mod walks;
 
 pub use cells::{acknowledge, acknowledge_self, arm, collect};
-pub use edits::{decide, edit};
+pub use edits::{decide, edit, store};
 pub use laws::collected_is_clean;
 pub use opening::{deal, open};
 pub use rule::{Deal, Memory, Place, Rule, To, Turn, Words};
