@@ -1,10 +1,10 @@
 ghost use Rattle.std.specs.Prelude.{◌≡◌, IfOk};
 
-use arrayvec::ArrayVec;
+use crate::first_machine::two_harts;
 use harts::*;
 use pte::{Access, Ctx, Mode, Page, PageSize, PteFlags, VirtAddr, What};
 use shoot::Request;
-use spaces::{Config, OpenFault, Place, Space};
+use spaces::{Config, Place};
 use std::alloc::{AllocError, Global};
 use std::marker::Brand;
 use std::sync::Wait;
@@ -12,84 +12,6 @@ use std::test::Fail;
 use std::thread::{Threads, join};
 use stepcore::{Event, Refusal, Reply};
 use walk::{Trap, Why};
-
-/// Two harts and one space, with 8 spare frames for each hart: the first spare frame is 0x80002.
-fn two_harts() -> Config {
-    let mut spaces = ArrayVec::new();
-    spaces.push(Space { home: 0, asid: 1 });
-    let mut spares = ArrayVec::new();
-    spares.push(8);
-    spares.push(8);
-    Config {
-        scheme: pte::Scheme::Sv39,
-        harts: 2,
-        spaces,
-        window: 1,
-        base: 0x8_0000,
-        spares,
-        capacity: 4,
-    }
-}
-
-fn many<C: Named, R: Wait>(
-    rt: &R,
-    locked: &Locked<C>,
-    mut tally: Tally<C>,
-    hart: u8,
-) -> Result<Tally<C>, AllocError>
-    ensures { IfOk result (λ back. back.turns.name ≡ tally.turns.name) }
-{
-    for _ in 0..100_u32 {
-        let fence = Event::Fence {
-            hart,
-            rs1: None,
-            rs2: None,
-        };
-        let _reply = locked.call(rt, &mut tally, fence)?;
-    }
-    Ok(tally)
-}
-
-fn is_fence_of(turn: &(Event, Reply), number: u8) -> bool {
-    match turn.0 {
-        Event::Fence { hart, .. } => hart == number && turn.1 == Reply::Ok,
-        _ => false,
-    }
-}
-
-/// How many events two threads made that each called 100 fences, those of hart 0, and those of hart 1.
-fn by_two<C: Named + Send + Sync, R: Threads + Wait + Sync>(
-    rt: &R,
-    alloc: Global,
-    blank: Blank,
-    config: &Config,
-) -> Option<[usize; 3]>
-    requires config { C.config ≡ config.now }
-    requires lists { C.lists ≡ blank }
-{
-    let Ok((locked, mut tallies)) = Locked::<C>::open(alloc, blank, config) else {
-        return None;
-    };
-    let (b, a) = (tallies.pop()?, tallies.pop()?);
-    let shared = &locked;
-    let (a, b) = join(rt, || many(rt, shared, a, 0), || many(rt, shared, b, 1));
-    let (Ok(a), Ok(b)) = (a, b) else { return None };
-    tallies.push_reserved(a);
-    tallies.push_reserved(b);
-    let (_machine, history) = locked.into_parts(tallies);
-    let of_0 = history.iter().filter(|turn| is_fence_of(turn, 0)).count();
-    let of_1 = history.iter().filter(|turn| is_fence_of(turn, 1)).count();
-    Some([history.len(), of_0, of_1])
-}
-
-#[test]
-fn locked_counts(rt: HostRuntime) -> Result<(), Fail> {
-    let config = two_harts();
-    let blank = Blank::new(rt.alloc(), 2)?;
-    let counts = by_two::<Brand, _>(&rt, rt.alloc(), blank, &config);
-    assert!(rt; counts == Some([200, 100, 100]));
-    Ok(())
-}
 
 /// The page of 2 MiB at 0x400000.
 fn superpage() -> Option<Page> {

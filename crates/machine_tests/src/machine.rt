@@ -4,6 +4,8 @@
 ghost use Rattle.std.specs.Prelude.{◌<◌};
 ghost use Rattle.shoot.specs.declared.TheConstants.{MAX_TICKETS};
 
+use crate::first_machine::two_harts;
+use crate::first_steps::{Root, load_from, replies_to};
 use arrayvec::ArrayVec;
 use bitflags::Flags;
 use pte::{Access, Ctx, Mode, Page, PageSize, PteFlags, Scheme, VirtAddr, What};
@@ -49,19 +51,6 @@ fn spaces_of(list: &[(u8, u16)]) -> ArrayVec<Space, 32> {
         }
     }
     spaces
-}
-
-/// Two harts with 8 spare frames each, one space of ASID 1, one slot of the window.
-fn two_harts() -> Config {
-    Config {
-        scheme: Scheme::Sv39,
-        harts: 2,
-        spaces: spaces_of(&[(0, 1)]),
-        window: 1,
-        base: 0x8_0000,
-        spares: spares_of(&[8, 8]),
-        capacity: 4,
-    }
 }
 
 fn two_harts_in_sv48() -> Config {
@@ -731,4 +720,31 @@ fn machines_are_opened(rt: HostRuntime) {
             Err(fault) => assert!(rt; !is_within && fault == OpenFault::BadLayout),
         }
     }
+}
+
+/// A root table with a page of 1 GiB at 0x8000_0000, as README.md translates over it; and a machine that it runs.
+#[test]
+fn first_steps_are_answered(rt: HostRuntime) -> Result<(), Fail> {
+    let mut words = Vec::new(rt.alloc());
+    for index in 0..512_u32 {
+        // PPN 0x40000 with V, R, U and A
+        words.push(if index == 2 { 0x1000_0053 } else { 0 })?;
+    }
+    let root = Root(words);
+    let user = Ctx {
+        mode: Mode::User,
+        sum: false,
+        mxr: false,
+    };
+    let invalid = Trap {
+        cause: 13,
+        why: Why::Invalid,
+    };
+    assert!(rt; load_from(&root, 0x8000_0ABC, user).map(|found| found.pa) == Ok(0x4000_0ABC));
+    assert!(rt; load_from(&root, 0xC000_0ABC, user).map(|found| found.pa) == Err(invalid));
+    let Some(replies) = replies_to(rt.alloc(), &two_harts(), &[Event::Load { hart: 1 }]) else {
+        return Err(Fail::new("no machine"));
+    };
+    assert!(rt; replies.as_slice() == [Reply::Refused(Refusal::NotWalking)].as_slice());
+    Ok(())
 }

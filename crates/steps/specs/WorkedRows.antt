@@ -1,4 +1,4 @@
--- Worked rows: what was worked out by hand from the tables of README.md.
+-- Worked rows: what was worked out by hand from the tables of docs/FORMAT.md.
 use Rattle.pte.specs.declared.scheme.Scheme.TheVariants.{Sv39, Sv48}
 use Rattle.std.specs.Prelude.{◌≡◌, ℕ, Bool, true, false, codes, List, [], ◌∷◌, Option, Some, None, option_map, Err}
 use Rattle.pte.specs.Entry.{is_accessed, is_dirty, is_global, is_user, may_execute, may_read, may_write}

@@ -1,4 +1,4 @@
-//! The text of each answer and of each reply, with ample memory. The lines are those of the tables in README.md.
+//! The text of each answer and of each reply, with ample memory. The lines are those of the tables in docs/FORMAT.md.
 ghost use Rattle.std.specs.Prelude.{◌<◌};
 
 use history::{Refusal, Reply};
