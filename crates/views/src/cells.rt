@@ -8,7 +8,7 @@ ghost use Rattle.spaces.specs.Limits.{max_live_frames, MeetsLimits};
 ghost use Rattle.tlb.specs.Service.{is_served};
 ghost use Rattle.views.specs.Rule.{board_size, cell, IsFit, tickets};
 ghost use Rattle.views.specs.Board.{Steps};
-ghost use Rattle.views.specs.OrderTurns.{IsAsking, IsAwaiting, dropped, self_acked, with_armed, with_collected};
+ghost use Rattle.views.specs.OrderTurns.{IsAsking, IsAwaiting, dropped, ordered, self_acked, with_armed, with_collected};
 
 use crate::rule::{Place, Turn, Words, load, store};
 use pte::{TABLE_LENGTH, What};
@@ -29,6 +29,30 @@ fn cell(config: &Config, sender: u8, ticket: u32, receiver: u8) -> usize
     let words = config.frame_count() * u64::from(TABLE_LENGTH);
     let row = u64::from(sender) * MAX_TICKETS as u64 + u64::from(ticket);
     (words + (row * u64::from(config.harts) + u64::from(receiver))) as usize
+}
+
+fn open_as<T: Turn>(words: &Words, seat: &mut Place, word: usize, _ticket: u32, _what: What) -> u64
+    requires same { seat.old.table_id ≡ words.now.table_id }
+    requires inside { word < words.now.table_id.words }
+    requires bare { seat.old.me.1 ≡ [] }
+    requires steps { Steps words.now.key seat.old.id seat.old.me.0 word (λ n. n) T.after T.tells }
+    ensures same { seat.new.table_id ≡ seat.old.table_id }
+    ensures id { seat.new.id ≡ seat.old.id }
+    ensures view { seat.new.me ≡ (T.after result, []) }
+{
+    load::<T>(words, seat, word)
+}
+
+/// Opens an order that follows no store, as that of a flush, under a ticket: a load of the hart's own cell, whose word counts
+/// for nothing. (What a seat knows changes by a step alone.)
+pub fn open_order(words: &Words, seat: &mut Place, config: &Config, hart: u8, request: &Request)
+    requires fit { IsFit words.now.table_id words.now.key config.now seat.old }
+    requires hart { seat.old.me.0.hart ≡ hart }
+    ensures fit { IsFit words.now.table_id words.now.key config.now seat.new }
+    ensures view { seat.new.me.0 ≡ ordered request.now.ticket request.now.what seat.old.me.0 }
+{
+    let at = cell(config, hart, request.ticket, hart);
+    let _word = open_as::<Brand>(words, seat, at, request.ticket, request.what);
 }
 
 fn arm_as<T: Turn>(words: &Words, seat: &mut Place, word: usize, _ticket: u32, _to: u8)

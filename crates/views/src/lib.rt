@@ -12,7 +12,7 @@ mod steps;
 mod view;
 mod walks;
 
-pub use cells::{acknowledge, acknowledge_self, arm, collect};
+pub use cells::{acknowledge, acknowledge_self, arm, collect, open_order};
 pub use edits::{decide, edit, store};
 pub use laws::collected_is_clean;
 pub use opening::{deal, open};
