@@ -1,5 +1,5 @@
 -- The board's rule, between any two atomic steps, and what one step owes.
-use Rattle.std.specs.Prelude.{◌≡◌, ℕ, ◌^◌, ◌<◌, slice_index, slice_set, length, true}
+use Rattle.std.specs.Prelude.{◌≡◌, ◌⊎◌, ℕ, ◌^◌, ◌<◌, slice_index, slice_set, length, true}
 use mathlib.Core.Option.{some}
 use lib.ListN.{get_elem?}
 use Rattle.atomic_table.specs.Table.{State}
@@ -7,10 +7,12 @@ use Rattle.pte.specs.Address.{Holds, Span}
 use Rattle.spaces.specs.declared.configuration.Config.{Config}
 use Rattle.spaces.specs.declared.places.Place.{Place}
 use Rattle.spaces.specs.Layout.{layout_of}
+use Rattle.spaces.specs.Opening.{opening}
+use Rattle.spaces.specs.Held.{words_of}
 use Rattle.tlb.specs.Mappings.{IsMappedBy, Translates}
 use Rattle.views.specs.declared.view.Order.{Order}
 use Rattle.views.specs.declared.view.View.{View}
-use Rattle.views.specs.Rule.{Tabled}
+use Rattle.views.specs.Rule.{memory_of, tables_in, Tabled}
 use Rattle.views.specs.Orders.{IsAsidFor, IsLive, is_in, Ordered}
 
 pub record Board (c : Config) (s : State ℕ View) : Type 0 where
@@ -27,3 +29,9 @@ abbrev pub CollectedIsClean : Type 0
 CollectedIsClean = (c : Config) (s : State ℕ View) → Board c s → (i : ℕ) (v : View) → get_elem? s.views i ≡ some v → (n : ℕ) (k : Order) → get_elem? v.orders n ≡ some k
     → (place : Place) (page : Span) → IsLive k place page → (h : ℕ) → h < length (layout_of c).spares → is_in h k.collected ≡ true
     → (j : ℕ) (w : View) → get_elem? s.views j ≡ some w → w.hart ≡ h → (asid va : ℕ) → IsAsidFor c place asid → Holds page va → ¬ Translates (IsMappedBy w.entries) asid va
+
+-- a word of a frame is as the view of this hart says, or as at the opening
+abbrev pub IsAsSaid : Config → State ℕ View → ℕ → ℕ → ℕ → Type 0
+IsAsSaid c s h f i =
+    ((j : ℕ) × (v : View) × (get_elem? s.views j ≡ some v) × (v.hart ≡ h) × (tables_in (layout_of c) s.words f i ≡ words_of (memory_of (layout_of c) v) f i))
+    ⊎ (tables_in (layout_of c) s.words f i ≡ opening (layout_of c) f i)
