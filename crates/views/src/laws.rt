@@ -11,12 +11,30 @@ ghost use Rattle.spaces.specs.Holders.{Holders};
 ghost use Rattle.spaces.specs.Tree.{IsAtHome, IsTree};
 ghost use Rattle.views.specs.declared.view.View.{View};
 ghost use Rattle.views.specs.Rule.{Has, tables_in};
-ghost use Rattle.views.specs.Board.{Board, CollectedIsClean, IsAsSaid};
+ghost use Rattle.views.specs.Board.{AcknowledgedIsClean, Board, CollectedIsClean, EqualWordsAskForEqualService, IsAsSaid, UnmappedStaysUnmapped};
 
 /// Once a hart was collected for an unmapping whose page is not mapped anew, what it filled translates no address of the page in
 /// any address space of the place.
 pub fn collected_is_clean()
     ensures { CollectedIsClean }
+{}
+
+/// While an unmapping in a home's view is not marked anew, nothing that the home's words map from a root of its place, or the
+/// shared words, lies in its page.
+pub fn unmapped_page_stays_unmapped()
+    ensures { UnmappedStaysUnmapped }
+{}
+
+/// Once a cell that was armed for an unmapping has the word of what it asks, the receiver's entries translate no address of the
+/// page, until it is mapped anew.
+pub fn acknowledged_is_clean()
+    ensures { AcknowledgedIsClean }
+{}
+
+/// Requests whose acknowledgement words are equal ask for equal service: an acknowledgement that was meant for another request
+/// says as much.
+pub fn equal_words_ask_for_equal_service()
+    ensures { EqualWordsAskForEqualService }
 {}
 
 /// Each table word is as its home's view says, or as at the opening while its home has no seat yet.
