@@ -17,3 +17,4 @@ pub mod DealOrders
 pub mod Pairs
 pub mod Collected
 pub mod Tables
+pub mod Asking

@@ -3,6 +3,7 @@
 
 ghost use Rattle.std.specs.Prelude.{◌≡◌, ℕ, ◌<◌, [], length, not, if◌then◌else◌};
 ghost use Rattle.std.specs.List.{AllPass};
+ghost use Rattle.pte.specs.declared.address.What.{What as Asked};
 ghost use Rattle.spaces.specs.Layout.{layout_of};
 ghost use Rattle.spaces.specs.Limits.{max_live_frames, MeetsLimits};
 ghost use Rattle.tlb.specs.Service.{is_served};
@@ -50,6 +51,7 @@ pub fn open_order(words: &Words, seat: &mut Place, config: &Config, hart: u8, re
     requires hart { seat.old.me.0.hart ≡ hart }
     ensures fit { IsFit words.now.table_id words.now.key config.now seat.new }
     ensures view { seat.new.me.0 ≡ ordered request.now.ticket request.now.what seat.old.me.0 }
+    ensures asks { IsAsking config.now seat.new.me.0 request.now.ticket request.now.what }
 {
     let at = cell(config, hart, request.ticket, hart);
     let _word = open_as::<Brand>(words, seat, at, request.ticket, request.what);
@@ -75,6 +77,7 @@ pub fn arm(words: &Words, seat: &mut Place, config: &Config, hart: u8, ticket: u
     requires to { to < length (layout_of config.now).spares }
     ensures fit { IsFit words.now.table_id words.now.key config.now seat.new }
     ensures view { seat.new.me.0 ≡ with_armed ticket to seat.old.me.0 }
+    ensures awaits { (what : Asked) → IsAsking config.now seat.old.me.0 ticket what → IsAwaiting config.now seat.new.me.0 ticket to what }
 {
     let at = cell(config, hart, ticket, to);
     arm_as::<Brand>(words, seat, at, ticket, to)
@@ -190,6 +193,7 @@ pub fn collect(
     requires awaits { IsAwaiting config.now seat.old.me.0 request.now.ticket from request.now.what }
     ensures fit { IsFit words.now.table_id words.now.key config.now seat.new }
     ensures view { seat.new.me.0 ≡ (if result then with_collected request.now.ticket from seat.old.me.0 else seat.old.me.0) }
+    ensures awaits { IsAwaiting config.now seat.new.me.0 request.now.ticket from request.now.what }
 {
     let at = cell(config, hart, request.ticket, from);
     let word = collect_as::<Brand>(words, seat, at, from, *request);
