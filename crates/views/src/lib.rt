@@ -26,4 +26,6 @@ pub use view::{Cause, Order, Read, View};
 pub use walks::walk;
 
 #[cfg(test)]
+mod cell_tests;
+#[cfg(test)]
 mod tests;

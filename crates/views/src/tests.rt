@@ -23,7 +23,7 @@ const USER: Ctx = Ctx {
 const RUAD: u8 = 0xD2;
 
 /// One slot of the window, and for each of two harts a space and 4 spare frames.
-fn two_harts(scheme: Scheme) -> Config {
+pub(crate) fn two_harts(scheme: Scheme) -> Config {
     let mut spaces = ArrayVec::new();
     spaces.push(Space { home: 0, asid: 1 });
     spaces.push(Space { home: 1, asid: 2 });
