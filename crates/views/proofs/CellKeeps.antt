@@ -24,7 +24,7 @@ use Rattle.tlb.specs.Mappings.{maps_into}
 use Rattle.tlb.specs.Service.{overlaps, served}
 use Rattle.tlb.proofs.Keeping.{AllPass-served}
 use Rattle.tlb.proofs.Mapped.{served_global_page, served_space_page}
-use Rattle.views.specs.declared.view.Cause.TheVariants.{Unmapped}
+use Rattle.views.specs.declared.view.Cause.TheVariants.{Unmapped, Other}
 use Rattle.views.specs.declared.view.Order.{Order}
 use Rattle.views.specs.declared.view.View.{View}
 use Rattle.views.specs.Rule.{board_size, cell, memory_of, size, tickets, Seated, Tabled}
@@ -32,7 +32,7 @@ use Rattle.shoot.specs.Acknowledgement.{IsAskable, acknowledgement}
 use Rattle.shoot.proofs.AcknowledgementWords.{not_zero}
 use Rattle.views.specs.Orders.{asid_for, asid_in, asked, dropping, is_in, IsLive, Misses, IsClean, Kept, ArePlain, Ordered}
 use Rattle.views.specs.Board.{Board, Steps}
-use Rattle.views.specs.OrderTurns.{IsAsking, IsAwaiting, armed, collected, dropped, for_ticket, looked, open_order, self_acked, with_armed, with_collected}
+use Rattle.views.specs.OrderTurns.{IsAsking, IsAwaiting, armed, collected, dropped, for_ticket, fresh, looked, open_order, ordered, self_acked, with_armed, with_collected}
 use Rattle.views.proofs.Fills.{user-page}
 use Rattle.views.proofs.Keeps.{keeps-load}
 use Rattle.views.proofs.OrderKeeps.{Change, stays, clears, acks, receiver, clean-mine, idle-orders, stands, keeps-orders}
@@ -192,7 +192,7 @@ module _ (c : Config) (id : ℕ) (v : View) where
     mine-clean : (place : Place) (page : Span) → is_wrong_half (layout_of c) place page ≡ false → dropping c place page ≡ what → IsClean acked-views v.hart page (asid_for c place)
     mine-clean place page half e = clean-mine c s b o id v w at hart acked-words fewer acked-cells page (asid_for c place) (now-misses place page half e)
 
-  pub acknowledges : (from ticket : ℕ) (what : What) → from < length (layout_of c).spares → ticket < tickets → IsAskable what
+  acknowledges : (from ticket : ℕ) (what : What) → from < length (layout_of c).spares → ticket < tickets → IsAskable what
       → Steps c id v (cell (layout_of c) from ticket v.hart) (λ _. acknowledgement what) (λ _. dropped what v) (λ _. Unit {0})
   acknowledges from ticket what small-from small-ticket asks s b at fits =
       let t = b.tables.each id v at in (
@@ -204,6 +204,31 @@ module _ (c : Config) (id : ℕ) (v : View) where
         },
         tt,
       )
+
+  pub acknowledges-by : (from ticket word : ℕ) (what : What) → from < length (layout_of c).spares → ticket < tickets → IsAskable what → word ≡ acknowledgement what
+      → Steps c id v (cell (layout_of c) from ticket v.hart) (λ _. word) (λ _. dropped what v) (λ _. Unit {0})
+  acknowledges-by from ticket word what small-from small-ticket asks is =
+      subst (λ (x : ℕ). Steps c id v (cell (layout_of c) from ticket v.hart) (λ _. x) (λ _. dropped what v) (λ _. Unit {0})) (sym is) (acknowledges from ticket what small-from small-ticket asks)
+
+  -- an order that follows no store opens with a load that changes nothing else
+  pub opens-order : (i ticket : ℕ) (what : What) → Steps c id v i (λ n. n) (λ _. ordered ticket what v) (λ _. Unit {0})
+  opens-order i ticket what s b at fits = (
+    subst (λ (ws : List ℕ). Board c record { words = ws; homes = s.homes; views = slice_set s.views id (ordered ticket what v) }) (sym (set-get_or s.words i 0)) (
+        let t = b.tables.each id v at in
+        record {
+          tables = keeps-load c s b.tables id v (ordered ticket what v) at refl refl record { config = t.config; local = record { hart = t.local.hart; memory = t.local.memory; alone = t.local.alone; lowest = t.local.lowest }; own = t.own; walk = t.walk };
+          orders =
+              keeps-orders c s b.tables b.orders id v (ordered ticket what v) at refl s.words (λ j u at-u n k at-k place page live m. m) (λ a t h less. stays refl) (b.orders.plain id v at) (mine s b at) s.homes;
+        }),
+    tt,
+  )
+    where
+      mine : (s : State ℕ View) (b : Board c s) (at : get_elem? s.views id ≡ some v) (n : ℕ) (k : Order) → get_elem? (fresh ticket (Other what) ∷ v.orders) n ≡ some k → (place : Place) (page : Span) → IsLive k place page
+          → Kept c s.words (slice_set s.views id (ordered ticket what v)) v.hart (memory_of (layout_of c) v) k place page
+      mine s b at zero k at-k place page live =
+          absurd (let one = some-injective (fresh ticket (Other what)) k at-k in let bad : Other what ≡ Unmapped place page = ap (λ (z : Order). z.cause) one ∙ live.0 in cc)
+      mine s b at (suc n) k at-k place page live =
+          stands c s b.tables b.orders id v (ordered ticket what v) at refl s.words (λ j u at-u n k at-k place page live m. m) (λ a t h less. stays refl) id v at n k at-k place page live
 
   -- looking at a cell
   module _ (ticket from : ℕ) (what : What) (small : from < length (layout_of c).spares) (awaits : IsAwaiting c v ticket from what) (s : State ℕ View) (b : Tabled c s) (o : Ordered c s)
@@ -265,7 +290,7 @@ module _ (c : Config) (id : ℕ) (v : View) where
       by false e = record { tables = keeps-load c s b.tables id v v at refl refl (b.tables.each id v at); orders = idle-orders c s b.tables b.orders id v at }
 
   -- the sender's own acknowledgement
-  pub acknowledges-self : (ticket : ℕ) (what : What) → ticket < tickets → IsAskable what → IsAsking c v ticket what
+  acknowledges-self : (ticket : ℕ) (what : What) → ticket < tickets → IsAskable what → IsAsking c v ticket what
       → Steps c id v (cell (layout_of c) v.hart ticket v.hart) (λ _. acknowledgement what) (λ _. self_acked ticket what v) (λ _. Unit {0})
   acknowledges-self ticket what small-ticket asks asking s b at fits =
       let t = b.tables.each id v at in
@@ -309,6 +334,11 @@ module _ (c : Config) (id : ℕ) (v : View) where
               | inr before ↦ t.gone h less before
             ];
           }
+
+  pub acknowledges-self-by : (ticket word : ℕ) (what : What) → ticket < tickets → IsAskable what → IsAsking c v ticket what → word ≡ acknowledgement what
+      → Steps c id v (cell (layout_of c) v.hart ticket v.hart) (λ _. word) (λ _. self_acked ticket what v) (λ _. Unit {0})
+  acknowledges-self-by ticket word what small-ticket asks asking is =
+      subst (λ (x : ℕ). Steps c id v (cell (layout_of c) v.hart ticket v.hart) (λ _. x) (λ _. self_acked ticket what v) (λ _. Unit {0})) (sym is) (acknowledges-self ticket what small-ticket asks asking)
 
 -- how many words there are at most
 pub small-board : (c : Config) → MeetsLimits max_live_frames c → board_size (layout_of c) < 2 ^ 32

@@ -42,7 +42,7 @@ use Rattle.views.specs.declared.view.Order.{Order}
 use Rattle.views.specs.declared.view.View.{View}
 use Rattle.views.specs.Rule.{memory_of, tables_in, Tabled}
 use Rattle.views.specs.Turns.{asid_at}
-use Rattle.views.specs.Orders.{asid_in, asid_for, dropping, IsLive, IsUserPage, Kept, Ordered}
+use Rattle.views.specs.Orders.{asid_in, asid_for, dropping, IsLive, IsUnmapped, IsUserPage, Kept, Ordered}
 use Rattle.views.proofs.EditKeeps.{live-layout}
 use Rattle.views.proofs.MappedAtHome.{member-place, mapped-in-view}
 use Rattle.views.proofs.RealTree.{holders-all, real-tree}
@@ -75,6 +75,23 @@ page-of c Kernel page f = f
 pub user-page : (l : Layout) (s : ℕ) (page : Span) → IsPage page → is_wrong_half l (Space s) page ≡ false → IsUserPage l.scheme page
 user-page l s page is half = record { fits = fit-page l (Space s) page half is; low = within l (Space s) page half }
 
+-- nothing that the shared words map lies in the page of an unmapping that is not marked anew
+module _ (c : Config) (s : State ℕ View) (b : Tabled c s) (o : Ordered c s) (j : ℕ) (u : View) (at-u : get_elem? s.views j ≡ some u) (n : ℕ) (k : Order) (at-k : get_elem? u.orders n ≡ some k) (place : Place)
+    (page : Span) (live : IsLive k place page) where
+  pub unmapped-shared : IsUnmapped (layout_of c) (tables_in (layout_of c) s.words) place page
+  unmapped-shared sp number ppn flags global has about maps =
+      let kept : Kept c s.words s.views u.hart (memory_of (layout_of c) u) k place page = o.kept j u at-u n k at-k place page live in
+      let is-page : IsPage page = page-of c place page kept.askable in
+      let fits = live-layout c b.limits in
+      let t = b.each j u at-u in
+      let m = member-place (layout_of c) fits (tables_in (layout_of c) s.words) (words_of (memory_of (layout_of c) u)) (holders-all c s b) (holders_of (memory_of (layout_of c) u)) (real-tree c s b)
+      t.local.memory.tree u.hart t.local.hart t.own sp number ppn flags global has maps in
+      let same : m.on.place ≡ place = place-same (layout_of c) fits place m.on.place page sp number m.va is-page kept.right_half about.0 about.1 m.canonical m.of_page m.on.hangs m.on.within in
+      let home : home_of (layout_of c) m.on.place ≡ u.hart = ap (home_of (layout_of c)) same ∙ kept.at_home in
+      let there = mapped-in-view (layout_of c) fits (tables_in (layout_of c) s.words) (words_of (memory_of (layout_of c) u)) (holders-all c s b) (holders_of (memory_of (layout_of c) u)) (real-tree c s b)
+      t.local.memory.tree u.hart t.local.hart t.own sp number ppn flags global has maps home in
+      kept.unmapped sp number ppn flags global has about there
+
 module _ (c : Config) (s : State ℕ View) (b : Tabled c s) (o : Ordered c s) (sp va : ℕ) (access : Access) (ctx : Ctx) (found : Found) (has : sp < length (layout_of c).homes)
     (is : Outcome c.scheme (tables_in (layout_of c) s.words) (root_ppn (layout_of c) sp) va access ctx (Ok found)) where
   -- what is found in the user's half is not global
@@ -106,17 +123,7 @@ module _ (c : Config) (s : State ℕ View) (b : Tabled c s) (o : Ordered c s) (s
     elsewhere : HangsBelow place sp → (asid : ℕ) (space : Option ℕ) → IsTrue (not (maps_into page space (entry_of asid found)))
     elsewhere hangs asid space =
         entry_is_elsewhere c.scheme (tables_in (layout_of c) s.words) (root_ppn (layout_of c) sp) va access ctx found asid is page (λ at ppn flags global holds maps.
-        let fits = live-layout c b.limits in
-        let t = b.each j u at-u in
-        let inside : IsPart page (page_number at) = part page (page_number at) (lies_in page at is-page holds) in
-        let m = member-place (layout_of c) fits (tables_in (layout_of c) s.words) (words_of (memory_of (layout_of c) u)) (holders-all c s b) (holders_of (memory_of (layout_of c) u)) (real-tree c s b)
-        t.local.memory.tree u.hart t.local.hart t.own sp (page_number at) ppn flags global has maps in
-        let same : m.on.place ≡ place =
-        place-same (layout_of c) fits place m.on.place page sp (page_number at) m.va is-page kept.right_half hangs inside m.canonical m.of_page m.on.hangs m.on.within in
-        let home : home_of (layout_of c) m.on.place ≡ u.hart = ap (home_of (layout_of c)) same ∙ kept.at_home in
-        let there = mapped-in-view (layout_of c) fits (tables_in (layout_of c) s.words) (words_of (memory_of (layout_of c) u)) (holders-all c s b) (holders_of (memory_of (layout_of c) u)) (real-tree c s b)
-        t.local.memory.tree u.hart t.local.hart t.own sp (page_number at) ppn flags global has maps home in
-        kept.unmapped sp (page_number at) ppn flags global has (hangs, inside) there) space
+        unmapped-shared c s b o j u at-u n k at-k place page live sp (page_number at) ppn flags global has (hangs, part page (page_number at) (lies_in page at is-page holds)) maps) space
 
     misses-by : (p : Place) → place ≡ p → (asid : ℕ) → asid ≡ asid_in c sp → IsTrue (not (maps_into page (asid_for c p) (entry_of asid found)))
     misses-by Kernel e asid a = elsewhere (subst (λ q. HangsBelow q sp) (sym e) tt) asid None

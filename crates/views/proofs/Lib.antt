@@ -16,3 +16,5 @@ pub mod CellKeeps
 pub mod DealOrders
 pub mod Pairs
 pub mod Collected
+pub mod Tables
+pub mod Asking

@@ -1,17 +1,23 @@
 -- The board's rule, between any two atomic steps, and what one step owes.
-use Rattle.std.specs.Prelude.{◌≡◌, ℕ, ◌^◌, ◌<◌, slice_index, slice_set, length, true}
+use Rattle.std.specs.Prelude.{◌≡◌, ◌⊎◌, ℕ, ◌^◌, ◌<◌, List, slice_index, slice_set, length, true}
 use mathlib.Core.Option.{some}
 use lib.ListN.{get_elem?}
 use Rattle.atomic_table.specs.Table.{State}
+use Rattle.pte.specs.declared.address.What.{What}
 use Rattle.pte.specs.Address.{Holds, Span}
 use Rattle.spaces.specs.declared.configuration.Config.{Config}
 use Rattle.spaces.specs.declared.places.Place.{Place}
 use Rattle.spaces.specs.Layout.{layout_of}
+use Rattle.spaces.specs.Opening.{opening}
+use Rattle.spaces.specs.Held.{words_of}
+use Rattle.tlb.specs.declared.store.Entry.{Entry}
 use Rattle.tlb.specs.Mappings.{IsMappedBy, Translates}
+use Rattle.tlb.specs.Service.{served}
+use Rattle.shoot.specs.Acknowledgement.{IsAskable, acknowledgement}
 use Rattle.views.specs.declared.view.Order.{Order}
 use Rattle.views.specs.declared.view.View.{View}
-use Rattle.views.specs.Rule.{Tabled}
-use Rattle.views.specs.Orders.{IsAsidFor, IsLive, is_in, Ordered}
+use Rattle.views.specs.Rule.{cell, memory_of, tables_in, Tabled}
+use Rattle.views.specs.Orders.{dropping, IsAsidFor, IsLive, IsUnmapped, is_in, Ordered}
 
 pub record Board (c : Config) (s : State ℕ View) : Type 0 where
   pub tables : Tabled c s
@@ -22,8 +28,34 @@ abbrev pub Steps : Config → ℕ → View → ℕ → (ℕ → ℕ) → (ℕ �
 Steps c id v i f after tells = (s : State ℕ View) → Board c s → get_elem? s.views id ≡ some v → slice_index s.words i < 2 ^ 64
     → Board c record { words = slice_set s.words i (f (slice_index s.words i)); homes = s.homes; views = slice_set s.views id (after (slice_index s.words i)) } × tells (slice_index s.words i)
 
--- once a hart was collected for an unmapping that is not marked anew, its entries translate no address of the page
+-- while an unmapping is not marked anew, nothing that its home's words map, or the shared words, lies in its page
+abbrev pub UnmappedStaysUnmapped : Type 0
+UnmappedStaysUnmapped = (c : Config) (s : State ℕ View) → Board c s → (i : ℕ) (v : View) → get_elem? s.views i ≡ some v → (n : ℕ) (k : Order) → get_elem? v.orders n ≡ some k
+    → (place : Place) (page : Span) → IsLive k place page
+    → IsUnmapped (layout_of c) (words_of (memory_of (layout_of c) v)) place page × IsUnmapped (layout_of c) (tables_in (layout_of c) s.words) place page
+
+-- the entries of the hart translate no address of the page of a place
+abbrev pub TranslatesNone : Config → List View → ℕ → Place → Span → Type 0
+TranslatesNone c views h place page = (j : ℕ) (w : View) → get_elem? views j ≡ some w → w.hart ≡ h → (asid va : ℕ) → IsAsidFor c place asid → Holds page va → ¬ Translates (IsMappedBy w.entries) asid va
+
+-- once a cell that was armed for an unmapping has the word of what it asks, the receiver translates no address of the page,
+-- until it is mapped anew
+abbrev pub AcknowledgedIsClean : Type 0
+AcknowledgedIsClean = (c : Config) (s : State ℕ View) → Board c s → (i : ℕ) (v : View) → get_elem? s.views i ≡ some v → (n : ℕ) (k : Order) → get_elem? v.orders n ≡ some k
+    → (place : Place) (page : Span) → IsLive k place page → (h : ℕ) → h < length (layout_of c).spares → is_in h k.armed ≡ true
+    → slice_index s.words (cell (layout_of c) v.hart k.ticket h) ≡ acknowledgement (dropping c place page) → TranslatesNone c s.views h place page
+
+-- so it is once the hart was collected, also when the ticket is used again
 abbrev pub CollectedIsClean : Type 0
 CollectedIsClean = (c : Config) (s : State ℕ View) → Board c s → (i : ℕ) (v : View) → get_elem? s.views i ≡ some v → (n : ℕ) (k : Order) → get_elem? v.orders n ≡ some k
-    → (place : Place) (page : Span) → IsLive k place page → (h : ℕ) → h < length (layout_of c).spares → is_in h k.collected ≡ true
-    → (j : ℕ) (w : View) → get_elem? s.views j ≡ some w → w.hart ≡ h → (asid va : ℕ) → IsAsidFor c place asid → Holds page va → ¬ Translates (IsMappedBy w.entries) asid va
+    → (place : Place) (page : Span) → IsLive k place page → (h : ℕ) → h < length (layout_of c).spares → is_in h k.collected ≡ true → TranslatesNone c s.views h place page
+
+-- requests with one word ask for one service
+abbrev pub EqualWordsAskForEqualService : Type 0
+EqualWordsAskForEqualService = (a d : What) → IsAskable a → IsAskable d → acknowledgement a ≡ acknowledgement d → (entries : List Entry) → served entries a ≡ served entries d
+
+-- a word of a frame is as the view of this hart says, or as at the opening
+abbrev pub IsAsSaid : Config → State ℕ View → ℕ → ℕ → ℕ → Type 0
+IsAsSaid c s h f i =
+    ((j : ℕ) × (v : View) × (get_elem? s.views j ≡ some v) × (v.hart ≡ h) × (tables_in (layout_of c) s.words f i ≡ words_of (memory_of (layout_of c) v) f i))
+    ⊎ (tables_in (layout_of c) s.words f i ≡ opening (layout_of c) f i)

@@ -26,6 +26,10 @@ marked place page k = record k { anew = is_over k.cause place page || k.anew }
 abbrev pub fresh : ℕ → Cause → Order
 fresh ticket cause = record { ticket = ticket; cause = cause; anew = false; armed = []; collected = [] }
 
+-- an order that follows no store
+abbrev pub ordered : ℕ → What → View → View
+ordered ticket what v = record v { orders = fresh ticket (Other what) ∷ v.orders }
+
 -- the orders after an edit, which opens one under this ticket unless it maps
 abbrev pub orders_after : Config → Wish → ℕ → Store → List Order → List Order
 orders_after c (Map place page ppn flags) ticket store ks = if is_some (pointed (Some store.word)) then ks else map (marked place page) ks

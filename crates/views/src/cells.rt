@@ -3,12 +3,13 @@
 
 ghost use Rattle.std.specs.Prelude.{◌≡◌, ℕ, ◌<◌, [], length, not, if◌then◌else◌};
 ghost use Rattle.std.specs.List.{AllPass};
+ghost use Rattle.pte.specs.declared.address.What.{What as Asked};
 ghost use Rattle.spaces.specs.Layout.{layout_of};
 ghost use Rattle.spaces.specs.Limits.{max_live_frames, MeetsLimits};
 ghost use Rattle.tlb.specs.Service.{is_served};
 ghost use Rattle.views.specs.Rule.{board_size, cell, IsFit, tickets};
 ghost use Rattle.views.specs.Board.{Steps};
-ghost use Rattle.views.specs.OrderTurns.{IsAsking, IsAwaiting, dropped, self_acked, with_armed, with_collected};
+ghost use Rattle.views.specs.OrderTurns.{IsAsking, IsAwaiting, dropped, ordered, self_acked, with_armed, with_collected};
 
 use crate::rule::{Place, Turn, Words, load, store};
 use pte::{TABLE_LENGTH, What};
@@ -31,6 +32,31 @@ fn cell(config: &Config, sender: u8, ticket: u32, receiver: u8) -> usize
     (words + (row * u64::from(config.harts) + u64::from(receiver))) as usize
 }
 
+fn open_as<T: Turn>(words: &Words, seat: &mut Place, word: usize, _ticket: u32, _what: What) -> u64
+    requires same { seat.old.table_id ≡ words.now.table_id }
+    requires inside { word < words.now.table_id.words }
+    requires bare { seat.old.me.1 ≡ [] }
+    requires steps { Steps words.now.key seat.old.id seat.old.me.0 word (λ n. n) T.after T.tells }
+    ensures same { seat.new.table_id ≡ seat.old.table_id }
+    ensures id { seat.new.id ≡ seat.old.id }
+    ensures view { seat.new.me ≡ (T.after result, []) }
+{
+    load::<T>(words, seat, word)
+}
+
+/// Opens an order that follows no store, as that of a flush, under a ticket: a load of the hart's own cell, whose word counts
+/// for nothing. (What a seat knows changes by a step alone.)
+pub fn open_order(words: &Words, seat: &mut Place, config: &Config, hart: u8, request: &Request)
+    requires fit { IsFit words.now.table_id words.now.key config.now seat.old }
+    requires hart { seat.old.me.0.hart ≡ hart }
+    ensures fit { IsFit words.now.table_id words.now.key config.now seat.new }
+    ensures view { seat.new.me.0 ≡ ordered request.now.ticket request.now.what seat.old.me.0 }
+    ensures asks { IsAsking config.now seat.new.me.0 request.now.ticket request.now.what }
+{
+    let at = cell(config, hart, request.ticket, hart);
+    let _word = open_as::<Brand>(words, seat, at, request.ticket, request.what);
+}
+
 fn arm_as<T: Turn>(words: &Words, seat: &mut Place, word: usize, _ticket: u32, _to: u8)
     requires same { seat.old.table_id ≡ words.now.table_id }
     requires inside { word < words.now.table_id.words }
@@ -51,6 +77,7 @@ pub fn arm(words: &Words, seat: &mut Place, config: &Config, hart: u8, ticket: u
     requires to { to < length (layout_of config.now).spares }
     ensures fit { IsFit words.now.table_id words.now.key config.now seat.new }
     ensures view { seat.new.me.0 ≡ with_armed ticket to seat.old.me.0 }
+    ensures awaits { (what : Asked) → IsAsking config.now seat.old.me.0 ticket what → IsAwaiting config.now seat.new.me.0 ticket to what }
 {
     let at = cell(config, hart, ticket, to);
     arm_as::<Brand>(words, seat, at, ticket, to)
@@ -166,6 +193,7 @@ pub fn collect(
     requires awaits { IsAwaiting config.now seat.old.me.0 request.now.ticket from request.now.what }
     ensures fit { IsFit words.now.table_id words.now.key config.now seat.new }
     ensures view { seat.new.me.0 ≡ (if result then with_collected request.now.ticket from seat.old.me.0 else seat.old.me.0) }
+    ensures awaits { IsAwaiting config.now seat.new.me.0 request.now.ticket from request.now.what }
 {
     let at = cell(config, hart, request.ticket, from);
     let word = collect_as::<Brand>(words, seat, at, from, *request);

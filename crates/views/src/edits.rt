@@ -2,6 +2,8 @@
 
 ghost use Rattle.std.specs.Prelude.{◌≡◌, is_some, MatchResult, Ok, Some};
 ghost use Rattle.walk.specs.Pointers.{pointed};
+ghost use Rattle.spaces.specs.declared.places.Place.TheVariants as place;
+ghost use Rattle.views.specs.Orders.{asid_in};
 ghost use Rattle.spaces.specs.Layout.{HasPlace, layout_of};
 ghost use Rattle.spaces.specs.Edits.{place_of};
 ghost use Rattle.views.specs.Rule.{IsFit};
@@ -11,7 +13,7 @@ ghost use Rattle.views.specs.OrderTurns.{IsAsked, noted};
 use crate::rule::{Place, Words};
 use crate::steps::{read_home, store_edit};
 use pte::{Kind, Pte};
-use spaces::{Config, Edit, EditWalk, MapFault, Next, Wish};
+use spaces::{Config, Edit, EditWalk, MapFault, Next, Place as Home, Wish};
 
 /// The store that a wish takes, or why none is due, over the home's view. It is not made: `store_edit` makes it, and the view
 /// stays until then. `used` is how many of the hart's spare frames are in use.
@@ -47,6 +49,39 @@ pub fn decide(
     }
 }
 
+/// The ASID of a space.
+fn asid_in(config: &Config, space: u8) -> u16
+    requires { HasPlace (layout_of config.now) (place.Space space) }
+    ensures { result ≡ asid_in config.now space }
+{
+    config.spaces[usize::from(space)].asid
+}
+
+/// What a wish asks for can be asked: its page is one, and an ASID has 16 bits.
+fn ask(config: &Config, wish: &Wish)
+    requires { HasPlace (layout_of config.now) (place_of wish.now) }
+    ensures { IsAsked config.now wish.now }
+{
+    match *wish {
+        Wish::Map { page, .. } | Wish::Protect { page, .. } => {
+            let _base = page.base();
+        }
+        Wish::Unmap {
+            place: Home::Space(space),
+            page,
+        } => {
+            let _base = page.base();
+            let _asid = asid_in(config, space);
+        }
+        Wish::Unmap {
+            place: Home::Kernel,
+            page,
+        } => {
+            let _base = page.base();
+        }
+    }
+}
+
 /// Whether a word is a pointer.
 fn is_pointer(word: u64) -> bool
     ensures { result ≡ is_some (pointed (Some word)) }
@@ -72,12 +107,12 @@ pub fn store(
     requires fit { IsFit words.now.table_id words.now.key config.now seat.old }
     requires used { seat.old.me.0.used ≡ used.old }
     requires place { HasPlace (layout_of config.now) (place_of wish.now) }
-    requires asked { IsAsked config.now wish.now }
     requires due { edit_over (layout_of config.now) seat.old.me.0 wish.now ≡ Ok edit.now }
     ensures fit { IsFit words.now.table_id words.now.key config.now seat.new }
     ensures view { seat.new.me.0 ≡ noted config.now wish.now ticket seat.old.me.0 edit.now }
     ensures used { seat.new.me.0.used ≡ used.new }
 {
+    ask(config, wish);
     store_edit(words, seat, config, edit, wish, ticket);
     if is_pointer(edit.word()) {
         *used += 1;
@@ -99,7 +134,6 @@ pub fn edit(
     requires hart { seat.old.me.0.hart ≡ hart }
     requires used { seat.old.me.0.used ≡ used.old }
     requires place { HasPlace (layout_of config.now) (place_of wish.now) }
-    requires asked { IsAsked config.now wish.now }
     ensures fit { IsFit words.now.table_id words.now.key config.now seat.new }
     ensures answer { result ≡ edit_over (layout_of config.now) seat.old.me.0 wish.now }
     ensures view { MatchResult result (λ edit. seat.new.me.0 ≡ noted config.now wish.now ticket seat.old.me.0 edit) (λ _. seat.new.me.0 ≡ seat.old.me.0) }

@@ -1,0 +1,17 @@
+use Rattle.std.proofs.Common.{ap, sym, subst}
+use Rattle.shoot.specs.Request.{Message}
+use Rattle.views.specs.declared.view.View.{View}
+use Rattle.views.specs.OrderTurns.{IsAsking}
+use Rattle.views.proofs.Asking.{ordered-asks}
+use Rattle.views.proofs.CellKeeps.{opens-order}
+use Rattle.views.proofs.cells.open_order.Goals as goal
+
+pub open_as-word-requires-clause-steps : goal.open_as-word-requires-clause-steps
+open_as-word-requires-clause-steps c =
+    rw (c.requires.fit.key_is) (opens-order c.args.config.now c.args.seat.now.id c.args.seat.now.me.0 c.cell-at.result c.request.inside.ticket c.request.inside.what)
+
+pub returns-clause-asks : goal.returns-clause-asks
+returns-clause-asks c =
+    subst (λ (m : Message). IsAsking c.args.config.now c.open_as-word.new.seat.me.0 m.ticket m.what) c.request.view_is
+    (subst (λ (v : View). IsAsking c.args.config.now v c.request.inside.ticket c.request.inside.what) (sym (ap (λ m. m.0) c.open_as-word.ensures.view))
+    (ordered-asks c.args.config.now c.args.seat.now.me.0 c.request.inside.ticket c.request.inside.what))
