@@ -1,7 +1,7 @@
 -- What the open order of a ticket asks for, after steps on it.
-use Rattle.std.proofs.Common.{◌≡◌, ℕ, ◌==◌, ◌||◌, Bool, true, false, cond, List, [], ◌∷◌, Option, Some, None, refl, ap, ◌∙◌}
+use Rattle.std.proofs.Common.{◌≡◌, ℕ, ◌==◌, Bool, true, false, cond, List, [], ◌∷◌, Some, None, refl, ap, ◌∙◌}
 use Rattle.std.specs.Prelude.{option_map}
-use Rattle.std.proofs.lemmas.Bool.{eq-eqb, or_left, or_right}
+use Rattle.std.proofs.lemmas.Bool.{eq-eqb, or_left}
 use Rattle.pte.specs.declared.address.What.{What}
 use Rattle.spaces.specs.declared.configuration.Config.{Config}
 use Rattle.views.specs.declared.view.Cause.TheVariants.{Other}

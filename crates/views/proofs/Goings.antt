@@ -3,7 +3,7 @@ use Rattle.std.proofs.Common.{◌≡◌, ℕ, ◌+◌, ◌<◌, List, [], ◌∷
 use Rattle.std.proofs.lemmas.Bool.{cases_lt}
 use Rattle.pte.specs.declared.permission.Access.{Access}
 use Rattle.pte.specs.declared.permission.Ctx.{Ctx}
-use Rattle.pte.specs.Address.{IsCanonical, top_level, vpn_of}
+use Rattle.pte.specs.Address.{IsCanonical, level_count, top_level, vpn_of}
 use Rattle.walk.specs.declared.found_or_trap.Found.{Found}
 use Rattle.walk.specs.declared.found_or_trap.Trap.{Trap}
 use Rattle.walk.specs.declared.walking.Progress.{Progress}
@@ -11,7 +11,7 @@ use Rattle.walk.specs.declared.walking.Progress.TheVariants as progress
 use Rattle.walk.specs.Leads.{Tables}
 use Rattle.walk.specs.Loads.{GoesOn}
 use Rattle.walk.specs.Pointers.{pointed}
-use Rattle.walk.specs.Stage.{Stage, start_of}
+use Rattle.walk.specs.Stage.{Stage, OnPath, IsFor, start_of}
 use Rattle.walk.specs.Step.{load_of}
 use Rattle.walk.proofs.Ending.{goes-load, more-points, on_path-start, outcome-same, same-access}
 use Rattle.spaces.specs.Layout.{Layout, user_slots}
@@ -22,10 +22,30 @@ use Rattle.spaces.proofs.Trees.{pointed-zero}
 use Rattle.views.specs.declared.view.Read.{Read}
 use Rattle.views.specs.declared.view.View.{View}
 use Rattle.views.specs.Rule.{Has, Local, memory_of}
-use Rattle.views.specs.Turns.{asid_at, onward, read_of, walked, with_fill, IsStart, TellsLoad}
-use Rattle.views.specs.Walks.{IsHomePath, AnswersByLoads, IsGoing, IsGoingHome}
+use Rattle.views.specs.Turns.{asid_at, onward, read_of, walked, with_fill, IsStart, TellsFrame, TellsLoad}
+use Rattle.views.specs.Walks.{AnswersByLoads, IsHomePath, IsSameHome}
 use Rattle.views.proofs.EditKeeps.{local-home}
 use Rattle.views.proofs.Readings.{has-snoc, snoc-has}
+
+-- the words of a walk's path at home are as the view says, and its table is at home; a pointer there is in a slot that edits write
+pub record IsGoingHome (l : Layout) (v w : View) (st : Stage) (word : ℕ) : Type 0 where
+  pub has : Has (words_of (memory_of l v)) w.reads
+  pub table : IsAtHome l v.hart st.table
+  pub own : (g : ℕ) → pointed (Some word) ≡ Some g → IsOwn l st.table (vpn_of st.va st.level)
+
+-- a walk in mid course: its last word was found, and not yet taken
+pub record IsGoing (l : Layout) (v : View) (root va : ℕ) (access : Access) (ctx : Ctx) (st : Stage) (word : ℕ) (w : View) : Type 0 where
+  pub about : IsFor st va access ctx
+  pub on : (words : Tables) → Has words w.reads → OnPath l.scheme words root st × (words st.table (vpn_of st.va st.level) ≡ Some word)
+  pub frame : TellsFrame l st word
+  pub some_memory : (words : Tables) × Has words w.reads
+  pub at_home : (s : ℕ) → IsHomePath l v root va s → IsGoingHome l v w st word
+  pub stands : w.walk ≡ onward (load_of st (Some word))
+  pub at_root : w.root ≡ root
+  pub entries : w.entries ≡ with_fill (asid_at v.config root) v.entries (load_of st (Some word))
+  pub count : w.loads ≡ v.loads + length w.reads
+  pub depth : st.level + length w.reads ≡ level_count l.scheme
+  pub home : IsSameHome v w
 
 length-snoc : (rs : List Read) (r : Read) → length (rs ++ r ∷ []) ≡ length rs + 1
 length-snoc rs r = omega (arith, length-append rs (r ∷ []))

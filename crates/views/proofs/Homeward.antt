@@ -8,13 +8,18 @@ use Rattle.spaces.specs.declared.edit_walks.Next.TheVariants as next
 use Rattle.spaces.specs.Layout.{Layout, HasPlace, spare_ppn}
 use Rattle.spaces.specs.Held.{holders_of, spare_of, words_of}
 use Rattle.spaces.specs.Edits.{EditStage, IsStage, Store, place_of}
-use Rattle.spaces.specs.EditStages.{Continues, answer_of, edit_next, edit_start, index_of}
+use Rattle.spaces.specs.EditStages.{Continues, WaitsAtHome, answer_from, answer_of, edit_next, edit_start, index_of}
 use Rattle.spaces.proofs.HomeReads.{goes-home, starts-home}
 use Rattle.spaces.proofs.Stages.{begun-as, goes-on, read-there}
 use Rattle.views.specs.declared.view.View.{View}
 use Rattle.views.specs.Rule.{Local, memory_of}
-use Rattle.views.specs.Edits.{edit_over, IsReading}
+use Rattle.views.specs.Edits.{edit_over}
 use Rattle.views.proofs.EditKeeps.{local-home, next-spare}
+
+-- an edit in mid course waits for a word at home, and ends as it is due
+pub record IsReading (l : Layout) (v : View) (wish : Wish) (spare : Option ℕ) (e : EditStage) : Type 0 where
+  pub waits : WaitsAtHome l v.hart e
+  pub end : answer_from e (words_of (memory_of l v)) spare ≡ edit_over l v wish
 
 module _ (l : Layout) (v : View) (local : Local l v) (wish : Wish) (spare : Option ℕ) (spare-is : spare ≡ spare_of (memory_of l v) v.hart) where
   pub begins-ok : (e : EditStage) → HasPlace l (place_of wish) → Ok e ≡ edit_start l v.hart wish → IsReading l v wish spare e

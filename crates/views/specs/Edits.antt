@@ -1,19 +1,13 @@
 -- The edit that is due over a home's view.
-use Rattle.std.specs.Prelude.{ℕ, ◌≡◌, Option, Result}
+use Rattle.std.specs.Prelude.{Result}
 use Rattle.spaces.specs.declared.faults.MapFault.{MapFault}
 use Rattle.spaces.specs.declared.wishes.Wish.{Wish}
 use Rattle.spaces.specs.Layout.{Layout}
 use Rattle.spaces.specs.Held.{spare_of, words_of}
-use Rattle.spaces.specs.Edits.{EditStage, Store, edit_of}
-use Rattle.spaces.specs.EditStages.{WaitsAtHome, answer_from}
+use Rattle.spaces.specs.Edits.{Store, edit_of}
 use Rattle.views.specs.declared.view.View.{View}
 use Rattle.views.specs.Rule.{memory_of}
 
 -- what the edit calls answer over table memory as the hart knows it
 abbrev pub edit_over : Layout → View → Wish → Result Store MapFault
 edit_over l v wish = edit_of l (words_of (memory_of l v)) (spare_of (memory_of l v) v.hart) v.hart wish
-
--- an edit in mid course waits for a word at home, and ends as it is due
-pub record IsReading (l : Layout) (v : View) (wish : Wish) (spare : Option ℕ) (e : EditStage) : Type 0 where
-  pub waits : WaitsAtHome l v.hart e
-  pub end : answer_from e (words_of (memory_of l v)) spare ≡ edit_over l v wish

@@ -110,7 +110,7 @@ pub record Tabled (c : Config) (s : State ℕ View) : Type 0 where
 abbrev pub board_words : Layout → List ℕ
 board_words l = first_words l (size l) ++ replicate (length l.spares * tickets * length l.spares) 0
 
--- a hart that has done nothing, and from which seats from this hart on are dealt, or none with 0
+-- the view of a hart that has done nothing; next is the hart that gets the next seat from this one, or 0
 abbrev pub starting : Config → ℕ → ℕ → View
 starting c hart next = record {
   hart = hart;

@@ -1,5 +1,5 @@
 -- What a whole walk answers, by the words that its own loads found.
-use Rattle.std.specs.Prelude.{ℕ, ◌≡◌, ◌+◌, ◌⊎◌, ◌<◌, ◌≤◌, List, [], ◌∷◌, ◌++◌, length, slice_index, Some, Result, Ok, Err}
+use Rattle.std.specs.Prelude.{ℕ, ◌≡◌, ◌+◌, ◌⊎◌, ◌<◌, ◌≤◌, List, [], ◌∷◌, ◌++◌, length, slice_index, Result, Ok, Err}
 use Rattle.pte.specs.declared.permission.Access.{Access}
 use Rattle.pte.specs.declared.permission.Ctx.{Ctx}
 use Rattle.pte.specs.Address.{IsCanonical, level_count, top_level, vpn_of}
@@ -9,17 +9,13 @@ use Rattle.walk.specs.declared.found_or_trap.Why.TheVariants.{NotCanonical}
 use Rattle.walk.specs.Answer.{page_trap}
 use Rattle.walk.specs.Leads.{Tables}
 use Rattle.walk.specs.Outcome.{Outcome}
-use Rattle.walk.specs.Pointers.{pointed}
-use Rattle.walk.specs.Stage.{Stage, OnPath, IsFor}
-use Rattle.walk.specs.Step.{load_of}
 use Rattle.spaces.specs.Layout.{Layout, first_window_slot, root_ppn}
 use Rattle.spaces.specs.Held.{words_of}
-use Rattle.spaces.specs.Tree.{IsAtHome, IsOwn}
 use Rattle.tlb.specs.declared.store.Entry.{Entry}
 use Rattle.tlb.specs.Answer.{entry_of}
 use Rattle.views.specs.declared.view.View.{View}
 use Rattle.views.specs.Rule.{Has, memory_of}
-use Rattle.views.specs.Turns.{asid_at, onward, TellsFrame, with_fill}
+use Rattle.views.specs.Turns.{asid_at}
 
 -- a walk changes nothing of what the hart edits
 pub record IsSameHome (v w : View) : Type 0 where
@@ -61,23 +57,3 @@ abbrev pub Walked : Layout → View → ℕ → ℕ → Access → Ctx → Resul
 Walked l v root va access ctx answer w =
     ((¬ IsCanonical l.scheme va) × (answer ≡ Err (page_trap access NotCanonical)) × (w ≡ v))
     ⊎ AnswersByLoads l v root va access ctx answer w
-
--- the words of a walk's path at home are as the view says, and its table is at home; a pointer there is in a slot that edits write
-pub record IsGoingHome (l : Layout) (v w : View) (st : Stage) (word : ℕ) : Type 0 where
-  pub has : Has (words_of (memory_of l v)) w.reads
-  pub table : IsAtHome l v.hart st.table
-  pub own : (g : ℕ) → pointed (Some word) ≡ Some g → IsOwn l st.table (vpn_of st.va st.level)
-
--- a walk in mid course: its last word was found, and not yet taken
-pub record IsGoing (l : Layout) (v : View) (root va : ℕ) (access : Access) (ctx : Ctx) (st : Stage) (word : ℕ) (w : View) : Type 0 where
-  pub about : IsFor st va access ctx
-  pub on : (words : Tables) → Has words w.reads → OnPath l.scheme words root st × (words st.table (vpn_of st.va st.level) ≡ Some word)
-  pub frame : TellsFrame l st word
-  pub some_memory : (words : Tables) × Has words w.reads
-  pub at_home : (s : ℕ) → IsHomePath l v root va s → IsGoingHome l v w st word
-  pub stands : w.walk ≡ onward (load_of st (Some word))
-  pub at_root : w.root ≡ root
-  pub entries : w.entries ≡ with_fill (asid_at v.config root) v.entries (load_of st (Some word))
-  pub count : w.loads ≡ v.loads + length w.reads
-  pub depth : st.level + length w.reads ≡ level_count l.scheme
-  pub home : IsSameHome v w

@@ -1,7 +1,7 @@
 use Rattle.std.proofs.Common.{◌≡◌}
 use Rattle.spaces.specs.Layout.{layout_of}
 use Rattle.views.specs.Rule.{IsFit}
-use Rattle.views.specs.Edits.{IsReading}
+use Rattle.views.proofs.Homeward.{IsReading}
 use Rattle.views.proofs.edits.decide.Given as goal
 
 abbrev pub invariant-loop-next : goal.invariant-loop-next

@@ -1,6 +1,6 @@
 use Rattle.spaces.specs.Layout.{layout_of}
 use Rattle.views.specs.Rule.{IsFit}
-use Rattle.views.specs.Walks.{IsGoing}
+use Rattle.views.proofs.Goings.{IsGoing}
 use Rattle.views.proofs.walks.walk.Given as goal
 
 abbrev pub invariant-loop-next : goal.invariant-loop-next
