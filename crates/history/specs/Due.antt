@@ -56,10 +56,11 @@ are_pair C a b = is_hart C a && (is_hart C b && not (a == b))
 abbrev pub are_harts : Setup → ℕ → Bool
 are_harts C named = nat_lt named (2 ^ C.harts)
 
--- a space that is there and not free
+-- the number is that of a space
 abbrev pub is_number : Setup → ℕ → Bool
 is_number C s = nat_lt s (length C.asids)
 
+-- a space that is there and not free; a place and a scope are there if their space is
 abbrev pub is_space : Setup → History → ℕ → Bool
 is_space C H s = is_number C s && not (is_free (status_of H s))
 
@@ -71,6 +72,7 @@ abbrev pub is_scope : Setup → History → Scope → Bool
 is_scope C H (scope.Space s) = is_space C H s
 is_scope C H scope.All = true
 
+-- the space of a place or of a scope is retiring
 abbrev pub retires : History → Place → Bool
 retires H (Space s) = is_retiring (status_of H s)
 retires H Kernel = false
@@ -118,6 +120,7 @@ abbrev pub map_reply : Result Store MapFault → Reply
 map_reply (Ok store) = stored_reply (kind_of store.word)
 map_reply (Err fault) = reply.Refused (refusal_of fault)
 
+-- the store that is due for an edit of the hart, in the tables of now
 abbrev pub edit_at : Setup → History → ℕ → Wish → Result Store MapFault
 edit_at C H hart w = edit_due C (words_of C H) (holder_of H) hart w
 

@@ -29,6 +29,7 @@ pub record Order : Type 0 where
   pub what : What
   pub cause : Cause
 
+-- what the harts are to drop for a space, or for all
 abbrev pub scope_request : Setup → History → Scope → What
 scope_request C H (scope.Space space) = SpaceOf (asid_of C H space)
 scope_request C H scope.All = All

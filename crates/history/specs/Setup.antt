@@ -10,8 +10,10 @@ pub record Setup : Type 0 where
   pub asids : List ℕ
   pub layout : Layout
 
+-- the setup of a configuration
 abbrev pub setup_of : Config → Setup
 setup_of config = record { harts = config.harts; capacity = config.capacity; asids = map (λ s. s.asid) config.spaces.items; layout = layout_of config }
 
+-- the hart is there
 abbrev pub is_hart : Setup → ℕ → Bool
 is_hart C h = nat_lt h C.harts

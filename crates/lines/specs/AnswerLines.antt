@@ -43,6 +43,7 @@ abbrev pub answer_text : Result Found Trap → List ℕ
 answer_text (Ok found) = codes "pa " ++ hex found.pa ++ codes " " ++ size_text found.page.size ++ global_text found.global
 answer_text (Err trap) = trap_text trap
 
+-- the line of an answer
 abbrev pub line_of : ℕ → Result Found Trap → List ℕ
 line_of number answer = decimal number ++ codes " " ++ answer_text answer ++ codes "\n"
 

@@ -72,6 +72,7 @@ what_text All = codes "all"
 abbrev pub request_text : Message → List ℕ
 request_text request = codes "taken " ++ decimal request.ticket ++ codes " " ++ what_text request.what
 
+-- the text of a reply
 abbrev pub reply_text : Reply → List ℕ
 reply_text (reply.Hit pa) = codes "hit " ++ hex pa
 reply_text (reply.Trap trap) = trap_text trap

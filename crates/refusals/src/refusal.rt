@@ -24,7 +24,7 @@ pub enum Refusal {
     AlreadyMapped,
     /// A leaf of a larger page is there.
     LeafInWay,
-    /// A table of smaller pages is there, be they unmapped by now.
+    /// A table of smaller pages is there, even if none of them is mapped any more.
     TableInWay,
     /// Every spare frame of the home is in use.
     NoFrame,

@@ -84,11 +84,10 @@ const FRAME_USED_AGAIN: Example = Example {
 #
 #     ./svsim run examples/frame-used-again.toml
 #
-# In real kernels: a page is unmapped, the other processors are asked to flush, and the frame goes back to the
-# allocator before they all have. Linux had it in mremap (CVE-2018-18281): it let go of the page table's lock before
-# it flushed, so that a truncation on another processor could free the page while old translations still led to it.
-# The order is what Linux's mmu_gather is there for: it collects unmapped pages, and frees them only when the flush is
-# over.
+# In a kernel: a page is unmapped, the other processors are asked to flush, and the frame goes back to the allocator
+# before they all have. From memory, not looked up: Linux had it in mremap (CVE-2018-18281), which let go of the page
+# table's lock before it flushed. Linux's mmu_gather is there for the right order: it frees unmapped pages only when
+# the flush is over.
 #
 # Here: hart 1 runs a process in space 0 and has written to the page at 0x1000, frame 0x100. Hart 0 unmaps the page
 # and posts the request, but it does not wait: it gives the frame to space 1. In lines 18 and 19 two processes have
@@ -167,11 +166,10 @@ const PROTECT_WITHOUT_WAITING: Example = Example {
 #
 #     ./svsim run examples/protect-without-waiting.toml
 #
-# In real kernels: to copy a page that is in use (fork, copy on write, a checkpoint) the kernel takes away the right
-# to write, and copies. A processor with a writable entry goes on writing, without a fault, until it has flushed; what
-# it writes after the copy is in the old page alone. Linux had it in userfaultfd's write protection (fixed in 2021):
-# the flush was put off until the end of the call, and a fault on another processor copied the page meanwhile, while a
-# third still wrote to it.
+# In a kernel: to copy a page that is in use (fork, copy on write, a checkpoint) the kernel takes away the right to
+# write, and copies. A processor with a writable entry may go on writing, without a fault, until it has flushed; what
+# it writes after the copy is in the old page alone. From memory, not looked up: Linux had it in userfaultfd's write
+# protection (mended in 2021), where the flush was put off, and a fault on another processor copied the page meanwhile.
 #
 # Here: hart 0 takes W from the page of space 0 and at once gives its copy, frame 0x101, to space 1. The store of hart
 # 1 in line 12 is in frame 0x100: the copy lacks it. Only after hart 1 has served does a store trap (line 20), and
@@ -245,11 +243,10 @@ const HART_LEFT_OUT: Example = Example {
 #
 #     ./svsim run examples/hart-left-out.toml
 #
-# In real kernels: the kernel keeps for each address space a mask of the processors that run in it, and asks only
-# these. With ASIDs a switch of the space drops nothing, so a processor that has left may still hold its translations
-# and use them when it comes back. Linux on RISC-V had it (fixed in 2023: "riscv: asid: Fixup stale TLB entry cause
-# application crash"): the switch away from a space took the hart off the mask, as was right without ASIDs, and
-# programs crashed when they came back to pages that were flushed meanwhile.
+# In a kernel: for each address space there is a mask of the processors that run in it, and only these are asked. With
+# ASIDs a switch of the space drops nothing, so a processor that has left may still hold its translations and use them
+# when it comes back. From memory, not looked up: Linux on RISC-V had it (mended in 2023 by "riscv: asid: Fixup stale
+# TLB entry cause application crash"): the switch away from a space took the hart off the mask.
 #
 # Here: hart 1 fills an entry of space 0 and switches to space 1. The unmapping names hart 0 alone; its order is done
 # and finished, and nothing is refused: whom an order has to name is up to the kernel. In line 14 hart 1 is back, and
@@ -316,11 +313,10 @@ const WALK_IN_FLIGHT: Example = Example {
 #
 #     ./svsim run examples/walk-in-flight.toml
 #
-# In real kernels: whoever acknowledges a flush in the middle of a walk may end the walk afterwards, with what it read
-# before. In hardware SFENCE.VMA sees to it. A walk in software has to see to it itself: Linux's fast path of
-# get_user_pages walks the tables without a lock, with interrupts off, so that the processor can't answer the
-# interrupt of a flush in mid-walk. It broke where a table was taken away without that interrupt (khugepaged, fixed in
-# 2022).
+# In a kernel: whoever acknowledges a flush in the middle of a walk may end the walk afterwards, with what it read
+# before. In hardware SFENCE.VMA sees to it; a walk in software has to see to it itself. From memory, not looked up:
+# Linux's fast path of get_user_pages walks the tables with interrupts off, so that the interrupt of a flush is not
+# answered in mid-walk; it broke where a table was taken away without that interrupt (khugepaged, mended in 2022).
 #
 # Here: harts 1 and 2 walk to the same page. Hart 2 reads the leaf just before it is cleared, and goes on by its entry
 # until it serves (line 16). Hart 1 reads it just after, and traps (line 17). In mid-walk it can neither take a
@@ -399,11 +395,11 @@ const MAILBOX_FULL_AND_CLOSED: Example = Example {
 #
 #     ./svsim run examples/mailbox-full-and-closed.toml
 #
-# In real kernels: requests to another processor stand in a queue of bounded length. The sender that finds it full has
-# to wait, and a request that is dropped there is a flush that never happens. Linux's smp_call_function has one slot
-# for each pair of processors, and waits for it until the last call is through. And a processor may go offline between
-# the moment when the mask was read and the moment when the request is sent: Linux reads the mask of processors that
-# are online with preemption off, and a processor that goes empties its queue once more (smpcfd_dying_cpu).
+# In a kernel: requests to another processor stand in a queue of bounded length. The sender that finds it full has to
+# wait, and a request that is dropped there is a flush that never happens. And a processor may go offline between the
+# moment when the mask was read and the moment when the request is sent. From memory, not looked up: Linux's
+# smp_call_function waits for the last call to the same processor, and a processor that goes offline empties its queue
+# once more (smpcfd_dying_cpu).
 #
 # Here: room for two, and three pages are unmapped. The third request is refused, also after the first was taken (line
 # 15) and acknowledged (line 18): room comes when the sender collects. Before it can post, the mailbox is closed. Hart

@@ -9,10 +9,10 @@ const RANGE_FIRST_PAGE: Example = Example {
 #
 #     ./svsim run examples/range-first-page.toml
 #
-# In real kernels: a range is flushed by a loop over its addresses, with a stride. For huge pages the stride is 2 MiB,
-# since one fence drops a huge page whole; for small pages it has to be 4 KiB. Linux hands the stride down beside the
-# range (stride_shift on x86, stride on RISC-V) and derives it from the smallest page that the mmu_gather has cleared.
-# With the stride of a huge page the first small page is flushed, and up to 511 behind it are not.
+# In a kernel: a range is flushed by a loop over its addresses, with a stride. For huge pages the stride is 2 MiB,
+# since one fence drops a huge page whole; for small pages it has to be 4 KiB. With the stride of a huge page the first
+# small page is flushed, and up to 511 behind it are not. From memory, not looked up: Linux hands the stride down
+# beside the range (stride_shift on x86), and derives it from the smallest page that was cleared.
 #
 # Here: two small pages of one range are unmapped, which opens two orders, and only the first is posted. Hart 1 serves
 # and acknowledges it, all is answered with `ok`, and line 19 still finds the second page. Its order is open: `waiting
@@ -87,11 +87,11 @@ const SUPERPAGE_SPLIT: Example = Example {
 #
 #     ./svsim run examples/superpage-split.toml
 #
-# In real kernels: mprotect or munmap of 4 KiB in the middle of a huge page has to split it first. If the leaf of 2 MiB
-# is overwritten with a table of small pages and nothing is flushed, a processor that holds the old leaf goes on by it
-# at all 512 small pages, whatever the tables say of each. Linux's split of a huge page (__split_huge_pmd_locked)
-# therefore makes the old entry invalid and flushes it before the small entries are stored; some processors even raise
-# a machine check where a small and a huge translation of one address meet.
+# In a kernel: to change 4 KiB in the middle of a huge page, the page is split first. If the leaf of 2 MiB is
+# overwritten with a table of small pages and nothing is flushed, a processor that holds the old leaf may go on by it
+# at all 512 small pages, whatever the tables say of each. From memory, not looked up: Linux's split of a huge page
+# (__split_huge_pmd_locked) makes the old entry invalid and flushes it before the small entries are stored; some
+# processors raise a machine check where a small and a huge translation of one address meet.
 #
 # Here: a superpage is one leaf and so one entry. Lines 10 and 11 are stores through the old entry, to a page that is
 # read only by now and to one that is not mapped. Lines 12 and 13: a fence for any one address of a superpage drops
@@ -170,11 +170,11 @@ const GLOBAL_PAGE_ASID_FENCE: Example = Example {
 #
 #     ./svsim run examples/global-page-asid-fence.toml
 #
-# In real kernels: a mapping of the kernel has G set and belongs to every address space, so SFENCE.VMA with an ASID in
-# rs2 leaves its entries alone, even at their own address. A flush of the kernel's range that goes through the code
-# for user pages, with the ASID of the process that happens to run, does nothing. Linux on RISC-V passes "no ASID"
-# down from flush_tlb_kernel_range for this reason. x86 has the same trap: a write of CR3 keeps global entries, so
-# Linux and FreeBSD toggle CR4.PGE, or use INVPCID, to be rid of them.
+# In a kernel: a mapping of the kernel has G set and belongs to every address space, so SFENCE.VMA with an ASID in rs2
+# need not drop its entries, even at their own address (privileged manual 4.2.1). A flush of the kernel's range that
+# goes through the code for user pages, with the ASID of the process that happens to run, may do nothing. From memory,
+# not looked up: Linux on RISC-V flushes the kernel's range with no ASID (flush_tlb_kernel_range); on x86 a write of
+# CR3 keeps global entries, so kernels toggle CR4.PGE or use INVPCID.
 #
 # Here: hart 1 holds a kernel page, and changes its space: the entry stays and still answers (line 8). The page is
 # unmapped, and hart 1 fences with its ASID, with the address (line 10) and without (line 12). Both fences are `ok`
@@ -242,10 +242,11 @@ const SPACE_FLUSH_GLOBAL: Example = Example {
 #
 #     ./svsim run examples/space-flush-global.toml
 #
-# In real kernels: memory of the kernel that is mapped page by page (vmalloc, the text of a module, a compiled filter)
-# is unmapped and freed. What has to follow is a flush of that range for every ASID on every processor: Linux's vfree
-# ends in flush_tlb_kernel_range. A flush of the current process (flush_tlb_mm) asks for one ASID, and what is global
-# stays. The next module's data is then read through the entry of the last one's.
+# In a kernel: memory of the kernel that is mapped page by page (the text of a module, a compiled filter) is unmapped
+# and freed. What has to follow is a flush of that range for every ASID on every processor. A flush of the current
+# process asks for one ASID, and what is global may stay: the next module's data is then read through the entry of the
+# last one's. From memory, not looked up: in Linux these are flush_tlb_kernel_range, in which vfree ends, and
+# flush_tlb_mm.
 #
 # Here: hart 1 holds a page of its process and one of the kernel. The kernel's is unmapped, but what is posted is a
 # flush of space 0. It is served, acknowledged and done; line 19 shows that the process's entry went, and line 18 that
@@ -319,10 +320,10 @@ const SV48_SPLIT: Example = Example {
 #
 #     ./svsim run examples/sv48-split.toml
 #
-# In real kernels: the linear map of all memory is made of the largest leaves that fit. To make one small page of it
-# read only, the leaf above it is split first, and with Sv48 that may be a leaf of the root (Linux on RISC-V,
-# __split_linear_mapping_p4d). A flush of the small range that was asked for is then not what was changed: Linux
-# flushes everything there, since it may have split a page that is larger than the range.
+# In a kernel: the linear map of all memory is made of the largest leaves that fit. To make one small page of it read
+# only, the leaf above it is split first, and with Sv48 that may be a leaf of the root. A flush of the small range that
+# was asked for is then not a flush of the page that was split. From memory, not looked up: Linux on RISC-V flushes
+# everything there (__split_linear_mapping_p4d).
 #
 # Here: with Sv48 (privileged manual 4.5.1) a walk has four levels, and a leaf of the root maps 512 GiB. Hart 0 takes
 # the page apart and gives back three parts of it. Lines 12 to 14 are accesses through the old entry: to a page that is

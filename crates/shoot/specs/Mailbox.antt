@@ -19,6 +19,7 @@ pub record IsMailbox (mailbox : MailboxState) : Type 0 where
   pub bounded : mailbox.outstanding ≤ mailbox.capacity
   pub capacity_bounded : mailbox.capacity ≤ MAX_CAPACITY
 
+-- a new mailbox
 abbrev pub empty_mailbox : ℕ → MailboxState
 empty_mailbox capacity = record { waiting = []; outstanding = 0; closed = false; capacity = capacity }
 
@@ -50,6 +51,7 @@ with_message mailbox message = record {
   capacity = mailbox.capacity;
 }
 
+-- a refused post changes nothing
 abbrev pub after_post : MailboxState → Message → MailboxState
 after_post mailbox message = if is_none (post_fault mailbox) then with_message mailbox message else mailbox
 
@@ -75,6 +77,7 @@ after_release mailbox = record {
   capacity = mailbox.capacity;
 }
 
+-- what waits when the mailbox is closed still waits
 abbrev pub after_close : MailboxState → MailboxState
 after_close mailbox = record {
   waiting = mailbox.waiting;

@@ -148,6 +148,7 @@ upper_word (Protect place page flags) spare kinds.Invalid = Err NotMapped
 upper_word (Protect place page flags) spare kinds.Reserved = Err NotMapped
 upper_word (Protect place page flags) spare (kinds.Table q g) = Err NotMapped
 
+-- the word that is due where the path of the page ends, or why there is none
 abbrev pub due_word : Wish → Option ℕ → PathEnd → Result ℕ MapFault
 due_word wish spare end =
     if end.level == level_of (page_of wish).size then page_word wish (kind_of end.entry) else upper_word wish spare (kind_of end.entry)

@@ -27,6 +27,7 @@ word_index l ppn i = (ppn - l.base) * table_length + i
 unfoldable pub words_of : Held → Tables
 words_of m ppn i = if is_word m.layout ppn i then slice_get m.words (word_index m.layout ppn i) else None
 
+-- the place that each frame is in use for, by its place in the list
 abbrev pub held_at : Option (Option Place) → Option Place
 held_at None = None
 held_at (Some holder) = holder
@@ -39,6 +40,7 @@ abbrev pub is_own_at : List (Option Place) → ℕ → ℕ → ℕ → Bool
 is_own_at holders root space n =
     (n / table_length == root && nat_lt (n % table_length) user_slots) || is_held_for (held_at (slice_get holders (n / table_length))) (Space space)
 
+-- the lowest spare frame of a hart that is not in use
 abbrev pub spare_of : Held → ℕ → Option ℕ
 spare_of m h = unused_spare m.layout (holders_of m) h
 

@@ -16,6 +16,7 @@ pub record Layout : Type 0 where
   pub homes : List ℕ
   pub spares : List ℕ
 
+-- the layout of a configuration, and how many frames it has
 abbrev pub layout_of : Config → Layout
 layout_of c = record { scheme = c.scheme; window = c.window; base = c.base; homes = map (λ s. s.home) c.spaces.items; spares = c.spares.items }
 
@@ -32,6 +33,7 @@ root_ppn l s = l.base + l.window + s
 abbrev pub spare_ppn : Layout → ℕ → ℕ
 spare_ppn l h = l.base + l.window + length l.homes + sum (take h l.spares)
 
+-- the frame is one of table memory; it is a root
 abbrev pub is_frame : Layout → ℕ → Bool
 is_frame l ppn = nat_le l.base ppn && nat_lt ppn (l.base + frame_count l)
 

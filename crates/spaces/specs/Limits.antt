@@ -6,6 +6,7 @@ use Rattle.spaces.specs.declared.configuration.Config.{Config}
 use Rattle.spaces.specs.declared.configuration.Space.{Space}
 use Rattle.spaces.specs.Layout.{layout_of, frame_count}
 
+-- the most harts, spaces and slots of the window, and the largest capacity of a mailbox
 abbrev pub max_harts : ℕ
 max_harts = 8
 

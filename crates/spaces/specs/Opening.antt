@@ -13,6 +13,7 @@ root_word l i = if nat_le (first_window_slot l) i then table_word (window_ppn l 
 abbrev pub is_word : Layout → ℕ → ℕ → Bool
 is_word l ppn i = is_frame l ppn && nat_lt i table_length
 
+-- the word at the opening: of a root as above, of any other frame 0; and the memory of all these words
 abbrev pub first_word : Layout → ℕ → ℕ → ℕ
 first_word l ppn i = if is_root l ppn then root_word l i else 0
 

@@ -37,6 +37,7 @@ pub record IsStageOf (scheme : Scheme) (words : Tables) (root : ℕ) (stage : St
   pub level : stage.level + walk.loads ≡ top_level scheme
   pub on : OnPath scheme words root stage
 
+-- neither walks, or both do, and the walk of the machine has made the loads of the other
 abbrev pub AreSameWalk : Scheme → Tables → ℕ → Option Stage → Option Walking → Type 0
 AreSameWalk scheme words root None None = Unit {0}
 AreSameWalk scheme words root None (Some walk) = ⊥
@@ -103,6 +104,8 @@ pub record SpaceStands (C : Setup) (H : History) (s : ℕ) (space : SpaceState) 
 abbrev pub bare : Setup → Setup
 bare C = record { harts = C.harts; capacity = C.capacity; asids = []; layout = C.layout }
 
+-- the machine stands at the history: that is lawful and speaks of pages, the setup is within the limits and the machine's, and
+-- each part of the machine is what the history leaves
 pub record Stands (C : Setup) (m : State) (H : History) : Type 0 where
   pub lawful : Lawful C H
   pub pages : HavePages H

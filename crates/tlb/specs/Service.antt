@@ -42,5 +42,6 @@ is_served (PageOf page (Some asid)) e = overlaps page e.page && is_of_space asid
 is_served (SpaceOf asid) e = is_of_space asid e
 is_served All e = true
 
+-- the entries that a request leaves
 abbrev pub served : List Entry → What → List Entry
 served entries what = filter (λ e. not (is_served what e)) entries

@@ -24,6 +24,7 @@ step_of s (kinds.Table ppn global) =
     if s.level == 0 then ended (kind_answer s.va s.access s.ctx s.level s.global (kinds.Table ppn global))
     else progress.More (record s { level = s.level - 1; table = ppn; global = s.global || global })
 
+-- what a load makes of a walk: by the word, or an access fault where there is none
 abbrev pub load_of : Stage → Option ℕ → Progress
 load_of s None = ended (Err (outside_trap s.access))
 load_of s (Some word) = step_of s (kind_of word)
