@@ -11,29 +11,39 @@ fn flags(bits: u8) -> PteFlags {
     PteFlags::from_bits_retain(bits)
 }
 
-fn table(ppn: u64, global: bool) -> Kind {
-    Kind::Table { ppn, global }
-}
-
-fn leaf(ppn: u64, bits: u8) -> Kind {
-    Kind::Leaf {
-        ppn,
-        flags: flags(bits),
+/// Each word has this meaning.
+fn are_kinds(rt: &impl Abort, rows: &[(u64, Kind)]) {
+    for (word, kind) in rows {
+        assert!(rt; Pte(*word).kind() == *kind, "{word:x}");
     }
 }
 
 /// V clear is invalid, whatever else is set; then a W without R is reserved, and a pointer with U, A or D.
 #[test]
 fn words_of_no_meaning(rt: HostRuntime) {
-    let invalid = [0, 0x4, 0x10, 0xE, 0x20_0000_0000_0000, u64::MAX - 1];
-    for word in &invalid {
-        assert_eq!(rt; Pte(*word).kind(), Kind::Invalid, "{:x}", *word);
-    }
-    let write_only = [0x5, 0xD, 0x48D_14D5, 0x48D_14DD];
-    let pointers = [0x11, 0x41, 0x81, 0x31, 0x61, 0xA1, 0xD1, 0x2000_0481];
-    for word in write_only.iter().chain(pointers.iter()) {
-        assert_eq!(rt; Pte(*word).kind(), Kind::Reserved, "{:x}", *word);
-    }
+    are_kinds(
+        &rt,
+        &[
+            (0, Kind::Invalid),
+            (0x4, Kind::Invalid),
+            (0x10, Kind::Invalid),
+            (0xE, Kind::Invalid),
+            (0x20_0000_0000_0000, Kind::Invalid),
+            (u64::MAX - 1, Kind::Invalid),
+            (0x5, Kind::Reserved),
+            (0xD, Kind::Reserved),
+            (0x48D_14D5, Kind::Reserved),
+            (0x48D_14DD, Kind::Reserved),
+            (0x11, Kind::Reserved),
+            (0x41, Kind::Reserved),
+            (0x81, Kind::Reserved),
+            (0x31, Kind::Reserved),
+            (0x61, Kind::Reserved),
+            (0xA1, Kind::Reserved),
+            (0xD1, Kind::Reserved),
+            (0x2000_0481, Kind::Reserved),
+        ],
+    );
 }
 
 /// Each of bits 63 to 54 is reserved where V is set, and counts for nothing where it is clear.
@@ -41,71 +51,102 @@ fn words_of_no_meaning(rt: HostRuntime) {
 fn high_bits(rt: HostRuntime) {
     for bit in 54..64_u32 {
         let high = 1_u64 << bit;
-        assert_eq!(rt;
-            Pte(high | 0x48D_14D7).kind(),
-            Kind::Reserved,
-            "leaf, bit {bit}"
-        );
-        assert_eq!(rt;
-            Pte(high | 0x2000_0401).kind(),
-            Kind::Reserved,
-            "pointer, bit {bit}"
-        );
-        assert_eq!(rt;
-            Pte(high | 0x48D_14D6).kind(),
-            Kind::Invalid,
-            "V clear, bit {bit}"
-        );
+        let leaf = (high | 0x48D_14D7, Kind::Reserved);
+        let pointer = (high | 0x2000_0401, Kind::Reserved);
+        let not_valid = (high | 0x48D_14D6, Kind::Invalid);
+        are_kinds(&rt, &[leaf, pointer, not_valid]);
+    }
+}
+
+/// Each word is a pointer to the table of this PPN, global or not.
+fn are_pointers(rt: &impl Abort, rows: &[(u64, u64, bool)]) {
+    for (word, ppn, global) in rows {
+        let pointer = Kind::Table {
+            ppn: *ppn,
+            global: *global,
+        };
+        assert!(rt; Pte(*word).kind() == pointer, "{word:x}");
+    }
+}
+
+/// Each word is a leaf of this PPN with these flags.
+fn are_leaves(rt: &impl Abort, rows: &[(u64, u64, u8)]) {
+    for (word, ppn, bits) in rows {
+        let leaf = Kind::Leaf {
+            ppn: *ppn,
+            flags: flags(*bits),
+        };
+        assert!(rt; Pte(*word).kind() == leaf, "{word:x}");
     }
 }
 
 /// PPNs from bit 10 on, of 44 bits, and flags from bit 1 on; RSW, bits 9 and 8, counts for nothing.
 #[test]
 fn words_with_a_meaning(rt: HostRuntime) {
-    let rows = [
-        (0x1, table(0, false)),
-        (0x21, table(0, true)),
-        (0x2000_0401, table(0x8_0001, false)),
-        (0x2000_0701, table(0x8_0001, false)),
-        (0x3F_FFFF_FFFF_FC21, table(0xFFF_FFFF_FFFF, true)),
-        (0x3, leaf(0, 0x02)),
-        (0x7, leaf(0, 0x06)),
-        (0x9, leaf(0, 0x08)),
-        (0xB, leaf(0, 0x0A)),
-        (0xF, leaf(0, 0x0E)),
-        (0x48D_14D7, leaf(0x1_2345, 0xD6)),
-        (0x48D_17D7, leaf(0x1_2345, 0xD6)),
-        (0x48D_1529, leaf(0x1_2345, 0x28)),
-        (0x3F_FFFF_FFFF_FCFF, leaf(0xFFF_FFFF_FFFF, 0xFE)),
-    ];
-    for (word, kind) in &rows {
-        assert_eq!(rt; Pte(*word).kind(), *kind, "{:x}", *word);
-    }
+    are_pointers(
+        &rt,
+        &[
+            (0x1, 0, false),
+            (0x21, 0, true),
+            (0x2000_0401, 0x8_0001, false),
+            (0x2000_0701, 0x8_0001, false),
+            (0x3F_FFFF_FFFF_FC21, 0xFFF_FFFF_FFFF, true),
+        ],
+    );
+    are_leaves(
+        &rt,
+        &[
+            (0x3, 0, 0x02),
+            (0x7, 0, 0x06),
+            (0x9, 0, 0x08),
+            (0xB, 0, 0x0A),
+            (0xF, 0, 0x0E),
+            (0x48D_14D7, 0x1_2345, 0xD6),
+            (0x48D_17D7, 0x1_2345, 0xD6),
+            (0x48D_1529, 0x1_2345, 0x28),
+            (0x3F_FFFF_FFFF_FCFF, 0xFFF_FFFF_FFFF, 0xFE),
+        ],
+    );
+}
+
+/// What is seen of flags: whether there are R, W, X, U, G, A and D.
+fn seen(bits: u8) -> [bool; 7] {
+    let given = flags(bits);
+    [
+        given.may_read(),
+        given.may_write(),
+        given.may_execute(),
+        given.is_user(),
+        given.is_global(),
+        given.is_accessed(),
+        given.is_dirty(),
+    ]
 }
 
 #[test]
 fn flags_by_their_bits(rt: HostRuntime) {
-    for bit in 1..8_u32 {
-        let given = flags(1 << bit);
-        let seen = [
-            given.may_read(),
-            given.may_write(),
-            given.may_execute(),
-            given.is_user(),
-            given.is_global(),
-            given.is_accessed(),
-            given.is_dirty(),
-        ];
-        for (at, is_set) in seen.iter().enumerate() {
-            assert_eq!(rt; *is_set, at as u32 + 1 == bit, "bit {bit}");
-        }
+    let rows = [
+        (0x02, [true, false, false, false, false, false, false]),
+        (0x04, [false, true, false, false, false, false, false]),
+        (0x08, [false, false, true, false, false, false, false]),
+        (0x10, [false, false, false, true, false, false, false]),
+        (0x20, [false, false, false, false, true, false, false]),
+        (0x40, [false, false, false, false, false, true, false]),
+        (0x80, [false, false, false, false, false, false, true]),
+    ];
+    for (bits, want) in rows {
+        assert!(rt; seen(bits) == want, "{bits:x}");
     }
+}
+
+fn is_made(ppn: u64, bits: u8, made: &Result<Pte, LeafFault>) -> bool {
+    Pte::leaf(ppn, flags(bits)) == *made
 }
 
 #[test]
 fn entries_that_are_made(rt: HostRuntime) {
-    assert_eq!(rt; Pte::table(0x8_0002, false), Pte(0x2000_0801));
-    assert_eq!(rt; Pte::table(0x8_0000, true), Pte(0x2000_0021));
+    assert!(rt; Pte::table(0x8_0002, false) == Pte(0x2000_0801));
+    assert!(rt; Pte::table(0x8_0000, true) == Pte(0x2000_0021));
     let rows = [
         (0x100, 0xD2, Ok(Pte(0x4_00D3))),
         (0x300, 0xE6, Ok(Pte(0xC_00E7))),
@@ -121,13 +162,7 @@ fn entries_that_are_made(rt: HostRuntime) {
         (1 << 44, 0x04, Err(LeafFault::BadFlags)),
     ];
     for (ppn, bits, made) in &rows {
-        assert_eq!(rt;
-            Pte::leaf(*ppn, flags(*bits)),
-            *made,
-            "{:x} {:x}",
-            *ppn,
-            *bits
-        );
+        assert!(rt; is_made(*ppn, *bits, made), "{ppn:x} {bits:x}");
     }
 }
 
@@ -143,9 +178,19 @@ const SUPER: Ctx = Ctx {
     mxr: false,
 };
 
-/// Whether a fetch, a load and a store are allowed, by these flags.
-fn accesses(bits: u8, ctx: Ctx) -> [bool; 3] {
-    [Access::Fetch, Access::Load, Access::Store].map(|access| allowed(flags(bits), access, ctx))
+/// Flags, a context, and whether a fetch, a load and a store are allowed.
+type Permitted = (u8, Ctx, [bool; 3]);
+
+fn are_permitted(rt: &impl Abort, rows: &[Permitted]) {
+    for (bits, ctx, want) in rows {
+        let flags = flags(*bits);
+        let given = [
+            allowed(flags, Access::Fetch, *ctx),
+            allowed(flags, Access::Load, *ctx),
+            allowed(flags, Access::Store, *ctx),
+        ];
+        assert!(rt; given == *want, "{bits:x} {ctx:?}");
+    }
 }
 
 /// U-mode needs U, whatever SUM says; MXR adds loads where X is.
@@ -153,21 +198,21 @@ fn accesses(bits: u8, ctx: Ctx) -> [bool; 3] {
 fn permissions_of_user_mode(rt: HostRuntime) {
     let sum = Ctx { sum: true, ..USER };
     let mxr = Ctx { mxr: true, ..USER };
-    let rows = [
-        (0x1E, USER, [true, true, true]),
-        (0x0E, USER, [false, false, false]),
-        (0x0E, sum, [false, false, false]),
-        (0x1E, sum, [true, true, true]),
-        (0x12, USER, [false, true, false]),
-        (0x16, USER, [false, true, true]),
-        (0x18, USER, [true, false, false]),
-        (0x12, mxr, [false, true, false]),
-        (0x18, mxr, [true, true, false]),
-        (0x08, mxr, [false, false, false]),
-    ];
-    for (bits, ctx, want) in &rows {
-        assert_eq!(rt; accesses(*bits, *ctx), *want, "{:x} {:?}", *bits, *ctx);
-    }
+    are_permitted(
+        &rt,
+        &[
+            (0x1E, USER, [true, true, true]),
+            (0x0E, USER, [false, false, false]),
+            (0x0E, sum, [false, false, false]),
+            (0x1E, sum, [true, true, true]),
+            (0x12, USER, [false, true, false]),
+            (0x16, USER, [false, true, true]),
+            (0x18, USER, [true, false, false]),
+            (0x12, mxr, [false, true, false]),
+            (0x18, mxr, [true, true, false]),
+            (0x08, mxr, [false, false, false]),
+        ],
+    );
 }
 
 /// S-mode needs U clear, or SUM for a load or a store; no fetch from a page with U.
@@ -176,38 +221,34 @@ fn permissions_of_supervisor_mode(rt: HostRuntime) {
     let sum = Ctx { sum: true, ..SUPER };
     let mxr = Ctx { mxr: true, ..SUPER };
     let both = Ctx { sum: true, ..mxr };
-    let rows = [
-        (0x0E, SUPER, [true, true, true]),
-        (0x0E, sum, [true, true, true]),
-        (0x1E, SUPER, [false, false, false]),
-        (0x1E, sum, [false, true, true]),
-        (0x1E, mxr, [false, false, false]),
-        (0x18, sum, [false, false, false]),
-        (0x18, both, [false, true, false]),
-        (0x02, SUPER, [false, true, false]),
-        (0x02, mxr, [false, true, false]),
-        (0x08, SUPER, [true, false, false]),
-        (0x08, mxr, [true, true, false]),
-        (0x06, SUPER, [false, true, true]),
-    ];
-    for (bits, ctx, want) in &rows {
-        assert_eq!(rt; accesses(*bits, *ctx), *want, "{:x} {:?}", *bits, *ctx);
-    }
+    are_permitted(
+        &rt,
+        &[
+            (0x0E, SUPER, [true, true, true]),
+            (0x0E, sum, [true, true, true]),
+            (0x1E, SUPER, [false, false, false]),
+            (0x1E, sum, [false, true, true]),
+            (0x1E, mxr, [false, false, false]),
+            (0x18, sum, [false, false, false]),
+            (0x18, both, [false, true, false]),
+            (0x02, SUPER, [false, true, false]),
+            (0x02, mxr, [false, true, false]),
+            (0x08, SUPER, [true, false, false]),
+            (0x08, mxr, [true, true, false]),
+            (0x06, SUPER, [false, true, true]),
+        ],
+    );
+}
+
+fn has_causes(access: Access, page: u8, outside: u8) -> bool {
+    page_cause(access) == page && access_cause(access) == outside
 }
 
 #[test]
 fn exception_codes(rt: HostRuntime) {
-    let rows = [
-        (Access::Fetch, 12, 1),
-        (Access::Load, 13, 5),
-        (Access::Store, 15, 7),
-    ];
-    for (access, page, outside) in &rows {
-        assert_eq!(rt;
-            (page_cause(*access), access_cause(*access)),
-            (*page, *outside)
-        );
-    }
+    assert!(rt; has_causes(Access::Fetch, 12, 1));
+    assert!(rt; has_causes(Access::Load, 13, 5));
+    assert!(rt; has_causes(Access::Store, 15, 7));
 }
 
 /// Bits 63 to 39 equal bit 38.
@@ -226,8 +267,18 @@ fn canonical_addresses(rt: HostRuntime) {
         (u64::MAX, true),
     ];
     for (va, is_canonical) in &rows {
-        assert_eq!(rt; VirtAddr::new(*va).is_some(), *is_canonical, "{:x}", *va);
+        assert!(rt; VirtAddr::new(*va).is_some() == *is_canonical, "{va:x}");
     }
+}
+
+/// Whether an address is canonical in each scheme as told, by each way to make it.
+fn is_canonical(va: u64, in_39: bool, in_48: bool) -> bool {
+    let narrow = VirtAddr::new_in(Scheme::Sv39, va);
+    let is_wide = match VirtAddr::new_in(Scheme::Sv48, va) {
+        Some(address) => in_48 && address.get() == va,
+        None => !in_48,
+    };
+    is_wide && narrow.is_some() == in_39 && VirtAddr::new(va) == narrow
 }
 
 /// In Sv39 bits 63 to 39 equal bit 38, in Sv48 bits 63 to 48 equal bit 47: an address, and whether it is canonical in each.
@@ -250,34 +301,27 @@ fn canonical_addresses_of_each_scheme(rt: HostRuntime) {
         (u64::MAX, true, true),
     ];
     for (va, in_39, in_48) in &rows {
-        let narrow = VirtAddr::new_in(Scheme::Sv39, *va);
-        let wide = VirtAddr::new_in(Scheme::Sv48, *va);
-        assert_eq!(rt;
-            (narrow.is_some(), wide.is_some()),
-            (*in_39, *in_48),
-            "{:x}",
-            *va
-        );
-        assert_eq!(rt; VirtAddr::new(*va), narrow, "{:x}", *va);
-        assert_eq!(rt; wide.map(|va| va.get()), in_48.then_some(*va));
+        assert!(rt; is_canonical(*va, *in_39, *in_48), "{va:x}");
     }
+}
+
+fn has_levels(scheme: Scheme, top: u8, bits: u32) -> bool {
+    scheme.top_level() == top && scheme.address_bits() == bits
 }
 
 #[test]
 fn levels_of_each_scheme(rt: HostRuntime) {
-    assert_eq!(rt;
-        (Scheme::Sv39.top_level(), Scheme::Sv39.address_bits()),
-        (2, 39)
-    );
-    assert_eq!(rt;
-        (Scheme::Sv48.top_level(), Scheme::Sv48.address_bits()),
-        (3, 48)
-    );
-    assert_eq!(rt; Scheme::default(), Scheme::Sv39);
+    assert!(rt; has_levels(Scheme::Sv39, 2, 39));
+    assert!(rt; has_levels(Scheme::Sv48, 3, 48));
+    assert!(rt; Scheme::default() == Scheme::Sv39);
 }
 
 fn address(rt: &impl Abort, va: u64) -> VirtAddr {
     VirtAddr::new_in(Scheme::Sv48, va).expect(rt, "a canonical address")
+}
+
+fn has_fields(va: VirtAddr, vpns: [u16; 4], offset: u16) -> bool {
+    [va.vpn(3), va.vpn(2), va.vpn(1), va.vpn(0)] == vpns && va.offset() == offset
 }
 
 /// VPN[3] is bits 47 to 39, VPN[2] bits 38 to 30, VPN[1] bits 29 to 21, VPN[0] bits 20 to 12, and the offset bits 11 to 0.
@@ -292,31 +336,34 @@ fn fields_of_an_address(rt: HostRuntime) {
         (0xFFFF_8000_0000_0000, [256, 0, 0, 0], 0),
         (0x7F_FFFF_FFFF, [0, 511, 511, 511], 0xFFF),
     ];
-    for (va, [top, upper, middle, low], offset) in &rows {
-        let va = address(&rt, *va);
-        assert_eq!(rt;
-            [va.vpn(3), va.vpn(2), va.vpn(1), va.vpn(0)],
-            [*top, *upper, *middle, *low]
-        );
-        assert_eq!(rt; va.offset(), *offset);
+    for (va, vpns, offset) in &rows {
+        assert!(rt; has_fields(address(&rt, *va), *vpns, *offset), "{va:x}");
     }
+}
+
+fn has_extent(size: PageSize, level: u8, bytes: u64, pages: u64) -> bool {
+    size.level() == level
+        && size.bytes() == bytes
+        && size.pages() == pages
+        && PageSize::at_level(size.level()) == size
 }
 
 #[test]
 fn sizes_of_pages(rt: HostRuntime) {
-    let rows = [
-        (PageSize::Kib4, 0, 0x1000, 1),
-        (PageSize::Mib2, 1, 0x20_0000, 512),
-        (PageSize::Gib1, 2, 0x4000_0000, 0x4_0000),
-        (PageSize::Gib512, 3, 0x80_0000_0000, 0x800_0000),
-    ];
-    for (size, level, bytes, pages) in &rows {
-        assert_eq!(rt;
-            (size.level(), size.bytes(), size.pages()),
-            (*level, *bytes, *pages)
-        );
-        assert_eq!(rt; PageSize::at_level(*level), *size);
-    }
+    assert!(rt; has_extent(PageSize::Kib4, 0, 0x1000, 1));
+    assert!(rt; has_extent(PageSize::Mib2, 1, 0x20_0000, 512));
+    assert!(rt; has_extent(PageSize::Gib1, 2, 0x4000_0000, 0x4_0000));
+    assert!(rt; has_extent(PageSize::Gib512, 3, 0x80_0000_0000, 0x800_0000));
+}
+
+fn is_base(va: VirtAddr, size: PageSize) -> bool {
+    Page::new(va, size).is_ok()
+}
+
+/// Whether the page of a size around an address has this base.
+fn has_base(va: VirtAddr, size: PageSize, base: u64) -> bool {
+    let page = Page::around(va, size);
+    page.base().get() == base && page.size() == size
 }
 
 /// Which bases a page of a size may have, and the base of the page that has 0x80403ABC.
@@ -339,23 +386,19 @@ fn bases_of_pages(rt: HostRuntime) {
         (0xFFFF_FFC0_0000_0000, PageSize::Gib512, false),
     ];
     for (base, size, is_page) in &bases {
-        assert_eq!(rt;
-            Page::new(address(&rt, *base), *size).is_ok(),
-            *is_page,
-            "{:x}",
-            *base
-        );
+        assert!(rt; is_base(address(&rt, *base), *size) == *is_page, "{base:x}");
     }
-    let around = [
-        (PageSize::Kib4, 0x80_8040_3000),
-        (PageSize::Mib2, 0x80_8040_0000),
-        (PageSize::Gib1, 0x80_8000_0000),
-        (PageSize::Gib512, 0x80_0000_0000),
-    ];
-    for (size, base) in &around {
-        let page = Page::around(address(&rt, 0x80_8040_3ABC), *size);
-        assert_eq!(rt; (page.base().get(), page.size()), (*base, *size));
-    }
+    let va = address(&rt, 0x80_8040_3ABC);
+    assert!(rt; has_base(va, PageSize::Kib4, 0x80_8040_3000));
+    assert!(rt; has_base(va, PageSize::Mib2, 0x80_8040_0000));
+    assert!(rt; has_base(va, PageSize::Gib1, 0x80_8000_0000));
+    assert!(rt; has_base(va, PageSize::Gib512, 0x80_0000_0000));
+}
+
+/// Whether the page with this base fits each scheme as told.
+fn fits_as(base: VirtAddr, size: PageSize, in_39: bool, in_48: bool) -> bool {
+    let page = Page::around(base, size);
+    page.base() == base && page.fits(Scheme::Sv39) == in_39 && page.fits(Scheme::Sv48) == in_48
 }
 
 /// A base, a size, and whether there is that page in Sv39 and in Sv48.
@@ -376,31 +419,41 @@ fn pages_that_fit_a_scheme(rt: HostRuntime) {
         (0xFFFF_FFFF_FFFF_F000, PageSize::Kib4, true, true),
     ];
     for (base, size, in_39, in_48) in &rows {
-        let page = Page::around(address(&rt, *base), *size);
-        assert_eq!(rt; page.base().get(), *base);
-        assert_eq!(rt;
-            (page.fits(Scheme::Sv39), page.fits(Scheme::Sv48)),
-            (*in_39, *in_48),
-            "{:x} {:?}",
-            *base,
-            *size
+        let base = address(&rt, *base);
+        assert!(rt;
+            fits_as(base, *size, *in_39, *in_48),
+            "{:x} {size:?}",
+            base.get()
         );
     }
+}
+
+/// Which addresses lie in the page.
+fn lie_in(rt: &impl Abort, page: &Page, rows: &[(u64, bool)]) {
+    for (va, lies_in) in rows {
+        assert!(rt; page.contains(address(rt, *va)) == *lies_in, "{va:x}");
+    }
+}
+
+/// Whether two pages have an address in common, asked of each.
+fn overlap_as(one: &Page, other: &Page, overlaps: bool) -> bool {
+    one.overlaps(other) == overlaps && other.overlaps(one) == overlaps
 }
 
 /// What lies in the 2 MiB at 0x400000: addresses, and pages with an address in common.
 #[test]
 fn parts_of_a_page(rt: HostRuntime) {
     let large = Page::around(address(&rt, 0x40_0000), PageSize::Mib2);
-    let addresses = [
-        (0x3F_FFFF, false),
-        (0x40_0000, true),
-        (0x5F_FFFF, true),
-        (0x60_0000, false),
-    ];
-    for (va, lies_in) in &addresses {
-        assert_eq!(rt; large.contains(address(&rt, *va)), *lies_in, "{:x}", *va);
-    }
+    lie_in(
+        &rt,
+        &large,
+        &[
+            (0x3F_FFFF, false),
+            (0x40_0000, true),
+            (0x5F_FFFF, true),
+            (0x60_0000, false),
+        ],
+    );
     let pages = [
         (0x3F_F000, PageSize::Kib4, false),
         (0x40_0000, PageSize::Kib4, true),
@@ -416,25 +469,23 @@ fn parts_of_a_page(rt: HostRuntime) {
     ];
     for (base, size, overlaps) in &pages {
         let page = Page::around(address(&rt, *base), *size);
-        assert_eq!(rt;
-            (large.overlaps(&page), page.overlaps(&large)),
-            (*overlaps, *overlaps),
-            "{:x}",
-            *base
-        );
+        assert!(rt; overlap_as(&large, &page, *overlaps), "{base:x}");
     }
     let last = Page::around(address(&rt, u64::MAX), PageSize::Kib4);
-    assert!(rt; last.contains(address(&rt, u64::MAX)) && last.overlaps(&last));
+    lie_in(&rt, &last, &[(u64::MAX, true)]);
+    assert!(rt; last.overlaps(&last));
     let widest = Page::around(address(&rt, 0x80_0000_0000), PageSize::Gib512);
-    let addresses = [
-        (0x7F_FFFF_FFFF, false),
-        (0x80_0000_0000, true),
-        (0xFF_FFFF_FFFF, true),
-        (0x100_0000_0000, false),
-    ];
-    for (va, lies_in) in &addresses {
-        assert_eq!(rt; widest.contains(address(&rt, *va)), *lies_in, "{:x}", *va);
-    }
+    lie_in(
+        &rt,
+        &widest,
+        &[
+            (0x7F_FFFF_FFFF, false),
+            (0x80_0000_0000, true),
+            (0xFF_FFFF_FFFF, true),
+            (0x100_0000_0000, false),
+        ],
+    );
     let highest = Page::around(address(&rt, u64::MAX), PageSize::Gib512);
-    assert!(rt; highest.contains(address(&rt, u64::MAX)) && highest.overlaps(&last));
+    lie_in(&rt, &highest, &[(u64::MAX, true)]);
+    assert!(rt; highest.overlaps(&highest));
 }

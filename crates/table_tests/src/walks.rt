@@ -364,9 +364,9 @@ fn hostile_words(rt: HostRuntime) {
     }
 }
 
-/// The walk of a store by U-mode after these words.
-fn fed(words: &[u64]) -> Option<Walk> {
-    let mut walk = Walk::begin(ROOT, VA, Access::Store, USER).ok()?;
+/// The walk after these words, if it goes on after each.
+fn fed_on(begun: Walk, words: &[u64]) -> Option<Walk> {
+    let mut walk = begun;
     for word in words {
         let Progress::More(next) = walk.load(Some(*word)) else {
             return None;
@@ -376,18 +376,33 @@ fn fed(words: &[u64]) -> Option<Walk> {
     Some(walk)
 }
 
+/// The walk of a store by U-mode after these words.
+fn fed(words: &[u64]) -> Option<Walk> {
+    let begun = Walk::begin(ROOT, VA, Access::Store, USER).ok()?;
+    fed_on(begun, words)
+}
+
+fn wanted(walk: Option<Walk>) -> Option<(u64, u16)> {
+    Some(walk?.wants())
+}
+
+fn ended(walk: Option<Walk>, word: Option<u64>) -> Option<Progress> {
+    Some(walk?.load(word))
+}
+
+/// Whether no walk begins at an address that is not canonical, and this page fault is told.
+fn is_refused(begun: Result<Walk, Trap>, cause: u8) -> bool {
+    let why = Why::NotCanonical;
+    begun == Err(Trap { cause, why })
+}
+
 #[test]
 fn fed_word_by_word(rt: HostRuntime) {
-    let wanted = |words: &[u64]| fed(words).map(|walk| walk.wants());
-    assert_eq!(rt; wanted(&[]), Some((0x8_0000, 2)));
-    assert_eq!(rt; wanted(&WORDS[..1]), Some((0x8_0001, 2)));
-    assert_eq!(rt; wanted(&WORDS[..2]), Some((0x8_0002, 3)));
+    assert!(rt; wanted(fed(&[])) == Some((0x8_0000, 2)));
+    assert!(rt; wanted(fed(&WORDS[..1])) == Some((0x8_0001, 2)));
+    assert!(rt; wanted(fed(&WORDS[..2])) == Some((0x8_0002, 3)));
     let not_canonical = Walk::begin(ROOT, 0x40_0000_0000, Access::Fetch, USER);
-    let fault = Trap {
-        cause: 12,
-        why: Why::NotCanonical,
-    };
-    assert_eq!(rt; not_canonical, Err(fault));
+    assert!(rt; is_refused(not_canonical, 12));
 }
 
 /// What a fed walk ends with, in full.
@@ -426,7 +441,7 @@ fn fed_walks_end(rt: HostRuntime) {
         (1, None, Progress::Trap(outside)),
     ];
     for (count, word, end) in rows {
-        assert_eq!(rt; fed(&WORDS[..count]).map(|walk| walk.load(word)), Some(end));
+        assert!(rt; ended(fed(&WORDS[..count]), word) == Some(end));
     }
 }
 
@@ -594,39 +609,34 @@ fn halves_of_each_scheme(rt: HostRuntime) {
     assert_eq!(rt; old.map(|found| found.pa), Ok(0x1234_5ABC));
 }
 
+/// The walk of a load by U-mode under Sv48 after these words.
+fn fed_deep(words: &[u64]) -> Option<Walk> {
+    let begun = Walk::begin_in(Scheme::Sv48, ROOT, DEEP_VA, Access::Load, USER).ok()?;
+    fed_on(begun, words)
+}
+
+fn is_deep_page(found: &Found) -> bool {
+    found.page.base().get() == 0x80_8040_3000
+        && found.pa == 0x1234_5ABC
+        && found.ppn == 0x1_2345
+        && !found.global
+}
+
 /// A walk of Sv48 asks for a word of each of four levels, and takes its page from the last.
 #[test]
 fn fed_word_by_word_in_sv48(rt: HostRuntime) {
-    let begun = Walk::begin_in(Scheme::Sv48, ROOT, DEEP_VA, Access::Load, USER);
-    let mut walk = begun.expect(&rt, "an address of Sv48");
-    let wanted = [(0x8_0000, 1), (0x8_0001, 2), (0x8_0002, 2), (0x8_0003, 3)];
-    for (want, word) in wanted.iter().zip(DEEP_WORDS[..3].iter()) {
-        assert_eq!(rt; walk.wants(), *want);
-        match walk.load(Some(*word)) {
-            Progress::More(next) => walk = next,
-            end => assert!(rt; false, "ended with {end:?}"),
-        }
+    assert!(rt; wanted(fed_deep(&[])) == Some((0x8_0000, 1)));
+    assert!(rt; wanted(fed_deep(&DEEP_WORDS[..1])) == Some((0x8_0001, 2)));
+    assert!(rt; wanted(fed_deep(&DEEP_WORDS[..2])) == Some((0x8_0002, 2)));
+    assert!(rt; wanted(fed_deep(&DEEP_WORDS[..3])) == Some((0x8_0003, 3)));
+    match ended(fed_deep(&DEEP_WORDS[..3]), Some(DEEP_WORDS[3])) {
+        Some(Progress::Found(found)) => assert!(rt; is_deep_page(&found)),
+        _ => assert!(rt; false, "nothing found"),
     }
-    assert_eq!(rt; walk.wants(), wanted[3]);
-    let Progress::Found(found) = walk.load(Some(DEEP_WORDS[3])) else {
-        assert!(rt; false, "nothing found");
-        return;
-    };
-    assert_eq!(rt; found.page.base().get(), 0x80_8040_3000);
-    assert_eq!(rt;
-        (found.pa, found.ppn, found.global),
-        (0x1234_5ABC, 0x1_2345, false)
-    );
-    let refused = Walk::begin_in(Scheme::Sv48, ROOT, 0x8000_0000_0000, Access::Store, USER);
-    let fault = Trap {
-        cause: 15,
-        why: Why::NotCanonical,
-    };
-    assert_eq!(rt; refused, Err(fault));
-    assert_eq!(rt;
-        Walk::begin_in(Scheme::Sv39, ROOT, DEEP_VA, Access::Store, USER),
-        Err(fault)
-    );
+    let beyond = Walk::begin_in(Scheme::Sv48, ROOT, 0x8000_0000_0000, Access::Store, USER);
+    assert!(rt; is_refused(beyond, 15));
+    let deep = Walk::begin_in(Scheme::Sv39, ROOT, DEEP_VA, Access::Store, USER);
+    assert!(rt; is_refused(deep, 15));
 }
 
 /// The 512 GiB that are found begin at a multiple of their size.
