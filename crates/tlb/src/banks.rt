@@ -73,6 +73,7 @@ impl Banks {
     }
 
     // The slots of all banks that have the tag of the address there: each one that has a match is among them.
+    #[inline(always)]
     fn candidates(&self, va: VirtAddr) -> SlotSet
         ensures { (slot : ℕ) (size : PageSize) → slot < 16 → IsIn (bank_of self.now size) slot → slice_index self.now.tags slot ≡ tag_of va size → IsIn result slot }
     {
