@@ -3,6 +3,7 @@ ghost use Rattle.std.specs.Prelude.{◌≡◌, ◌<◌, ◌^◌, ◌++◌, OnOk,
 ghost use Rattle.pte.specs.Entry.{ppn_bits};
 ghost use Rattle.lines.specs.AnswerLines.{global_text, line_of, size_text, why_text, WritesLines};
 
+use crate::numbers::{push_decimal, push_hexadecimal};
 use pte::{PageSize, Scheme};
 use std::alloc::{AllocError, Global};
 use steps::WalkStep;
@@ -51,10 +52,15 @@ fn push_line(
 {
     match answer {
         Ok(found) => {
-            let pa = found.pa;
             let size = size_word(found.page.size());
             let end = global_word(found.global);
-            writeln!(text, "{number} pa 0x{pa:x} {size}{end}")
+            push_decimal(text, number)?;
+            text.push_str(" pa 0x")?;
+            push_hexadecimal(text, found.pa)?;
+            text.push_str(" ")?;
+            text.push_str(size)?;
+            text.push_str(end)?;
+            text.push_str("\n")
         }
         Err(trap) => {
             let cause = trap.cause;

@@ -3,6 +3,7 @@
 
 mod answers;
 mod laws;
+mod numbers;
 mod replies;
 
 pub use answers::walk_lines;

@@ -3,6 +3,7 @@ ghost use Rattle.std.specs.Prelude.{◌≡◌, ◌++◌, OnOk, IfOk, string_byte
 ghost use Rattle.lines.specs.ReplyLines.{harts_text, next_text, page_text, reach_text, refusal_text, reply_line, reply_lines, reply_text, request_text, what_text};
 
 use crate::answers::{size_word, why_word};
+use crate::numbers::{push_decimal, push_hexadecimal};
 use history::{Refusal, Reply};
 use pte::{Page, What};
 use shoot::{HartSet, MAX_HARTS, Request};
@@ -118,14 +119,20 @@ fn push_reply(text: &mut String, reply: Reply) -> Result<(), AllocError>
     ensures ok { OnOk result (string_bytes text.new ≡ string_bytes text.old ++ reply_text reply) }
 {
     match reply {
-        Reply::Hit(pa) => write!(text, "hit 0x{pa:x}"),
+        Reply::Hit(pa) => {
+            text.push_str("hit 0x")?;
+            push_hexadecimal(text, pa)
+        }
         Reply::Trap(trap) => {
             let cause = trap.cause;
             let why = why_word(trap.why);
             write!(text, "trap {cause} {why}")
         }
         Reply::More => text.push_str("more"),
-        Reply::Filled(pa) => write!(text, "fill 0x{pa:x}"),
+        Reply::Filled(pa) => {
+            text.push_str("fill 0x")?;
+            push_hexadecimal(text, pa)
+        }
         Reply::Table(ppn) => write!(text, "table 0x{ppn:x}"),
         Reply::Leaf => text.push_str("leaf"),
         Reply::Opened(ticket) => write!(text, "opened {ticket}"),
@@ -137,8 +144,8 @@ fn push_reply(text: &mut String, reply: Reply) -> Result<(), AllocError>
             push_harts(text, HartSet::from(left))
         }
         Reply::Refused(refusal) => {
-            let name = refusal_word(refusal);
-            write!(text, "refused {name}")
+            text.push_str("refused ")?;
+            text.push_str(refusal_word(refusal))
         }
     }
 }
@@ -147,7 +154,8 @@ fn push_reply(text: &mut String, reply: Reply) -> Result<(), AllocError>
 fn push_reply_line(text: &mut String, number: usize, reply: Reply) -> Result<(), AllocError>
     ensures ok { OnOk result (string_bytes text.new ≡ string_bytes text.old ++ reply_line number reply) }
 {
-    write!(text, "{number} ")?;
+    push_decimal(text, number)?;
+    text.push_str(" ")?;
     push_reply(text, reply)?;
     text.push_str("\n")
 }

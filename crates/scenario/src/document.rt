@@ -101,7 +101,7 @@ fn number_in(words: &[&[u8]]) -> Option<u64>
 fn texts<'a>(alloc: Global, values: &'a [Value]) -> Result<Option<Vec<&'a str>>, AllocError>
     ensures { IfOk result (λ found. option_map text_views found ≡ each (λ value. as_str (view value)) values.now) }
 {
-    let mut texts = Vec::new(alloc);
+    let mut texts = Vec::with_capacity(alloc, values.len())?;
     for value in values {
         match value.as_str() {
             Some(text) => texts.push(text)?,

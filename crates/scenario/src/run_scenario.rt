@@ -27,7 +27,7 @@ fn events(alloc: Global, scheme: Scheme, harts: u8, texts: &[&str]) -> Result<Ve
     requires { length texts.now ≤ most_steps }
     ensures { Gives (λ v. v.items) result (events_in scheme harts (map (λ text. text.now) texts.now)) }
 {
-    let mut events = Vec::new(alloc);
+    let mut events = Vec::with_capacity(alloc, texts.len())?;
     for (index, text) in texts.iter().enumerate() {
         match run_step_among(scheme, harts, text) {
             Ok(event) => events.push(event)?,

@@ -115,7 +115,7 @@ fn table_words(
 ) -> Result<Option<Vec<TableWord>>, AllocError>
     ensures { IfOk result (λ found. option_map (λ v. v.items) found ≡ each (λ text. word_of (is_frame_of frames.now) text.now) texts.now) }
 {
-    let mut words = Vec::new(alloc);
+    let mut words = Vec::with_capacity(alloc, texts.len())?;
     for text in texts {
         match table_word(frames, text) {
             Some(word) => words.push(word)?,
@@ -157,7 +157,7 @@ fn steps(alloc: Global, texts: &[&str]) -> Result<Vec<WalkStep>, Fault>
     requires { length texts.now ≤ most_steps }
     ensures { Gives (λ v. v.items) result (walk_steps_in (map (λ text. text.now) texts.now)) }
 {
-    let mut steps = Vec::new(alloc);
+    let mut steps = Vec::with_capacity(alloc, texts.len())?;
     for (index, text) in texts.iter().enumerate() {
         match walk_step(text) {
             Some(step) => steps.push(step)?,

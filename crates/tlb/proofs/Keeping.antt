@@ -1,11 +1,11 @@
 -- What a fence, a service and a fill keep of what holds of each entry.
-use Rattle.std.proofs.Common.{◌≡◌, ap, refl, None, ℕ, ◌+◌, ◌-◌, ◌<◌, ◌≤◌, Bool, true, Option, List, [], ◌∷◌, ◌++◌, length, drop, filter, arith, length-append, length-drop}
+use Rattle.std.proofs.Common.{◌≡◌, ap, refl, false, None, Some, ℕ, ◌+◌, ◌-◌, ◌<◌, ◌≤◌, Bool, true, Option, List, [], ◌∷◌, ◌++◌, length, drop, filter, arith, length-append, length-drop}
 use Rattle.std.specs.Prelude.{◌⊎◌, not, All, Contains, IsTrue}
 use Rattle.std.specs.List.{AllPass}
 use Rattle.std.proofs.lemmas.List.Elements.{All-nil, All-push, All-drop, All-filter, All-contains, All-contains_itself, filter_passes, Contains-push_cases}
 use Rattle.std.proofs.lemmas.List.Sums.{length-filter, count_by-le-length}
 use Rattle.pte.specs.declared.scheme.Scheme.{Scheme}
-use Rattle.pte.specs.Address.{IsPage}
+use Rattle.pte.specs.Address.{IsPage, is_canonical}
 use Rattle.pte.specs.declared.address.What.{What}
 use Rattle.tlb.specs.declared.store.Entry.{Entry}
 use Rattle.tlb.specs.Entries.{tlb_size, filled, IsTlb}
@@ -70,3 +70,9 @@ Contains-filled entries new e at =
 pub fenced_all : (scheme : Scheme) (entries : List Entry) → fenced scheme entries None None ≡ []
 fenced_all scheme [] = refl
 fenced_all scheme (e ∷ entries) = fenced_all scheme entries
+
+-- a fence for an address that is not canonical leaves all
+pub fenced_none : (scheme : Scheme) (entries : List Entry) (rs1 : ℕ) (rs2 : Option ℕ) → is_canonical scheme rs1 ≡ false → fenced scheme entries (Some rs1) rs2 ≡ entries
+fenced_none scheme [] rs1 rs2 off = refl
+fenced_none scheme (e ∷ entries) rs1 None off = rw off (ap (λ (es : List Entry). e ∷ es) (fenced_none scheme entries rs1 None off))
+fenced_none scheme (e ∷ entries) rs1 (Some asid) off = rw off (ap (λ (es : List Entry). e ∷ es) (fenced_none scheme entries rs1 (Some asid) off))

@@ -1,4 +1,5 @@
 pub mod Oldest
+pub mod Tagged
 pub mod Kept
 pub mod Dropping
 pub mod Ranking

@@ -1,5 +1,5 @@
 -- The entries of a TLB in 16 slots, which the banks share: there is one bank for each size of page.
-use Rattle.std.specs.Prelude.{ℕ, ◌≡◌, ◌↔◌, ◌/◌, ◌%◌, ◌^◌, ◌<◌, ◌≤◌, Some, List, length, slice_get, slice_index}
+use Rattle.std.specs.Prelude.{ℕ, Bool, true, ◌≡◌, ◌↔◌, ◌/◌, ◌%◌, ◌^◌, ◌<◌, ◌≤◌, Some, List, length, slice_get, slice_index}
 use Rattle.std.specs.List.{filter_map, range_with_len}
 use Rattle.pte.specs.declared.address.PageSize.{PageSize}
 use Rattle.pte.specs.Address.{IsPage, bytes_of, level_of}
@@ -21,6 +21,10 @@ bank_of b size = slice_index b.banks (level_of size)
 -- a slot is in use while its age is below the count
 abbrev pub InUse : Banks → ℕ → Type 0
 InUse b slot = slice_index b.ages slot < b.count
+
+-- each slot in use whose entry passes a test is in the set
+abbrev pub HasAll : Banks → (Entry → Bool) → ℕ → Type 0
+HasAll b test set = (slot : ℕ) (e : Entry) → slice_get b.held slot ≡ Some e → InUse b slot → test e ≡ true → IsIn set slot
 
 -- the tag of an address in the bank of a size: the low bits of the number of its page
 abbrev pub tag_of : ℕ → PageSize → ℕ

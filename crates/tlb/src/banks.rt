@@ -1,19 +1,20 @@
 //! The entries of a TLB in banks, one for each size of page, each entry with an age.
 
-ghost use Rattle.std.specs.Prelude.{ℕ, Bool, ◌≡◌, ◌+◌, ◌<◌, ◌++◌, [], ◌∷◌, filter, map, not, slice_index};
+ghost use Rattle.std.specs.Prelude.{ℕ, Bool, ◌≡◌, ◌+◌, ◌<◌, ◌≤◌, ◌++◌, [], ◌∷◌, filter, map, not, slice_index, true};
 ghost use Rattle.std.specs.Fn.{FnReturnsAt};
-ghost use Rattle.pte.specs.Address.{IsPage};
+ghost use Rattle.pte.specs.Address.{IsPage, level_of};
 ghost use Rattle.pte.specs.declared.address.PageSize.{PageSize};
 ghost use Rattle.tlb.specs.declared.store.Entry.{Entry};
-ghost use Rattle.tlb.specs.Banks.{InUse, IsBanks, bank_of, entries_of, tag_of};
-ghost use Rattle.tlb.specs.Entries.{filled, first_match, is_match};
+ghost use Rattle.tlb.specs.Banks.{HasAll, InUse, IsBanks, bank_of, entries_of, tag_of};
+ghost use Rattle.tlb.specs.Entries.{filled, first_match, holds, is_match};
+ghost use Rattle.tlb.specs.Service.{overlaps};
 ghost use Rattle.tlb.specs.Slots.{IsIn, closed_up};
 
 use crate::slots::{
     SlotSet, close_up, lowest_slot, slot_of, slots_with_tag, with_slot, without_slot,
 };
 use crate::store::{Entry, TLB_SIZE};
-use pte::{PageSize, VirtAddr};
+use pte::{Page, PageSize, VirtAddr};
 
 /// At most 16 entries, in 16 slots that the banks share. Each slot has an age, each number below 16 once. The slots in use are
 /// those with an age below the count, so the ages of the entries are the numbers below the count, and the oldest has 0. A slot in
@@ -72,6 +73,7 @@ impl Banks {
     }
 
     // The slots of all banks that have the tag of the address there: each one that has a match is among them.
+    #[inline(always)]
     fn candidates(&self, va: VirtAddr) -> SlotSet
         ensures { (slot : ℕ) (size : PageSize) → slot < 16 → IsIn (bank_of self.now size) slot → slice_index self.now.tags slot ≡ tag_of va size → IsIn result slot }
     {
@@ -79,6 +81,47 @@ impl Banks {
             | self.in_bank(PageSize::Mib2, va)
             | self.in_bank(PageSize::Gib1, va)
             | self.in_bank(PageSize::Gib512, va)
+    }
+
+    // The slots of the bank of a size that can have a page that overlaps this one: of a smaller size all, else those that have
+    // the tag of its base.
+    fn in_bank_of(&self, size: PageSize, page: &Page) -> SlotSet
+        requires { IsPage page.now }
+        ensures { (slot : ℕ) → slot < 16 → IsIn (bank_of self.now size) slot → (level_of page.now.size ≤ level_of size → slice_index self.now.tags slot ≡ tag_of page.now.base size) → IsIn result slot }
+    {
+        if size.level() < page.size().level() {
+            self.banks[usize::from(size.level())]
+        } else {
+            self.in_bank(size, page.base())
+        }
+    }
+
+    /// The slots that can have a page that overlaps this one: each one that has is among them.
+    pub(crate) fn near_page(&self, page: &Page) -> SlotSet
+        requires kept { IsBanks self.now }
+        requires page { IsPage page.now }
+        ensures { HasAll self.now (λ e. overlaps page.now e.page) result }
+    {
+        self.in_bank_of(PageSize::Kib4, page)
+            | self.in_bank_of(PageSize::Mib2, page)
+            | self.in_bank_of(PageSize::Gib1, page)
+            | self.in_bank_of(PageSize::Gib512, page)
+    }
+
+    /// The slots that can have a page that has this address: each one that has is among them.
+    pub(crate) fn near_address(&self, va: VirtAddr) -> SlotSet
+        requires { IsBanks self.now }
+        ensures { HasAll self.now (λ e. holds e.page va) result }
+    {
+        self.candidates(va)
+    }
+
+    /// The slots of all banks.
+    pub(crate) fn in_use(&self) -> SlotSet
+        requires { IsBanks self.now }
+        ensures { HasAll self.now (λ e. true) result }
+    {
+        self.banks[0] | self.banks[1] | self.banks[2] | self.banks[3]
     }
 
     /// The entry that matches and has the least age. Only what has the address's tag in its bank is looked at whole: no other
@@ -153,14 +196,17 @@ impl Banks {
         self.add_youngest(entry);
     }
 
-    /// Takes out each entry that goes.
-    pub(crate) fn drop_where<F: Fn(&Entry) -> bool>(&mut self, goes: F)
+    /// Takes out each entry that goes, where each one that does is in a slot of the set.
+    pub(crate) fn drop_among<F: Fn(&Entry) -> bool>(&mut self, slots: SlotSet, goes: F)
         requires kept { IsBanks self.old }
         requires callable { F.IsAlwaysCallable goes }
         ensures kept { IsBanks self.new }
-        ensures entries { (test : Entry → Bool) → ((e : Entry) (r : Bool) → FnReturnsAt F.Fn goes e r → r ≡ test e) → entries_of self.new ≡ filter (λ e. not (test e)) (entries_of self.old) }
+        ensures entries { (test : Entry → Bool) → ((e : Entry) (r : Bool) → FnReturnsAt F.Fn goes e r → r ≡ test e) → HasAll self.old test slots → entries_of self.new ≡ filter (λ e. not (test e)) (entries_of self.old) }
     {
-        for slot in 0..TLB_SIZE {
+        let mut left = slots;
+        while left != 0 {
+            let slot = lowest_slot(left);
+            left = without_slot(left, slot);
             if self.ages[slot] < self.count && goes(&self.held[slot]) {
                 self.drop_slot(slot);
             }

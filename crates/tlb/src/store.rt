@@ -1,7 +1,9 @@
 //! The TLB of one hart: look-ups, fills, fences and services.
 
-ghost use Rattle.std.specs.Prelude.{◌≡◌, ◌↔◌, [], IsSome};
+ghost use Rattle.std.specs.Prelude.{◌≡◌, ◌↔◌, [], IsSome, None};
+ghost use Rattle.pte.specs.Address.{IsPage};
 ghost use Rattle.tlb.specs.Banks.{IsBanks, entries_of};
+ghost use Rattle.pte.specs.declared.scheme.Scheme.{Scheme as SchemeOf};
 ghost use Rattle.pte.specs.declared.scheme.Scheme.TheVariants.{Sv39};
 ghost use Rattle.tlb.specs.Answer.{answer_of, entry_of};
 ghost use Rattle.tlb.specs.Entries.{IsTlb, filled, first_match};
@@ -128,26 +130,42 @@ fn is_served(entry: &Entry, page: &Page, asid: Option<u16>) -> bool
         }
 }
 
+// Leaves what a fence of no address does not take out.
+fn drop_of_space(banks: &mut Banks, rs2: Option<u64>)
+    requires { IsBanks banks.old }
+    ensures kept { IsBanks banks.new }
+    ensures entries { (scheme : SchemeOf) → entries_of banks.new ≡ fenced scheme (entries_of banks.old) None rs2 }
+{
+    match rs2 {
+        None => banks.clear(),
+        Some(rs2) => banks.drop_among(banks.in_use(), |e| is_of_space(e, rs2)),
+    }
+}
+
 // Leaves what the fence does not take out.
 fn drop_fenced(scheme: Scheme, banks: &mut Banks, rs1: Option<u64>, rs2: Option<u64>)
     requires { IsBanks banks.old }
     ensures kept { IsBanks banks.new }
     ensures entries { entries_of banks.new ≡ fenced scheme (entries_of banks.old) rs1 rs2 }
 {
-    if let (None, None) = (rs1, rs2) {
-        banks.clear();
+    let Some(va) = rs1 else {
+        drop_of_space(banks, rs2);
         return;
-    }
-    banks.drop_where(|e| is_fenced(scheme, e, rs1, rs2));
+    };
+    let Some(va) = VirtAddr::new_in(scheme, va) else {
+        return;
+    };
+    banks.drop_among(banks.near_address(va), |e| is_fenced(scheme, e, rs1, rs2));
 }
 
 // Leaves what the service of a page does not take out.
 fn drop_served(banks: &mut Banks, page: &Page, asid: Option<u16>)
-    requires { IsBanks banks.old }
+    requires kept { IsBanks banks.old }
+    requires page { IsPage page.now }
     ensures kept { IsBanks banks.new }
     ensures entries { entries_of banks.new ≡ served (entries_of banks.old) (What.PageOf page.now asid) }
 {
-    banks.drop_where(|e| is_served(e, page, asid));
+    banks.drop_among(banks.near_page(page), |e| is_served(e, page, asid));
 }
 
 impl Default for Tlb {
@@ -224,6 +242,8 @@ impl Tlb {
         ensures list { self.new ≡ record self.old { entries = served self.old.entries (What.PageOf page.now asid) } }
         ensures meaning { IsRequest self.old.scheme (What.PageOf page.now asid) → Served self.old.scheme self.old.entries (What.PageOf page.now asid) self.new.entries }
     {
+        // A page tells here that it is aligned, which its tags rest on.
+        let _base = page.base();
         drop_served(&mut self.banks, page, asid);
     }
 }
