@@ -2,6 +2,7 @@ pub mod FieldLemmas
 pub mod GrammarLemmas
 pub mod HartLemmas
 pub mod LiveLemmas
+pub mod LiveRows
 pub mod MoreHarts
 pub mod NamedLemmas
 pub mod NextWord

@@ -10,3 +10,4 @@ pub mod LiveSteps
 pub mod RunGrammar
 pub mod LiveGrammar
 pub mod WorkedRows
+pub mod LiveRows

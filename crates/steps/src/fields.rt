@@ -18,7 +18,7 @@ pub struct PageWord {
 }
 
 /// Harts that are named by their numbers, whether they are there or not.
-#[derive(Clone, Copy, Debug, PartialEq, Eq)]
+#[derive(Clone, Copy)]
 pub struct NamedHarts {
     /// Those whose numbers a hart can have.
     pub set: HartSet,
@@ -126,7 +126,7 @@ pub fn page_word(scheme: Scheme, word: &[u8]) -> Option<PageWord>
     }
 }
 
-pub fn page(scheme: Scheme, word: PageWord) -> Result<Page, StepFault>
+pub fn page_at(scheme: Scheme, word: PageWord) -> Result<Page, StepFault>
     ensures { result ≡ page_at scheme word }
 {
     let Some(base) = VirtAddr::new_in(scheme, word.base) else {

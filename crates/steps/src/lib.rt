@@ -27,4 +27,7 @@ pub use numbers::num;
 pub use run::{run_step, run_step_among};
 pub use step::{WalkStep, walk_step};
 pub use text::{next_word, words};
-pub use worked_rows::{worked_faults, worked_letters, worked_pages, worked_steps};
+pub use worked_rows::{
+    worked_faults, worked_letters, worked_live_faults, worked_live_pages, worked_live_steps,
+    worked_pages, worked_steps,
+};

@@ -3,7 +3,7 @@ ghost use Rattle.std.specs.Prelude.{◌≡◌};
 ghost use Rattle.steps.specs.LiveSteps.{live_edit_of, live_pair_of, live_step_by, live_step_in, setup_step_by, setup_step_in};
 
 use crate::fault::StepFault;
-use crate::fields::{among, named_among, page};
+use crate::fields::{among, named_among, page_at};
 use crate::numbers::num;
 use crate::spelled::{EditStep, PairStep, Spelled, spelled_in};
 use crate::text::next_word;
@@ -16,34 +16,30 @@ fn live_edit(scheme: Scheme, harts: u8, step: EditStep) -> Result<LiveStep, Step
     match step {
         EditStep::Map {
             place,
-            page: word,
+            page,
             ppn,
             flags,
         } => Ok(LiveStep::Map {
             place,
-            page: page(scheme, word)?,
+            page: page_at(scheme, page)?,
             ppn,
             flags,
         }),
-        EditStep::Unmap {
-            place,
-            page: word,
-            named,
-        } => Ok(LiveStep::Unmap {
+        EditStep::Unmap { place, page, named } => Ok(LiveStep::Unmap {
             place,
             named: named_among(harts, named)?,
-            page: page(scheme, word)?,
+            page: page_at(scheme, page)?,
         }),
         EditStep::Protect {
             place,
-            page: word,
+            page,
             flags,
             named,
         } => Ok(LiveStep::Protect {
             place,
             flags,
             named: named_among(harts, named)?,
-            page: page(scheme, word)?,
+            page: page_at(scheme, page)?,
         }),
     }
 }

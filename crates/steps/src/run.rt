@@ -3,7 +3,7 @@ ghost use Rattle.std.specs.Prelude.{◌≡◌};
 ghost use Rattle.steps.specs.RunStep.{edit_event_of, event_of, pair_event_of, run_step_by, run_step_of, step_among};
 
 use crate::fault::StepFault;
-use crate::fields::{among, named_among, page};
+use crate::fields::{among, named_among, page_at};
 use crate::numbers::num;
 use crate::spelled::{EditStep, PairStep, Spelled, spelled_in};
 use crate::text::next_word;
@@ -18,29 +18,25 @@ fn edit_event(scheme: Scheme, harts: u8, hart: u8, step: EditStep) -> Result<Eve
     match step {
         EditStep::Map {
             place,
-            page: word,
+            page,
             ppn,
             flags,
         } => Ok(Event::Map {
             hart,
             place,
-            page: page(scheme, word)?,
+            page: page_at(scheme, page)?,
             ppn,
             flags,
         }),
-        EditStep::Unmap {
-            place,
-            page: word,
-            named,
-        } => Ok(Event::Unmap {
+        EditStep::Unmap { place, page, named } => Ok(Event::Unmap {
             hart,
             place,
             named: named_among(harts, named)?,
-            page: page(scheme, word)?,
+            page: page_at(scheme, page)?,
         }),
         EditStep::Protect {
             place,
-            page: word,
+            page,
             flags,
             named,
         } => Ok(Event::Protect {
@@ -48,7 +44,7 @@ fn edit_event(scheme: Scheme, harts: u8, hart: u8, step: EditStep) -> Result<Eve
             place,
             flags,
             named: named_among(harts, named)?,
-            page: page(scheme, word)?,
+            page: page_at(scheme, page)?,
         }),
     }
 }

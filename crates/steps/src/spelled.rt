@@ -14,7 +14,7 @@ use pte::{PteFlags, Scheme};
 use spaces::Place;
 
 /// What the words of an edit of a page say.
-#[derive(Clone, Copy, Debug, PartialEq, Eq)]
+#[derive(Clone, Copy)]
 pub enum EditStep {
     Map {
         place: Place,
@@ -36,7 +36,7 @@ pub enum EditStep {
 }
 
 /// What the words of a step say that names another hart.
-#[derive(Clone, Copy, Debug, PartialEq, Eq)]
+#[derive(Clone, Copy)]
 pub enum PairStep {
     Post { ticket: u32, to: u64 },
     CollectFrom { ticket: u32, from: u64 },
@@ -47,7 +47,7 @@ pub enum PairStep {
 
 /// What the words after the hart's say, in `run` or in `live`: a case for each name of a step, with its numbers as they are
 /// written.
-#[derive(Clone, Copy, Debug, PartialEq, Eq)]
+#[derive(Clone, Copy)]
 pub enum Spelled {
     Begin { step: WalkStep },
     Translate { step: WalkStep },
