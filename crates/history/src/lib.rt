@@ -2,11 +2,13 @@
 #![tactic(auto)]
 
 mod event;
+mod live_step;
 pub mod occurrences;
 mod reply;
 pub mod retirements;
 pub mod translations;
 
 pub use event::{Event, Scope};
+pub use live_step::LiveStep;
 pub use refusals::Refusal;
 pub use reply::Reply;

@@ -139,7 +139,7 @@ there_by scheme word r page false level e h is = absurd (not_Ok r NotPage page h
 pub there-is_page : (scheme : Scheme) (word : PageWord) (page : Span) → level_of word.size ≤ top_level scheme → page_at scheme word ≡ Ok page → IsPageOf scheme page × (page ≡ span_of word)
 there-is_page scheme word page level h = there_by scheme word (page_at scheme word) page (is_page scheme word) level refl refl h
 
-or_Some : {X : Type 0} (a b : Option X) (y : X) → option_or a b ≡ Some y → (a ≡ Some y) ⊎ (b ≡ Some y)
+pub or_Some : {X : Type 0} (a b : Option X) (y : X) → option_or a b ≡ Some y → (a ≡ Some y) ⊎ (b ≡ Some y)
 or_Some None b y h = inr h
 or_Some (Some x) b y h = inl h
 

@@ -1,71 +1,135 @@
--- Harts that are named one after another.
-use Rattle.std.proofs.Common.{◌≡◌, ℕ, Bool, true, false, nat_lt, List, [], ◌∷◌, Option, Some, None, option_map, option_and_then, Result, Ok, Err, refl, ◌∙◌, slice_set, if◌then◌else◌}
+-- The harts that a word names: read one after another, and as a list of numbers.
+use Rattle.std.proofs.Common.{◌≡◌, ℕ, ◌≤◌, ◌&&◌, Bool, true, false, nat_lt, codes, List, [], ◌∷◌, length, Option, Some, None, option_map, option_and_then, Result, Ok, Err, refl, ◌∙◌, arith, slice_set, if◌then◌else◌}
 use Rattle.std.specs.List.{fold, list_all}
-use Rattle.shoot.specs.HartSet.{no_harts}
+use Rattle.std.specs.Str.{bytes_eq}
+use Rattle.std.proofs.lemmas.Bool.Decides.{nat_tests}
+use Rattle.std.proofs.lemmas.List.{length-set, set_past}
+use Rattle.shoot.specs.HartSet.{byte_of, no_harts}
+use Rattle.shoot.specs.declared.TheConstants.{MAX_HARTS}
 use Rattle.steps.specs.declared.fault.StepFault.{StepFault}
-use Rattle.steps.specs.declared.fault.StepFault.TheVariants.{NotStep, NoSuchHart}
-use Rattle.steps.specs.Fields.{among, nums_of, set_among, with_harts, with_part}
+use Rattle.steps.specs.declared.fault.StepFault.TheVariants.{NoSuchHart}
+use Rattle.steps.specs.declared.fields.NamedHarts.{NamedHarts}
+use Rattle.steps.specs.Fields.{are_there, listed_of, named_among, named_of, nobody, parts_of, with_hart, with_harts, with_part}
 use Rattle.steps.specs.Num.{num_of}
 use Rattle.steps.specs.StepFaults.{asked, ◌>>=◌}
 
--- the set with the harts, if all of them are there
-abbrev with_all : ℕ → List Bool → List ℕ → Result (List Bool) StepFault
-with_all harts set named = if list_all (λ hart. nat_lt hart harts) named then Ok (with_harts set named) else Err NoSuchHart
+-- ---- a list of numbers, and the set of it
 
-abbrev Folds : ℕ → List Bool → List (List ℕ) → Type 0
-Folds harts set parts = fold (with_part harts) (Ok set) parts ≡ (asked (nums_of parts) >>= with_all harts set)
+abbrev pub nums_of : List (List ℕ) → Option (List ℕ)
+nums_of [] = Some []
+nums_of (part ∷ parts) = option_and_then (λ n. option_map (λ ns. n ∷ ns) (nums_of parts)) (num_of part)
+
+abbrev pub all_there : ℕ → List ℕ → Bool
+all_there harts named = list_all (λ hart. nat_lt hart harts) named
+
+-- the set of them, if all of them are there
+abbrev pub set_among : ℕ → List ℕ → Result (List Bool) StepFault
+set_among harts named = if all_there harts named then Ok (with_harts no_harts named) else Err NoSuchHart
+
+abbrev pub set_in : ℕ → List ℕ → Result (List Bool) StepFault
+set_in harts word = asked (nums_of (parts_of word)) >>= set_among harts
+
+abbrev pub named_in : ℕ → List ℕ → Result ℕ StepFault
+named_in harts word = if bytes_eq word (codes "-") then Ok 0 else set_in harts word >>= λ set. Ok (byte_of set)
+
+-- ---- one after another
+
+abbrev with_all : NamedHarts → List ℕ → NamedHarts
+with_all named [] = named
+with_all named (hart ∷ harts) = with_all (with_hart named hart) harts
 
 -- once a part is no number, it stays so
-unread_on : (harts : ℕ) (parts : List (List ℕ)) → fold (with_part harts) (Err NotStep) parts ≡ Err NotStep → (n : Option ℕ)
-    → fold (with_part harts) (asked n >>= λ m. Err NotStep) parts ≡ Err NotStep
-unread_on harts parts h None = h
-unread_on harts parts h (Some n) = h
+unread_on : (parts : List (List ℕ)) → fold with_part None parts ≡ None → (n : Option ℕ)
+    → fold with_part (option_and_then (λ hart. option_map (λ (x : NamedHarts). with_hart x hart) None) n) parts ≡ None
+unread_on parts h None = h
+unread_on parts h (Some n) = h
 
-stays_unread : (harts : ℕ) (parts : List (List ℕ)) → fold (with_part harts) (Err NotStep) parts ≡ Err NotStep
-stays_unread harts [] = refl
-stays_unread harts (part ∷ parts) = unread_on harts parts (stays_unread harts parts) (num_of part)
+stays_unread : (parts : List (List ℕ)) → fold with_part None parts ≡ None
+stays_unread [] = refl
+stays_unread (part ∷ parts) = unread_on parts (stays_unread parts) (num_of part)
 
--- once a hart is not there, the rest need only be numbers
-abbrev Rest : Option (List ℕ) → Result (List Bool) StepFault
-Rest o = asked o >>= λ named. Err NoSuchHart
+abbrev Folds : NamedHarts → List (List ℕ) → Type 0
+Folds named parts = fold with_part (Some named) parts ≡ option_map (with_all named) (nums_of parts)
 
-no_more : (m : ℕ) (o : Option (List ℕ)) → Rest o ≡ Rest (option_map (λ ns. m ∷ ns) o)
-no_more m None = refl
-no_more m (Some ns) = refl
+and_more : (named : NamedHarts) (hart : ℕ) (o : Option (List ℕ)) → option_map (with_all (with_hart named hart)) o ≡ option_map (with_all named) (option_map (λ ns. hart ∷ ns) o)
+and_more named hart None = refl
+and_more named hart (Some ns) = refl
 
-absent_on : (harts : ℕ) (parts : List (List ℕ)) → fold (with_part harts) (Err NoSuchHart) parts ≡ Rest (nums_of parts) → (n : Option ℕ)
-    → fold (with_part harts) (asked n >>= λ m. Err NoSuchHart) parts ≡ Rest (option_and_then (λ m. option_map (λ ns. m ∷ ns) (nums_of parts)) n)
-absent_on harts parts h None = stays_unread harts parts
-absent_on harts parts h (Some m) = h ∙ no_more m (nums_of parts)
+by_num : (named : NamedHarts) (parts : List (List ℕ)) (n : Option ℕ) → ((x : NamedHarts) → Folds x parts)
+    → fold with_part (option_and_then (λ hart. option_map (λ (x : NamedHarts). with_hart x hart) (Some named)) n) parts
+    ≡ option_map (with_all named) (option_and_then (λ m. option_map (λ ns. m ∷ ns) (nums_of parts)) n)
+by_num named parts None ih = stays_unread parts
+by_num named parts (Some m) ih = ih (with_hart named m) ∙ and_more named m (nums_of parts)
 
-stays_absent : (harts : ℕ) (parts : List (List ℕ)) → fold (with_part harts) (Err NoSuchHart) parts ≡ Rest (nums_of parts)
-stays_absent harts [] = refl
-stays_absent harts (part ∷ parts) = absent_on harts parts (stays_absent harts parts) (num_of part)
+folds : (named : NamedHarts) (parts : List (List ℕ)) → Folds named parts
+folds named [] = refl
+folds named (part ∷ parts) = by_num named parts (num_of part) (λ x. folds x parts)
 
-there : (harts m : ℕ) (set : List Bool) (o : Option (List ℕ)) → nat_lt m harts ≡ true
-    → (asked o >>= with_all harts (slice_set set m true)) ≡ (asked (option_map (λ ns. m ∷ ns) o) >>= with_all harts set)
-there harts m set None e = refl
-there harts m set (Some ns) e = rw e refl
+-- ---- the greatest number tells whether all are there
 
-not_there : (harts m : ℕ) (set : List Bool) (o : Option (List ℕ)) → nat_lt m harts ≡ false
-    → Rest o ≡ (asked (option_map (λ ns. m ∷ ns) o) >>= with_all harts set)
-not_there harts m set None e = refl
-not_there harts m set (Some ns) e = rw e refl
+most_by : (harts hart most : ℕ) (b : Bool) → nat_lt hart most ≡ b → nat_lt (if b then most else hart) harts ≡ (nat_lt most harts && nat_lt hart harts)
+most_by harts hart most true e = grind (arith, nat_tests)
+most_by harts hart most false e = grind (arith, nat_tests)
 
-by_test : (harts m : ℕ) (set : List Bool) (parts : List (List ℕ)) (b : Bool) → nat_lt m harts ≡ b → ((s : List Bool) → Folds harts s parts)
-    → fold (with_part harts) (among harts m >>= λ hart. Ok (slice_set set hart true)) parts ≡ (asked (option_map (λ ns. m ∷ ns) (nums_of parts)) >>= with_all harts set)
-by_test harts m set parts true e ih = rw e (ih (slice_set set m true) ∙ there harts m set (nums_of parts) e)
-by_test harts m set parts false e ih = rw e (stays_absent harts parts ∙ not_there harts m set (nums_of parts) e)
+one_more : (harts hart : ℕ) (greatest : Option ℕ) (set : List Bool)
+    → are_there harts (with_hart (record { set = set; greatest = greatest }) hart).greatest ≡ (are_there harts greatest && nat_lt hart harts)
+one_more harts hart None set = by_test (nat_lt hart 0) refl
+  where
+    by_test : (b : Bool) → nat_lt hart 0 ≡ b → nat_lt (if b then 0 else hart) harts ≡ nat_lt hart harts
+    by_test true e = grind (arith, nat_tests)
+    by_test false e = refl
+one_more harts hart (Some most) set = most_by harts hart most (nat_lt hart most) refl
 
-by_num : (harts : ℕ) (set : List Bool) (parts : List (List ℕ)) (n : Option ℕ) → ((s : List Bool) → Folds harts s parts)
-    → fold (with_part harts) (asked n >>= λ m. among harts m >>= λ hart. Ok (slice_set set hart true)) parts
-    ≡ (asked (option_and_then (λ m. option_map (λ ns. m ∷ ns) (nums_of parts)) n) >>= with_all harts set)
-by_num harts set parts None ih = stays_unread harts parts
-by_num harts set parts (Some m) ih = by_test harts m set parts (nat_lt m harts) refl ih
+and_true : (a : Bool) → a ≡ (a && true)
+and_true true = refl
+and_true false = refl
 
-folds : (harts : ℕ) (set : List Bool) (parts : List (List ℕ)) → Folds harts set parts
-folds harts set [] = refl
-folds harts set (part ∷ parts) = by_num harts set parts (num_of part) (λ s. folds harts s parts)
+and_assoc : (a b c : Bool) → ((a && b) && c) ≡ (a && (b && c))
+and_assoc true b c = refl
+and_assoc false b c = refl
 
-pub parts_fold : (harts : ℕ) (parts : List (List ℕ)) → fold (with_part harts) (Ok no_harts) parts ≡ (asked (nums_of parts) >>= set_among harts)
-parts_fold harts parts = folds harts no_harts parts
+there_all : (harts : ℕ) (named : NamedHarts) (ns : List ℕ) → are_there harts (with_all named ns).greatest ≡ (are_there harts named.greatest && all_there harts ns)
+there_all harts named [] = and_true (are_there harts named.greatest)
+there_all harts named (hart ∷ ns) =
+    there_all harts (with_hart named hart) ns
+    ∙ rw (one_more harts hart named.greatest named.set) (and_assoc (are_there harts named.greatest) (nat_lt hart harts) (all_there harts ns))
+
+-- ---- a number that no hart can have is in no set
+
+not_less : (hart most : ℕ) → nat_lt hart most ≡ false → most ≤ hart
+not_less hart most e = grind (arith, nat_tests)
+
+set_by : (hart : ℕ) (set : List Bool) (b : Bool) → nat_lt hart MAX_HARTS ≡ b → length set ≡ MAX_HARTS → (if b then slice_set set hart true else set) ≡ slice_set set hart true
+set_by hart set true e long = refl
+set_by hart set false e long = let out : length set ≤ hart = rw long (not_less hart MAX_HARTS e) in sym_of (set_past set hart true out)
+  where
+    sym_of : {a b : List Bool} → a ≡ b → b ≡ a
+    sym_of h = cc
+
+sets_all : (named : NamedHarts) (ns : List ℕ) → length named.set ≡ MAX_HARTS → (with_all named ns).set ≡ with_harts named.set ns
+sets_all named [] long = refl
+sets_all named (hart ∷ ns) long =
+    let same = set_by hart named.set (nat_lt hart MAX_HARTS) refl long in
+    sets_all (with_hart named hart) ns (rw same (length-set named.set hart true ∙ long)) ∙ rw same refl
+
+-- ---- both readings are the same
+
+if_there : (b : Bool) (set : List Bool) → (if b then Ok (byte_of set) else Err NoSuchHart) ≡ ((if b then Ok set else Err NoSuchHart) >>= λ s. Ok (byte_of s))
+if_there true set = refl
+if_there false set = refl
+
+nobody_is : byte_of no_harts ≡ 0
+unfolding byte_of
+nobody_is = refl
+
+by_nums : (harts : ℕ) (o : Option (List ℕ)) → (asked (option_map (with_all nobody) o) >>= named_among harts) ≡ ((asked o >>= set_among harts) >>= λ s. Ok (byte_of s))
+by_nums harts None = refl
+by_nums harts (Some ns) = rw (there_all harts nobody ns, sets_all nobody ns refl) (if_there (all_there harts ns) (with_harts no_harts ns))
+
+by_dash : (harts : ℕ) (word : List ℕ) (b : Bool)
+    → (asked (if b then Some nobody else listed_of word) >>= named_among harts) ≡ (if b then Ok 0 else set_in harts word >>= λ s. Ok (byte_of s))
+by_dash harts word true = rw nobody_is refl
+by_dash harts word false = rw (folds nobody (parts_of word)) (by_nums harts (nums_of (parts_of word)))
+
+pub named_read : (harts : ℕ) (word : List ℕ) → (asked (named_of word) >>= named_among harts) ≡ named_in harts word
+named_read harts word = by_dash harts word (bytes_eq word (codes "-"))

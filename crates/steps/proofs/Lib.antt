@@ -1,11 +1,15 @@
 pub mod FieldLemmas
 pub mod GrammarLemmas
 pub mod HartLemmas
+pub mod LiveLemmas
+pub mod LiveRows
 pub mod MoreHarts
 pub mod NamedLemmas
 pub mod NextWord
 pub mod NumLemmas
+pub mod Readings
 pub mod RunLemmas
+pub mod SpellingLemmas
 pub mod StepLemmas
 pub mod WiderSteps
 pub mod WordLemmas

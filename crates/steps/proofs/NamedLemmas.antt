@@ -9,12 +9,14 @@ use Rattle.std.proofs.lemmas.Option.{same_Some}
 use Rattle.std.proofs.lemmas.Slice.Eq.{bytes_eq-Decides}
 use Rattle.shoot.specs.HartSet.{byte_of, no_harts}
 use Rattle.steps.specs.declared.fault.StepFault.TheVariants.{NotStep, NoSuchHart}
-use Rattle.steps.specs.Fields.{named_in, nums_of, parts_of, set_among, set_in, with_harts}
+use Rattle.steps.specs.declared.fields.NamedHarts.{NamedHarts}
+use Rattle.steps.specs.Fields.{named_among, named_of, parts_of, with_harts}
 use Rattle.steps.specs.Num.{num_of}
 use Rattle.steps.specs.RunGrammar.{IsPart, WritesBelow, WritesHarts, WritesNamed}
 use Rattle.steps.specs.StepFaults.{asked, ◌>>=◌}
 use Rattle.steps.proofs.FieldLemmas.{lt_from_test, lt_test, not_Ok, same_Ok}
 use Rattle.steps.proofs.GrammarLemmas.{num_of-writes, writes-num_of}
+use Rattle.steps.proofs.HartLemmas.{named_in, named_read, nums_of, set_among, set_in}
 use Rattle.steps.proofs.WordLemmas.{option_and_then-Some, option_map-Some}
 
 abbrev is_comma : ℕ → Bool
@@ -99,9 +101,9 @@ named_by : (harts : ℕ) (word named : List ℕ) (b : Bool) → bytes_eq word (c
 named_by harts word named true e h = absurd (dash_unread named (ap (λ w. nums_of (parts_of w)) (sym ((bytes_eq-Decides word (codes "-")).0 e)) ∙ h.0))
 named_by harts word named false e h = rw (h.0, h.1) refl
 
-pub named-writes : (harts : ℕ) (word : List ℕ) (set : ℕ) → WritesNamed harts word set → named_in harts word ≡ Ok set
-named-writes harts word set (inl h) = ap (named_in harts) h.0 ∙ ap Ok (sym h.1)
-named-writes harts word set (inr (named, writes, is)) = named_by harts word named (bytes_eq word (codes "-")) refl (harts-read harts named word writes) ∙ ap Ok (sym is)
+named_in-writes : (harts : ℕ) (word : List ℕ) (set : ℕ) → WritesNamed harts word set → named_in harts word ≡ Ok set
+named_in-writes harts word set (inl h) = ap (named_in harts) h.0 ∙ ap Ok (sym h.1)
+named_in-writes harts word set (inr (named, writes, is)) = named_by harts word named (bytes_eq word (codes "-")) refl (harts-read harts named word writes) ∙ ap Ok (sym is)
 
 set_by_test : (harts : ℕ) (named : List ℕ) (set : ℕ) (b : Bool) → are_there harts named ≡ b
     → ((if b then Ok (with_harts no_harts named) else Err NoSuchHart) >>= λ s. Ok (byte_of s)) ≡ Ok set → (are_there harts named ≡ true) × (byte_of (with_harts no_harts named) ≡ set)
@@ -120,5 +122,22 @@ writes_by harts word set false e h =
     let r = set_by_option harts word set (nums_of (parts_of word)) refl h in
     inr (r.0, writes_parts harts (parts_of word) word r.0 (has-parts_of word) r.1.0 r.1.1, sym r.2)
 
-pub writes-named : (harts : ℕ) (word : List ℕ) (set : ℕ) → named_in harts word ≡ Ok set → WritesNamed harts word set
-writes-named harts word set h = writes_by harts word set (bytes_eq word (codes "-")) refl h
+writes-named_in : (harts : ℕ) (word : List ℕ) (set : ℕ) → named_in harts word ≡ Ok set → WritesNamed harts word set
+writes-named_in harts word set h = writes_by harts word set (bytes_eq word (codes "-")) refl h
+
+-- the harts that a word names, and where all of them are there
+pub record IsNamed (harts : ℕ) (word : List ℕ) (set : ℕ) : Type 0 where
+  pub named : NamedHarts
+  pub read : named_of word ≡ Some named
+  pub there : named_among harts named ≡ Ok set
+
+named_by_option : (harts : ℕ) (word : List ℕ) (set : ℕ) (o : Option NamedHarts) → named_of word ≡ o → (asked o >>= named_among harts) ≡ Ok set → IsNamed harts word set
+named_by_option harts word set None e h = absurd (not_Ok _ NotStep set refl h)
+named_by_option harts word set (Some named) e h = record { named = named; read = e; there = h }
+
+pub named-writes : (harts : ℕ) (word : List ℕ) (set : ℕ) → WritesNamed harts word set → IsNamed harts word set
+named-writes harts word set h = named_by_option harts word set (named_of word) refl (named_read harts word ∙ named_in-writes harts word set h)
+
+pub writes-named : (harts : ℕ) (word : List ℕ) (named : NamedHarts) (set : ℕ) → named_of word ≡ Some named → named_among harts named ≡ Ok set → WritesNamed harts word set
+writes-named harts word named set read there =
+    writes-named_in harts word set (sym (named_read harts word) ∙ ap (λ o. asked o >>= named_among harts) read ∙ there)

@@ -53,6 +53,7 @@ unfolding byte_of
 unmap_of_the_kernel = refl
 
 pub flush_of_all : rows.flush_of_all
+unfolding byte_of
 flush_of_all = refl
 
 pub take_from_hart_0 : rows.take_from_hart_0

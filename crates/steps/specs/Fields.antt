@@ -1,6 +1,6 @@
 -- What the words of a step write.
-use Rattle.std.specs.Prelude.{ℕ, ◌^◌, ◌%◌, ◌==◌, ◌&&◌, Bool, true, bit_and, bit_or, nat_lt, nat_le, codes, List, [], ◌∷◌, length, take, drop, Option, Some, None, option_and_then, option_map, Result, Ok, Err, slice_set, if◌then◌else◌}
-use Rattle.std.specs.List.{list_all, slice_split}
+use Rattle.std.specs.Prelude.{ℕ, ◌^◌, ◌%◌, ◌==◌, ◌&&◌, Bool, true, bit_and, bit_or, nat_lt, nat_le, codes, List, [], ◌∷◌, length, take, drop, Option, Some, None, option_and_then, option_map, unwrap_or, Result, Ok, Err, slice_set, if◌then◌else◌}
+use Rattle.std.specs.List.{fold, slice_split}
 use Rattle.std.specs.Option.{option_or}
 use Rattle.std.specs.Str.{bytes_eq}
 use Rattle.pte.specs.Address.{bytes_of, is_canonical, level_of, Span, top_level}
@@ -11,13 +11,14 @@ use Rattle.pte.specs.declared.flags.PteFlags.{PteFlags}
 use Rattle.spaces.specs.declared.places.Place.{Place}
 use Rattle.spaces.specs.declared.places.Place.TheVariants as places
 use Rattle.shoot.specs.HartSet.{byte_of, no_harts}
+use Rattle.shoot.specs.declared.TheConstants.{MAX_HARTS}
 use Rattle.history.specs.declared.event.Scope.{Scope}
 use Rattle.history.specs.declared.event.Scope.TheVariants as scopes
 use Rattle.steps.specs.declared.fault.StepFault.{StepFault}
 use Rattle.steps.specs.declared.fault.StepFault.TheVariants.{NoSuchHart, NotPage}
+use Rattle.steps.specs.declared.fields.NamedHarts.{NamedHarts}
 use Rattle.steps.specs.declared.fields.PageWord.{PageWord}
 use Rattle.steps.specs.Num.{num_of}
-use Rattle.steps.specs.StepFaults.{asked, ◌>>=◌}
 
 -- ---- numbers
 
@@ -104,27 +105,42 @@ among harts hart = if nat_lt hart harts then Ok hart else Err NoSuchHart
 abbrev pub parts_of : List ℕ → List (List ℕ)
 parts_of word = slice_split (λ byte. byte == 44) word
 
-abbrev pub nums_of : List (List ℕ) → Option (List ℕ)
-nums_of [] = Some []
-nums_of (part ∷ parts) = option_and_then (λ n. option_map (λ ns. n ∷ ns) (nums_of parts)) (num_of part)
-
 -- the harts that are in the set already, and these
 abbrev pub with_harts : List Bool → List ℕ → List Bool
 with_harts set [] = set
 with_harts set (hart ∷ harts) = with_harts (slice_set set hart true) harts
 
--- their set, if all of them are there
-abbrev pub set_among : ℕ → List ℕ → Result (List Bool) StepFault
-set_among harts named = if list_all (λ hart. nat_lt hart harts) named then Ok (with_harts no_harts named) else Err NoSuchHart
+-- ---- harts that are named, whether they are there or not: the set of those that can be, and the greatest number
 
--- the set of harts with commas between them
-abbrev pub set_in : ℕ → List ℕ → Result (List Bool) StepFault
-set_in harts word = asked (nums_of (parts_of word)) >>= set_among harts
+abbrev pub nobody : NamedHarts
+nobody = record { set = no_harts; greatest = None }
 
--- bit h for hart h, `-` for none
-abbrev pub named_in : ℕ → List ℕ → Result ℕ StepFault
-named_in harts word = if bytes_eq word (codes "-") then Ok 0 else set_in harts word >>= λ set. Ok (byte_of set)
+-- a number that no hart can have is in no set
+abbrev pub with_hart : NamedHarts → ℕ → NamedHarts
+with_hart named hart =
+    let most = unwrap_or named.greatest 0 in
+    record {
+      set = if nat_lt hart MAX_HARTS then slice_set named.set hart true else named.set;
+      greatest = Some (if nat_lt hart most then most else hart);
+    }
 
--- the set of the parts that were read, with one part more
-abbrev pub with_part : ℕ → Result (List Bool) StepFault → List ℕ → Result (List Bool) StepFault
-with_part harts named part = asked (num_of part) >>= λ n. named >>= λ set. among harts n >>= λ hart. Ok (slice_set set hart true)
+-- the harts of the parts that were read, and that of one part more
+abbrev pub with_part : Option NamedHarts → List ℕ → Option NamedHarts
+with_part named part = option_and_then (λ hart. option_map (λ (n : NamedHarts). with_hart n hart) named) (num_of part)
+
+-- numbers of harts with commas between them
+abbrev pub listed_of : List ℕ → Option NamedHarts
+listed_of word = fold with_part (Some nobody) (parts_of word)
+
+-- the same, or `-` for none
+abbrev pub named_of : List ℕ → Option NamedHarts
+named_of word = if bytes_eq word (codes "-") then Some nobody else listed_of word
+
+-- all of them are there
+abbrev pub are_there : ℕ → Option ℕ → Bool
+are_there harts None = true
+are_there harts (Some greatest) = nat_lt greatest harts
+
+-- bit h for hart h, if all of them are there
+abbrev pub named_among : ℕ → NamedHarts → Result ℕ StepFault
+named_among harts named = if are_there harts named.greatest then Ok (byte_of named.set) else Err NoSuchHart

@@ -4,6 +4,10 @@ pub mod Step
 pub mod Grammar
 pub mod StepFaults
 pub mod Fields
+pub mod Spelling
 pub mod RunStep
+pub mod LiveSteps
 pub mod RunGrammar
+pub mod LiveGrammar
 pub mod WorkedRows
+pub mod LiveRows

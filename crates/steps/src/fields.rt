@@ -1,13 +1,13 @@
 //! The words of a step.
 ghost use Rattle.std.specs.Prelude.{◌≡◌};
-ghost use Rattle.steps.specs.Fields.{among, asid_of, bits_of, flag_of, flags_of, named_in, page_after, page_at, page_of, place_of, register_of, scope_of, set_in, sized_page_of, space_of, ticket_of, with_letters, with_part};
+ghost use Rattle.steps.specs.Fields.{among, are_there, asid_of, bits_of, flag_of, flags_of, listed_of, named_among, named_of, page_after, page_at, page_of, place_of, register_of, scope_of, sized_page_of, space_of, ticket_of, with_hart, with_letters, with_part};
 
 use crate::fault::StepFault;
 use crate::numbers::num;
 use bitflags::Flags;
 use history::Scope;
 use pte::{Page, PageSize, PteFlags, Scheme, VirtAddr};
-use shoot::HartSet;
+use shoot::{HartSet, MAX_HARTS};
 use spaces::Place;
 
 /// A size and an address that is a page's base, or not.
@@ -15,6 +15,15 @@ use spaces::Place;
 pub struct PageWord {
     pub base: u64,
     pub size: PageSize,
+}
+
+/// Harts that are named by their numbers, whether they are there or not.
+#[derive(Clone, Copy)]
+pub struct NamedHarts {
+    /// Those whose numbers a hart can have.
+    pub set: HartSet,
+    /// The greatest number, `None` where no hart is named.
+    pub greatest: Option<u64>,
 }
 
 /// A number below 2^32.
@@ -117,7 +126,7 @@ pub fn page_word(scheme: Scheme, word: &[u8]) -> Option<PageWord>
     }
 }
 
-pub fn page(scheme: Scheme, word: PageWord) -> Result<Page, StepFault>
+pub fn page_at(scheme: Scheme, word: PageWord) -> Result<Page, StepFault>
     ensures { result ≡ page_at scheme word }
 {
     let Some(base) = VirtAddr::new_in(scheme, word.base) else {
@@ -191,38 +200,72 @@ pub fn among(harts: u8, hart: u64) -> Result<u8, StepFault>
     Ok(hart as u8)
 }
 
-/// The harts that were named, and that of one part more.
-fn with_part(
-    harts: u8,
-    named: Result<HartSet, StepFault>,
-    part: &[u8],
-) -> Result<HartSet, StepFault>
-    ensures { result ≡ with_part harts named part.now }
+/// The harts that were named, and one more.
+fn with_hart(named: NamedHarts, hart: u64) -> NamedHarts
+    ensures { result ≡ with_hart named hart }
 {
-    let hart = num(part).ok_or(StepFault::NotStep)?;
-    let mut set = named?;
-    let hart = among(harts, hart)?;
-    set.insert(hart);
-    Ok(set)
+    let mut set = named.set;
+    if hart < MAX_HARTS as u64 {
+        set.insert(hart as u8);
+    }
+    let most = named.greatest.unwrap_or(0);
+    let greatest = if hart < most { most } else { hart };
+    NamedHarts {
+        set,
+        greatest: Some(greatest),
+    }
 }
 
-/// The set of the harts that stand between commas.
-fn set(harts: u8, word: &[u8]) -> Result<HartSet, StepFault>
-    ensures { result ≡ set_in harts word.now }
+/// The harts of the parts that were read, and that of one part more.
+fn with_part(named: Option<NamedHarts>, part: &[u8]) -> Option<NamedHarts>
+    ensures { result ≡ with_part named part.now }
 {
-    word.split(|byte| *byte == b',').fold(
-        Ok(HartSet::new()),
-        |set, part| with_part(harts, set, part),
-    )
+    let hart = num(part)?;
+    let named = named?;
+    Some(with_hart(named, hart))
 }
 
-/// The harts that a word names, bit h for hart h: their numbers with commas between them, or `-` for none.
-pub fn named(harts: u8, word: &[u8]) -> Result<u8, StepFault>
-    ensures { result ≡ named_in harts word.now }
+/// The harts whose numbers stand between commas.
+fn listed(word: &[u8]) -> Option<NamedHarts>
+    ensures { result ≡ listed_of word.now }
+{
+    let nobody = NamedHarts {
+        set: HartSet::new(),
+        greatest: None,
+    };
+    word.split(|byte| *byte == b',')
+        .fold(Some(nobody), |named, part| with_part(named, part))
+}
+
+/// The harts that a word names: their numbers with commas between them, or `-` for none.
+pub fn named(word: &[u8]) -> Option<NamedHarts>
+    ensures { result ≡ named_of word.now }
 {
     if word == b"-".as_slice() {
-        return Ok(0);
+        return Some(NamedHarts {
+            set: HartSet::new(),
+            greatest: None,
+        });
     }
-    let set = set(harts, word)?;
-    Ok(u8::from(set))
+    listed(word)
+}
+
+/// Whether there are more harts than the greatest number of one that is named.
+fn are_there(harts: u8, greatest: Option<u64>) -> bool
+    ensures { result ≡ are_there harts greatest }
+{
+    match greatest {
+        None => true,
+        Some(greatest) => greatest < u64::from(harts),
+    }
+}
+
+/// The harts that are named, bit h for hart h, if all of them are there.
+pub fn named_among(harts: u8, named: NamedHarts) -> Result<u8, StepFault>
+    ensures { result ≡ named_among harts named }
+{
+    if !are_there(harts, named.greatest) {
+        return Err(StepFault::NoSuchHart);
+    }
+    Ok(u8::from(named.set))
 }

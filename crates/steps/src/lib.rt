@@ -7,19 +7,27 @@
 mod fault;
 mod fields;
 mod laws;
+mod live;
 mod numbers;
 mod run;
+mod spelled;
 mod step;
 mod text;
 mod worked_rows;
 
 pub use fault::StepFault;
 pub use laws::{
-    harts_are_told_between_steps_and_pages, num_is_written, run_step_is_written,
-    steps_of_sv39_are_steps_of_sv48, walk_step_is_written,
+    harts_are_told_between_steps_and_pages, harts_of_live_are_told_between_steps_and_pages,
+    live_step_is_written, live_steps_of_sv39_are_live_steps_of_sv48, num_is_written,
+    run_step_is_written, setup_step_is_written, steps_of_sv39_are_steps_of_sv48,
+    walk_step_is_written,
 };
+pub use live::{live_step_among, setup_step_among};
 pub use numbers::num;
 pub use run::{run_step, run_step_among};
 pub use step::{WalkStep, walk_step};
 pub use text::{next_word, words};
-pub use worked_rows::{worked_faults, worked_letters, worked_pages, worked_steps};
+pub use worked_rows::{
+    worked_faults, worked_letters, worked_live_faults, worked_live_pages, worked_live_steps,
+    worked_pages, worked_steps,
+};

@@ -1,5 +1,6 @@
 //! Worked rows: the definitions give what was worked out by hand. Each function does nothing, and each of its clauses is a row.
 
+ghost use Rattle.steps.specs.LiveRows as live;
 ghost use Rattle.steps.specs.WorkedRows as rows;
 
 /// Each letter is the flag of its name, and stands at most once.
@@ -50,4 +51,49 @@ pub fn worked_pages()
     ensures unaligned_terapage { rows.unaligned_terapage }
     ensures far_page { rows.far_page }
     ensures farther_page { rows.farther_page }
+{}
+
+/// What lines of `live` are read as.
+#[tactic(auto, using(crate::proofs::LiveRows::translate_to_store, crate::proofs::LiveRows::map_of_the_kernel, crate::proofs::LiveRows::unmap_of_a_space, crate::proofs::LiveRows::protect_of_a_space, crate::proofs::LiveRows::flush_of_a_space, crate::proofs::LiveRows::switch_to_a_space, crate::proofs::LiveRows::fence_of_an_address, crate::proofs::LiveRows::post_to_hart_2, crate::proofs::LiveRows::serve_of_hart_0, crate::proofs::LiveRows::ackself_of_the_last, crate::proofs::LiveRows::collect_of_a_ticket, crate::proofs::LiveRows::finish_of_a_ticket, crate::proofs::LiveRows::close_to_hart_7, crate::proofs::LiveRows::wait_for_a_ticket, crate::proofs::LiveRows::setup_of_hart_3))]
+pub fn worked_live_steps()
+    ensures translate_to_store { live.translate_to_store }
+    ensures map_of_the_kernel { live.map_of_the_kernel }
+    ensures unmap_of_a_space { live.unmap_of_a_space }
+    ensures protect_of_a_space { live.protect_of_a_space }
+    ensures flush_of_a_space { live.flush_of_a_space }
+    ensures switch_to_a_space { live.switch_to_a_space }
+    ensures fence_of_an_address { live.fence_of_an_address }
+    ensures post_to_hart_2 { live.post_to_hart_2 }
+    ensures serve_of_hart_0 { live.serve_of_hart_0 }
+    ensures ackself_of_the_last { live.ackself_of_the_last }
+    ensures collect_of_a_ticket { live.collect_of_a_ticket }
+    ensures finish_of_a_ticket { live.finish_of_a_ticket }
+    ensures close_to_hart_7 { live.close_to_hart_7 }
+    ensures wait_for_a_ticket { live.wait_for_a_ticket }
+    ensures setup_of_hart_3 { live.setup_of_hart_3 }
+{}
+
+/// Lines that only one of `run` and `live` has, and the first fault of several.
+#[tactic(auto, using(crate::proofs::LiveRows::hart_before_a_line, crate::proofs::LiveRows::no_hart_before_setup, crate::proofs::LiveRows::collect_with_a_hart, crate::proofs::LiveRows::take_in_a_script, crate::proofs::LiveRows::take_in_the_setup, crate::proofs::LiveRows::retire_in_a_script, crate::proofs::LiveRows::wait_in_a_run, crate::proofs::LiveRows::collect_without_a_hart, crate::proofs::LiveRows::unread_before_absent, crate::proofs::LiveRows::absent_before_no_page, crate::proofs::LiveRows::absent_of_the_setup, crate::proofs::LiveRows::no_page_of_live, crate::proofs::LiveRows::no_page_of_the_setup))]
+pub fn worked_live_faults()
+    ensures hart_before_a_line { live.hart_before_a_line }
+    ensures no_hart_before_setup { live.no_hart_before_setup }
+    ensures collect_with_a_hart { live.collect_with_a_hart }
+    ensures take_in_a_script { live.take_in_a_script }
+    ensures take_in_the_setup { live.take_in_the_setup }
+    ensures retire_in_a_script { live.retire_in_a_script }
+    ensures wait_in_a_run { live.wait_in_a_run }
+    ensures collect_without_a_hart { live.collect_without_a_hart }
+    ensures unread_before_absent { live.unread_before_absent }
+    ensures absent_before_no_page { live.absent_before_no_page }
+    ensures absent_of_the_setup { live.absent_of_the_setup }
+    ensures no_page_of_live { live.no_page_of_live }
+    ensures no_page_of_the_setup { live.no_page_of_the_setup }
+{}
+
+/// Pages of 512 GiB in lines of `live`, by the scheme.
+#[tactic(auto, using(crate::proofs::LiveRows::terapage_of_live, crate::proofs::LiveRows::no_terapage_of_live))]
+pub fn worked_live_pages()
+    ensures terapage_of_live { live.terapage_of_live }
+    ensures no_terapage_of_live { live.no_terapage_of_live }
 {}
