@@ -8,6 +8,7 @@ mod opening;
 mod port;
 mod receiver;
 mod report;
+mod seats;
 
 pub use board::Board;
 pub use laws::pairs_of_three_harts;
