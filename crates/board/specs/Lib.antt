@@ -3,3 +3,4 @@ pub mod Answers
 pub mod Reports
 pub mod Rows
 pub mod Seats
+pub mod Tables

@@ -4,7 +4,7 @@ use Rattle.std.specs.Option.{option_map}
 use Rattle.std.specs.List.{range_with_len}
 use Rattle.shoot.specs.Tickets.{TicketTable, no_tickets}
 use Rattle.tlb.specs.Entries.{TlbState}
-use Rattle.history.specs.Setup.{Setup}
+use Rattle.history.specs.Setup.{Setup, setup_of}
 use Rattle.rings.specs.Ends.{Ring, OutboxState, InboxState, new_outbox, new_inbox}
 use Rattle.spaces.specs.declared.configuration.Config.{Config}
 use Rattle.views.specs.declared.view.View.{View}
@@ -104,6 +104,11 @@ new_port config name = record {
   inboxes = map (option_map (λ e. new_inbox e.ring e.capacity)) name.ins;
 }
 
+-- a port that was just opened, over the words of a configuration with what it was opened with
+pub record IsNew (port : PortState) : Type 0 where
+  pub config : setup_of port.view.config ≡ port.setup
+  pub is_new : port ≡ new_port port.view.config (name_of port)
+
 -- ports that were just opened
 abbrev pub AreNew : List PortState → Type 0
-AreNew ports = All (λ port. port ≡ new_port port.view.config (name_of port)) ports
+AreNew ports = All IsNew ports

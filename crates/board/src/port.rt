@@ -24,16 +24,16 @@ use views::{Memory, Place as Seat};
 /// What one hart does, in whatever thread it is. No call waits for another hart, or takes memory.
 #[derive(Drop)]
 pub struct HartPort {
-    config: Arc<Config, Global>,
-    memory: Arc<Memory, Global>,
-    seat: Seat,
-    hart: u8,
-    space: u8,
-    used: u16,
-    tickets: Tickets,
-    tlb: Tlb,
-    outboxes: Vec<Option<Outbox>>,
-    inboxes: Vec<Option<Receiver>>,
+    pub(crate) config: Arc<Config, Global>,
+    pub(crate) memory: Arc<Memory, Global>,
+    pub(crate) seat: Seat,
+    pub(crate) hart: u8,
+    pub(crate) space: u8,
+    pub(crate) used: u16,
+    pub(crate) tickets: Tickets,
+    pub(crate) tlb: Tlb,
+    pub(crate) outboxes: Vec<Option<Outbox>>,
+    pub(crate) inboxes: Vec<Option<Receiver>>,
 }
 
 impl Model for HartPort {
@@ -175,7 +175,7 @@ impl HartPort {
     ghost use Rattle.history.specs.Setup.{setup_of};
     ghost use Rattle.board.specs.Rows.{IsInRow, IsOutRow};
     ghost use Rattle.board.specs.Seats.{IsNewSeat};
-    ghost use Rattle.board.specs.Ports.{inbox_from, IsPort, name_of, new_port, outbox_to};
+    ghost use Rattle.board.specs.Ports.{inbox_from, IsNew, IsPort, name_of, outbox_to};
     ghost use Rattle.board.specs.Answers.{ack_self_answer, after_ack_self, after_close_to, after_finish_of, after_flush, after_post, after_serve, close_answer, finish_answer, flush_answer, flush_refusal, is_there, post_refusal, request_of, ticket_refusal};
 
     /// A port of a hart that has done nothing yet.
@@ -196,7 +196,7 @@ impl HartPort {
         ensures hart { result.hart ≡ hart }
         ensures ends { (result.outboxes ≡ outboxes.items) × (result.inboxes ≡ inboxes.items) }
         ensures port { IsPort (name_of result) }
-        ensures new { result ≡ new_port result.view.config (name_of result) }
+        ensures new { IsNew result }
     {
         let scheme = config.scheme;
         HartPort {
@@ -260,7 +260,7 @@ impl HartPort {
     }
 
     /// Whether each member of the set is a hart that is there: bit h stands for hart h.
-    fn are_harts(&self, named: u8) -> bool
+    pub(crate) fn are_harts(&self, named: u8) -> bool
         ensures { result ≡ are_harts self.now.setup named }
     {
         u16::from(named) < 1 << self.config.harts

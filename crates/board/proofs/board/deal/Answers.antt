@@ -6,7 +6,7 @@ use Rattle.std.specs.Arc.{arc_value}
 use Rattle.spaces.specs.declared.configuration.Config.{Config}
 use Rattle.history.specs.Setup.{setup_of}
 use Rattle.rings.specs.Ends.{OutboxState, InboxState}
-use Rattle.board.specs.Ports.{PortState, IsPort, name_of, new_port}
+use Rattle.board.specs.Ports.{PortState, IsNew, IsPort, name_of}
 use Rattle.board.specs.Rows.{IsInRow, IsOutRow, items_at}
 use Rattle.board.proofs.RowsGrow.{items-old, length-one_more}
 use Rattle.board.proofs.Deals.{all_and_first, dealt, nothing_in}
@@ -76,7 +76,7 @@ loop-outs-preserved c =
       numbered = rw put (ap₂ (λ (h : ℕ) (rest : List ℕ). h ∷ rest) hart (i.numbered ∙ ap (λ n. range_with_len n (length old)) lo));
       of_setup = rw put (all_and_first (λ (p : PortState). p.setup ≡ setup_of config) port old (c.new-port.ensures.setup ∙ ap (λ (a : Config). setup_of a) c.in_ok-shared.ensures) i.of_setup);
       each = rw put (all_and_first (λ (p : PortState). IsPort (name_of p)) port old c.new-port.ensures.port i.each);
-      are_new = rw put (all_and_first (λ (p : PortState). p ≡ new_port p.view.config (name_of p)) port old c.new-port.ensures.new i.are_new);
+      are_new = rw put (all_and_first IsNew port old c.new-port.ensures.new i.are_new);
     }
 
 pub returns-clause-ports : goal.returns-clause-ports

@@ -1,6 +1,6 @@
-use Rattle.std.proofs.Common.{◌≡◌, ◌∙◌, sym, ap, ◌+◌, length, subst, arith}
+use Rattle.std.proofs.Common.{◌∙◌, ap, ◌+◌, length, subst, arith}
 use Rattle.views.specs.Rule.{dealer, dealt}
-use Rattle.board.specs.Seats.{AreSeats, IsNewSeat}
+use Rattle.board.specs.Seats.{IsNewSeat}
 use Rattle.board.proofs.RowsGrow.{length-one_more}
 use Rattle.board.proofs.SeatRows.{seats-more, seat-dealt}
 use Rattle.board.proofs.seats.deal_seats.Goals as goal

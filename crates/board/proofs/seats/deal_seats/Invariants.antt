@@ -1,4 +1,4 @@
-use Rattle.std.proofs.Common.{◌≡◌, ℕ, ◌+◌, ◌≤◌, length}
+use Rattle.std.proofs.Common.{◌≡◌, ◌+◌, length}
 use Rattle.views.specs.Rule.{IsFit, starting}
 use Rattle.board.specs.Seats.{AreSeats}
 use Rattle.board.proofs.seats.deal_seats.Given as goal
