@@ -37,7 +37,8 @@ use Rattle.history.proofs.OpenOrders.{order_cases}
 use Rattle.laws.proofs.Causes.{IsAsked, IsAt, IsOfPlace, follows, follows_change}
 use Rattle.laws.proofs.TreeKept.{tree}
 use Rattle.laws.proofs.Clearing.{anew_step}
-use Rattle.laws.proofs.Halves.{half_end, part, in_user, in_window, low_slot, high_slot, about_over}
+use Rattle.spaces.proofs.Halves.{half_end, in_user, in_window, low_slot, high_slot}
+use Rattle.laws.proofs.Halves.{part, about_over}
 use Rattle.laws.proofs.Changing.{IsEdited, Changes, keeps, adds, removes, changes_flags, empties, opening_maps_nothing, unmap_removes, reclaim_empties, changes}
 
 opened_is : (r : Reply) (t : ℕ) → opened_ticket r ≡ Some t → is_opened r ≡ true
@@ -72,7 +73,7 @@ module _ (C : Setup) (setup : IsSetup C) where
   -- no page of the user's half is global: what is global is in the window
   pub user_plain : (H : History) → Lawful C H → HavePages H → UserPagesAreNotGlobal C H
   user_plain H l has = λ s space page n ppn flags is half there at m.
-      let low = low_slot C setup.layout s page n is half (part page n at) in
+      let low = low_slot C.layout setup.layout s page n is half (part page n at) in
       let high : first_window_slot C.layout ≤ vpn_of (n * bytes_of Kib4) (top_level C.layout.scheme) =
       (global-window C.layout (words_of C H) (holder_of H) setup.layout (tree C setup.layout setup.homes H l has) space n ppn flags true (in_layout space there) m).0 refl in
       omega (arith, setup.layout.window, low, high)
@@ -80,7 +81,7 @@ module _ (C : Setup) (setup : IsSetup C) where
   -- the window is the same in all roots
   module _ (s t n : ℕ) (there_s : s < length C.layout.homes) (there_t : t < length C.layout.homes) (high : half_end C.layout.scheme ≤ n) (upper : user_slots ≤ vpn_of (n * bytes_of Kib4) (top_level C.layout.scheme)) where
     about_each : (H : History) (a b : ℕ) (place : Place) (page : Span) → IsEdited C H place page → IsAbout place page a n → IsAbout place page b n
-    about_each H a b (Space u) page e about = let low = in_user C setup.layout u page n e.0.is_page e.0.right_half about.1 in absurd (omega arith)
+    about_each H a b (Space u) page e about = let low = in_user C.layout setup.layout u page n e.0.is_page e.0.right_half about.1 in absurd (omega arith)
     about_each H a b Kernel page e about = (tt, about.1)
 
     shared_step : (H : History) (event : Event) (r : Reply) (old new : Tables) → Changes C H r old new event
@@ -109,7 +110,7 @@ module _ (C : Setup) (setup : IsSetup C) where
   window_shared [] l has = λ page s t n ppn flags global is half there_s there_t at m.
       absurd (opening_maps_nothing C.layout setup.layout (root_ppn C.layout s) n ppn flags global m)
   window_shared (turn ∷ H) l has = λ page s t n ppn flags global is half there_s there_t at.
-      shared_step s t n (in_layout s there_s) (in_layout t there_t) (in_window C setup.layout page n is half (part page n at)) (high_slot C setup.layout page n is half (part page n at)) H turn.event turn.reply (words_of C H) (words_of C (turn ∷ H))
+      shared_step s t n (in_layout s there_s) (in_layout t there_t) (in_window C.layout setup.layout page n is half (part page n at)) (high_slot C.layout setup.layout page n is half (part page n at)) H turn.event turn.reply (words_of C H) (words_of C (turn ∷ H))
       (changes C setup H l.0 has.0 turn.event turn.reply l.1 has.1)
       (λ ppn flags global. window_shared H l.0 has.0 page s t n ppn flags global is half there_s there_t at) ppn flags global
 
@@ -133,7 +134,7 @@ module _ (C : Setup) (setup : IsSetup C) where
             let has : HasAsid C (turn_of (Reclaim hart space) r ∷ H) s a.0 = subst (λ (o : Option ℕ). Reaches C (turn_of (Reclaim hart space) r ∷ H) o s) a.1 after in
             let now : is_free (cond (is_ok r && eqb space s) Free (status_of H s)) ≡ true = rw (and_from (is_ok r) (eqb space s) ok (eq-eqb space s (sym user.0))) refl in
             false≢true (sym has.kept ∙ now)
-        by_place Kernel a asks = let high = high_slot C setup.layout page n asks.is_page asks.right_half at in let low = user.1 in omega (arith, high, low)
+        by_place Kernel a asks = let high = high_slot C.layout setup.layout page n asks.is_page asks.right_half at in let low = user.1 in omega (arith, high, low)
 
     mapped_step : (event : Event) (r : Reply) (old new : Tables) → Changes C H r old new event → superseded_after C event r H k (is_superseded C H k) ≡ false
         → Reaches C (turn_of event r ∷ H) of s
@@ -197,7 +198,7 @@ module _ (C : Setup) (setup : IsSetup C) where
   module _ (H : History) (s n : ℕ) (there : s < length C.layout.homes) (free : is_free (status_of H s) ≡ true) (low : vpn_of (n * bytes_of Kib4) (top_level C.layout.scheme) < user_slots) where
     not_about : (other : Place) (span : Span) → IsEdited C H other span → IsAbout other span s n → ⊥
     not_about (Space u) span e about = true≢false (sym free ∙ ap (λ x. is_free (status_of H x)) (sym about.0) ∙ (space_is C H u e.1).1)
-    not_about Kernel span e about = let high = high_slot C setup.layout span n e.0.is_page e.0.right_half about.1 in omega (arith, high, low)
+    not_about Kernel span e about = let high = high_slot C.layout setup.layout span n e.0.is_page e.0.right_half about.1 in omega (arith, high, low)
 
     free_step : (event : Event) (r : Reply) (old new : Tables) → Changes C H r old new event
         → ((ppn : ℕ) (flags : PteFlags) (global : Bool) → ¬ Maps C.layout.scheme old (root_ppn C.layout s) n ppn flags global)
@@ -213,7 +214,7 @@ module _ (C : Setup) (setup : IsSetup C) where
   pub free_maps_nothing : (H : History) → Lawful C H → HavePages H → FreeMapsNothing C H
   free_maps_nothing [] l has = λ s page n ppn flags global there free. absurd (false≢true free)
   free_maps_nothing (turn ∷ H) l has = λ s page n ppn flags global there free is half at m.
-      let low = low_slot C setup.layout s page n is half (part page n at) in
+      let low = low_slot C.layout setup.layout s page n is half (part page n at) in
       elim (free_cases turn.event turn.reply H s free) [
         | inl old ↦ free_step H s n (in_layout s there) old low turn.event turn.reply (words_of C H) (words_of C (turn ∷ H)) (changes C setup H l.0 has.0 turn.event turn.reply l.1 has.1)
             (λ ppn flags global was. free_maps_nothing H l.0 has.0 s page n ppn flags global there old is half at was) ppn flags global m

@@ -1,3 +1,4 @@
+pub mod AcknowledgementWords
 pub mod FreeTickets
 pub mod HartBytes
 pub mod HartSets

@@ -92,3 +92,15 @@ harts_of_a_byte = refl
 pub byte_of_harts : rows.byte_of_harts
 unfolding byte_of
 byte_of_harts = refl
+
+pub large_page_of_asid_1 : rows.large_page_of_asid_1
+large_page_of_asid_1 = refl
+
+pub global_page_in_the_high_half : rows.global_page_in_the_high_half
+global_page_in_the_high_half = refl
+
+pub all : rows.all
+all = refl
+
+pub page_of_512_gib : rows.page_of_512_gib
+page_of_512_gib = refl

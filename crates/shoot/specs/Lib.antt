@@ -1,3 +1,4 @@
+pub mod Acknowledgement
 pub mod FreeTickets
 pub mod HartSet
 pub mod Mailbox

@@ -1,6 +1,9 @@
--- Worked rows: lists of calls on a mailbox and on tickets, newest first, with the answers that are due by hand.
+-- Worked rows: lists of calls on a mailbox and on tickets, newest first, with the answers that are due by hand; and the words
+-- of some requests, worked out bit by bit.
 use Rattle.std.specs.Prelude.{◌≡◌, ℕ, zero, suc, Bool, true, false, List, [], ◌∷◌, Some, None, Ok, Err}
-use Rattle.pte.specs.declared.address.What.TheVariants.{SpaceOf, All}
+use Rattle.pte.specs.declared.address.PageSize.TheVariants.{Kib4, Mib2, Gib512}
+use Rattle.pte.specs.declared.address.What.TheVariants.{PageOf, SpaceOf, All}
+use Rattle.shoot.specs.Acknowledgement.{acknowledgement}
 use Rattle.shoot.specs.HartSet.{byte_of, harts_in}
 use Rattle.shoot.specs.Request.{Message}
 use Rattle.shoot.specs.Mailbox.{can_release}
@@ -111,3 +114,19 @@ harts_of_a_byte = harts_in 0x81 ≡ true ∷ false ∷ false ∷ false ∷ false
 
 abbrev pub byte_of_harts : Type 0
 byte_of_harts = byte_of (false ∷ false ∷ true ∷ false ∷ false ∷ false ∷ false ∷ true ∷ []) ≡ 0x84
+
+-- the page 2M:0x400000 of ASID 1: bit 63, size 1 at bit 52, the ASID at bit 36, and page 0x400
+abbrev pub large_page_of_asid_1 : Type 0
+large_page_of_asid_1 = acknowledgement (PageOf (record { base = 0x400000; size = Mib2 }) (Some 1)) ≡ 0x8010001000000400
+
+-- the global page 4K:0xffffffffc0000000: kind 1 at bit 54, and bits 47 to 12 of the address
+abbrev pub global_page_in_the_high_half : Type 0
+global_page_in_the_high_half = acknowledgement (PageOf (record { base = 0xFFFFFFFFC0000000; size = Kib4 }) None) ≡ 0x8040000FFFFC0000
+
+-- kind 3
+abbrev pub all : Type 0
+all = acknowledgement All ≡ 0x80C0000000000000
+
+-- the page 512G:0x8000000000 of ASID 1: size 3
+abbrev pub page_of_512_gib : Type 0
+page_of_512_gib = acknowledgement (PageOf (record { base = 0x8000000000; size = Gib512 }) (Some 1)) ≡ 0x8030001008000000

@@ -1,8 +1,10 @@
 //! The bookkeeping of a TLB shootdown: the mailboxes that carry requests from
-//! one hart to another, and the tickets by which the hart that asks keeps
-//! count of who has answered.
+//! one hart to another, the tickets by which the hart that asks keeps count of
+//! who has answered, and the word by which a hart answers.
 #![tactic(auto)]
 
+mod acknowledgement;
+mod acknowledgement_laws;
 mod free_tickets;
 mod hart_set;
 mod hart_set_laws;
@@ -14,6 +16,8 @@ mod ticket_laws;
 mod tickets;
 mod worked_rows;
 
+pub use acknowledgement::encode;
+pub use acknowledgement_laws::equal_words_ask_for_the_same;
 pub use hart_set::HartSet;
 pub use hart_set_laws::{bytes_are_sets_of_harts, sets_of_harts_are_tests};
 pub use mailbox::{Mailbox, PostFault};
@@ -28,7 +32,8 @@ pub use ticket_laws::{
 };
 pub use tickets::{Collected, NotDone, Ticket, TicketFault, Tickets};
 pub use worked_rows::{
-    worked_bytes, worked_mailboxes, worked_marks, worked_numbers, worked_tickets,
+    worked_acknowledgements, worked_bytes, worked_mailboxes, worked_marks, worked_numbers,
+    worked_tickets,
 };
 
 /// A machine has at most this many harts, with numbers from 0 on.

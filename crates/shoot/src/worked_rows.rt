@@ -52,3 +52,12 @@ pub fn worked_bytes()
     ensures harts_of_a_byte { rows.harts_of_a_byte }
     ensures byte_of_harts { rows.byte_of_harts }
 {}
+
+/// The words of four requests.
+#[tactic(auto, using(crate::proofs::WorkedRows::large_page_of_asid_1, crate::proofs::WorkedRows::global_page_in_the_high_half, crate::proofs::WorkedRows::all, crate::proofs::WorkedRows::page_of_512_gib))]
+pub fn worked_acknowledgements()
+    ensures large_page_of_asid_1 { rows.large_page_of_asid_1 }
+    ensures global_page_in_the_high_half { rows.global_page_in_the_high_half }
+    ensures all { rows.all }
+    ensures page_of_512_gib { rows.page_of_512_gib }
+{}

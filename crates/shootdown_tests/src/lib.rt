@@ -1,6 +1,8 @@
-//! Tests of TLBs, mailboxes, tickets and the board, by calls that anybody can make.
+//! Tests of TLBs, mailboxes, tickets, acknowledgement words and the board, by calls that anybody can make.
 #![tactic(auto)]
 
+#[cfg(test)]
+mod acknowledgements;
 #[cfg(test)]
 mod boards;
 #[cfg(test)]

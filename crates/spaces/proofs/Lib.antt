@@ -29,3 +29,5 @@ pub mod Unused
 pub mod Given
 pub mod Marks
 pub mod MarkedFrames
+pub mod Halves
+pub mod DistinctAsids

@@ -31,11 +31,9 @@ is_global-zero = refl
 pub root-is : (l : Layout) (s : ℕ) → s < length l.homes → is_root l (root_ppn l s) ≡ true
 root-is l s less = grind (arith, nat_tests)
 
--- words that agree at a home keep it, and so do holders that agree on its spare frames
-module _ (l : Layout) (fits : IsLayout l) (words words' : Tables) (h : ℕ) (holders holders' : Holders) (tree : IsHome l words h holders)
-    (same : (f i : ℕ) → IsAtHome l h f → words' f i ≡ words f i) (kept : (n : ℕ) → n < slice_index l.spares h → holders' (spare_ppn l h + n) ≡ holders (spare_ppn l h + n))
-    (fewer : (f : ℕ) (place : Place) → home_of l place ≡ h → holders' f ≡ Some place → holders f ≡ Some place) where
-  back : (place : Place) (va n t : ℕ) → HasPlace l place → home_of l place ≡ h → IsIn l place va → table_on l words' place va n ≡ Some t → table_on l words place va n ≡ Some t
+-- words that agree at a home lead alike there
+module _ (l : Layout) (fits : IsLayout l) (words words' : Tables) (h : ℕ) (holders : Holders) (tree : IsHome l words h holders) (same : (f i : ℕ) → IsAtHome l h f → words' f i ≡ words f i) where
+  pub back : (place : Place) (va n t : ℕ) → HasPlace l place → home_of l place ≡ h → IsIn l place va → table_on l words' place va n ≡ Some t → table_on l words place va n ≡ Some t
   back place va zero t has home within e = e
   back place va (suc n) t has home within e =
       let up = above words' va (start_level l place) (start_table l place va) n t e in
@@ -43,6 +41,10 @@ module _ (l : Layout) (fits : IsLayout l) (words words' : Tables) (h : ℕ) (hol
       let there = on l fits words h holders tree place va n up.table_above has home within old in
       below words va (start_level l place) (start_table l place va) n up.table_above old ∙ ap pointed (sym (same _ _ there.home)) ∙ up.points
 
+-- words that agree at a home keep it, and so do holders that agree on its spare frames
+module _ (l : Layout) (fits : IsLayout l) (words words' : Tables) (h : ℕ) (holders holders' : Holders) (tree : IsHome l words h holders)
+    (same : (f i : ℕ) → IsAtHome l h f → words' f i ≡ words f i) (kept : (n : ℕ) → n < slice_index l.spares h → holders' (spare_ppn l h + n) ≡ holders (spare_ppn l h + n))
+    (fewer : (f : ℕ) (place : Place) → home_of l place ≡ h → holders' f ≡ Some place → holders f ≡ Some place) where
   for-place : (place : Place) (f : ℕ) → IsSpareFor l h holders place f → IsSpareFor l h holders' place f
   for-place place f u = record { number = u.number; below = u.below; is = u.is; held = ap holders' u.is ∙ kept u.number u.below ∙ ap holders (sym u.is) ∙ u.held }
 
@@ -62,11 +64,11 @@ module _ (l : Layout) (fits : IsLayout l) (words words' : Tables) (h : ℕ) (hol
     once = λ f i f' i' g home home' own own' e e'. tree.once f i f' i' g home home' own own' (ap pointed (sym (same f i home)) ∙ e) (ap pointed (sym (same f' i' home')) ∙ e');
     unused = λ n i none to less. same _ _ (of_spare n to refl) ∙ tree.unused n i (sym (kept n to) ∙ none) to less;
     bottom = λ place va t has home within e.
-        let old = back place va (start_level l place) t has home within e in
+        let old = back l fits words words' h holders tree same place va (start_level l place) t has home within e in
         let there = on l fits words h holders tree place va (start_level l place) t has home within old in
         ap pointed (same _ _ there.home) ∙ tree.bottom place va t has home within old;
     plain = λ s va n t word has home within deep e w.
-        let old = back (Space s) va n t has home within e in
+        let old = back l fits words words' h holders tree same (Space s) va n t has home within e in
         let there = on l fits words h holders tree (Space s) va n t has home within old in
         tree.plain s va n t word has home within deep old (sym (same _ _ there.home) ∙ w);
   }

@@ -43,7 +43,7 @@ local-starting c limits hart next less = record {
 pub harts-are : (c : Config) → MeetsLimits max_live_frames c → 0 < length (layout_of c).spares
 harts-are c m = omega (arith, m.spares, m.some_hart)
 
-lone : (v u : View) (j : ℕ) → get_elem? (v ∷ []) j ≡ some u → (j ≡ 0) × (v ≡ u)
+pub lone : (v u : View) (j : ℕ) → get_elem? (v ∷ []) j ≡ some u → (j ≡ 0) × (v ≡ u)
 lone v u zero e = (refl, some-injective v u e)
 lone v u (suc j) e = absurd (some-ne-none u (sym e))
 
@@ -103,12 +103,12 @@ module _ (c : Config) (id : ℕ) (v : View) (some' : 0 < v.next) (room : v.next 
   snoc (x ∷ xs) a b (suc j) e = ⊎_elim (λ (t : get_elem? xs j ≡ some b). inl t) (λ (t : (a ≡ b) × (j ≡ length xs)). inr (t.0, ap suc t.1)) (snoc xs a b j e)
 
   -- the dealer, another seat of before, or the new one
-  data Was (j : ℕ) (u : View) : Type 0 where
+  pub data Was (j : ℕ) (u : View) : Type 0 where
     mine : j ≡ id → dealer v ≡ u → Was j u
     other : get_elem? s.views j ≡ some u → j ≢ id → Was j u
     new : dealt v ≡ u → j ≡ length (slice_set s.views id (dealer v)) → Was j u
 
-  was : (j : ℕ) (u : View) → get_elem? more j ≡ some u → Was j u
+  pub was : (j : ℕ) (u : View) → get_elem? more j ≡ some u → Was j u
   was j u here = ⊎_elim
       (λ (t : get_elem? (slice_set s.views id (dealer v)) j ≡ some u). ⊎_elim
       (λ (y : (j ≡ id) × (dealer v ≡ u)). mine y.0 y.1)

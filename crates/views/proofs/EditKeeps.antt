@@ -1,5 +1,5 @@
 -- The store of an edit by the home keeps the rule of the table words.
-use Rattle.std.proofs.Common.{◌≡◌, ℕ, ◌+◌, ◌<◌, ◌==◌, Bool, true, false, cond, List, Option, Some, None, Ok, is_some, sym, refl, ap, ◌∙◌, subst, inl, inr, arith}
+use Rattle.std.proofs.Common.{◌≡◌, ℕ, ◌+◌, ◌^◌, ◌<◌, ◌==◌, Bool, true, false, cond, List, Option, Some, None, Ok, is_some, sym, refl, ap, ◌∙◌, subst, inl, inr, arith}
 use Rattle.std.specs.Prelude.{◌≢◌, nat_lt, slice_index, slice_set}
 use Rattle.std.proofs.lemmas.Bool.Decides.{nat_tests}
 use Rattle.std.proofs.lemmas.Bool.{cases_eq, cases_lt, cases_order, eq-eqb, ne_eqb, lt-ltb}
@@ -23,6 +23,7 @@ use Rattle.spaces.specs.Accepted.{Accepted}
 use Rattle.spaces.specs.Applied.{holders_after, memory_after, points_at}
 use Rattle.spaces.specs.Tree.{IsAtHome, IsHome}
 use Rattle.spaces.proofs.Applying.{holders-held, memory-held, table-there, word-there as stored-word, words-held}
+use Rattle.spaces.proofs.Homes.{sum-within}
 use Rattle.spaces.proofs.HomeReads.{due-accepted, points-to-spare, was-no-pointer, written-home}
 use Rattle.spaces.proofs.Opened.{layout-meets}
 use Rattle.spaces.proofs.Unused.{lowest-is, none-is}
@@ -56,6 +57,14 @@ live-layout c m = layout-meets c (live-limits c m)
 
 pub local-home : (l : Layout) (v : View) → Local l v → IsHome l (words_of (memory_of l v)) v.hart (holders_of (memory_of l v))
 local-home l v local = local.memory.tree v.hart local.hart
+
+-- a hart has few spare frames
+pub used-few : (l : Layout) (v : View) → Local l v → v.used < 2 ^ 16
+used-few l v local =
+    let part = sum-within l.spares v.hart in
+    let low = local.lowest in
+    let fits = local.memory.layout in
+    omega (arith, low.room, part, fits.frames_fit)
 
 -- the lowest unused spare frame is the next one
 module _ (l : Layout) (holders : Holders) (hart used : ℕ) (low : UsesLowest l holders hart used) where

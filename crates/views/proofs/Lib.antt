@@ -6,4 +6,14 @@ pub mod EditKeeps
 pub mod Goings
 pub mod Homeward
 pub mod Deals
+pub mod OrderKeeps
+pub mod RealTree
+pub mod MappedAtHome
+pub mod Fills
+pub mod WalkOrders
+pub mod StoreKeeps
+pub mod CellKeeps
+pub mod DealOrders
 pub mod Pairs
+pub mod Collected
+pub mod Tables

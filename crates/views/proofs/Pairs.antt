@@ -14,42 +14,56 @@ use Rattle.spaces.specs.Held.{word_index, words_of}
 use Rattle.spaces.specs.Edits.{Store, place_of}
 use Rattle.spaces.specs.Tree.{IsAtHome}
 use Rattle.views.specs.declared.view.View.{View}
-use Rattle.views.specs.Rule.{board_words, dealer, dealt, first_view, memory_of}
+use Rattle.views.specs.Rule.{IsRoot, board_words, dealer, dealt, first_view, memory_of}
 use Rattle.views.specs.Board.{Board, Steps}
-use Rattle.views.specs.Turns.{edited, walked, IsStart, TellsLoad}
+use Rattle.views.specs.Turns.{walked, IsStart, TellsLoad}
 use Rattle.views.specs.Edits.{edit_over}
+use Rattle.views.specs.OrderTurns.{IsAsked, noted, orders_after}
 use Rattle.views.proofs.WalkKeeps.{begun-walk, own-walk, read-keeps, read-tells, walk-keeps, walk-tells}
 use Rattle.views.proofs.EditKeeps.{edit-keeps}
 use Rattle.views.proofs.Deals.{deal-keeps, open-keeps}
+use Rattle.views.proofs.WalkOrders.{read-orders, walk-orders}
+use Rattle.views.proofs.StoreKeeps.{edit-orders}
+use Rattle.views.proofs.DealOrders.{deal-orders, open-orders}
 
 module _ (c : Config) (id : ℕ) (v : View) where
   -- the first load of a walk
-  pub begins : (root : ℕ) (st : Stage) → is_frame (layout_of c) st.table ≡ true → IsStart c.scheme root st
+  pub begins : (root : ℕ) (st : Stage) → is_frame (layout_of c) st.table ≡ true → IsRoot (layout_of c) root → IsStart c.scheme root st
       → Steps c id v (word_index (layout_of c) st.table (vpn_of st.va st.level)) (λ n. n) (walked v root st []) (TellsLoad (layout_of c) v st [])
-  begins root st frame start s b at fits =
-      let walk = begun-walk c s b.tables id v at root st start in
-      (record { tables = walk-keeps c s b.tables id v at root st [] frame walk }, walk-tells c s b.tables id v at root st [] frame walk)
+  begins root st frame is start s b at fits =
+      let walk = begun-walk c s b.tables id v at root st start in (
+        record { tables = walk-keeps c s b.tables id v at root st [] frame walk; orders = walk-orders c s b.tables b.orders id v at root st [] frame walk is },
+        walk-tells c s b.tables id v at root st [] frame walk,
+      )
 
   -- a further load
-  pub goes : (root : ℕ) (st : Stage) → is_frame (layout_of c) st.table ≡ true → v.walk ≡ Some st → v.root ≡ root
+  pub goes : (root : ℕ) (st : Stage) → is_frame (layout_of c) st.table ≡ true → IsRoot (layout_of c) root → v.walk ≡ Some st → v.root ≡ root
       → Steps c id v (word_index (layout_of c) st.table (vpn_of st.va st.level)) (λ n. n) (walked v root st v.reads) (TellsLoad (layout_of c) v st v.reads)
-  goes root st frame walking same s b at fits =
-      let walk = own-walk c s b.tables id v at root st walking same in
-      (record { tables = walk-keeps c s b.tables id v at root st v.reads frame walk }, walk-tells c s b.tables id v at root st v.reads frame walk)
+  goes root st frame is walking same s b at fits =
+      let walk = own-walk c s b.tables id v at root st walking same in (
+        record { tables = walk-keeps c s b.tables id v at root st v.reads frame walk; orders = walk-orders c s b.tables b.orders id v at root st v.reads frame walk is },
+        walk-tells c s b.tables id v at root st v.reads frame walk,
+      )
 
   -- a home's reading of a word of its own
   pub home-reads : (f i : ℕ) → IsAtHome (layout_of c) v.hart f → i < table_length
       → Steps c id v (word_index (layout_of c) f i) (λ n. n) (λ _. v) (λ n. words_of (memory_of (layout_of c) v) f i ≡ Some n)
-  home-reads f i home less s b at fits = (record { tables = read-keeps c s b.tables id v at f i home less }, read-tells c s b.tables id v at f i home less)
+  home-reads f i home less s b at fits = (
+    record { tables = read-keeps c s b.tables id v at f i home less; orders = read-orders c s b.tables b.orders id v at (word_index (layout_of c) f i) },
+    read-tells c s b.tables id v at f i home less,
+  )
 
   -- the store of an edit by its home
-  pub edits : (wish : Wish) (store : Store) → HasPlace (layout_of c) (place_of wish) → edit_over (layout_of c) v wish ≡ Ok store
-      → Steps c id v (word_index (layout_of c) store.ppn store.index) (λ _. store.word) (λ _. edited (layout_of c) v store v.orders) (λ _. Unit {0})
-  edits wish store has is s b at fits = (record { tables = edit-keeps c s b.tables id v at wish has store is v.orders }, tt)
+  pub edits : (wish : Wish) (ticket : ℕ) (store : Store) → HasPlace (layout_of c) (place_of wish) → IsAsked c wish → edit_over (layout_of c) v wish ≡ Ok store
+      → Steps c id v (word_index (layout_of c) store.ppn store.index) (λ _. store.word) (λ _. noted c wish ticket v store) (λ _. Unit {0})
+  edits wish ticket store has asked is s b at fits = (
+    record { tables = edit-keeps c s b.tables id v at wish has store is (orders_after c wish ticket store v.orders); orders = edit-orders c id v wish ticket store has asked is s b.tables b.orders at },
+    tt,
+  )
 
 pub opens : (c : Config) → MeetsLimits max_live_frames c → Board c (at_start (board_words (layout_of c)) [] (first_view c))
-opens c limits = record { tables = open-keeps c limits }
+opens c limits = record { tables = open-keeps c limits; orders = open-orders c }
 
 pub deals-seat : (c : Config) (id : ℕ) (v : View) → 0 < v.next → v.next < length (layout_of c).spares → (s : State ℕ View) → Board c s → get_elem? s.views id ≡ some v
     → Board c record { words = s.words; homes = s.homes; views = slice_set s.views id (dealer v) ++ dealt v ∷ [] }
-deals-seat c id v some' room s b at = record { tables = deal-keeps c id v some' room s b.tables at }
+deals-seat c id v some' room s b at = record { tables = deal-keeps c id v some' room s b.tables at; orders = deal-orders c id v some' room s b.tables at b.orders }

@@ -1,4 +1,6 @@
 pub mod Rule
+pub mod Orders
+pub mod OrderTurns
 pub mod Board
 pub mod Turns
 pub mod Walks

@@ -1,15 +1,19 @@
 //! A whole edit by the home: decided by home reads, then stored.
 
-ghost use Rattle.std.specs.Prelude.{◌≡◌, MatchResult};
+ghost use Rattle.std.specs.Prelude.{◌≡◌, is_some, MatchResult, Ok, Some};
+ghost use Rattle.walk.specs.Pointers.{pointed};
+ghost use Rattle.spaces.specs.declared.places.Place.TheVariants as place;
+ghost use Rattle.views.specs.Orders.{asid_in};
 ghost use Rattle.spaces.specs.Layout.{HasPlace, layout_of};
 ghost use Rattle.spaces.specs.Edits.{place_of};
 ghost use Rattle.views.specs.Rule.{IsFit};
 ghost use Rattle.views.specs.Edits.{edit_over};
-ghost use Rattle.views.specs.Turns.{edited};
+ghost use Rattle.views.specs.OrderTurns.{IsAsked, noted};
 
 use crate::rule::{Place, Words};
 use crate::steps::{read_home, store_edit};
-use spaces::{Config, Edit, EditWalk, MapFault, Next, Wish};
+use pte::{Kind, Pte};
+use spaces::{Config, Edit, EditWalk, MapFault, Next, Place as Home, Wish};
 
 /// The store that a wish takes, or why none is due, over the home's view. It is not made: `store_edit` makes it, and the view
 /// stays until then. `used` is how many of the hart's spare frames are in use.
@@ -45,27 +49,100 @@ pub fn decide(
     }
 }
 
-/// Makes the one store that a wish takes, or tells why none is due, over the home's view.
+/// The ASID of a space.
+fn asid_in(config: &Config, space: u8) -> u16
+    requires { HasPlace (layout_of config.now) (place.Space space) }
+    ensures { result ≡ asid_in config.now space }
+{
+    config.spaces[usize::from(space)].asid
+}
+
+/// What a wish asks for can be asked: its page is one, and an ASID has 16 bits.
+fn ask(config: &Config, wish: &Wish)
+    requires { HasPlace (layout_of config.now) (place_of wish.now) }
+    ensures { IsAsked config.now wish.now }
+{
+    match *wish {
+        Wish::Map { page, .. } | Wish::Protect { page, .. } => {
+            let _base = page.base();
+        }
+        Wish::Unmap {
+            place: Home::Space(space),
+            page,
+        } => {
+            let _base = page.base();
+            let _asid = asid_in(config, space);
+        }
+        Wish::Unmap {
+            place: Home::Kernel,
+            page,
+        } => {
+            let _base = page.base();
+        }
+    }
+}
+
+/// Whether a word is a pointer.
+fn is_pointer(word: u64) -> bool
+    ensures { result ≡ is_some (pointed (Some word)) }
+{
+    match Pte(word).kind() {
+        Kind::Table { .. } => true,
+        Kind::Invalid | Kind::Reserved | Kind::Leaf { .. } => false,
+    }
+}
+
+/// Makes the one store that was decided, and counts the spare frame that a new table takes; an unmap or a protect opens an
+/// order under the ticket. No other hart's step changes what is due here, so what was decided is due until the hart's own next
+/// store.
+pub fn store(
+    words: &Words,
+    seat: &mut Place,
+    config: &Config,
+    used: &mut u16,
+    edit: &Edit,
+    wish: &Wish,
+    ticket: u32,
+)
+    requires fit { IsFit words.now.table_id words.now.key config.now seat.old }
+    requires used { seat.old.me.0.used ≡ used.old }
+    requires place { HasPlace (layout_of config.now) (place_of wish.now) }
+    requires due { edit_over (layout_of config.now) seat.old.me.0 wish.now ≡ Ok edit.now }
+    ensures fit { IsFit words.now.table_id words.now.key config.now seat.new }
+    ensures view { seat.new.me.0 ≡ noted config.now wish.now ticket seat.old.me.0 edit.now }
+    ensures used { seat.new.me.0.used ≡ used.new }
+{
+    ask(config, wish);
+    store_edit(words, seat, config, edit, wish, ticket);
+    if is_pointer(edit.word()) {
+        *used += 1;
+    }
+}
+
+/// Makes the one store that a wish takes, or tells why none is due, over the home's view. The ticket is for the order that an
+/// unmap or a protect opens; a map takes none.
 pub fn edit(
     words: &Words,
     seat: &mut Place,
     config: &Config,
     hart: u8,
-    used: u16,
+    used: &mut u16,
     wish: &Wish,
+    ticket: u32,
 ) -> Result<Edit, MapFault>
     requires fit { IsFit words.now.table_id words.now.key config.now seat.old }
     requires hart { seat.old.me.0.hart ≡ hart }
-    requires used { seat.old.me.0.used ≡ used }
+    requires used { seat.old.me.0.used ≡ used.old }
     requires place { HasPlace (layout_of config.now) (place_of wish.now) }
     ensures fit { IsFit words.now.table_id words.now.key config.now seat.new }
     ensures answer { result ≡ edit_over (layout_of config.now) seat.old.me.0 wish.now }
-    ensures view { MatchResult result (λ edit. seat.new.me.0 ≡ edited (layout_of config.now) seat.old.me.0 edit seat.old.me.0.orders) (λ _. seat.new.me.0 ≡ seat.old.me.0) }
+    ensures view { MatchResult result (λ edit. seat.new.me.0 ≡ noted config.now wish.now ticket seat.old.me.0 edit) (λ _. seat.new.me.0 ≡ seat.old.me.0) }
+    ensures used { seat.new.me.0.used ≡ used.new }
 {
-    let edit = match decide(words, seat, config, hart, used, wish) {
+    let edit = match decide(words, seat, config, hart, *used, wish) {
         Ok(edit) => edit,
         Err(fault) => return Err(fault),
     };
-    store_edit(words, seat, config, &edit, wish);
+    store(words, seat, config, used, &edit, wish, ticket);
     Ok(edit)
 }

@@ -1,16 +1,29 @@
-//! The rule that the shared words of all table frames keep between any two atomic steps of running harts, and each kind of step.
+//! The rule that the shared words, those of all table frames and the cells of acknowledgements, keep between any two atomic
+//! steps of running harts, and each kind of step.
 #![tactic(auto)]
 
+mod cells;
 mod edits;
+mod laws;
 mod opening;
 mod rule;
+mod services;
 mod steps;
 mod view;
 mod walks;
 
-pub use edits::{decide, edit};
+pub use cells::{acknowledge, acknowledge_self, arm, collect, open_order};
+pub use edits::{decide, edit, store};
+pub use laws::{
+    collected_is_clean, each_table_word_is_as_its_home_says, table_words_are_a_tree,
+    walk_in_flight_leads,
+};
 pub use opening::{deal, open};
 pub use rule::{Deal, Memory, Place, Rule, To, Turn, Words};
+pub use services::{serve, serve_self};
 pub use steps::{load_first, load_next, read_home, store_edit};
 pub use view::{Cause, Order, Read, View};
 pub use walks::walk;
+
+#[cfg(test)]
+mod tests;

@@ -9,7 +9,8 @@ ghost use Rattle.spaces.specs.Opening.{is_word};
 ghost use Rattle.spaces.specs.Tree.{IsAtHome};
 ghost use Rattle.views.specs.Rule.{IsFit, IsRoot, memory_of, size};
 ghost use Rattle.views.specs.Board.{Steps};
-ghost use Rattle.views.specs.Turns.{edited, IsStart, TellsLoad, walked};
+ghost use Rattle.views.specs.OrderTurns.{IsAsked, noted};
+ghost use Rattle.views.specs.Turns.{IsStart, TellsLoad, walked};
 ghost use Rattle.views.specs.Edits.{edit_over};
 
 use crate::rule::{Place, Turn, Words, load, store};
@@ -104,6 +105,7 @@ fn store_as<T: Turn>(
     new: u64,
     _edit: Edit,
     _wish: Wish,
+    _ticket: u32,
 )
     requires same { seat.old.table_id ≡ words.now.table_id }
     requires inside { word < words.now.table_id.words }
@@ -117,14 +119,23 @@ fn store_as<T: Turn>(
     store::<T>(words, seat, word, new)
 }
 
-/// The one store of an edit that is due over the home's view.
-pub fn store_edit(words: &Words, seat: &mut Place, config: &Config, edit: &Edit, wish: &Wish)
+/// The one store of an edit that is due over the home's view. An unmap or a protect opens an order under the ticket; a leaf that
+/// is mapped marks anew each unmapping of its place whose page it overlaps.
+pub fn store_edit(
+    words: &Words,
+    seat: &mut Place,
+    config: &Config,
+    edit: &Edit,
+    wish: &Wish,
+    ticket: u32,
+)
     requires fit { IsFit words.now.table_id words.now.key config.now seat.old }
     requires place { HasPlace (layout_of config.now) (place_of wish.now) }
+    requires asked { IsAsked config.now wish.now }
     requires due { edit_over (layout_of config.now) seat.old.me.0 wish.now ≡ Ok edit.now }
     ensures fit { IsFit words.now.table_id words.now.key config.now seat.new }
-    ensures view { seat.new.me.0 ≡ edited (layout_of config.now) seat.old.me.0 edit.now seat.old.me.0.orders }
+    ensures view { seat.new.me.0 ≡ noted config.now wish.now ticket seat.old.me.0 edit.now }
 {
     let at = word_index(config, edit.ppn(), edit.index());
-    store_as::<Brand>(words, seat, at, edit.word(), *edit, *wish)
+    store_as::<Brand>(words, seat, at, edit.word(), *edit, *wish, ticket)
 }

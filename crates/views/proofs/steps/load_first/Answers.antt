@@ -4,4 +4,4 @@ use Rattle.views.proofs.steps.load_first.Goals as goal
 pub load_as-requires-clause-steps : goal.load_as-requires-clause-steps
 load_as-requires-clause-steps c =
     rw (c.requires.fit.key_is, c.word_index-at.ensures.value, c.wants-table.ensures.table, c.wants-table.ensures.index)
-    (begins c.args.config.now c.args.seat.now.id c.args.seat.now.me.0 c.args.root c.args.walk c.requires.frame c.requires.start)
+    (begins c.args.config.now c.args.seat.now.id c.args.seat.now.me.0 c.args.root c.args.walk c.requires.frame c.requires.root c.requires.start)

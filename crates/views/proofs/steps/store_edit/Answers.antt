@@ -1,7 +1,7 @@
 use Rattle.std.proofs.Common.{◌≡◌, ap, sym, ◌∙◌, subst}
 use Rattle.spaces.specs.Layout.{layout_of}
 use Rattle.views.specs.Rule.{Local}
-use Rattle.views.specs.Turns.{edited}
+use Rattle.views.specs.OrderTurns.{noted, orders_after}
 use Rattle.views.proofs.EditKeeps.{edited-local, word-there}
 use Rattle.views.proofs.Pairs.{edits}
 use Rattle.views.proofs.steps.store_edit.Goals as goal
@@ -14,12 +14,12 @@ word_index-at-requires-clause-word c =
 pub store_as-requires-clause-steps : goal.store_as-requires-clause-steps
 store_as-requires-clause-steps c =
     rw (c.requires.fit.key_is, c.word_index-at.ensures.value, c.ppn.ensures, c.index.ensures, c.word.ensures)
-    (edits c.args.config.now c.args.seat.now.id c.args.seat.now.me.0 c.args.wish.now c.args.edit.now c.requires.place c.requires.due)
+    (edits c.args.config.now c.args.seat.now.id c.args.seat.now.me.0 c.args.wish.now c.args.ticket c.args.edit.now c.requires.place c.requires.asked c.requires.due)
 
 pub returns-clause-fit : goal.returns-clause-fit
 returns-clause-fit c =
-    let view : c.store_as.new.seat.me.0 ≡ edited (layout_of c.args.config.now) c.args.seat.now.me.0 c.args.edit.now c.args.seat.now.me.0.orders =
-    ap (λ m. m.0) c.store_as.ensures.view ∙ ap (λ k. edited (layout_of k) c.args.seat.now.me.0 c.args.edit.now c.args.seat.now.me.0.orders) c.requires.fit.key_is
+    let view : c.store_as.new.seat.me.0 ≡ noted c.args.config.now c.args.wish.now c.args.ticket c.args.seat.now.me.0 c.args.edit.now =
+    ap (λ m. m.0) c.store_as.ensures.view ∙ ap (λ k. noted k c.args.wish.now c.args.ticket c.args.seat.now.me.0 c.args.edit.now) c.requires.fit.key_is
     in
     record {
       limits = c.requires.fit.limits;
@@ -30,5 +30,5 @@ returns-clause-fit c =
       config = ap (λ v. v.config) view ∙ c.requires.fit.config;
       local =
           subst (Local (layout_of c.args.config.now)) (sym view)
-          (edited-local (layout_of c.args.config.now) c.args.seat.now.me.0 c.requires.fit.local c.args.wish.now c.requires.place c.args.edit.now c.requires.due c.args.seat.now.me.0.orders);
+          (edited-local (layout_of c.args.config.now) c.args.seat.now.me.0 c.requires.fit.local c.args.wish.now c.requires.place c.args.edit.now c.requires.due (orders_after c.args.config.now c.args.wish.now c.args.ticket c.args.edit.now c.args.seat.now.me.0.orders));
     }

@@ -1,6 +1,6 @@
 use Rattle.std.proofs.Common.{inr}
 use Rattle.spaces.specs.Layout.{layout_of}
-use Rattle.views.proofs.Goings.{begun, gone, found-at, trap-at}
+use Rattle.views.proofs.Goings.{begun, gone, found-at, lower, trap-at}
 use Rattle.views.proofs.walks.walk.Goals as goal
 
 pub loop-next-init : goal.loop-next-init
@@ -26,3 +26,8 @@ returns-in-Found-clause-walked c =
 pub returns-in-Trap-clause-walked : goal.returns-in-Trap-clause-walked
 returns-in-Trap-clause-walked c =
     inr (trap-at (layout_of c.args.config.now) c.args.seat.now.me.0 c.requires.fit.local c.args.root c.args.va c.args.access c.args.ctx c.loop-next.walk c.loop-next.word c.loop-next.seat.me.0 c.loop-next.invariant.going c.in-Trap.trap c.in-Trap.ensures)
+
+pub loop-next-smaller : goal.loop-next-smaller
+loop-next-smaller c =
+    lower (layout_of c.args.config.now) c.args.seat.now.me.0 c.requires.fit.local c.args.root c.args.va c.args.access c.args.ctx c.loop-next.walk c.loop-next.word c.loop-next.seat.me.0 c.loop-next.invariant.going
+    c.in-More.next c.in-More.ensures

@@ -1,0 +1,83 @@
+-- The loads of a walk, which may fill an entry, keep what the board says of orders.
+use Rattle.std.proofs.Common.{◌≡◌, ℕ, ◌&&◌, not, true, List, Ok, Some, sym, refl, ap, ◌∙◌, subst}
+use Rattle.std.specs.Prelude.{slice_index, slice_set}
+use Rattle.std.proofs.lemmas.List.{set-get_or}
+use mathlib.Core.Option.{some}
+use lib.ListN.{get_elem?}
+use Rattle.atomic_table.specs.Table.{State}
+use Rattle.pte.specs.Address.{Span, vpn_of}
+use Rattle.walk.specs.declared.found_or_trap.Found.{Found}
+use Rattle.walk.specs.declared.walking.Progress.{Progress}
+use Rattle.walk.specs.declared.walking.Progress.TheVariants as progress
+use Rattle.walk.specs.Loads.{GoesOn}
+use Rattle.walk.specs.Outcome.{Outcome}
+use Rattle.walk.specs.Stage.{Stage}
+use Rattle.walk.specs.Step.{load_of}
+use Rattle.spaces.specs.declared.configuration.Config.{Config}
+use Rattle.spaces.specs.declared.places.Place.{Place}
+use Rattle.spaces.specs.Layout.{is_frame, layout_of, root_ppn}
+use Rattle.spaces.specs.Held.{word_index}
+use Rattle.tlb.specs.Answer.{entry_of}
+use Rattle.tlb.specs.Mappings.{maps_into}
+use Rattle.tlb.specs.Service.{overlaps}
+use Rattle.views.specs.declared.view.Order.{Order}
+use Rattle.views.specs.declared.view.Read.{Read}
+use Rattle.views.specs.declared.view.View.{View}
+use Rattle.views.specs.Rule.{IsRoot, IsWalk, Tabled, tables_in}
+use Rattle.views.specs.Turns.{asid_at, walked, with_fill}
+use Rattle.views.specs.Orders.{asid_in, asid_for, IsLive, Misses, ArePlain, Ordered}
+use Rattle.views.proofs.Fills.{plain-found, misses-found, asid-at-root, one-more}
+use Rattle.views.proofs.OrderKeeps.{idle-orders, stays, stands, keeps-orders}
+use Rattle.views.proofs.WalkKeeps.{load-goes}
+
+-- a load leaves the words
+loaded-orders : (c : Config) (s : State ℕ View) (id at : ℕ) (w : View) → Ordered c record { words = s.words; homes = s.homes; views = slice_set s.views id w }
+    → Ordered c record { words = slice_set s.words at (slice_index s.words at); homes = s.homes; views = slice_set s.views id w }
+loaded-orders c s id at w o = subst (λ (ws : List ℕ). Ordered c record { words = ws; homes = s.homes; views = slice_set s.views id w }) (sym (set-get_or s.words at 0)) o
+
+module _ (c : Config) (s : State ℕ View) (b : Tabled c s) (o : Ordered c s) (id : ℕ) (v : View) (at : get_elem? s.views id ≡ some v) where
+  pub read-orders : (place : ℕ) → Ordered c record { words = slice_set s.words place (slice_index s.words place); homes = s.homes; views = slice_set s.views id v }
+  read-orders place = loaded-orders c s id place v (idle-orders c s b o id v at)
+
+  module _ (root : ℕ) (st : Stage) (reads : List Read) (frame : is_frame (layout_of c) st.table ≡ true) (walk : IsWalk c.scheme (tables_in (layout_of c) s.words) root reads st) (is : IsRoot (layout_of c) root) where
+    abbrev place : ℕ
+    place = word_index (layout_of c) st.table (vpn_of st.va st.level)
+
+    abbrev word : ℕ
+    word = slice_index s.words place
+
+    asid-is : asid_at v.config root ≡ asid_in c is.0
+    asid-is = ap (λ k. asid_at k root) (b.each id v at).config ∙ asid-at-root c is.0 root is.2
+
+    found-there : (found : Found) → GoesOn c.scheme (tables_in (layout_of c) s.words) root st (progress.Found found)
+        → Outcome c.scheme (tables_in (layout_of c) s.words) (root_ppn (layout_of c) is.0) st.va st.access st.ctx (Ok found)
+    found-there found g = subst (λ r. Outcome c.scheme (tables_in (layout_of c) s.words) r st.va st.access st.ctx (Ok found)) is.2 g
+
+    -- what is filled misses each page that is unmapped, and is not global in the user's half
+    fill-misses : (j : ℕ) (u : View) (at-u : get_elem? s.views j ≡ some u) (n : ℕ) (k : Order) (at-k : get_elem? u.orders n ≡ some k) (q : Place) (page : Span) (live : IsLive k q page)
+        → (p : Progress) → GoesOn c.scheme (tables_in (layout_of c) s.words) root st p → Misses page (asid_for c q) v.entries → Misses page (asid_for c q) (with_fill (asid_at v.config root) v.entries p)
+    fill-misses j u at-u n k at-k q page live (progress.More next) g m = m
+    fill-misses j u at-u n k at-k q page live (progress.Trap trap) g m = m
+    fill-misses j u at-u n k at-k q page live (progress.Found found) g m =
+        one-more (λ e. not (maps_into page (asid_for c q) e)) v.entries (entry_of (asid_at v.config root) found) m
+        (misses-found c s b o is.0 st.va st.access st.ctx found is.1 (found-there found g) j u at-u n k at-k q page live (asid_at v.config root) asid-is)
+
+    fill-plain : (p : Progress) → GoesOn c.scheme (tables_in (layout_of c) s.words) root st p → ArePlain c.scheme v.entries → ArePlain c.scheme (with_fill (asid_at v.config root) v.entries p)
+    fill-plain (progress.More next) g m page user = m page user
+    fill-plain (progress.Trap trap) g m page user = m page user
+    fill-plain (progress.Found found) g m page user =
+        one-more (λ e. not (e.global && overlaps page e.page)) v.entries (entry_of (asid_at v.config root) found) (m page user)
+        (plain-found c s b o is.0 st.va st.access st.ctx found is.1 (found-there found g) page user)
+
+    pub walk-orders : Ordered c record { words = slice_set s.words place word; homes = s.homes; views = slice_set s.views id (walked v root st reads word) }
+    walk-orders =
+        let go = load-goes c s b id v at root st reads frame walk in
+        let w : View = walked v root st reads word in
+        loaded-orders c s id place w
+        (keeps-orders c s b o id v w at refl s.words
+        (λ j u at-u n k at-k q page live m. fill-misses j u at-u n k at-k q page live (load_of st (Some word)) go m)
+        (λ a t h small. stays refl)
+        (fill-plain (load_of st (Some word)) go (o.plain id v at))
+        (λ n k at-k q page live. stands c s b o id v w at refl s.words
+        (λ j u at-u n k at-k q page live m. fill-misses j u at-u n k at-k q page live (load_of st (Some word)) go m)
+        (λ a t h small. stays refl) id v at n k at-k q page live) s.homes)

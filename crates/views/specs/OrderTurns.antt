@@ -1,0 +1,94 @@
+-- What a seat knows of its orders after each kind of step.
+use Rattle.std.specs.Prelude.{ℕ, ◌≡◌, ◌||◌, ◌==◌, if◌then◌else◌, is_some, true, false, List, [], ◌∷◌, map, Option, Some, None}
+use Rattle.pte.specs.declared.address.What.{What}
+use Rattle.pte.specs.Address.{IsPage, Span}
+use Rattle.walk.specs.Pointers.{pointed}
+use Rattle.spaces.specs.declared.places.Place.{Place}
+use Rattle.spaces.specs.declared.wishes.Wish.{Wish}
+use Rattle.spaces.specs.declared.wishes.Wish.TheVariants.{Map, Unmap, Protect}
+use Rattle.spaces.specs.declared.configuration.Config.{Config}
+use Rattle.spaces.specs.Layout.{layout_of}
+use Rattle.spaces.specs.Edits.{Store}
+use Rattle.tlb.specs.Service.{served}
+use Rattle.shoot.specs.Acknowledgement.{IsAskable, acknowledgement}
+use Rattle.views.specs.declared.view.Cause.{Cause}
+use Rattle.views.specs.declared.view.Cause.TheVariants.{Unmapped, Other}
+use Rattle.views.specs.declared.view.Order.{Order}
+use Rattle.views.specs.declared.view.View.{View}
+use Rattle.views.specs.Orders.{asked, dropping, is_in, is_over}
+use Rattle.views.specs.Turns.{edited}
+
+-- a leaf that is mapped over the page of an unmapping marks it anew
+abbrev pub marked : Place → Span → Order → Order
+marked place page k = record k { anew = is_over k.cause place page || k.anew }
+
+-- an order that begins
+abbrev pub fresh : ℕ → Cause → Order
+fresh ticket cause = record { ticket = ticket; cause = cause; anew = false; armed = []; collected = [] }
+
+-- an order that follows no store
+abbrev pub ordered : ℕ → What → View → View
+ordered ticket what v = record v { orders = fresh ticket (Other what) ∷ v.orders }
+
+-- the orders after an edit, which opens one under this ticket unless it maps
+abbrev pub orders_after : Config → Wish → ℕ → Store → List Order → List Order
+orders_after c (Map place page ppn flags) ticket store ks = if is_some (pointed (Some store.word)) then ks else map (marked place page) ks
+orders_after c (Unmap place page) ticket store ks = fresh ticket (Unmapped place page) ∷ ks
+orders_after c (Protect place page flags) ticket store ks = fresh ticket (Other (dropping c place page)) ∷ ks
+
+-- the store of an edit by the home
+abbrev pub noted : Config → Wish → ℕ → View → Store → View
+noted c wish ticket v store = edited (layout_of c) v store (orders_after c wish ticket store v.orders)
+
+-- the page is one, and what an unmapping asks for can be asked
+abbrev pub IsAsked : Config → Wish → Type 0
+IsAsked c (Map place page ppn flags) = IsPage page
+IsAsked c (Unmap place page) = IsAskable (dropping c place page)
+IsAsked c (Protect place page flags) = IsPage page
+
+-- the open order of a ticket, which is the last one under it, becomes another
+abbrev pub for_ticket : ℕ → (Order → Order) → List Order → List Order
+for_ticket ticket f [] = []
+for_ticket ticket f (k ∷ ks) = if k.ticket == ticket then f k ∷ ks else k ∷ for_ticket ticket f ks
+
+-- the sender stored 0 to the cell of a hart
+abbrev pub armed : ℕ → Order → Order
+armed to k = record k { armed = to ∷ k.armed }
+
+abbrev pub with_armed : ℕ → ℕ → View → View
+with_armed ticket to v = record v { orders = for_ticket ticket (armed to) v.orders }
+
+-- the receiver drops what a request asks
+abbrev pub dropped : What → View → View
+dropped what v = record v { entries = served v.entries what }
+
+-- a hart is collected
+abbrev pub collected : ℕ → Order → Order
+collected from k = record k { collected = from ∷ k.collected }
+
+abbrev pub with_collected : ℕ → ℕ → View → View
+with_collected ticket from v = record v { orders = for_ticket ticket (collected from) v.orders }
+
+-- the sender looked at the cell of a hart, which is collected if the word is that of what was asked
+abbrev pub looked : ℕ → ℕ → What → View → ℕ → View
+looked ticket from what v word = if word == acknowledgement what then with_collected ticket from v else v
+
+-- the sender is the receiver: it drops what is asked, and is collected
+abbrev pub self_acked : ℕ → What → View → View
+self_acked ticket what v = record v { entries = served v.entries what; orders = for_ticket ticket (collected v.hart) v.orders }
+
+-- the open order of a ticket
+abbrev pub open_order : ℕ → List Order → Option Order
+open_order ticket [] = None
+open_order ticket (k ∷ ks) = if k.ticket == ticket then Some k else open_order ticket ks
+
+-- the open order of the ticket asks for this
+pub record IsAsking (c : Config) (v : View) (ticket : ℕ) (what : What) : Type 0 where
+  pub order : Order
+  pub is : open_order ticket v.orders ≡ Some order
+  pub asks : asked c order.cause ≡ what
+
+-- and the cell of this hart was armed for it
+pub record IsAwaiting (c : Config) (v : View) (ticket from : ℕ) (what : What) : Type 0 where
+  pub asking : IsAsking c v ticket what
+  pub armed : is_in from asking.order.armed ≡ true

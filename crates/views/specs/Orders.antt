@@ -1,0 +1,105 @@
+-- What the board keeps of orders: what an unmapping's home still doesn't map, and which harts hold nothing of it.
+use Rattle.std.specs.Prelude.{◌≡◌, ℕ, ◌<◌, ◌==◌, ◌&&◌, Bool, true, false, not, List, length, map, slice_index, Option, Some, None}
+use Rattle.std.specs.List.{AllPass, list_any}
+use mathlib.Core.Option.{some}
+use lib.ListN.{get_elem?}
+use Rattle.atomic_table.specs.Table.{State}
+use Rattle.pte.specs.declared.flags.PteFlags.{PteFlags}
+use Rattle.pte.specs.declared.address.What.{What}
+use Rattle.pte.specs.declared.address.What.TheVariants.{PageOf}
+use Rattle.pte.specs.declared.scheme.Scheme.{Scheme}
+use Rattle.pte.specs.Address.{Span, IsPageOf, top_level, vpn_of}
+use Rattle.walk.specs.Leads.{Tables}
+use Rattle.walk.specs.Maps.{Maps}
+use Rattle.spaces.specs.declared.configuration.Config.{Config}
+use Rattle.spaces.specs.declared.places.Place.{Place}
+use Rattle.spaces.specs.declared.places.Place.TheVariants.{Space, Kernel}
+use Rattle.spaces.specs.Layout.{Layout, HasPlace, home_of, layout_of, root_ppn, user_slots}
+use Rattle.spaces.specs.Held.{Held, words_of}
+use Rattle.spaces.specs.Holders.{is_same_place}
+use Rattle.spaces.specs.Edits.{is_wrong_half}
+use Rattle.spaces.specs.Effects.{IsAbout}
+use Rattle.tlb.specs.declared.store.Entry.{Entry}
+use Rattle.tlb.specs.Mappings.{maps_into}
+use Rattle.tlb.specs.Service.{overlaps}
+use Rattle.shoot.specs.Acknowledgement.{IsAskable, acknowledgement}
+use Rattle.views.specs.declared.view.Cause.{Cause}
+use Rattle.views.specs.declared.view.Cause.TheVariants.{Unmapped, Other}
+use Rattle.views.specs.declared.view.Order.{Order}
+use Rattle.views.specs.declared.view.View.{View}
+use Rattle.views.specs.Rule.{cell, memory_of}
+
+abbrev pub asid_in : Config → ℕ → ℕ
+asid_in c s = slice_index (map (λ s. s.asid) c.spaces.items) s
+
+-- the ASID of a place; the kernel is in every address space
+abbrev pub asid_for : Config → Place → Option ℕ
+asid_for c (Space s) = Some (asid_in c s)
+asid_for c Kernel = None
+
+-- an ASID of the address spaces that the place is in
+abbrev pub IsAsidFor : Config → Place → ℕ → Type 0
+IsAsidFor c (Space s) asid = asid ≡ asid_in c s
+IsAsidFor c Kernel asid = Unit {0}
+
+-- what the harts are asked to drop of a page of a place
+abbrev pub dropping : Config → Place → Span → What
+dropping c place page = PageOf page (asid_for c place)
+
+-- what an order asks the harts to drop
+abbrev pub asked : Config → Cause → What
+asked c (Unmapped place page) = dropping c place page
+asked c (Other what) = what
+
+abbrev pub is_in : ℕ → List ℕ → Bool
+is_in h hs = list_any (λ x. x == h) hs
+
+-- an unmapping that is not marked anew
+abbrev pub IsLive : Order → Place → Span → Type 0
+IsLive k place page = (k.cause ≡ Unmapped place page) × (k.anew ≡ false)
+
+-- a leaf that is mapped here lies over the page of an unmapping
+abbrev pub is_over : Cause → Place → Span → Bool
+is_over (Unmapped place page) other span = is_same_place place other && overlaps page span
+is_over (Other what) other span = false
+
+-- no entry maps into the page, for the ASID or for any
+abbrev pub Misses : Span → Option ℕ → List Entry → Type 0
+Misses page space entries = AllPass (λ e. not (maps_into page space e)) entries
+
+-- the hart h has no mapping in the page
+abbrev pub IsClean : List View → ℕ → Span → Option ℕ → Type 0
+IsClean views h page space = (j : ℕ) (w : View) → get_elem? views j ≡ some w → w.hart ≡ h → Misses page space w.entries
+
+-- nothing that the words map from a root of the place lies in the page
+abbrev pub IsUnmapped : Layout → Tables → Place → Span → Type 0
+IsUnmapped l words place page = (s number ppn : ℕ) (flags : PteFlags) (global : Bool) → s < length l.homes → IsAbout place page s number
+    → ¬ Maps l.scheme words (root_ppn l s) number ppn flags global
+
+-- What stands of an unmapping that is not marked anew, of the hart with this table memory.
+pub record Kept (c : Config) (words : List ℕ) (views : List View) (hart : ℕ) (own : Held) (k : Order) (place : Place) (page : Span) : Type 0 where
+  pub has : HasPlace (layout_of c) place
+  pub at_home : home_of (layout_of c) place ≡ hart
+  pub right_half : is_wrong_half (layout_of c) place page ≡ false
+  pub askable : IsAskable (dropping c place page)
+  pub unmapped : IsUnmapped (layout_of c) (words_of own) place page
+  -- once a cell that was armed for it has its word, the receiver has no mapping of it
+  pub acked : (h : ℕ) → h < length (layout_of c).spares → is_in h k.armed ≡ true
+      → slice_index words (cell (layout_of c) hart k.ticket h) ≡ acknowledgement (dropping c place page) → IsClean views h page (asid_for c place)
+  -- nor has a hart that was collected, from then on
+  pub gone : (h : ℕ) → h < length (layout_of c).spares → is_in h k.collected ≡ true → IsClean views h page (asid_for c place)
+
+-- a page of the user's half
+pub record IsUserPage (scheme : Scheme) (page : Span) : Type 0 where
+  pub fits : IsPageOf scheme page
+  pub low : vpn_of page.base (top_level scheme) < user_slots
+
+-- no entry that is global overlaps a page of the user's half
+abbrev pub ArePlain : Scheme → List Entry → Type 0
+ArePlain scheme entries = (page : Span) → IsUserPage scheme page → AllPass (λ e. not (e.global && overlaps page e.page)) entries
+
+-- What is kept of orders and of the entries that harts hold.
+pub record Ordered (c : Config) (s : State ℕ View) : Type 0 where
+  pub plain : (j : ℕ) (v : View) → get_elem? s.views j ≡ some v → ArePlain c.scheme v.entries
+  pub kept : (j : ℕ) (v : View) → get_elem? s.views j ≡ some v → (n : ℕ) (k : Order) → get_elem? v.orders n ≡ some k → (place : Place) (page : Span) → IsLive k place page
+      → Kept c s.words s.views v.hart (memory_of (layout_of c) v) k place page

@@ -1,0 +1,197 @@
+//! The atomic steps on acknowledgement cells, each with what its seat knows after it. A cell holds 0 when it is armed, and then
+//! the word of the request that its receiver served.
+
+ghost use Rattle.std.specs.Prelude.{◌≡◌, ℕ, ◌<◌, [], length, not, if◌then◌else◌};
+ghost use Rattle.std.specs.List.{AllPass};
+ghost use Rattle.spaces.specs.Layout.{layout_of};
+ghost use Rattle.spaces.specs.Limits.{max_live_frames, MeetsLimits};
+ghost use Rattle.tlb.specs.Service.{is_served};
+ghost use Rattle.views.specs.Rule.{board_size, cell, IsFit, tickets};
+ghost use Rattle.views.specs.Board.{Steps};
+ghost use Rattle.views.specs.OrderTurns.{IsAsking, IsAwaiting, dropped, ordered, self_acked, with_armed, with_collected};
+
+use crate::rule::{Place, Turn, Words, load, store};
+use pte::{TABLE_LENGTH, What};
+use shoot::{MAX_TICKETS, Request, encode};
+use spaces::Config;
+use std::marker::Brand;
+use tlb::Tlb;
+
+/// Where a cell stands among all words: after those of the tables, by sender, ticket and receiver.
+fn cell(config: &Config, sender: u8, ticket: u32, receiver: u8) -> usize
+    requires limits { MeetsLimits max_live_frames config.now }
+    requires sender { sender < length (layout_of config.now).spares }
+    requires ticket { ticket < tickets }
+    requires receiver { receiver < length (layout_of config.now).spares }
+    ensures value { result ≡ cell (layout_of config.now) sender ticket receiver }
+    ensures range { result < board_size (layout_of config.now) }
+{
+    let words = config.frame_count() * u64::from(TABLE_LENGTH);
+    let row = u64::from(sender) * MAX_TICKETS as u64 + u64::from(ticket);
+    (words + (row * u64::from(config.harts) + u64::from(receiver))) as usize
+}
+
+fn open_as<T: Turn>(words: &Words, seat: &mut Place, word: usize, _ticket: u32, _what: What) -> u64
+    requires same { seat.old.table_id ≡ words.now.table_id }
+    requires inside { word < words.now.table_id.words }
+    requires bare { seat.old.me.1 ≡ [] }
+    requires steps { Steps words.now.key seat.old.id seat.old.me.0 word (λ n. n) T.after T.tells }
+    ensures same { seat.new.table_id ≡ seat.old.table_id }
+    ensures id { seat.new.id ≡ seat.old.id }
+    ensures view { seat.new.me ≡ (T.after result, []) }
+{
+    load::<T>(words, seat, word)
+}
+
+/// Opens an order that follows no store, as that of a flush, under a ticket: a load of the hart's own cell, whose word counts
+/// for nothing. (What a seat knows changes by a step alone.)
+pub fn open_order(words: &Words, seat: &mut Place, config: &Config, hart: u8, request: &Request)
+    requires fit { IsFit words.now.table_id words.now.key config.now seat.old }
+    requires hart { seat.old.me.0.hart ≡ hart }
+    ensures fit { IsFit words.now.table_id words.now.key config.now seat.new }
+    ensures view { seat.new.me.0 ≡ ordered request.now.ticket request.now.what seat.old.me.0 }
+{
+    let at = cell(config, hart, request.ticket, hart);
+    let _word = open_as::<Brand>(words, seat, at, request.ticket, request.what);
+}
+
+fn arm_as<T: Turn>(words: &Words, seat: &mut Place, word: usize, _ticket: u32, _to: u8)
+    requires same { seat.old.table_id ≡ words.now.table_id }
+    requires inside { word < words.now.table_id.words }
+    requires bare { seat.old.me.1 ≡ [] }
+    requires steps { Steps words.now.key seat.old.id seat.old.me.0 word (λ _. 0) (λ _. T.after 0) (λ _. T.tells 0) }
+    ensures same { seat.new.table_id ≡ seat.old.table_id }
+    ensures id { seat.new.id ≡ seat.old.id }
+    ensures view { seat.new.me ≡ (T.after 0, []) }
+{
+    store::<T>(words, seat, word, 0)
+}
+
+/// The store of 0 to the cell of a receiver, by the sender, before its request is pushed.
+pub fn arm(words: &Words, seat: &mut Place, config: &Config, hart: u8, ticket: u32, to: u8)
+    requires fit { IsFit words.now.table_id words.now.key config.now seat.old }
+    requires hart { seat.old.me.0.hart ≡ hart }
+    requires ticket { ticket < tickets }
+    requires to { to < length (layout_of config.now).spares }
+    ensures fit { IsFit words.now.table_id words.now.key config.now seat.new }
+    ensures view { seat.new.me.0 ≡ with_armed ticket to seat.old.me.0 }
+{
+    let at = cell(config, hart, ticket, to);
+    arm_as::<Brand>(words, seat, at, ticket, to)
+}
+
+fn acknowledge_as<T: Turn>(words: &Words, seat: &mut Place, word: usize, new: u64, _what: What)
+    requires same { seat.old.table_id ≡ words.now.table_id }
+    requires inside { word < words.now.table_id.words }
+    requires bare { seat.old.me.1 ≡ [] }
+    requires steps { Steps words.now.key seat.old.id seat.old.me.0 word (λ _. new) (λ _. T.after new) (λ _. T.tells new) }
+    ensures same { seat.new.table_id ≡ seat.old.table_id }
+    ensures id { seat.new.id ≡ seat.old.id }
+    ensures view { seat.new.me ≡ (T.after new, []) }
+{
+    store::<T>(words, seat, word, new)
+}
+
+/// The store of a request's word to the sender's cell, by its receiver, whose TLB has nothing left that the request drops.
+pub fn acknowledge(
+    words: &Words,
+    seat: &mut Place,
+    config: &Config,
+    hart: u8,
+    from: u8,
+    request: &Request,
+    tlb: &Tlb,
+)
+    requires fit { IsFit words.now.table_id words.now.key config.now seat.old }
+    requires hart { seat.old.me.0.hart ≡ hart }
+    requires from { from < length (layout_of config.now).spares }
+    requires served { AllPass (λ e. not (is_served request.now.what e)) tlb.now.entries }
+    ensures fit { IsFit words.now.table_id words.now.key config.now seat.new }
+    ensures view { seat.new.me.0 ≡ dropped request.now.what seat.old.me.0 }
+{
+    let _tlb = tlb;
+    let word = encode(request);
+    let at = cell(config, from, request.ticket, hart);
+    acknowledge_as::<Brand>(words, seat, at, word, request.what)
+}
+
+fn acknowledge_self_as<T: Turn>(
+    words: &Words,
+    seat: &mut Place,
+    word: usize,
+    new: u64,
+    _ticket: u32,
+    _what: What,
+)
+    requires same { seat.old.table_id ≡ words.now.table_id }
+    requires inside { word < words.now.table_id.words }
+    requires bare { seat.old.me.1 ≡ [] }
+    requires steps { Steps words.now.key seat.old.id seat.old.me.0 word (λ _. new) (λ _. T.after new) (λ _. T.tells new) }
+    ensures same { seat.new.table_id ≡ seat.old.table_id }
+    ensures id { seat.new.id ≡ seat.old.id }
+    ensures view { seat.new.me ≡ (T.after new, []) }
+{
+    store::<T>(words, seat, word, new)
+}
+
+/// The same where the sender is the receiver, which is then collected.
+pub fn acknowledge_self(
+    words: &Words,
+    seat: &mut Place,
+    config: &Config,
+    hart: u8,
+    request: &Request,
+    tlb: &Tlb,
+)
+    requires fit { IsFit words.now.table_id words.now.key config.now seat.old }
+    requires hart { seat.old.me.0.hart ≡ hart }
+    requires asks { IsAsking config.now seat.old.me.0 request.now.ticket request.now.what }
+    requires served { AllPass (λ e. not (is_served request.now.what e)) tlb.now.entries }
+    ensures fit { IsFit words.now.table_id words.now.key config.now seat.new }
+    ensures view { seat.new.me.0 ≡ self_acked request.now.ticket request.now.what seat.old.me.0 }
+{
+    let _tlb = tlb;
+    let word = encode(request);
+    let at = cell(config, hart, request.ticket, hart);
+    acknowledge_self_as::<Brand>(words, seat, at, word, request.ticket, request.what)
+}
+
+fn collect_as<T: Turn>(
+    words: &Words,
+    seat: &mut Place,
+    word: usize,
+    _from: u8,
+    _request: Request,
+) -> u64
+    requires same { seat.old.table_id ≡ words.now.table_id }
+    requires inside { word < words.now.table_id.words }
+    requires bare { seat.old.me.1 ≡ [] }
+    requires steps { Steps words.now.key seat.old.id seat.old.me.0 word (λ n. n) T.after T.tells }
+    ensures same { seat.new.table_id ≡ seat.old.table_id }
+    ensures id { seat.new.id ≡ seat.old.id }
+    ensures view { seat.new.me ≡ (T.after result, []) }
+{
+    load::<T>(words, seat, word)
+}
+
+/// The load of a receiver's cell by the sender, for the open order of the request's ticket, for which the cell was armed. Whether
+/// the request's word is there: then the receiver is collected.
+pub fn collect(
+    words: &Words,
+    seat: &mut Place,
+    config: &Config,
+    hart: u8,
+    from: u8,
+    request: &Request,
+) -> bool
+    requires fit { IsFit words.now.table_id words.now.key config.now seat.old }
+    requires hart { seat.old.me.0.hart ≡ hart }
+    requires from { from < length (layout_of config.now).spares }
+    requires awaits { IsAwaiting config.now seat.old.me.0 request.now.ticket from request.now.what }
+    ensures fit { IsFit words.now.table_id words.now.key config.now seat.new }
+    ensures view { seat.new.me.0 ≡ (if result then with_collected request.now.ticket from seat.old.me.0 else seat.old.me.0) }
+{
+    let at = cell(config, hart, request.ticket, from);
+    let word = collect_as::<Brand>(words, seat, at, from, *request);
+    word == encode(request)
+}

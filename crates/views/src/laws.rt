@@ -1,0 +1,40 @@
+//! Laws of the rule: functions that do nothing, whose contracts are the laws.
+
+ghost use Rattle.std.specs.Prelude.{◌≡◌, ℕ, Some};
+ghost use mathlib.Core.Option.{some};
+ghost use lib.ListN.{get_elem?};
+ghost use Rattle.atomic_table.specs.Table.{State};
+ghost use Rattle.walk.specs.Stage.{OnPath, Stage};
+ghost use Rattle.spaces.specs.declared.configuration.Config.{Config};
+ghost use Rattle.spaces.specs.Layout.{layout_of};
+ghost use Rattle.spaces.specs.Holders.{Holders};
+ghost use Rattle.spaces.specs.Tree.{IsAtHome, IsTree};
+ghost use Rattle.views.specs.declared.view.View.{View};
+ghost use Rattle.views.specs.Rule.{Has, tables_in};
+ghost use Rattle.views.specs.Board.{Board, CollectedIsClean, IsAsSaid};
+
+/// Once a hart was collected for an unmapping whose page is not mapped anew, what it filled translates no address of the page in
+/// any address space of the place.
+pub fn collected_is_clean()
+    ensures { CollectedIsClean }
+{}
+
+/// Each table word is as its home's view says, or as at the opening while its home has no seat yet.
+pub fn each_table_word_is_as_its_home_says()
+    ensures { (c : Config) (s : State ℕ View) → Board c s → (h f i : ℕ) → IsAtHome (layout_of c) h f → IsAsSaid c s h f i }
+{}
+
+/// The table words are a tree, as those of any table memory: pointers lead down level by level, to each table one; the window's
+/// slots of each root are as at the opening, and its other upper slots are 0; unused spare frames are 0, and nothing points to
+/// them; leaves are global exactly in the window.
+pub fn table_words_are_a_tree()
+    ensures { (c : Config) (s : State ℕ View) → Board c s → (holders : Holders) × IsTree (layout_of c) (tables_in (layout_of c) s.words) holders }
+{}
+
+/// A walk in flight stands on the path that the table words lead to now, and each word that it read stands there still.
+pub fn walk_in_flight_leads()
+    ensures path { (c : Config) (s : State ℕ View) → Board c s → (j : ℕ) (v : View) (st : Stage) → get_elem? s.views j ≡ some v → v.walk ≡ Some st
+        → OnPath c.scheme (tables_in (layout_of c) s.words) v.root st }
+    ensures reads { (c : Config) (s : State ℕ View) → Board c s → (j : ℕ) (v : View) (st : Stage) → get_elem? s.views j ≡ some v → v.walk ≡ Some st
+        → Has (tables_in (layout_of c) s.words) v.reads }
+{}
