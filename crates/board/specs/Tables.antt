@@ -27,7 +27,7 @@ use Rattle.history.specs.Refusal.{refusal_of}
 use Rattle.history.specs.Setup.{Setup}
 use Rattle.history.specs.Spaces.{asid_in}
 use Rattle.views.specs.Edits.{edit_over}
-use Rattle.views.specs.Turns.{edited}
+use Rattle.views.specs.OrderTurns.{noted}
 use Rattle.views.specs.Walks.{AnswersByLoads}
 use Rattle.board.specs.declared.mapped.Mapped.{Mapped}
 use Rattle.board.specs.declared.mapped.Mapped.TheVariants as mapped
@@ -77,10 +77,10 @@ has_place C Kernel = true
 abbrev pub due_store : PortState → Wish → Result Store MapFault
 due_store port wish = edit_over port.setup.layout port.view wish
 
--- a port whose home made the store of an edit, if one is due
-abbrev pub after_store : PortState → Result Store MapFault → PortState
-after_store port (Ok store) = record port { view = edited port.setup.layout port.view store port.view.orders }
-after_store port (Err fault) = port
+-- a port whose home made the store of an edit, if one is due; an unmap or a protect opened this ticket
+abbrev pub after_store : PortState → Wish → ℕ → Result Store MapFault → PortState
+after_store port wish ticket (Ok store) = record port { view = noted port.view.config wish ticket port.view store }
+after_store port wish ticket (Err fault) = port
 
 abbrev pub mapped_by : Kind → Mapped
 mapped_by (kinds.Table ppn global) = mapped.Table ppn
@@ -100,7 +100,7 @@ abbrev pub map_answer : PortState → Wish → Result Mapped Refusal
 map_answer port wish = answer_or (place_refusal port (place_of wish)) (mapped_of (due_store port wish))
 
 abbrev pub after_map : PortState → Wish → PortState
-after_map port wish = if has_place port.setup (place_of wish) then after_store port (due_store port wish) else port
+after_map port wish = if has_place port.setup (place_of wish) then after_store port wish 0 (due_store port wish) else port
 
 -- Unmap and Protect: NoHart, NoSpace, then what the edit says, and then what opening a ticket says
 abbrev pub named_refusal : PortState → Place → ℕ → Option Refusal
@@ -119,7 +119,7 @@ page_request C wish = PageOf (page_of wish) (asid_in C [] (place_of wish))
 
 -- a port once an edit was accepted: the ticket is open, and the one word is stored
 abbrev pub after_opened : PortState → Wish → ℕ → Result ℕ Refusal → PortState
-after_opened port wish named (Ok ticket) = with_tickets (after_store port (due_store port wish)) (after_open port.tickets (page_request port.setup wish) named)
+after_opened port wish named (Ok ticket) = with_tickets (after_store port wish ticket (due_store port wish)) (after_open port.tickets (page_request port.setup wish) named)
 after_opened port wish named (Err refusal) = port
 
 abbrev pub after_edit : PortState → Wish → ℕ → PortState

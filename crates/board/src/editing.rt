@@ -1,16 +1,12 @@
 //! Edits of tables by their home.
 
-ghost use Rattle.std.specs.Prelude.{◌≡◌, true, Ok, IsTrue, Some, [], is_some};
+ghost use Rattle.std.specs.Prelude.{◌≡◌, Ok, IsTrue, []};
 ghost use Rattle.pte.specs.Entry.{kind_of};
-ghost use Rattle.walk.specs.Pointers.{pointed};
 ghost use Rattle.spaces.specs.declared.wishes.Wish.TheVariants as wish;
 ghost use Rattle.spaces.specs.Edits.{page_of, place_of};
-ghost use Rattle.spaces.specs.Layout.{HasPlace, layout_of};
+ghost use Rattle.spaces.specs.Layout.{HasPlace};
 ghost use Rattle.history.specs.Refusal.{refusal_of};
 ghost use Rattle.history.specs.Spaces.{asid_in};
-ghost use Rattle.views.specs.Edits.{edit_over};
-ghost use Rattle.views.specs.Rule.{IsFit};
-ghost use Rattle.views.specs.Turns.{edited};
 ghost use Rattle.board.specs.Ports.{name_of};
 ghost use Rattle.board.specs.Tables.{after_edit, after_map, after_store, due_store, edit_answer, has_place, map_answer, mapped_by};
 
@@ -19,8 +15,8 @@ use crate::port::HartPort;
 use history::Refusal;
 use pte::{Kind, Page, Pte, PteFlags, What};
 use shoot::TicketFault;
-use spaces::{Config, Edit, MapFault, Place, Wish};
-use views::{Place as Seat, Words, decide, store_edit};
+use spaces::{Edit, MapFault, Place, Wish};
+use views::{decide, store};
 
 /// The refusal that an edit's fault is.
 fn refusal(fault: MapFault) -> Refusal
@@ -48,42 +44,6 @@ fn mapped(word: u64) -> Mapped
     match Pte(word).kind() {
         Kind::Table { ppn, .. } => Mapped::Table(ppn),
         Kind::Invalid | Kind::Reserved | Kind::Leaf { .. } => Mapped::Leaf,
-    }
-}
-
-/// Whether a word is a pointer.
-fn is_pointer(word: u64) -> bool
-    ensures { result ≡ is_some (pointed (Some word)) }
-{
-    match Pte(word).kind() {
-        Kind::Table { .. } => true,
-        Kind::Invalid | Kind::Reserved | Kind::Leaf { .. } => false,
-    }
-}
-
-/// Makes the store of an edit that is due over the home's view. How many of its spare frames are in use then.
-fn store_word(
-    words: &Words,
-    seat: &mut Seat,
-    config: &Config,
-    used: u16,
-    edit: &Edit,
-    wish: &Wish,
-) -> u16
-    requires fit { IsFit words.now.table_id words.now.key config.now seat.old }
-    requires used { seat.old.me.0.used ≡ used }
-    requires place { HasPlace (layout_of config.now) (place_of wish.now) }
-    requires due { edit_over (layout_of config.now) seat.old.me.0 wish.now ≡ Ok edit.now }
-    ensures fit { IsFit words.now.table_id words.now.key config.now seat.new }
-    ensures view { seat.new.me.0 ≡ edited (layout_of config.now) seat.old.me.0 edit.now seat.old.me.0.orders }
-    ensures hart { seat.new.me.0.hart ≡ seat.old.me.0.hart }
-    ensures used { seat.new.me.0.used ≡ result }
-{
-    store_edit(words, seat, config, edit, wish);
-    if is_pointer(edit.word()) {
-        used + 1
-    } else {
-        used
     }
 }
 
@@ -131,11 +91,11 @@ impl HartPort {
         decide(&memory.shared, seat, config, *hart, *used, wish)
     }
 
-    /// Makes the store of an edit that is due.
-    fn store(&mut self, edit: &Edit, wish: &Wish)
+    /// Makes the store of an edit that is due. An unmap or a protect opened the ticket.
+    fn store(&mut self, edit: &Edit, wish: &Wish, ticket: u32)
         requires place { HasPlace self.old.setup.layout (place_of wish.now) }
         requires due { due_store self.old wish.now ≡ Ok edit.now }
-        ensures after { self.new ≡ after_store self.old (Ok edit.now) }
+        ensures after { self.new ≡ after_store self.old wish.now ticket (Ok edit.now) }
         ensures same { name_of self.new ≡ name_of self.old }
     {
         let HartPort {
@@ -145,7 +105,7 @@ impl HartPort {
             used,
             ..
         } = self;
-        *used = store_word(&memory.shared, seat, config, *used, edit, wish);
+        store(&memory.shared, seat, config, used, edit, wish, ticket);
     }
 
     /// Makes the one store that is due next to map a page to a PPN: a pointer to a new table, after which the same step is due
@@ -174,7 +134,7 @@ impl HartPort {
             Ok(edit) => edit,
             Err(fault) => return Err(refusal(fault)),
         };
-        self.store(&edit, &wish);
+        self.store(&edit, &wish, 0);
         Ok(mapped(edit.word()))
     }
 
@@ -202,7 +162,7 @@ impl HartPort {
             Err(TicketFault::HomeNotNamed) => return Err(Refusal::HomeNotNamed),
             Err(TicketFault::NoTicket) => return Err(Refusal::NoTicket),
         };
-        self.store(&edit, wish);
+        self.store(&edit, wish, ticket);
         Ok(ticket)
     }
 
