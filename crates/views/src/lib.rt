@@ -15,7 +15,8 @@ mod walks;
 pub use cells::{acknowledge, acknowledge_self, arm, collect, open_order};
 pub use edits::{decide, edit, store};
 pub use laws::{
-    collected_is_clean, each_table_word_is_as_its_home_says, table_words_are_a_tree,
+    acknowledged_is_clean, collected_is_clean, each_table_word_is_as_its_home_says,
+    equal_words_ask_for_equal_service, table_words_are_a_tree, unmapped_page_stays_unmapped,
     walk_in_flight_leads,
 };
 pub use opening::{deal, open};
