@@ -56,6 +56,16 @@ fn is_there(rt: &impl Abort, tlb: &Tlb, probe: &Probe) -> bool {
     lookup(rt, tlb, probe.asid, probe.va) == Some(probe.entry)
 }
 
+/// Whether of these entries just those are in the TLB that are to stay.
+fn are_left(rt: &impl Abort, tlb: &Tlb, probes: &[Probe], stays: &[bool]) -> bool {
+    for (probe, stay) in probes.iter().zip(stays.iter()) {
+        if is_there(rt, tlb, probe) != *stay {
+            return false;
+        }
+    }
+    probes.len() == stays.len()
+}
+
 #[test]
 fn fences(rt: HostRuntime) {
     let zero = page(&rt, PageSize::Kib4, 0);
@@ -78,13 +88,10 @@ fn fences(rt: HostRuntime) {
     for (rs1, rs2, stays) in &rows {
         let mut tlb = filled(&probes);
         tlb.fence(*rs1, *rs2);
-        for (i, probe) in probes.iter().enumerate() {
-            assert_eq!(rt;
-                is_there(&rt, &tlb, probe),
-                stays[i],
-                "entry {i} after {rs1:?}, {rs2:?}"
-            );
-        }
+        assert!(rt;
+            are_left(&rt, &tlb, &probes, stays),
+            "after {rs1:?}, {rs2:?}"
+        );
     }
 }
 
@@ -129,13 +136,10 @@ fn fences_of_an_address_in_larger_pages(rt: HostRuntime) {
     for (rs1, rs2, stays) in &rows {
         let mut tlb = filled(&probes);
         tlb.fence(*rs1, *rs2);
-        for (i, probe) in probes.iter().enumerate() {
-            assert_eq!(rt;
-                is_there(&rt, &tlb, probe),
-                stays[i],
-                "entry {i} after {rs1:?}, {rs2:?}"
-            );
-        }
+        assert!(rt;
+            are_left(&rt, &tlb, &probes, stays),
+            "after {rs1:?}, {rs2:?}"
+        );
     }
 }
 
@@ -187,13 +191,7 @@ fn services(rt: HostRuntime) {
     for (what, stays) in &rows {
         let mut tlb = filled(&probes);
         tlb.serve(what);
-        for (i, probe) in probes.iter().enumerate() {
-            assert_eq!(rt;
-                is_there(&rt, &tlb, probe),
-                stays[i],
-                "entry {i} after {what:?}"
-            );
-        }
+        assert!(rt; are_left(&rt, &tlb, &probes, stays), "after {what:?}");
     }
 }
 
@@ -380,13 +378,10 @@ fn fences_by_the_scheme(rt: HostRuntime) {
     for (scheme, va, stays) in &rows {
         let mut tlb = filled_in(*scheme, &probes);
         tlb.fence(Some(*va), None);
-        for (i, probe) in probes.iter().enumerate() {
-            assert_eq!(rt;
-                is_there(&rt, &tlb, probe),
-                stays[i],
-                "entry {i} of {scheme:?} after {va:x}"
-            );
-        }
+        assert!(rt;
+            are_left(&rt, &tlb, &probes, stays),
+            "of {scheme:?} after {va:x}"
+        );
     }
 }
 
