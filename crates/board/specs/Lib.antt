@@ -2,3 +2,5 @@ pub mod Ports
 pub mod Answers
 pub mod Reports
 pub mod Rows
+pub mod Seats
+pub mod Tables

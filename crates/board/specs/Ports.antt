@@ -4,14 +4,19 @@ use Rattle.std.specs.Option.{option_map}
 use Rattle.std.specs.List.{range_with_len}
 use Rattle.shoot.specs.Tickets.{TicketTable, no_tickets}
 use Rattle.tlb.specs.Entries.{TlbState}
-use Rattle.history.specs.Setup.{Setup}
+use Rattle.history.specs.Setup.{Setup, setup_of}
 use Rattle.rings.specs.Ends.{Ring, OutboxState, InboxState, new_outbox, new_inbox}
+use Rattle.spaces.specs.declared.configuration.Config.{Config}
+use Rattle.views.specs.declared.view.View.{View}
+use Rattle.views.specs.Rule.{starting}
 
--- what the board was opened with; which hart it is; its tickets and its TLB; and by the numbers of the harts the ends by which it
--- posts to each other hart and takes from it, none for itself
+-- what the board was opened with; which hart it is; its space; what it knows of the shared words; its tickets and its TLB; and by
+-- the numbers of the harts the ends by which it posts to each other hart and takes from it, none for itself
 pub record PortState : Type 0 where
   pub setup : Setup
   pub hart : ℕ
+  pub space : ℕ
+  pub view : View
   pub tickets : TicketTable
   pub tlb : TlbState
   pub outboxes : List (Option OutboxState)
@@ -81,17 +86,29 @@ pub record ArePorts (setup : Setup) (names : List PortName) : Type 0 where
   pub each : All IsPort names
   pub linked : (sender receiver : ℕ) → cell (map (λ name. name.outs) names) sender receiver ≡ cell (map (λ name. name.ins) names) receiver sender
 
--- a port that was just opened: no ticket is open, its TLB is empty, and nothing was posted or taken
-abbrev pub new_port : PortName → PortState
-new_port name = record {
+-- from which hart on a hart deals seats, 0 for none: hart 0 has dealt all others
+abbrev pub next_seat : Config → ℕ → ℕ
+next_seat config hart = if hart == 0 then config.harts else 0
+
+-- a port that was just opened: it is in space 0, has done nothing with the shared words, no ticket is open, its TLB is empty, and
+-- nothing was posted or taken
+abbrev pub new_port : Config → PortName → PortState
+new_port config name = record {
   setup = name.setup;
   hart = name.hart;
+  space = 0;
+  view = starting config name.hart (next_seat config name.hart);
   tickets = no_tickets name.hart;
   tlb = record { scheme = name.setup.layout.scheme; entries = [] };
   outboxes = map (option_map (λ e. new_outbox e.ring e.capacity)) name.outs;
   inboxes = map (option_map (λ e. new_inbox e.ring e.capacity)) name.ins;
 }
 
+-- a port that was just opened, over the words of a configuration with what it was opened with
+pub record IsNew (port : PortState) : Type 0 where
+  pub config : setup_of port.view.config ≡ port.setup
+  pub is_new : port ≡ new_port port.view.config (name_of port)
+
 -- ports that were just opened
 abbrev pub AreNew : List PortState → Type 0
-AreNew ports = All (λ port. port ≡ new_port (name_of port)) ports
+AreNew ports = All IsNew ports

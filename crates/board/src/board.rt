@@ -7,18 +7,21 @@ ghost use Rattle.history.specs.Setup.{setup_of};
 ghost use Rattle.board.specs.Ports.{AreNew, ArePorts, name_of};
 ghost use Rattle.board.specs.Reports.{IsReport};
 ghost use Rattle.board.specs.Rows.{IsNet};
+ghost use Rattle.board.specs.Seats.{AreSeats};
 
 use crate::closing::{gather, pair_reports};
 use crate::opening::open_rows;
 use crate::port::HartPort;
 use crate::receiver::Receiver;
 use crate::report::{PairReport, Report};
+use crate::seats::open_seats;
 use rings::Outbox;
 use shoot::MAX_HARTS;
 use spaces::{Config, OpenFault};
 use std::alloc::{AllocError, Global};
 use std::marker::Model;
 use std::sync::Arc;
+use views::{Memory, Place as Seat};
 
 /// The hart whose row stands behind these.
 fn hart_after(rows: &Vec<Vec<Option<Outbox>>>) -> u8
@@ -28,14 +31,18 @@ fn hart_after(rows: &Vec<Vec<Option<Outbox>>>) -> u8
     rows.len() as u8
 }
 
-/// A port for each hart, with its ends.
+/// A port for each hart, with its seat and its ends.
 pub(crate) fn deal(
     alloc: Global,
     config: &Arc<Config, Global>,
+    memory: &Arc<Memory, Global>,
+    mut seats: Vec<Seat>,
     mut outboxes: Vec<Vec<Option<Outbox>>>,
     mut inboxes: Vec<Vec<Option<Receiver>>>,
 ) -> Result<Vec<HartPort>, AllocError>
     requires limits { MeetsLimits max_live_frames (arc_value config.now) }
+    requires seats { AreSeats (arc_value memory.now).shared.table_id (arc_value memory.now).shared.key (arc_value config.now) 0 seats.items }
+    requires as_many { length seats.items ≡ (arc_value config.now).harts }
     requires net { IsNet (arc_value config.now).capacity (arc_value config.now).harts outboxes.items inboxes.items }
     ensures ports { IfOk result (λ ports. ArePorts (setup_of (arc_value config.now)) (map name_of ports.items)) }
     ensures new { IfOk result (λ ports. AreNew ports.items) }
@@ -45,8 +52,12 @@ pub(crate) fn deal(
         let Some(ins) = inboxes.pop() else {
             unreachable!()
         };
+        let Some(seat) = seats.pop() else {
+            unreachable!()
+        };
         let shared = Arc::try_clone(config)?;
-        let port = HartPort::new(shared, hart_after(&outboxes), outs, ins);
+        let words = Arc::try_clone(memory)?;
+        let port = HartPort::new(shared, words, seat, hart_after(&outboxes), outs, ins);
         ports.insert(0, port)?;
     }
     Ok(ports)
@@ -138,7 +149,8 @@ impl Board {
         let board = with_room(alloc, Arc::try_clone(&shared)?)?;
         let capacity = usize::from(config.capacity);
         let (outboxes, inboxes) = open_rows(alloc, capacity, usize::from(config.harts))?;
-        let ports = deal(alloc, &shared, outboxes, inboxes)?;
+        let (memory, seats) = open_seats(alloc, &shared)?;
+        let ports = deal(alloc, &shared, &memory, seats, outboxes, inboxes)?;
         Ok((board, ports))
     }
 

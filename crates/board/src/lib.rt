@@ -3,13 +3,18 @@
 
 mod board;
 mod closing;
+mod editing;
 mod laws;
+mod mapped;
 mod opening;
 mod port;
 mod receiver;
 mod report;
+mod seats;
+mod translating;
 
 pub use board::Board;
 pub use laws::pairs_of_three_harts;
+pub use mapped::Mapped;
 pub use port::HartPort;
 pub use report::{PairReport, Report};

@@ -19,16 +19,21 @@ use std::alloc::Global;
 use std::marker::Model;
 use std::sync::Arc;
 use tlb::Tlb;
+use views::{Memory, Place as Seat};
 
 /// What one hart does, in whatever thread it is. No call waits for another hart, or takes memory.
 #[derive(Drop)]
 pub struct HartPort {
-    config: Arc<Config, Global>,
-    hart: u8,
-    tickets: Tickets,
-    tlb: Tlb,
-    outboxes: Vec<Option<Outbox>>,
-    inboxes: Vec<Option<Receiver>>,
+    pub(crate) config: Arc<Config, Global>,
+    pub(crate) memory: Arc<Memory, Global>,
+    pub(crate) seat: Seat,
+    pub(crate) hart: u8,
+    pub(crate) space: u8,
+    pub(crate) used: u16,
+    pub(crate) tickets: Tickets,
+    pub(crate) tlb: Tlb,
+    pub(crate) outboxes: Vec<Option<Outbox>>,
+    pub(crate) inboxes: Vec<Option<Receiver>>,
 }
 
 impl Model for HartPort {
@@ -38,13 +43,15 @@ impl Model for HartPort {
     ghost use Rattle.spaces.specs.Limits.{max_live_frames, MeetsLimits};
     ghost use Rattle.history.specs.Setup.{setup_of};
     ghost use Rattle.board.specs.Ports.{PortState, IsPort, end_of_outbox, end_of_inbox};
+    ghost use Rattle.board.specs.Seats.{IsSeated};
 
     ghost Value = { PortState };
 
-    ghost view = { λ p. record { setup = setup_of (arc_value p.config); hart = p.hart; tickets = p.tickets; tlb = p.tlb; outboxes = p.outboxes.items; inboxes = p.inboxes.items } };
+    ghost view = { λ p. record { setup = setup_of (arc_value p.config); hart = p.hart; space = p.space; view = p.seat.me.0; tickets = p.tickets; tlb = p.tlb; outboxes = p.outboxes.items; inboxes = p.inboxes.items } };
 
     ghost invariant = { λ p. MeetsLimits max_live_frames (arc_value p.config) × (p.tickets.hart ≡ p.hart)
-        × IsPort (record { setup = setup_of (arc_value p.config); hart = p.hart; outs = map (option_map end_of_outbox) p.outboxes.items; ins = map (option_map end_of_inbox) p.inboxes.items }) };
+        × IsPort (record { setup = setup_of (arc_value p.config); hart = p.hart; outs = map (option_map end_of_outbox) p.outboxes.items; ins = map (option_map end_of_inbox) p.inboxes.items })
+        × IsSeated (arc_value p.memory).shared.table_id (arc_value p.memory).shared.key (arc_value p.config) p.seat p.hart p.space p.used };
 }
 
 /// Posts to an end, if it is there.
@@ -167,30 +174,38 @@ impl HartPort {
     ghost use Rattle.spaces.specs.Limits.{max_live_frames, MeetsLimits};
     ghost use Rattle.history.specs.Setup.{setup_of};
     ghost use Rattle.board.specs.Rows.{IsInRow, IsOutRow};
-    ghost use Rattle.board.specs.Ports.{inbox_from, IsPort, name_of, new_port, outbox_to};
+    ghost use Rattle.board.specs.Seats.{IsNewSeat};
+    ghost use Rattle.board.specs.Ports.{inbox_from, IsNew, IsPort, name_of, outbox_to};
     ghost use Rattle.board.specs.Answers.{ack_self_answer, after_ack_self, after_close_to, after_finish_of, after_flush, after_post, after_serve, close_answer, finish_answer, flush_answer, flush_refusal, is_there, post_refusal, request_of, ticket_refusal};
 
     /// A port of a hart that has done nothing yet.
     pub(crate) fn new(
         config: Arc<Config, Global>,
+        memory: Arc<Memory, Global>,
+        seat: Seat,
         hart: u8,
         outboxes: Vec<Option<Outbox>>,
         inboxes: Vec<Option<Receiver>>,
     ) -> HartPort
         requires limits { MeetsLimits max_live_frames (arc_value config) }
         requires hart { hart < (arc_value config).harts }
+        requires seat { IsNewSeat (arc_value memory).shared.table_id (arc_value memory).shared.key (arc_value config) hart seat }
         requires outboxes { IsOutRow (arc_value config).capacity hart (arc_value config).harts outboxes.items }
         requires inboxes { IsInRow (arc_value config).capacity hart (arc_value config).harts inboxes.items }
         ensures setup { result.setup ≡ setup_of (arc_value config) }
         ensures hart { result.hart ≡ hart }
         ensures ends { (result.outboxes ≡ outboxes.items) × (result.inboxes ≡ inboxes.items) }
         ensures port { IsPort (name_of result) }
-        ensures new { result ≡ new_port (name_of result) }
+        ensures new { IsNew result }
     {
         let scheme = config.scheme;
         HartPort {
             config,
+            memory,
+            seat,
             hart,
+            space: 0,
+            used: 0,
             tickets: Tickets::new(hart),
             tlb: Tlb::new_in(scheme),
             outboxes,
@@ -245,7 +260,7 @@ impl HartPort {
     }
 
     /// Whether each member of the set is a hart that is there: bit h stands for hart h.
-    fn are_harts(&self, named: u8) -> bool
+    pub(crate) fn are_harts(&self, named: u8) -> bool
         ensures { result ≡ are_harts self.now.setup named }
     {
         u16::from(named) < 1 << self.config.harts

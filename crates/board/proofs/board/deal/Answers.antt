@@ -6,11 +6,32 @@ use Rattle.std.specs.Arc.{arc_value}
 use Rattle.spaces.specs.declared.configuration.Config.{Config}
 use Rattle.history.specs.Setup.{setup_of}
 use Rattle.rings.specs.Ends.{OutboxState, InboxState}
-use Rattle.board.specs.Ports.{PortState, IsPort, name_of, new_port}
+use Rattle.board.specs.Ports.{PortState, IsNew, IsPort, name_of}
 use Rattle.board.specs.Rows.{IsInRow, IsOutRow, items_at}
 use Rattle.board.proofs.RowsGrow.{items-old, length-one_more}
 use Rattle.board.proofs.Deals.{all_and_first, dealt, nothing_in}
+use Rattle.board.specs.Seats.{AreSeats, IsNewSeat}
+use Rattle.board.proofs.SeatRows.{seats-front, seats-last}
 use Rattle.board.proofs.board.deal.Goals as goal
+
+pub new-port-requires-clause-seat : goal.new-port-requires-clause-seat
+new-port-requires-clause-seat c =
+    let i = c.loop-outs.invariant in
+    let config = arc_value c.args.config.now in
+    let words = (arc_value c.args.memory.now).shared in
+    let outs = c.pop.new.self.items in
+    let out = c.in-Some.outs in
+    let seats = c.pop-in-Some-2.new.self.items in
+    let seat = c.in-Some-pop-2.seat in
+    let ps : c.loop-outs.seats.items ≡ seats ++ seat ∷ [] = c.in-Some-pop-2.ensures.items in
+    let po : c.loop-outs.outboxes.items ≡ outs ++ out ∷ [] = c.in-Some.ensures.items in
+    let ls : length c.loop-outs.seats.items ≡ length seats + 1 = ap length ps ∙ length-one_more seats seat in
+    let lo : length c.loop-outs.outboxes.items ≡ length outs + 1 = ap length po ∙ length-one_more outs out in
+    let number : 0 + length seats ≡ length outs = omega (arith, ls, lo, i.seated) in
+    let last : IsNewSeat words.table_id words.key config (length outs) seat =
+    subst (λ h. IsNewSeat words.table_id words.key config h seat) number (seats-last words.table_id words.key config 0 seats seat (subst (AreSeats words.table_id words.key config 0) ps i.seats_are))
+    in
+    rw (c.in_ok-words.ensures, c.in_ok-shared.ensures, c.hart_after.ensures) last
 
 pub loop-outs-preserved : goal.loop-outs-preserved
 loop-outs-preserved c =
@@ -28,7 +49,14 @@ loop-outs-preserved c =
     let port = c.new-port.result in
     let put : c.insert.new.self.items ≡ port ∷ old = c.in_ok-insert.ensures.items in
     let hart : port.hart ≡ length outs = c.new-port.ensures.hart ∙ c.hart_after.ensures in
+    let seats = c.pop-in-Some-2.new.self.items in
+    let seat = c.in-Some-pop-2.seat in
+    let ps : c.loop-outs.seats.items ≡ seats ++ seat ∷ [] = c.in-Some-pop-2.ensures.items in
+    let ls : length c.loop-outs.seats.items ≡ length seats + 1 = ap length ps ∙ length-one_more seats seat in
+    let words = (arc_value c.args.memory.now).shared in
     record {
+      seated = omega (arith, ls, lo, i.seated);
+      seats_are = seats-front words.table_id words.key config 0 seats seat (subst (AreSeats words.table_id words.key config 0) ps i.seats_are);
       same = omega (arith, lo, li, i.same);
       count = rw put (omega (arith, lo, i.count));
       outs_are = λ h below. subst (λ (r : List (Option OutboxState)). IsOutRow config.capacity h config.harts r)
@@ -48,7 +76,7 @@ loop-outs-preserved c =
       numbered = rw put (ap₂ (λ (h : ℕ) (rest : List ℕ). h ∷ rest) hart (i.numbered ∙ ap (λ n. range_with_len n (length old)) lo));
       of_setup = rw put (all_and_first (λ (p : PortState). p.setup ≡ setup_of config) port old (c.new-port.ensures.setup ∙ ap (λ (a : Config). setup_of a) c.in_ok-shared.ensures) i.of_setup);
       each = rw put (all_and_first (λ (p : PortState). IsPort (name_of p)) port old c.new-port.ensures.port i.each);
-      are_new = rw put (all_and_first (λ (p : PortState). p ≡ new_port (name_of p)) port old c.new-port.ensures.new i.are_new);
+      are_new = rw put (all_and_first IsNew port old c.new-port.ensures.new i.are_new);
     }
 
 pub returns-clause-ports : goal.returns-clause-ports

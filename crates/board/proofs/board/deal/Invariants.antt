@@ -4,10 +4,13 @@ use Rattle.std.specs.Arc.{arc_value}
 use Rattle.history.specs.Setup.{setup_of}
 use Rattle.board.specs.Ports.{AreNew, IsPort, name_of}
 use Rattle.board.specs.Rows.{IsInRow, IsOutRow, items_at}
+use Rattle.board.specs.Seats.{AreSeats}
 use Rattle.board.proofs.board.deal.Given as goal
 
 abbrev pub invariant-loop-outs : goal.invariant-loop-outs
 invariant-loop-outs l = record {
+  seated : length l.seats.items ≡ length l.outboxes.items;
+  seats_are : AreSeats (arc_value l.fn.memory).shared.table_id (arc_value l.fn.memory).shared.key (arc_value l.fn.config) 0 l.seats.items;
   same : length l.inboxes.items ≡ length l.outboxes.items;
   count : length l.outboxes.items + length l.ports.items ≡ (arc_value l.fn.config).harts;
   outs_are : (hart : ℕ) → hart < length l.outboxes.items → IsOutRow (arc_value l.fn.config).capacity hart (arc_value l.fn.config).harts (items_at l.outboxes.items hart);

@@ -1,0 +1,110 @@
+//! A hart's space, its fences and its translations.
+
+ghost use Rattle.std.specs.Prelude.{◌≡◌, None, Some, Err};
+ghost use Rattle.pte.specs.Address.{IsCanonical};
+ghost use Rattle.walk.specs.Answer.{page_trap};
+ghost use Rattle.walk.specs.declared.found_or_trap.Why.{Why};
+ghost use Rattle.spaces.specs.Layout.{layout_of};
+ghost use Rattle.tlb.specs.declared.store.Entry.{Entry as EntryOf};
+ghost use Rattle.tlb.specs.Answer.{answer_of};
+ghost use Rattle.tlb.specs.Entries.{first_match};
+ghost use Rattle.views.specs.Rule.{IsFit, IsRoot};
+ghost use Rattle.views.specs.Walks.{AnswersByLoads};
+ghost use Rattle.board.specs.Ports.{name_of};
+ghost use Rattle.board.specs.Tables.{IsMissed, after_fence, after_switch, own_asid, switch_answer};
+
+use crate::port::HartPort;
+use history::Refusal;
+use pte::{Access, Ctx, VirtAddr};
+use spaces::Config;
+use tlb::Entry;
+use views::{Place as Seat, Words, walk};
+use walk::{Found, Trap, Why};
+
+/// A walk for a canonical address.
+fn walk_words(
+    words: &Words,
+    seat: &mut Seat,
+    config: &Config,
+    root: u64,
+    va: u64,
+    access: Access,
+    ctx: Ctx,
+) -> Result<Found, Trap>
+    requires fit { IsFit words.now.table_id words.now.key config.now seat.old }
+    requires root { IsRoot (layout_of config.now) root }
+    requires canonical { IsCanonical config.now.scheme va }
+    ensures fit { IsFit words.now.table_id words.now.key config.now seat.new }
+    ensures loads { AnswersByLoads (layout_of config.now) seat.old.me.0 root va access ctx result seat.new.me.0 }
+    ensures hart { seat.new.me.0.hart ≡ seat.old.me.0.hart }
+    ensures used { seat.new.me.0.used ≡ seat.old.me.0.used }
+{
+    walk(words, seat, config, root, va, access, ctx)
+}
+
+impl HartPort {
+    /// Goes to another space, as a write of satp does (privileged manual 4.1.11). The TLB stays. Refused with `NoSpace` if the
+    /// space is not there.
+    pub fn switch(&mut self, space: u8) -> Result<(), Refusal>
+        ensures answer { result ≡ switch_answer self.old space }
+        ensures after { self.new ≡ after_switch self.old space }
+        ensures same { name_of self.new ≡ name_of self.old }
+    {
+        if usize::from(space) >= self.config.spaces.len() {
+            return Err(Refusal::NoSpace);
+        }
+        self.space = space;
+        Ok(())
+    }
+
+    /// SFENCE.VMA on the own TLB; `None` is the register x0 (privileged manual 4.2.1).
+    pub fn fence(&mut self, rs1: Option<u64>, rs2: Option<u64>)
+        ensures after { self.new ≡ after_fence self.old rs1 rs2 }
+        ensures same { name_of self.new ≡ name_of self.old }
+    {
+        self.tlb.fence(rs1, rs2);
+    }
+
+    /// What a walk from the root of the hart's space answers. What it finds is filled in.
+    fn walk_and_fill(&mut self, asid: u16, va: u64, access: Access, ctx: Ctx) -> Result<u64, Trap>
+        requires canonical { IsCanonical self.old.setup.layout.scheme va }
+        requires asid { asid ≡ own_asid self.old }
+        ensures missed { IsMissed self.old va access ctx result self.new }
+        ensures same { name_of self.new ≡ name_of self.old }
+    {
+        let HartPort {
+            config,
+            memory,
+            seat,
+            space,
+            tlb,
+            ..
+        } = self;
+        let root = config.root(*space);
+        let found = match walk_words(&memory.shared, seat, config, root, va, access, ctx) {
+            Ok(found) => found,
+            Err(trap) => return Err(trap),
+        };
+        tlb.fill(Entry::found(asid, &found));
+        Ok(found.pa)
+    }
+
+    /// The physical address of a virtual one in the hart's space, or the exception that the access raises. The oldest entry of
+    /// the TLB that matches answers by its flags alone; without one a walk does, by the words that its own loads find in the
+    /// shared tables, and what it finds is filled in. Other harts may store between the loads.
+    pub fn translate(&mut self, va: u64, access: Access, ctx: Ctx) -> Result<u64, Trap>
+        ensures not_canonical { (¬ IsCanonical self.old.setup.layout.scheme va) → (result ≡ Err (page_trap access Why.NotCanonical)) × (self.new ≡ self.old) }
+        ensures hit { (entry : EntryOf) → IsCanonical self.old.setup.layout.scheme va → first_match self.old.tlb.entries (own_asid self.old) va ≡ Some entry → (result ≡ answer_of entry va access ctx) × (self.new ≡ self.old) }
+        ensures miss { IsCanonical self.old.setup.layout.scheme va → first_match self.old.tlb.entries (own_asid self.old) va ≡ None → IsMissed self.old va access ctx result self.new }
+        ensures same { name_of self.new ≡ name_of self.old }
+    {
+        let asid = self.config.spaces[usize::from(self.space)].asid;
+        let Some(address) = VirtAddr::new_in(self.config.scheme, va) else {
+            return Err(Trap::page(access, Why::NotCanonical));
+        };
+        if let Some(entry) = self.tlb.lookup(asid, address) {
+            return entry.translate(address, access, ctx);
+        }
+        self.walk_and_fill(asid, va, access, ctx)
+    }
+}

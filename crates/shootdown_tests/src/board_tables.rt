@@ -1,0 +1,286 @@
+use arrayvec::ArrayVec;
+use board::*;
+use history::Refusal;
+use pte::{Access, Ctx, Mode, Page, PageSize, PteFlags, Scheme, VirtAddr};
+use shoot::Collected;
+use spaces::{Config, Place, Space};
+use std::alloc::Global;
+use std::thread;
+use std::thread::Threads;
+use walk::{Trap, Why};
+
+/// So many harts, and spaces 0 and 1 of ASIDs 1 and 2, both at home on hart 0.
+fn layout(harts: u16) -> Config {
+    let mut spaces = ArrayVec::new();
+    spaces.push(Space { home: 0, asid: 1 });
+    spaces.push(Space { home: 0, asid: 2 });
+    let mut spares = ArrayVec::new();
+    for _ in 0..harts.min(8) {
+        spares.push(8);
+    }
+    Config {
+        scheme: Scheme::Sv39,
+        harts,
+        spaces,
+        window: 1,
+        base: 0x8_0000,
+        spares,
+        capacity: 4,
+    }
+}
+
+fn ports_of(alloc: Global, harts: u16) -> Option<Vec<HartPort>> {
+    let (_board, ports) = Board::open(alloc, &layout(harts)).ok()?;
+    Some(ports)
+}
+
+const USER: Ctx = Ctx {
+    mode: Mode::User,
+    sum: false,
+    mxr: false,
+};
+
+/// The page of 4 KiB at an address.
+fn page(va: u64) -> Option<Page> {
+    Page::new(VirtAddr::new(va)?, PageSize::Kib4).ok()
+}
+
+fn readable() -> PteFlags {
+    PteFlags::R | PteFlags::U | PteFlags::A | PteFlags::D
+}
+
+fn writable() -> PteFlags {
+    PteFlags::R | PteFlags::W | PteFlags::U | PteFlags::A | PteFlags::D
+}
+
+fn invalid(cause: u8) -> Result<u64, Trap> {
+    Err(Trap {
+        cause,
+        why: Why::Invalid,
+    })
+}
+
+#[test]
+fn home_reads_back(rt: HostRuntime) {
+    let (Some(mut ports), Some(page)) = (ports_of(rt.alloc(), 1), page(0x1000)) else {
+        assert!(&rt; false);
+        return;
+    };
+    let Some(mut port) = ports.pop() else {
+        assert!(&rt; false);
+        return;
+    };
+    let place = Place::Space(0);
+    assert!(&rt; port.translate(0x1004, Access::Load, USER) == invalid(13));
+    assert!(&rt; port.map_step(place, page, 0x100, readable()) == Ok(Mapped::Table(0x8_0003)));
+    assert!(&rt; port.map_step(place, page, 0x100, readable()) == Ok(Mapped::Table(0x8_0004)));
+    assert!(&rt; port.map_step(place, page, 0x100, readable()) == Ok(Mapped::Leaf));
+    assert!(&rt; port.map_step(place, page, 0x100, readable()) == Err(Refusal::AlreadyMapped));
+    assert!(&rt; port.translate(0x1004, Access::Load, USER) == Ok(0x10_0004));
+    assert!(&rt; port.unmap(place, page, 1) == Ok(0));
+    // the TLB answers until the hart serves its own ticket
+    assert!(&rt; port.translate(0x1008, Access::Load, USER) == Ok(0x10_0008));
+    assert!(&rt; port.ack_self(0) == Ok(Collected::Done));
+    assert!(&rt; port.translate(0x1004, Access::Load, USER) == invalid(13));
+    assert!(&rt; port.map_step(place, page, 0x101, readable()) == Ok(Mapped::Leaf));
+    assert!(&rt; port.translate(0x1004, Access::Load, USER) == Ok(0x10_1004));
+}
+
+#[test]
+fn refused_edits_store_nothing(rt: HostRuntime) {
+    let (Some(mut ports), Some(page)) = (ports_of(rt.alloc(), 2), page(0x1000)) else {
+        assert!(&rt; false);
+        return;
+    };
+    let (Some(mut one), Some(mut zero)) = (ports.pop(), ports.pop()) else {
+        assert!(&rt; false);
+        return;
+    };
+    let place = Place::Space(0);
+    for _ in 0..3 {
+        let _stored = zero.map_step(place, page, 0x100, writable());
+    }
+    assert!(&rt; one.map_step(place, page, 0x200, writable()) == Err(Refusal::NotHome));
+    assert!(&rt; one.map_step(Place::Space(2), page, 0x200, writable()) == Err(Refusal::NoSpace));
+    assert!(&rt; zero.unmap(Place::Space(2), page, 0b100) == Err(Refusal::NoHart));
+    assert!(&rt; zero.unmap(Place::Space(2), page, 0b10) == Err(Refusal::NoSpace));
+    assert!(&rt; zero.unmap(Place::Space(1), page, 0b10) == Err(Refusal::NotMapped));
+    assert!(&rt; zero.unmap(place, page, 0b10) == Err(Refusal::HomeNotNamed));
+    assert!(&rt; zero.protect(place, page, readable(), 0b10) == Err(Refusal::HomeNotNamed));
+    assert!(&rt; one.unmap(place, page, 0b11) == Err(Refusal::NotHome));
+    // both harts still find the page as it was mapped, by loads of their own
+    assert!(&rt; zero.translate(0x1000, Access::Store, USER) == Ok(0x10_0000));
+    assert!(&rt; one.translate(0x1000, Access::Store, USER) == Ok(0x10_0000));
+    // 64 tickets are opened by edits, and then none
+    for ticket in 0..64 {
+        let flags = if ticket % 2 == 0 {
+            readable()
+        } else {
+            writable()
+        };
+        assert!(&rt; zero.protect(place, page, flags, 0b11) == Ok(ticket));
+    }
+    assert!(&rt; zero.protect(place, page, readable(), 0b11) == Err(Refusal::NoTicket));
+    assert!(&rt; zero.unmap(place, page, 0b11) == Err(Refusal::NoTicket));
+    one.fence(None, None);
+    assert!(&rt; one.translate(0x1000, Access::Store, USER) == Ok(0x10_0000));
+}
+
+#[test]
+fn spaces_and_fences_are_told_apart(rt: HostRuntime) {
+    let (Some(mut ports), Some(page)) = (ports_of(rt.alloc(), 2), page(0x1000)) else {
+        assert!(&rt; false);
+        return;
+    };
+    let (Some(mut one), Some(mut zero)) = (ports.pop(), ports.pop()) else {
+        assert!(&rt; false);
+        return;
+    };
+    for _ in 0..3 {
+        let _first = zero.map_step(Place::Space(0), page, 0x100, writable());
+    }
+    for _ in 0..3 {
+        let _second = zero.map_step(Place::Space(1), page, 0x200, writable());
+    }
+    assert!(&rt; one.switch(2) == Err(Refusal::NoSpace));
+    assert!(&rt; one.translate(0x1004, Access::Store, USER) == Ok(0x10_0004));
+    assert!(&rt; one.switch(1) == Ok(()));
+    assert!(&rt; one.translate(0x1004, Access::Store, USER) == Ok(0x20_0004));
+    assert!(&rt; zero.protect(Place::Space(0), page, readable(), 1) == Ok(0));
+    assert!(&rt; zero.protect(Place::Space(1), page, readable(), 1) == Ok(1));
+    // the entries of both spaces are there, until a fence for one ASID drops its own
+    assert!(&rt; one.translate(0x1004, Access::Store, USER) == Ok(0x20_0004));
+    one.fence(None, Some(2));
+    let denied = Err(Trap {
+        cause: 15,
+        why: Why::Denied,
+    });
+    assert!(&rt; one.translate(0x1004, Access::Store, USER) == denied);
+    assert!(&rt; one.switch(0) == Ok(()));
+    assert!(&rt; one.translate(0x1004, Access::Store, USER) == Ok(0x10_0004));
+    one.fence(Some(0x1000), None);
+    assert!(&rt; one.translate(0x1004, Access::Store, USER) == denied);
+    assert!(&rt;
+        one.translate(0x40_0000_0000, Access::Load, USER)
+            == Err(Trap {
+                cause: 13,
+                why: Why::NotCanonical,
+            })
+    );
+}
+
+// By turns hart 0 maps the page to 0x100 and to 0x101, and unmaps it. Whether it was answered as its own tables say.
+fn map_by_turns(mut port: HartPort, page: Page, rounds: u64) -> bool {
+    let place = Place::Space(0);
+    let mut as_expected = true;
+    for round in 0..rounds {
+        let ppn = 0x100 + round % 2;
+        for _ in 0..3 {
+            if port.map_step(place, page, ppn, readable()) == Ok(Mapped::Leaf) {
+                break;
+            }
+        }
+        as_expected &= port.translate(0x1004, Access::Load, USER) == Ok(ppn * 0x1000 + 4);
+        as_expected &= port.unmap(place, page, 1) == Ok(0);
+        as_expected &= port.ack_self(0) == Ok(Collected::Done);
+        as_expected &= port.finish(0) == Ok(());
+        as_expected &= port.translate(0x1004, Access::Load, USER) == invalid(13);
+    }
+    as_expected
+}
+
+// How many answers were none of 0x100004, 0x101004 and trap 13 Invalid.
+fn other_answers(mut port: HartPort, times: u64) -> u64 {
+    let mut others = 0;
+    for _ in 0..times {
+        port.fence(None, None);
+        let answer = port.translate(0x1004, Access::Load, USER);
+        if answer != Ok(0x10_0004) && answer != Ok(0x10_1004) && answer != invalid(13) {
+            others += 1;
+        }
+    }
+    others
+}
+
+#[test]
+fn honest_loads(rt: HostRuntime) {
+    let (Some(mut ports), Some(page)) = (ports_of(rt.alloc(), 2), page(0x1000)) else {
+        assert!(&rt; false);
+        return;
+    };
+    let (Some(one), Some(zero)) = (ports.pop(), ports.pop()) else {
+        assert!(&rt; false);
+        return;
+    };
+    let (as_expected, others) = thread::join(
+        &rt,
+        move || map_by_turns(zero, page, 500),
+        move || other_answers(one, 1000),
+    );
+    assert!(&rt; as_expected);
+    assert!(&rt; others == 0);
+}
+
+// A hart that goes from space to space and fences now and then. How many answers were impossible: space 1 is not edited, and
+// the page of space 0 is one of two, or none.
+fn impossible_answers(mut port: HartPort, times: u64) -> u64 {
+    let mut others = 0;
+    for time in 0..times {
+        let moved = port.switch(1);
+        if moved != Ok(()) || port.translate(0x1004, Access::Load, USER) != Ok(0x20_0004) {
+            others += 1;
+        }
+        let _back = port.switch(0);
+        if time % 3 == 0 {
+            port.fence(Some(0x1000), None);
+        }
+        let answer = port.translate(0x1004, Access::Load, USER);
+        if answer != Ok(0x10_0004) && answer != Ok(0x10_1004) && answer != invalid(13) {
+            others += 1;
+        }
+    }
+    others
+}
+
+// One home edits, and three harts translate, each in a thread of its own.
+fn in_four_threads<R: Threads + Sync>(
+    rt: &R,
+    mut ports: Vec<HartPort>,
+    page: Page,
+) -> Option<(bool, u64)> {
+    let three = ports.pop()?;
+    let two = ports.pop()?;
+    let one = ports.pop()?;
+    let mut zero = ports.pop()?;
+    for _ in 0..3 {
+        let _stored = zero.map_step(Place::Space(1), page, 0x200, readable());
+    }
+    let ((as_expected, first), (second, third)) = thread::join(
+        rt,
+        move || {
+            thread::join(
+                rt,
+                move || map_by_turns(zero, page, 2000),
+                move || impossible_answers(one, 4000),
+            )
+        },
+        move || {
+            thread::join(
+                rt,
+                move || impossible_answers(two, 4000),
+                move || impossible_answers(three, 4000),
+            )
+        },
+    );
+    Some((as_expected, first + second + third))
+}
+
+#[test]
+fn three_translate_while_one_edits(rt: HostRuntime) {
+    let (Some(ports), Some(page)) = (ports_of(rt.alloc(), 4), page(0x1000)) else {
+        assert!(&rt; false);
+        return;
+    };
+    let answered = in_four_threads(&rt, ports, page);
+    assert!(&rt; answered == Some((true, 0)));
+}
