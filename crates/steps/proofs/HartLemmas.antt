@@ -1,5 +1,5 @@
 -- The harts that a word names: read one after another, and as a list of numbers.
-use Rattle.std.proofs.Common.{◌≡◌, ℕ, ◌≤◌, ◌&&◌, Bool, true, false, nat_lt, codes, List, [], ◌∷◌, length, Option, Some, None, option_map, option_and_then, Result, Ok, Err, refl, ◌∙◌, arith, slice_set, if◌then◌else◌}
+use Rattle.std.proofs.Common.{◌≡◌, ℕ, ◌≤◌, ◌&&◌, Bool, true, false, nat_lt, codes, List, [], ◌∷◌, length, Option, Some, None, option_map, option_and_then, Result, Ok, Err, refl, sym, ◌∙◌, arith, slice_set, if◌then◌else◌}
 use Rattle.std.specs.List.{fold, list_all}
 use Rattle.std.specs.Str.{bytes_eq}
 use Rattle.std.proofs.lemmas.Bool.Decides.{nat_tests}
@@ -101,10 +101,7 @@ not_less hart most e = grind (arith, nat_tests)
 
 set_by : (hart : ℕ) (set : List Bool) (b : Bool) → nat_lt hart MAX_HARTS ≡ b → length set ≡ MAX_HARTS → (if b then slice_set set hart true else set) ≡ slice_set set hart true
 set_by hart set true e long = refl
-set_by hart set false e long = let out : length set ≤ hart = rw long (not_less hart MAX_HARTS e) in sym_of (set_past set hart true out)
-  where
-    sym_of : {a b : List Bool} → a ≡ b → b ≡ a
-    sym_of h = cc
+set_by hart set false e long = let out : length set ≤ hart = rw long (not_less hart MAX_HARTS e) in sym (set_past set hart true out)
 
 sets_all : (named : NamedHarts) (ns : List ℕ) → length named.set ≡ MAX_HARTS → (with_all named ns).set ≡ with_harts named.set ns
 sets_all named [] long = refl

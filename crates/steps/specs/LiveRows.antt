@@ -1,4 +1,4 @@
--- Worked rows of the steps of `live`: what was worked out by hand from the tables of README.md.
+-- Worked rows of the steps of `live`: what was worked out by hand from the table of their texts.
 use Rattle.std.specs.Prelude.{◌≡◌, true, false, codes, Some, None, Ok, Err}
 use Rattle.pte.specs.declared.scheme.Scheme.TheVariants.{Sv39, Sv48}
 use Rattle.pte.specs.declared.address.PageSize.TheVariants.{Kib4, Mib2, Gib1, Gib512}

@@ -18,9 +18,8 @@ infixl 10 ◌>>=◌
 abbrev pub ◌>>=◌ : {A B : Type 0} → Option A → (A → Option B) → Option B
 read >>= f = option_and_then f read
 
--- ---- the names, each with the words after it
+-- ---- the names, each with the words after it, so many and no more
 
--- M A VA
 abbrev pub access_of_words : List ℕ → List (List ℕ) → Option Spelled
 access_of_words name words =
     if bytes_eq name (codes "begin") then (do

@@ -8,6 +8,8 @@ mod limits;
 #[cfg(test)]
 mod lines_written;
 #[cfg(test)]
+mod live_steps;
+#[cfg(test)]
 mod programs;
 #[cfg(test)]
 mod refusal_numbers;

@@ -1,0 +1,315 @@
+//! Lines of scripts and of the setup of `live`, and what they write.
+use bitflags::Flags;
+use history::{LiveStep, Scope};
+use pte::{Access, Ctx, Mode, Page, PageSize, PteFlags, Scheme, VirtAddr};
+use spaces::Place;
+use std::process::Abort;
+use std::test::Fail;
+use steps::{StepFault, live_step_among, run_step_among, setup_step_among};
+
+/// Each line of a script writes its step where there are 8 harts, in either scheme.
+fn assert_script(rt: &impl Abort, rows: &[(&str, LiveStep)]) {
+    for (line, step) in rows {
+        for scheme in [Scheme::Sv39, Scheme::Sv48] {
+            assert_eq!(rt; live_step_among(scheme, 8, line), Ok(*step), "{line}");
+        }
+    }
+}
+
+/// Each line of the setup writes its hart and step where there are 8 harts, in either scheme.
+fn assert_setup(rt: &impl Abort, rows: &[(&str, u8, LiveStep)]) {
+    for (line, hart, step) in rows {
+        for scheme in [Scheme::Sv39, Scheme::Sv48] {
+            assert_eq!(rt;
+                setup_step_among(scheme, 8, line),
+                Ok((*hart, *step)),
+                "{line}"
+            );
+        }
+    }
+}
+
+fn page(scheme: Scheme, base: u64, size: PageSize) -> Result<Page, Fail> {
+    let Some(base) = VirtAddr::new_in(scheme, base) else {
+        return Err(Fail::from("a canonical address was looked for"));
+    };
+    match Page::new(base, size) {
+        Ok(page) => Ok(page),
+        Err(_) => Err(Fail::from("an aligned address was looked for")),
+    }
+}
+
+fn translate(va: u64, access: Access, mxr: bool) -> LiveStep {
+    let (mode, sum) = (Mode::User, false);
+    let ctx = Ctx { mode, sum, mxr };
+    LiveStep::Translate { va, access, ctx }
+}
+
+#[test]
+fn lines_of_tickets(rt: HostRuntime) {
+    let (ticket, to, from) = (63, 7, 5);
+    assert_script(
+        &rt,
+        &[
+            ("post 63 0x7", LiveStep::Post { ticket, to }),
+            ("serve 5", LiveStep::Serve { from }),
+            ("ackself 0x3F", LiveStep::AckSelf { ticket }),
+            ("collect 63", LiveStep::Collect { ticket }),
+            ("finish 063", LiveStep::Finish { ticket }),
+            ("close 7", LiveStep::Close { to }),
+            (" wait\t63 ", LiveStep::Wait { ticket }),
+        ],
+    );
+    let ticket = u32::MAX;
+    assert_script(
+        &rt,
+        &[
+            ("wait 4294967295", LiveStep::Wait { ticket }),
+            ("collect 4294967295", LiveStep::Collect { ticket }),
+        ],
+    );
+}
+
+#[test]
+fn lines_of_fences(rt: HostRuntime) {
+    let access = Access::Fetch;
+    let (scope, named, space) = (Scope::Space(31), 0x81, 255);
+    let (rs1, rs2) = (None, Some(0xffff));
+    assert_script(
+        &rt,
+        &[
+            (
+                "translate u+mxr fetch 0x1004",
+                translate(0x1004, access, true),
+            ),
+            ("translate u fetch 1", translate(1, access, false)),
+            ("flush 31 7,0,7", LiveStep::Flush { scope, named }),
+            ("switch 255", LiveStep::Switch { space }),
+            ("fence x0 65535", LiveStep::Fence { rs1, rs2 }),
+        ],
+    );
+    let (scope, named) = (Scope::All, 0);
+    assert_script(&rt, &[("flush all -", LiveStep::Flush { scope, named })]);
+}
+
+#[test]
+fn lines_of_edits(rt: HostRuntime) -> Result<(), Fail> {
+    let page = page(Scheme::Sv39, 0xffff_ffff_c020_0000, PageSize::Mib2)?;
+    let (place, ppn, named) = (Place::Kernel, 0x200, 0x0a);
+    let flags = PteFlags::from_bits_retain(0xe6);
+    let map = LiveStep::Map {
+        place,
+        page,
+        ppn,
+        flags,
+    };
+    let unmap = LiveStep::Unmap { place, page, named };
+    let protect = LiveStep::Protect {
+        place,
+        page,
+        flags,
+        named,
+    };
+    assert_script(
+        &rt,
+        &[
+            ("map k 2M:0xFFFFFFFFC0200000 0x200 dagwr", map),
+            ("unmap k 2M:0xffffffffc0200000 1,3", unmap),
+            ("protect k 2M:0xffffffffc0200000 rwgad 3,1", protect),
+        ],
+    );
+    assert_setup(&rt, &[("2 unmap k 2M:0xffffffffc0200000 1,3", 2, unmap)]);
+    Ok(())
+}
+
+#[test]
+fn lines_of_the_setup(rt: HostRuntime) {
+    let (ticket, to, from) = (0, 0, 1);
+    assert_setup(
+        &rt,
+        &[
+            ("0 translate u load 4", 0, translate(4, Access::Load, false)),
+            ("7 post 0 0", 7, LiveStep::Post { ticket, to }),
+            (" 0x3\tserve 1", 3, LiveStep::Serve { from }),
+            ("06 collect 0", 6, LiveStep::Collect { ticket }),
+            ("1 wait 0", 1, LiveStep::Wait { ticket }),
+        ],
+    );
+}
+
+/// Each text has the fault as a line of a script, for so many harts.
+fn assert_script_faults(rt: &impl Abort, harts: u8, fault: StepFault, texts: &[&str]) {
+    for text in texts {
+        assert_eq!(rt;
+            live_step_among(Scheme::Sv39, harts, text),
+            Err(fault),
+            "{text}"
+        );
+    }
+}
+
+/// Each text has the fault as a line of the setup, for so many harts.
+fn assert_setup_faults(rt: &impl Abort, harts: u8, fault: StepFault, texts: &[&str]) {
+    for text in texts {
+        assert_eq!(rt;
+            setup_step_among(Scheme::Sv39, harts, text),
+            Err(fault),
+            "{text}"
+        );
+    }
+}
+
+#[test]
+fn lines_of_no_form(rt: HostRuntime) {
+    let texts = [
+        "",
+        "0",
+        "0 wait 1",
+        "wait",
+        "wait 1 2",
+        "Wait 1",
+        "wait 4294967296",
+        "wait -1",
+        "serve",
+        "serve 0 1",
+        "serve k",
+        "collect",
+        "collect 1 0",
+        "translate u load",
+        "translate u load 0 0",
+        "translate m load 0",
+        "begin u load 0",
+        "load",
+        "take 0",
+        "servefence",
+        "ack",
+        "retire 0",
+        "reclaim 0",
+        "create 0 1",
+        "map 0 4K:0 0",
+        "unmap 0 4k:0 0",
+        "flush 256 0",
+        "flush 0 9,",
+        "flush 0 18446744073709551616",
+    ];
+    assert_script_faults(&rt, 8, StepFault::NotStep, &texts);
+    assert_script_faults(&rt, 0, StepFault::NotStep, &texts);
+    let texts = [
+        "",
+        "0",
+        "wait 1",
+        "wait 0 1",
+        "0 0 wait 1",
+        "k wait 1",
+        "0 wait",
+        "0 take 1",
+        "9 load",
+        "9 begin u load 0",
+        "9 collect 1 0",
+        "9 retire 0",
+        "9 flush all 9,x",
+    ];
+    assert_setup_faults(&rt, 8, StepFault::NotStep, &texts);
+    assert_setup_faults(&rt, 0, StepFault::NotStep, &texts);
+}
+
+#[test]
+fn lines_of_live_alone(rt: HostRuntime) {
+    for text in [
+        "0 translate u load 0",
+        "0 serve 1",
+        "0 collect 1",
+        "0 wait 1",
+        "9 wait 1",
+    ] {
+        let step = run_step_among(Scheme::Sv39, 2, text);
+        assert_eq!(rt; step, Err(StepFault::NotStep), "{text}");
+    }
+}
+
+#[test]
+fn harts_that_are_not_there(rt: HostRuntime) {
+    let texts = [
+        "post 0 2",
+        "serve 2",
+        "close 2",
+        "close 256",
+        "close 18446744073709551615",
+        "flush all 0,2",
+        "flush all 2,0",
+        "flush all 256",
+        "flush 0 8",
+        "unmap 0 4K:0x1 2",
+        "protect 0 4K:0x1 r 1,2,0",
+    ];
+    assert_script_faults(&rt, 2, StepFault::NoSuchHart, &texts);
+    let texts = [
+        "2 wait 0",
+        "256 wait 0",
+        "0 serve 2",
+        "2 unmap 0 4K:0x1 0",
+        "0 unmap 0 4K:0x1 0,2",
+        "2 map 0 4K:0x1 0 r",
+    ];
+    assert_setup_faults(&rt, 2, StepFault::NoSuchHart, &texts);
+}
+
+#[test]
+fn pages_that_are_none(rt: HostRuntime) {
+    let texts = [
+        "map 0 4K:0x1 0 r",
+        "unmap 0 2M:0x1000 0,1",
+        "unmap k 4K:0x4000000000 -",
+        "protect 0 1G:0x200000 r 1",
+    ];
+    assert_script_faults(&rt, 2, StepFault::NotPage, &texts);
+    let texts = ["1 map 0 4K:0x1 0 r", "0 unmap 0 2M:0x1000 0,1"];
+    assert_setup_faults(&rt, 2, StepFault::NotPage, &texts);
+}
+
+#[test]
+fn pages_of_512_gib(rt: HostRuntime) -> Result<(), Fail> {
+    let page = page(Scheme::Sv48, 0x80_0000_0000, PageSize::Gib512)?;
+    let (place, named) = (Place::Space(0), 1);
+    let unmap = LiveStep::Unmap { place, page, named };
+    let line = "unmap 0 512G:0x8000000000 0";
+    assert_eq!(rt; live_step_among(Scheme::Sv48, 1, line), Ok(unmap));
+    assert_eq!(rt;
+        live_step_among(Scheme::Sv39, 1, line),
+        Err(StepFault::NotStep)
+    );
+    assert_eq!(rt;
+        live_step_among(Scheme::Sv39, 0, line),
+        Err(StepFault::NotStep)
+    );
+    let line = "0 unmap 0 512G:0x8000000000 0";
+    assert_eq!(rt; setup_step_among(Scheme::Sv48, 1, line), Ok((0, unmap)));
+    assert_eq!(rt;
+        setup_step_among(Scheme::Sv39, 1, line),
+        Err(StepFault::NotStep)
+    );
+    let line = "unmap 0 512G:0x40000000 0";
+    assert_eq!(rt;
+        live_step_among(Scheme::Sv48, 1, line),
+        Err(StepFault::NotPage)
+    );
+    Ok(())
+}
+
+#[test]
+fn more_harts_than_a_set_has(rt: HostRuntime) {
+    let scope = Scope::All;
+    let line = "flush all 0,9,254";
+    let flush = LiveStep::Flush { scope, named: 1 };
+    assert_eq!(rt; live_step_among(Scheme::Sv39, 255, line), Ok(flush));
+    let fault = Err(StepFault::NoSuchHart);
+    assert_eq!(rt; live_step_among(Scheme::Sv39, 254, line), fault);
+}
+
+/// The rows that were worked out by hand hold of the definitions.
+#[test]
+fn worked_rows_are_laws(_rt: HostRuntime) {
+    steps::worked_live_steps();
+    steps::worked_live_faults();
+    steps::worked_live_pages();
+}
