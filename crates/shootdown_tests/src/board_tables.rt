@@ -244,7 +244,7 @@ fn answers_possibly(mut port: HartPort, times: u64) -> bool {
     possible
 }
 
-// One home edits, and three harts translate, each in a thread of its own.
+// One home edits, and three harts translate, each in a thread of its own, by 100,000 calls and more.
 fn in_four_threads<R: Threads + Sync>(
     rt: &R,
     mut ports: Vec<HartPort>,
@@ -262,15 +262,15 @@ fn in_four_threads<R: Threads + Sync>(
         move || {
             thread::join(
                 rt,
-                move || map_by_turns(zero, page, 2000),
-                move || answers_possibly(one, 4000),
+                move || map_by_turns(zero, page, 17_000),
+                move || answers_possibly(one, 25_000),
             )
         },
         move || {
             thread::join(
                 rt,
-                move || answers_possibly(two, 4000),
-                move || answers_possibly(three, 4000),
+                move || answers_possibly(two, 25_000),
+                move || answers_possibly(three, 25_000),
             )
         },
     );
