@@ -3,6 +3,7 @@
 
 mod board;
 mod closing;
+mod collecting;
 mod editing;
 mod laws;
 mod mapped;
