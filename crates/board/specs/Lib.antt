@@ -6,3 +6,4 @@ pub mod Seats
 pub mod Tables
 pub mod Ties
 pub mod Collects
+pub mod Promises

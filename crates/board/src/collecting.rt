@@ -8,7 +8,7 @@ ghost use Rattle.std.specs.Option.{option_map};
 ghost use Rattle.rings.specs.Ends.{OutboxState};
 ghost use Rattle.board.specs.Ports.{element, end_of_outbox, name_of};
 ghost use Rattle.board.specs.Answers.{request_of};
-ghost use Rattle.board.specs.Ties.{awaits};
+ghost use Rattle.board.specs.Ties.{IsWithin, awaits};
 ghost use Rattle.board.specs.Collects.{AreAllCollected, IsCollected, after_found, is_awaiting};
 
 use crate::port::HartPort;
@@ -102,6 +102,13 @@ impl HartPort {
         ensures done { (result ≡ collected.Done) ↔ AreAllCollected self.now ticket }
     {
         self.tickets.progress(ticket)
+    }
+
+    /// Each entry of the TLB is one that the hart's view holds. Nothing is done: the clause is the fact.
+    pub fn held(&self)
+        ensures { IsWithin self.now.tlb.entries self.now.view.entries }
+    {
+        let _ = &self.tlb;
     }
 
     /// Looks at the cell of each other hart that an open ticket was posted to and that is not collected, the lowest first, with

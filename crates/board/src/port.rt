@@ -1,11 +1,11 @@
 //! A hart's port.
 
-ghost use Rattle.std.specs.Prelude.{◌≡◌, ◌≢◌, ◌<◌, true, false, IfOk, IfErr, OnOk, OnErr, IfSome, IfNone, IsTrue, Some, None, Err, Ok, length, [], ◌∷◌, map, slice_set};
+ghost use Rattle.std.specs.Prelude.{◌≡◌, ◌≢◌, ◌<◌, ◌↔◌, true, false, IfOk, IfErr, OnOk, OnErr, IfSome, IfNone, IsTrue, Some, None, Err, Ok, length, [], ◌∷◌, map, slice_set};
 ghost use mathlib.Core.List.{IsPrefix};
 ghost use Rattle.std.specs.Option.{option_map};
 ghost use Rattle.rings.specs.Ends.{after_close};
 ghost use Rattle.shoot.specs.declared.TheConstants.{MAX_TICKETS};
-ghost use Rattle.shoot.specs.Tickets.{is_open, progress_at};
+ghost use Rattle.shoot.specs.Tickets.{is_open};
 ghost use Rattle.board.specs.Ports.{element, end_of_outbox, end_of_inbox};
 ghost use Rattle.board.specs.Answers.{acked_by, outbox_refusal, outbox_with, inbox_with, known_room, known_waiting, is_closed_to};
 
@@ -190,17 +190,16 @@ fn is_closed_at(outboxes: &Vec<Option<Outbox>>, to: u8) -> bool
     is_closed(&outboxes[usize::from(to)])
 }
 
-/// The hart acknowledges an open ticket of its own, if that names it, and is told how far the ticket is then.
-fn acknowledge_own(tickets: &mut Tickets, ticket: u32, hart: u8) -> Collected
+/// The hart acknowledges an open ticket of its own, if that names it.
+fn acknowledge_own(tickets: &mut Tickets, ticket: u32, hart: u8)
     requires { IsTrue (is_open tickets.old ticket) }
-    ensures answer { result ≡ progress_at tickets.new ticket }
+    ensures open { IsTrue (is_open tickets.new ticket) }
     ensures after { tickets.new ≡ acked_by tickets.old ticket hart }
     ensures hart { tickets.new.hart ≡ tickets.old.hart }
 {
     if tickets.names(ticket, hart) {
         tickets.acked(ticket, hart);
     }
-    tickets.progress(ticket)
 }
 
 impl HartPort {
@@ -212,6 +211,8 @@ impl HartPort {
     ghost use Rattle.history.specs.Setup.{setup_of};
     ghost use Rattle.board.specs.Rows.{IsInRow, IsOutRow};
     ghost use Rattle.board.specs.Seats.{IsNewSeat};
+    ghost use Rattle.shoot.specs.declared.tickets.Collected.TheVariants as collected;
+    ghost use Rattle.board.specs.Collects.{AreAllCollected};
     ghost use Rattle.board.specs.Ports.{inbox_from, IsNew, IsPort, name_of, outbox_to};
     ghost use Rattle.board.specs.Answers.{ack_self_answer, after_ack_self, after_close_to, after_finish_of, after_flush, after_no_post, after_post, after_serve, close_answer, finish_answer, flush_answer, flush_refusal, is_there, post_refusal, request_of, ticket_refusal};
 
@@ -351,10 +352,12 @@ impl HartPort {
         }
     }
 
-    /// Serves an own ticket's request on the own TLB, and counts as collected. How far the ticket is then.
+    /// Serves an own ticket's request on the own TLB, and counts as collected. How far the ticket is then: it is done exactly if
+    /// each named hart is collected in the view.
     pub fn ack_self(&mut self, ticket: u32) -> Result<Collected, Refusal>
         ensures answer { result ≡ ack_self_answer self.old ticket }
         ensures after { self.new ≡ after_ack_self self.old ticket }
+        ensures done { is_open self.old.tickets ticket ≡ true → (result ≡ Ok collected.Done) ↔ AreAllCollected self.new ticket }
         ensures same { name_of self.new ≡ name_of self.old }
     {
         if !self.tickets.is_open(ticket) {
@@ -374,7 +377,8 @@ impl HartPort {
             ..
         } = self;
         serve_self(&memory.shared, seat, config, *hart, &request, tlb);
-        Ok(acknowledge_own(tickets, ticket, *hart))
+        acknowledge_own(tickets, ticket, *hart);
+        Ok(self.progress(ticket))
     }
 
     /// The request of an open ticket for another hart, to whom it was not posted yet.
