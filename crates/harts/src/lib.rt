@@ -7,7 +7,7 @@ mod locked;
 mod named;
 
 pub use blank::{Blank, List, Turns};
-pub use board::{Board, HartPort, PairReport, Report};
+pub use board::{Board, HartPort, Mapped, PairReport, Report};
 pub use book::Book;
 pub use locked::{Locked, Tally};
 pub use named::Named;

@@ -1,6 +1,6 @@
 -- The lines of the steps of `walk`: there is one text, and it is written line by line.
 use Rattle.pte.specs.declared.scheme.Scheme.{Scheme}
-use Rattle.std.proofs.Common.{◌≡◌, ℕ, ◌+◌, ◌<◌, true, false, Result, Err, List, [], ◌∷◌, ◌++◌, length, get_or, drop, refl, sym, ap, ◌∙◌, inl, inr, ◌⊎◌, append_assoc, append-nil, arith}
+use Rattle.std.proofs.Common.{codes, ◌≡◌, ℕ, ◌+◌, ◌<◌, true, false, Result, Err, List, [], ◌∷◌, ◌++◌, length, get_or, drop, refl, sym, ap, ◌∙◌, inl, inr, ◌⊎◌, append_assoc, append-nil, arith}
 use Rattle.std.proofs.lemmas.List.{drop_more}
 use Rattle.std.proofs.Math.Seq.{drop-length}
 use Rattle.pte.specs.declared.permission.Access.{Access}
@@ -65,3 +65,24 @@ some_lines scheme words root n (step ∷ steps) =
     let first = some_outcome scheme words root step.va step.access step.ctx in
     let rest = some_lines scheme words root (n + 1) steps in
     (line_of n first.0 ++ rest.0, (first.0, rest.0, first.1, refl, rest.1))
+
+-- pieces that were added one after another are the line of what was found
+pub found_line : (o d h z g : List ℕ) → o ++ d ++ codes " pa 0x" ++ h ++ codes " " ++ z ++ g ++ codes "\n"
+    ≡ o ++ (d ++ codes " " ++ (codes "pa " ++ (codes "0x" ++ h) ++ codes " " ++ z ++ g) ++ codes "\n")
+found_line o d h z g =
+    let n = codes "\n" in
+    let s = codes " " in
+    let p = codes " pa 0x" in
+    let a = codes "pa " ++ (codes "0x" ++ h) ++ s ++ z ++ g in
+    let left : o ++ d ++ p ++ h ++ s ++ z ++ g ++ n ≡ o ++ (d ++ (p ++ (h ++ (s ++ (z ++ (g ++ n)))))) =
+    append_assoc (o ++ d ++ p ++ h ++ s ++ z) g n
+    ∙ append_assoc (o ++ d ++ p ++ h ++ s) z (g ++ n)
+    ∙ append_assoc (o ++ d ++ p ++ h) s (z ++ (g ++ n))
+    ∙ append_assoc (o ++ d ++ p) h (s ++ (z ++ (g ++ n)))
+    ∙ append_assoc (o ++ d) p (h ++ (s ++ (z ++ (g ++ n))))
+    ∙ append_assoc o d (p ++ (h ++ (s ++ (z ++ (g ++ n))))) in
+    let page : h ++ s ++ z ++ g ++ n ≡ h ++ (s ++ (z ++ (g ++ n))) =
+    append_assoc (h ++ s ++ z) g n ∙ append_assoc (h ++ s) z (g ++ n) ∙ append_assoc h s (z ++ (g ++ n)) in
+    let right : d ++ s ++ a ++ n ≡ d ++ (p ++ (h ++ (s ++ (z ++ (g ++ n))))) =
+    append_assoc (d ++ s) a n ∙ append_assoc d s (a ++ n) ∙ ap (λ (t : List ℕ). d ++ (p ++ t)) page in
+    left ∙ sym (ap (λ (t : List ℕ). o ++ t) right)

@@ -1,5 +1,5 @@
 //! The lines of the answers of translations.
-ghost use Rattle.std.specs.Prelude.{◌≡◌, ◌<◌, ◌^◌, ◌++◌, OnOk, IfOk, string_bytes};
+ghost use Rattle.std.specs.Prelude.{◌≡◌, ◌<◌, ◌^◌, ◌++◌, Err, OnOk, IfOk, codes, string_bytes};
 ghost use Rattle.pte.specs.Entry.{ppn_bits};
 ghost use Rattle.lines.specs.AnswerLines.{global_text, line_of, size_text, why_text, WritesLines};
 
@@ -42,7 +42,29 @@ fn global_word(global: bool) -> &'static str
     if global { " global" } else { "" }
 }
 
+/// Adds the size of the page that was found, whether it is global, and the end of the line.
+fn push_page(text: &mut String, found: &Found) -> Result<(), AllocError>
+    ensures ok { OnOk result (string_bytes text.new ≡ string_bytes text.old ++ codes " " ++ size_text found.now.page.size ++ global_text found.now.global ++ codes "\n") }
+{
+    let size = size_word(found.page.size());
+    let end = global_word(found.global);
+    text.push_str(" ")?;
+    text.push_str(size)?;
+    text.push_str(end)?;
+    text.push_str("\n")
+}
+
+/// Adds the line of an exception.
+fn push_trap(text: &mut String, number: usize, trap: Trap) -> Result<(), AllocError>
+    ensures ok { OnOk result (string_bytes text.new ≡ string_bytes text.old ++ line_of number (Err trap)) }
+{
+    let cause = trap.cause;
+    let why = why_word(trap.why);
+    writeln!(text, "{number} trap {cause} {why}")
+}
+
 /// Adds the line of an answer.
+#[tactic(auto, using(crate::proofs::LineLemmas::found_line))]
 fn push_line(
     text: &mut String,
     number: usize,
@@ -52,21 +74,12 @@ fn push_line(
 {
     match answer {
         Ok(found) => {
-            let size = size_word(found.page.size());
-            let end = global_word(found.global);
             push_decimal(text, number)?;
             text.push_str(" pa 0x")?;
             push_hexadecimal(text, found.pa)?;
-            text.push_str(" ")?;
-            text.push_str(size)?;
-            text.push_str(end)?;
-            text.push_str("\n")
+            push_page(text, &found)
         }
-        Err(trap) => {
-            let cause = trap.cause;
-            let why = why_word(trap.why);
-            writeln!(text, "{number} trap {cause} {why}")
-        }
+        Err(trap) => push_trap(text, number, trap),
     }
 }
 

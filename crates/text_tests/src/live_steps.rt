@@ -118,6 +118,7 @@ fn lines_of_edits(rt: HostRuntime) -> Result<(), Fail> {
             ("protect k 2M:0xffffffffc0200000 rwgad 3,1", protect),
         ],
     );
+    let unmap = LiveStep::Unmap { place, page, named };
     assert_setup(&rt, &[("2 unmap k 2M:0xffffffffc0200000 1,3", 2, unmap)]);
     Ok(())
 }
@@ -282,6 +283,7 @@ fn pages_of_512_gib(rt: HostRuntime) -> Result<(), Fail> {
         live_step_among(Scheme::Sv39, 0, line),
         Err(StepFault::NotStep)
     );
+    let unmap = LiveStep::Unmap { place, page, named };
     let line = "0 unmap 0 512G:0x8000000000 0";
     assert_eq!(rt; setup_step_among(Scheme::Sv48, 1, line), Ok((0, unmap)));
     assert_eq!(rt;
