@@ -11,7 +11,7 @@ use Rattle.shoot.specs.declared.mailbox.PostFault.TheVariants as fault
 use Rattle.shoot.specs.declared.tickets.TicketFault.{TicketFault}
 use Rattle.shoot.specs.declared.tickets.TicketFault.TheVariants as ticket_fault
 use Rattle.shoot.specs.declared.tickets.Collected.{Collected}
-use Rattle.shoot.specs.Tickets.{TicketTable, is_open, names, is_posted, is_done_at, what_at, open_answer, progress_at, after_open, after_posted, after_acked, after_finish}
+use Rattle.shoot.specs.Tickets.{TicketTable, is_open, names, is_posted, is_done_at, what_at, open_answer, progress_at, after_open, after_posted, after_acked, after_collect, after_finish}
 use Rattle.refusals.specs.declared.refusal.Refusal.{Refusal}
 use Rattle.refusals.specs.declared.refusal.Refusal.TheVariants.{NoHart, NoSpace, HomeNotNamed, NoTicket, NotOpen, NotNamed, AlreadyPosted, Closed, Full, NotDone}
 use Rattle.history.specs.declared.event.Scope.{Scope}
@@ -20,6 +20,7 @@ use Rattle.history.specs.declared.event.Scope.TheVariants as scope
 use Rattle.history.specs.Orders.{scope_request}
 use Rattle.history.specs.Setup.{Setup}
 use Rattle.rings.specs.Ends.{OutboxState, InboxState, post_fault, with_accepted, with_taken, after_close}
+use Rattle.views.specs.OrderTurns.{dropped, ordered, self_acked, with_armed}
 use Rattle.board.specs.Ports.{PortState, outbox_to, inbox_from}
 
 -- refused if the test holds, else as the rest says
@@ -51,9 +52,13 @@ flush_answer port scope named = answer_or (flush_refusal port scope named) (open
 abbrev pub with_tickets : PortState → TicketTable → PortState
 with_tickets port tickets = record port { tickets = tickets }
 
+-- a port once a ticket was opened for this: its order is open in the view
+abbrev pub after_ordered : PortState → What → ℕ → Result ℕ Refusal → PortState
+after_ordered port what named (Ok ticket) = record port { view = ordered ticket what port.view; tickets = after_open port.tickets what named }
+after_ordered port what named (Err refusal) = port
+
 abbrev pub after_flush : PortState → Scope → ℕ → PortState
-after_flush port scope named =
-    if is_none (flush_refusal port scope named) then with_tickets port (after_open port.tickets (scope_request port.setup [] scope) named) else port
+after_flush port scope named = after_ordered port (scope_request port.setup [] scope) named (flush_answer port scope named)
 
 -- Post: what the ticket and the two harts say, and then what the mailbox says
 abbrev pub box_refusal : Option PostFault → Option Refusal
@@ -103,25 +108,31 @@ outbox_with message room outbox = option_map (λ o. with_accepted o message room
 abbrev pub inbox_with : Message → List Message → Option InboxState → Option InboxState
 inbox_with message known inbox = option_map (λ i. with_taken i message known) inbox
 
--- a port once the request of a ticket was accepted; the end then knows of so many free places
+-- a port once the request of a ticket was accepted: the cell was armed, and the end then knows of so many free places
 abbrev pub after_post : PortState → ℕ → ℕ → ℕ → PortState
 after_post port ticket to room = record port {
+  view = with_armed ticket to port.view;
   tickets = after_posted port.tickets ticket to;
   outboxes = slice_set port.outboxes to (outbox_with (request_of port.tickets ticket) room (outbox_to port to));
 }
+
+-- a port whose post was refused: the cell was armed exactly if only the ring had no place
+abbrev pub after_no_post : PortState → ℕ → ℕ → PortState
+after_no_post port ticket to = if is_none (post_refusal port ticket to) then record port { view = with_armed ticket to port.view } else port
 
 -- a TLB once a request was served
 abbrev pub tlb_served : TlbState → What → TlbState
 tlb_served tlb what = record tlb { entries = served tlb.entries what }
 
--- Serve: a port once it took a request and served it; the end then knows these to wait
+-- Serve: a port once it took a request, and dropped what it names from its TLB and its view; the end then knows these to wait
 abbrev pub after_serve : PortState → ℕ → Message → List Message → PortState
 after_serve port from message known = record port {
+  view = dropped message.what port.view;
   tlb = tlb_served port.tlb message.what;
   inboxes = slice_set port.inboxes from (inbox_with message known (inbox_from port from));
 }
 
--- AckSelf: the hart acknowledges its own ticket, if that names it
+-- AckSelf: the hart acknowledges its own ticket, if that names it, and is collected in the view too
 abbrev pub acked_by : TicketTable → ℕ → ℕ → TicketTable
 acked_by tickets ticket hart = if names tickets ticket hart then after_acked tickets ticket hart else tickets
 
@@ -130,8 +141,15 @@ ack_self_answer port ticket = if is_open port.tickets ticket then Ok (progress_a
 
 abbrev pub after_ack_self : PortState → ℕ → PortState
 after_ack_self port ticket =
-    if is_open port.tickets ticket then record port { tickets = acked_by port.tickets ticket port.hart; tlb = tlb_served port.tlb (what_of (what_at port.tickets ticket)) }
-    else port
+    if is_open port.tickets ticket then record port {
+      view = self_acked ticket (what_of (what_at port.tickets ticket)) port.view;
+      tickets = acked_by port.tickets ticket port.hart;
+      tlb = tlb_served port.tlb (what_of (what_at port.tickets ticket));
+    } else port
+
+-- Collect: a hart whose cell had the word of the ticket's request has acknowledged it, and is collected
+abbrev pub collected_by : TicketTable → ℕ → ℕ → TicketTable
+collected_by tickets ticket from = after_collect (after_acked tickets ticket from) ticket from
 
 -- Finish
 abbrev pub finish_answer : PortState → ℕ → Result (Unit {0}) Refusal

@@ -4,3 +4,6 @@ pub mod Reports
 pub mod Rows
 pub mod Seats
 pub mod Tables
+pub mod Ties
+pub mod Collects
+pub mod Promises

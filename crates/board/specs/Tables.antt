@@ -1,5 +1,5 @@
 -- What a port answers of its space, of translations and of edits, and what such a call leaves of it.
-use Rattle.std.specs.Prelude.{ℕ, Bool, true, ◌≡◌, not, [], Option, None, Result, Ok, Err, if◌then◌else◌, slice_index}
+use Rattle.std.specs.Prelude.{ℕ, Bool, true, false, ◌≡◌, not, [], Option, None, Result, Ok, Err, if◌then◌else◌, slice_index}
 use Rattle.pte.specs.declared.address.What.{What}
 use Rattle.pte.specs.declared.address.What.TheVariants.{PageOf}
 use Rattle.pte.specs.declared.entry.Kind.{Kind}
@@ -12,6 +12,7 @@ use Rattle.walk.specs.declared.found_or_trap.Trap.{Trap}
 use Rattle.spaces.specs.declared.places.Place.{Place}
 use Rattle.spaces.specs.declared.places.Place.TheVariants.{Space, Kernel}
 use Rattle.spaces.specs.declared.wishes.Wish.{Wish}
+use Rattle.spaces.specs.declared.wishes.Wish.TheVariants.{Map, Unmap, Protect}
 use Rattle.spaces.specs.declared.faults.MapFault.{MapFault}
 use Rattle.spaces.specs.Edits.{Store, page_of, place_of}
 use Rattle.spaces.specs.Layout.{root_ppn}
@@ -87,6 +88,12 @@ mapped_by (kinds.Table ppn global) = mapped.Table ppn
 mapped_by kinds.Invalid = mapped.Leaf
 mapped_by kinds.Reserved = mapped.Leaf
 mapped_by (kinds.Leaf ppn flags) = mapped.Leaf
+
+-- the wish is to map
+abbrev pub is_map : Wish → Bool
+is_map (Map place page ppn flags) = true
+is_map (Unmap place page) = false
+is_map (Protect place page flags) = false
 
 -- Map: NoSpace, and then what the edit says
 abbrev pub mapped_of : Result Store MapFault → Result Mapped Refusal

@@ -1,6 +1,6 @@
 //! Edits of tables by their home.
 
-ghost use Rattle.std.specs.Prelude.{◌≡◌, Ok, IsTrue, []};
+ghost use Rattle.std.specs.Prelude.{◌≡◌, Ok, IsTrue, [], true, false};
 ghost use Rattle.pte.specs.Entry.{kind_of};
 ghost use Rattle.spaces.specs.declared.wishes.Wish.TheVariants as wish;
 ghost use Rattle.spaces.specs.Edits.{page_of, place_of};
@@ -8,7 +8,7 @@ ghost use Rattle.spaces.specs.Layout.{HasPlace};
 ghost use Rattle.history.specs.Refusal.{refusal_of};
 ghost use Rattle.history.specs.Spaces.{asid_in};
 ghost use Rattle.board.specs.Ports.{name_of};
-ghost use Rattle.board.specs.Tables.{after_edit, after_map, after_store, due_store, edit_answer, has_place, map_answer, mapped_by};
+ghost use Rattle.board.specs.Tables.{after_edit, after_map, after_store, due_store, edit_answer, has_place, is_map, map_answer, mapped_by};
 
 use crate::mapped::Mapped;
 use crate::port::HartPort;
@@ -91,11 +91,12 @@ impl HartPort {
         decide(&memory.shared, seat, config, *hart, *used, wish)
     }
 
-    /// Makes the store of an edit that is due. An unmap or a protect opened the ticket.
-    fn store(&mut self, edit: &Edit, wish: &Wish, ticket: u32)
+    /// Makes the store of a map that is due.
+    fn store_map(&mut self, edit: &Edit, wish: &Wish)
+        requires map { is_map wish.now ≡ true }
         requires place { HasPlace self.old.setup.layout (place_of wish.now) }
         requires due { due_store self.old wish.now ≡ Ok edit.now }
-        ensures after { self.new ≡ after_store self.old wish.now ticket (Ok edit.now) }
+        ensures after { self.new ≡ after_store self.old wish.now 0 (Ok edit.now) }
         ensures same { name_of self.new ≡ name_of self.old }
     {
         let HartPort {
@@ -105,7 +106,7 @@ impl HartPort {
             used,
             ..
         } = self;
-        store(&memory.shared, seat, config, used, edit, wish, ticket);
+        store(&memory.shared, seat, config, used, edit, wish, 0);
     }
 
     /// Makes the one store that is due next to map a page to a PPN: a pointer to a new table, after which the same step is due
@@ -134,12 +135,13 @@ impl HartPort {
             Ok(edit) => edit,
             Err(fault) => return Err(refusal(fault)),
         };
-        self.store(&edit, &wish, 0);
+        self.store_map(&edit, &wish);
         Ok(mapped(edit.word()))
     }
 
     /// Opens a ticket for a page and makes the one store of an edit of it.
     fn edit(&mut self, wish: &Wish, place: Place, page: Page, named: u8) -> Result<u32, Refusal>
+        requires no_map { is_map wish.now ≡ false }
         requires place { place ≡ place_of wish.now }
         requires page { page ≡ page_of wish.now }
         ensures answer { result ≡ edit_answer self.old wish.now named }
@@ -157,12 +159,20 @@ impl HartPort {
             Err(fault) => return Err(refusal(fault)),
         };
         let what = self.page_request(place, page);
-        let ticket = match self.tickets.open(what, named) {
+        let HartPort {
+            config,
+            memory,
+            seat,
+            used,
+            tickets,
+            ..
+        } = self;
+        let ticket = match tickets.open(what, named) {
             Ok(ticket) => ticket,
             Err(TicketFault::HomeNotNamed) => return Err(Refusal::HomeNotNamed),
             Err(TicketFault::NoTicket) => return Err(Refusal::NoTicket),
         };
-        self.store(&edit, wish, ticket);
+        store(&memory.shared, seat, config, used, &edit, wish, ticket);
         Ok(ticket)
     }
 

@@ -1,9 +1,16 @@
 //! What the definitions of this crate say of a worked row. The function does nothing, and its clause is the fact.
 
 ghost use Rattle.std.specs.Prelude.{◌≡◌, [], ◌∷◌};
+ghost use Rattle.board.specs.Promises.{DoneIsClean};
 ghost use Rattle.board.specs.Reports.{pairs_of};
 
 /// The pairs of three harts, in the order of a report.
 pub fn pairs_of_three_harts()
     ensures { pairs_of 3 3 ≡ (0, 1) ∷ (0, 2) ∷ (1, 0) ∷ (1, 2) ∷ (2, 0) ∷ (2, 1) ∷ [] }
+{}
+
+/// Once each hart that an unmapping's ticket names is collected (`collect` or `ack_self` answered `Done`), no TLB of a named
+/// hart translates an address of the page in any address space of the place, until the home maps a leaf over it.
+pub fn done_is_clean()
+    ensures { DoneIsClean }
 {}

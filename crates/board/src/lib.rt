@@ -3,6 +3,7 @@
 
 mod board;
 mod closing;
+mod collecting;
 mod editing;
 mod laws;
 mod mapped;
@@ -14,7 +15,7 @@ mod seats;
 mod translating;
 
 pub use board::Board;
-pub use laws::pairs_of_three_harts;
+pub use laws::{done_is_clean, pairs_of_three_harts};
 pub use mapped::Mapped;
 pub use port::HartPort;
 pub use report::{PairReport, Report};

@@ -1,10 +1,11 @@
 //! A hart's port.
 
-ghost use Rattle.std.specs.Prelude.{◌≡◌, ◌<◌, true, false, IfOk, IfErr, OnOk, OnErr, IfSome, IfNone, IsTrue, Some, None, Err, Ok, length, [], ◌∷◌, map, slice_set};
+ghost use Rattle.std.specs.Prelude.{◌≡◌, ◌≢◌, ◌<◌, ◌↔◌, true, false, IfOk, IfErr, OnOk, OnErr, IfSome, IfNone, IsTrue, Some, None, Err, Ok, length, [], ◌∷◌, map, slice_set};
 ghost use mathlib.Core.List.{IsPrefix};
 ghost use Rattle.std.specs.Option.{option_map};
 ghost use Rattle.rings.specs.Ends.{after_close};
-ghost use Rattle.shoot.specs.Tickets.{is_open, progress_at};
+ghost use Rattle.shoot.specs.declared.TheConstants.{MAX_TICKETS};
+ghost use Rattle.shoot.specs.Tickets.{is_open};
 ghost use Rattle.board.specs.Ports.{element, end_of_outbox, end_of_inbox};
 ghost use Rattle.board.specs.Answers.{acked_by, outbox_refusal, outbox_with, inbox_with, known_room, known_waiting, is_closed_to};
 
@@ -19,7 +20,7 @@ use std::alloc::Global;
 use std::marker::Model;
 use std::sync::Arc;
 use tlb::Tlb;
-use views::{Memory, Place as Seat};
+use views::{Memory, Place as Seat, arm, open_order, serve, serve_self};
 
 /// What one hart does, in whatever thread it is. No call waits for another hart, or takes memory.
 #[derive(Drop)]
@@ -44,6 +45,7 @@ impl Model for HartPort {
     ghost use Rattle.history.specs.Setup.{setup_of};
     ghost use Rattle.board.specs.Ports.{PortState, IsPort, end_of_outbox, end_of_inbox};
     ghost use Rattle.board.specs.Seats.{IsSeated};
+    ghost use Rattle.board.specs.Ties.{AreCounted, AreTied, IsWithin};
 
     ghost Value = { PortState };
 
@@ -51,7 +53,19 @@ impl Model for HartPort {
 
     ghost invariant = { λ p. MeetsLimits max_live_frames (arc_value p.config) × (p.tickets.hart ≡ p.hart)
         × IsPort (record { setup = setup_of (arc_value p.config); hart = p.hart; outs = map (option_map end_of_outbox) p.outboxes.items; ins = map (option_map end_of_inbox) p.inboxes.items })
-        × IsSeated (arc_value p.memory).shared.table_id (arc_value p.memory).shared.key (arc_value p.config) p.seat p.hart p.space p.used };
+        × IsSeated (arc_value p.memory).shared.table_id (arc_value p.memory).shared.key (arc_value p.config) p.seat p.hart p.space p.used
+        × AreTied (arc_value p.config) p.seat.me.0.orders p.tickets × AreCounted p.tickets p.outboxes.items × IsWithin p.tlb.entries p.seat.me.0.entries };
+}
+
+/// The request of a ticket whose number is below 64.
+fn request(ticket: u32, what: &What) -> Request
+    requires { ticket < MAX_TICKETS }
+    ensures { result ≡ record { ticket = ticket; what = what.now } }
+{
+    Request {
+        ticket,
+        what: *what,
+    }
 }
 
 /// Posts to an end, if it is there.
@@ -119,6 +133,29 @@ fn post_at(outboxes: &mut Vec<Option<Outbox>>, to: u8, request: Request) -> Resu
     post_to(outbox, request)
 }
 
+/// Why an end refuses a post, whatever its ring has room for.
+fn refusal_of_end(outbox: &Option<Outbox>) -> Option<Refusal>
+    ensures { result ≡ outbox_refusal outbox.now }
+{
+    let Some(outbox) = outbox else {
+        return Some(Refusal::NoHart);
+    };
+    match outbox.post_fault() {
+        Some(PostFault::Closed) => Some(Refusal::Closed),
+        Some(PostFault::Full) => Some(Refusal::Full),
+        None => None,
+    }
+}
+
+/// Why one of the ends refuses a post, whatever its ring has room for.
+#[tactic(auto, using(crate::proofs::Counts::at_index))]
+fn refusal_at(outboxes: &Vec<Option<Outbox>>, to: u8) -> Option<Refusal>
+    requires { to < length outboxes.now.items }
+    ensures { result ≡ outbox_refusal (element outboxes.now.items to) }
+{
+    refusal_of_end(&outboxes[usize::from(to)])
+}
+
 /// Takes from one of the ends.
 #[tactic(auto, using(crate::proofs::Counts::inboxes_kept, crate::proofs::Counts::there_set, crate::proofs::Counts::put_back))]
 fn take_at(inboxes: &mut Vec<Option<Receiver>>, from: u8) -> Option<Request>
@@ -153,30 +190,31 @@ fn is_closed_at(outboxes: &Vec<Option<Outbox>>, to: u8) -> bool
     is_closed(&outboxes[usize::from(to)])
 }
 
-/// The hart acknowledges an open ticket of its own, if that names it, and is told how far the ticket is then.
-fn acknowledge_own(tickets: &mut Tickets, ticket: u32, hart: u8) -> Collected
+/// The hart acknowledges an open ticket of its own, if that names it.
+fn acknowledge_own(tickets: &mut Tickets, ticket: u32, hart: u8)
     requires { IsTrue (is_open tickets.old ticket) }
-    ensures answer { result ≡ progress_at tickets.new ticket }
+    ensures open { IsTrue (is_open tickets.new ticket) }
     ensures after { tickets.new ≡ acked_by tickets.old ticket hart }
     ensures hart { tickets.new.hart ≡ tickets.old.hart }
 {
     if tickets.names(ticket, hart) {
         tickets.acked(ticket, hart);
     }
-    tickets.progress(ticket)
 }
 
 impl HartPort {
     ghost use Rattle.history.specs.Due.{are_harts, are_pair};
     ghost use Rattle.history.specs.Orders.{scope_request};
-    ghost use Rattle.shoot.specs.Tickets.{names};
+    ghost use Rattle.shoot.specs.Tickets.{is_posted, names};
     ghost use Rattle.std.specs.Arc.{arc_value};
     ghost use Rattle.spaces.specs.Limits.{max_live_frames, MeetsLimits};
     ghost use Rattle.history.specs.Setup.{setup_of};
     ghost use Rattle.board.specs.Rows.{IsInRow, IsOutRow};
     ghost use Rattle.board.specs.Seats.{IsNewSeat};
+    ghost use Rattle.shoot.specs.declared.tickets.Collected.TheVariants as collected;
+    ghost use Rattle.board.specs.Collects.{AreAllCollected};
     ghost use Rattle.board.specs.Ports.{inbox_from, IsNew, IsPort, name_of, outbox_to};
-    ghost use Rattle.board.specs.Answers.{ack_self_answer, after_ack_self, after_close_to, after_finish_of, after_flush, after_post, after_serve, close_answer, finish_answer, flush_answer, flush_refusal, is_there, post_refusal, request_of, ticket_refusal};
+    ghost use Rattle.board.specs.Answers.{ack_self_answer, after_ack_self, after_close_to, after_finish_of, after_flush, after_no_post, after_post, after_serve, close_answer, finish_answer, flush_answer, flush_refusal, is_there, post_refusal, request_of, ticket_refusal};
 
     /// A port of a hart that has done nothing yet.
     pub(crate) fn new(
@@ -226,21 +264,24 @@ impl HartPort {
     }
 
     /// How many harts there are.
-    fn harts(&self) -> u16
+    pub(crate) fn harts(&self) -> u16
         ensures harts { result ≡ self.now.setup.harts }
         ensures own { self.now.hart < result }
         ensures outboxes { length self.now.outboxes ≡ result }
         ensures inboxes { length self.now.inboxes ≡ result }
+        ensures spares { length self.now.setup.layout.spares ≡ result }
     {
         let _ = &self.outboxes;
         self.config.harts
     }
 
     /// Whether it is a hart that is there, and another one.
-    fn is_other(&self, hart: u8) -> bool
+    pub(crate) fn is_other(&self, hart: u8) -> bool
         ensures pair { result ≡ are_pair self.now.setup self.now.hart hart }
         ensures outbox { IsTrue result → hart < length self.now.outboxes }
         ensures inbox { IsTrue result → hart < length self.now.inboxes }
+        ensures spare { IsTrue result → hart < length self.now.setup.layout.spares }
+        ensures other { IsTrue result → hart ≢ self.now.hart }
     {
         u16::from(hart) < self.harts() && hart != self.hart
     }
@@ -278,11 +319,22 @@ impl HartPort {
         let Some(what) = self.what(scope) else {
             return Err(Refusal::NoSpace);
         };
-        match self.tickets.open(what, named) {
-            Ok(ticket) => Ok(ticket),
-            Err(TicketFault::HomeNotNamed) => Err(Refusal::HomeNotNamed),
-            Err(TicketFault::NoTicket) => Err(Refusal::NoTicket),
-        }
+        let HartPort {
+            config,
+            memory,
+            seat,
+            hart,
+            tickets,
+            ..
+        } = self;
+        let ticket = match tickets.open(what, named) {
+            Ok(ticket) => ticket,
+            Err(TicketFault::HomeNotNamed) => return Err(Refusal::HomeNotNamed),
+            Err(TicketFault::NoTicket) => return Err(Refusal::NoTicket),
+        };
+        let request = request(ticket, &what);
+        open_order(&memory.shared, seat, config, *hart, &request);
+        Ok(ticket)
     }
 
     /// Frees the number of a ticket whose named harts are all collected.
@@ -300,18 +352,33 @@ impl HartPort {
         }
     }
 
-    /// Serves an own ticket's request on the own TLB, and counts as collected. How far the ticket is then.
+    /// Serves an own ticket's request on the own TLB, and counts as collected. How far the ticket is then: it is done exactly if
+    /// each named hart is collected in the view.
     pub fn ack_self(&mut self, ticket: u32) -> Result<Collected, Refusal>
         ensures answer { result ≡ ack_self_answer self.old ticket }
         ensures after { self.new ≡ after_ack_self self.old ticket }
+        ensures done { is_open self.old.tickets ticket ≡ true → (result ≡ Ok collected.Done) ↔ AreAllCollected self.new ticket }
         ensures same { name_of self.new ≡ name_of self.old }
     {
         if !self.tickets.is_open(ticket) {
             return Err(Refusal::NotOpen);
         }
-        let what = self.tickets.what(ticket);
-        self.tlb.serve(&what);
-        Ok(acknowledge_own(&mut self.tickets, ticket, self.hart))
+        let request = Request {
+            ticket,
+            what: self.tickets.what(ticket),
+        };
+        let HartPort {
+            config,
+            memory,
+            seat,
+            hart,
+            tickets,
+            tlb,
+            ..
+        } = self;
+        serve_self(&memory.shared, seat, config, *hart, &request, tlb);
+        acknowledge_own(tickets, ticket, *hart);
+        Ok(self.progress(ticket))
     }
 
     /// The request of an open ticket for another hart, to whom it was not posted yet.
@@ -321,6 +388,9 @@ impl HartPort {
         ensures allowed { OnOk result (ticket_refusal self.now ticket to ≡ None) }
         ensures names { OnOk result (IsTrue (names self.now.tickets ticket to)) }
         ensures there { OnOk result (to < length self.now.outboxes) }
+        ensures spare { OnOk result (to < length self.now.setup.layout.spares) }
+        ensures other { OnOk result (to ≢ self.now.hart) }
+        ensures unposted { OnOk result (is_posted self.now.tickets ticket to ≡ false) }
     {
         if !self.is_other(to) {
             return Err(Refusal::NoHart);
@@ -347,12 +417,25 @@ impl HartPort {
         ensures refused { (refusal : Refusal) → post_refusal self.old ticket to ≡ Some refusal → result ≡ Err refusal }
         ensures full { post_refusal self.old ticket to ≡ None → IfErr result (λ refusal. (refusal ≡ Refusal.Full) × (known_room (outbox_to self.old to) ≡ 0)) }
         ensures accepted { OnOk result (self.new ≡ after_post self.old ticket to (known_room (outbox_to self.new to))) }
-        ensures unchanged { OnErr result (self.new ≡ self.old) }
+        ensures unchanged { OnErr result (self.new ≡ after_no_post self.old ticket to) }
         ensures same { name_of self.new ≡ name_of self.old }
     {
         let request = self.request_to(ticket, to)?;
-        post_at(&mut self.outboxes, to, request)?;
-        self.tickets.posted(ticket, to);
+        if let Some(refusal) = refusal_at(&self.outboxes, to) {
+            return Err(refusal);
+        }
+        let HartPort {
+            config,
+            memory,
+            seat,
+            hart,
+            tickets,
+            outboxes,
+            ..
+        } = self;
+        arm(&memory.shared, seat, config, *hart, ticket, to);
+        post_at(outboxes, to, request)?;
+        tickets.posted(ticket, to);
         Ok(())
     }
 
@@ -373,7 +456,15 @@ impl HartPort {
         let Some(request) = take_at(&mut self.inboxes, from) else {
             return Err(Refusal::Empty);
         };
-        self.tlb.serve(&request.what);
+        let HartPort {
+            config,
+            memory,
+            seat,
+            hart,
+            tlb,
+            ..
+        } = self;
+        serve(&memory.shared, seat, config, *hart, from, &request, tlb);
         Ok(request)
     }
 

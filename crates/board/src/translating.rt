@@ -9,7 +9,8 @@ ghost use Rattle.tlb.specs.declared.store.Entry.{Entry as EntryOf};
 ghost use Rattle.tlb.specs.Answer.{answer_of};
 ghost use Rattle.tlb.specs.Entries.{first_match};
 ghost use Rattle.views.specs.Rule.{IsFit, IsRoot};
-ghost use Rattle.views.specs.Walks.{AnswersByLoads};
+ghost use Rattle.views.specs.Turns.{asid_at};
+ghost use Rattle.views.specs.Walks.{AnswersByLoads, with_found};
 ghost use Rattle.board.specs.Ports.{name_of};
 ghost use Rattle.board.specs.Tables.{IsMissed, after_fence, after_switch, own_asid, switch_answer};
 
@@ -38,6 +39,8 @@ fn walk_words(
     ensures loads { AnswersByLoads (layout_of config.now) seat.old.me.0 root va access ctx result seat.new.me.0 }
     ensures hart { seat.new.me.0.hart ≡ seat.old.me.0.hart }
     ensures used { seat.new.me.0.used ≡ seat.old.me.0.used }
+    ensures orders { seat.new.me.0.orders ≡ seat.old.me.0.orders }
+    ensures entries { seat.new.me.0.entries ≡ with_found (asid_at seat.old.me.0.config root) seat.old.me.0.entries result }
 {
     walk(words, seat, config, root, va, access, ctx)
 }

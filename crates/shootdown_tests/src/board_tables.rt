@@ -10,7 +10,7 @@ use std::thread::Threads;
 use walk::{Trap, Why};
 
 /// So many harts, and spaces 0 and 1 of ASIDs 1 and 2, both at home on hart 0.
-fn layout(harts: u16) -> Config {
+pub(crate) fn layout(harts: u16) -> Config {
     let mut spaces = ArrayVec::new();
     spaces.push(Space { home: 0, asid: 1 });
     spaces.push(Space { home: 0, asid: 2 });
@@ -31,23 +31,23 @@ fn layout(harts: u16) -> Config {
     }
 }
 
-fn ports_of(alloc: Global, harts: u16) -> Option<Vec<HartPort>> {
+pub(crate) fn ports_of(alloc: Global, harts: u16) -> Option<Vec<HartPort>> {
     let (_board, ports) = Board::open(alloc, &layout(harts)).ok()?;
     Some(ports)
 }
 
-const USER: Ctx = Ctx {
+pub(crate) const USER: Ctx = Ctx {
     mode: Mode::User,
     sum: false,
     mxr: false,
 };
 
 /// The page of 4 KiB at an address.
-fn page(va: u64) -> Option<Page> {
+pub(crate) fn page(va: u64) -> Option<Page> {
     Page::new(VirtAddr::new(va)?, PageSize::Kib4).ok()
 }
 
-fn readable() -> PteFlags {
+pub(crate) fn readable() -> PteFlags {
     PteFlags::R | PteFlags::U | PteFlags::A | PteFlags::D
 }
 
@@ -55,7 +55,7 @@ fn writable() -> PteFlags {
     PteFlags::R | PteFlags::W | PteFlags::U | PteFlags::A | PteFlags::D
 }
 
-fn invalid(cause: u8) -> Result<u64, Trap> {
+pub(crate) fn invalid(cause: u8) -> Result<u64, Trap> {
     Err(Trap {
         cause,
         why: Why::Invalid,

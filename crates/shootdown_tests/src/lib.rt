@@ -4,6 +4,8 @@
 #[cfg(test)]
 mod acknowledgements;
 #[cfg(test)]
+mod board_shootdowns;
+#[cfg(test)]
 mod board_tables;
 #[cfg(test)]
 mod boards;

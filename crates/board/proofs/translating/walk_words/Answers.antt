@@ -18,4 +18,4 @@ pub returns : goal.returns
 returns c =
     let e = c.walk.ensures in
     let loads = by-loads _ _ _ _ _ _ _ _ c.requires.canonical e.walked in
-    record { fit = e.fit; loads = loads; hart = loads.home.hart; used = loads.home.used }
+    record { fit = e.fit; loads = loads; hart = loads.home.hart; used = loads.home.used; orders = loads.home.orders; entries = loads.entries }

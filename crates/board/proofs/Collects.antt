@@ -1,0 +1,51 @@
+-- A sender's look for acknowledgements: harts one by one, and when a ticket is done.
+use Rattle.std.proofs.Common.{◌≡◌, ◌∙◌, sym, ap, refl, subst, ℕ, ◌+◌, Bool, true, false, List, [], ◌∷◌, Option, Some, None, arith}
+use Rattle.std.specs.Prelude.{◌↔◌, IsTrue, if◌then◌else◌, is_some, unwrap_or}
+use Rattle.shoot.specs.HartSet.{byte_of, contains}
+use Rattle.shoot.specs.declared.tickets.Ticket.{Ticket}
+use Rattle.shoot.specs.declared.tickets.Collected.TheVariants.{Done, Waiting}
+use Rattle.shoot.specs.Tickets.{TicketTable, is_done, is_open, names, progress_at, progress_with, tells, ticket_at, uncollected}
+use Rattle.shoot.proofs.HartBytes.{done}
+use Rattle.shoot.proofs.HartSets.{by_test}
+use Rattle.spaces.specs.declared.configuration.Config.{Config}
+use Rattle.views.specs.declared.view.Order.{Order}
+use Rattle.views.specs.Orders.{is_in}
+use Rattle.views.specs.OrderTurns.{open_order}
+use Rattle.board.specs.Ports.{PortState}
+use Rattle.board.specs.Ties.{AreTied, IsTied}
+use Rattle.board.specs.Collects.{AreAwaited, IsCollected, after_found, is_awaiting}
+use Rattle.board.proofs.Ties.{contains_within}
+
+wider : (port : PortState) (ticket bound : ℕ) (found : List ℕ) → AreAwaited port ticket bound found → AreAwaited port ticket (bound + 1) found
+wider port ticket bound [] are = tt
+wider port ticket bound (x ∷ xs) are = (let less = are.0 in omega (arith, less), are.1, are.2)
+
+-- one hart more
+pub collected_step : (port : PortState) (ticket from : ℕ) (mid after : PortState) (r : Bool) → IsCollected port ticket from mid → (IsTrue r → IsTrue (is_awaiting mid ticket from))
+    → after ≡ (if r then after_found mid ticket from else mid) → IsCollected port ticket (from + 1) after
+collected_step port ticket from mid after true i awaited e = record {
+  found = from ∷ i.found;
+  awaited = (omega arith, subst (λ p. IsTrue (is_awaiting p ticket from)) i.is (awaited refl), i.awaited);
+  is = e ∙ ap (λ p. after_found p ticket from) i.is;
+}
+collected_step port ticket from mid after false i awaited e = record { found = i.found; awaited = wider port ticket from i.found i.awaited; is = e ∙ i.is }
+
+-- a ticket is done exactly if each hart that it names is collected for its order
+pub all_collected : (c : Config) (ks : List Order) (T : TicketTable) (n : ℕ) → IsTrue (is_open T n) → AreTied c ks T
+    → (progress_at T n ≡ Done) ↔ ((k : Order) → open_order n ks ≡ Some k → (h : ℕ) → names T n h ≡ true → is_in h k.collected ≡ true)
+all_collected c ks T n there was = by (ticket_at T n) (open_order n ks) there (was.each n)
+  where
+    by : (x : Option Ticket) (o : Option Order) → is_some x ≡ true → IsTied c T.hart x o
+        → (progress_with x ≡ Done) ↔ ((k : Order) → o ≡ Some k → (h : ℕ) → tells (λ t. t.named) x h ≡ true → is_in h k.collected ≡ true)
+    by None o there tied = absurd cc
+    by (Some t) None there tied = absurd tied
+    by (Some t) (Some k) there tied = (
+      (λ e k' same h named.
+          let all : is_done t ≡ true = by_test (λ b. (if b then Done else Waiting (byte_of (uncollected t))) ≡ Done → b ≡ true) (is_done t) (λ d f. refl) (λ d f. absurd cc) e in
+          let less = contains_within t.named h named in
+          let got : contains t.collected h ≡ true = (done t).0 all h (omega (arith, less, tied.0.named_harts)) named in
+          ap (λ (o : Option Order). is_in h (unwrap_or o k).collected) (sym same) ∙ (tied.1.collected h named ∙ got)),
+      (λ all.
+          let d : is_done t ≡ true = (done t).1 (λ h low named. sym (tied.1.collected h named) ∙ all k refl h named) in
+          rw d refl),
+    )

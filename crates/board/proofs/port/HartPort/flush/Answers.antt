@@ -1,0 +1,19 @@
+use Rattle.std.proofs.Common.{rules, refl, sym, ◌∙◌}
+use Rattle.std.specs.Arc.{arc_value}
+use Rattle.views.specs.declared.view.Cause.TheVariants.{Other}
+use Rattle.board.proofs.Ties.{counted_opened, tied_opened}
+use Rattle.board.proofs.port.HartPort.flush.Goals as goal
+
+pub invariant_of-self-2 : goal.invariant_of-self-2
+invariant_of-self-2 c =
+    let i = c.self.invariant in
+    let opened = sym c.open.ensures.answer ∙ c.in-Ok.is in (
+      i.0,
+      search rules,
+      i.2,
+      search rules,
+      rw (c.open.ensures.after, c.open_order.ensures.view, c.request-request.ensures)
+          (tied_opened (arc_value c.self.inside.config) c.self.inside.seat.me.0.orders c.self.inside.tickets c.in-Some.what c.args.named c.in-Ok.ticket (Other c.in-Some.what) opened refl i.4),
+      rw c.open.ensures.after (counted_opened c.self.inside.tickets c.self.inside.outboxes.items c.in-Some.what c.args.named c.in-Ok.ticket opened i.5),
+      rw c.open_order.ensures.view i.6,
+    )

@@ -1,0 +1,33 @@
+-- What a sender may rely on once an unmapping's ticket is done.
+use Rattle.std.specs.Prelude.{ℕ, ◌≡◌, ◌<◌, Some, List, length, true}
+use mathlib.Core.Option.{some}
+use lib.ListN.{get_elem?}
+use Rattle.atomic_table.specs.Table.{State}
+use Rattle.pte.specs.Address.{Holds, Span}
+use Rattle.tlb.specs.declared.store.Entry.{Entry}
+use Rattle.tlb.specs.Mappings.{IsMappedBy, Translates}
+use Rattle.shoot.specs.Tickets.{names}
+use Rattle.spaces.specs.declared.configuration.Config.{Config}
+use Rattle.spaces.specs.declared.places.Place.{Place}
+use Rattle.spaces.specs.Layout.{layout_of}
+use Rattle.views.specs.declared.view.Order.{Order}
+use Rattle.views.specs.declared.view.View.{View}
+use Rattle.views.specs.Board.{Board}
+use Rattle.views.specs.Orders.{IsAsidFor, IsLive}
+use Rattle.views.specs.OrderTurns.{open_order}
+use Rattle.board.specs.Ports.{PortState}
+use Rattle.board.specs.Ties.{IsWithin}
+use Rattle.board.specs.Collects.{AreAllCollected}
+
+-- the entries translate no address of the page in any address space of the place
+abbrev pub TranslateNone : Config → List Entry → Place → Span → Type 0
+TranslateNone c entries place page = (asid va : ℕ) → IsAsidFor c place asid → Holds page va → ¬ Translates (IsMappedBy entries) asid va
+
+-- Of an open ticket whose order is an unmapping that is not marked anew: once each hart that it names is collected, the TLB of
+-- none of them translates an address of the page. `port` and `other` are ports whose views are those of two seats now, the
+-- sender's and that of a named hart.
+abbrev pub DoneIsClean : Type 0
+DoneIsClean = (c : Config) (s : State ℕ View) → Board c s → (i : ℕ) (port : PortState) → get_elem? s.views i ≡ some port.view
+    → (ticket : ℕ) (k : Order) → open_order ticket port.view.orders ≡ Some k → (place : Place) (page : Span) → IsLive k place page → AreAllCollected port ticket
+    → (j : ℕ) (other : PortState) → get_elem? s.views j ≡ some other.view → other.view.hart < length (layout_of c).spares → names port.tickets ticket other.view.hart ≡ true
+    → IsWithin other.tlb.entries other.view.entries → TranslateNone c other.tlb.entries place page

@@ -1,0 +1,66 @@
+-- What ties a port's tickets to the orders of its view and to its ends, and its TLB to what its view holds.
+use Rattle.std.specs.Prelude.{ℕ, ◌≡◌, ◌≢◌, ◌+◌, ◌&&◌, Bool, true, false, not, List, [], ◌∷◌, length, Option, Some, None, Contains, if◌then◌else◌}
+use Rattle.tlb.specs.declared.store.Entry.{Entry}
+use Rattle.shoot.specs.HartSet.{contains}
+use Rattle.shoot.specs.declared.TheConstants.{MAX_HARTS}
+use Rattle.shoot.specs.declared.tickets.Ticket.{Ticket}
+use Rattle.shoot.specs.Tickets.{TicketTable, ticket_at}
+use Rattle.rings.specs.Ends.{OutboxState}
+use Rattle.spaces.specs.declared.configuration.Config.{Config}
+use Rattle.views.specs.declared.view.Order.{Order}
+use Rattle.views.specs.Orders.{asked, is_in}
+use Rattle.views.specs.OrderTurns.{open_order}
+use Rattle.board.specs.Ports.{element}
+
+-- the order under an open ticket asks for what the ticket asks; the cell of each hart that the ticket was posted to was armed for
+-- it; and of the named harts it has collected just those that the ticket has
+pub record IsOrderOf (c : Config) (ticket : Ticket) (k : Order) : Type 0 where
+  pub asks : asked c k.cause ≡ ticket.what
+  pub armed : (h : ℕ) → contains ticket.posted h ≡ true → is_in h k.armed ≡ true
+  pub collected : (h : ℕ) → contains ticket.named h ≡ true → is_in h k.collected ≡ contains ticket.collected h
+
+-- the ticket's sets are sets of harts; it was posted to harts that it names alone, and a hart other than its own is collected
+-- only where it was posted to
+pub record IsWhole (home : ℕ) (ticket : Ticket) : Type 0 where
+  pub named_harts : length ticket.named ≡ MAX_HARTS
+  pub posted_harts : length ticket.posted ≡ MAX_HARTS
+  pub acked_harts : length ticket.acked ≡ MAX_HARTS
+  pub collected_harts : length ticket.collected ≡ MAX_HARTS
+  pub posted : (h : ℕ) → contains ticket.posted h ≡ true → contains ticket.named h ≡ true
+  pub collected : (h : ℕ) → h ≢ home → contains ticket.collected h ≡ true → contains ticket.posted h ≡ true
+
+-- the ticket of a number, if it is open, has this open order
+abbrev pub IsTied : Config → ℕ → Option Ticket → Option Order → Type 0
+IsTied c home None order = Unit {0}
+IsTied c home (Some ticket) None = ⊥
+IsTied c home (Some ticket) (Some k) = IsWhole home ticket × IsOrderOf c ticket k
+
+-- so it is with each ticket
+pub record AreTied (c : Config) (orders : List Order) (tickets : TicketTable) : Type 0 where
+  pub each : (n : ℕ) → IsTied c tickets.hart (ticket_at tickets n) (open_order n orders)
+
+-- the ticket was posted to the hart, and the hart is not collected
+abbrev pub awaits : ℕ → Option Ticket → Bool
+awaits hart None = false
+awaits hart (Some ticket) = contains ticket.posted hart && not (contains ticket.collected hart)
+
+-- how many of them there are
+abbrev pub one_if : Bool → ℕ
+one_if b = if b then 1 else 0
+
+abbrev pub count_awaiting : ℕ → List (Option Ticket) → ℕ
+count_awaiting hart [] = 0
+count_awaiting hart (ticket ∷ tickets) = one_if (awaits hart ticket) + count_awaiting hart tickets
+
+-- an end has so many outstanding
+abbrev pub HasOutstanding : ℕ → Option OutboxState → Type 0
+HasOutstanding count None = Unit {0}
+HasOutstanding count (Some outbox) = outbox.outstanding ≡ count
+
+-- what is outstanding at each end is what was posted by it and not collected
+pub record AreCounted (tickets : TicketTable) (outboxes : List (Option OutboxState)) : Type 0 where
+  pub each : (hart : ℕ) → hart ≢ tickets.hart → HasOutstanding (count_awaiting hart tickets.tickets) (element outboxes hart)
+
+-- each entry of the TLB is one that the view holds
+pub record IsWithin (tlb held : List Entry) : Type 0 where
+  pub each : (e : Entry) → Contains tlb e → Contains held e
