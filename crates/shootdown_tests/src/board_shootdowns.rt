@@ -90,6 +90,27 @@ fn whole_shootdown(rt: HostRuntime) {
     assert!(&rt; zero.collect(64) == Err(Refusal::NotOpen));
 }
 
+// Hart 1 asks hart 0: what hart 0 acknowledges, it acknowledges to the hart that asked.
+#[test]
+fn asked_by_hart_1(rt: HostRuntime) {
+    let Some(page) = page(0x1000) else {
+        assert!(&rt; false);
+        return;
+    };
+    let Some((mut zero, mut one)) = with_page(ports_of(rt.alloc(), 2), page) else {
+        assert!(&rt; false);
+        return;
+    };
+    assert!(&rt; zero.translate(0x1004, Access::Load, USER) == Ok(0x10_0004));
+    assert!(&rt; one.flush(Scope::Space(0), 0b11) == Ok(0));
+    assert!(&rt; one.post(0, 0) == Ok(()));
+    assert!(&rt; one.collect(0) == Ok(Collected::Waiting(0b11)));
+    assert!(&rt; zero.serve(1).is_ok());
+    assert!(&rt; one.collect(0) == Ok(Collected::Waiting(0b10)));
+    assert!(&rt; one.ack_self(0) == Ok(Collected::Done));
+    assert!(&rt; one.finish(0) == Ok(()));
+}
+
 // The capacity of 4 counts the requests that are not collected: each one that is makes room for one more.
 #[test]
 fn collecting_makes_room(rt: HostRuntime) {
