@@ -1,4 +1,5 @@
-//! Harts that are threads and share no lock: a port for each hart, with which it posts requests to other harts and serves theirs.
+//! Harts that are threads and share no lock: a port for each hart, with which it edits and walks shared
+//! tables, posts requests to other harts, serves theirs, and collects what they acknowledged.
 #![tactic(auto)]
 
 mod board;

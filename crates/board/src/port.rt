@@ -410,8 +410,8 @@ impl HartPort {
         })
     }
 
-    /// Posts the request of an open ticket to another hart that it names. `Full` also where the ring between the harts has no
-    /// place that this end knows to be free.
+    /// Arms the cell of another hart that an open ticket names, and then posts the ticket's request to it. `Full` also where the
+    /// ring between the harts has no place that this end knows to be free; then the cell is armed nonetheless.
     #[tactic(auto, using(crate::proofs::Counts::outboxes_kept))]
     pub fn post(&mut self, ticket: u32, to: u8) -> Result<(), Refusal>
         ensures refused { (refusal : Refusal) → post_refusal self.old ticket to ≡ Some refusal → result ≡ Err refusal }
@@ -439,8 +439,8 @@ impl HartPort {
         Ok(())
     }
 
-    /// Takes the oldest request of another hart that came through, and drops what it names from the own TLB. `Empty` only where
-    /// this end knew of no request that waits.
+    /// Takes the oldest request of another hart that came through, drops what it names from the own TLB, and then stores the
+    /// acknowledgement. `Empty` only where this end knew of no request that waits.
     #[tactic(auto, using(crate::proofs::Counts::inboxes_kept))]
     pub fn serve(&mut self, from: u8) -> Result<Request, Refusal>
         ensures no_hart { are_pair self.old.setup self.old.hart from ≡ false → result ≡ Err Refusal.NoHart }
