@@ -1,6 +1,6 @@
 -- A sender's look for acknowledgements: harts one by one, and when a ticket is done.
-use Rattle.std.proofs.Common.{◌≡◌, ◌∙◌, sym, ap, refl, subst, ℕ, ◌+◌, Bool, true, false, List, [], ◌∷◌, Option, Some, None, arith}
-use Rattle.std.specs.Prelude.{◌↔◌, IsTrue, if◌then◌else◌, is_some, unwrap_or}
+use Rattle.std.proofs.Common.{◌≡◌, ◌∙◌, sym, ap, refl, ℕ, ◌+◌, Bool, true, false, List, ◌∷◌, Option, Some, None, arith}
+use Rattle.std.specs.Prelude.{◌↔◌, ◌==◌, IsTrue, if◌then◌else◌, is_some, unwrap_or}
 use Rattle.shoot.specs.HartSet.{byte_of, contains}
 use Rattle.shoot.specs.declared.tickets.Ticket.{Ticket}
 use Rattle.shoot.specs.declared.tickets.Collected.TheVariants.{Done, Waiting}
@@ -10,25 +10,25 @@ use Rattle.shoot.proofs.HartSets.{by_test}
 use Rattle.spaces.specs.declared.configuration.Config.{Config}
 use Rattle.views.specs.declared.view.Order.{Order}
 use Rattle.views.specs.Orders.{is_in}
-use Rattle.views.specs.OrderTurns.{open_order}
+use Rattle.views.specs.OrderTurns.{last_word, open_order}
 use Rattle.board.specs.Ports.{PortState}
 use Rattle.board.specs.Ties.{AreTied, IsTied}
-use Rattle.board.specs.Collects.{AreAwaited, IsCollected, after_found, is_awaiting}
+use Rattle.board.specs.Collects.{IsCollected, after_look, after_looks, awaited_word, is_awaiting, look_at}
 use Rattle.board.proofs.Ties.{contains_within}
 
-wider : (port : PortState) (ticket bound : ℕ) (found : List ℕ) → AreAwaited port ticket bound found → AreAwaited port ticket (bound + 1) found
-wider port ticket bound [] are = tt
-wider port ticket bound (x ∷ xs) are = (let less = are.0 in omega (arith, less), are.1, are.2)
-
 -- one hart more
-pub collected_step : (port : PortState) (ticket from : ℕ) (mid after : PortState) (r : Bool) → IsCollected port ticket from mid → (IsTrue r → IsTrue (is_awaiting mid ticket from))
-    → after ≡ (if r then after_found mid ticket from else mid) → IsCollected port ticket (from + 1) after
-collected_step port ticket from mid after true i awaited e = record {
-  found = from ∷ i.found;
-  awaited = (omega arith, subst (λ p. IsTrue (is_awaiting p ticket from)) i.is (awaited refl), i.awaited);
-  is = e ∙ ap (λ p. after_found p ticket from) i.is;
-}
-collected_step port ticket from mid after false i awaited e = record { found = i.found; awaited = wider port ticket from i.found i.awaited; is = e ∙ i.is }
+pub collected_step : (port : PortState) (ticket from : ℕ) (mid after : PortState) (is_found : Bool) → IsCollected port ticket from mid → (is_awaiting mid ticket from ≡ false → after ≡ mid)
+    → (is_awaiting mid ticket from ≡ true → is_found ≡ (last_word after.view.cell_steps == awaited_word mid ticket))
+    → (is_awaiting mid ticket from ≡ true → after ≡ after_look mid ticket from is_found (last_word after.view.cell_steps)) → IsCollected port ticket (from + 1) after
+collected_step port ticket from mid after is_found i idle found looked =
+    let word : ℕ = last_word after.view.cell_steps in
+    let one : after ≡ look_at mid ticket from word = by_test (λ b. after ≡ (if b then after_look mid ticket from (word == awaited_word mid ticket) word else mid))
+    (is_awaiting mid ticket from) (λ t. looked t ∙ ap (λ q. after_look mid ticket from q word) (found t)) idle in
+    record {
+      words = word ∷ i.words;
+      each = omega (arith, i.each);
+      is = one ∙ ap (λ p. look_at p ticket from word) i.is ∙ ap (λ n. look_at (after_looks port ticket i.words) ticket n word) (sym i.each);
+    }
 
 -- a ticket is done exactly if each hart that it names is collected for its order
 pub all_collected : (c : Config) (ks : List Order) (T : TicketTable) (n : ℕ) → IsTrue (is_open T n) → AreTied c ks T

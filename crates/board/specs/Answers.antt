@@ -20,7 +20,7 @@ use Rattle.history.specs.declared.event.Scope.TheVariants as scope
 use Rattle.history.specs.Orders.{scope_request}
 use Rattle.history.specs.Setup.{Setup}
 use Rattle.rings.specs.Ends.{OutboxState, InboxState, post_fault, with_accepted, with_taken, after_close}
-use Rattle.views.specs.OrderTurns.{dropped, ordered, self_acked, with_armed}
+use Rattle.views.specs.OrderTurns.{acknowledged, ordered, self_acked, with_armed}
 use Rattle.board.specs.Ports.{PortState, outbox_to, inbox_from}
 
 -- refused if the test holds, else as the rest says
@@ -124,10 +124,11 @@ after_no_post port ticket to = if is_none (post_refusal port ticket to) then rec
 abbrev pub tlb_served : TlbState → What → TlbState
 tlb_served tlb what = record tlb { entries = served tlb.entries what }
 
--- Serve: a port once it took a request, and dropped what it names from its TLB and its view; the end then knows these to wait
+-- Serve: a port once it took a request, dropped what it names from its TLB and its view, and stored its word to the sender's cell;
+-- the end then knows these to wait
 abbrev pub after_serve : PortState → ℕ → Message → List Message → PortState
 after_serve port from message known = record port {
-  view = dropped message.what port.view;
+  view = acknowledged from message.ticket message.what port.view;
   tlb = tlb_served port.tlb message.what;
   inboxes = slice_set port.inboxes from (inbox_with message known (inbox_from port from));
 }

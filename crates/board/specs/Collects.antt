@@ -1,44 +1,49 @@
 -- What a sender's look for acknowledgements leaves of its port.
-use Rattle.std.specs.Prelude.{ℕ, ◌≡◌, ◌<◌, ◌&&◌, Bool, true, List, [], ◌∷◌, Some, slice_set, IsTrue}
+use Rattle.std.specs.Prelude.{ℕ, ◌≡◌, ◌==◌, ◌&&◌, Bool, true, false, List, [], ◌∷◌, length, Some, slice_set, if◌then◌else◌}
 use Rattle.std.specs.Option.{option_map}
 use Rattle.shoot.specs.Tickets.{names, ticket_at}
+use Rattle.shoot.specs.Acknowledgement.{acknowledgement}
 use Rattle.history.specs.Due.{are_pair}
 use Rattle.rings.specs.Ends.{after_release}
 use Rattle.views.specs.declared.view.Order.{Order}
 use Rattle.views.specs.Orders.{is_in}
-use Rattle.views.specs.OrderTurns.{open_order, with_collected}
+use Rattle.views.specs.OrderTurns.{looked, open_order}
 use Rattle.board.specs.Ports.{PortState, outbox_to}
-use Rattle.board.specs.Answers.{collected_by}
+use Rattle.board.specs.Answers.{collected_by, request_of}
 use Rattle.board.specs.Ties.{awaits}
 
 -- the ticket was posted to another hart, which is not collected
 abbrev pub is_awaiting : PortState → ℕ → ℕ → Bool
 is_awaiting port ticket from = are_pair port.setup port.hart from && awaits from (ticket_at port.tickets ticket)
 
--- a port that found the word of the request in the cell of a hart: the hart is collected in the view and by the ticket, and its
--- mailbox has room for one more
-abbrev pub after_found : PortState → ℕ → ℕ → PortState
-after_found port ticket from = record port {
-  view = with_collected ticket from port.view;
-  tickets = collected_by port.tickets ticket from;
-  outboxes = slice_set port.outboxes from (option_map after_release (outbox_to port from));
-}
+-- a port that looked at the cell of a hart and found this word. If it is that of the request, the hart is collected in the view
+-- and by the ticket, and its mailbox has room for one more.
+abbrev pub after_look : PortState → ℕ → ℕ → Bool → ℕ → PortState
+after_look port ticket from is_found word =
+    if is_found then record port {
+      view = looked ticket from true word port.view;
+      tickets = collected_by port.tickets ticket from;
+      outboxes = slice_set port.outboxes from (option_map after_release (outbox_to port from));
+    } else record port { view = looked ticket from false word port.view }
 
--- a port that found the words of all these harts, the last one first
-abbrev pub after_all : PortState → ℕ → List ℕ → PortState
-after_all port ticket [] = port
-after_all port ticket (from ∷ found) = after_found (after_all port ticket found) ticket from
+-- the word by which a hart acknowledges the ticket's request
+abbrev pub awaited_word : PortState → ℕ → ℕ
+awaited_word port ticket = acknowledgement (request_of port.tickets ticket).what
 
--- each of them was awaited, and they are in order, the highest first and below a bound
-abbrev pub AreAwaited : PortState → ℕ → ℕ → List ℕ → Type 0
-AreAwaited port ticket bound [] = Unit {0}
-AreAwaited port ticket bound (from ∷ found) = (from < bound) × IsTrue (is_awaiting (after_all port ticket found) ticket from) × AreAwaited port ticket from found
+-- a port that looked at the cell of a hart, where this word stood, if the hart was awaited
+abbrev pub look_at : PortState → ℕ → ℕ → ℕ → PortState
+look_at port ticket from word = if is_awaiting port ticket from then after_look port ticket from (word == awaited_word port ticket) word else port
 
--- the port once it looked at the cells of the harts below a bound: those whose word it found are collected
+-- a port that looked at the cells of the harts from 0 on, where these words stood, that of the highest hart first
+abbrev pub after_looks : PortState → ℕ → List ℕ → PortState
+after_looks port ticket [] = port
+after_looks port ticket (word ∷ words) = look_at (after_looks port ticket words) ticket (length words) word
+
+-- the port once it looked at the cell of each hart below a bound that was awaited
 pub record IsCollected (port : PortState) (ticket bound : ℕ) (after : PortState) : Type 0 where
-  pub found : List ℕ
-  pub awaited : AreAwaited port ticket bound found
-  pub is : after ≡ after_all port ticket found
+  pub words : List ℕ
+  pub each : length words ≡ bound
+  pub is : after ≡ after_looks port ticket words
 
 -- each hart that the ticket names is collected for its open order in the view
 abbrev pub AreAllCollected : PortState → ℕ → Type 0

@@ -1,6 +1,6 @@
 //! A sender's look for acknowledgements.
 
-ghost use Rattle.std.specs.Prelude.{◌≡◌, ◌≢◌, ◌<◌, ◌↔◌, IfSome, IfNone, true, false, IsTrue, Some, Ok, Err, if◌then◌else◌, length, map, slice_set};
+ghost use Rattle.std.specs.Prelude.{◌≡◌, ◌≢◌, ◌<◌, ◌↔◌, IfSome, IfNone, true, false, ◌==◌, IsTrue, Some, Ok, Err, length, map, slice_set};
 ghost use Rattle.shoot.specs.declared.tickets.Collected.TheVariants as collected;
 ghost use Rattle.shoot.specs.Tickets.{is_open, progress_at, ticket_at, what_at};
 ghost use Rattle.rings.specs.Ends.{after_release};
@@ -9,7 +9,8 @@ ghost use Rattle.rings.specs.Ends.{OutboxState};
 ghost use Rattle.board.specs.Ports.{element, end_of_outbox, name_of};
 ghost use Rattle.board.specs.Answers.{request_of};
 ghost use Rattle.board.specs.Ties.{IsWithin, awaits};
-ghost use Rattle.board.specs.Collects.{AreAllCollected, IsCollected, after_found, is_awaiting};
+ghost use Rattle.board.specs.Collects.{AreAllCollected, IsCollected, after_look, awaited_word, is_awaiting};
+ghost use Rattle.views.specs.OrderTurns.{last_word};
 
 use crate::port::HartPort;
 use history::Refusal;
@@ -70,8 +71,9 @@ impl HartPort {
     /// Loads the cell of a hart, if the ticket awaits it. Whether the word of the request is there: then the hart is collected.
     fn look(&mut self, ticket: u32, from: u8) -> bool
         ensures open { IsTrue (is_open self.old.tickets ticket) → IsTrue (is_open self.new.tickets ticket) }
-        ensures awaited { IsTrue result → IsTrue (is_awaiting self.old ticket from) }
-        ensures after { self.new ≡ (if result then after_found self.old ticket from else self.old) }
+        ensures idle { is_awaiting self.old ticket from ≡ false → self.new ≡ self.old }
+        ensures found { is_awaiting self.old ticket from ≡ true → result ≡ (last_word self.new.view.cell_steps == awaited_word self.old ticket) }
+        ensures after { is_awaiting self.old ticket from ≡ true → self.new ≡ after_look self.old ticket from result (last_word self.new.view.cell_steps) }
         ensures same { name_of self.new ≡ name_of self.old }
     {
         let Some(request) = self.awaited(ticket, from) else {

@@ -69,6 +69,7 @@ impl HartPort {
     }
 
     /// What a walk from the root of the hart's space answers. What it finds is filled in.
+    #[inline(never)]
     fn walk_and_fill(&mut self, asid: u16, va: u64, access: Access, ctx: Ctx) -> Result<u64, Trap>
         requires canonical { IsCanonical self.old.setup.layout.scheme va }
         requires asid { asid ≡ own_asid self.old }
@@ -95,6 +96,7 @@ impl HartPort {
     /// The physical address of a virtual one in the hart's space, or the exception that the access raises. The oldest entry of
     /// the TLB that matches answers by its flags alone; without one a walk does, by the words that its own loads find in the
     /// shared tables, and what it finds is filled in. Other harts may store between the loads.
+    #[inline(always)]
     pub fn translate(&mut self, va: u64, access: Access, ctx: Ctx) -> Result<u64, Trap>
         ensures not_canonical { (¬ IsCanonical self.old.setup.layout.scheme va) → (result ≡ Err (page_trap access Why.NotCanonical)) × (self.new ≡ self.old) }
         ensures hit { (entry : EntryOf) → IsCanonical self.old.setup.layout.scheme va → first_match self.old.tlb.entries (own_asid self.old) va ≡ Some entry → (result ≡ answer_of entry va access ctx) × (self.new ≡ self.old) }

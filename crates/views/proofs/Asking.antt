@@ -8,7 +8,7 @@ use Rattle.views.specs.declared.view.Cause.TheVariants.{Other}
 use Rattle.views.specs.declared.view.Order.{Order}
 use Rattle.views.specs.declared.view.View.{View}
 use Rattle.views.specs.Orders.{is_in}
-use Rattle.views.specs.OrderTurns.{IsAsking, IsAwaiting, armed, collected, for_ticket, fresh, looked, open_order, ordered, with_armed, with_collected}
+use Rattle.views.specs.OrderTurns.{IsAsking, IsAwaiting, armed, cell_by, collected, for_ticket, fresh, looked, open_order, ordered, with_armed, with_collected, with_look}
 use Rattle.shoot.specs.Acknowledgement.{acknowledgement}
 
 -- the open order after a change of it
@@ -36,8 +36,11 @@ collected-awaits c v t from h what a = record {
   armed = a.armed;
 }
 
-pub looked-awaits : (c : Config) (v : View) (t from word : ℕ) (what : What) → IsAwaiting c v t from what → IsAwaiting c (looked t from what v word) t from what
-looked-awaits c v t from word what a = by (word == acknowledgement what)
+seen-awaits : (c : Config) (v : View) (t from at word : ℕ) (what : What) → IsAwaiting c v t from what → IsAwaiting c (with_look at word v) t from what
+seen-awaits c v t from at word what a = record { asking = record { order = a.asking.order; is = a.asking.is; asks = a.asking.asks }; armed = a.armed }
+
+pub looked-awaits : (c : Config) (v : View) (t from word : ℕ) (what : What) → IsAwaiting c v t from what → IsAwaiting c (looked t from (word == acknowledgement what) word v) t from what
+looked-awaits c v t from word what a = seen-awaits c (cond (word == acknowledgement what) (with_collected t from v) v) t from (cell_by v v.hart t from) word what (by (word == acknowledgement what))
   where
     by : (q : Bool) → IsAwaiting c (cond q (with_collected t from v) v) t from what
     by true = collected-awaits c v t from from what a

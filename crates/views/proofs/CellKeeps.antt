@@ -1,5 +1,5 @@
 -- Arming a cell, acknowledging, and looking at a cell keep the rule.
-use Rattle.std.proofs.Common.{◌≡◌, ◌≢◌, ◌⊎◌, ℕ, zero, suc, ◌+◌, ◌*◌, ◌==◌, ◌<◌, ◌≤◌, ◌^◌, ◌&&◌, not, Bool, true, false, cond, List, [], ◌∷◌, length, Option, Some, None, sym, refl, ap, ◌∙◌, subst, inl, inr, arith, length-set, get_or-set_other, get_or-set_same, mul-le-mul_left, mul-le-mul_right, suc-mul}
+use Rattle.std.proofs.Common.{◌≡◌, ◌≢◌, ◌⊎◌, ℕ, zero, suc, ◌*◌, ◌==◌, ◌<◌, ◌≤◌, ◌^◌, ◌&&◌, not, Bool, true, false, cond, List, [], ◌∷◌, length, Option, Some, None, sym, refl, ap, ◌∙◌, subst, inl, inr, arith, length-set, get_or-set_other, get_or-set_same, mul-le-mul_left, mul-le-mul_right, suc-mul}
 use Rattle.std.specs.Prelude.{slice_index, slice_set}
 use Rattle.std.proofs.lemmas.List.{set-get_or}
 use Rattle.std.proofs.lemmas.Bool.{eqb-true, or_cases}
@@ -32,10 +32,10 @@ use Rattle.shoot.specs.Acknowledgement.{IsAskable, acknowledgement}
 use Rattle.shoot.proofs.AcknowledgementWords.{not_zero}
 use Rattle.views.specs.Orders.{asid_for, asid_in, asked, dropping, is_in, IsLive, Misses, IsClean, Kept, ArePlain, Ordered}
 use Rattle.views.specs.Board.{Board, Steps}
-use Rattle.views.specs.OrderTurns.{IsAsking, IsAwaiting, armed, collected, dropped, for_ticket, fresh, looked, open_order, ordered, self_acked, with_armed, with_collected}
+use Rattle.views.specs.OrderTurns.{IsAsking, IsAwaiting, acknowledged, armed, cell_by, collected, for_ticket, fresh, looked, open_order, ordered, self_acked, with_armed, with_collected, with_look}
 use Rattle.views.proofs.Fills.{user-page}
 use Rattle.views.proofs.Keeps.{keeps-load}
-use Rattle.views.proofs.OrderKeeps.{Change, stays, clears, acks, receiver, clean-mine, idle-orders, stands, keeps-orders}
+use Rattle.views.proofs.OrderKeeps.{Change, stays, clears, acks, receiver, clean-mine, stands, keeps-orders}
 use Rattle.spaces.proofs.WordLists.{list-behind}
 
 -- the words of cells are of no table
@@ -55,10 +55,8 @@ beyond-tables c ws homes views i x past b = record {
 -- a cell is a word of the table
 pub cell-inside : (l : Layout) (s t h : ℕ) → s < length l.spares → t < tickets → h < length l.spares → cell l s t h < board_size l
 cell-inside l s t h a b d =
-    let one : suc s * tickets ≤ length l.spares * tickets = mul-le-mul_right tickets a in
-    let two : s * tickets + t < length l.spares * tickets = omega (arith, suc-mul s tickets) in
-    let three : suc (s * tickets + t) * length l.spares ≤ (length l.spares * tickets) * length l.spares = mul-le-mul_right (length l.spares) two in
-    omega (arith, suc-mul (s * tickets + t) (length l.spares))
+    let one : suc s * length l.spares ≤ length l.spares * length l.spares = mul-le-mul_right (length l.spares) a in
+    omega (arith, one, b, d, suc-mul s (length l.spares))
 
 -- an order after a change of the open one of a ticket
 for-ticket : (ticket : ℕ) (f : Order → Order) (ks : List Order) (n : ℕ) (k : Order) → get_elem? (for_ticket ticket f ks) n ≡ some k
@@ -93,8 +91,8 @@ module _ (c : Config) (id : ℕ) (v : View) where
     armed-there : armed-cell < length s.words
     armed-there = let t = b.each id v at in let i = cell-inside (layout_of c) v.hart ticket to t.local.hart small-ticket small in omega (arith, b.wide, i)
 
-    armed-cells : (a t h : ℕ) → h < length (layout_of c).spares → Change c v.hart h (slice_index s.words (cell (layout_of c) a t h)) (slice_index armed-words (cell (layout_of c) a t h)) v.entries
-    armed-cells a t h less = dite (ℕ_discrete (cell (layout_of c) a t h) armed-cell)
+    armed-cells : (a t h : ℕ) → t < tickets → h < length (layout_of c).spares → Change c v.hart h (slice_index s.words (cell (layout_of c) a t h)) (slice_index armed-words (cell (layout_of c) a t h)) v.entries
+    armed-cells a t h few less = dite (ℕ_discrete (cell (layout_of c) a t h) armed-cell)
         (λ (e : cell (layout_of c) a t h ≡ armed-cell). clears (ap (λ n. slice_index armed-words n) e ∙ get_or-set_same s.words armed-cell 0 0 armed-there))
         (λ (n : cell (layout_of c) a t h ≢ armed-cell). stays (get_or-set_other s.words armed-cell (cell (layout_of c) a t h) 0 0 n))
 
@@ -105,6 +103,7 @@ module _ (c : Config) (id : ℕ) (v : View) where
       right_half = t.right_half;
       askable = t.askable;
       unmapped = t.unmapped;
+      numbered = λ h is. subst (λ (n : ℕ). n < tickets) (sym same) small-ticket;
       acked = λ h less is now. elim (or_cases (to == h) (is_in h k.armed) is) [
         | inl me ↦
             let zero-there : slice_index armed-words (cell (layout_of c) v.hart k.ticket h) ≡ 0 =
@@ -167,10 +166,10 @@ module _ (c : Config) (id : ℕ) (v : View) where
     now-misses : (place : Place) (page : Span) → is_wrong_half (layout_of c) place page ≡ false → dropping c place page ≡ what → Misses page (asid_for c place) w.entries
     now-misses place page half e = subst (λ es. Misses page (asid_for c place) es) (sym entries) (dropped-misses v.entries (o.plain id v at) what asks place page half e)
 
-    acked-cells : (a t h : ℕ) → h < length (layout_of c).spares → Change c v.hart h (slice_index s.words (cell (layout_of c) a t h)) (slice_index acked-words (cell (layout_of c) a t h)) w.entries
-    acked-cells a t h less = dite (ℕ_discrete (cell (layout_of c) a t h) acked-cell)
+    acked-cells : (a t h : ℕ) → t < tickets → h < length (layout_of c).spares → Change c v.hart h (slice_index s.words (cell (layout_of c) a t h)) (slice_index acked-words (cell (layout_of c) a t h)) w.entries
+    acked-cells a t h few less = dite (ℕ_discrete (cell (layout_of c) a t h) acked-cell)
         (λ (e : cell (layout_of c) a t h ≡ acked-cell).
-        acks (receiver (layout_of c) a t h from ticket v.hart less (b.each id v at).local.hart e) what asks (ap (λ n. slice_index acked-words n) e ∙ get_or-set_same s.words acked-cell (acknowledgement what) 0 acked-there) now-misses)
+        acks (receiver (layout_of c) a t h from ticket v.hart few small-ticket less (b.each id v at).local.hart e) what asks (ap (λ n. slice_index acked-words n) e ∙ get_or-set_same s.words acked-cell (acknowledgement what) 0 acked-there) now-misses)
         (λ (n : cell (layout_of c) a t h ≢ acked-cell). stays (get_or-set_other s.words acked-cell (cell (layout_of c) a t h) (acknowledgement what) 0 n))
 
     fewer : (j : ℕ) (u : View) → get_elem? s.views j ≡ some u → (n : ℕ) (k : Order) → get_elem? u.orders n ≡ some k → (place : Place) (page : Span) → IsLive k place page
@@ -193,22 +192,22 @@ module _ (c : Config) (id : ℕ) (v : View) where
     mine-clean place page half e = clean-mine c s b o id v w at hart acked-words fewer acked-cells page (asid_for c place) (now-misses place page half e)
 
   acknowledges : (from ticket : ℕ) (what : What) → from < length (layout_of c).spares → ticket < tickets → IsAskable what
-      → Steps c id v (cell (layout_of c) from ticket v.hart) (λ _. acknowledgement what) (λ _. dropped what v) (λ _. Unit {0})
+      → Steps c id v (cell (layout_of c) from ticket v.hart) (λ _. acknowledgement what) (λ _. acknowledged from ticket what v) (λ _. Unit {0})
   acknowledges from ticket what small-from small-ticket asks s b at fits =
       let t = b.tables.each id v at in (
         record {
-          tables = beyond-tables c s.words s.homes (slice_set s.views id (dropped what v)) (cell (layout_of c) from ticket v.hart) (acknowledgement what) (omega arith)
-              (keeps-load c s b.tables id v (dropped what v) at refl refl record { local = record { hart = t.local.hart; memory = t.local.memory; alone = t.local.alone; lowest = t.local.lowest }; config = t.config; own = t.own; walk = t.walk });
-          orders = ack-orders from ticket what small-from small-ticket asks (dropped what v) refl refl refl s b.tables b.orders at
-              (λ n k at-k place page live. acked-stands from ticket what small-from small-ticket asks (dropped what v) refl refl refl s b.tables b.orders at n k at-k place page live);
+          tables = beyond-tables c s.words s.homes (slice_set s.views id (acknowledged from ticket what v)) (cell (layout_of c) from ticket v.hart) (acknowledgement what) (omega arith)
+              (keeps-load c s b.tables id v (acknowledged from ticket what v) at refl refl record { local = record { hart = t.local.hart; memory = t.local.memory; alone = t.local.alone; lowest = t.local.lowest }; config = t.config; own = t.own; walk = t.walk });
+          orders = ack-orders from ticket what small-from small-ticket asks (acknowledged from ticket what v) refl refl refl s b.tables b.orders at
+              (λ n k at-k place page live. acked-stands from ticket what small-from small-ticket asks (acknowledged from ticket what v) refl refl refl s b.tables b.orders at n k at-k place page live);
         },
         tt,
       )
 
   pub acknowledges-by : (from ticket word : ℕ) (what : What) → from < length (layout_of c).spares → ticket < tickets → IsAskable what → word ≡ acknowledgement what
-      → Steps c id v (cell (layout_of c) from ticket v.hart) (λ _. word) (λ _. dropped what v) (λ _. Unit {0})
+      → Steps c id v (cell (layout_of c) from ticket v.hart) (λ _. word) (λ _. acknowledged from ticket what v) (λ _. Unit {0})
   acknowledges-by from ticket word what small-from small-ticket asks is =
-      subst (λ (x : ℕ). Steps c id v (cell (layout_of c) from ticket v.hart) (λ _. x) (λ _. dropped what v) (λ _. Unit {0})) (sym is) (acknowledges from ticket what small-from small-ticket asks)
+      subst (λ (x : ℕ). Steps c id v (cell (layout_of c) from ticket v.hart) (λ _. x) (λ _. acknowledged from ticket what v) (λ _. Unit {0})) (sym is) (acknowledges from ticket what small-from small-ticket asks)
 
   -- an order that follows no store opens with a load that changes nothing else
   pub opens-order : (i ticket : ℕ) (what : What) → Steps c id v i (λ n. n) (λ _. ordered ticket what v) (λ _. Unit {0})
@@ -218,7 +217,7 @@ module _ (c : Config) (id : ℕ) (v : View) where
         record {
           tables = keeps-load c s b.tables id v (ordered ticket what v) at refl refl record { config = t.config; local = record { hart = t.local.hart; memory = t.local.memory; alone = t.local.alone; lowest = t.local.lowest }; own = t.own; walk = t.walk };
           orders =
-              keeps-orders c s b.tables b.orders id v (ordered ticket what v) at refl s.words (λ j u at-u n k at-k place page live m. m) (λ a t h less. stays refl) (b.orders.plain id v at) (mine s b at) s.homes;
+              keeps-orders c s b.tables b.orders id v (ordered ticket what v) at refl s.words (λ j u at-u n k at-k place page live m. m) (λ a t h few less. stays refl) (b.orders.plain id v at) (mine s b at) s.homes;
         }),
     tt,
   )
@@ -228,13 +227,17 @@ module _ (c : Config) (id : ℕ) (v : View) where
       mine s b at zero k at-k place page live =
           absurd (let one = some-injective (fresh ticket (Other what)) k at-k in let bad : Other what ≡ Unmapped place page = ap (λ (z : Order). z.cause) one ∙ live.0 in cc)
       mine s b at (suc n) k at-k place page live =
-          stands c s b.tables b.orders id v (ordered ticket what v) at refl s.words (λ j u at-u n k at-k place page live m. m) (λ a t h less. stays refl) id v at n k at-k place page live
+          stands c s b.tables b.orders id v (ordered ticket what v) at refl s.words (λ j u at-u n k at-k place page live m. m) (λ a t h few less. stays refl) id v at n k at-k place page live
 
   -- looking at a cell
   module _ (ticket from : ℕ) (what : What) (small : from < length (layout_of c).spares) (awaits : IsAwaiting c v ticket from what) (s : State ℕ View) (b : Tabled c s) (o : Ordered c s)
       (at : get_elem? s.views id ≡ some v) (found : slice_index s.words (cell (layout_of c) v.hart ticket from) ≡ acknowledgement what) where
+    -- what the sender then knows
+    abbrev looked-view : View
+    looked-view = with_look (cell_by v v.hart ticket from) (slice_index s.words (cell (layout_of c) v.hart ticket from)) (with_collected ticket from v)
+
     abbrev looked-views : List View
-    looked-views = slice_set s.views id (with_collected ticket from v)
+    looked-views = slice_set s.views id looked-view
 
     collected-order : (k : Order) → k.ticket ≡ ticket → open_order ticket v.orders ≡ Some k → (place : Place) (page : Span) → k.cause ≡ Unmapped place page
         → Kept c s.words looked-views v.hart (memory_of (layout_of c) v) k place page → Kept c s.words looked-views v.hart (memory_of (layout_of c) v) (collected from k) place page
@@ -250,6 +253,7 @@ module _ (c : Config) (id : ℕ) (v : View) where
           right_half = t.right_half;
           askable = t.askable;
           unmapped = t.unmapped;
+          numbered = t.numbered;
           acked = t.acked;
           gone = λ h less got. elim (or_cases (from == h) (is_in h k.collected) got) [
             | inl me ↦ subst (λ x. IsClean looked-views x page (asid_for c place)) (eqb-true from h me) (t.acked from small armed-for now)
@@ -259,10 +263,10 @@ module _ (c : Config) (id : ℕ) (v : View) where
 
     look-orders : Ordered c record { words = s.words; homes = s.homes; views = looked-views }
     look-orders =
-        keeps-orders c s b o id v (with_collected ticket from v) at refl s.words (λ j u at-u n k at-k place page live m. m) (λ a t h less. stays refl) (o.plain id v at)
+        keeps-orders c s b o id v looked-view at refl s.words (λ j u at-u n k at-k place page live m. m) (λ a t h few less. stays refl) (o.plain id v at)
         (λ n k at-k place page live.
         let r = for-ticket ticket (collected from) v.orders n k at-k in
-        let stood = stands c s b o id v (with_collected ticket from v) at refl s.words (λ j u at-u n k at-k place page live m. m) (λ a t h less. stays refl) id v at n r.0 r.1 place page in
+        let stood = stands c s b o id v looked-view at refl s.words (λ j u at-u n k at-k place page live m. m) (λ a t h few less. stays refl) id v at n r.0 r.1 place page in
         elim r.2 [
           | inl same ↦
               subst (λ (z : Order). Kept c s.words looked-views v.hart (memory_of (layout_of c) v) z place page) same (stood (subst (λ (z : Order). IsLive z place page) (sym same) live))
@@ -272,22 +276,30 @@ module _ (c : Config) (id : ℕ) (v : View) where
         ]) s.homes
 
   pub looks : (ticket from : ℕ) (what : What) → from < length (layout_of c).spares → IsAwaiting c v ticket from what
-      → Steps c id v (cell (layout_of c) v.hart ticket from) (λ n. n) (looked ticket from what v) (λ _. Unit {0})
+      → Steps c id v (cell (layout_of c) v.hart ticket from) (λ n. n) (λ n. looked ticket from (n == acknowledgement what) n v) (λ _. Unit {0})
   looks ticket from what small awaits s b at fits = (
-    subst (λ (ws : List ℕ). Board c record { words = ws; homes = s.homes; views = slice_set s.views id (looked ticket from what v (slice_index s.words (cell (layout_of c) v.hart ticket from))) })
+    subst (λ (ws : List ℕ). Board c record { words = ws; homes = s.homes; views = slice_set s.views id (looked ticket from (slice_index s.words (cell (layout_of c) v.hart ticket from) == acknowledgement what) (slice_index s.words (cell (layout_of c) v.hart ticket from)) v) })
         (sym (set-get_or s.words (cell (layout_of c) v.hart ticket from) 0)) (by (slice_index s.words (cell (layout_of c) v.hart ticket from) == acknowledgement what) refl),
     tt,
   )
     where
       by : (q : Bool) → (slice_index s.words (cell (layout_of c) v.hart ticket from) == acknowledgement what) ≡ q
-          → Board c record { words = s.words; homes = s.homes; views = slice_set s.views id (cond q (with_collected ticket from v) v) }
+          → Board c record { words = s.words; homes = s.homes; views = slice_set s.views id (with_look (cell_by v v.hart ticket from) (slice_index s.words (cell (layout_of c) v.hart ticket from)) (cond q (with_collected ticket from v) v)) }
       by true e =
           let t = b.tables.each id v at in
+          let w : View = with_look (cell_by v v.hart ticket from) (slice_index s.words (cell (layout_of c) v.hart ticket from)) (with_collected ticket from v) in
           record {
-            tables = keeps-load c s b.tables id v (with_collected ticket from v) at refl refl record { config = t.config; local = record { hart = t.local.hart; memory = t.local.memory; alone = t.local.alone; lowest = t.local.lowest }; own = t.own; walk = t.walk };
+            tables = keeps-load c s b.tables id v w at refl refl record { config = t.config; local = record { hart = t.local.hart; memory = t.local.memory; alone = t.local.alone; lowest = t.local.lowest }; own = t.own; walk = t.walk };
             orders = look-orders ticket from what small awaits s b.tables b.orders at (eqb-true (slice_index s.words (cell (layout_of c) v.hart ticket from)) (acknowledgement what) e);
           }
-      by false e = record { tables = keeps-load c s b.tables id v v at refl refl (b.tables.each id v at); orders = idle-orders c s b.tables b.orders id v at }
+      by false e =
+          let t = b.tables.each id v at in
+          let w : View = with_look (cell_by v v.hart ticket from) (slice_index s.words (cell (layout_of c) v.hart ticket from)) v in
+          record {
+            tables = keeps-load c s b.tables id v w at refl refl record { config = t.config; local = record { hart = t.local.hart; memory = t.local.memory; alone = t.local.alone; lowest = t.local.lowest }; own = t.own; walk = t.walk };
+            orders = keeps-orders c s b.tables b.orders id v w at refl s.words (λ j u at-u n k at-k place page live m. m) (λ a t h few less. stays refl) (b.orders.plain id v at)
+                (λ n k at-k place page live. stands c s b.tables b.orders id v w at refl s.words (λ j u at-u n k at-k place page live m. m) (λ a t h few less. stays refl) id v at n k at-k place page live) s.homes;
+          }
 
   -- the sender's own acknowledgement
   acknowledges-self : (ticket : ℕ) (what : What) → ticket < tickets → IsAskable what → IsAsking c v ticket what
@@ -328,6 +340,7 @@ module _ (c : Config) (id : ℕ) (v : View) where
             right_half = t.right_half;
             askable = t.askable;
             unmapped = t.unmapped;
+            numbered = t.numbered;
             acked = t.acked;
             gone = λ h less got. elim (or_cases (v.hart == h) (is_in h k.collected) got) [
               | inl me ↦ subst (λ x. IsClean views x page (asid_for c place)) (eqb-true v.hart h me) (clean t.right_half asked-for)
@@ -344,5 +357,5 @@ module _ (c : Config) (id : ℕ) (v : View) where
 pub small-board : (c : Config) → MeetsLimits max_live_frames c → board_size (layout_of c) < 2 ^ 32
 small-board c limits =
     let harts : length (layout_of c).spares ≤ 8 = omega (arith, limits.spares, limits.harts) in
-    let one : length (layout_of c).spares * tickets * length (layout_of c).spares ≤ length (layout_of c).spares * tickets * 8 = mul-le-mul_left (length (layout_of c).spares * tickets) harts in
+    let one : length (layout_of c).spares * length (layout_of c).spares ≤ length (layout_of c).spares * 8 = mul-le-mul_left (length (layout_of c).spares) harts in
     omega (arith, one, harts, limits.frames_fit)

@@ -48,6 +48,7 @@ module _ (c : Config) (id : ℕ) (v : View) (some' : 0 < v.next) (room : v.next 
     right_half = t.right_half;
     askable = t.askable;
     unmapped = t.unmapped;
+    numbered = t.numbered;
     acked = λ h small armed now. clean-more h page (asid_for c place) (t.acked h small armed now);
     gone = λ h small got. clean-more h page (asid_for c place) (t.gone h small got);
   }

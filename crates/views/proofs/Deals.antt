@@ -54,8 +54,8 @@ sits-first v next hart (suc h) = waits 0 v refl (omega (arith, next)) (omega (ar
 
 pub length-board_words : (l : Layout) → length (board_words l) ≡ board_size l
 length-board_words l =
-    length-append (first_words l (size l)) (replicate (length l.spares * tickets * length l.spares) 0)
-    ∙ (let a = length-first_words l (size l) in let z = length-zeros (length l.spares * tickets * length l.spares) in omega (arith, a, z))
+    length-append (first_words l (size l)) (replicate (length l.spares * length l.spares * tickets) 0)
+    ∙ (let a = length-first_words l (size l) in let z = length-zeros (length l.spares * length l.spares * tickets) in omega (arith, a, z))
 
 -- a hart that has done nothing sits well where its words are as at the opening
 starting-seated : (c : Config) → MeetsLimits max_live_frames c → (words : Tables) (hart next : ℕ) → hart < length (layout_of c).spares
@@ -70,7 +70,7 @@ starting-seated c limits words hart next less own = record {
 -- the tables of the words at the opening
 first-tables : (l : Layout) (f i : ℕ) → tables_in l (board_words l) f i ≡ opening l f i
 first-tables l f i =
-    list-front l (first_words l (size l)) (replicate (length l.spares * tickets * length l.spares) 0) [] (length-first_words l (size l)) f i
+    list-front l (first_words l (size l)) (replicate (length l.spares * length l.spares * tickets) 0) [] (length-first_words l (size l)) f i
     ∙ words-open l [] f i
 
 pub open-keeps : (c : Config) → MeetsLimits max_live_frames c → Tabled c (at_start (board_words (layout_of c)) [] (first_view c))

@@ -18,3 +18,4 @@ pub mod Pairs
 pub mod Collected
 pub mod Tables
 pub mod Asking
+pub mod NoLeaf

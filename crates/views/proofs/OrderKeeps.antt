@@ -20,14 +20,14 @@ use Rattle.shoot.specs.Acknowledgement.{IsAskable, acknowledgement}
 use Rattle.shoot.proofs.AcknowledgementWords.{not_zero, same_what}
 use Rattle.views.specs.declared.view.Order.{Order}
 use Rattle.views.specs.declared.view.View.{View}
-use Rattle.views.specs.Rule.{cell, memory_of, Tabled}
+use Rattle.views.specs.Rule.{cell, memory_of, tickets, Tabled}
 use Rattle.views.specs.Orders.{IsAsidFor, asid_for, dropping, IsLive, Misses, IsClean, Kept, ArePlain, Ordered}
 
 -- the receiver of a cell is read from its number
-pub receiver : (l : Layout) (s t h s' t' h' : ℕ) → h < length l.spares → h' < length l.spares → cell l s t h ≡ cell l s' t' h' → h ≡ h'
-receiver l s t h s' t' h' lt lt' e =
-    let e' : (s * 64 + t) * length l.spares + h ≡ (s' * 64 + t') * length l.spares + h' = omega (arith, e) in
-    sym (mod-mul-add (s * 64 + t) (length l.spares) h lt) ∙ (ap (λ (n : ℕ). n % length l.spares) e' ∙ mod-mul-add (s' * 64 + t') (length l.spares) h' lt')
+pub receiver : (l : Layout) (s t h s' t' h' : ℕ) → t < tickets → t' < tickets → h < length l.spares → h' < length l.spares → cell l s t h ≡ cell l s' t' h' → h ≡ h'
+receiver l s t h s' t' h' few few' lt lt' e =
+    let e' : s * length l.spares + h ≡ s' * length l.spares + h' = omega (arith, e, few, few') in
+    sym (mod-mul-add s (length l.spares) h lt) ∙ (ap (λ (n : ℕ). n % length l.spares) e' ∙ mod-mul-add s' (length l.spares) h' lt')
 
 -- what a step of the seat of this hart, which then has these entries, makes of a cell of the receiver h
 pub data Change (c : Config) (hart h old new : ℕ) (entries : List Entry) : Type 0 where
@@ -40,7 +40,7 @@ pub data Change (c : Config) (hart h old new : ℕ) (entries : List Entry) : Typ
 module _ (c : Config) (s : State ℕ View) (b : Tabled c s) (o : Ordered c s) (id : ℕ) (v w : View) (at : get_elem? s.views id ≡ some v) (hart : w.hart ≡ v.hart) (words' : List ℕ)
     (fewer : (j : ℕ) (u : View) → get_elem? s.views j ≡ some u → (n : ℕ) (k : Order) → get_elem? u.orders n ≡ some k → (place : Place) (page : Span) → IsLive k place page
     → Misses page (asid_for c place) v.entries → Misses page (asid_for c place) w.entries)
-    (cells : (a t h : ℕ) → h < length (layout_of c).spares
+    (cells : (a t h : ℕ) → t < tickets → h < length (layout_of c).spares
     → Change c v.hart h (slice_index s.words (cell (layout_of c) a t h)) (slice_index words' (cell (layout_of c) a t h)) w.entries) where
   abbrev pub views' : List View
   views' = slice_set s.views id w
@@ -64,10 +64,10 @@ module _ (c : Config) (s : State ℕ View) (b : Tabled c s) (o : Ordered c s) (i
     old = o.kept j u at-u n k at-k place page live
 
     -- a cell that had the order's word, or has it now: its receiver is clean
-    pub cell-cleans : (h : ℕ) → h < length (layout_of c).spares
+    pub cell-cleans : (h : ℕ) → h < length (layout_of c).spares → k.ticket < tickets
         → (slice_index s.words (cell (layout_of c) u.hart k.ticket h) ≡ acknowledgement (dropping c place page) → IsClean s.views h page (asid_for c place))
         → slice_index words' (cell (layout_of c) u.hart k.ticket h) ≡ acknowledgement (dropping c place page) → IsClean views' h page (asid_for c place)
-    cell-cleans h small before now = by (cells u.hart k.ticket h small) where
+    cell-cleans h small few before now = by (cells u.hart k.ticket h few small) where
       by : Change c v.hart h (slice_index s.words (cell (layout_of c) u.hart k.ticket h)) (slice_index words' (cell (layout_of c) u.hart k.ticket h)) w.entries → IsClean views' h page (asid_for c place)
       by (stays e) = clean-on h page (asid_for c place) (fewer j u at-u n k at-k place page live) (before (sym e ∙ now))
       by (clears e) = absurd (not_zero (dropping c place page) (sym now ∙ e))
@@ -83,7 +83,8 @@ module _ (c : Config) (s : State ℕ View) (b : Tabled c s) (o : Ordered c s) (i
       right_half = old.right_half;
       askable = old.askable;
       unmapped = old.unmapped;
-      acked = λ h small armed now. cell-cleans h small (old.acked h small armed) now;
+      numbered = old.numbered;
+      acked = λ h small armed now. cell-cleans h small (old.numbered h armed) (old.acked h small armed) now;
       gone = λ h small got. clean-on h page (asid_for c place) (fewer j u at-u n k at-k place page live) (old.gone h small got);
     }
 
@@ -106,8 +107,8 @@ module _ (c : Config) (s : State ℕ View) (b : Tabled c s) (o : Ordered c s) (i
 -- a step that changes nothing
 pub idle-orders : (c : Config) (s : State ℕ View) (b : Tabled c s) (o : Ordered c s) (id : ℕ) (v : View) (at : get_elem? s.views id ≡ some v) → Ordered c record { words = s.words; homes = s.homes; views = slice_set s.views id v }
 idle-orders c s b o id v at =
-    keeps-orders c s b o id v v at refl s.words (λ j u at-u n k at-k place page live m. m) (λ a t h small. stays refl) (o.plain id v at)
-    (λ n k at-k place page live. stands c s b o id v v at refl s.words (λ j u at-u n k at-k place page live m. m) (λ a t h small. stays refl) id v at n k at-k place page live) s.homes
+    keeps-orders c s b o id v v at refl s.words (λ j u at-u n k at-k place page live m. m) (λ a t h few small. stays refl) (o.plain id v at)
+    (λ n k at-k place page live. stands c s b o id v v at refl s.words (λ j u at-u n k at-k place page live m. m) (λ a t h few small. stays refl) id v at n k at-k place page live) s.homes
 
 -- what misses a page translates none of its addresses
 pub clear : (c : Config) (place : Place) (page : Span) (entries : List Entry) → Misses page (asid_for c place) entries → (asid va : ℕ) → IsAsidFor c place asid → Holds page va → ¬ Translates (IsMappedBy entries) asid va

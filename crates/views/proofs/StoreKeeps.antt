@@ -32,7 +32,7 @@ use Rattle.views.specs.declared.view.Cause.TheVariants.{Unmapped, Other}
 use Rattle.views.specs.declared.view.Order.{Order}
 use Rattle.views.specs.declared.view.View.{View}
 use Rattle.views.specs.Edits.{edit_over}
-use Rattle.views.specs.Rule.{cell, memory_of, Tabled}
+use Rattle.views.specs.Rule.{cell, memory_of, tickets, Tabled}
 use Rattle.views.specs.Orders.{dropping, is_over, IsLive, IsUnmapped, Kept, Ordered}
 use Rattle.views.specs.OrderTurns.{IsAsked, fresh, marked, noted, orders_after}
 use Rattle.views.proofs.EditKeeps.{acc, live-layout, words-after, word-there}
@@ -126,8 +126,8 @@ module _ (c : Config) (id : ℕ) (v : View) (wish : Wish) (ticket : ℕ) (store 
   abbrev views-now : List View
   views-now = slice_set s.views id new-view
 
-  cells-stay : (a t h : ℕ) → h < length (layout_of c).spares → Change c v.hart h (slice_index s.words (cell (layout_of c) a t h)) (slice_index shared-now (cell (layout_of c) a t h)) v.entries
-  cells-stay a t h small =
+  cells-stay : (a t h : ℕ) → t < tickets → h < length (layout_of c).spares → Change c v.hart h (slice_index s.words (cell (layout_of c) a t h)) (slice_index shared-now (cell (layout_of c) a t h)) v.entries
+  cells-stay a t h few small =
       let m = in-memory (layout_of c) store.ppn store.index is-word-there in
       stays (get_or-set_other s.words place-in-list (cell (layout_of c) a t h) store.word 0 (λ (q : cell (layout_of c) a t h ≡ place-in-list). absurd (omega (arith, q, m.from, m.to, m.index))))
 
@@ -137,11 +137,11 @@ module _ (c : Config) (id : ℕ) (v : View) (wish : Wish) (ticket : ℕ) (store 
   -- an order of before, whatever its mark is now
   stood-on : (k : Order) (place : Place) (page : Span) (anew : Bool) → Kept c shared-now views-now v.hart memory k place page → IsUnmapped (layout_of c) (words_of memory-now) place page
       → Kept c shared-now views-now v.hart memory-now (record k { anew = anew }) place page
-  stood-on k place page anew t none = record { has = t.has; at_home = t.at_home; right_half = t.right_half; askable = t.askable; unmapped = none; acked = t.acked; gone = t.gone }
+  stood-on k place page anew t none = record { has = t.has; at_home = t.at_home; right_half = t.right_half; askable = t.askable; unmapped = none; numbered = t.numbered; acked = t.acked; gone = t.gone }
 
   stood-same : (k : Order) (place : Place) (page : Span) → Kept c shared-now views-now v.hart memory k place page → IsUnmapped (layout_of c) (words_of memory-now) place page
       → Kept c shared-now views-now v.hart memory-now k place page
-  stood-same k place page t none = record { has = t.has; at_home = t.at_home; right_half = t.right_half; askable = t.askable; unmapped = none; acked = t.acked; gone = t.gone }
+  stood-same k place page t none = record { has = t.has; at_home = t.at_home; right_half = t.right_half; askable = t.askable; unmapped = none; numbered = t.numbered; acked = t.acked; gone = t.gone }
 
   module _ (u : Wish) (e : u ≡ wish) where
     effect-of : HasEffect (layout_of c) u store (words_of memory) (words_of memory-now)
@@ -168,6 +168,7 @@ module _ (c : Config) (id : ℕ) (v : View) (wish : Wish) (ticket : ℕ) (store 
     right_half = half-of (Unmap p q) e;
     askable = subst (IsAsked c) (sym e) asked;
     unmapped = λ r number ppn flags global less about m. ((removes p q e r number ppn flags global less).0 m).1 about;
+    numbered = λ h armed. absurd (false≢true armed);
     acked = λ h small armed. absurd (false≢true armed);
     gone = λ h small got. absurd (false≢true got);
   }

@@ -76,8 +76,8 @@ module _ (c : Config) (s : State ℕ View) (b : Tabled c s) (o : Ordered c s) (i
         loaded-orders c s id place w
         (keeps-orders c s b o id v w at refl s.words
         (λ j u at-u n k at-k q page live m. fill-misses j u at-u n k at-k q page live (load_of st (Some word)) go m)
-        (λ a t h small. stays refl)
+        (λ a t h few small. stays refl)
         (fill-plain (load_of st (Some word)) go (o.plain id v at))
         (λ n k at-k q page live. stands c s b o id v w at refl s.words
         (λ j u at-u n k at-k q page live m. fill-misses j u at-u n k at-k q page live (load_of st (Some word)) go m)
-        (λ a t h small. stays refl) id v at n k at-k q page live) s.homes)
+        (λ a t h few small. stays refl) id v at n k at-k q page live) s.homes)

@@ -1,13 +1,18 @@
 -- The board's rule, between any two atomic steps, and what one step owes.
-use Rattle.std.specs.Prelude.{◌≡◌, ◌⊎◌, ℕ, ◌^◌, ◌<◌, List, slice_index, slice_set, length, true}
+use Rattle.std.specs.Prelude.{◌≡◌, ◌⊎◌, ◌↔◌, ℕ, ◌^◌, ◌%◌, ◌<◌, Some, List, slice_index, slice_set, length, true}
 use mathlib.Core.Option.{some}
 use lib.ListN.{get_elem?}
 use Rattle.atomic_table.specs.Table.{State}
 use Rattle.pte.specs.declared.address.What.{What}
-use Rattle.pte.specs.Address.{Holds, Span}
+use Rattle.pte.specs.declared.flags.PteFlags.{PteFlags}
+use Rattle.pte.specs.declared.entry.Kind.TheVariants.{Leaf}
+use Rattle.pte.specs.Address.{Holds, IsCanonical, IsPage, Span, level_pages}
+use Rattle.pte.specs.Entry.{kind_of}
+use Rattle.walk.specs.Leads.{Leads, Tables}
 use Rattle.spaces.specs.declared.configuration.Config.{Config}
 use Rattle.spaces.specs.declared.places.Place.{Place}
-use Rattle.spaces.specs.Layout.{layout_of}
+use Rattle.spaces.specs.Effects.{HangsBelow}
+use Rattle.spaces.specs.Layout.{Layout, layout_of, root_ppn}
 use Rattle.spaces.specs.Opening.{opening}
 use Rattle.spaces.specs.Held.{words_of}
 use Rattle.tlb.specs.declared.store.Entry.{Entry}
@@ -33,6 +38,15 @@ abbrev pub UnmappedStaysUnmapped : Type 0
 UnmappedStaysUnmapped = (c : Config) (s : State ℕ View) → Board c s → (i : ℕ) (v : View) → get_elem? s.views i ≡ some v → (n : ℕ) (k : Order) → get_elem? v.orders n ≡ some k
     → (place : Place) (page : Span) → IsLive k place page
     → IsUnmapped (layout_of c) (words_of (memory_of (layout_of c) v)) place page × IsUnmapped (layout_of c) (tables_in (layout_of c) s.words) place page
+
+-- an aligned leaf leads at no address of the page, from the root of a space that the place's tables hang below
+abbrev pub NoLeafLeads : Layout → Tables → Place → Span → Type 0
+NoLeafLeads l words place page = (s va level table entry leaf : ℕ) (flags : PteFlags) → s < length l.homes → HangsBelow place s → Holds page va → IsCanonical l.scheme va
+    → Leads l.scheme words (root_ppn l s) va level table (Some entry) → kind_of entry ≡ Leaf leaf flags → leaf % level_pages level ≡ 0 → ⊥
+
+-- which is what it means that nothing in the page is mapped
+abbrev pub UnmappedIsWhereNoLeafLeads : Type 0
+UnmappedIsWhereNoLeafLeads = (l : Layout) (words : Tables) (place : Place) (page : Span) → IsPage page → IsUnmapped l words place page ↔ NoLeafLeads l words place page
 
 -- the entries of the hart translate no address of the page of a place
 abbrev pub TranslatesNone : Config → List View → ℕ → Place → Span → Type 0

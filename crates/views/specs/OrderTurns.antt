@@ -1,5 +1,5 @@
 -- What a seat knows of its orders after each kind of step.
-use Rattle.std.specs.Prelude.{ℕ, ◌≡◌, ◌||◌, ◌==◌, if◌then◌else◌, is_some, true, false, List, [], ◌∷◌, map, Option, Some, None}
+use Rattle.std.specs.Prelude.{ℕ, ◌≡◌, ◌||◌, ◌==◌, Bool, if◌then◌else◌, is_some, true, false, List, [], ◌∷◌, map, Option, Some, None}
 use Rattle.pte.specs.declared.address.What.{What}
 use Rattle.pte.specs.Address.{IsPage, Span}
 use Rattle.walk.specs.Pointers.{pointed}
@@ -13,8 +13,11 @@ use Rattle.tlb.specs.Service.{served}
 use Rattle.shoot.specs.Acknowledgement.{IsAskable, acknowledgement}
 use Rattle.views.specs.declared.view.Cause.{Cause}
 use Rattle.views.specs.declared.view.Cause.TheVariants.{Unmapped, Other}
+use Rattle.views.specs.declared.view.CellStep.{CellStep}
+use Rattle.views.specs.declared.view.CellStep.TheVariants.{Found, Stored}
 use Rattle.views.specs.declared.view.Order.{Order}
 use Rattle.views.specs.declared.view.View.{View}
+use Rattle.views.specs.Rule.{cell}
 use Rattle.views.specs.Orders.{asked, dropping, is_in, is_over}
 use Rattle.views.specs.Turns.{edited}
 
@@ -51,16 +54,20 @@ abbrev pub for_ticket : ℕ → (Order → Order) → List Order → List Order
 for_ticket ticket f [] = []
 for_ticket ticket f (k ∷ ks) = if k.ticket == ticket then f k ∷ ks else k ∷ for_ticket ticket f ks
 
+-- the cell of a ticket between two harts, on a view's board
+abbrev pub cell_by : View → ℕ → ℕ → ℕ → ℕ
+cell_by v sender ticket receiver = cell (layout_of v.config) sender ticket receiver
+
 -- the sender stored 0 to the cell of a hart
 abbrev pub armed : ℕ → Order → Order
 armed to k = record k { armed = to ∷ k.armed }
 
 abbrev pub with_armed : ℕ → ℕ → View → View
-with_armed ticket to v = record v { orders = for_ticket ticket (armed to) v.orders }
+with_armed ticket to v = record v { orders = for_ticket ticket (armed to) v.orders; cell_steps = Stored (cell_by v v.hart ticket to) 0 ∷ v.cell_steps }
 
--- the receiver drops what a request asks
-abbrev pub dropped : What → View → View
-dropped what v = record v { entries = served v.entries what }
+-- the receiver drops what a request of another hart asks, and stores its word to that hart's cell
+abbrev pub acknowledged : ℕ → ℕ → What → View → View
+acknowledged from ticket what v = record v { entries = served v.entries what; cell_steps = Stored (cell_by v from ticket v.hart) (acknowledgement what) ∷ v.cell_steps }
 
 -- a hart is collected
 abbrev pub collected : ℕ → Order → Order
@@ -69,13 +76,27 @@ collected from k = record k { collected = from ∷ k.collected }
 abbrev pub with_collected : ℕ → ℕ → View → View
 with_collected ticket from v = record v { orders = for_ticket ticket (collected from) v.orders }
 
--- the sender looked at the cell of a hart, which is collected if the word is that of what was asked
-abbrev pub looked : ℕ → ℕ → What → View → ℕ → View
-looked ticket from what v word = if word == acknowledgement what then with_collected ticket from v else v
+-- a load of a cell found a word
+abbrev pub with_look : ℕ → ℕ → View → View
+with_look at word v = record v { cell_steps = Found at word ∷ v.cell_steps }
+
+-- the sender looked at the cell of a hart and found this word; the hart is collected if it is the one of what was asked
+abbrev pub looked : ℕ → ℕ → Bool → ℕ → View → View
+looked ticket from is_found word v = with_look (cell_by v v.hart ticket from) word (if is_found then with_collected ticket from v else v)
+
+-- the word that the last step on a cell found or stored
+abbrev pub last_word : List CellStep → ℕ
+last_word [] = 0
+last_word (Found at word ∷ steps) = word
+last_word (Stored at word ∷ steps) = word
 
 -- the sender is the receiver: it drops what is asked, and is collected
 abbrev pub self_acked : ℕ → What → View → View
-self_acked ticket what v = record v { entries = served v.entries what; orders = for_ticket ticket (collected v.hart) v.orders }
+self_acked ticket what v = record v {
+  entries = served v.entries what;
+  orders = for_ticket ticket (collected v.hart) v.orders;
+  cell_steps = Stored (cell_by v v.hart ticket v.hart) (acknowledgement what) ∷ v.cell_steps;
+}
 
 -- the open order of a ticket
 abbrev pub open_order : ℕ → List Order → Option Order

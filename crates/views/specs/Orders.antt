@@ -27,7 +27,7 @@ use Rattle.views.specs.declared.view.Cause.{Cause}
 use Rattle.views.specs.declared.view.Cause.TheVariants.{Unmapped, Other}
 use Rattle.views.specs.declared.view.Order.{Order}
 use Rattle.views.specs.declared.view.View.{View}
-use Rattle.views.specs.Rule.{cell, memory_of}
+use Rattle.views.specs.Rule.{cell, memory_of, tickets}
 
 abbrev pub asid_in : Config → ℕ → ℕ
 asid_in c s = slice_index (map (λ s. s.asid) c.spaces.items) s
@@ -83,6 +83,8 @@ pub record Kept (c : Config) (words : List ℕ) (views : List View) (hart : ℕ)
   pub right_half : is_wrong_half (layout_of c) place page ≡ false
   pub askable : IsAskable (dropping c place page)
   pub unmapped : IsUnmapped (layout_of c) (words_of own) place page
+  -- cells are armed for tickets of a hart, which are numbered from 0
+  pub numbered : (h : ℕ) → is_in h k.armed ≡ true → k.ticket < tickets
   -- once a cell that was armed for it has its word, the receiver has no mapping of it
   pub acked : (h : ℕ) → h < length (layout_of c).spares → is_in h k.armed ≡ true
       → slice_index words (cell (layout_of c) hart k.ticket h) ≡ acknowledgement (dropping c place page) → IsClean views h page (asid_for c place)

@@ -29,13 +29,14 @@ size l = frame_count l * table_length
 abbrev pub tickets : ℕ
 tickets = 64
 
--- The cells follow the words of the tables, one for each sender, ticket and receiver.
+-- The cells follow the words of the tables, one for each sender, ticket and receiver. Those of a sender and a receiver stand side
+-- by side, by ticket, so that two harts share no cache line of cells with others.
 abbrev pub cell : Layout → ℕ → ℕ → ℕ → ℕ
-cell l sender ticket receiver = size l + ((sender * tickets + ticket) * length l.spares + receiver)
+cell l sender ticket receiver = size l + ((sender * length l.spares + receiver) * tickets + ticket)
 
 -- how many words and cells there are
 abbrev pub board_size : Layout → ℕ
-board_size l = size l + length l.spares * tickets * length l.spares
+board_size l = size l + length l.spares * length l.spares * tickets
 
 -- the root of a space
 abbrev pub IsRoot : Layout → ℕ → Type 0
@@ -108,7 +109,7 @@ pub record Tabled (c : Config) (s : State ℕ View) : Type 0 where
 
 -- the words at the opening: those of all frames, and the cells
 abbrev pub board_words : Layout → List ℕ
-board_words l = first_words l (size l) ++ replicate (length l.spares * tickets * length l.spares) 0
+board_words l = first_words l (size l) ++ replicate (length l.spares * length l.spares * tickets) 0
 
 -- the view of a hart that has done nothing; next is the hart that gets the next seat from this one, or 0
 abbrev pub starting : Config → ℕ → ℕ → View
@@ -126,6 +127,7 @@ starting c hart next = record {
   loads = 0;
   entries = [];
   orders = [];
+  cell_steps = [];
 }
 
 abbrev pub first_view : Config → View

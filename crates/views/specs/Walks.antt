@@ -27,6 +27,7 @@ pub record IsSameHome (v w : View) : Type 0 where
   pub used : w.used ≡ v.used
   pub stores : w.stores ≡ v.stores
   pub orders : w.orders ≡ v.orders
+  pub cell_steps : w.cell_steps ≡ v.cell_steps
 
 -- the root is that of a space at home, and the address lies outside the window
 pub record IsHomePath (l : Layout) (v : View) (root va s : ℕ) : Type 0 where

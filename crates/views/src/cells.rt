@@ -1,7 +1,7 @@
 //! The atomic steps on acknowledgement cells, each with what its seat knows after it. A cell holds 0 when it is armed, and then
 //! the word of the request that its receiver served.
 
-ghost use Rattle.std.specs.Prelude.{◌≡◌, ℕ, ◌<◌, [], length, not, if◌then◌else◌};
+ghost use Rattle.std.specs.Prelude.{◌≡◌, ℕ, ◌<◌, ◌==◌, [], ◌∷◌, length, not};
 ghost use Rattle.std.specs.List.{AllPass};
 ghost use Rattle.pte.specs.declared.address.What.{What as Asked};
 ghost use Rattle.spaces.specs.Layout.{layout_of};
@@ -9,7 +9,9 @@ ghost use Rattle.spaces.specs.Limits.{max_live_frames, MeetsLimits};
 ghost use Rattle.tlb.specs.Service.{is_served};
 ghost use Rattle.views.specs.Rule.{board_size, cell, IsFit, tickets};
 ghost use Rattle.views.specs.Board.{Steps};
-ghost use Rattle.views.specs.OrderTurns.{IsAsking, IsAwaiting, dropped, ordered, self_acked, with_armed, with_collected};
+ghost use Rattle.shoot.specs.Acknowledgement.{acknowledgement};
+ghost use Rattle.views.specs.declared.view.CellStep.TheVariants.{Found, Stored};
+ghost use Rattle.views.specs.OrderTurns.{IsAsking, IsAwaiting, acknowledged, last_word, looked, ordered, self_acked, with_armed};
 
 use crate::rule::{Place, Turn, Words, load, store};
 use pte::{TABLE_LENGTH, What};
@@ -18,7 +20,8 @@ use spaces::Config;
 use std::marker::Brand;
 use tlb::Tlb;
 
-/// Where a cell stands among all words: after those of the tables, by sender, ticket and receiver.
+/// Where a cell stands among all words: after those of the tables, by sender, receiver and ticket. The cells of a sender and a
+/// receiver are 64 words side by side, so that harts that ask one another share no cache line of cells with others.
 fn cell(config: &Config, sender: u8, ticket: u32, receiver: u8) -> usize
     requires limits { MeetsLimits max_live_frames config.now }
     requires sender { sender < length (layout_of config.now).spares }
@@ -28,8 +31,8 @@ fn cell(config: &Config, sender: u8, ticket: u32, receiver: u8) -> usize
     ensures range { result < board_size (layout_of config.now) }
 {
     let words = config.frame_count() * u64::from(TABLE_LENGTH);
-    let row = u64::from(sender) * MAX_TICKETS as u64 + u64::from(ticket);
-    (words + (row * u64::from(config.harts) + u64::from(receiver))) as usize
+    let pair = u64::from(sender) * u64::from(config.harts) + u64::from(receiver);
+    (words + (pair * MAX_TICKETS as u64 + u64::from(ticket))) as usize
 }
 
 fn open_as<T: Turn>(words: &Words, seat: &mut Place, word: usize, _ticket: u32, _what: What) -> u64
@@ -62,6 +65,7 @@ fn arm_as<T: Turn>(words: &Words, seat: &mut Place, word: usize, _ticket: u32, _
     requires inside { word < words.now.table_id.words }
     requires bare { seat.old.me.1 ≡ [] }
     requires steps { Steps words.now.key seat.old.id seat.old.me.0 word (λ _. 0) (λ _. T.after 0) (λ _. T.tells 0) }
+    requires told { (T.after 0).cell_steps ≡ Stored word 0 ∷ seat.old.me.0.cell_steps }
     ensures same { seat.new.table_id ≡ seat.old.table_id }
     ensures id { seat.new.id ≡ seat.old.id }
     ensures view { seat.new.me ≡ (T.after 0, []) }
@@ -83,11 +87,20 @@ pub fn arm(words: &Words, seat: &mut Place, config: &Config, hart: u8, ticket: u
     arm_as::<Brand>(words, seat, at, ticket, to)
 }
 
-fn acknowledge_as<T: Turn>(words: &Words, seat: &mut Place, word: usize, new: u64, _what: What)
+fn acknowledge_as<T: Turn>(
+    words: &Words,
+    seat: &mut Place,
+    word: usize,
+    new: u64,
+    _from: u8,
+    _ticket: u32,
+    _what: What,
+)
     requires same { seat.old.table_id ≡ words.now.table_id }
     requires inside { word < words.now.table_id.words }
     requires bare { seat.old.me.1 ≡ [] }
     requires steps { Steps words.now.key seat.old.id seat.old.me.0 word (λ _. new) (λ _. T.after new) (λ _. T.tells new) }
+    requires told { (T.after new).cell_steps ≡ Stored word new ∷ seat.old.me.0.cell_steps }
     ensures same { seat.new.table_id ≡ seat.old.table_id }
     ensures id { seat.new.id ≡ seat.old.id }
     ensures view { seat.new.me ≡ (T.after new, []) }
@@ -110,12 +123,12 @@ pub fn acknowledge(
     requires from { from < length (layout_of config.now).spares }
     requires served { AllPass (λ e. not (is_served request.now.what e)) tlb.now.entries }
     ensures fit { IsFit words.now.table_id words.now.key config.now seat.new }
-    ensures view { seat.new.me.0 ≡ dropped request.now.what seat.old.me.0 }
+    ensures view { seat.new.me.0 ≡ acknowledged from request.now.ticket request.now.what seat.old.me.0 }
 {
     let _tlb = tlb;
     let word = encode(request);
     let at = cell(config, from, request.ticket, hart);
-    acknowledge_as::<Brand>(words, seat, at, word, request.what)
+    acknowledge_as::<Brand>(words, seat, at, word, from, request.ticket, request.what)
 }
 
 fn acknowledge_self_as<T: Turn>(
@@ -130,6 +143,7 @@ fn acknowledge_self_as<T: Turn>(
     requires inside { word < words.now.table_id.words }
     requires bare { seat.old.me.1 ≡ [] }
     requires steps { Steps words.now.key seat.old.id seat.old.me.0 word (λ _. new) (λ _. T.after new) (λ _. T.tells new) }
+    requires told { (T.after new).cell_steps ≡ Stored word new ∷ seat.old.me.0.cell_steps }
     ensures same { seat.new.table_id ≡ seat.old.table_id }
     ensures id { seat.new.id ≡ seat.old.id }
     ensures view { seat.new.me ≡ (T.after new, []) }
@@ -170,6 +184,7 @@ fn collect_as<T: Turn>(
     requires inside { word < words.now.table_id.words }
     requires bare { seat.old.me.1 ≡ [] }
     requires steps { Steps words.now.key seat.old.id seat.old.me.0 word (λ n. n) T.after T.tells }
+    requires told { (n : ℕ) → (T.after n).cell_steps ≡ Found word n ∷ seat.old.me.0.cell_steps }
     ensures same { seat.new.table_id ≡ seat.old.table_id }
     ensures id { seat.new.id ≡ seat.old.id }
     ensures view { seat.new.me ≡ (T.after result, []) }
@@ -192,7 +207,8 @@ pub fn collect(
     requires from { from < length (layout_of config.now).spares }
     requires awaits { IsAwaiting config.now seat.old.me.0 request.now.ticket from request.now.what }
     ensures fit { IsFit words.now.table_id words.now.key config.now seat.new }
-    ensures view { seat.new.me.0 ≡ (if result then with_collected request.now.ticket from seat.old.me.0 else seat.old.me.0) }
+    ensures found { result ≡ (last_word seat.new.me.0.cell_steps == acknowledgement request.now.what) }
+    ensures view { seat.new.me.0 ≡ looked request.now.ticket from result (last_word seat.new.me.0.cell_steps) seat.old.me.0 }
     ensures awaits { IsAwaiting config.now seat.new.me.0 request.now.ticket from request.now.what }
 {
     let at = cell(config, hart, request.ticket, from);

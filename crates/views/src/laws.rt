@@ -11,7 +11,7 @@ ghost use Rattle.spaces.specs.Holders.{Holders};
 ghost use Rattle.spaces.specs.Tree.{IsAtHome, IsTree};
 ghost use Rattle.views.specs.declared.view.View.{View};
 ghost use Rattle.views.specs.Rule.{Has, tables_in};
-ghost use Rattle.views.specs.Board.{AcknowledgedIsClean, Board, CollectedIsClean, EqualWordsAskForEqualService, IsAsSaid, UnmappedStaysUnmapped};
+ghost use Rattle.views.specs.Board.{AcknowledgedIsClean, Board, CollectedIsClean, EqualWordsAskForEqualService, IsAsSaid, UnmappedIsWhereNoLeafLeads, UnmappedStaysUnmapped};
 
 /// Once a hart was collected for an unmapping whose page is not mapped anew, what it filled translates no address of the page in
 /// any address space of the place.
@@ -23,6 +23,11 @@ pub fn collected_is_clean()
 /// shared words, lies in its page.
 pub fn unmapped_page_stays_unmapped()
     ensures { UnmappedStaysUnmapped }
+{}
+
+/// That nothing in a page is mapped is that no leaf leads at an address of the page.
+pub fn unmapped_is_where_no_leaf_leads()
+    ensures { UnmappedIsWhereNoLeafLeads }
 {}
 
 /// Once a cell that was armed for an unmapping has the word of what it asks, the receiver's entries translate no address of the

@@ -16,14 +16,14 @@ pub use cells::{acknowledge, acknowledge_self, arm, collect, open_order};
 pub use edits::{decide, edit, store};
 pub use laws::{
     acknowledged_is_clean, collected_is_clean, each_table_word_is_as_its_home_says,
-    equal_words_ask_for_equal_service, table_words_are_a_tree, unmapped_page_stays_unmapped,
-    walk_in_flight_leads,
+    equal_words_ask_for_equal_service, table_words_are_a_tree, unmapped_is_where_no_leaf_leads,
+    unmapped_page_stays_unmapped, walk_in_flight_leads,
 };
 pub use opening::{deal, open};
 pub use rule::{Deal, Memory, Place, Rule, To, Turn, Words};
 pub use services::{serve, serve_self};
 pub use steps::{load_first, load_next, read_home, store_edit};
-pub use view::{Cause, Order, Read, View};
+pub use view::{Cause, CellStep, Order, Read, View};
 pub use walks::walk;
 
 #[cfg(test)]

@@ -20,7 +20,7 @@ fn board_words(alloc: Global, config: &Config) -> Result<Vec<u64>, AllocError>
 {
     let mut words = first_words(alloc, config)?;
     let harts = u64::from(config.harts);
-    for _at in 0..harts * TICKETS * harts {
+    for _at in 0..harts * harts * TICKETS {
         words.push(0)?;
     }
     Ok(words)

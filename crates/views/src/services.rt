@@ -4,7 +4,7 @@ ghost use Rattle.std.specs.Prelude.{◌≡◌, ◌<◌, length};
 ghost use Rattle.spaces.specs.Layout.{layout_of};
 ghost use Rattle.tlb.specs.Service.{served};
 ghost use Rattle.views.specs.Rule.{IsFit};
-ghost use Rattle.views.specs.OrderTurns.{IsAsking, dropped, self_acked};
+ghost use Rattle.views.specs.OrderTurns.{IsAsking, acknowledged, self_acked};
 
 use crate::cells::{acknowledge, acknowledge_self};
 use crate::rule::{Place, Words};
@@ -27,7 +27,7 @@ pub fn serve(
     requires hart { seat.old.me.0.hart ≡ hart }
     requires from { from < length (layout_of config.now).spares }
     ensures fit { IsFit words.now.table_id words.now.key config.now seat.new }
-    ensures view { seat.new.me.0 ≡ dropped request.now.what seat.old.me.0 }
+    ensures view { seat.new.me.0 ≡ acknowledged from request.now.ticket request.now.what seat.old.me.0 }
     ensures tlb { tlb.new ≡ record tlb.old { entries = served tlb.old.entries request.now.what } }
 {
     tlb.serve(&request.what);

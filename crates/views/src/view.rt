@@ -38,6 +38,14 @@ pub struct Order {
     pub collected: LinkedList<u64>,
 }
 
+/// A step on a cell, which stands at an index among all words.
+pub enum CellStep {
+    /// A load of the cell found this word.
+    Found(u64, u64),
+    /// This word was stored to the cell.
+    Stored(u64, u64),
+}
+
 /// What the seat of a hart knows.
 pub struct View {
     /// The hart.
@@ -66,4 +74,6 @@ pub struct View {
     pub entries: LinkedList<Entry>,
     /// All orders of the hart, open or past, the last one first.
     pub orders: LinkedList<Order>,
+    /// All steps that armed a cell, acknowledged or looked for an acknowledgement, the last one first.
+    pub cell_steps: LinkedList<CellStep>,
 }

@@ -16,6 +16,11 @@ collect-requires-clause-awaits c =
     rw (c.deref-2.ensures, ap (λ m. m.ticket) c.in-Some.ensures.request)
     (awaiting (arc_value c.self.inside.config) v.orders c.self.inside.tickets c.args.ticket c.args.from waits (λ e. other (e ∙ c.self.invariant.1)) v c.in-Some.request.what refl what c.self.invariant.4)
 
+pub acked-requires : goal.acked-requires
+acked-requires c =
+    let waits = subst (λ (p : PortState). IsTrue (awaits c.args.from (ticket_at p.tickets c.args.ticket))) (sym c.self.view_is) c.in-Some.ensures.awaits in
+    (named_acked (arc_value c.self.inside.config) c.self.inside.seat.me.0.orders c.self.inside.tickets c.args.ticket c.args.from waits c.self.invariant.4).0
+
 pub collect-requires-2 : goal.collect-requires-2
 collect-requires-2 c =
     let waits = subst (λ (p : PortState). IsTrue (awaits c.args.from (ticket_at p.tickets c.args.ticket))) (sym c.self.view_is) c.in-Some.ensures.awaits in

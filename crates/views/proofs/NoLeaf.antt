@@ -1,0 +1,62 @@
+-- What maps nothing of a page is where no leaf leads at an address of the page.
+use Rattle.std.proofs.Common.{◌≡◌, ℕ, zero, suc, ◌+◌, ◌-◌, ◌%◌, ◌||◌, Bool, true, false, Some, subst, refl, arith}
+use Rattle.std.specs.Prelude.{◌↔◌, IsTrue}
+use Rattle.pte.specs.declared.scheme.Scheme.{Scheme}
+use Rattle.pte.specs.declared.address.PageSize.{PageSize}
+use Rattle.pte.specs.declared.address.PageSize.TheVariants.{Gib1, Gib512, Kib4, Mib2}
+use Rattle.pte.specs.Address.{Holds, bytes_of, level_pages, top_level}
+use Rattle.pte.specs.Entry.{is_global}
+use Rattle.walk.specs.Leads.{IsGlobalAt, Leads, Tables}
+use Rattle.walk.specs.Maps.{page_number}
+use Rattle.walk.proofs.Paths.{global-here, leads-above, none_above}
+use Rattle.spaces.specs.Effects.{IsPart}
+use Rattle.spaces.specs.Layout.{root_ppn}
+use Rattle.spaces.proofs.Halves.{inside_part}
+use Rattle.tlb.proofs.Translating.{lies_in}
+use Rattle.views.specs.Board.{UnmappedIsWhereNoLeafLeads}
+
+-- whether G stands on a word that leads at a level, or above it
+global-found : (scheme : Scheme) (words : Tables) (root va d i t entry : ℕ) → i + d ≡ top_level scheme → Leads scheme words root va i t (Some entry) → (b : Bool) × (IsTrue b ↔ IsGlobalAt scheme words root va i)
+global-found scheme words root va zero i t entry at path =
+    let top : i ≡ top_level scheme = omega arith in (
+      false || is_global entry,
+      global-here scheme words root va i t entry false path (
+        (λ h. absurd (let bad : false ≡ true = h in cc)),
+        (λ g. absurd (none_above scheme words root va (subst (λ k. IsGlobalAt scheme words root va (k + 1)) top g))),
+      ),
+    )
+global-found scheme words root va (suc d) i t entry at path =
+    let p = path.pointers (i + 1) (omega arith) (omega arith) in
+    let up = leads-above scheme words root va i (i + 1) t (Some entry) (omega arith) (omega arith) path in
+    let r = global-found scheme words root va d (i + 1) (path.tables (i + 1)) p.entry (omega arith) (subst (λ w. Leads scheme words root va (i + 1) (path.tables (i + 1)) w) p.is up) in
+    (r.0 || is_global entry, global-here scheme words root va i t entry r.0 path r.1)
+
+-- a page holds the addresses of its parts
+holds-of : (base : ℕ) (size : PageSize) (va number : ℕ) → base % bytes_of size ≡ 0 → page_number va ≡ number → IsPart (record { base = base; size = size }) number → Holds (record { base = base; size = size }) va
+holds-of base Kib4 va number aligned is part = record { from = omega (arith, part.from, part.below); below = omega (arith, part.from, part.below) }
+holds-of base Mib2 va number aligned is part = record { from = omega (arith, part.from, part.below); below = omega (arith, part.from, part.below) }
+holds-of base Gib1 va number aligned is part = record { from = omega (arith, part.from, part.below); below = omega (arith, part.from, part.below) }
+holds-of base Gib512 va number aligned is part = record { from = omega (arith, part.from, part.below); below = omega (arith, part.from, part.below) }
+
+pub no_leaf_leads : UnmappedIsWhereNoLeafLeads
+no_leaf_leads l words place page is-page = (
+  (λ none s va level table entry leaf flags less hangs holds canonical leads kind aligned.
+      let g = global-found l.scheme words (root_ppn l s) va (top_level l.scheme - level) level table entry (omega (arith, leads.level)) leads in
+      let in-page = lies_in page va is-page holds in
+      none s (page_number va) (leaf + page_number va % level_pages level) flags g.0 less (hangs, inside_part page (page_number va) in-page.from in-page.to) (record {
+        va = va;
+        level = level;
+        table = table;
+        entry = entry;
+        leaf = leaf;
+        canonical = canonical;
+        of_page = refl;
+        leads = leads;
+        kind = kind;
+        aligned = aligned;
+        place = refl;
+        is_global = g.1;
+      })),
+  (λ none s number ppn flags global less about m.
+      none s m.va m.level m.table m.entry m.leaf flags less about.0 (holds-of page.base page.size m.va number is-page.aligned m.of_page about.1) m.canonical m.leads m.kind m.aligned),
+)
