@@ -1,5 +1,5 @@
 -- Machines with which the statements of the headline are tried: two harts with given entries and waiting requests.
-use Rattle.std.specs.Prelude.{false, List, [], ◌∷◌, ◌++◌, None, replicate}
+use Rattle.std.specs.Prelude.{false, List, [], ◌∷◌, None}
 use Rattle.pte.specs.declared.scheme.Scheme.TheVariants.{Sv39}
 use Rattle.spaces.specs.Held.{Held}
 use Rattle.tlb.specs.declared.store.Entry.{Entry}
@@ -28,7 +28,7 @@ machine_of of_0 of_1 from_0 from_1 = record {
   spaces = live_space 1 ∷ [];
   harts = hart_holding of_0 ∷ hart_holding of_1 ∷ [];
   tickets = no_tickets 0 ∷ no_tickets 1 ∷ [];
-  mailboxes = empty_mailbox 4 ∷ mailbox_with from_0 ∷ replicate 6 (empty_mailbox 4) ++ mailbox_with from_1 ∷ replicate 55 (empty_mailbox 4);
+  mailboxes = empty_mailbox 4 ∷ mailbox_with from_0 ∷ mailbox_with from_1 ∷ empty_mailbox 4 ∷ [];
 }
 
 abbrev pub machine_holding : List Entry → List Entry → State

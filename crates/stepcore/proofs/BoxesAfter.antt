@@ -36,6 +36,7 @@ use Rattle.stepcore.specs.Stands.{Stands, ticket_held, mailbox_of}
 use Rattle.stepcore.proofs.TicketsHeld.{ticket_told, what_told}
 use Rattle.stepcore.proofs.Tools.{pair_parts}
 use Rattle.stepcore.proofs.BoxReplies.{hart_below, order_of}
+use Rattle.stepcore.proofs.Places.{place_below, same_place}
 
 abbrev mailbox_with : List Message → ℕ → Bool → ℕ → MailboxState
 mailbox_with waiting outstanding closed capacity = record { waiting = waiting; outstanding = outstanding; closed = closed; capacity = capacity }
@@ -47,24 +48,17 @@ request_of sent = sent.request
 abbrev pub mailbox_in : List MailboxState → ℕ → ℕ → MailboxState
 mailbox_in mailboxes s h = unwrap_or (slice_get mailboxes (mailbox_index s h)) (empty_mailbox 0)
 
--- two pairs of numbers below the bound have different places
-same_place : (a b s h : ℕ) → b < MAX_HARTS → h < MAX_HARTS → mailbox_index a b ≡ mailbox_index s h → (a ≡ s) × (b ≡ h)
-same_place a b s h lb lh e = (omega arith, omega arith)
-
-place_below : (a b : ℕ) → a < MAX_HARTS → b < MAX_HARTS → mailbox_index a b < MAX_HARTS * MAX_HARTS
-place_below a b la lb = omega arith
-
-pub mailbox_put : (xs : List MailboxState) (a b s h : ℕ) (v : MailboxState) → length xs ≡ MAX_HARTS * MAX_HARTS → a < MAX_HARTS → b < MAX_HARTS → h < MAX_HARTS
+pub mailbox_put : (n : ℕ) (xs : List MailboxState) (a b s h : ℕ) (v : MailboxState) → length xs ≡ n * n → a < n → b < n
     → mailbox_in (slice_set xs (mailbox_index a b) v) s h ≡ cond (are_same a b s h) v (mailbox_in xs s h)
-mailbox_put xs a b s h v n la lb lh =
+mailbox_put n xs a b s h v count la lb =
     by_test (λ t. mailbox_in (slice_set xs (mailbox_index a b) v) s h ≡ cond t v (mailbox_in xs s h)) (are_same a b s h)
     (λ e. let p = and_parts (eqb a s) (eqb b h) e in
-    let below : mailbox_index a b < length xs = rw n (place_below a b la lb) in
+    let below : mailbox_index a b < length xs = rw count (place_below n a b la lb) in
     subst (λ (i : ℕ). mailbox_in (slice_set xs (mailbox_index a b) v) i h ≡ v) (eqb-true a s p.0)
     (subst (λ (i : ℕ). mailbox_in (slice_set xs (mailbox_index a b) v) a i ≡ v) (eqb-true b h p.1)
     (ap (λ (o : Option MailboxState). unwrap_or o (empty_mailbox 0)) (slice_get-set_same xs (mailbox_index a b) v below))))
     (λ e. ap (λ (o : Option MailboxState). unwrap_or o (empty_mailbox 0)) (slice_get-set_other xs (mailbox_index a b) (mailbox_index s h) v (λ i.
-    let q = same_place a b s h lb lh i in
+    let q = same_place a b s h i in
     false≢true (sym e ∙ and_from (eqb a s) (eqb b h) (eq-eqb a s q.0) (eq-eqb b h q.1)))))
 
 -- the requests that wait, once one is accepted and once one is taken
@@ -85,11 +79,14 @@ waits_less : (ts : List Message) (x : Message) (xs : List Message) → drop 1 (d
 waits_less ts x xs = drop_one (length ts) xs ∙ rw (length-append ts (x ∷ []), add-one) refl
 
 module _ (C : Setup) (m : State) (H : History) (st : Stands C m H) (is : IsMachine m) where
+  hart_there : (h : ℕ) → h < C.harts → h < length m.harts
+  hart_there h l = let n = ap (λ (S : Setup). S.harts) st.setup in omega (arith, l)
+
   -- the mailbox of a pair of harts is replaced
   put_stands : (a b s h : ℕ) (v new : MailboxState) → a < C.harts → b < C.harts → s < C.harts → h < C.harts → (a ≡ s → b ≡ h → v ≡ new)
       → mailbox_in (slice_set m.mailboxes (mailbox_index a b) v) s h ≡ cond (are_same a b s h) new (mailbox_of C H s h)
   put_stands a b s h v new la lb ls lh f =
-      mailbox_put m.mailboxes a b s h v is.mailboxes (hart_below C m H st is a la) (hart_below C m H st is b lb) (hart_below C m H st is h lh)
+      mailbox_put (length m.harts) m.mailboxes a b s h v is.mailboxes (hart_there a la) (hart_there b lb)
       ∙ by_test (λ t. t ≡ are_same a b s h → cond t v (mailbox_at m s h) ≡ cond t new (mailbox_of C H s h)) (are_same a b s h)
       (λ e _. let p = and_parts (eqb a s) (eqb b h) e in f (eqb-true a s p.0) (eqb-true b h p.1))
       (λ _ _. st.mailboxes s h ls lh) refl

@@ -1,5 +1,5 @@
 -- The opened machine stands at the empty history.
-use Rattle.std.proofs.Common.{◌≡◌, ℕ, zero, suc, ◌<◌, List, [], ◌∷◌, None, subst, ap, map, replicate, length, refl, sym, ◌∙◌, arith}
+use Rattle.std.proofs.Common.{◌≡◌, ℕ, zero, suc, ◌*◌, ◌<◌, List, [], ◌∷◌, None, subst, ap, map, replicate, length, refl, sym, ◌∙◌, arith}
 use Rattle.std.specs.List.{range_with_len}
 use Rattle.std.specs.Prelude.{slice_index, slice_get, unwrap_or}
 use Rattle.std.proofs.lemmas.List.{get_or-replicate, length-replicate, length-map}
@@ -17,6 +17,7 @@ use Rattle.shoot.specs.Mailbox.{empty_mailbox}
 use Rattle.shoot.specs.Tickets.{no_tickets}
 use Rattle.history.specs.Setup.{setup_of}
 use Rattle.laws.specs.Kept.{IsSetup}
+use Rattle.stepcore.proofs.Places.{place_below}
 use Rattle.stepcore.specs.State.{State, HartState, IsMachine, idle_hart, new_hart, setup_in, hart_at, live_space, no_space, space_at, tickets_at, mailbox_at, mailbox_index}
 use Rattle.stepcore.specs.Stands.{bare, SpaceStands, Stands}
 
@@ -29,7 +30,7 @@ pub record IsOpened (c : Config) (m : State) : Type 0 where
   pub spaces : m.spaces ≡ map (λ s. live_space s.asid) c.spaces.items
   pub harts : m.harts ≡ replicate c.harts (new_hart c.scheme)
   pub tickets : m.tickets ≡ map no_tickets (range_with_len 0 c.harts)
-  pub mailboxes : m.mailboxes ≡ replicate 64 (empty_mailbox c.capacity)
+  pub mailboxes : m.mailboxes ≡ replicate (c.harts * c.harts) (empty_mailbox c.capacity)
 
 module _ (c : Config) (m : State) (is : IsOpened c m) where
   hart : (h : ℕ) → h < c.harts → hart_at m h ≡ new_hart c.scheme
@@ -40,14 +41,17 @@ module _ (c : Config) (m : State) (is : IsOpened c m) where
       rw is.tickets
       (unwrap_or-slice_get (map no_tickets (range_with_len 0 c.harts)) h (no_tickets h) ∙ get_or-map-range_with_len no_tickets 0 c.harts h h (no_tickets h) less (omega arith))
 
-  mailbox : (s h : ℕ) → s < 8 → h < 8 → mailbox_at m s h ≡ empty_mailbox c.capacity
+  mailbox : (s h : ℕ) → s < c.harts → h < c.harts → mailbox_at m s h ≡ empty_mailbox c.capacity
   mailbox s h less less' =
       rw is.mailboxes
-      (unwrap_or-slice_get (replicate 64 (empty_mailbox c.capacity)) (mailbox_index s h) (empty_mailbox 0)
-      ∙ get_or-replicate 64 (mailbox_index s h) (empty_mailbox c.capacity) (empty_mailbox 0) (omega (arith, less, less')))
+      (unwrap_or-slice_get (replicate (c.harts * c.harts) (empty_mailbox c.capacity)) (mailbox_index s h) (empty_mailbox 0)
+      ∙ get_or-replicate (c.harts * c.harts) (mailbox_index s h) (empty_mailbox c.capacity) (empty_mailbox 0) (place_below c.harts s h less less'))
+
+  some : 0 < c.harts
+  some = omega (arith, is.meets.some_hart)
 
   same_setup : setup_in m ≡ bare (setup_of c)
-  same_setup = rw (mailbox 0 0 (omega arith) (omega arith), is.layout, is.harts, length-replicate c.harts (new_hart c.scheme)) refl
+  same_setup = rw (mailbox 0 0 some some, is.layout, is.harts, length-replicate c.harts (new_hart c.scheme)) refl
 
   count : length m.spaces ≡ length (setup_of c).asids
   count = rw is.spaces (length-map c.spaces.items (λ s. live_space s.asid) ∙ sym (length-map c.spaces.items (λ s. s.asid)))
@@ -75,14 +79,14 @@ module _ (c : Config) (m : State) (is : IsOpened c m) where
     spaces = space_is;
     harts = λ h less. rw (hart h less) (record { space = refl; walk = tt; serving = refl; scheme = refl; entries = refl });
     tickets = tickets;
-    mailboxes = λ s h less less'. mailbox s h (omega (arith, less, is.meets.harts)) (omega (arith, less', is.meets.harts));
+    mailboxes = mailbox;
   }
 
   pub machine : IsMachine m
   machine = record {
     few = omega (arith, is.meets.harts, count);
     tickets = rw (is.tickets, is.harts) (length-map-range_with_len no_tickets 0 c.harts ∙ sym (length-replicate c.harts (new_hart c.scheme)));
-    mailboxes = rw is.mailboxes (length-replicate 64 (empty_mailbox c.capacity));
+    mailboxes = rw (is.mailboxes, count) (length-replicate (c.harts * c.harts) (empty_mailbox c.capacity));
     homes = rw (is.spaces, is.layout) (length-map c.spaces.items (λ s. live_space s.asid) ∙ sym (length-map c.spaces.items (λ s. s.home)));
     spaces = rw (is.harts, is.spaces) (All-replicate (λ (h : HartState). h.space < length (map (λ s. live_space s.asid) c.spaces.items)) c.harts (new_hart c.scheme)
         (omega (arith, is.meets.some_space, length-map c.spaces.items (λ s. live_space s.asid))));

@@ -1,5 +1,5 @@
 -- What no event changes: how many harts there are, the capacity of each mailbox, and so the setup; and what every machine keeps.
-use Rattle.std.proofs.Common.{◌≡◌, ℕ, zero, suc, ◌<◌, Bool, true, false, cond, List, [], ◌∷◌, length, Option, Some, None, slice_get, refl, ap, sym, ◌∙◌, arith, ltb}
+use Rattle.std.proofs.Common.{◌≡◌, ℕ, zero, suc, ◌*◌, ◌<◌, Bool, true, false, cond, List, [], ◌∷◌, length, Option, Some, None, slice_get, refl, ap, sym, ◌∙◌, arith, ltb}
 use Rattle.std.specs.Prelude.{not, slice_set, unwrap_or, All}
 use Rattle.std.proofs.lemmas.Bool.{and_parts, not-false, ltb-true, ltb-false}
 use Rattle.std.proofs.lemmas.List.{length-set, set_past}
@@ -168,7 +168,7 @@ machine_stays m n event r is e f =
     record {
       few = rw harts is.few;
       tickets = tickets ∙ is.tickets ∙ sym harts;
-      mailboxes = mailboxes ∙ is.mailboxes;
+      mailboxes = mailboxes ∙ is.mailboxes ∙ ap (λ (n : ℕ). n * n) (sym harts);
       homes = f.count ∙ is.homes ∙ ap (λ (l : Layout). length l.homes) (sym f.layout);
       spaces = rw (f.count, f.harts) (spaces_stay m event r is e);
     }

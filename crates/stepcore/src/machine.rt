@@ -9,7 +9,7 @@ use crate::hart::Hart;
 use crate::space_state::SpaceState;
 use arrayvec::ArrayVec;
 use history::Scope;
-use shoot::{MAX_HARTS, Mailbox, Tickets};
+use shoot::{Mailbox, Tickets};
 use spaces::{MAX_SPACES, Memory, Place};
 use std::marker::Model;
 
@@ -21,7 +21,7 @@ pub struct Machine {
     pub(crate) spaces: ArrayVec<SpaceState, MAX_SPACES>,
     pub(crate) harts: Vec<Hart>,
     pub(crate) tickets: Vec<Tickets>,
-    // the mailbox from hart s to hart h stands at 8 * s + h
+    // those between the first n harts stand before all others
     pub(crate) mailboxes: Vec<Mailbox>,
 }
 
@@ -169,7 +169,19 @@ impl Machine {
         requires receiver { receiver < length self.now.harts }
         ensures { result.now ≡ mailbox_at self.now sender receiver }
     {
-        &self.mailboxes[mailbox_index(sender, receiver)]
+        let place = self.mailbox_place(sender, receiver);
+        &self.mailboxes[place]
+    }
+
+    /// The place of the mailbox from one hart to another.
+    pub(crate) fn mailbox_place(&self, sender: u8, receiver: u8) -> usize
+        requires sender { sender < length self.now.harts }
+        requires receiver { receiver < length self.now.harts }
+        ensures place { result ≡ mailbox_index sender receiver }
+        ensures inside { result < length self.now.mailboxes }
+    {
+        let _harts = &self.harts;
+        mailbox_index(sender, receiver)
     }
 
     /// The ASID of the space that the hart runs in.
@@ -182,9 +194,15 @@ impl Machine {
     }
 }
 
-/// Where the mailbox from one hart to another stands.
-pub(crate) fn mailbox_index(sender: u8, receiver: u8) -> usize
+/// Where the mailbox from one hart to another stands: those between the first n harts take the first n * n places.
+fn mailbox_index(sender: u8, receiver: u8) -> usize
     ensures { result ≡ mailbox_index sender receiver }
 {
-    MAX_HARTS * usize::from(sender) + usize::from(receiver)
+    let sender = usize::from(sender);
+    let receiver = usize::from(receiver);
+    if sender < receiver {
+        receiver * receiver + sender
+    } else {
+        sender * sender + sender + receiver
+    }
 }

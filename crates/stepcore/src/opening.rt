@@ -1,6 +1,6 @@
 //! Opening a machine.
 
-ghost use Rattle.std.specs.Prelude.{◌≡◌, ◌↔◌, ◌<◌, ◌≤◌, ◌^◌, [], Err, IfOk, OnOk, All, length, map, replicate};
+ghost use Rattle.std.specs.Prelude.{◌≡◌, ◌↔◌, ◌<◌, ◌≤◌, ◌^◌, ◌*◌, [], Err, IfOk, OnOk, All, length, map, replicate};
 ghost use Rattle.std.specs.List.{range_with_len};
 ghost use Rattle.shoot.specs.Mailbox.{empty_mailbox};
 ghost use Rattle.shoot.specs.Tickets.{no_tickets};
@@ -17,12 +17,9 @@ use crate::space_state::{Phase, SpaceState};
 use arrayvec::ArrayVec;
 use laws::limits_give_setup;
 use pte::Scheme;
-use shoot::{MAX_HARTS, Mailbox, Tickets};
+use shoot::{Mailbox, Tickets};
 use spaces::{Config, MAX_SPACES, Memory, OpenFault, Space};
 use std::alloc::{AllocError, Global};
-
-/// How many pairs of numbers of harts there are.
-const PAIRS: usize = MAX_HARTS * MAX_HARTS;
 
 /// The ASID of a space.
 fn asid_of(space: &Space) -> u16
@@ -71,14 +68,16 @@ fn free_tickets(alloc: Global, count: u8) -> Result<Vec<Tickets>, AllocError>
     Ok(tickets)
 }
 
-/// A mailbox for each pair of numbers of harts.
-fn empty_mailboxes(alloc: Global, capacity: usize) -> Result<Vec<Mailbox>, AllocError>
+/// A mailbox for each pair of harts.
+fn empty_mailboxes(alloc: Global, harts: u8, capacity: usize) -> Result<Vec<Mailbox>, AllocError>
+    requires harts { harts ≤ max_harts }
     requires some { 1 ≤ capacity }
     requires bounded { capacity ≤ max_capacity }
-    ensures { IfOk result (λ mailboxes. mailboxes.items ≡ replicate 64 (empty_mailbox capacity)) }
+    ensures { IfOk result (λ mailboxes. mailboxes.items ≡ replicate (harts * harts) (empty_mailbox capacity)) }
 {
-    let mut mailboxes = Vec::with_capacity(alloc, PAIRS)?;
-    for _ in 0..PAIRS {
+    let pairs = usize::from(harts) * usize::from(harts);
+    let mut mailboxes = Vec::with_capacity(alloc, pairs)?;
+    for _ in 0..pairs {
         mailboxes.push(Mailbox::new(capacity))?;
     }
     Ok(mailboxes)
@@ -98,7 +97,7 @@ impl Machine {
         let count = config.harts as u8;
         let harts = idle_harts(alloc, config.scheme, count)?;
         let tickets = free_tickets(alloc, count)?;
-        let mailboxes = empty_mailboxes(alloc, usize::from(config.capacity))?;
+        let mailboxes = empty_mailboxes(alloc, count, usize::from(config.capacity))?;
         limits_give_setup();
         Ok(Machine {
             memory,

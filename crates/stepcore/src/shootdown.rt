@@ -11,7 +11,7 @@ ghost use Rattle.stepcore.specs.State.{hart_at, tickets_at, mailbox_at, mailbox_
 ghost use Rattle.stepcore.specs.Answers.{reply_to, box_answer, next_answer, progress_reply, acked_by};
 ghost use Rattle.stepcore.specs.Changes.{Follows, is_accepted, is_collectable, put_mailbox, what_in};
 
-use crate::machine::{Machine, mailbox_index};
+use crate::machine::Machine;
 use crate::serving::Serving;
 use history::{Refusal, Reply};
 use pte::What;
@@ -58,7 +58,8 @@ impl Machine {
         ensures after { OnOk result (self.new ≡ record self.old { mailboxes = slice_set self.old.mailboxes (mailbox_index sender receiver) (after_post (mailbox_at self.old sender receiver) request) }) }
         ensures unchanged { OnErr result (self.new ≡ self.old) }
     {
-        let mailbox = &mut self.mailboxes[mailbox_index(sender, receiver)];
+        let place = self.mailbox_place(sender, receiver);
+        let mailbox = &mut self.mailboxes[place];
         match mailbox.post(request) {
             Ok(()) => Ok(()),
             Err((PostFault::Closed, _)) => Err(Refusal::Closed),
@@ -74,7 +75,8 @@ impl Machine {
         ensures after { IfSome result (λ request. self.new ≡ record self.old { mailboxes = slice_set self.old.mailboxes (mailbox_index sender receiver) (after_take (mailbox_at self.old sender receiver)) }) }
         ensures unchanged { IfNone result (self.new ≡ self.old) }
     {
-        let mailbox = &mut self.mailboxes[mailbox_index(sender, receiver)];
+        let place = self.mailbox_place(sender, receiver);
+        let mailbox = &mut self.mailboxes[place];
         mailbox.take()
     }
 
@@ -104,7 +106,8 @@ impl Machine {
         requires taken { IsTrue (can_release (mailbox_at self.old sender receiver)) }
         ensures { self.new ≡ record self.old { mailboxes = slice_set self.old.mailboxes (mailbox_index sender receiver) (after_release (mailbox_at self.old sender receiver)) } }
     {
-        let mailbox = &mut self.mailboxes[mailbox_index(sender, receiver)];
+        let place = self.mailbox_place(sender, receiver);
+        let mailbox = &mut self.mailboxes[place];
         mailbox.release();
     }
 
@@ -359,7 +362,8 @@ impl Machine {
         if self.mailbox(hart, to).is_closed() {
             return Reply::Refused(Refusal::Closed);
         }
-        let mailbox = &mut self.mailboxes[mailbox_index(hart, to)];
+        let place = self.mailbox_place(hart, to);
+        let mailbox = &mut self.mailboxes[place];
         mailbox.close();
         Reply::Ok
     }

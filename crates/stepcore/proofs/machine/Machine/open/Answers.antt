@@ -1,4 +1,4 @@
-use Rattle.std.proofs.Common.{rules, ℕ, replicate, ◌<◌, ◌^◌, ◌∙◌, ap, map, subst}
+use Rattle.std.proofs.Common.{rules, ℕ, replicate, ◌*◌, ◌<◌, ◌^◌, ◌∙◌, ap, map, subst}
 use Rattle.std.specs.Prelude.{All}
 use Rattle.spaces.specs.declared.configuration.Space.{Space}
 use Rattle.shoot.specs.Mailbox.{empty_mailbox}
@@ -22,7 +22,7 @@ is_opened c = record {
   spaces = c.live_spaces-spaces.ensures.spaces ∙ ap (map (λ (s : Space). live_space s.asid)) c.deref.ensures.0;
   harts = c.in_ok-harts.ensures;
   tickets = c.in_ok-tickets.ensures;
-  mailboxes = c.in_ok-mailboxes.ensures ∙ ap (λ (n : ℕ). replicate 64 (empty_mailbox n)) c.from.ensures;
+  mailboxes = c.in_ok-mailboxes.ensures ∙ ap (λ (n : ℕ). replicate (c.args.config.now.harts * c.args.config.now.harts) (empty_mailbox n)) c.from.ensures;
 }
 
 pub invariant_of-result : goal.invariant_of-result
