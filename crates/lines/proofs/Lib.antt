@@ -1,3 +1,4 @@
 pub mod Hexadecimal
 pub mod LineLemmas
+pub mod LiveLemmas
 pub mod ReplyLemmas

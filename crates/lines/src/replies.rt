@@ -115,7 +115,8 @@ fn push_request(text: &mut String, request: Request) -> Result<(), AllocError>
     push_what(text, request.what)
 }
 
-fn push_reply(text: &mut String, reply: Reply) -> Result<(), AllocError>
+/// Adds the text of a reply.
+pub(crate) fn push_reply(text: &mut String, reply: Reply) -> Result<(), AllocError>
     ensures ok { OnOk result (string_bytes text.new ≡ string_bytes text.old ++ reply_text reply) }
 {
     match reply {
