@@ -3,11 +3,23 @@
 
 mod blank;
 mod book;
+mod gate;
+mod live;
+mod live_course;
+mod live_port;
+mod live_reply;
+mod live_report;
+mod live_script;
+mod live_threads;
 mod locked;
 mod named;
 
 pub use blank::{Blank, List, Turns};
 pub use board::{Board, HartPort, Mapped, PairReport, Report};
 pub use book::Book;
+pub use gate::{Gate, OpenGate};
+pub use live::run_live;
+pub use live_reply::LiveReply;
+pub use live_report::{LiveFault, LiveReport};
 pub use locked::{Locked, Tally};
 pub use named::Named;

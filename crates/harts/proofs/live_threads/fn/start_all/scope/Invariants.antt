@@ -1,0 +1,12 @@
+use Rattle.std.proofs.Common.{◌≡◌, ◌+◌, ◌≤◌, ◌++◌, length, map}
+use Rattle.std.specs.Prelude.{vec_capacity}
+use Rattle.std.specs.Vec.Iter.{into_iter_items, into_iter_len}
+use Rattle.board.specs.Ports.{name_of}
+use Rattle.harts.proofs.live_threads.fn.start_all.scope.Given as goal
+
+abbrev pub invariant-loop-role : goal.invariant-loop-role
+invariant-loop-role g l = record {
+  same : map (λ handle. name_of handle.promise.0.value) l.handles.items ++ map (λ role. name_of role.port) (into_iter_items l.role-iterator) ≡ map (λ role. name_of role.port) (into_iter_items l.initial.role-iterator);
+  room : length l.handles.items + length (into_iter_items l.role-iterator) ≤ vec_capacity l.handles;
+  left : into_iter_len l.role-iterator ≡ length (into_iter_items l.role-iterator);
+}

@@ -1,0 +1,74 @@
+//! Live runs: each hart is a thread, which does the steps of its script by its port.
+
+ghost use Rattle.std.specs.Prelude.{◌≡◌, ◌≤◌, ◌<◌, ◌↔◌, All, IfOk, OnOk, Err, length, map};
+ghost use Rattle.spaces.specs.Limits.{max_live_frames, MeetsLimits};
+ghost use Rattle.history.specs.Setup.{setup_of};
+ghost use Rattle.board.specs.Ports.{ArePorts, name_of};
+ghost use Rattle.board.specs.Reports.{pairs_of};
+
+use crate::gate::Gate;
+use crate::live_course::Course;
+use crate::live_port::step_of;
+use crate::live_report::{LiveFault, LiveReport};
+use crate::live_threads::{roles_of, run_threads};
+use board::{Board, HartPort};
+use history::LiveStep;
+use spaces::Config;
+use std::alloc::Global;
+use std::sync::Wait;
+use std::thread::Threads;
+
+/// The board and its ports.
+fn open(alloc: Global, config: &Config) -> Result<(Board, Vec<HartPort>), LiveFault>
+    ensures bad_layout { (result ≡ Err LiveFault.BadLayout) ↔ (¬ MeetsLimits max_live_frames config.now) }
+    ensures limits { OnOk result (MeetsLimits max_live_frames config.now) }
+    ensures board { IfOk result (λ r. r.0 ≡ setup_of config.now) }
+    ensures ports { IfOk result (λ r. ArePorts (setup_of config.now) (map name_of r.1.items)) }
+    ensures count { IfOk result (λ r. length r.1.items ≡ config.now.harts) }
+{
+    if !config.check_live() {
+        return Err(LiveFault::BadLayout);
+    }
+    let opened = Board::open(alloc, config)?;
+    Ok(opened)
+}
+
+/// Runs setup's steps in order on this thread, each by the port of its hart. Then each hart is a thread of its own, which does
+/// the steps of its script in order; a hart past the end of `scripts` has none. `gate` is told of each step of a script.
+///
+/// A wait takes at most `turns` turns. In a turn the hart serves once from each other hart, the lowest first, and then collects
+/// the ticket. A hart whose script has ended serves every other hart in turns, until all scripts have ended or `turns` turns
+/// passed. All room for answers is taken before the first thread starts.
+///
+/// `BadLayout` exactly if `Config::check_live` says no, `NoMemory` if memory is wanting, `NoThread` if a thread could not be
+/// started. What the threads do when is not promised.
+pub fn run_live<R: Threads + Wait + Sync, G: Gate + Sync>(
+    rt: &R,
+    alloc: Global,
+    config: &Config,
+    setup: &[(u8, LiveStep)],
+    scripts: &[Vec<LiveStep>],
+    turns: u32,
+    gate: &G,
+) -> Result<LiveReport, LiveFault>
+    requires setup { All (λ step. step.0 < config.now.harts) setup.now }
+    requires scripts { length scripts.now ≤ config.now.harts }
+    ensures bad_layout { (result ≡ Err LiveFault.BadLayout) ↔ (¬ MeetsLimits max_live_frames config.now) }
+    ensures setup { IfOk result (λ r. length r.setup.items ≡ length setup.now) }
+    ensures scripts { IfOk result (λ r. length r.scripts.items ≡ config.now.harts) }
+    ensures pairs { IfOk result (λ r. map (λ pair. (pair.sender, pair.receiver)) r.report.pairs.items ≡ pairs_of config.now.harts config.now.harts) }
+{
+    let (board, mut ports) = open(alloc, config)?;
+    let course = Course::new(config.harts as u8);
+    let mut answers = Vec::with_capacity(alloc, setup.len())?;
+    for (hart, step) in setup {
+        answers.push_reserved(step_of(&mut ports, *hart, step, turns, &course));
+    }
+    let roles = roles_of(alloc, ports, scripts)?;
+    let (ports, scripts) = run_threads(rt, alloc, roles, turns, &course, gate)?;
+    Ok(LiveReport {
+        setup: answers,
+        scripts,
+        report: board.close(ports),
+    })
+}
