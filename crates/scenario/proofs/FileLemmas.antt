@@ -6,17 +6,20 @@ use Rattle.std.proofs.lemmas.Bool.{cases_Bool}
 use Rattle.std.proofs.lemmas.List.{length-replicate}
 use Rattle.std.specs.Str.{IsUtf8, is_utf8}
 use Rattle.std.proofs.lemmas.Str.{IsUtf8-from_is_utf8, is_utf8-from_IsUtf8}
-use Rattle.scenario.specs.declared.fault.Fault.{Fault}
-use Rattle.scenario.specs.declared.fault.Fault.TheVariants as faults
+use Rattle.keys.specs.declared.fault.Fault.{Fault}
+use Rattle.keys.specs.declared.fault.Fault.TheVariants as faults
 use Rattle.scenario.specs.declared.trouble.Trouble.{Trouble}
 use Rattle.scenario.specs.declared.trouble.Trouble.TheVariants as troubles
 use Rattle.scenario.specs.declared.program.Which.{Which}
 use Rattle.scenario.specs.declared.program.Which.TheVariants.{Walk, Run}
-use Rattle.scenario.specs.Command.{done, Ending, misused, ending_of, ending_of_fault, Ends, EndsAs, file_fault, FileLines, IsToldAs, Leaves, no_memory, output_failed, refused, Reports, status_of, too_large, unreadable}
-use Rattle.scenario.specs.Faults.{Failure, fault_in, not_toml}
+use Rattle.scenario.specs.declared.program.Job.{Job}
+use Rattle.scenario.specs.declared.program.Job.TheVariants.{Plain, Live}
+use Rattle.scenario.specs.Command.{done, Ending, misused, ending_of, ending_of_fault, Ends, EndsAs, file_fault, FileLines, IsToldAs, Leaves, no_memory, no_thread, output_failed, refused, Reports, status_of, too_large, unreadable}
+use Rattle.keys.specs.Faults.{Failure, fault_in, not_toml}
 use Rattle.scenario.specs.Input.{AreLeft, IsReadTrouble}
 use Rattle.scenario.specs.Limits.{most_bytes}
-use Rattle.scenario.specs.Prints.{LinesOf, Prints, PrintsReplies}
+use Rattle.scenario.specs.LiveFile.{live_file, live_scenario_of}
+use Rattle.scenario.specs.Prints.{IsUnprinted, LinesOf, Prints, PrintsReplies}
 use Rattle.scenario.specs.Output.{EndsBy}
 use Rattle.scenario.specs.RunFile.{run_scenario_of}
 use Rattle.scenario.specs.WalkFile.{walk_scenario_of}
@@ -40,28 +43,51 @@ abbrev pub TextLines : Which → List ℕ → List ℕ → Type 0
 TextLines Walk text = LinesOf Prints (walk_scenario_of text)
 TextLines Run text = LinesOf PrintsReplies (run_scenario_of text)
 
-pub file_fault-utf8 : (which : Which) (bytes text : List ℕ) → (text ≡ bytes) × IsUtf8 bytes → file_fault which bytes ≡ text_fault which text
+pub file_fault-utf8 : (which : Which) (bytes text : List ℕ) → (text ≡ bytes) × IsUtf8 bytes → file_fault (Plain which) bytes ≡ text_fault which text
 file_fault-utf8 Walk bytes text h = ap fault_in (by_utf8 bytes text walk_scenario_of h)
 file_fault-utf8 Run bytes text h = ap fault_in (by_utf8 bytes text run_scenario_of h)
 
-pub FileLines-utf8 : (which : Which) (bytes text : List ℕ) → (text ≡ bytes) × IsUtf8 bytes → FileLines which bytes ≡ TextLines which text
+pub FileLines-utf8 : (which : Which) (bytes text : List ℕ) → (text ≡ bytes) × IsUtf8 bytes → FileLines (Plain which) bytes ≡ TextLines which text
 FileLines-utf8 Walk bytes text h = ap (LinesOf Prints) (by_utf8 bytes text walk_scenario_of h)
 FileLines-utf8 Run bytes text h = ap (LinesOf PrintsReplies) (by_utf8 bytes text run_scenario_of h)
 
-pub file_fault-not_utf8 : (which : Which) (bytes : List ℕ) → ¬ (IsUtf8 bytes) → file_fault which bytes ≡ Some not_toml
+pub file_fault-not_utf8 : (which : Which) (bytes : List ℕ) → ¬ (IsUtf8 bytes) → file_fault (Plain which) bytes ≡ Some not_toml
 file_fault-not_utf8 Walk bytes h = ap fault_in (by_other bytes walk_scenario_of h)
 file_fault-not_utf8 Run bytes h = ap fault_in (by_other bytes run_scenario_of h)
 
+pub live_file-utf8 : (bytes text : List ℕ) → (text ≡ bytes) × IsUtf8 bytes → live_file bytes ≡ live_scenario_of text
+live_file-utf8 bytes text h = by_utf8 bytes text live_scenario_of h
+
+pub live_file-not_utf8 : (bytes : List ℕ) → ¬ (IsUtf8 bytes) → live_file bytes ≡ Err not_toml
+live_file-not_utf8 bytes h = by_other bytes live_scenario_of h
+
 -- a fault of a file that is not too long is an ending
-pub fault_ends : (which : Which) (bytes : List ℕ) (fault : Fault) (old new : Option (List ℕ)) → length bytes ≤ most_bytes
-    → EndsBy fault (file_fault which bytes) (FileLines which bytes) old new → EndsAs which bytes (ending_of_fault fault) old new
-fault_ends which bytes faults.NotToml old new short h = record { suits = (short, h.0); leaves = h.1 }
-fault_ends which bytes (faults.Key name) old new short h = record { suits = (short, h.0); leaves = h.1 }
-fault_ends which bytes faults.Layout old new short h = record { suits = (short, h.0); leaves = h.1 }
-fault_ends which bytes faults.TooMany old new short h = record { suits = (short, h.0); leaves = h.1 }
-fault_ends which bytes (faults.Step n fault) old new short h = record { suits = (short, h.0); leaves = h.1 }
-fault_ends which bytes faults.Output old new short h = record { suits = (short, h.0); leaves = h.1 }
-fault_ends which bytes faults.NoMemory old new short h = record { suits = tt; leaves = h }
+pub fault_ends : (job : Job) (bytes : List ℕ) (fault : Fault) (old new : Option (List ℕ)) → length bytes ≤ most_bytes
+    → EndsBy fault (file_fault job bytes) (FileLines job bytes) old new → EndsAs job bytes (ending_of_fault fault) old new
+fault_ends job bytes faults.NotToml old new short h = record { suits = (short, h.0); leaves = h.1 }
+fault_ends job bytes (faults.Key name) old new short h = record { suits = (short, h.0); leaves = h.1 }
+fault_ends job bytes faults.Layout old new short h = record { suits = (short, h.0); leaves = h.1 }
+fault_ends job bytes faults.TooMany old new short h = record { suits = (short, h.0); leaves = h.1 }
+fault_ends job bytes (faults.Step n fault) old new short h = record { suits = (short, h.0); leaves = h.1 }
+fault_ends job bytes (faults.Script hart n fault) old new short h = record { suits = (short, h.0); leaves = h.1 }
+fault_ends job bytes faults.Output old new short h = record { suits = (short, h.0); leaves = h.1 }
+fault_ends job bytes faults.NoMemory old new short h = record { suits = tt; leaves = h }
+
+-- a file for `live` that prints nothing, and is not too long, ends so
+pub unprinted_ends : (bytes : List ℕ) (trouble : Trouble) (out : Option (List ℕ)) → length bytes ≤ most_bytes → IsUnprinted trouble (live_file bytes)
+    → EndsAs Live bytes (ending_of trouble) out out
+unprinted_ends bytes troubles.Usage out short h = absurd h
+unprinted_ends bytes troubles.Unreadable out short h = absurd h
+unprinted_ends bytes troubles.TooLarge out short h = absurd h
+unprinted_ends bytes troubles.NoThread out short h = record { suits = (tt, short, h); leaves = Keeps-refl out }
+unprinted_ends bytes (troubles.Refused faults.NotToml) out short h = record { suits = (short, ap fault_in h); leaves = Keeps-refl out }
+unprinted_ends bytes (troubles.Refused (faults.Key name)) out short h = record { suits = (short, ap fault_in h); leaves = Keeps-refl out }
+unprinted_ends bytes (troubles.Refused faults.Layout) out short h = record { suits = (short, ap fault_in h); leaves = Keeps-refl out }
+unprinted_ends bytes (troubles.Refused faults.TooMany) out short h = record { suits = (short, ap fault_in h); leaves = Keeps-refl out }
+unprinted_ends bytes (troubles.Refused (faults.Step n fault)) out short h = record { suits = (short, ap fault_in h); leaves = Keeps-refl out }
+unprinted_ends bytes (troubles.Refused (faults.Script hart n fault)) out short h = record { suits = (short, ap fault_in h); leaves = Keeps-refl out }
+unprinted_ends bytes (troubles.Refused faults.Output) out short h = absurd h
+unprinted_ends bytes (troubles.Refused faults.NoMemory) out short h = record { suits = tt; leaves = Keeps-refl out }
 
 -- bytes that a reader may have
 some_bytes : (left : Option (List ℕ)) → (bytes : List ℕ) × AreLeft left bytes
@@ -72,16 +98,17 @@ long_bytes : (n : ℕ) → (bytes : List ℕ) × (n < length bytes)
 long_bytes n = let byte : ℕ = 0 in (replicate (n + 1) byte, omega (arith, length-replicate (n + 1) byte))
 
 -- a file that was not read ends so, whatever is known of its bytes
-pub unread_ends : (which : Which) (left : Option (List ℕ)) (trouble : Trouble) (out : Option (List ℕ)) → IsReadTrouble trouble left
-    → (bytes : List ℕ) × AreLeft left bytes × EndsAs which bytes (ending_of trouble) out out
-unread_ends which left troubles.Usage out h = absurd h
-unread_ends which left troubles.Unreadable out h = let any = some_bytes left in (any.0, any.1, record { suits = tt; leaves = Keeps-refl out })
-unread_ends which None troubles.TooLarge out h =
+pub unread_ends : (job : Job) (left : Option (List ℕ)) (trouble : Trouble) (out : Option (List ℕ)) → IsReadTrouble trouble left
+    → (bytes : List ℕ) × AreLeft left bytes × EndsAs job bytes (ending_of trouble) out out
+unread_ends job left troubles.Usage out h = absurd h
+unread_ends job left troubles.Unreadable out h = let any = some_bytes left in (any.0, any.1, record { suits = tt; leaves = Keeps-refl out })
+unread_ends job None troubles.TooLarge out h =
     let long = long_bytes most_bytes in (long.0, tt, record { suits = long.1; leaves = Keeps-refl out })
-unread_ends which (Some bytes) troubles.TooLarge out h = (bytes, refl, record { suits = h; leaves = Keeps-refl out })
-unread_ends which left (troubles.Refused fault) out h =
+unread_ends job (Some bytes) troubles.TooLarge out h = (bytes, refl, record { suits = h; leaves = Keeps-refl out })
+unread_ends job left troubles.NoThread out h = absurd h
+unread_ends job left (troubles.Refused fault) out h =
     let any = some_bytes left in
-    subst (λ f. (bytes : List ℕ) × AreLeft left bytes × EndsAs which bytes (ending_of (troubles.Refused f)) out out) (sym h)
+    subst (λ f. (bytes : List ℕ) × AreLeft left bytes × EndsAs job bytes (ending_of (troubles.Refused f)) out out) (sym h)
     (any.0, any.1, record { suits = tt; leaves = Keeps-refl out })
 
 -- a trouble is told as it is, or as want of memory
@@ -89,11 +116,13 @@ pub told_itself : (trouble : Trouble) → IsToldAs (ending_of trouble) (ending_o
 told_itself troubles.Usage = inl refl
 told_itself troubles.Unreadable = inl refl
 told_itself troubles.TooLarge = inl refl
+told_itself troubles.NoThread = inl refl
 told_itself (troubles.Refused faults.NotToml) = inl refl
 told_itself (troubles.Refused (faults.Key name)) = inl refl
 told_itself (troubles.Refused faults.Layout) = inl refl
 told_itself (troubles.Refused faults.TooMany) = inl refl
 told_itself (troubles.Refused (faults.Step n fault)) = inl refl
+told_itself (troubles.Refused (faults.Script hart n fault)) = inl refl
 told_itself (troubles.Refused faults.Output) = inl refl
 told_itself (troubles.Refused faults.NoMemory) = inl refl
 
@@ -101,11 +130,13 @@ pub told_memory : (trouble : Trouble) → IsToldAs (ending_of trouble) no_memory
 told_memory troubles.Usage = inr refl
 told_memory troubles.Unreadable = inr refl
 told_memory troubles.TooLarge = inr refl
+told_memory troubles.NoThread = inr refl
 told_memory (troubles.Refused faults.NotToml) = inr refl
 told_memory (troubles.Refused (faults.Key name)) = inr refl
 told_memory (troubles.Refused faults.Layout) = inr refl
 told_memory (troubles.Refused faults.TooMany) = inr refl
 told_memory (troubles.Refused (faults.Step n fault)) = inr refl
+told_memory (troubles.Refused (faults.Script hart n fault)) = inr refl
 told_memory (troubles.Refused faults.Output) = inr refl
 told_memory (troubles.Refused faults.NoMemory) = inr refl
 
@@ -114,10 +145,10 @@ pub nothing_reported : (file : List ℕ) (err : Option (List ℕ)) → Reports f
 nothing_reported file err = record { told = done; is_told = refl; status_is = refl; tells = (0, Appends-nil err) }
 
 -- a command ends as its file does, with the line that was reported of it
-pub reported : (which : Which) (file : List ℕ) (left : Option (List ℕ)) (ending : Ending) (status : ℕ) (out_old out_new err_old err_new : Option (List ℕ))
-    → (bytes : List ℕ) × AreLeft left bytes × EndsAs which bytes ending out_old out_new → Reports file ending status err_old err_new
-    → (bytes : List ℕ) × AreLeft left bytes × Ends which file bytes status out_old out_new err_old err_new
-reported which file left ending status out_old out_new err_old err_new (bytes, has, ends) r =
+pub reported : (job : Job) (file : List ℕ) (left : Option (List ℕ)) (ending : Ending) (status : ℕ) (out_old out_new err_old err_new : Option (List ℕ))
+    → (bytes : List ℕ) × AreLeft left bytes × EndsAs job bytes ending out_old out_new → Reports file ending status err_old err_new
+    → (bytes : List ℕ) × AreLeft left bytes × Ends job file bytes status out_old out_new err_old err_new
+reported job file left ending status out_old out_new err_old err_new (bytes, has, ends) r =
     (bytes, has, record { ending = ending; ends_as = ends; reports = r })
 
 -- ---- at status 2 and 3 nothing was written
@@ -146,9 +177,10 @@ silent_by Lines (refused failure) told old new is refused_so h = h
 silent_by Lines output_failed told old new (inl is) refused_so h = absurd (not_failed (subst (λ e. IsRefusal (status_of e)) is refused_so))
 silent_by Lines output_failed told old new (inr is) refused_so h = absurd (not_memory (subst (λ e. IsRefusal (status_of e)) is refused_so))
 silent_by Lines no_memory told old new is refused_so h = h
+silent_by Lines no_thread told old new is refused_so h = h
 
-pub silent : (which : Which) (file : List ℕ) (left : Option (List ℕ)) (ending : Ending) (status : ℕ) (out_old out_new err_old err_new : Option (List ℕ))
-    → (bytes : List ℕ) × AreLeft left bytes × EndsAs which bytes ending out_old out_new → Reports file ending status err_old err_new
+pub silent : (job : Job) (file : List ℕ) (left : Option (List ℕ)) (ending : Ending) (status : ℕ) (out_old out_new err_old err_new : Option (List ℕ))
+    → (bytes : List ℕ) × AreLeft left bytes × EndsAs job bytes ending out_old out_new → Reports file ending status err_old err_new
     → (status ≡ 2) ⊎ (status ≡ 3) → Keeps out_old out_new
-silent which file left ending status out_old out_new err_old err_new (bytes, has, ends) r refused_so =
-    silent_by (FileLines which bytes) ending r.told out_old out_new r.is_told (subst IsRefusal r.status_is refused_so) ends.leaves
+silent job file left ending status out_old out_new err_old err_new (bytes, has, ends) r refused_so =
+    silent_by (FileLines job bytes) ending r.told out_old out_new r.is_told (subst IsRefusal r.status_is refused_so) ends.leaves

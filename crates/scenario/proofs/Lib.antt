@@ -1,10 +1,8 @@
-pub mod EachLemmas
 pub mod FileLemmas
-pub mod KeyLemmas
-pub mod LimitLemmas
 pub mod MemoryLemmas
 pub mod OutputLemmas
+pub mod PpnLemmas
 pub mod RunLemmas
-pub mod StepLemmas
+pub mod ScriptLemmas
 pub mod TextLemmas
 pub mod CommandLemmas

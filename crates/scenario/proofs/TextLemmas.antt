@@ -6,13 +6,16 @@ use Rattle.std.proofs.lemmas.List.{drop_more}
 use Rattle.std.proofs.lemmas.Option.{same_Some}
 use Rattle.std.proofs.Math.Seq.{drop-length}
 use Rattle.history.specs.declared.event.Event.{Event}
+use Rattle.history.specs.declared.live_step.LiveStep.{LiveStep}
 use Rattle.steps.specs.declared.fault.StepFault.{StepFault}
 use Rattle.steps.specs.declared.fault.StepFault.TheVariants.{NotStep}
 use Rattle.steps.specs.declared.step.WalkStep.{WalkStep}
+use Rattle.steps.specs.LiveSteps.{live_step_in, setup_step_in}
+use Rattle.steps.proofs.LiveLemmas.{writes-setup}
 use Rattle.steps.specs.RunStep.{step_among}
 use Rattle.steps.specs.Step.{walk_step_of}
-use Rattle.scenario.specs.Faults.{Failure, wrong_step, ◌>>=◌}
-use Rattle.scenario.specs.StepTexts.{AreRead, events_in, IsFirstWrong, steps_from, walk_step_in, walk_steps_in}
+use Rattle.keys.specs.Faults.{Failure, wrong_script, wrong_step, ◌>>=◌}
+use Rattle.scenario.specs.StepTexts.{AreRead, events_in, in_script, IsFirstWrong, script_in, setup_steps_in, steps_from, walk_step_in, walk_steps_in}
 
 -- ---- a loop over texts
 
@@ -82,6 +85,48 @@ events_refused scheme harts ts i front d fault lt is so_far = some_wrong (step_a
 
 pub events_end : (scheme : Scheme) (harts : ℕ) (ts : List (Bor (List ℕ))) (front : List Event) → EventsSoFar scheme harts ts (length ts) front → events_in scheme harts (map (λ text. text.now) ts) ≡ Ok front
 events_end scheme harts ts front so_far = all_read (step_among scheme harts) ts front so_far
+
+-- ---- the loop over the setup of `live`
+
+abbrev pub SetupSoFar : Scheme → ℕ → List (Bor (List ℕ)) → ℕ → List (ℕ × LiveStep) → Type 0
+SetupSoFar scheme harts ts i front = SoFar (setup_step_in scheme harts) ts i front
+
+pub setup_start : (scheme : Scheme) (harts : ℕ) (ts : List (Bor (List ℕ))) → SetupSoFar scheme harts ts 0 []
+setup_start scheme harts ts = bind-nil (setup_steps_in scheme harts (map (λ text. text.now) ts))
+
+pub setup_more : (scheme : Scheme) (harts : ℕ) (ts : List (Bor (List ℕ))) (i : ℕ) (front : List (ℕ × LiveStep)) (d : Bor (List ℕ)) (step : ℕ × LiveStep) → i < length ts → setup_step_in scheme harts (get_or ts i d).now ≡ Ok step
+    → SetupSoFar scheme harts ts i front → SetupSoFar scheme harts ts (i + 1) (front ++ step ∷ [])
+setup_more scheme harts ts i front d step lt is so_far = some_more (setup_step_in scheme harts) ts i front d step lt is so_far
+
+pub setup_refused : (scheme : Scheme) (harts : ℕ) (ts : List (Bor (List ℕ))) (i : ℕ) (front : List (ℕ × LiveStep)) (d : Bor (List ℕ)) (fault : StepFault) → i < length ts → setup_step_in scheme harts (get_or ts i d).now ≡ Err fault
+    → SetupSoFar scheme harts ts i front → setup_steps_in scheme harts (map (λ text. text.now) ts) ≡ Err (wrong_step (i + 1) fault)
+setup_refused scheme harts ts i front d fault lt is so_far = some_wrong (setup_step_in scheme harts) ts i front d fault lt is so_far
+
+pub setup_end : (scheme : Scheme) (harts : ℕ) (ts : List (Bor (List ℕ))) (front : List (ℕ × LiveStep)) → SetupSoFar scheme harts ts (length ts) front → setup_steps_in scheme harts (map (λ text. text.now) ts) ≡ Ok front
+setup_end scheme harts ts front so_far = all_read (setup_step_in scheme harts) ts front so_far
+
+-- the hart of a step that was read is there
+pub hart_there : (scheme : Scheme) (harts : ℕ) (text : List ℕ) (step : ℕ × LiveStep) → setup_step_in scheme harts text ≡ Ok step → step.0 < harts
+hart_there scheme harts text (hart, step) h = (writes-setup scheme harts text hart step h).number.1
+
+-- ---- the loop over a script
+
+abbrev pub ScriptSoFar : Scheme → ℕ → List (Bor (List ℕ)) → ℕ → List LiveStep → Type 0
+ScriptSoFar scheme harts ts i front = SoFar (live_step_in scheme harts) ts i front
+
+pub script_start : (scheme : Scheme) (harts : ℕ) (ts : List (Bor (List ℕ))) → ScriptSoFar scheme harts ts 0 []
+script_start scheme harts ts = bind-nil (steps_from (live_step_in scheme harts) 1 (map (λ text. text.now) ts))
+
+pub script_more : (scheme : Scheme) (harts : ℕ) (ts : List (Bor (List ℕ))) (i : ℕ) (front : List LiveStep) (d : Bor (List ℕ)) (step : LiveStep) → i < length ts → live_step_in scheme harts (get_or ts i d).now ≡ Ok step
+    → ScriptSoFar scheme harts ts i front → ScriptSoFar scheme harts ts (i + 1) (front ++ step ∷ [])
+script_more scheme harts ts i front d step lt is so_far = some_more (live_step_in scheme harts) ts i front d step lt is so_far
+
+pub script_refused : (scheme : Scheme) (harts hart : ℕ) (ts : List (Bor (List ℕ))) (i : ℕ) (front : List LiveStep) (d : Bor (List ℕ)) (fault : StepFault) → i < length ts → live_step_in scheme harts (get_or ts i d).now ≡ Err fault
+    → ScriptSoFar scheme harts ts i front → script_in scheme harts hart (map (λ text. text.now) ts) ≡ Err (wrong_script hart (i + 1) fault)
+script_refused scheme harts hart ts i front d fault lt is so_far = ap (in_script hart) (some_wrong (live_step_in scheme harts) ts i front d fault lt is so_far)
+
+pub script_end : (scheme : Scheme) (harts hart : ℕ) (ts : List (Bor (List ℕ))) (front : List LiveStep) → ScriptSoFar scheme harts ts (length ts) front → script_in scheme harts hart (map (λ text. text.now) ts) ≡ Ok front
+script_end scheme harts hart ts front so_far = ap (in_script hart) (all_read (live_step_in scheme harts) ts front so_far)
 
 -- ---- each text is read as the step in its place
 
@@ -178,3 +223,7 @@ pub told_wrong : {X : Type 0} (read : List ℕ → Result X StepFault) (texts : 
     → steps_from read 1 texts ≡ Err (wrong_step n fault)
 told_wrong read texts n fault w =
     rw (w.is, w.number) (wrong_behind read 1 w.before w.text w.behind w.steps fault w.read_before w.wrong)
+
+pub script_ok : {X : Type 0} (hart : ℕ) (r : Result X Failure) (steps : X) → in_script hart r ≡ Ok steps → r ≡ Ok steps
+script_ok hart (Ok x) steps h = h
+script_ok hart (Err failure) steps h = cc

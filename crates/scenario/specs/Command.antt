@@ -1,29 +1,38 @@
 -- How a command ends, by its status.
 use Rattle.std.specs.Prelude.{◌≡◌, ℕ, ◌<◌, ◌≤◌, ◌⊎◌, ◌++◌, List, [], length, codes, string_bytes, Option, Some, None, Result, Ok, Err}
 use Rattle.std.specs.Io.KnownBytes.{Keeps}
-use Rattle.scenario.specs.declared.program.Which.{Which}
 use Rattle.scenario.specs.declared.program.Which.TheVariants.{Walk, Run}
+use Rattle.scenario.specs.declared.program.Job.{Job}
+use Rattle.scenario.specs.declared.program.Job.TheVariants.{Plain, Live}
 use Rattle.scenario.specs.declared.trouble.Trouble.{Trouble}
 use Rattle.scenario.specs.declared.trouble.Trouble.TheVariants as troubles
-use Rattle.scenario.specs.declared.fault.Fault.{Fault}
-use Rattle.scenario.specs.declared.fault.Fault.TheVariants as faults
-use Rattle.scenario.specs.Faults.{Failure, not_toml, wrong_key, bad_layout, too_many, wrong_step, failure_text, fault_in}
-use Rattle.scenario.specs.Prints.{LinesOf, Prints, PrintsReplies}
+use Rattle.keys.specs.declared.fault.Fault.{Fault}
+use Rattle.keys.specs.declared.fault.Fault.TheVariants as faults
+use Rattle.keys.specs.Faults.{Failure, not_toml, wrong_key, bad_layout, too_many, wrong_step, wrong_script, failure_text, fault_in}
+use Rattle.scenario.specs.Prints.{LinesOf, Prints, PrintsLive, PrintsReplies}
 use Rattle.scenario.specs.Output.{AppendsFront, WritesAll, WritesFront}
 use Rattle.scenario.specs.Input.{AreLeft}
 use Rattle.scenario.specs.Limits.{most_bytes}
 use Rattle.scenario.specs.WalkFile.{walk_file}
 use Rattle.scenario.specs.RunFile.{run_file}
+use Rattle.scenario.specs.LiveFile.{live_file}
 
 -- the first fault of a file's bytes, if they have one
-abbrev pub file_fault : Which → List ℕ → Option Failure
-file_fault Walk bytes = fault_in (walk_file bytes)
-file_fault Run bytes = fault_in (run_file bytes)
+abbrev pub file_fault : Job → List ℕ → Option Failure
+file_fault (Plain Walk) bytes = fault_in (walk_file bytes)
+file_fault (Plain Run) bytes = fault_in (run_file bytes)
+file_fault Live bytes = fault_in (live_file bytes)
 
 -- what is printed of a file
-abbrev pub FileLines : Which → List ℕ → List ℕ → Type 0
-FileLines Walk bytes = LinesOf Prints (walk_file bytes)
-FileLines Run bytes = LinesOf PrintsReplies (run_file bytes)
+abbrev pub FileLines : Job → List ℕ → List ℕ → Type 0
+FileLines (Plain Walk) bytes = LinesOf Prints (walk_file bytes)
+FileLines (Plain Run) bytes = LinesOf PrintsReplies (run_file bytes)
+FileLines Live bytes = LinesOf PrintsLive (live_file bytes)
+
+-- whether it starts threads
+abbrev pub StartsThreads : Job → Type 0
+StartsThreads (Plain which) = ⊥
+StartsThreads Live = Unit {0}
 
 pub data Ending : Type 0 where
   done : Ending
@@ -33,6 +42,7 @@ pub data Ending : Type 0 where
   refused : Failure → Ending
   output_failed : Ending
   no_memory : Ending
+  no_thread : Ending
 
 abbrev pub failure_status : Failure → ℕ
 failure_status not_toml = 2
@@ -46,6 +56,7 @@ status_of too_large = 2
 status_of (refused failure) = failure_status failure
 status_of output_failed = 4
 status_of no_memory = 5
+status_of no_thread = 5
 
 abbrev pub reason : List ℕ → Ending → List ℕ
 reason file done = []
@@ -55,6 +66,7 @@ reason file too_large = codes "file too large"
 reason file (refused failure) = failure_text failure
 reason file output_failed = codes "output failed"
 reason file no_memory = codes "no memory"
+reason file no_thread = codes "no thread"
 
 -- the line on standard error
 abbrev pub error_line : List ℕ → Ending → List ℕ
@@ -65,15 +77,16 @@ error_line file ending = codes "svsim: " ++ reason file ending ++ codes "\n"
 abbrev pub IsTold : Ending → ℕ → List ℕ → Type 0
 IsTold ending status line = (status_of ending ≡ status) × (error_line (codes "f") ending ≡ line)
 
--- when a file of these bytes may end so; each may be unreadable, or want memory
-abbrev pub Suits : Which → List ℕ → Ending → Type 0
-Suits which bytes done = (length bytes ≤ most_bytes) × (file_fault which bytes ≡ None)
-Suits which bytes misused = ⊥
-Suits which bytes unreadable = Unit {0}
-Suits which bytes too_large = most_bytes < length bytes
-Suits which bytes (refused failure) = (length bytes ≤ most_bytes) × (file_fault which bytes ≡ Some failure)
-Suits which bytes output_failed = (length bytes ≤ most_bytes) × (file_fault which bytes ≡ None)
-Suits which bytes no_memory = Unit {0}
+-- when a file of these bytes may end so; each may be unreadable, or want memory, and a faultless one for `live` a thread
+abbrev pub Suits : Job → List ℕ → Ending → Type 0
+Suits job bytes done = (length bytes ≤ most_bytes) × (file_fault job bytes ≡ None)
+Suits job bytes misused = ⊥
+Suits job bytes unreadable = Unit {0}
+Suits job bytes too_large = most_bytes < length bytes
+Suits job bytes (refused failure) = (length bytes ≤ most_bytes) × (file_fault job bytes ≡ Some failure)
+Suits job bytes output_failed = (length bytes ≤ most_bytes) × (file_fault job bytes ≡ None)
+Suits job bytes no_memory = Unit {0}
+Suits job bytes no_thread = StartsThreads job × (length bytes ≤ most_bytes) × (file_fault job bytes ≡ None)
 
 -- what was written of the lines: all, a beginning, or nothing
 abbrev pub Leaves : (List ℕ → Type 0) → Ending → Option (List ℕ) → Option (List ℕ) → Type 0
@@ -82,9 +95,9 @@ Leaves Lines output_failed old new = WritesFront Lines old new
 Leaves Lines _ old new = Keeps old new
 
 -- the file may end so, and this is what it leaves
-pub record EndsAs (which : Which) (bytes : List ℕ) (ending : Ending) (old new : Option (List ℕ)) : Type 0 where
-  pub suits : Suits which bytes ending
-  pub leaves : Leaves (FileLines which bytes) ending old new
+pub record EndsAs (job : Job) (bytes : List ℕ) (ending : Ending) (old new : Option (List ℕ)) : Type 0 where
+  pub suits : Suits job bytes ending
+  pub leaves : Leaves (FileLines job bytes) ending old new
 
 -- what is told of an ending: itself, or want of memory for its line, if it has one
 abbrev pub IsToldAs : Ending → Ending → Type 0
@@ -99,16 +112,16 @@ pub record Reports (file : List ℕ) (ending : Ending) (status : ℕ) (old new :
   pub tells : AppendsFront old new (error_line file told)
 
 -- how a command ends on a file of these bytes: one ending gives the output, the status and the line on standard error
-pub record Ends (which : Which) (file bytes : List ℕ) (status : ℕ) (out_old out_new err_old err_new : Option (List ℕ)) : Type 0 where
+pub record Ends (job : Job) (file bytes : List ℕ) (status : ℕ) (out_old out_new err_old err_new : Option (List ℕ)) : Type 0 where
   pub ending : Ending
-  pub ends_as : EndsAs which bytes ending out_old out_new
+  pub ends_as : EndsAs job bytes ending out_old out_new
   pub reports : Reports file ending status err_old err_new
 
 -- how a command ends on a reader that was opened; without one the file is unreadable, and nothing is written of it
-abbrev pub EndsOn : {R : Type 0} → (R → Option (List ℕ)) → Which → List ℕ → Option R → ℕ → Option (List ℕ) → Option (List ℕ) → Option (List ℕ) → Option (List ℕ) → Type 0
-EndsOn remaining which file None status out_old out_new err_old err_new = Reports file unreadable status err_old err_new × Keeps out_old out_new
-EndsOn remaining which file (Some reader) status out_old out_new err_old err_new =
-    (bytes : List ℕ) × AreLeft (remaining reader) bytes × Ends which file bytes status out_old out_new err_old err_new
+abbrev pub EndsOn : {R : Type 0} → (R → Option (List ℕ)) → Job → List ℕ → Option R → ℕ → Option (List ℕ) → Option (List ℕ) → Option (List ℕ) → Option (List ℕ) → Type 0
+EndsOn remaining job file None status out_old out_new err_old err_new = Reports file unreadable status err_old err_new × Keeps out_old out_new
+EndsOn remaining job file (Some reader) status out_old out_new err_old err_new =
+    (bytes : List ℕ) × AreLeft (remaining reader) bytes × Ends job file bytes status out_old out_new err_old err_new
 
 -- ---- how the code's troubles stand for endings
 
@@ -118,6 +131,7 @@ ending_of_fault (faults.Key name) = refused (wrong_key (string_bytes name))
 ending_of_fault faults.Layout = refused bad_layout
 ending_of_fault faults.TooMany = refused too_many
 ending_of_fault (faults.Step n fault) = refused (wrong_step n fault)
+ending_of_fault (faults.Script hart n fault) = refused (wrong_script hart n fault)
 ending_of_fault faults.Output = output_failed
 ending_of_fault faults.NoMemory = no_memory
 
@@ -125,6 +139,7 @@ abbrev pub ending_of : Trouble → Ending
 ending_of troubles.Usage = misused
 ending_of troubles.Unreadable = unreadable
 ending_of troubles.TooLarge = too_large
+ending_of troubles.NoThread = no_thread
 ending_of (troubles.Refused fault) = ending_of_fault fault
 
 -- how it ended, by what a function returned

@@ -5,7 +5,8 @@ use Rattle.std.specs.Option.{ok_or}
 use Rattle.std.specs.Str.{bytes_eq}
 use Rattle.std.specs.declared.io.ErrorKind.{ErrorKind}
 use Rattle.std.specs.declared.io.ErrorKind.TheVariants as kinds
-use Rattle.scenario.specs.declared.program.Which.{Which}
+use Rattle.scenario.specs.declared.program.Job.{Job}
+use Rattle.scenario.specs.declared.program.Job.TheVariants.{Plain, Live}
 use Rattle.scenario.specs.declared.program.Which.TheVariants.{Walk, Run}
 use Rattle.scenario.specs.declared.command_line.Ask.{Ask}
 use Rattle.scenario.specs.declared.command_line.NoWords.{NoWords}
@@ -14,16 +15,17 @@ use Rattle.scenario.specs.Command.{Ending, misused, no_memory}
 
 -- a command, and the name of the file that it reads
 pub record Asked : Type 0 where
-  pub which : Which
+  pub job : Job
   pub file : List ℕ
 
 abbrev pub ask_view : Ask → Asked
-ask_view ask = record { which = ask.which; file = ask.file.now }
+ask_view ask = record { job = ask.job; file = ask.file.now }
 
-abbrev pub command_of : List ℕ → Option Which
-command_of word =
-    if bytes_eq word (codes "walk") then Some Walk
-    else if bytes_eq word (codes "run") then Some Run
+abbrev pub job_of : List ℕ → Option Job
+job_of word =
+    if bytes_eq word (codes "walk") then Some (Plain Walk)
+    else if bytes_eq word (codes "run") then Some (Plain Run)
+    else if bytes_eq word (codes "live") then Some Live
     else None
 
 -- `-` and more
@@ -35,7 +37,7 @@ abbrev pub is_end : List ℕ → Bool
 is_end word = bytes_eq word (codes "--")
 
 abbrev pub asked_by : List ℕ → List ℕ → Option Asked
-asked_by word file = option_map (λ which. record { which = which; file = file }) (command_of word)
+asked_by word file = option_map (λ job. record { job = job; file = file }) (job_of word)
 
 -- COMMAND and FILE, neither of them an option
 abbrev pub asked_of_two : List ℕ → List ℕ → Option Asked

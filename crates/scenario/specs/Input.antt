@@ -3,8 +3,8 @@ use Rattle.std.specs.Prelude.{◌≡◌, ℕ, ◌≤◌, ◌<◌, List, ◌++◌
 use Rattle.std.specs.Io.KnownBytes.{Consumes, IsAtEnd}
 use Rattle.scenario.specs.Limits.{most_bytes}
 use Rattle.scenario.specs.declared.trouble.Trouble.{Trouble}
-use Rattle.scenario.specs.declared.trouble.Trouble.TheVariants.{Usage, Unreadable, TooLarge, Refused}
-use Rattle.scenario.specs.declared.fault.Fault.TheVariants.{NoMemory}
+use Rattle.scenario.specs.declared.trouble.Trouble.TheVariants.{Usage, Unreadable, TooLarge, NoThread, Refused}
+use Rattle.keys.specs.declared.fault.Fault.TheVariants.{NoMemory}
 
 -- these are the bytes that a reader has, where they are known
 abbrev pub AreLeft : Option (List ℕ) → List ℕ → Type 0
@@ -24,6 +24,7 @@ abbrev pub IsPieceTrouble : Trouble → Type 0
 IsPieceTrouble Usage = ⊥
 IsPieceTrouble Unreadable = Unit {0}
 IsPieceTrouble TooLarge = ⊥
+IsPieceTrouble NoThread = ⊥
 IsPieceTrouble (Refused fault) = fault ≡ NoMemory
 
 -- the same, or the reader has more than a file may have
@@ -31,4 +32,5 @@ abbrev pub IsReadTrouble : Trouble → Option (List ℕ) → Type 0
 IsReadTrouble Usage left = ⊥
 IsReadTrouble Unreadable left = Unit {0}
 IsReadTrouble TooLarge left = IfSome left (λ bytes. most_bytes < length bytes)
+IsReadTrouble NoThread left = ⊥
 IsReadTrouble (Refused fault) left = fault ≡ NoMemory

@@ -1,10 +1,8 @@
-pub mod Faults
 pub mod Limits
-pub mod Keys
 pub mod Memory
-pub mod Settings
 pub mod StepTexts
 pub mod RunFile
+pub mod LiveFile
 pub mod WalkFile
 pub mod Prints
 pub mod Output

@@ -1,10 +1,18 @@
 -- What is printed of a scenario.
-use Rattle.std.specs.Prelude.{◌≡◌, ℕ, List, [], Result, Ok, Err}
+use Rattle.std.specs.Prelude.{◌≡◌, ℕ, List, [], length, map, None, Result, Ok, Err}
+use Rattle.board.specs.Reports.{pairs_of}
+use Rattle.board.specs.declared.report.PairReport.{PairReport}
+use Rattle.harts.specs.declared.live_reply.LiveReply.{LiveReply}
 use Rattle.history.specs.Runs.{due_replies}
 use Rattle.history.specs.Setup.{setup_of}
 use Rattle.lines.specs.AnswerLines.{WritesLines}
+use Rattle.lines.specs.LiveLines.{live_lines}
 use Rattle.lines.specs.ReplyLines.{reply_lines}
-use Rattle.scenario.specs.Faults.{Failure}
+use Rattle.keys.specs.Faults.{Failure, Fails, fault_in}
+use Rattle.keys.specs.declared.fault.Fault.TheVariants.{NoMemory}
+use Rattle.scenario.specs.declared.trouble.Trouble.{Trouble}
+use Rattle.scenario.specs.declared.trouble.Trouble.TheVariants.{Usage, Unreadable, TooLarge, NoThread, Refused}
+use Rattle.scenario.specs.LiveFile.{LivePlan}
 use Rattle.scenario.specs.RunFile.{RunPlan}
 use Rattle.scenario.specs.WalkFile.{WalkPlan}
 
@@ -16,7 +24,38 @@ Prints plan lines = WritesLines plan.scheme plan.tables plan.root 1 plan.steps l
 abbrev pub PrintsReplies : RunPlan → List ℕ → Type 0
 PrintsReplies plan lines = lines ≡ reply_lines (due_replies (setup_of plan.config) [] plan.events)
 
+-- a run of the plan may answer so: it answers each step of the setup, has a script for each hart, and tells of each mailbox once,
+-- by sender and then by receiver
+pub record AreAnswers (plan : LivePlan) (setup : List LiveReply) (scripts : List (List LiveReply)) (pairs : List PairReport) : Type 0 where
+  pub setup_count : length setup ≡ length plan.setup
+  pub script_count : length scripts ≡ plan.config.harts
+  pub pairs_are : map (λ pair. (pair.sender, pair.receiver)) pairs ≡ pairs_of plan.config.harts plan.config.harts
+
+-- what `live` prints: the lines of the answers of some run; what the threads do when, no clause says
+pub record PrintsLive (plan : LivePlan) (lines : List ℕ) : Type 0 where
+  pub setup : List LiveReply
+  pub scripts : List (List LiveReply)
+  pub pairs : List PairReport
+  pub are_answers : AreAnswers plan setup scripts pairs
+  pub lines_are : lines ≡ live_lines setup scripts pairs
+
 -- what a text prints, by what it was read as; of a faulty one, nothing
 abbrev pub LinesOf : {P : Type 0} → (P → List ℕ → Type 0) → Result P Failure → List ℕ → Type 0
 LinesOf prints (Ok plan) lines = prints plan lines
 LinesOf prints (Err e) lines = lines ≡ []
+
+-- why a run has no answers
+abbrev pub IsUnstarted : Trouble → Type 0
+IsUnstarted Usage = ⊥
+IsUnstarted Unreadable = ⊥
+IsUnstarted TooLarge = ⊥
+IsUnstarted NoThread = Unit {0}
+IsUnstarted (Refused fault) = fault ≡ NoMemory
+
+-- why a file for `live` that was read as this prints nothing: its first fault, want of memory, or of a thread
+abbrev pub IsUnprinted : {P : Type 0} → Trouble → Result P Failure → Type 0
+IsUnprinted Usage read = ⊥
+IsUnprinted Unreadable read = ⊥
+IsUnprinted TooLarge read = ⊥
+IsUnprinted NoThread read = fault_in read ≡ None
+IsUnprinted (Refused fault) read = Fails fault read

@@ -6,12 +6,13 @@ use Rattle.toml.specs.Data.{Members}
 use Rattle.toml.specs.Parse.{parse_document}
 use Rattle.pte.specs.declared.scheme.Scheme.{Scheme}
 use Rattle.spaces.specs.declared.configuration.Config.{Config}
+use Rattle.spaces.specs.Limits.{max_frames}
 use Rattle.history.specs.declared.event.Event.{Event}
 use Rattle.scenario.specs.declared.plan.RunScenario.{RunScenario}
-use Rattle.scenario.specs.Faults.{Failure, not_toml, ◌>>=◌}
-use Rattle.scenario.specs.Keys.{few, known_only, texts_at}
-use Rattle.scenario.specs.Settings.{checked, config_at, mode_at}
-use Rattle.scenario.specs.StepTexts.{events_in}
+use Rattle.keys.specs.Faults.{Failure, not_toml, ◌>>=◌}
+use Rattle.keys.specs.Keys.{known_only, texts_at}
+use Rattle.keys.specs.Settings.{checked, config_at, mode_at}
+use Rattle.scenario.specs.StepTexts.{events_in, few}
 
 -- what the harts begin with, and their steps in order
 pub record RunPlan : Type 0 where
@@ -35,7 +36,7 @@ run_plan_of ms = do
   config ← config_at ms
   texts ← texts_at (codes "steps") ms
   scheme ← mode_at ms
-  _ ← checked (in_scheme scheme config)
+  _ ← checked max_frames (in_scheme scheme config)
   _ ← few texts
   events ← events_in scheme config.harts texts
   Ok (record { config = in_scheme scheme config; events = events })

@@ -13,12 +13,12 @@ use Rattle.scenario.specs.declared.plan.WalkScenario.{WalkScenario}
 use Rattle.steps.specs.declared.step.WalkStep.{WalkStep}
 use Rattle.steps.specs.Num.{num_of}
 use Rattle.steps.specs.Words.{words_of}
-use Rattle.scenario.specs.Faults.{Failure, not_toml, wrong_key, ◌>>=◌}
-use Rattle.scenario.specs.Keys.{below, each, few, known_only, one_number, texts_at, value_or}
+use Rattle.keys.specs.Faults.{Failure, not_toml, wrong_key, ◌>>=◌}
+use Rattle.keys.specs.Keys.{below, each, known_only, one_number, texts_at, value_or}
 use Rattle.scenario.specs.Limits.{most_frames}
 use Rattle.scenario.specs.Memory.{is_listed, word_at, word_in}
-use Rattle.scenario.specs.Settings.{mode_at}
-use Rattle.scenario.specs.StepTexts.{walk_steps_in}
+use Rattle.keys.specs.Settings.{mode_at}
+use Rattle.scenario.specs.StepTexts.{few, walk_steps_in}
 
 -- a scheme, a root, the words of the table frames, and the accesses that are made from the root
 pub record WalkPlan : Type 0 where

@@ -5,19 +5,23 @@ ghost use Rattle.std.specs.Io.KnownBytes.{Keeps};
 ghost use Rattle.std.specs.IoError.{error_kind};
 ghost use Rattle.scenario.specs.declared.command_line.NoWords.TheVariants.{NoMemory};
 ghost use Rattle.scenario.specs.Command.{EndsOn, Reports};
-ghost use Rattle.scenario.specs.CommandLine.{ask_view, asked, asked_by, asked_in, asked_of_three, asked_of_two, command_of, is_end, is_option, no_words_by};
+ghost use Rattle.scenario.specs.CommandLine.{ask_view, asked, asked_by, asked_in, asked_of_three, asked_of_two, is_end, is_option, job_of, no_words_by};
 
-use crate::fault::Fault;
-use crate::program::{Which, command, report};
+use crate::live_program::live_command;
+use crate::program::{Job, Which, command, report};
 use crate::trouble::Trouble;
+use harts::Gate;
+use keys::Fault;
 use std::alloc::{AllocError, Global};
 use std::io;
 use std::io::{Read, Write};
+use std::sync::Wait;
+use std::thread::Threads;
 
-/// What the words ask for: a command, and the file that it reads.
+/// What the words ask for, and the file that it reads.
 #[derive(Clone, Copy, Debug)]
 pub struct Ask<'a> {
-    pub which: Which,
+    pub job: Job,
     pub file: &'a str,
 }
 
@@ -49,14 +53,17 @@ impl From<io::Error> for NoWords {
     }
 }
 
-fn command_of(word: &str) -> Option<Which>
-    ensures { result ≡ command_of word.now }
+fn job_of(word: &str) -> Option<Job>
+    ensures { result ≡ job_of word.now }
 {
     if word == "walk" {
-        return Some(Which::Walk);
+        return Some(Job::Plain(Which::Walk));
     }
     if word == "run" {
-        return Some(Which::Run);
+        return Some(Job::Plain(Which::Run));
+    }
+    if word == "live" {
+        return Some(Job::Live);
     }
     None
 }
@@ -78,8 +85,8 @@ fn is_end(word: &str) -> bool
 fn asked_by<'a>(word: &str, file: &'a str) -> Option<Ask<'a>>
     ensures { option_map ask_view result ≡ asked_by word.now file.now }
 {
-    match command_of(word) {
-        Some(which) => Some(Ask { which, file }),
+    match job_of(word) {
+        Some(job) => Some(Ask { job, file }),
         None => None,
     }
 }
@@ -125,35 +132,50 @@ pub fn ask_of(words: &[String]) -> Option<Ask<'_>>
     None
 }
 
-/// Does a command on the file that `input` reads; without one the file could not be opened.
-fn on_file<R: Read + Drop, W: Write, E: Write>(
+/// Does what was asked for on the file that `input` reads; without one the file could not be opened.
+fn on_file<T: Threads + Wait + Sync, R: Read + Drop, W: Write, E: Write, G: Gate + Sync>(
+    rt: &T,
     alloc: Global,
     ask: Ask<'_>,
     input: Option<R>,
     out: &mut W,
     err: &mut E,
+    gate: &G,
 ) -> u8
-    ensures { EndsOn R.remaining ask.entry.which ask.entry.file.now input result (W.contents out.old) (W.contents out.new) (E.contents err.old) (E.contents err.new) }
+    ensures { EndsOn R.remaining ask.entry.job ask.entry.file.now input result (W.contents out.old) (W.contents out.new) (E.contents err.old) (E.contents err.new) }
 {
-    match input {
-        Some(mut reader) => command(alloc, ask.which, ask.file, &mut reader, out, err),
-        None => report(alloc, ask.file, &Trouble::Unreadable, err),
+    let Some(mut reader) = input else {
+        return report(alloc, ask.file, &Trouble::Unreadable, err);
+    };
+    match ask.job {
+        Job::Plain(which) => command(alloc, which, ask.file, &mut reader, out, err),
+        Job::Live => live_command(rt, alloc, ask.file, &mut reader, out, err, gate),
     }
 }
 
 /// The whole of the program: does what the words ask for on the file that `reader_of` opens, and answers the status. It is
 /// called with the name of the file, once the words are known to ask for one. Words that ask for nothing are told by the line
-/// `svsim: usage: svsim COMMAND FILE` and status 2, a file that is not opened as one that can't be read.
-pub fn answer_words<R: Read + Drop, W: Write, E: Write, O: FnOnce(&str) -> Option<R>>(
+/// `svsim: usage: svsim COMMAND FILE` and status 2, a file that is not opened as one that can't be read. Threads are started,
+/// and `gate` is asked, by `live` alone.
+pub fn answer_words<
+    T: Threads + Wait + Sync,
+    R: Read + Drop,
+    W: Write,
+    E: Write,
+    O: FnOnce(&str) -> Option<R>,
+    G: Gate + Sync,
+>(
+    rt: &T,
     alloc: Global,
     words: Result<Vec<String>, NoWords>,
     reader_of: O,
     out: &mut W,
     err: &mut E,
+    gate: &G,
 ) -> u8
     requires { O.IsAlwaysCallable reader_of }
     ensures asked { IfOk (asked_in words) (λ ask. (input : Option R) × FnOnceReturnsAt O.FnOnce reader_of ask.file input
-        × EndsOn R.remaining ask.which ask.file input result (W.contents out.old) (W.contents out.new) (E.contents err.old) (E.contents err.new)) }
+        × EndsOn R.remaining ask.job ask.file input result (W.contents out.old) (W.contents out.new) (E.contents err.old) (E.contents err.new)) }
     ensures unasked { IfErr (asked_in words) (λ ending. Reports [] ending result (E.contents err.old) (E.contents err.new) × Keeps (W.contents out.old) (W.contents out.new)) }
 {
     let words = match words {
@@ -162,7 +184,7 @@ pub fn answer_words<R: Read + Drop, W: Write, E: Write, O: FnOnce(&str) -> Optio
         Err(NoWords::NoMemory) => return report(alloc, "", &Trouble::Refused(Fault::NoMemory), err),
     };
     match ask_of(words.as_slice()) {
-        Some(ask) => on_file(alloc, ask, reader_of(ask.file), out, err),
+        Some(ask) => on_file(rt, alloc, ask, reader_of(ask.file), out, err, gate),
         None => report(alloc, "", &Trouble::Usage, err),
     }
 }

@@ -4,13 +4,14 @@ ghost use Rattle.std.specs.Io.KnownBytes.{Keeps};
 ghost use Rattle.scenario.specs.Output.{AppendsFront, EndsBy, WritesAll};
 ghost use Rattle.scenario.specs.Input.{AreLeft, ReadsUpTo};
 ghost use Rattle.scenario.specs.Limits.{most_bytes};
+ghost use Rattle.scenario.specs.declared.program.Job.TheVariants.{Plain};
 ghost use Rattle.scenario.specs.Command.{ending_in, ending_of, Ends, EndsAs, error_line, file_fault, FileLines, Reports, status_of};
 
-use crate::fault::Fault;
 use crate::input::read_file;
 use crate::output::write_whole;
 use crate::texts::{run_text, walk_text};
 use crate::trouble::Trouble;
+use keys::Fault;
 use std::alloc::{AllocError, Global};
 use std::io::{Read, Write};
 
@@ -23,7 +24,16 @@ pub enum Which {
     Run,
 }
 
-const DONE: u8 = 0;
+/// What the program can be asked for.
+#[derive(Clone, Copy, Debug, PartialEq, Eq)]
+pub enum Job {
+    /// A command that starts no thread.
+    Plain(Which),
+    /// `live`: runs scripts of harts, each on a thread of its own.
+    Live,
+}
+
+pub(crate) const DONE: u8 = 0;
 
 const NOT_READ: u8 = 2;
 
@@ -31,6 +41,7 @@ const REFUSED: u8 = 3;
 
 const OUTPUT_FAILED: u8 = 4;
 
+/// Want of memory, or of a thread.
 const NO_MEMORY: u8 = 5;
 
 fn status(trouble: &Trouble) -> u8
@@ -42,7 +53,7 @@ fn status(trouble: &Trouble) -> u8
         | Trouble::TooLarge
         | Trouble::Refused(Fault::NotToml) => NOT_READ,
         Trouble::Refused(Fault::Output) => OUTPUT_FAILED,
-        Trouble::Refused(Fault::NoMemory) => NO_MEMORY,
+        Trouble::NoThread | Trouble::Refused(Fault::NoMemory) => NO_MEMORY,
         Trouble::Refused(_) => REFUSED,
     }
 }
@@ -56,6 +67,7 @@ fn error_text(alloc: Global, file: &str, trouble: &Trouble) -> Result<String, Al
         Trouble::Usage => writeln!(text, "svsim: usage: svsim COMMAND FILE")?,
         Trouble::Unreadable => writeln!(text, "svsim: cannot read {file}")?,
         Trouble::TooLarge => writeln!(text, "svsim: file too large")?,
+        Trouble::NoThread => writeln!(text, "svsim: no thread")?,
         Trouble::Refused(fault) => writeln!(text, "svsim: {fault}")?,
     }
     Ok(text)
@@ -63,9 +75,9 @@ fn error_text(alloc: Global, file: &str, trouble: &Trouble) -> Result<String, Al
 
 /// Does a command on the bytes of a file.
 fn run_file<W: Write>(alloc: Global, which: Which, bytes: &[u8], out: &mut W) -> Result<(), Fault>
-    ensures faultless { OnOk result (file_fault which bytes.now ≡ None) }
-    ensures written { OnOk result (WritesAll (FileLines which bytes.now) (W.contents out.old) (W.contents out.new)) }
-    ensures err { IfErr result (λ fault. EndsBy fault (file_fault which bytes.now) (FileLines which bytes.now) (W.contents out.old) (W.contents out.new)) }
+    ensures faultless { OnOk result (file_fault (Plain which) bytes.now ≡ None) }
+    ensures written { OnOk result (WritesAll (FileLines (Plain which) bytes.now) (W.contents out.old) (W.contents out.new)) }
+    ensures err { IfErr result (λ fault. EndsBy fault (file_fault (Plain which) bytes.now) (FileLines (Plain which) bytes.now) (W.contents out.old) (W.contents out.new)) }
 {
     let Ok(text) = str::from_utf8(bytes) else {
         return Err(Fault::NotToml);
@@ -83,7 +95,7 @@ fn run<R: Read, W: Write>(
     input: &mut R,
     out: &mut W,
 ) -> Result<(), Trouble>
-    ensures ends { (bytes : List ℕ) × AreLeft (R.remaining input.old) bytes × EndsAs which bytes (ending_in result) (W.contents out.old) (W.contents out.new) }
+    ensures ends { (bytes : List ℕ) × AreLeft (R.remaining input.old) bytes × EndsAs (Plain which) bytes (ending_in result) (W.contents out.old) (W.contents out.new) }
     ensures read { ReadsUpTo (most_bytes + 1) (R.remaining input.old) (R.remaining input.new) }
 {
     let bytes = read_file(alloc, input)?;
@@ -122,7 +134,7 @@ pub fn command<R: Read, W: Write, E: Write>(
     err: &mut E,
 ) -> u8
     ensures ends { (bytes : List ℕ) × AreLeft (R.remaining input.old) bytes
-        × Ends which file.now bytes result (W.contents out.old) (W.contents out.new) (E.contents err.old) (E.contents err.new) }
+        × Ends (Plain which) file.now bytes result (W.contents out.old) (W.contents out.new) (E.contents err.old) (E.contents err.new) }
     ensures silent { (result ≡ 2) ⊎ (result ≡ 3) → Keeps (W.contents out.old) (W.contents out.new) }
     ensures read { ReadsUpTo (most_bytes + 1) (R.remaining input.old) (R.remaining input.new) }
 {

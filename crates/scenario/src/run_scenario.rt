@@ -2,17 +2,15 @@
 ghost use Rattle.std.specs.Prelude.{◌≡◌, ◌≤◌, length, map};
 ghost use Rattle.toml.specs.View.{table_view};
 ghost use Rattle.spaces.specs.Limits.{max_harts};
-ghost use Rattle.scenario.specs.Faults.{Gives};
+ghost use Rattle.keys.specs.Faults.{Gives};
 ghost use Rattle.scenario.specs.Limits.{most_steps};
 ghost use Rattle.scenario.specs.StepTexts.{events_in};
 ghost use Rattle.scenario.specs.RunFile.{run_plan_of, run_scenario_of, run_view};
 
-use crate::document::{check_keys, document, texts_of_key};
-use crate::fault::Fault;
 use crate::limits::MOST_STEPS;
 use crate::plan::RunScenario;
-use crate::settings::{check_layout, config, mode};
 use history::Event;
+use keys::{Fault, check_keys, check_layout, config, document, mode, texts_of_key};
 use pte::Scheme;
 use std::alloc::Global;
 use steps::run_step_among;

@@ -2,19 +2,17 @@
 ghost use Rattle.std.specs.Prelude.{◌≡◌, ◌≤◌, ◌<◌, ◌^◌, IfOk, IfSome, length, map, option_map, string_bytes, vec_len};
 ghost use Rattle.pte.specs.Entry.{ppn_bits};
 ghost use Rattle.toml.specs.View.{table_view};
-ghost use Rattle.scenario.specs.Keys.{each, text_views};
-ghost use Rattle.scenario.specs.Faults.{Gives};
+ghost use Rattle.keys.specs.Keys.{each, text_views};
+ghost use Rattle.keys.specs.Faults.{Gives};
 ghost use Rattle.scenario.specs.Limits.{most_frames, most_steps};
 ghost use Rattle.scenario.specs.Memory.{is_frame_of, is_listed, word_at};
 ghost use Rattle.scenario.specs.StepTexts.{walk_steps_in};
 ghost use Rattle.scenario.specs.WalkFile.{frames_at, plan_view, ppn_of, ppns_of, root_at, tables_at, walk_plan_of, walk_scenario_of, word_in_table, word_of, words_at};
 
-use crate::document::{check_keys, document, key_fault, number, texts_of_key, value_at};
-use crate::fault::Fault;
 use crate::frames::{Frames, TableFrames, TableWord};
 use crate::limits::{MOST_FRAMES, MOST_STEPS};
 use crate::plan::WalkScenario;
-use crate::settings::mode;
+use keys::{Fault, check_keys, document, key_fault, mode, number, texts_of_key, value_at};
 use pte::{PPN_BITS, TABLE_LENGTH};
 use std::alloc::{AllocError, Global};
 use steps::{StepFault, WalkStep, next_word, num, walk_step};

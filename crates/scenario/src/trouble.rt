@@ -1,9 +1,9 @@
 //! Why a command was not done: the words ask for none, its file was not read, or its scenario was refused or not answered.
 ghost use Rattle.std.specs.Prelude.{◌≡◌};
 ghost use Rattle.scenario.specs.declared.trouble.Trouble.TheVariants.{Refused};
-ghost use Rattle.scenario.specs.declared.fault.Fault.TheVariants.{NoMemory};
+ghost use Rattle.keys.specs.declared.fault.Fault.TheVariants.{NoMemory};
 
-use crate::fault::Fault;
+use keys::Fault;
 use std::alloc::AllocError;
 
 /// Why a command was not done.
@@ -13,6 +13,8 @@ pub enum Trouble {
     Usage,
     Unreadable,
     TooLarge,
+    /// A thread could not be started.
+    NoThread,
     Refused(Fault),
 }
 

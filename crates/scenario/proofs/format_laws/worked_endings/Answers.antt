@@ -5,3 +5,7 @@ use Rattle.scenario.proofs.format_laws.worked_endings.Goals as goal
 pub returns-clause-wrong_step : goal.returns-clause-wrong_step
 unfolding digits
 returns-clause-wrong_step c = (refl, refl)
+
+pub returns-clause-wrong_script : goal.returns-clause-wrong_script
+unfolding digits
+returns-clause-wrong_script c = (refl, refl)

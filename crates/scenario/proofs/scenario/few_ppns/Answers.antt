@@ -1,5 +1,5 @@
 use Rattle.std.proofs.Common.{◌≤◌, length, arith}
-use Rattle.scenario.proofs.EachLemmas.{few_fit}
+use Rattle.scenario.proofs.PpnLemmas.{few_fit}
 use Rattle.scenario.proofs.scenario.few_ppns.Goals as goal
 
 pub returns-clause-value : goal.returns-clause-value

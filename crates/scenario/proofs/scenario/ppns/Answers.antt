@@ -1,6 +1,6 @@
 use Rattle.std.proofs.Common.{Bor, List, ℕ, sym, ◌∙◌, arith}
 use Rattle.scenario.specs.WalkFile.{ppn_of}
-use Rattle.scenario.proofs.EachLemmas.{each_more, no_text}
+use Rattle.keys.proofs.EachLemmas.{each_more, no_text}
 use Rattle.scenario.proofs.scenario.ppns.Goals as goal
 
 pub loop-text-preserved : goal.loop-text-preserved

@@ -1,6 +1,6 @@
 use Rattle.std.proofs.Common.{Bor, List, ℕ, ◌≤◌, vec_len}
 use Rattle.scenario.specs.WalkFile.{ppn_of}
-use Rattle.scenario.proofs.EachLemmas.{EachSoFar}
+use Rattle.keys.proofs.EachLemmas.{EachSoFar}
 use Rattle.scenario.proofs.scenario.ppns.Given as goal
 
 abbrev pub invariant-loop-text : goal.invariant-loop-text

@@ -1,7 +1,7 @@
 use Rattle.std.proofs.Common.{Bor, List, ℕ, sym, ◌∙◌}
 use Rattle.scenario.specs.Memory.{is_frame_of}
 use Rattle.scenario.specs.WalkFile.{word_of}
-use Rattle.scenario.proofs.EachLemmas.{each_more, no_text}
+use Rattle.keys.proofs.EachLemmas.{each_more, no_text}
 use Rattle.scenario.proofs.scenario.table_words.Goals as goal
 
 pub loop-text-preserved : goal.loop-text-preserved

@@ -1,7 +1,7 @@
 use Rattle.std.proofs.Common.{Bor, List, ℕ}
 use Rattle.scenario.specs.Memory.{is_frame_of}
 use Rattle.scenario.specs.WalkFile.{word_of}
-use Rattle.scenario.proofs.EachLemmas.{EachSoFar}
+use Rattle.keys.proofs.EachLemmas.{EachSoFar}
 use Rattle.scenario.proofs.scenario.table_words.Given as goal
 
 abbrev pub invariant-loop-text : goal.invariant-loop-text

@@ -1,6 +1,6 @@
 use Rattle.scenario.specs.Memory.{is_frame_of}
 use Rattle.scenario.specs.WalkFile.{word_of}
-use Rattle.scenario.proofs.EachLemmas.{each-map}
+use Rattle.keys.proofs.EachLemmas.{each-map}
 use Rattle.scenario.proofs.scenario.words_in.Goals as goal
 
 pub returns : goal.returns

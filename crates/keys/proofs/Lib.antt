@@ -1,0 +1,4 @@
+pub mod EachLemmas
+pub mod KeyLemmas
+pub mod LimitLemmas
+pub mod StepLemmas
