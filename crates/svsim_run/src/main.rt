@@ -4,5 +4,5 @@
 use std::process::ExitCode;
 
 fn main(rt: HostRuntime) -> ExitCode {
-    ExitCode::from(scenario::start(&rt))
+    ExitCode::from(scenario::start(&rt, &rt))
 }
