@@ -160,6 +160,10 @@ fn each_fault_has_its_text(rt: HostRuntime) -> Result<(), Fail> {
         (Fault::Layout, "layout refused"),
         (Fault::TooMany, "too many steps"),
         (Fault::Step(7, StepFault::NotStep), "step 7: not a step"),
+        (
+            Fault::Script(3, 65_536, StepFault::NotPage),
+            "script 3 step 65536: not a page",
+        ),
         (Fault::Output, "output failed"),
         (Fault::NoMemory, "no memory"),
     ] {

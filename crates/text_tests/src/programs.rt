@@ -1,9 +1,12 @@
 //! The whole program over files in memory: what it is asked, and the line and the status where it is asked for nothing or the
 //! file is not there.
 use crate::commands::{FILE, LINES};
+use harts::OpenGate;
 use scenario::{NoWords, answer_words};
 use std::alloc::Global;
+use std::sync::Wait;
 use std::test::Fail;
+use std::thread::Threads;
 
 const RUN: &str = "steps = [\"0 flush all 0\", \"0 load\"]";
 
@@ -28,7 +31,8 @@ fn words_of(alloc: Global, line: &str) -> Result<Vec<String>, Fail> {
 }
 
 /// Whether a line of words ends so: the status, the output and standard error.
-fn ends(
+fn ends<T: Threads + Wait + Sync>(
+    rt: &T,
     alloc: Global,
     words: Result<Vec<String>, NoWords>,
     status: u8,
@@ -37,7 +41,15 @@ fn ends(
 ) -> bool {
     let mut out: Vec<u8> = Vec::new(alloc);
     let mut err: Vec<u8> = Vec::new(alloc);
-    let answered = answer_words(alloc, words, |name| file_of(name), &mut out, &mut err);
+    let answered = answer_words(
+        rt,
+        alloc,
+        words,
+        |name| file_of(name),
+        &mut out,
+        &mut err,
+        &OpenGate,
+    );
     answered == status && out.as_slice() == lines.as_bytes() && err.as_slice() == told.as_bytes()
 }
 
@@ -56,7 +68,7 @@ fn commands_are_done(rt: HostRuntime) -> Result<(), Fail> {
         ("svsim -- run --", run_lines),
     ] {
         assert!(rt;
-            ends(alloc, Ok(words_of(alloc, line)?), 0, lines, ""),
+            ends(&rt, alloc, Ok(words_of(alloc, line)?), 0, lines, ""),
             "{line}"
         );
     }
@@ -74,7 +86,7 @@ fn files_that_are_not_there(rt: HostRuntime) -> Result<(), Fail> {
         ("svsim run -- --help", "svsim: cannot read --help\n"),
     ] {
         assert!(rt;
-            ends(alloc, Ok(words_of(alloc, line)?), 2, "", told),
+            ends(&rt, alloc, Ok(words_of(alloc, line)?), 2, "", told),
             "{line}"
         );
     }
@@ -91,7 +103,7 @@ fn words_that_ask_for_nothing(rt: HostRuntime) -> Result<(), Fail> {
         "svsim run.toml",
         "svsim runs run.toml",
         "svsim Run run.toml",
-        "svsim live run.toml",
+        "svsim lives run.toml",
         "svsim run.toml run",
         "svsim run run.toml run.toml",
         "svsim run run.toml -- run.toml",
@@ -106,17 +118,26 @@ fn words_that_ask_for_nothing(rt: HostRuntime) -> Result<(), Fail> {
         "svsim --file run.toml",
     ] {
         assert!(rt;
-            ends(alloc, Ok(words_of(alloc, line)?), 2, "", USAGE),
+            ends(&rt, alloc, Ok(words_of(alloc, line)?), 2, "", USAGE),
             "{line}"
         );
     }
-    assert!(rt; ends(alloc, Ok(Vec::new(alloc)), 2, "", USAGE));
+    assert!(rt; ends(&rt, alloc, Ok(Vec::new(alloc)), 2, "", USAGE));
     Ok(())
 }
 
 #[test]
 fn words_that_are_not_there(rt: HostRuntime) {
     let alloc = rt.alloc();
-    assert!(rt; ends(alloc, Err(NoWords::NotText), 2, "", USAGE));
-    assert!(rt; ends(alloc, Err(NoWords::NoMemory), 5, "", "svsim: no memory\n"));
+    assert!(rt; ends(&rt, alloc, Err(NoWords::NotText), 2, "", USAGE));
+    assert!(rt;
+        ends(
+            &rt,
+            alloc,
+            Err(NoWords::NoMemory),
+            5,
+            "",
+            "svsim: no memory\n"
+        )
+    );
 }
