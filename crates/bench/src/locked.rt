@@ -47,8 +47,8 @@ fn wait(tries: u64) {
     }
 }
 
-/// Hart 0 makes one shootdown of everything.
-fn shoot_down<C: Named, R: Wait>(rt: &R, locked: &Locked<C>, tally: &mut Tally<C>) -> Option<()> {
+/// Hart 0 opens a ticket for everything, posts it to hart 1, and serves it itself.
+fn ask<C: Named, R: Wait>(rt: &R, locked: &Locked<C>, tally: &mut Tally<C>) -> Option<u32> {
     let flush = Event::Flush {
         hart: 0,
         scope: Scope::All,
@@ -57,35 +57,34 @@ fn shoot_down<C: Named, R: Wait>(rt: &R, locked: &Locked<C>, tally: &mut Tally<C
     let Reply::Opened(ticket) = locked.call(rt, tally, flush).ok()? else {
         return None;
     };
-    locked
-        .call(
-            rt,
-            tally,
-            Event::Post {
-                hart: 0,
-                ticket,
-                to: 1,
-            },
-        )
-        .ok()?;
+    let post = Event::Post {
+        hart: 0,
+        ticket,
+        to: 1,
+    };
+    locked.call(rt, tally, post).ok()?;
     locked
         .call(rt, tally, Event::AckSelf { hart: 0, ticket })
         .ok()?;
+    Some(ticket)
+}
+
+/// Hart 0 makes one shootdown of everything.
+fn shoot_down<C: Named, R: Wait>(rt: &R, locked: &Locked<C>, tally: &mut Tally<C>) -> Option<()> {
+    let ticket = ask(rt, locked, tally)?;
+    let collect = Event::Collect {
+        hart: 0,
+        ticket,
+        from: 1,
+    };
     for tries in 0..u64::MAX {
-        let collect = Event::Collect {
-            hart: 0,
-            ticket,
-            from: 1,
-        };
         if locked.call(rt, tally, collect).ok()? == Reply::Done {
             break;
         }
         wait(tries);
     }
-    match locked
-        .call(rt, tally, Event::Finish { hart: 0, ticket })
-        .ok()?
-    {
+    let finish = Event::Finish { hart: 0, ticket };
+    match locked.call(rt, tally, finish).ok()? {
         Reply::Ok => Some(()),
         _ => None,
     }

@@ -2,9 +2,15 @@
 //! the tables of a scheme, N calls of each kind or of one on a TLB alone, N shootdowns between two threads, over rings or under
 //! one lock, N numbers that go there and back between two threads, or all of these (then a tenth of N between the threads), and
 //! prints what they came to, by counts. N is 10,000,000 where no number is given. The clock is the caller's.
+//!
+//! `bench map|unmap|protect [N]` makes N edits of a table memory, `bench flush1|..|shootdown1|..|ports1|.. [N]` makes N shootdowns by
+//! the ports of a board, with 1 to 3 other harts in threads of their own. These parts read the clock themselves, so `all` has none
+//! of them.
 #![tactic(auto)]
 
+mod boards;
 mod cycle;
+mod edits;
 mod entries;
 mod locked;
 mod pause;
@@ -12,12 +18,15 @@ mod tally;
 mod tree;
 mod trips;
 
+use boards::{Others, Round};
+use edits::Change;
 use entries::Kind;
 use pte::Scheme;
 use std::alloc::{AllocError, Global};
 use std::process::ExitCode;
 use std::sync::Wait;
 use std::thread::Threads;
+use std::time::{Clock, Duration};
 use std::{env, io};
 use tally::Tally;
 
@@ -32,7 +41,7 @@ enum Failure {
     NoMemory,
     /// The configuration is refused, or a page is not mapped.
     NotOpened,
-    /// Words can't be read, or lines not be written.
+    /// Words or the clock can't be read, or lines not be written.
     Io,
 }
 
@@ -59,6 +68,9 @@ enum Part {
     Rings,
     Lock,
     Words,
+    Edits(Change),
+    /// Shootdowns by ports.
+    Ports(Round, Others),
 }
 
 /// The kind of call with a name.
@@ -69,6 +81,29 @@ fn kind_of(word: &str) -> Option<Kind> {
         }
     }
     None
+}
+
+/// The part that reads the clock itself with a name.
+fn timed(word: &str) -> Option<Part> {
+    for (change, name) in edits::changes() {
+        if name == word {
+            return Some(Part::Edits(change));
+        }
+    }
+    for (round, others, name) in boards::parts() {
+        if name == word {
+            return Some(Part::Ports(round, others));
+        }
+    }
+    None
+}
+
+/// The part of a name that no other part has.
+fn named(word: &str) -> Option<Part> {
+    match kind_of(word) {
+        Some(kind) => Some(Part::Kind(kind)),
+        None => timed(word),
+    }
 }
 
 /// What the words ask for: the part, and how many.
@@ -84,7 +119,7 @@ fn asked(words: &[String]) -> Result<(Part, u64), Failure> {
             "rings" => Part::Rings,
             "lock" => Part::Lock,
             "words" => Part::Words,
-            word => Part::Kind(kind_of(word).ok_or(Failure::Usage)?),
+            word => named(word).ok_or(Failure::Usage)?,
         },
     };
     let count = match words.get(2) {
@@ -151,7 +186,43 @@ fn run_beside<R: Threads + Wait + Sync + Print>(
     Ok(())
 }
 
-fn run<R: Threads + Wait + Sync + Print>(
+/// How many nanoseconds each of so many took, to a hundredth.
+fn print_each<R: Print>(rt: &R, time: Duration, count: u64) -> Result<(), Failure> {
+    let hundredths = time.as_nanos() * 100 / u128::from(count.max(1));
+    println!(rt; "nanoseconds {}.{:02}", hundredths / 100, hundredths % 100)?;
+    Ok(())
+}
+
+/// The parts that read the clock themselves.
+fn run_timed<R: Threads + Sync + Print + Clock>(
+    rt: &R,
+    alloc: Global,
+    part: Part,
+    count: u64,
+) -> Result<(), Failure> {
+    match part {
+        Part::Edits(change) => {
+            let time = edits::run(rt, alloc, change, count)?;
+            println!(rt; "edits {count}")?;
+            print_each(rt, time, count)
+        }
+        Part::Ports(round, others) => {
+            let came = boards::run(rt, alloc, round, others, count)?;
+            println!(rt; "shootdowns {}", came.shootdowns)?;
+            print_each(rt, came.time, came.shootdowns)?;
+            if came.translations > 0 {
+                let second = u128::from(came.translations) * 1_000_000_000;
+                println!(rt; "translations {}", came.translations)?;
+                println!(rt; "found {}", came.found)?;
+                println!(rt; "per_second {}", second / came.time.as_nanos().max(1))?;
+            }
+            Ok(())
+        }
+        _ => Ok(()),
+    }
+}
+
+fn run<R: Threads + Wait + Sync + Print + Clock>(
     rt: &R,
     alloc: Global,
     asked: Result<(Part, u64), Failure>,
@@ -159,7 +230,8 @@ fn run<R: Threads + Wait + Sync + Print>(
     let (part, count) = asked?;
     run_alone(rt, alloc, part, count)?;
     let between = if part == Part::All { count / 10 } else { count };
-    run_beside(rt, alloc, part, between)
+    run_beside(rt, alloc, part, between)?;
+    run_timed(rt, alloc, part, count)
 }
 
 fn main(rt: HostRuntime) -> ExitCode {
@@ -168,11 +240,15 @@ fn main(rt: HostRuntime) -> ExitCode {
     };
     let _ = match failure {
         Failure::Usage => {
-            eprintln!(rt; "usage: bench [all|events|sv39|sv48|tlb|KIND|rings|lock|words] [N]")
+            eprintln!(rt;
+                "usage: bench [all|events|sv39|sv48|tlb|KIND|rings|lock|words|map|unmap|protect|flush1|shootdown1|ports1] [N]"
+            )
         }
         Failure::NoMemory => eprintln!(rt; "bench: no memory"),
         Failure::NotOpened => eprintln!(rt; "bench: nothing to measure on"),
-        Failure::Io => eprintln!(rt; "bench: cannot read the words or write the counts"),
+        Failure::Io => eprintln!(rt;
+            "bench: cannot read the words or the clock, or write the counts"
+        ),
     };
     ExitCode::FAILURE
 }

@@ -4,7 +4,7 @@
 //! with the table of the kernel window these are 1 + 1 + 15 + 15 * 33 = 512 frames, and 15 * 33 * 512 = 253,440 pages. In
 //! Sv48 one table more stands between, and 14 below it: 1 + 1 + 1 + 14 + 14 * 33 = 479 frames, and 236,544 pages.
 
-ghost use Rattle.std.specs.Prelude.{◌≢◌};
+ghost use Rattle.std.specs.Prelude.{◌≢◌, ◌≤◌};
 
 use crate::Failure;
 use arrayvec::ArrayVec;
@@ -16,7 +16,8 @@ use walk::translate_in;
 
 /// How many tables whose words span 2 MiB each there are.
 fn middles(scheme: Scheme) -> u64
-    ensures { result ≢ 0 }
+    ensures some { result ≢ 0 }
+    ensures few { result ≤ 15 }
 {
     match scheme {
         Scheme::Sv39 => 15,
@@ -42,7 +43,7 @@ const CTX: Ctx = Ctx {
     mxr: false,
 };
 
-const PLACE: Place = Place::Space(0);
+pub const PLACE: Place = Place::Space(0);
 
 /// One hart, the home of one space, with 510 spare frames.
 fn config(scheme: Scheme) -> Config {
@@ -64,6 +65,18 @@ fn config(scheme: Scheme) -> Config {
 /// The address of a leaf.
 fn address(middle: u64, low: u64, leaf: u64) -> u64 {
     (middle % 512) << 30 | (low % 512) << 21 | (leaf % 512) << 12
+}
+
+/// How many pages are mapped.
+pub fn page_count(scheme: Scheme) -> u64 {
+    LOWS * middles(scheme) * LEAVES
+}
+
+/// The address of the page of a number, table after table.
+pub fn address_of(scheme: Scheme, number: u64) -> u64 {
+    let table = number / LEAVES;
+    let middles = middles(scheme);
+    address(table % middles, table / middles, number % LEAVES)
 }
 
 /// Makes the next store that maps a page to itself. `Some(true)` if that is the leaf, `Some(false)` if a table.
@@ -89,18 +102,14 @@ fn map(memory: &mut Memory, scheme: Scheme, va: u64) -> Result<(), Failure> {
 }
 
 /// The memory with all its pages mapped.
-fn full_memory(alloc: Global, scheme: Scheme) -> Result<Memory, Failure> {
+pub fn full_memory(alloc: Global, scheme: Scheme) -> Result<Memory, Failure> {
     let mut memory = match Memory::open(alloc, &config(scheme)) {
         Ok(memory) => memory,
         Err(OpenFault::NoMemory) => return Err(Failure::NoMemory),
         Err(OpenFault::BadLayout) => return Err(Failure::NotOpened),
     };
-    for low in 0..LOWS {
-        for middle in 0..middles(scheme) {
-            for leaf in 0..LEAVES {
-                map(&mut memory, scheme, address(middle, low, leaf))?;
-            }
-        }
+    for number in 0..page_count(scheme) {
+        map(&mut memory, scheme, address_of(scheme, number))?;
     }
     Ok(memory)
 }
