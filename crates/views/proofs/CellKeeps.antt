@@ -1,7 +1,8 @@
 -- Arming a cell, acknowledging, and looking at a cell keep the rule.
-use Rattle.std.proofs.Common.{◌≡◌, ◌≢◌, ◌⊎◌, ℕ, zero, suc, ◌*◌, ◌==◌, ◌<◌, ◌≤◌, ◌^◌, ◌&&◌, not, Bool, true, false, cond, List, [], ◌∷◌, length, Option, Some, None, sym, refl, ap, ◌∙◌, subst, inl, inr, arith, length-set, get_or-set_other, get_or-set_same, mul-le-mul_left, mul-le-mul_right, suc-mul}
-use Rattle.std.specs.Prelude.{slice_index, slice_set}
+use Rattle.std.proofs.Common.{◌≡◌, ◌≢◌, ◌⊎◌, ℕ, zero, suc, ◌*◌, ◌==◌, ◌<◌, ◌≤◌, ◌^◌, not, Bool, true, false, cond, List, [], ◌∷◌, length, Option, Some, None, sym, refl, ap, ◌∙◌, subst, inl, inr, arith, length-set, get_or-set_other, get_or-set_same, mul-le-mul_left, mul-le-mul_right, suc-mul}
+use Rattle.std.specs.Prelude.{All, slice_index, slice_index_or, slice_set}
 use Rattle.std.proofs.lemmas.List.{set-get_or}
+use Rattle.std.proofs.lemmas.List.Elements.{All-filter}
 use Rattle.std.proofs.lemmas.Bool.{eqb-true, or_cases}
 use mathlib.Core.Logic.{dite}
 use mathlib.Core.Option.{some, some-injective, some-ne-none}
@@ -16,12 +17,12 @@ use Rattle.spaces.specs.declared.configuration.Config.{Config}
 use Rattle.spaces.specs.declared.places.Place.{Place}
 use Rattle.spaces.specs.declared.places.Place.TheVariants.{Space, Kernel}
 use Rattle.spaces.specs.Layout.{Layout, layout_of}
-use Rattle.spaces.specs.Held.{Held}
+use Rattle.spaces.specs.Held.{Held, IsLayout}
 use Rattle.spaces.specs.Limits.{MeetsLimits, max_live_frames}
 use Rattle.spaces.specs.Edits.{is_wrong_half}
 use Rattle.tlb.specs.declared.store.Entry.{Entry}
 use Rattle.tlb.specs.Mappings.{maps_into}
-use Rattle.tlb.specs.Service.{overlaps, served}
+use Rattle.tlb.specs.Service.{is_served, served}
 use Rattle.tlb.proofs.Keeping.{AllPass-served}
 use Rattle.tlb.proofs.Mapped.{served_global_page, served_space_page}
 use Rattle.views.specs.declared.view.Cause.TheVariants.{Unmapped, Other}
@@ -30,10 +31,11 @@ use Rattle.views.specs.declared.view.View.{View}
 use Rattle.views.specs.Rule.{board_size, cell, memory_of, size, tickets, Seated, Tabled}
 use Rattle.shoot.specs.Acknowledgement.{IsAskable, acknowledgement}
 use Rattle.shoot.proofs.AcknowledgementWords.{not_zero}
-use Rattle.views.specs.Orders.{asid_for, asid_in, asked, dropping, is_in, IsLive, Misses, IsClean, Kept, ArePlain, Ordered}
+use Rattle.views.specs.Orders.{asid_for, asid_in, asked, dropping, is_in, IsLive, Misses, IsClean, Kept, IsGlobalInWindow, Ordered}
 use Rattle.views.specs.Board.{Board, Steps}
 use Rattle.views.specs.OrderTurns.{IsAsking, IsAwaiting, acknowledged, armed, cell_by, collected, for_ticket, fresh, looked, open_order, ordered, self_acked, with_armed, with_collected, with_look}
-use Rattle.views.proofs.Fills.{user-page}
+use Rattle.views.proofs.EditKeeps.{live-layout}
+use Rattle.views.proofs.Fills.{not-global-over}
 use Rattle.views.proofs.Keeps.{keeps-load}
 use Rattle.views.proofs.OrderKeeps.{Change, stays, clears, acks, receiver, clean-mine, stands, keeps-orders}
 use Rattle.spaces.proofs.WordLists.{list-behind}
@@ -117,7 +119,7 @@ module _ (c : Config) (id : ℕ) (v : View) where
 
     arm-orders : Ordered c record { words = armed-words; homes = s.homes; views = armed-views }
     arm-orders =
-        keeps-orders c s b o id v (with_armed ticket to v) at refl armed-words (λ j u at-u n k at-k place page live m. m) armed-cells (o.plain id v at)
+        keeps-orders c s b o id v (with_armed ticket to v) at refl armed-words (λ j u at-u n k at-k place page live m. m) armed-cells (o.window id v at)
         (λ n k at-k place page live.
         let r = for-ticket ticket (armed to) v.orders n k at-k in
         let stood = stands c s b o id v (with_armed ticket to v) at refl armed-words (λ j u at-u n k at-k place page live m. m) armed-cells id v at n r.0 r.1 place page in
@@ -140,12 +142,12 @@ module _ (c : Config) (id : ℕ) (v : View) where
       )
 
   -- what is left after a service has no mapping of the page that it was asked for
-  dropped-misses : (entries : List Entry) → ArePlain c.scheme entries → (what : What) → IsAskable what → (place : Place) (page : Span) → is_wrong_half (layout_of c) place page ≡ false
+  dropped-misses : IsLayout (layout_of c) → (entries : List Entry) → All (IsGlobalInWindow (layout_of c)) entries → (what : What) → IsAskable what → (place : Place) (page : Span) → is_wrong_half (layout_of c) place page ≡ false
       → dropping c place page ≡ what → Misses page (asid_for c place) (served entries what)
-  dropped-misses entries plain what asks Kernel page half e = subst (λ x. Misses page None (served entries x)) e (served_global_page entries page)
-  dropped-misses entries plain what asks (Space t) page half e =
+  dropped-misses fits entries window what asks Kernel page half e = subst (λ x. Misses page None (served entries x)) e (served_global_page entries page)
+  dropped-misses fits entries window what asks (Space t) page half e =
       let f : IsAskable (dropping c (Space t) page) = subst IsAskable (sym e) asks in
-      subst (λ x. Misses page (Some (asid_in c t)) (served entries x)) e (served_space_page entries page (asid_in c t) f.1 (plain page (user-page (layout_of c) t page f.0 half)))
+      subst (λ x. Misses page (Some (asid_in c t)) (served entries x)) e (served_space_page entries page (asid_in c t) f.1 (λ k d below. not-global-over (layout_of c) fits t page f.0 half (slice_index_or entries k d) (window k d below)))
 
   -- acknowledging: the receiver stores the word of what it served
   module _ (from ticket : ℕ) (what : What) (small-from : from < length (layout_of c).spares) (small-ticket : ticket < tickets) (asks : IsAskable what)
@@ -164,7 +166,7 @@ module _ (c : Config) (id : ℕ) (v : View) where
     acked-there = let t = b.each id v at in let i = cell-inside (layout_of c) from ticket v.hart small-from small-ticket t.local.hart in omega (arith, b.wide, i)
 
     now-misses : (place : Place) (page : Span) → is_wrong_half (layout_of c) place page ≡ false → dropping c place page ≡ what → Misses page (asid_for c place) w.entries
-    now-misses place page half e = subst (λ es. Misses page (asid_for c place) es) (sym entries) (dropped-misses v.entries (o.plain id v at) what asks place page half e)
+    now-misses place page half e = subst (λ es. Misses page (asid_for c place) es) (sym entries) (dropped-misses (live-layout c b.limits) v.entries (o.window id v at) what asks place page half e)
 
     acked-cells : (a t h : ℕ) → t < tickets → h < length (layout_of c).spares → Change c v.hart h (slice_index s.words (cell (layout_of c) a t h)) (slice_index acked-words (cell (layout_of c) a t h)) w.entries
     acked-cells a t h few less = dite (ℕ_discrete (cell (layout_of c) a t h) acked-cell)
@@ -176,8 +178,8 @@ module _ (c : Config) (id : ℕ) (v : View) where
         → Misses page (asid_for c place) v.entries → Misses page (asid_for c place) w.entries
     fewer j u at-u n k at-k place page live m = subst (λ es. Misses page (asid_for c place) es) (sym entries) (AllPass-served (λ e. not (maps_into page (asid_for c place) e)) v.entries what m)
 
-    plain-now : ArePlain c.scheme w.entries
-    plain-now = subst (ArePlain c.scheme) (sym entries) (λ page user. AllPass-served (λ e. not (e.global && overlaps page e.page)) v.entries what (o.plain id v at page user))
+    window-now : All (IsGlobalInWindow (layout_of c)) w.entries
+    window-now = subst (All (IsGlobalInWindow (layout_of c))) (sym entries) (All-filter (λ e. not (is_served what e)) (IsGlobalInWindow (layout_of c)) v.entries (o.window id v at))
 
     acked-stands : (n : ℕ) (k : Order) → get_elem? v.orders n ≡ some k → (place : Place) (page : Span) → IsLive k place page → Kept c acked-words acked-views v.hart (memory_of (layout_of c) v) k place page
     acked-stands n k at-k place page live = stands c s b o id v w at hart acked-words fewer acked-cells id v at n k at-k place page live
@@ -185,7 +187,7 @@ module _ (c : Config) (id : ℕ) (v : View) where
     ack-orders : ((n : ℕ) (k : Order) → get_elem? w.orders n ≡ some k → (place : Place) (page : Span) → IsLive k place page → Kept c acked-words acked-views v.hart (memory_of (layout_of c) v) k place page)
         → Ordered c record { words = acked-words; homes = s.homes; views = acked-views }
     ack-orders mine =
-        keeps-orders c s b o id v w at hart acked-words fewer acked-cells plain-now
+        keeps-orders c s b o id v w at hart acked-words fewer acked-cells window-now
         (λ n k at-k place page live. subst (λ (x : ℕ). Kept c acked-words acked-views x (memory_of (layout_of c) w) k place page) (sym hart) (subst (λ (m : Held). Kept c acked-words acked-views v.hart m k place page) (sym memory) (mine n k at-k place page live))) s.homes
 
     mine-clean : (place : Place) (page : Span) → is_wrong_half (layout_of c) place page ≡ false → dropping c place page ≡ what → IsClean acked-views v.hart page (asid_for c place)
@@ -217,7 +219,7 @@ module _ (c : Config) (id : ℕ) (v : View) where
         record {
           tables = keeps-load c s b.tables id v (ordered ticket what v) at refl refl record { config = t.config; local = record { hart = t.local.hart; memory = t.local.memory; alone = t.local.alone; lowest = t.local.lowest }; own = t.own; walk = t.walk };
           orders =
-              keeps-orders c s b.tables b.orders id v (ordered ticket what v) at refl s.words (λ j u at-u n k at-k place page live m. m) (λ a t h few less. stays refl) (b.orders.plain id v at) (mine s b at) s.homes;
+              keeps-orders c s b.tables b.orders id v (ordered ticket what v) at refl s.words (λ j u at-u n k at-k place page live m. m) (λ a t h few less. stays refl) (b.orders.window id v at) (mine s b at) s.homes;
         }),
     tt,
   )
@@ -263,7 +265,7 @@ module _ (c : Config) (id : ℕ) (v : View) where
 
     look-orders : Ordered c record { words = s.words; homes = s.homes; views = looked-views }
     look-orders =
-        keeps-orders c s b o id v looked-view at refl s.words (λ j u at-u n k at-k place page live m. m) (λ a t h few less. stays refl) (o.plain id v at)
+        keeps-orders c s b o id v looked-view at refl s.words (λ j u at-u n k at-k place page live m. m) (λ a t h few less. stays refl) (o.window id v at)
         (λ n k at-k place page live.
         let r = for-ticket ticket (collected from) v.orders n k at-k in
         let stood = stands c s b o id v looked-view at refl s.words (λ j u at-u n k at-k place page live m. m) (λ a t h few less. stays refl) id v at n r.0 r.1 place page in
@@ -297,7 +299,7 @@ module _ (c : Config) (id : ℕ) (v : View) where
           let w : View = with_look (cell_by v v.hart ticket from) (slice_index s.words (cell (layout_of c) v.hart ticket from)) v in
           record {
             tables = keeps-load c s b.tables id v w at refl refl record { config = t.config; local = record { hart = t.local.hart; memory = t.local.memory; alone = t.local.alone; lowest = t.local.lowest }; own = t.own; walk = t.walk };
-            orders = keeps-orders c s b.tables b.orders id v w at refl s.words (λ j u at-u n k at-k place page live m. m) (λ a t h few less. stays refl) (b.orders.plain id v at)
+            orders = keeps-orders c s b.tables b.orders id v w at refl s.words (λ j u at-u n k at-k place page live m. m) (λ a t h few less. stays refl) (b.orders.window id v at)
                 (λ n k at-k place page live. stands c s b.tables b.orders id v w at refl s.words (λ j u at-u n k at-k place page live m. m) (λ a t h few less. stays refl) id v at n k at-k place page live) s.homes;
           }
 

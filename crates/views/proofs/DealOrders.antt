@@ -1,6 +1,6 @@
 -- What the board says of orders at the opening, and with a seat that is dealt.
-use Rattle.std.proofs.Common.{◌≡◌, ℕ, ◌<◌, ◌&&◌, not, true, List, [], ◌∷◌, ◌++◌, length, Option, ap, ◌∙◌, subst, sym}
-use Rattle.std.specs.Prelude.{slice_set}
+use Rattle.std.proofs.Common.{◌≡◌, ℕ, ◌<◌, not, true, List, [], ◌∷◌, ◌++◌, length, Option, ap, ◌∙◌, subst, sym}
+use Rattle.std.specs.Prelude.{All, slice_set}
 use Rattle.std.proofs.lemmas.List.Elements.{All-nil}
 use mathlib.Core.Option.{some, some-ne-none}
 use lib.ListN.{get_elem?}
@@ -11,11 +11,10 @@ use Rattle.spaces.specs.declared.places.Place.{Place}
 use Rattle.spaces.specs.Layout.{layout_of}
 use Rattle.spaces.specs.Held.{Held}
 use Rattle.tlb.specs.Mappings.{maps_into}
-use Rattle.tlb.specs.Service.{overlaps}
 use Rattle.views.specs.declared.view.Order.{Order}
 use Rattle.views.specs.declared.view.View.{View}
 use Rattle.views.specs.Rule.{board_words, dealer, dealt, first_view, memory_of, Tabled}
-use Rattle.views.specs.Orders.{asid_for, IsLive, Misses, IsClean, Kept, ArePlain, Ordered}
+use Rattle.views.specs.Orders.{asid_for, IsLive, Misses, IsClean, Kept, IsGlobalInWindow, Ordered}
 use Rattle.views.proofs.Deals.{Was, mine, other, new, lone, was}
 
 -- nothing is ordered or held
@@ -24,7 +23,7 @@ no-order n a e = some-ne-none a (sym e)
 
 pub open-orders : (c : Config) → Ordered c (at_start (board_words (layout_of c)) [] (first_view c))
 open-orders c = record {
-  plain = λ j v at. subst (λ (z : View). ArePlain c.scheme z.entries) (lone (first_view c) v j at).1 (λ page user. All-nil (λ e. not (e.global && overlaps page e.page) ≡ true));
+  window = λ j v at. subst (λ (z : View). All (IsGlobalInWindow (layout_of c)) z.entries) (lone (first_view c) v j at).1 (All-nil (IsGlobalInWindow (layout_of c)));
   kept = λ j v at n k at-k place page live. absurd (no-order n k (ap (λ (z : View). get_elem? z.orders n) (lone (first_view c) v j at).1 ∙ at-k));
 }
 
@@ -53,10 +52,10 @@ module _ (c : Config) (id : ℕ) (v : View) (some' : 0 < v.next) (room : v.next 
     gone = λ h small got. clean-more h page (asid_for c place) (t.gone h small got);
   }
 
-  plain-more : (j : ℕ) (u : View) → Was c id v some' room s b at j u → ArePlain c.scheme u.entries
-  plain-more j u (mine e q) = subst (λ (z : View). ArePlain c.scheme z.entries) q (o.plain id v at)
-  plain-more j u (other at' n) = o.plain j u at'
-  plain-more j u (new q e) = subst (λ (z : View). ArePlain c.scheme z.entries) q (λ page user. All-nil (λ x. not (x.global && overlaps page x.page) ≡ true))
+  window-more : (j : ℕ) (u : View) → Was c id v some' room s b at j u → All (IsGlobalInWindow (layout_of c)) u.entries
+  window-more j u (mine e q) = subst (λ (z : View). All (IsGlobalInWindow (layout_of c)) z.entries) q (o.window id v at)
+  window-more j u (other at' n) = o.window j u at'
+  window-more j u (new q e) = subst (λ (z : View). All (IsGlobalInWindow (layout_of c)) z.entries) q (All-nil (IsGlobalInWindow (layout_of c)))
 
   orders-more : (j : ℕ) (u : View) → Was c id v some' room s b at j u → (n : ℕ) (k : Order) → get_elem? u.orders n ≡ some k → (place : Place) (page : Span) → IsLive k place page
       → Kept c s.words more u.hart (memory_of (layout_of c) u) k place page
@@ -68,6 +67,6 @@ module _ (c : Config) (id : ℕ) (v : View) (some' : 0 < v.next) (room : v.next 
 
   pub deal-orders : Ordered c record { words = s.words; homes = s.homes; views = more }
   deal-orders = record {
-    plain = λ j u here. plain-more j u (was c id v some' room s b at j u here);
+    window = λ j u here. window-more j u (was c id v some' room s b at j u here);
     kept = λ j u here. orders-more j u (was c id v some' room s b at j u here);
   }

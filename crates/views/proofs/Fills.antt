@@ -1,5 +1,6 @@
 -- What a walk finds in the shared words has no mapping in the page of an unmapping that is not marked anew.
 use Rattle.std.proofs.Common.{◌≡◌, ◌≢◌, ℕ, ◌-◌, ◌*◌, ◌<◌, ◌≤◌, ◌==◌, ◌&&◌, ◌||◌, not, Bool, true, false, List, [], ◌∷◌, ◌++◌, length, Option, Some, None, Ok, IsTrue, sym, refl, ap, ◌∙◌, subst, arith, ne_eqb}
+use Rattle.std.specs.Prelude.{◌↔◌}
 use Rattle.std.specs.List.{AllPass}
 use Rattle.std.proofs.lemmas.Bool.{false≢true, false_from_ne_true}
 use Rattle.std.proofs.lemmas.List.{length-map}
@@ -13,11 +14,11 @@ use Rattle.pte.specs.declared.permission.Access.{Access}
 use Rattle.pte.specs.declared.permission.Ctx.{Ctx}
 use Rattle.pte.specs.declared.address.PageSize.TheVariants.{Kib4}
 use Rattle.pte.specs.Address.{Span, IsPage, IsCanonical, bytes_of, top_level, vpn_of}
-use Rattle.pte.proofs.Schemes.{page_in_widest}
 use Rattle.walk.specs.declared.found_or_trap.Found.{Found}
 use Rattle.walk.specs.Maps.{page_number}
 use Rattle.walk.specs.Outcome.{Outcome}
 use Rattle.walk.proofs.FoundMembers.{found_page_member}
+use Rattle.walk.proofs.Pages.{same_vpn}
 use Rattle.spaces.specs.declared.configuration.Config.{Config}
 use Rattle.spaces.specs.declared.places.Place.{Place}
 use Rattle.spaces.specs.declared.places.Place.TheVariants.{Space, Kernel}
@@ -26,10 +27,9 @@ use Rattle.spaces.specs.Held.{IsLayout, holders_of, words_of}
 use Rattle.spaces.specs.Edits.{is_wrong_half}
 use Rattle.spaces.specs.Effects.{IsPart, HangsBelow}
 use Rattle.spaces.specs.Tree.{IsIn}
-use Rattle.spaces.proofs.Accepting.{fit-page, within}
 use Rattle.spaces.proofs.DistinctAsids.{differ}
 use Rattle.spaces.proofs.EditLaws.{global-window}
-use Rattle.spaces.proofs.Halves.{inside_part, low_part_slot, in_user, in_window, low_address, high_address}
+use Rattle.spaces.proofs.Halves.{inside_part, low_slot, in_user, in_window, low_address, high_address}
 use Rattle.tlb.specs.declared.store.Entry.{Entry}
 use Rattle.tlb.specs.Answer.{entry_of}
 use Rattle.tlb.specs.Mappings.{LiesIn, maps_into}
@@ -42,7 +42,7 @@ use Rattle.views.specs.declared.view.Order.{Order}
 use Rattle.views.specs.declared.view.View.{View}
 use Rattle.views.specs.Rule.{memory_of, tables_in, Tabled}
 use Rattle.views.specs.Turns.{asid_at}
-use Rattle.views.specs.Orders.{asid_in, asid_for, dropping, IsLive, IsUnmapped, IsUserPage, Kept, Ordered}
+use Rattle.views.specs.Orders.{asid_in, asid_for, dropping, IsLive, IsUnmapped, IsGlobalInWindow, Kept, Ordered}
 use Rattle.views.proofs.EditKeeps.{live-layout}
 use Rattle.views.proofs.MappedAtHome.{member-place, mapped-in-view}
 use Rattle.views.proofs.RealTree.{holders-all, real-tree}
@@ -71,9 +71,24 @@ pub page-of : (c : Config) (place : Place) (page : Span) → IsAskable (dropping
 page-of c (Space s) page f = f.0
 page-of c Kernel page f = f
 
--- a page that is edited for a space is one of the user's half
-pub user-page : (l : Layout) (s : ℕ) (page : Span) → IsPage page → is_wrong_half l (Space s) page ≡ false → IsUserPage l.scheme page
-user-page l s page is half = record { fits = fit-page l (Space s) page half is; low = within l (Space s) page half }
+-- an address lies in the top-level slot that its page of 4 KiB lies in
+slot-of : (va level : ℕ) → vpn_of (page_number va * bytes_of Kib4) level ≡ vpn_of va level
+slot-of va level = same_vpn (page_number va * bytes_of Kib4) va 0 level (omega arith) (omega arith)
+
+-- an entry that is global exactly in the window is not global over a page that is edited for a space
+pub not-global-over : (l : Layout) → IsLayout l → (s : ℕ) (page : Span) → IsPage page → is_wrong_half l (Space s) page ≡ false → (e : Entry) → IsGlobalInWindow l e
+    → IsTrue (not (e.global && overlaps page e.page))
+not-global-over l fits s page is half e window = by e.global refl
+  where
+    by : (g : Bool) → e.global ≡ g → IsTrue (not (g && overlaps page e.page))
+    by false q = refl
+    by true q =
+        ap not (false_from_ne_true (overlaps page e.page) (λ on.
+        let both = (overlaps-Overlap page e.page).0 on in
+        let high : first_window_slot l ≤ vpn_of both.0 (top_level l.scheme) = (window both.0 both.2).0 q in
+        let low = low_slot l fits s page (page_number both.0) is half (part page (page_number both.0) (lies_in page both.0 is both.1)) in
+        let same = slot-of both.0 (top_level l.scheme) in
+        omega (arith, fits.window, low, high, same)))
 
 -- nothing that the shared words map lies in the page of an unmapping that is not marked anew
 module _ (c : Config) (s : State ℕ View) (b : Tabled c s) (o : Ordered c s) (j : ℕ) (u : View) (at-u : get_elem? s.views j ≡ some u) (n : ℕ) (k : Order) (at-k : get_elem? u.orders n ≡ some k) (place : Place)
@@ -94,23 +109,12 @@ module _ (c : Config) (s : State ℕ View) (b : Tabled c s) (o : Ordered c s) (j
 
 module _ (c : Config) (s : State ℕ View) (b : Tabled c s) (o : Ordered c s) (sp va : ℕ) (access : Access) (ctx : Ctx) (found : Found) (has : sp < length (layout_of c).homes)
     (is : Outcome c.scheme (tables_in (layout_of c) s.words) (root_ppn (layout_of c) sp) va access ctx (Ok found)) where
-  -- what is found in the user's half is not global
-  pub plain-found : (page : Span) → IsUserPage c.scheme page → IsTrue (not (found.global && overlaps page found.page))
-  plain-found page user = by found.global refl
-    where
-      by : (g : Bool) → found.global ≡ g → IsTrue (not (g && overlaps page found.page))
-      by false e = refl
-      by true e =
-          ap not (false_from_ne_true (overlaps page found.page) (λ on.
-          let is-page = page_in_widest c.scheme page user.fits in
-          let both = (overlaps-Overlap page found.page).0 on in
-          let m = found_page_member c.scheme (tables_in (layout_of c) s.words) (root_ppn (layout_of c) sp) va access ctx found is both.0 both.2 in
-          let high : first_window_slot (layout_of c) ≤ vpn_of (page_number both.0 * bytes_of Kib4) (top_level c.scheme) =
-          (global-window (layout_of c) (tables_in (layout_of c) s.words) (holders-all c s b) (live-layout c b.limits) (real-tree c s b) sp (page_number both.0) _ _ found.global has m).0 e in
-          let at : IsPart page (page_number both.0) = part page (page_number both.0) (lies_in page both.0 is-page both.1) in
-          let low = low_part_slot c.scheme page (page_number both.0) user.fits user.low at in
-          let fits = live-layout c b.limits in
-          omega (arith, fits.window, low, high)))
+  -- what is found is global exactly in the window
+  pub window-found : (asid : ℕ) → IsGlobalInWindow (layout_of c) (entry_of asid found)
+  window-found asid at holds =
+      let m = found_page_member c.scheme (tables_in (layout_of c) s.words) (root_ppn (layout_of c) sp) va access ctx found is at holds in
+      subst (λ slot. IsTrue found.global ↔ (first_window_slot (layout_of c) ≤ slot)) (slot-of at (top_level c.scheme))
+      (global-window (layout_of c) (tables_in (layout_of c) s.words) (holders-all c s b) (live-layout c b.limits) (real-tree c s b) sp (page_number at) _ _ found.global has m)
 
   module _ (j : ℕ) (u : View) (at-u : get_elem? s.views j ≡ some u) (n : ℕ) (k : Order) (at-k : get_elem? u.orders n ≡ some k) (place : Place) (page : Span) (live : IsLive k place page) where
     kept : Kept c s.words s.views u.hart (memory_of (layout_of c) u) k place page
@@ -133,7 +137,8 @@ module _ (c : Config) (s : State ℕ View) (b : Tabled c s) (o : Ordered c s) (s
         let there : t < length (layout_of c).homes = subst (λ q. HasPlace (layout_of c) q) e kept.has in
         let count = length-map c.spaces.items (λ s. s.home) in
         let half = subst (λ q. is_wrong_half (layout_of c) q page ≡ false) e kept.right_half in
-        not-into (overlaps page found.page) found.global (asid == asid_in c t) (plain-found page (user-page (layout_of c) t page is-page half))
+        not-into (overlaps page found.page) found.global (asid == asid_in c t)
+        (not-global-over (layout_of c) (live-layout c b.limits) t page is-page half (entry_of asid found) (window-found asid))
         (ne_eqb asid (asid_in c t) (λ (q : asid ≡ asid_in c t). other (sym (differ c.spaces.items sp t b.limits.asids (omega (arith, has, count)) (omega (arith, there, count)) (sym a ∙ q))))))
 
     pub misses-found : (asid : ℕ) → asid ≡ asid_in c sp → IsTrue (not (maps_into page (asid_for c place) (entry_of asid found)))

@@ -19,3 +19,4 @@ pub mod Collected
 pub mod Tables
 pub mod Asking
 pub mod NoLeaf
+pub mod WindowGlobal

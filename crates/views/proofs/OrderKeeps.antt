@@ -1,6 +1,6 @@
 -- A step of one seat keeps what the board says of orders.
 use Rattle.std.proofs.Common.{◌≡◌, ◌≢◌, ℕ, ◌+◌, ◌*◌, ◌%◌, ◌<◌, false, List, length, Option, Some, sym, refl, ap, ◌∙◌, subst, ⊎_elim, arith}
-use Rattle.std.specs.Prelude.{slice_index, slice_set}
+use Rattle.std.specs.Prelude.{All, slice_index, slice_set}
 use Rattle.std.proofs.lemmas.Nat.{mod-mul-add}
 use mathlib.Core.Option.{some}
 use lib.ListN.{get_elem?}
@@ -21,7 +21,7 @@ use Rattle.shoot.proofs.AcknowledgementWords.{not_zero, same_what}
 use Rattle.views.specs.declared.view.Order.{Order}
 use Rattle.views.specs.declared.view.View.{View}
 use Rattle.views.specs.Rule.{cell, memory_of, tickets, Tabled}
-use Rattle.views.specs.Orders.{IsAsidFor, asid_for, dropping, IsLive, Misses, IsClean, Kept, ArePlain, Ordered}
+use Rattle.views.specs.Orders.{IsAsidFor, asid_for, dropping, IsLive, Misses, IsClean, Kept, IsGlobalInWindow, Ordered}
 
 -- the receiver of a cell is read from its number
 pub receiver : (l : Layout) (s t h s' t' h' : ℕ) → t < tickets → t' < tickets → h < length l.spares → h' < length l.spares → cell l s t h ≡ cell l s' t' h' → h ≡ h'
@@ -89,13 +89,13 @@ module _ (c : Config) (s : State ℕ View) (b : Tabled c s) (o : Ordered c s) (i
     }
 
   -- the rule after the step, by what stands of the orders of the seat that steps
-  pub keeps-orders : ArePlain c.scheme w.entries
+  pub keeps-orders : All (IsGlobalInWindow (layout_of c)) w.entries
       → ((n : ℕ) (k : Order) → get_elem? w.orders n ≡ some k → (place : Place) (page : Span) → IsLive k place page → Kept c words' views' w.hart (memory_of (layout_of c) w) k place page)
       → (homes : _) → Ordered c record { words = words'; homes = homes; views = views' }
-  keeps-orders plain mine homes = record {
-    plain = λ j u here.
-        ⊎_elim (λ (t : (j ≡ id) × (w ≡ u)). subst (λ (z : View). ArePlain c.scheme z.entries) t.1 plain)
-        (λ (t : (j ≢ id) × (get_elem? s.views j ≡ some u)). o.plain j u t.1)
+  keeps-orders window mine homes = record {
+    window = λ j u here.
+        ⊎_elim (λ (t : (j ≡ id) × (w ≡ u)). subst (λ (z : View). All (IsGlobalInWindow (layout_of c)) z.entries) t.1 window)
+        (λ (t : (j ≢ id) × (get_elem? s.views j ≡ some u)). o.window j u t.1)
         (at_set s.views id j w u here);
     kept = λ j u here.
         ⊎_elim (λ (t : (j ≡ id) × (w ≡ u)).
@@ -107,7 +107,7 @@ module _ (c : Config) (s : State ℕ View) (b : Tabled c s) (o : Ordered c s) (i
 -- a step that changes nothing
 pub idle-orders : (c : Config) (s : State ℕ View) (b : Tabled c s) (o : Ordered c s) (id : ℕ) (v : View) (at : get_elem? s.views id ≡ some v) → Ordered c record { words = s.words; homes = s.homes; views = slice_set s.views id v }
 idle-orders c s b o id v at =
-    keeps-orders c s b o id v v at refl s.words (λ j u at-u n k at-k place page live m. m) (λ a t h few small. stays refl) (o.plain id v at)
+    keeps-orders c s b o id v v at refl s.words (λ j u at-u n k at-k place page live m. m) (λ a t h few small. stays refl) (o.window id v at)
     (λ n k at-k place page live. stands c s b o id v v at refl s.words (λ j u at-u n k at-k place page live m. m) (λ a t h few small. stays refl) id v at n k at-k place page live) s.homes
 
 -- what misses a page translates none of its addresses

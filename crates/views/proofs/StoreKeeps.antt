@@ -209,4 +209,4 @@ module _ (c : Config) (id : ℕ) (v : View) (wish : Wish) (ticket : ℕ) (store 
       stood-same k place page was (still (Protect p q f) e k place page was (λ ppn flags bad. absurd (cc)))
 
   pub edit-orders : Ordered c record { words = shared-now; homes = s.homes; views = views-now }
-  edit-orders = keeps-orders c s b o id v new-view at refl shared-now (λ j u at-u n k at-k place page live m. m) cells-stay (o.plain id v at) (mine-by wish refl) s.homes
+  edit-orders = keeps-orders c s b o id v new-view at refl shared-now (λ j u at-u n k at-k place page live m. m) cells-stay (o.window id v at) (mine-by wish refl) s.homes

@@ -1,7 +1,8 @@
 -- The loads of a walk, which may fill an entry, keep what the board says of orders.
-use Rattle.std.proofs.Common.{◌≡◌, ℕ, ◌&&◌, not, true, List, Ok, Some, sym, refl, ap, ◌∙◌, subst}
-use Rattle.std.specs.Prelude.{slice_index, slice_set}
+use Rattle.std.proofs.Common.{◌≡◌, ℕ, not, true, List, [], ◌∷◌, Ok, Some, sym, refl, ap, ◌∙◌, subst}
+use Rattle.std.specs.Prelude.{All, slice_index, slice_set}
 use Rattle.std.proofs.lemmas.List.{set-get_or}
+use Rattle.std.proofs.lemmas.List.Elements.{All-append, All-cons, All-nil}
 use mathlib.Core.Option.{some}
 use lib.ListN.{get_elem?}
 use Rattle.atomic_table.specs.Table.{State}
@@ -19,14 +20,13 @@ use Rattle.spaces.specs.Layout.{is_frame, layout_of, root_ppn}
 use Rattle.spaces.specs.Held.{word_index}
 use Rattle.tlb.specs.Answer.{entry_of}
 use Rattle.tlb.specs.Mappings.{maps_into}
-use Rattle.tlb.specs.Service.{overlaps}
 use Rattle.views.specs.declared.view.Order.{Order}
 use Rattle.views.specs.declared.view.Read.{Read}
 use Rattle.views.specs.declared.view.View.{View}
 use Rattle.views.specs.Rule.{IsRoot, IsWalk, Tabled, tables_in}
 use Rattle.views.specs.Turns.{asid_at, walked, with_fill}
-use Rattle.views.specs.Orders.{asid_in, asid_for, IsLive, Misses, ArePlain, Ordered}
-use Rattle.views.proofs.Fills.{plain-found, misses-found, asid-at-root, one-more}
+use Rattle.views.specs.Orders.{asid_in, asid_for, IsLive, Misses, IsGlobalInWindow, Ordered}
+use Rattle.views.proofs.Fills.{window-found, misses-found, asid-at-root, one-more}
 use Rattle.views.proofs.OrderKeeps.{idle-orders, stays, stands, keeps-orders}
 use Rattle.views.proofs.WalkKeeps.{load-goes}
 
@@ -53,7 +53,7 @@ module _ (c : Config) (s : State ℕ View) (b : Tabled c s) (o : Ordered c s) (i
         → Outcome c.scheme (tables_in (layout_of c) s.words) (root_ppn (layout_of c) is.0) st.va st.access st.ctx (Ok found)
     found-there found g = subst (λ r. Outcome c.scheme (tables_in (layout_of c) s.words) r st.va st.access st.ctx (Ok found)) is.2 g
 
-    -- what is filled misses each page that is unmapped, and is not global in the user's half
+    -- what is filled misses each page that is unmapped, and is global exactly in the window
     fill-misses : (j : ℕ) (u : View) (at-u : get_elem? s.views j ≡ some u) (n : ℕ) (k : Order) (at-k : get_elem? u.orders n ≡ some k) (q : Place) (page : Span) (live : IsLive k q page)
         → (p : Progress) → GoesOn c.scheme (tables_in (layout_of c) s.words) root st p → Misses page (asid_for c q) v.entries → Misses page (asid_for c q) (with_fill (asid_at v.config root) v.entries p)
     fill-misses j u at-u n k at-k q page live (progress.More next) g m = m
@@ -62,12 +62,14 @@ module _ (c : Config) (s : State ℕ View) (b : Tabled c s) (o : Ordered c s) (i
         one-more (λ e. not (maps_into page (asid_for c q) e)) v.entries (entry_of (asid_at v.config root) found) m
         (misses-found c s b o is.0 st.va st.access st.ctx found is.1 (found-there found g) j u at-u n k at-k q page live (asid_at v.config root) asid-is)
 
-    fill-plain : (p : Progress) → GoesOn c.scheme (tables_in (layout_of c) s.words) root st p → ArePlain c.scheme v.entries → ArePlain c.scheme (with_fill (asid_at v.config root) v.entries p)
-    fill-plain (progress.More next) g m page user = m page user
-    fill-plain (progress.Trap trap) g m page user = m page user
-    fill-plain (progress.Found found) g m page user =
-        one-more (λ e. not (e.global && overlaps page e.page)) v.entries (entry_of (asid_at v.config root) found) (m page user)
-        (plain-found c s b o is.0 st.va st.access st.ctx found is.1 (found-there found g) page user)
+    fill-window : (p : Progress) → GoesOn c.scheme (tables_in (layout_of c) s.words) root st p → All (IsGlobalInWindow (layout_of c)) v.entries
+        → All (IsGlobalInWindow (layout_of c)) (with_fill (asid_at v.config root) v.entries p)
+    fill-window (progress.More next) g m = m
+    fill-window (progress.Trap trap) g m = m
+    fill-window (progress.Found found) g m =
+        All-append (IsGlobalInWindow (layout_of c)) v.entries (entry_of (asid_at v.config root) found ∷ []) m
+        (All-cons (IsGlobalInWindow (layout_of c)) (entry_of (asid_at v.config root) found) []
+        (window-found c s b o is.0 st.va st.access st.ctx found is.1 (found-there found g) (asid_at v.config root)) (All-nil (IsGlobalInWindow (layout_of c))))
 
     pub walk-orders : Ordered c record { words = slice_set s.words place word; homes = s.homes; views = slice_set s.views id (walked v root st reads word) }
     walk-orders =
@@ -77,7 +79,7 @@ module _ (c : Config) (s : State ℕ View) (b : Tabled c s) (o : Ordered c s) (i
         (keeps-orders c s b o id v w at refl s.words
         (λ j u at-u n k at-k q page live m. fill-misses j u at-u n k at-k q page live (load_of st (Some word)) go m)
         (λ a t h few small. stays refl)
-        (fill-plain (load_of st (Some word)) go (o.plain id v at))
+        (fill-window (load_of st (Some word)) go (o.window id v at))
         (λ n k at-k q page live. stands c s b o id v w at refl s.words
         (λ j u at-u n k at-k q page live m. fill-misses j u at-u n k at-k q page live (load_of st (Some word)) go m)
         (λ a t h few small. stays refl) id v at n k at-k q page live) s.homes)

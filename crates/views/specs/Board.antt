@@ -1,22 +1,24 @@
 -- The board's rule, between any two atomic steps, and what one step owes.
-use Rattle.std.specs.Prelude.{◌≡◌, ◌⊎◌, ◌↔◌, ℕ, ◌^◌, ◌%◌, ◌<◌, Some, List, slice_index, slice_set, length, true}
+use Rattle.std.specs.Prelude.{◌≡◌, ◌⊎◌, ◌↔◌, ℕ, ◌^◌, ◌*◌, ◌%◌, ◌<◌, ◌≤◌, Bool, IsTrue, Some, None, List, slice_index, slice_set, length, true}
 use mathlib.Core.Option.{some}
 use lib.ListN.{get_elem?}
 use Rattle.atomic_table.specs.Table.{State}
 use Rattle.pte.specs.declared.address.What.{What}
 use Rattle.pte.specs.declared.flags.PteFlags.{PteFlags}
 use Rattle.pte.specs.declared.entry.Kind.TheVariants.{Leaf}
-use Rattle.pte.specs.Address.{Holds, IsCanonical, IsPage, Span, level_pages}
+use Rattle.pte.specs.declared.address.PageSize.TheVariants.{Kib4}
+use Rattle.pte.specs.Address.{Holds, IsCanonical, IsPage, Span, bytes_of, level_pages, top_level, vpn_of}
 use Rattle.pte.specs.Entry.{kind_of}
 use Rattle.walk.specs.Leads.{Leads, Tables}
+use Rattle.walk.specs.Maps.{Maps}
 use Rattle.spaces.specs.declared.configuration.Config.{Config}
 use Rattle.spaces.specs.declared.places.Place.{Place}
 use Rattle.spaces.specs.Effects.{HangsBelow}
-use Rattle.spaces.specs.Layout.{Layout, layout_of, root_ppn}
+use Rattle.spaces.specs.Layout.{Layout, first_window_slot, layout_of, root_ppn}
 use Rattle.spaces.specs.Opening.{opening}
 use Rattle.spaces.specs.Held.{words_of}
 use Rattle.tlb.specs.declared.store.Entry.{Entry}
-use Rattle.tlb.specs.Mappings.{IsMappedBy, Translates}
+use Rattle.tlb.specs.Mappings.{IsMappedBy, Mapping, Translates}
 use Rattle.tlb.specs.Service.{served}
 use Rattle.shoot.specs.Acknowledgement.{IsAskable, acknowledgement}
 use Rattle.views.specs.declared.view.Order.{Order}
@@ -63,6 +65,17 @@ AcknowledgedIsClean = (c : Config) (s : State ℕ View) → Board c s → (i : �
 abbrev pub CollectedIsClean : Type 0
 CollectedIsClean = (c : Config) (s : State ℕ View) → Board c s → (i : ℕ) (v : View) → get_elem? s.views i ≡ some v → (n : ℕ) (k : Order) → get_elem? v.orders n ≡ some k
     → (place : Place) (page : Span) → IsLive k place page → (h : ℕ) → h < length (layout_of c).spares → is_in h k.collected ≡ true → TranslatesNone c s.views h place page
+
+-- what the shared words map from a root is global exactly in the window
+abbrev pub LeavesAreGlobalInWindow : Type 0
+LeavesAreGlobalInWindow = (c : Config) (s : State ℕ View) → Board c s → (space number ppn : ℕ) (flags : PteFlags) (global : Bool) → space < length (layout_of c).homes
+    → Maps c.scheme (tables_in (layout_of c) s.words) (root_ppn (layout_of c) space) number ppn flags global
+    → IsTrue global ↔ (first_window_slot (layout_of c) ≤ vpn_of (number * bytes_of Kib4) (top_level c.scheme))
+
+-- and so is what a hart filled: it is for every address space exactly in the window
+abbrev pub MappingsAreGlobalInWindow : Type 0
+MappingsAreGlobalInWindow = (c : Config) (s : State ℕ View) → Board c s → (j : ℕ) (v : View) → get_elem? s.views j ≡ some v → (m : Mapping) → IsMappedBy v.entries m
+    → (m.asid ≡ None) ↔ (first_window_slot (layout_of c) ≤ vpn_of (m.page * bytes_of Kib4) (top_level c.scheme))
 
 -- requests with one word ask for one service
 abbrev pub EqualWordsAskForEqualService : Type 0

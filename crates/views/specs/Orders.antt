@@ -1,5 +1,5 @@
 -- What the board keeps of orders: what an unmapping's home still doesn't map, and which harts hold nothing of it.
-use Rattle.std.specs.Prelude.{◌≡◌, ℕ, ◌<◌, ◌==◌, ◌&&◌, Bool, true, false, not, List, length, map, slice_index, Option, Some, None}
+use Rattle.std.specs.Prelude.{◌≡◌, ℕ, ◌<◌, ◌≤◌, ◌==◌, ◌&&◌, ◌↔◌, Bool, true, false, not, IsTrue, List, All, length, map, slice_index, Option, Some, None}
 use Rattle.std.specs.List.{AllPass, list_any}
 use mathlib.Core.Option.{some}
 use lib.ListN.{get_elem?}
@@ -7,14 +7,13 @@ use Rattle.atomic_table.specs.Table.{State}
 use Rattle.pte.specs.declared.flags.PteFlags.{PteFlags}
 use Rattle.pte.specs.declared.address.What.{What}
 use Rattle.pte.specs.declared.address.What.TheVariants.{PageOf}
-use Rattle.pte.specs.declared.scheme.Scheme.{Scheme}
-use Rattle.pte.specs.Address.{Span, IsPageOf, top_level, vpn_of}
+use Rattle.pte.specs.Address.{Span, Holds, top_level, vpn_of}
 use Rattle.walk.specs.Leads.{Tables}
 use Rattle.walk.specs.Maps.{Maps}
 use Rattle.spaces.specs.declared.configuration.Config.{Config}
 use Rattle.spaces.specs.declared.places.Place.{Place}
 use Rattle.spaces.specs.declared.places.Place.TheVariants.{Space, Kernel}
-use Rattle.spaces.specs.Layout.{Layout, HasPlace, home_of, layout_of, root_ppn, user_slots}
+use Rattle.spaces.specs.Layout.{Layout, HasPlace, home_of, layout_of, root_ppn, first_window_slot}
 use Rattle.spaces.specs.Held.{Held, words_of}
 use Rattle.spaces.specs.Holders.{is_same_place}
 use Rattle.spaces.specs.Edits.{is_wrong_half}
@@ -91,17 +90,12 @@ pub record Kept (c : Config) (words : List ℕ) (views : List View) (hart : ℕ)
   -- nor has a hart that was collected, from then on
   pub gone : (h : ℕ) → h < length (layout_of c).spares → is_in h k.collected ≡ true → IsClean views h page (asid_for c place)
 
--- a page of the user's half
-pub record IsUserPage (scheme : Scheme) (page : Span) : Type 0 where
-  pub fits : IsPageOf scheme page
-  pub low : vpn_of page.base (top_level scheme) < user_slots
-
--- no entry that is global overlaps a page of the user's half
-abbrev pub ArePlain : Scheme → List Entry → Type 0
-ArePlain scheme entries = (page : Span) → IsUserPage scheme page → AllPass (λ e. not (e.global && overlaps page e.page)) entries
+-- an entry is global exactly in the window: so is each address of its page
+abbrev pub IsGlobalInWindow : Layout → Entry → Type 0
+IsGlobalInWindow l e = (va : ℕ) → Holds e.page va → (IsTrue e.global ↔ (first_window_slot l ≤ vpn_of va (top_level l.scheme)))
 
 -- What is kept of orders and of the entries that harts hold.
 pub record Ordered (c : Config) (s : State ℕ View) : Type 0 where
-  pub plain : (j : ℕ) (v : View) → get_elem? s.views j ≡ some v → ArePlain c.scheme v.entries
+  pub window : (j : ℕ) (v : View) → get_elem? s.views j ≡ some v → All (IsGlobalInWindow (layout_of c)) v.entries
   pub kept : (j : ℕ) (v : View) → get_elem? s.views j ≡ some v → (n : ℕ) (k : Order) → get_elem? v.orders n ≡ some k → (place : Place) (page : Span) → IsLive k place page
       → Kept c s.words s.views v.hart (memory_of (layout_of c) v) k place page

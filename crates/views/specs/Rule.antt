@@ -30,7 +30,7 @@ abbrev pub tickets : ℕ
 tickets = 64
 
 -- The cells follow the words of the tables, one for each sender, ticket and receiver. Those of a sender and a receiver stand side
--- by side, by ticket, so that two harts share no cache line of cells with others.
+-- by side, by ticket, so that they share a cache line with others at most at their ends.
 abbrev pub cell : Layout → ℕ → ℕ → ℕ → ℕ
 cell l sender ticket receiver = size l + ((sender * length l.spares + receiver) * tickets + ticket)
 

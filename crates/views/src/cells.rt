@@ -21,7 +21,7 @@ use std::marker::Brand;
 use tlb::Tlb;
 
 /// Where a cell stands among all words: after those of the tables, by sender, receiver and ticket. The cells of a sender and a
-/// receiver are 64 words side by side, so that harts that ask one another share no cache line of cells with others.
+/// receiver are 64 words side by side, so that they share a cache line with others at most at their ends.
 fn cell(config: &Config, sender: u8, ticket: u32, receiver: u8) -> usize
     requires limits { MeetsLimits max_live_frames config.now }
     requires sender { sender < length (layout_of config.now).spares }

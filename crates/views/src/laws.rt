@@ -11,7 +11,7 @@ ghost use Rattle.spaces.specs.Holders.{Holders};
 ghost use Rattle.spaces.specs.Tree.{IsAtHome, IsTree};
 ghost use Rattle.views.specs.declared.view.View.{View};
 ghost use Rattle.views.specs.Rule.{Has, tables_in};
-ghost use Rattle.views.specs.Board.{AcknowledgedIsClean, Board, CollectedIsClean, EqualWordsAskForEqualService, IsAsSaid, UnmappedIsWhereNoLeafLeads, UnmappedStaysUnmapped};
+ghost use Rattle.views.specs.Board.{AcknowledgedIsClean, Board, CollectedIsClean, EqualWordsAskForEqualService, IsAsSaid, LeavesAreGlobalInWindow, MappingsAreGlobalInWindow, UnmappedIsWhereNoLeafLeads, UnmappedStaysUnmapped};
 
 /// Once a hart was collected for an unmapping whose page is not mapped anew, what it filled translates no address of the page in
 /// any address space of the place.
@@ -23,6 +23,12 @@ pub fn collected_is_clean()
 /// shared words, lies in its page.
 pub fn unmapped_page_stays_unmapped()
     ensures { UnmappedStaysUnmapped }
+{}
+
+/// A leaf of the table words, and a mapping that a hart holds, is global exactly in the window.
+pub fn window_is_global()
+    ensures leaves { LeavesAreGlobalInWindow }
+    ensures mappings { MappingsAreGlobalInWindow }
 {}
 
 /// That nothing in a page is mapped is that no leaf leads at an address of the page.
