@@ -1,6 +1,6 @@
 //! Shootdowns: requests that go from mailbox to mailbox, and the tickets that count the answers.
 
-ghost use Rattle.std.specs.Prelude.{◌≡◌, ◌<◌, ◌&&◌, false, true, length, IsTrue, IfOk, IfErr, OnOk, OnErr, IfSome, IfNone, slice_set, None};
+ghost use Rattle.std.specs.Prelude.{◌≡◌, ◌<◌, ◌&&◌, false, true, length, IsTrue, IfOk, IfErr, OnOk, OnErr, IfSome, IfNone, slice_set, None, Some};
 ghost use Rattle.shoot.specs.Mailbox.{can_release, post_fault, first_waiting, after_post, after_take, after_release};
 ghost use Rattle.shoot.specs.Tickets.{is_open, names, progress_at, after_posted, after_collect};
 ghost use Rattle.tlb.specs.Service.{served};
@@ -78,6 +78,15 @@ impl Machine {
         let place = self.mailbox_place(sender, receiver);
         let mailbox = &mut self.mailboxes[place];
         mailbox.take()
+    }
+
+    /// A hart begins to serve a request that another hart posted.
+    fn begin_service(&mut self, hart: u8, from: u8, request: Request)
+        requires { hart < length self.old.harts }
+        ensures { self.new ≡ record self.old { harts = slice_set self.old.harts hart (record (hart_at self.old hart) { serving = Some (record { from = from; request = request; fenced = false }) }) } }
+    {
+        let this = &mut self.harts[usize::from(hart)];
+        this.take(from, request);
     }
 
     /// A hart serves nothing more.
@@ -190,8 +199,7 @@ impl Machine {
         let Some(request) = self.receive(from, hart) else {
             return Reply::Refused(Refusal::Empty);
         };
-        let this = &mut self.harts[usize::from(hart)];
-        this.take(from, request);
+        self.begin_service(hart, from, request);
         Reply::Taken(request)
     }
 
