@@ -66,7 +66,8 @@ pub(crate) fn target(word: u64) -> Option<u64>
 }
 
 impl EditWalk {
-    ghost use Rattle.std.specs.Prelude.{ℕ, IsTrue, None, Option, Some};
+    ghost use Rattle.std.specs.Prelude.{ℕ, ◌==◌, IsTrue, None, Option, Some};
+    ghost use Rattle.pte.specs.Address.{level_of};
 
     /// The edit that a hart begins. The refusals that no word decides come here, in the order of `MapFault`; last that of a
     /// page of the kernel of the root's level, where the window's table stands: `TableInWay`, or `WrongSize` to unmap or
@@ -138,7 +139,7 @@ impl EditWalk {
     pub(crate) fn below(self, word: u64) -> Option<EditWalk>
         ensures { result ≡ below_of self word }
     {
-        if self.level == self.wish.level() {
+        if self.is_at_page() {
             return None;
         }
         let table = target(word)?;
@@ -165,13 +166,15 @@ impl EditWalk {
         Ok(Edit::new(self.wish.place(), ppn, index, word))
     }
 
-    /// Whether the store that is due does not turn on the spare frame: the edit waits for a word of its page's level.
+    /// Whether the edit waits for a word of its page's level, so that the store that is due does not turn on the spare frame.
+    /// No edit is below that level: tested by `<=`, the compiler sees that the loads are few.
     #[inline(always)]
     #[tactic(auto, using(crate::proofs::Stages::needless))]
     pub(crate) fn is_at_page(&self) -> bool
-        ensures { IsTrue result → (word : ℕ) (o : Option ℕ) → due_here self.now word None ≡ due_here self.now word o }
+        ensures level { result ≡ (self.now.level == level_of (page_of self.now.wish).size) }
+        ensures spare { IsTrue result → (word : ℕ) (o : Option ℕ) → due_here self.now word None ≡ due_here self.now word o }
     {
-        self.level == self.wish.level()
+        self.level <= self.wish.level()
     }
 
     /// Goes on with the word that the edit waited for; `spare` is the PPN of the home's lowest unused spare frame, which is

@@ -22,10 +22,10 @@ use std::marker::Model;
 /// One store of a word of a table, for a place.
 #[derive(Clone, Copy, PartialEq, Eq, Debug)]
 pub struct Edit {
-    place: Place,
     ppn: u64,
-    index: u16,
     word: u64,
+    index: u16,
+    place: Place,
 }
 
 impl Model for Edit {
@@ -44,10 +44,10 @@ impl Edit {
         ensures { result ≡ record { place = place; ppn = ppn; index = index; word = word } }
     {
         Edit {
-            place,
             ppn,
-            index,
             word,
+            index,
+            place,
         }
     }
 
@@ -105,6 +105,7 @@ fn edit_due(memory: &Memory, hart: u8, wish: &Wish) -> Result<Edit, MapFault>
 
 /// The one store that is due next to map the page to the PPN with these flags: a pointer where a table is missing, which
 /// takes the lowest unused spare frame of the home, else the leaf. The refusals are tested in the order of `MapFault`.
+#[inline(always)]
 pub fn next_map_edit(
     memory: &Memory,
     hart: u8,
@@ -131,6 +132,7 @@ pub fn next_map_edit(
 
 /// The one store that unmaps the page: 0 in the place of its leaf. Refused, in this order, with `NotHome`, `WrongHalf`, and
 /// then `NotMapped` or `WrongSize` by what the path of the page ends at.
+#[inline(always)]
 pub fn unmap_edit(memory: &Memory, hart: u8, place: Place, page: Page) -> Result<Edit, MapFault>
     requires { HasPlace memory.now.layout place }
     ensures outcome { result ≡ edit_of memory.now.layout (words_of memory.now) (spare_of memory.now hart) hart (wish.Unmap place page) }
@@ -141,6 +143,7 @@ pub fn unmap_edit(memory: &Memory, hart: u8, place: Place, page: Page) -> Result
 
 /// The one store that gives the page's leaf other flags, and keeps its PPN. Refused, in this order, with `NotHome`,
 /// `WrongHalf`, `BadFlags`, and then `NotMapped` or `WrongSize` by what the path of the page ends at.
+#[inline(always)]
 pub fn protect_edit(
     memory: &Memory,
     hart: u8,

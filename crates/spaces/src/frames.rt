@@ -223,6 +223,8 @@ impl Memory {
     }
 
     /// The lowest unused spare frame of a hart.
+    // Few edits ask for it, so it is not compiled into each of them.
+    #[inline(never)]
     #[tactic(auto, using(crate::proofs::Homes::sums))]
     pub(crate) fn spare(&self, hart: u8) -> Option<u64>
         ensures value { result ≡ spare_of self.now hart }

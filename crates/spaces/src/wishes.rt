@@ -118,6 +118,19 @@ impl Wish {
         ensures page { result ≡ false → level_of (page_of self.now).size ≤ top_level scheme }
         ensures value { (base : ℕ) → result ≡ is_wrong_half (bare_layout scheme window base) (place_of self.now) (page_of self.now) }
     {
+        match scheme {
+            Scheme::Sv39 => self.is_wrong_half_in(Scheme::Sv39, window),
+            Scheme::Sv48 => self.is_wrong_half_in(Scheme::Sv48, window),
+        }
+    }
+
+    /// The same, for callers that name the scheme: its numbers are constants then.
+    #[inline(always)]
+    fn is_wrong_half_in(&self, scheme: Scheme, window: u16) -> bool
+        requires { window ≤ table_length }
+        ensures page { result ≡ false → level_of (page_of self.now).size ≤ top_level scheme }
+        ensures value { (base : ℕ) → result ≡ is_wrong_half (bare_layout scheme window base) (place_of self.now) (page_of self.now) }
+    {
         let page = self.page();
         let base = page.base();
         let slot = base.vpn(scheme.top_level());
@@ -222,9 +235,10 @@ impl Wish {
     pub(crate) fn due_word(&self, spare: Option<u64>, end: &PathEnd) -> Result<u64, MapFault>
         requires wish { leaf_fault self.now ≡ None }
         requires frame { IfSome spare (λ frame. frame < 2 ^ ppn_bits) }
+        requires level { level_of (page_of self.now).size ≤ end.now.level }
         ensures { result ≡ due_word self.now spare end.now }
     {
-        let is_at_page = end.level == self.level();
+        let is_at_page = end.level <= self.level();
         if is_at_page {
             self.page_word(end.entry)
         } else {
