@@ -20,3 +20,4 @@ pub mod Tables
 pub mod Asking
 pub mod NoLeaf
 pub mod WindowGlobal
+pub mod Lasting

@@ -5,3 +5,4 @@ pub mod Board
 pub mod Turns
 pub mod Walks
 pub mod Edits
+pub mod Lasting

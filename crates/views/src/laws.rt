@@ -12,6 +12,7 @@ ghost use Rattle.spaces.specs.Tree.{IsAtHome, IsTree};
 ghost use Rattle.views.specs.declared.view.View.{View};
 ghost use Rattle.views.specs.Rule.{Has, tables_in};
 ghost use Rattle.views.specs.Board.{AcknowledgedIsClean, Board, CollectedIsClean, EqualWordsAskForEqualService, IsAsSaid, LeavesAreGlobalInWindow, MappingsAreGlobalInWindow, UnmappedIsWhereNoLeafLeads, UnmappedStaysUnmapped};
+ghost use Rattle.views.specs.Lasting.{CellsAreApart, EditsMarkNothing, KernelIsInEverySpace, MarkedByALeafOver, StepsMarkNothing, UnmappingBeginsLive};
 
 /// Once a hart was collected for an unmapping whose page is not mapped anew, what it filled translates no address of the page in
 /// any address space of the place.
@@ -66,4 +67,29 @@ pub fn walk_in_flight_leads()
         → OnPath c.scheme (tables_in (layout_of c) s.words) v.root st }
     ensures reads { (c : Config) (s : State ℕ View) → Board c s → (j : ℕ) (v : View) (st : Stage) → get_elem? s.views j ≡ some v → v.walk ≡ Some st
         → Has (tables_in (layout_of c) s.words) v.reads }
+{}
+
+/// An unmapping begins an order under its ticket that is live: it speaks of that page of that place, is not marked anew, and has
+/// no armed cell and no collected hart. The orders before it stay as they are.
+pub fn unmapping_begins_live()
+    ensures { UnmappingBeginsLive }
+{}
+
+/// No step marks an order anew but the store of a leaf, and that only where the order follows an unmapping in the same place of
+/// a page that the leaf's overlaps. So until then the laws of live orders hold.
+pub fn only_a_leaf_over_the_page_marks_anew()
+    ensures steps { StepsMarkNothing }
+    ensures edits { EditsMarkNothing }
+    ensures leaf { MarkedByALeafOver }
+{}
+
+/// A page of the kernel is in the address space of every ASID, and one of a space in that of its own.
+pub fn kernel_is_in_every_space()
+    ensures { KernelIsInEverySpace }
+{}
+
+/// No two senders, tickets or receivers share a cell, and none is a word of a table: an acknowledgement that was stored stays
+/// until the same sender arms the same cell for its next order under the ticket.
+pub fn cells_are_apart()
+    ensures { CellsAreApart }
 {}

@@ -1,0 +1,108 @@
+-- What each step leaves of the orders, and where the cells stand.
+use Rattle.std.proofs.Common.{◌≡◌, ℕ, zero, suc, ◌+◌, ◌*◌, ◌<◌, ◌||◌, ◌==◌, ◌/◌, Bool, true, false, cond, List, [], ◌∷◌, length, map, is_some, Some, sym, refl, ap, ◌∙◌, inl, inr, arith}
+use Rattle.std.proofs.lemmas.Bool.{and_parts, eq-eqb, eqb-true, or_cases, false≢true}
+use Rattle.std.proofs.lemmas.Nat.{div-mul-add}
+use mathlib.Core.Option.{some, some-injective, some-ne-none}
+use lib.ListN.{get_elem?}
+use Rattle.pte.specs.Address.{Overlap, Span}
+use Rattle.walk.specs.Pointers.{pointed}
+use Rattle.spaces.specs.declared.places.Place.{Place}
+use Rattle.spaces.specs.declared.places.Place.TheVariants.{Space, Kernel}
+use Rattle.spaces.specs.Holders.{is_same_place}
+use Rattle.tlb.specs.Service.{overlaps}
+use Rattle.tlb.proofs.Overlapping.{overlaps-Overlap}
+use Rattle.views.specs.declared.view.Cause.{Cause}
+use Rattle.views.specs.declared.view.Cause.TheVariants.{Unmapped, Other}
+use Rattle.views.specs.declared.view.Order.{Order}
+use Rattle.views.specs.Orders.{is_over}
+use Rattle.views.specs.OrderTurns.{armed, collected, for_ticket, fresh, marked, open_order}
+use Rattle.views.specs.Lasting.{CellsAreApart, EditsMarkNothing, KernelIsInEverySpace, MarkedByALeafOver, StepsMarkNothing, UnmappingBeginsLive}
+use Rattle.views.proofs.CellKeeps.{cell-inside}
+use Rattle.views.proofs.OrderKeeps.{receiver}
+
+abbrev lasting : Order → ℕ × Cause × Bool
+lasting k = (k.ticket, k.cause, k.anew)
+
+-- a change of the open order of a ticket that keeps what lasts of it
+same-causes : (ticket : ℕ) (f : Order → Order) → ((k : Order) → lasting (f k) ≡ lasting k) → (ks : List Order) → map lasting (for_ticket ticket f ks) ≡ map lasting ks
+same-causes ticket f keeps [] = refl
+same-causes ticket f keeps (k ∷ ks) = by (k.ticket == ticket) (same-causes ticket f keeps ks)
+  where
+    by : (t : Bool) → map lasting (for_ticket ticket f ks) ≡ map lasting ks → map lasting (cond t (f k ∷ ks) (k ∷ for_ticket ticket f ks)) ≡ lasting k ∷ map lasting ks
+    by true more = ap (λ x. x ∷ map lasting ks) (keeps k)
+    by false more = ap (λ xs. lasting k ∷ xs) more
+
+pub begins_live : UnmappingBeginsLive
+begins_live c place page ticket v store = (fresh ticket (Unmapped place page), by (ticket == ticket) (eq-eqb ticket ticket refl), (refl, refl), refl, refl, refl)
+  where
+    by : (t : Bool) → t ≡ true → cond t (Some (fresh ticket (Unmapped place page))) (open_order ticket v.orders) ≡ Some (fresh ticket (Unmapped place page))
+    by true is = refl
+    by false is = absurd (false≢true is)
+
+pub steps_mark_nothing : StepsMarkNothing
+steps_mark_nothing v ticket hart word what is_found root st reads = (
+  same-causes ticket (armed hart) (λ k. refl) v.orders,
+  refl,
+  look is_found,
+  same-causes ticket (collected v.hart) (λ k. refl) v.orders,
+  refl,
+)
+  where
+    look : (t : Bool) → map lasting (cond t (record v { orders = for_ticket ticket (collected hart) v.orders }) v).orders ≡ map lasting v.orders
+    look true = same-causes ticket (collected hart) (λ k. refl) v.orders
+    look false = refl
+
+pub edits_mark_nothing : EditsMarkNothing
+edits_mark_nothing c v ticket store place page ppn flags what = (refl, refl, refl, λ pointer. by (is_some (pointed (Some store.word))) pointer)
+  where
+    by : (t : Bool) → t ≡ true → map lasting (cond t v.orders (map (marked place page) v.orders)) ≡ map lasting v.orders
+    by true is = refl
+    by false is = absurd (false≢true is)
+
+same-place : (p q : Place) → is_same_place p q ≡ true → q ≡ p
+same-place (Space s) (Space t) is = ap Space (sym (eqb-true s t is))
+same-place (Space s) Kernel is = absurd (false≢true is)
+same-place Kernel (Space t) is = absurd (false≢true is)
+same-place Kernel Kernel is = refl
+
+over-what : (cause : Cause) (place : Place) (page : Span) → is_over cause place page ≡ true → (over : Span) × (cause ≡ Unmapped place over) × Overlap over page
+over-what (Unmapped p q) place page is =
+    let both = and_parts (is_same_place p place) (overlaps q page) is in
+    (q, ap (λ (x : Place). Unmapped x q) (sym (same-place p place both.0)), (overlaps-Overlap q page).0 both.1)
+over-what (Other what) place page is = absurd (false≢true is)
+
+at-map : (f : Order → Order) (ks : List Order) (n : ℕ) (k k' : Order) → get_elem? ks n ≡ some k → get_elem? (map f ks) n ≡ some k' → f k ≡ k'
+at-map f [] n k k' at at' = absurd (some-ne-none k (sym at))
+at-map f (x ∷ xs) zero k k' at at' = ap f (sym (some-injective x k at)) ∙ some-injective (f x) k' at'
+at-map f (x ∷ xs) (suc n) k k' at at' = at-map f xs n k k' at at'
+
+pub marked_by_a_leaf_over : MarkedByALeafOver
+marked_by_a_leaf_over c v ticket store place page ppn flags n k k' at at' was now = by (is_some (pointed (Some store.word))) at'
+  where
+    by : (t : Bool) → get_elem? (cond t v.orders (map (marked place page) v.orders)) n ≡ some k' → (over : Span) × (k.cause ≡ Unmapped place over) × Overlap over page
+    by true e =
+        let same : k ≡ k' = some-injective k k' (sym at ∙ e) in
+        absurd (false≢true (sym was ∙ (ap (λ (x : Order). x.anew) same ∙ now)))
+    by false e =
+        let is : (is_over k.cause place page || k.anew) ≡ true = ap (λ (x : Order). x.anew) (at-map (marked place page) v.orders n k k' at e) ∙ now in
+        elim (or_cases (is_over k.cause place page) k.anew is) [
+          | inl over ↦ over-what k.cause place page over
+          | inr before ↦ absurd (false≢true (sym was ∙ before))
+        ]
+
+pub kernel_is_in_every_space : KernelIsInEverySpace
+kernel_is_in_every_space c asid = (tt, λ s. refl)
+
+-- a row is read from what stands in it
+by-rows : (width s h s' h' : ℕ) → h < width → h' < width → s * width + h ≡ s' * width + h' → s ≡ s'
+by-rows width s h s' h' a b e = sym (div-mul-add s width h a) ∙ (ap (λ (n : ℕ). n / width) e ∙ div-mul-add s' width h' b)
+
+pub cells_are_apart : CellsAreApart
+cells_are_apart l s t h small-s few small-h = (
+  omega arith,
+  cell-inside l s t h small-s few small-h,
+  λ s' t' h' small-s' few' small-h' e.
+      let pairs : s * length l.spares + h ≡ s' * length l.spares + h' = omega (arith, e, few, few') in
+      let same-h : h ≡ h' = receiver l s t h s' t' h' few few' small-h small-h' e in
+      (by-rows (length l.spares) s h s' h' small-h small-h' pairs, omega (arith, e, few, few', pairs), same-h),
+)

@@ -1,0 +1,66 @@
+-- How long an order lasts: what each step leaves of it, and what marks it anew.
+use Rattle.std.specs.Prelude.{◌≡◌, ◌<◌, ◌≤◌, ℕ, Bool, true, false, is_some, List, [], ◌∷◌, map, length, Some}
+use mathlib.Core.Option.{some}
+use lib.ListN.{get_elem?}
+use Rattle.pte.specs.declared.flags.PteFlags.{PteFlags}
+use Rattle.pte.specs.declared.address.What.{What}
+use Rattle.pte.specs.declared.address.What.TheVariants.{PageOf}
+use Rattle.pte.specs.Address.{Overlap, Span}
+use Rattle.walk.specs.Pointers.{pointed}
+use Rattle.walk.specs.Stage.{Stage}
+use Rattle.spaces.specs.declared.configuration.Config.{Config}
+use Rattle.spaces.specs.declared.places.Place.{Place}
+use Rattle.spaces.specs.declared.places.Place.TheVariants.{Space, Kernel}
+use Rattle.spaces.specs.declared.wishes.Wish.TheVariants.{Map, Unmap, Protect}
+use Rattle.spaces.specs.Edits.{Store}
+use Rattle.spaces.specs.Layout.{Layout}
+use Rattle.views.specs.declared.view.Cause.{Cause}
+use Rattle.views.specs.declared.view.Cause.TheVariants.{Unmapped, Other}
+use Rattle.views.specs.declared.view.Order.{Order}
+use Rattle.views.specs.declared.view.Read.{Read}
+use Rattle.views.specs.declared.view.View.{View}
+use Rattle.views.specs.Rule.{cell, size, tickets, board_size}
+use Rattle.views.specs.Orders.{IsAsidFor, IsLive, asid_for, asid_in}
+use Rattle.views.specs.OrderTurns.{acknowledged, looked, noted, open_order, ordered, self_acked, with_armed}
+use Rattle.views.specs.Turns.{walked}
+
+-- of each order its ticket, what it follows, and whether it was marked anew
+abbrev pub causes : View → List (ℕ × Cause × Bool)
+causes v = map (λ k. (k.ticket, k.cause, k.anew)) v.orders
+
+-- an unmapping begins an order that is live, with no cell armed and no hart collected; those before stay
+abbrev pub UnmappingBeginsLive : Type 0
+UnmappingBeginsLive = (c : Config) (place : Place) (page : Span) (ticket : ℕ) (v : View) (store : Store) → (k : Order)
+    × (open_order ticket (noted c (Unmap place page) ticket v store).orders ≡ Some k) × IsLive k place page × (k.armed ≡ []) × (k.collected ≡ [])
+    × ((noted c (Unmap place page) ticket v store).orders ≡ k ∷ v.orders)
+
+-- arming, serving, looking for an acknowledgement, acknowledging oneself and walking change of no order what it follows, and mark none
+abbrev pub StepsMarkNothing : Type 0
+StepsMarkNothing = (v : View) (ticket hart word : ℕ) (what : What) (is_found : Bool) (root : ℕ) (st : Stage) (reads : List Read) →
+    (causes (with_armed ticket hart v) ≡ causes v) × (causes (acknowledged hart ticket what v) ≡ causes v) × (causes (looked ticket hart is_found word v) ≡ causes v)
+    × (causes (self_acked ticket what v) ≡ causes v) × (causes (walked v root st reads word) ≡ causes v)
+
+-- nor does the store of an edit that maps no leaf, or an order that follows no store: they add their own
+abbrev pub EditsMarkNothing : Type 0
+EditsMarkNothing = (c : Config) (v : View) (ticket : ℕ) (store : Store) (place : Place) (page : Span) (ppn : ℕ) (flags : PteFlags) (what : What) →
+    (causes (ordered ticket what v) ≡ (ticket, Other what, false) ∷ causes v)
+    × (causes (noted c (Unmap place page) ticket v store) ≡ (ticket, Unmapped place page, false) ∷ causes v)
+    × (causes (noted c (Protect place page flags) ticket v store) ≡ (ticket, Other (PageOf page (asid_for c place)), false) ∷ causes v)
+    × (is_some (pointed (Some store.word)) ≡ true → causes (noted c (Map place page ppn flags) ticket v store) ≡ causes v)
+
+-- a map marks only what follows an unmapping in the same place of a page that it overlaps, and by a leaf
+abbrev pub MarkedByALeafOver : Type 0
+MarkedByALeafOver = (c : Config) (v : View) (ticket : ℕ) (store : Store) (place : Place) (page : Span) (ppn : ℕ) (flags : PteFlags) (n : ℕ) (k k' : Order)
+    → get_elem? v.orders n ≡ some k → get_elem? (noted c (Map place page ppn flags) ticket v store).orders n ≡ some k' → k.anew ≡ false → k'.anew ≡ true
+    → (over : Span) × (k.cause ≡ Unmapped place over) × Overlap over page
+
+-- a space has its own ASID alone, and the kernel is in the address spaces of all
+abbrev pub KernelIsInEverySpace : Type 0
+KernelIsInEverySpace = (c : Config) (asid : ℕ) → IsAsidFor c Kernel asid × ((s : ℕ) → IsAsidFor c (Space s) (asid_in c s))
+
+-- the cells lie behind the words of the tables, and no two senders, tickets or receivers share one
+abbrev pub CellsAreApart : Type 0
+CellsAreApart = (l : Layout) (sender ticket receiver : ℕ) → sender < length l.spares → ticket < tickets → receiver < length l.spares
+    → (size l ≤ cell l sender ticket receiver) × (cell l sender ticket receiver < board_size l)
+    × ((other number to : ℕ) → other < length l.spares → number < tickets → to < length l.spares → cell l sender ticket receiver ≡ cell l other number to
+    → (sender ≡ other) × (ticket ≡ number) × (receiver ≡ to))
