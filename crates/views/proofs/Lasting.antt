@@ -2,21 +2,26 @@
 use Rattle.std.proofs.Common.{◌≡◌, ℕ, zero, suc, ◌+◌, ◌*◌, ◌<◌, ◌||◌, ◌==◌, ◌/◌, Bool, true, false, cond, List, [], ◌∷◌, length, map, is_some, Some, sym, refl, ap, ◌∙◌, inl, inr, arith}
 use Rattle.std.proofs.lemmas.Bool.{and_parts, eq-eqb, eqb-true, or_cases, false≢true}
 use Rattle.std.proofs.lemmas.Nat.{div-mul-add}
+use Rattle.std.specs.Prelude.{◌⊎◌, ◌%◌, None, if◌then◌else◌}
 use mathlib.Core.Option.{some, some-injective, some-ne-none}
 use lib.ListN.{get_elem?}
-use Rattle.pte.specs.Address.{Overlap, Span}
+use Rattle.spaces.specs.declared.configuration.Config.{Config}
+use Rattle.pte.specs.Address.{Overlap, Span, pages_of}
 use Rattle.walk.specs.Pointers.{pointed}
 use Rattle.spaces.specs.declared.places.Place.{Place}
 use Rattle.spaces.specs.declared.places.Place.TheVariants.{Space, Kernel}
 use Rattle.spaces.specs.Holders.{is_same_place}
 use Rattle.tlb.specs.Service.{overlaps}
 use Rattle.tlb.proofs.Overlapping.{overlaps-Overlap}
+use Rattle.tlb.proofs.Translating.{lies_in}
+use Rattle.tlb.specs.declared.store.Entry.{Entry}
+use Rattle.walk.specs.Maps.{page_number}
 use Rattle.views.specs.declared.view.Cause.{Cause}
 use Rattle.views.specs.declared.view.Cause.TheVariants.{Unmapped, Other}
 use Rattle.views.specs.declared.view.Order.{Order}
-use Rattle.views.specs.Orders.{is_over}
+use Rattle.views.specs.Orders.{IsAsidFor, asid_in, is_over}
 use Rattle.views.specs.OrderTurns.{armed, collected, for_ticket, fresh, marked, open_order}
-use Rattle.views.specs.Lasting.{CellsAreApart, EditsMarkNothing, KernelIsInEverySpace, MarkedByALeafOver, StepsMarkNothing, UnmappingBeginsLive}
+use Rattle.views.specs.Lasting.{CellsAreApart, EditsMarkNothing, IsFor, KernelIsInEverySpace, MarkedByALeafOver, StepsMarkNothing, TranslatesNoneHoldsNone, UnmappingBeginsLive}
 use Rattle.views.proofs.CellKeeps.{cell-inside}
 use Rattle.views.proofs.OrderKeeps.{receiver}
 
@@ -106,3 +111,28 @@ cells_are_apart l s t h small-s few small-h = (
       let same-h : h ≡ h' = receiver l s t h s' t' h' few few' small-h small-h' e in
       (by-rows (length l.spares) s h s' h' small-h small-h' pairs, omega (arith, e, few, few', pairs), same-h),
 )
+
+-- an ASID of the place that an entry for the place answers
+its-asid : (c : Config) (place : Place) (e : Entry) → IsFor c place e
+    → (asid : ℕ) × IsAsidFor c place asid × (((if e.global then None else Some e.asid) ≡ None) ⊎ ((if e.global then None else Some e.asid) ≡ Some asid))
+its-asid c (Space s) e (inl global) = (asid_in c s, refl, inl (ap (λ b. if b then None else Some e.asid) global))
+its-asid c (Space s) e (inr own) = (asid_in c s, refl, by e.global)
+  where
+    by : (b : Bool) → ((if b then None else Some e.asid) ≡ None) ⊎ ((if b then None else Some e.asid) ≡ Some (asid_in c s))
+    by true = inl refl
+    by false = inr (ap Some own)
+its-asid c Kernel e is = (e.asid, tt, by e.global)
+  where
+    by : (b : Bool) → ((if b then None else Some e.asid) ≡ None) ⊎ ((if b then None else Some e.asid) ≡ Some e.asid)
+    by true = inl refl
+    by false = inr refl
+
+pub translates_none_holds_none : TranslatesNoneHoldsNone
+translates_none_holds_none c views h place page none j w at is e held is-page for over =
+    let r = its-asid c place e for in
+    none j w at is r.0 over.0 r.1 over.1 (record {
+      mapping = record { asid = if e.global then None else Some e.asid; page = page_number over.0; ppn = e.ppn + page_number over.0 % pages_of e.page.size; flags = e.flags };
+      member = (e, held, record { asid = refl; page = lies_in e.page over.0 is-page over.2; ppn = refl; flags = refl });
+      space = r.2;
+      page = refl;
+    })

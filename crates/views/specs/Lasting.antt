@@ -1,11 +1,11 @@
 -- How long an order lasts: what each step leaves of it, and what marks it anew.
-use Rattle.std.specs.Prelude.{◌≡◌, ◌<◌, ◌≤◌, ℕ, Bool, true, false, is_some, List, [], ◌∷◌, map, length, Some}
+use Rattle.std.specs.Prelude.{◌≡◌, ◌<◌, ◌≤◌, ◌⊎◌, Contains, ℕ, Bool, true, false, is_some, List, [], ◌∷◌, map, length, Some}
 use mathlib.Core.Option.{some}
 use lib.ListN.{get_elem?}
 use Rattle.pte.specs.declared.flags.PteFlags.{PteFlags}
 use Rattle.pte.specs.declared.address.What.{What}
 use Rattle.pte.specs.declared.address.What.TheVariants.{PageOf}
-use Rattle.pte.specs.Address.{Overlap, Span}
+use Rattle.pte.specs.Address.{IsPage, Overlap, Span}
 use Rattle.walk.specs.Pointers.{pointed}
 use Rattle.walk.specs.Stage.{Stage}
 use Rattle.spaces.specs.declared.configuration.Config.{Config}
@@ -14,6 +14,7 @@ use Rattle.spaces.specs.declared.places.Place.TheVariants.{Space, Kernel}
 use Rattle.spaces.specs.declared.wishes.Wish.TheVariants.{Map, Unmap, Protect}
 use Rattle.spaces.specs.Edits.{Store}
 use Rattle.spaces.specs.Layout.{Layout}
+use Rattle.tlb.specs.declared.store.Entry.{Entry}
 use Rattle.views.specs.declared.view.Cause.{Cause}
 use Rattle.views.specs.declared.view.Cause.TheVariants.{Unmapped, Other}
 use Rattle.views.specs.declared.view.Order.{Order}
@@ -23,6 +24,7 @@ use Rattle.views.specs.Rule.{cell, size, tickets, board_size}
 use Rattle.views.specs.Orders.{IsAsidFor, IsLive, asid_for, asid_in}
 use Rattle.views.specs.OrderTurns.{acknowledged, looked, noted, open_order, ordered, self_acked, with_armed}
 use Rattle.views.specs.Turns.{walked}
+use Rattle.views.specs.Board.{TranslatesNone}
 
 -- of each order its ticket, what it follows, and whether it was marked anew
 abbrev pub causes : View → List (ℕ × Cause × Bool)
@@ -57,6 +59,16 @@ MarkedByALeafOver = (c : Config) (v : View) (ticket : ℕ) (store : Store) (plac
 -- a space has its own ASID alone, and the kernel is in the address spaces of all
 abbrev pub KernelIsInEverySpace : Type 0
 KernelIsInEverySpace = (c : Config) (asid : ℕ) → IsAsidFor c Kernel asid × ((s : ℕ) → IsAsidFor c (Space s) (asid_in c s))
+
+-- an entry that is for some address space of the place: a global one, one of the space's own ASID, or for the kernel any
+abbrev pub IsFor : Config → Place → Entry → Type 0
+IsFor c (Space s) e = (e.global ≡ true) ⊎ (e.asid ≡ asid_in c s)
+IsFor c Kernel e = Unit {0}
+
+-- where a hart's entries translate no address of a page of a place, none of them overlaps the page that is for the place
+abbrev pub TranslatesNoneHoldsNone : Type 0
+TranslatesNoneHoldsNone = (c : Config) (views : List View) (h : ℕ) (place : Place) (page : Span) → TranslatesNone c views h place page
+    → (j : ℕ) (w : View) → get_elem? views j ≡ some w → w.hart ≡ h → (e : Entry) → Contains w.entries e → IsPage e.page → IsFor c place e → ¬ Overlap page e.page
 
 -- the cells lie behind the words of the tables, and no two senders, tickets or receivers share one
 abbrev pub CellsAreApart : Type 0

@@ -12,7 +12,7 @@ ghost use Rattle.spaces.specs.Tree.{IsAtHome, IsTree};
 ghost use Rattle.views.specs.declared.view.View.{View};
 ghost use Rattle.views.specs.Rule.{Has, tables_in};
 ghost use Rattle.views.specs.Board.{AcknowledgedIsClean, Board, CollectedIsClean, EqualWordsAskForEqualService, IsAsSaid, LeavesAreGlobalInWindow, MappingsAreGlobalInWindow, UnmappedIsWhereNoLeafLeads, UnmappedStaysUnmapped};
-ghost use Rattle.views.specs.Lasting.{CellsAreApart, EditsMarkNothing, KernelIsInEverySpace, MarkedByALeafOver, StepsMarkNothing, UnmappingBeginsLive};
+ghost use Rattle.views.specs.Lasting.{CellsAreApart, EditsMarkNothing, KernelIsInEverySpace, MarkedByALeafOver, StepsMarkNothing, TranslatesNoneHoldsNone, UnmappingBeginsLive};
 
 /// Once a hart was collected for an unmapping whose page is not mapped anew, what it filled translates no address of the page in
 /// any address space of the place.
@@ -92,4 +92,10 @@ pub fn kernel_is_in_every_space()
 /// until the same sender arms the same cell for its next order under the ticket.
 pub fn cells_are_apart()
     ensures { CellsAreApart }
+{}
+
+/// A hart that translates no address of a page of a place, as the laws of what is acknowledged and collected say, holds no entry
+/// for the place that overlaps the page: none of that page, of a part of it or of a larger page over it, and no global one.
+pub fn translates_none_holds_none()
+    ensures { TranslatesNoneHoldsNone }
 {}
