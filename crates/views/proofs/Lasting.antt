@@ -20,8 +20,11 @@ use Rattle.views.specs.declared.view.Cause.{Cause}
 use Rattle.views.specs.declared.view.Cause.TheVariants.{Unmapped, Other}
 use Rattle.views.specs.declared.view.Order.{Order}
 use Rattle.views.specs.Orders.{IsAsidFor, asid_in, is_over}
-use Rattle.views.specs.OrderTurns.{armed, collected, for_ticket, fresh, marked, open_order}
-use Rattle.views.specs.Lasting.{CellsAreApart, EditsMarkNothing, IsFor, KernelIsInEverySpace, MarkedByALeafOver, StepsMarkNothing, TranslatesNoneHoldsNone, UnmappingBeginsLive}
+use Rattle.spaces.specs.Layout.{layout_of}
+use Rattle.views.specs.Rule.{cell}
+use Rattle.shoot.proofs.AcknowledgementWords.{not_zero}
+use Rattle.views.specs.OrderTurns.{armed, last_word, looked, collected, for_ticket, fresh, marked, open_order}
+use Rattle.views.specs.Lasting.{CellsAreApart, CellsMeet, EditsMarkNothing, IsFor, KernelIsInEverySpace, MarkedByALeafOver, StepsMarkNothing, TranslatesNoneHoldsNone, UnmappingBeginsLive, last_cell}
 use Rattle.views.proofs.CellKeeps.{cell-inside}
 use Rattle.views.proofs.OrderKeeps.{receiver}
 
@@ -136,3 +139,15 @@ translates_none_holds_none c views h place page none j w at is e held is-page fo
       space = r.2;
       page = refl;
     })
+
+pub cells_meet : CellsMeet
+cells_meet sender receiver ticket word what is_found same =
+    (by is_found, ap (λ (c : Config). Some (cell (layout_of c) sender.hart ticket receiver.hart)) same ∙ by is_found, refl, refl, not_zero what, look is_found)
+  where
+    by : (t : Bool) → Some (cell (layout_of sender.config) sender.hart ticket receiver.hart) ≡ last_cell (looked ticket receiver.hart t word sender).cell_steps
+    by true = refl
+    by false = refl
+
+    look : (t : Bool) → last_word (looked ticket receiver.hart t word sender).cell_steps ≡ word
+    look true = refl
+    look false = refl

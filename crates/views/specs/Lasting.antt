@@ -1,5 +1,5 @@
 -- How long an order lasts: what each step leaves of it, and what marks it anew.
-use Rattle.std.specs.Prelude.{◌≡◌, ◌<◌, ◌≤◌, ◌⊎◌, Contains, ℕ, Bool, true, false, is_some, List, [], ◌∷◌, map, length, Some}
+use Rattle.std.specs.Prelude.{◌≡◌, ◌≢◌, ◌<◌, ◌≤◌, ◌⊎◌, Contains, ℕ, Bool, true, false, is_some, List, [], ◌∷◌, map, length, Option, Some, None}
 use mathlib.Core.Option.{some}
 use lib.ListN.{get_elem?}
 use Rattle.pte.specs.declared.flags.PteFlags.{PteFlags}
@@ -17,12 +17,15 @@ use Rattle.spaces.specs.Layout.{Layout}
 use Rattle.tlb.specs.declared.store.Entry.{Entry}
 use Rattle.views.specs.declared.view.Cause.{Cause}
 use Rattle.views.specs.declared.view.Cause.TheVariants.{Unmapped, Other}
+use Rattle.shoot.specs.Acknowledgement.{acknowledgement}
+use Rattle.views.specs.declared.view.CellStep.{CellStep}
+use Rattle.views.specs.declared.view.CellStep.TheVariants.{Found, Stored}
 use Rattle.views.specs.declared.view.Order.{Order}
 use Rattle.views.specs.declared.view.Read.{Read}
 use Rattle.views.specs.declared.view.View.{View}
 use Rattle.views.specs.Rule.{cell, size, tickets, board_size}
 use Rattle.views.specs.Orders.{IsAsidFor, IsLive, asid_for, asid_in}
-use Rattle.views.specs.OrderTurns.{acknowledged, looked, noted, open_order, ordered, self_acked, with_armed}
+use Rattle.views.specs.OrderTurns.{acknowledged, last_word, looked, noted, open_order, ordered, self_acked, with_armed}
 use Rattle.views.specs.Turns.{walked}
 use Rattle.views.specs.Board.{TranslatesNone}
 
@@ -76,3 +79,19 @@ CellsAreApart = (l : Layout) (sender ticket receiver : ℕ) → sender < length 
     → (size l ≤ cell l sender ticket receiver) × (cell l sender ticket receiver < board_size l)
     × ((other number to : ℕ) → other < length l.spares → number < tickets → to < length l.spares → cell l sender ticket receiver ≡ cell l other number to
     → (sender ≡ other) × (ticket ≡ number) × (receiver ≡ to))
+
+-- the cell of the last step on one
+abbrev pub last_cell : List CellStep → Option ℕ
+last_cell [] = None
+last_cell (Found at word ∷ steps) = Some at
+last_cell (Stored at word ∷ steps) = Some at
+
+-- the cell that a sender arms for a receiver, that to which the receiver stores, and that at which the sender looks, are one; what the
+-- receiver stores is the word of what it dropped, which is not the armed one
+abbrev pub CellsMeet : Type 0
+CellsMeet = (sender receiver : View) (ticket word : ℕ) (what : What) (is_found : Bool) → receiver.config ≡ sender.config →
+    (last_cell (with_armed ticket receiver.hart sender).cell_steps ≡ last_cell (looked ticket receiver.hart is_found word sender).cell_steps)
+    × (last_cell (acknowledged sender.hart ticket what receiver).cell_steps ≡ last_cell (looked ticket receiver.hart is_found word sender).cell_steps)
+    × (last_word (with_armed ticket receiver.hart sender).cell_steps ≡ 0)
+    × (last_word (acknowledged sender.hart ticket what receiver).cell_steps ≡ acknowledgement what) × (acknowledgement what ≢ 0)
+    × (last_word (looked ticket receiver.hart is_found word sender).cell_steps ≡ word)

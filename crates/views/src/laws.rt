@@ -12,7 +12,7 @@ ghost use Rattle.spaces.specs.Tree.{IsAtHome, IsTree};
 ghost use Rattle.views.specs.declared.view.View.{View};
 ghost use Rattle.views.specs.Rule.{Has, tables_in};
 ghost use Rattle.views.specs.Board.{AcknowledgedIsClean, Board, CollectedIsClean, EqualWordsAskForEqualService, IsAsSaid, LeavesAreGlobalInWindow, MappingsAreGlobalInWindow, UnmappedIsWhereNoLeafLeads, UnmappedStaysUnmapped};
-ghost use Rattle.views.specs.Lasting.{CellsAreApart, EditsMarkNothing, KernelIsInEverySpace, MarkedByALeafOver, StepsMarkNothing, TranslatesNoneHoldsNone, UnmappingBeginsLive};
+ghost use Rattle.views.specs.Lasting.{CellsAreApart, CellsMeet, EditsMarkNothing, KernelIsInEverySpace, MarkedByALeafOver, StepsMarkNothing, TranslatesNoneHoldsNone, UnmappingBeginsLive};
 
 /// Once a hart was collected for an unmapping whose page is not mapped anew, what it filled translates no address of the page in
 /// any address space of the place.
@@ -86,6 +86,12 @@ pub fn only_a_leaf_over_the_page_marks_anew()
 /// A page of the kernel is in the address space of every ASID, and one of a space in that of its own.
 pub fn kernel_is_in_every_space()
     ensures { KernelIsInEverySpace }
+{}
+
+/// The cell that a sender arms, that to which its receiver stores, and that at which the sender looks, are one; and the word that
+/// the receiver stores is the one that `collect` counts, which is never the armed one.
+pub fn cells_meet()
+    ensures { CellsMeet }
 {}
 
 /// No two senders, tickets or receivers share a cell, and none is a word of a table: an acknowledgement that was stored stays

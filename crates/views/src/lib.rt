@@ -15,7 +15,7 @@ mod walks;
 pub use cells::{acknowledge, acknowledge_self, arm, collect, open_order};
 pub use edits::{decide, edit, store};
 pub use laws::{
-    acknowledged_is_clean, cells_are_apart, collected_is_clean,
+    acknowledged_is_clean, cells_are_apart, cells_meet, collected_is_clean,
     each_table_word_is_as_its_home_says, equal_words_ask_for_equal_service,
     kernel_is_in_every_space, only_a_leaf_over_the_page_marks_anew, table_words_are_a_tree,
     unmapped_is_where_no_leaf_leads, unmapped_page_stays_unmapped, unmapping_begins_live,
