@@ -1,23 +1,26 @@
 -- What a sender may rely on once an unmapping's ticket is done.
-use Rattle.std.specs.Prelude.{ℕ, ◌≡◌, ◌<◌, Some, List, length, true}
+use Rattle.std.specs.Prelude.{ℕ, ◌≡◌, ◌<◌, Some, Ok, Contains, List, [], length, true}
 use mathlib.Core.Option.{some}
 use lib.ListN.{get_elem?}
 use Rattle.atomic_table.specs.Table.{State}
-use Rattle.pte.specs.Address.{Holds, Span}
+use Rattle.pte.specs.Address.{Holds, IsPage, Overlap, Span}
 use Rattle.tlb.specs.declared.store.Entry.{Entry}
 use Rattle.tlb.specs.Mappings.{IsMappedBy, Translates}
 use Rattle.shoot.specs.Tickets.{names}
 use Rattle.spaces.specs.declared.configuration.Config.{Config}
 use Rattle.spaces.specs.declared.places.Place.{Place}
+use Rattle.spaces.specs.declared.wishes.Wish.TheVariants.{Unmap}
 use Rattle.spaces.specs.Layout.{layout_of}
 use Rattle.views.specs.declared.view.Order.{Order}
 use Rattle.views.specs.declared.view.View.{View}
 use Rattle.views.specs.Board.{Board}
 use Rattle.views.specs.Orders.{IsAsidFor, IsLive}
 use Rattle.views.specs.OrderTurns.{open_order}
+use Rattle.views.specs.Lasting.{IsFor}
 use Rattle.board.specs.Ports.{PortState}
 use Rattle.board.specs.Ties.{IsWithin}
 use Rattle.board.specs.Collects.{AreAllCollected}
+use Rattle.board.specs.Tables.{after_edit, edit_answer}
 
 -- the entries translate no address of the page in any address space of the place
 abbrev pub TranslateNone : Config → List Entry → Place → Span → Type 0
@@ -31,3 +34,15 @@ DoneIsClean = (c : Config) (s : State ℕ View) → Board c s → (i : ℕ) (por
     → (ticket : ℕ) (k : Order) → open_order ticket port.view.orders ≡ Some k → (place : Place) (page : Span) → IsLive k place page → AreAllCollected port ticket
     → (j : ℕ) (other : PortState) → get_elem? s.views j ≡ some other.view → other.view.hart < length (layout_of c).spares → names port.tickets ticket other.view.hart ≡ true
     → IsWithin other.tlb.entries other.view.entries → TranslateNone c other.tlb.entries place page
+
+-- An unmapping that is accepted leaves under its ticket an open order that is live, of that page of that place, with no cell armed
+-- and no hart collected. So `DoneIsClean` speaks of it, until the home maps a leaf over the page (law
+-- `views::only_a_leaf_over_the_page_marks_anew`).
+abbrev pub AcceptedUnmappingIsLive : Type 0
+AcceptedUnmappingIsLive = (port : PortState) (place : Place) (page : Span) (named ticket : ℕ) → edit_answer port (Unmap place page) named ≡ Ok ticket → (k : Order)
+    × (open_order ticket (after_edit port (Unmap place page) named).view.orders ≡ Some k) × IsLive k place page × (k.armed ≡ []) × (k.collected ≡ [])
+
+-- where no address of a page of a place is translated, no entry overlaps the page that is for the place
+abbrev pub TranslateNoneHoldsNone : Type 0
+TranslateNoneHoldsNone = (c : Config) (entries : List Entry) (place : Place) (page : Span) → TranslateNone c entries place page
+    → (e : Entry) → Contains entries e → IsPage e.page → IsFor c place e → ¬ Overlap page e.page

@@ -1,7 +1,7 @@
 //! What the definitions of this crate say of a worked row. The function does nothing, and its clause is the fact.
 
 ghost use Rattle.std.specs.Prelude.{◌≡◌, [], ◌∷◌};
-ghost use Rattle.board.specs.Promises.{DoneIsClean};
+ghost use Rattle.board.specs.Promises.{AcceptedUnmappingIsLive, DoneIsClean, TranslateNoneHoldsNone};
 ghost use Rattle.board.specs.Reports.{pairs_of};
 
 /// The pairs of three harts, in the order of a report.
@@ -13,4 +13,16 @@ pub fn pairs_of_three_harts()
 /// hart translates an address of the page in any address space of the place, until the home maps a leaf over it.
 pub fn done_is_clean()
     ensures { DoneIsClean }
+{}
+
+/// An unmapping that is accepted leaves under its ticket an open order that is live, of that page of that place, which is what
+/// `done_is_clean` speaks of. No cell is armed for it yet, and no hart is collected.
+pub fn accepted_unmapping_is_live()
+    ensures { AcceptedUnmappingIsLive }
+{}
+
+/// A TLB that translates no address of a page of a place, as `done_is_clean` says, holds no entry for the place that overlaps the
+/// page: none of that page, of a part of it or of a larger page over it, and no global one.
+pub fn translate_none_holds_none()
+    ensures { TranslateNoneHoldsNone }
 {}

@@ -16,7 +16,9 @@ mod seats;
 mod translating;
 
 pub use board::Board;
-pub use laws::{done_is_clean, pairs_of_three_harts};
+pub use laws::{
+    accepted_unmapping_is_live, done_is_clean, pairs_of_three_harts, translate_none_holds_none,
+};
 pub use mapped::Mapped;
 pub use port::HartPort;
 pub use report::{PairReport, Report};

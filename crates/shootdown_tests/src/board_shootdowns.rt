@@ -111,6 +111,29 @@ fn asked_by_hart_1(rt: HostRuntime) {
     assert!(&rt; one.finish(0) == Ok(()));
 }
 
+// Harts 0 and 2 ask hart 1 for the same under the same ticket: whose request it served, it acknowledged, and no other.
+#[test]
+fn two_senders_ask_one_hart(rt: HostRuntime) {
+    let Some(mut ports) = ports_of(rt.alloc(), 3) else {
+        assert!(&rt; false);
+        return;
+    };
+    let (Some(mut two), Some(mut one), Some(mut zero)) = (ports.pop(), ports.pop(), ports.pop())
+    else {
+        assert!(&rt; false);
+        return;
+    };
+    assert!(&rt; zero.flush(Scope::Space(0), 0b011) == Ok(0));
+    assert!(&rt; two.flush(Scope::Space(0), 0b110) == Ok(0));
+    assert!(&rt; zero.post(0, 1) == Ok(()));
+    assert!(&rt; two.post(0, 1) == Ok(()));
+    assert!(&rt; one.serve(0).is_ok());
+    assert!(&rt; two.collect(0) == Ok(Collected::Waiting(0b110)));
+    assert!(&rt; zero.collect(0) == Ok(Collected::Waiting(0b001)));
+    assert!(&rt; one.serve(2).is_ok());
+    assert!(&rt; two.collect(0) == Ok(Collected::Waiting(0b100)));
+}
+
 // The capacity of 4 counts the requests that are not collected: each one that is makes room for one more.
 #[test]
 fn collecting_makes_room(rt: HostRuntime) {

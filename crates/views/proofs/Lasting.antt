@@ -2,11 +2,11 @@
 use Rattle.std.proofs.Common.{◌≡◌, ℕ, zero, suc, ◌+◌, ◌*◌, ◌<◌, ◌||◌, ◌==◌, ◌/◌, Bool, true, false, cond, List, [], ◌∷◌, length, map, is_some, Some, sym, refl, ap, ◌∙◌, inl, inr, arith}
 use Rattle.std.proofs.lemmas.Bool.{and_parts, eq-eqb, eqb-true, or_cases, false≢true}
 use Rattle.std.proofs.lemmas.Nat.{div-mul-add}
-use Rattle.std.specs.Prelude.{◌⊎◌, ◌%◌, None, if◌then◌else◌}
+use Rattle.std.specs.Prelude.{Contains, ◌⊎◌, ◌%◌, None, if◌then◌else◌}
 use mathlib.Core.Option.{some, some-injective, some-ne-none}
 use lib.ListN.{get_elem?}
 use Rattle.spaces.specs.declared.configuration.Config.{Config}
-use Rattle.pte.specs.Address.{Overlap, Span, pages_of}
+use Rattle.pte.specs.Address.{Holds, IsPage, Overlap, Span, pages_of}
 use Rattle.walk.specs.Pointers.{pointed}
 use Rattle.spaces.specs.declared.places.Place.{Place}
 use Rattle.spaces.specs.declared.places.Place.TheVariants.{Space, Kernel}
@@ -14,6 +14,7 @@ use Rattle.spaces.specs.Holders.{is_same_place}
 use Rattle.tlb.specs.Service.{overlaps}
 use Rattle.tlb.proofs.Overlapping.{overlaps-Overlap}
 use Rattle.tlb.proofs.Translating.{lies_in}
+use Rattle.tlb.specs.Mappings.{IsMappedBy, Translates}
 use Rattle.tlb.specs.declared.store.Entry.{Entry}
 use Rattle.walk.specs.Maps.{page_number}
 use Rattle.views.specs.declared.view.Cause.{Cause}
@@ -130,15 +131,20 @@ its-asid c Kernel e is = (e.asid, tt, by e.global)
     by true = inl refl
     by false = inr refl
 
-pub translates_none_holds_none : TranslatesNoneHoldsNone
-translates_none_holds_none c views h place page none j w at is e held is-page for over =
+-- entries that translate no address of a page have none that overlaps it
+pub none_held : (c : Config) (entries : List Entry) (place : Place) (page : Span) → ((asid va : ℕ) → IsAsidFor c place asid → Holds page va → ¬ Translates (IsMappedBy entries) asid va)
+    → (e : Entry) → Contains entries e → IsPage e.page → IsFor c place e → ¬ Overlap page e.page
+none_held c entries place page none e held is-page for over =
     let r = its-asid c place e for in
-    none j w at is r.0 over.0 r.1 over.1 (record {
+    none r.0 over.0 r.1 over.1 (record {
       mapping = record { asid = if e.global then None else Some e.asid; page = page_number over.0; ppn = e.ppn + page_number over.0 % pages_of e.page.size; flags = e.flags };
       member = (e, held, record { asid = refl; page = lies_in e.page over.0 is-page over.2; ppn = refl; flags = refl });
       space = r.2;
       page = refl;
     })
+
+pub translates_none_holds_none : TranslatesNoneHoldsNone
+translates_none_holds_none c views h place page none j w at is e held is-page for over = none_held c w.entries place page (none j w at is) e held is-page for over
 
 pub cells_meet : CellsMeet
 cells_meet sender receiver ticket word what is_found same =
