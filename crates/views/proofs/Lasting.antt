@@ -17,6 +17,7 @@ use Rattle.tlb.proofs.Translating.{lies_in}
 use Rattle.tlb.specs.Mappings.{IsMappedBy, Translates}
 use Rattle.tlb.specs.declared.store.Entry.{Entry}
 use Rattle.walk.specs.Maps.{page_number}
+use Rattle.walk.proofs.Unique.{level_count_loads}
 use Rattle.views.specs.declared.view.Cause.{Cause}
 use Rattle.views.specs.declared.view.Cause.TheVariants.{Unmapped, Other}
 use Rattle.views.specs.declared.view.Order.{Order}
@@ -25,7 +26,7 @@ use Rattle.spaces.specs.Layout.{layout_of}
 use Rattle.views.specs.Rule.{cell}
 use Rattle.shoot.proofs.AcknowledgementWords.{not_zero}
 use Rattle.views.specs.OrderTurns.{armed, last_word, looked, collected, for_ticket, fresh, marked, open_order}
-use Rattle.views.specs.Lasting.{CellsAreApart, CellsMeet, EditsMarkNothing, IsFor, KernelIsInEverySpace, MarkedByALeafOver, StepsMarkNothing, TranslatesNoneHoldsNone, UnmappingBeginsLive, last_cell}
+use Rattle.views.specs.Lasting.{CellsAreApart, CellsMeet, EditsMarkNothing, IsFor, KernelIsInEverySpace, MarkedByALeafOver, StepsMarkNothing, TranslatesNoneHoldsNone, UnmappingBeginsLive, WalkAnswersAsComputed, last_cell}
 use Rattle.views.proofs.CellKeeps.{cell-inside}
 use Rattle.views.proofs.OrderKeeps.{receiver}
 
@@ -157,3 +158,7 @@ cells_meet sender receiver ticket word what is_found same =
     look : (t : Bool) → last_word (looked ticket receiver.hart t word sender).cell_steps ≡ word
     look true = refl
     look false = refl
+
+pub walk_answers_as_computed : WalkAnswersAsComputed
+walk_answers_as_computed l v w root va access ctx answer canonical a =
+    (a.some_memory, (λ words has. (level_count_loads l.scheme words root va access ctx answer canonical).0 (a.each_memory words has)), omega (arith, a.count, a.few), a.home.orders, a.home.words, a.home.holders)

@@ -1,13 +1,19 @@
 -- How long an order lasts: what each step leaves of it, and what marks it anew.
-use Rattle.std.specs.Prelude.{◌≡◌, ◌≢◌, ◌<◌, ◌≤◌, ◌⊎◌, Contains, ℕ, Bool, true, false, is_some, List, [], ◌∷◌, map, length, Option, Some, None}
+use Rattle.std.specs.Prelude.{◌≡◌, ◌≢◌, ◌+◌, Result, ◌<◌, ◌≤◌, ◌⊎◌, Contains, ℕ, Bool, true, false, is_some, List, [], ◌∷◌, map, length, Option, Some, None}
 use mathlib.Core.Option.{some}
 use lib.ListN.{get_elem?}
 use Rattle.pte.specs.declared.flags.PteFlags.{PteFlags}
 use Rattle.pte.specs.declared.address.What.{What}
 use Rattle.pte.specs.declared.address.What.TheVariants.{PageOf}
-use Rattle.pte.specs.Address.{IsPage, Overlap, Span}
+use Rattle.pte.specs.Address.{IsCanonical, IsPage, Overlap, Span, level_count}
 use Rattle.walk.specs.Pointers.{pointed}
-use Rattle.walk.specs.Stage.{Stage}
+use Rattle.pte.specs.declared.permission.Access.{Access}
+use Rattle.pte.specs.declared.permission.Ctx.{Ctx}
+use Rattle.walk.specs.declared.found_or_trap.Found.{Found as FoundOf}
+use Rattle.walk.specs.declared.found_or_trap.Trap.{Trap}
+use Rattle.walk.specs.Leads.{Tables}
+use Rattle.walk.specs.Loads.{answer_after}
+use Rattle.walk.specs.Stage.{Stage, start_of}
 use Rattle.spaces.specs.declared.configuration.Config.{Config}
 use Rattle.spaces.specs.declared.places.Place.{Place}
 use Rattle.spaces.specs.declared.places.Place.TheVariants.{Space, Kernel}
@@ -23,10 +29,11 @@ use Rattle.views.specs.declared.view.CellStep.TheVariants.{Found, Stored}
 use Rattle.views.specs.declared.view.Order.{Order}
 use Rattle.views.specs.declared.view.Read.{Read}
 use Rattle.views.specs.declared.view.View.{View}
-use Rattle.views.specs.Rule.{cell, size, tickets, board_size}
+use Rattle.views.specs.Rule.{Has, cell, size, tickets, board_size}
 use Rattle.views.specs.Orders.{IsAsidFor, IsLive, asid_for, asid_in}
 use Rattle.views.specs.OrderTurns.{acknowledged, last_word, looked, noted, open_order, ordered, self_acked, with_armed}
 use Rattle.views.specs.Turns.{walked}
+use Rattle.views.specs.Walks.{AnswersByLoads}
 use Rattle.views.specs.Board.{TranslatesNone}
 
 -- of each order its ticket, what it follows, and whether it was marked anew
@@ -95,3 +102,11 @@ CellsMeet = (sender receiver : View) (ticket word : ℕ) (what : What) (is_found
     × (last_word (with_armed ticket receiver.hart sender).cell_steps ≡ 0)
     × (last_word (acknowledged sender.hart ticket what receiver).cell_steps ≡ acknowledgement what) × (acknowledgement what ≢ 0)
     × (last_word (looked ticket receiver.hart is_found word sender).cell_steps ≡ word)
+
+-- In each memory that has the words that a walk's loads found, and there is one, the walk's answer is the one that is computed by
+-- one load a level. It took at most as many loads as there are levels, and left the orders, the words and the holders.
+abbrev pub WalkAnswersAsComputed : Type 0
+WalkAnswersAsComputed = (l : Layout) (v w : View) (root va : ℕ) (access : Access) (ctx : Ctx) (answer : Result FoundOf Trap) → IsCanonical l.scheme va
+    → AnswersByLoads l v root va access ctx answer w
+    → ((words : Tables) × Has words w.reads) × ((words : Tables) → Has words w.reads → answer ≡ answer_after (level_count l.scheme) words (start_of l.scheme root va access ctx))
+    × (w.loads ≤ v.loads + level_count l.scheme) × (w.orders ≡ v.orders) × (w.words ≡ v.words) × (w.holders ≡ v.holders)

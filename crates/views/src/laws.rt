@@ -12,7 +12,7 @@ ghost use Rattle.spaces.specs.Tree.{IsAtHome, IsTree};
 ghost use Rattle.views.specs.declared.view.View.{View};
 ghost use Rattle.views.specs.Rule.{Has, tables_in};
 ghost use Rattle.views.specs.Board.{AcknowledgedIsClean, Board, CollectedIsClean, EqualWordsAskForEqualService, IsAsSaid, LeavesAreGlobalInWindow, MappingsAreGlobalInWindow, UnmappedIsWhereNoLeafLeads, UnmappedStaysUnmapped};
-ghost use Rattle.views.specs.Lasting.{CellsAreApart, CellsMeet, EditsMarkNothing, KernelIsInEverySpace, MarkedByALeafOver, StepsMarkNothing, TranslatesNoneHoldsNone, UnmappingBeginsLive};
+ghost use Rattle.views.specs.Lasting.{CellsAreApart, CellsMeet, EditsMarkNothing, KernelIsInEverySpace, MarkedByALeafOver, StepsMarkNothing, TranslatesNoneHoldsNone, UnmappingBeginsLive, WalkAnswersAsComputed};
 
 /// Once a hart was collected for an unmapping whose page is not mapped anew, what it filled translates no address of the page in
 /// any address space of the place.
@@ -104,4 +104,11 @@ pub fn cells_are_apart()
 /// for the place that overlaps the page: none of that page, of a part of it or of a larger page over it, and no global one.
 pub fn translates_none_holds_none()
     ensures { TranslatesNoneHoldsNone }
+{}
+
+/// What `Walked` says of a canonical address, in other words: in each memory that has the words that the walk's own loads found,
+/// and there is one, its answer is the one that is computed with one load a level. It makes at most as many loads as there are
+/// levels, and changes no order and nothing of what its hart edits.
+pub fn walk_answers_as_computed()
+    ensures { WalkAnswersAsComputed }
 {}
