@@ -166,3 +166,34 @@ fn wait_times_out(rt: HostRuntime) -> Result<(), Fail> {
     assert_pair(&rt, ran.report.pairs.as_slice(), 0, 1, 1);
     Ok(())
 }
+
+// Hart 1 never serves: with no turns, a hart whose script has ended does nothing for the others.
+#[test]
+fn nobody_serves(rt: HostRuntime) -> Result<(), Fail> {
+    let mut rows = Vec::new(rt.alloc());
+    for ticket in 0..5 {
+        rows.push((0, flush(0b11), opened(ticket)))?;
+    }
+    for ticket in 0..5 {
+        let full = refused(Refusal::Full);
+        rows.push((0, post(ticket, 1), if ticket < 4 { OK } else { full }))?;
+    }
+    for _ in 0..1_000 {
+        rows.push((0, LiveStep::Collect { ticket: 0 }, waiting(0b11)))?;
+    }
+    let not_done = refused(Refusal::NotDone);
+    rows.push((0, LiveStep::Finish { ticket: 0 }, not_done))?;
+    rows.push((0, wait(0), TIMEOUT))?;
+    let report = assert_setup(&rt, rt.alloc(), 0, rows.as_slice())?;
+    let pairs = report.report.pairs.as_slice();
+    assert!(&rt; pairs.len() == 2);
+    let there = &pairs[0];
+    assert!(&rt; there.sender == 0 && there.receiver == 1);
+    assert!(&rt; there.accepted == 4 && there.taken == 0 && there.waiting.len() == 4);
+    for ticket in 0..4_usize {
+        assert!(&rt; there.waiting[ticket].ticket as usize == ticket);
+        assert!(&rt; there.waiting[ticket].what == pte::What::All);
+    }
+    assert_pair(&rt, pairs, 1, 0, 0);
+    Ok(())
+}

@@ -13,6 +13,10 @@ mod gates;
 #[cfg(test)]
 mod limits;
 #[cfg(test)]
+mod partners;
+#[cfg(test)]
+mod readers_and_writers;
+#[cfg(test)]
 mod runs;
 #[cfg(test)]
 mod words;

@@ -7,6 +7,8 @@ mod examples;
 #[cfg(test)]
 mod page_examples;
 #[cfg(test)]
+mod partners;
+#[cfg(test)]
 mod run_files;
 #[cfg(test)]
 mod space_examples;

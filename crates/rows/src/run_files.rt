@@ -371,25 +371,6 @@ const BOUND_AND_CLOSE: &str = r"
 1 take 0 -> refused Empty
 ";
 
-const CLOSED_IN_SHOOTDOWN: &str = r"
-0 flush all 0,1 -> opened 0
-0 flush all 0,1 -> opened 1
-0 post 0 1 -> ok
-1 take 0 -> taken 0 all
-0 close 1 -> ok
-0 close 1 -> refused Closed
-0 post 1 1 -> refused Closed
-1 ack -> refused NotFenced
-1 servefence -> ok
-1 ack -> ok
-0 collect 0 1 -> waiting 0
-0 ackself 0 -> done
-0 finish 0 -> ok
-0 ackself 1 -> waiting 1
-0 finish 1 -> refused NotDone
-1 take 0 -> refused Empty
-";
-
 #[test]
 fn mailboxes(rt: HostRuntime) -> Result<(), Fail> {
     for row in [
@@ -397,11 +378,6 @@ fn mailboxes(rt: HostRuntime) -> Result<(), Fail> {
             name: "bound, order and close",
             keys: "harts = 2\ncapacity = 2",
             turns: BOUND_AND_CLOSE,
-        },
-        Row {
-            name: "closed in the middle of a shootdown",
-            keys: "harts = 2",
-            turns: CLOSED_IN_SHOOTDOWN,
         },
         Row {
             name: "no mailbox leads from a hart to itself",

@@ -9,6 +9,10 @@ const ROOT: &str = "0x80000 1 0x20000401";
 
 const TABLES: &str = "'0x80001 2 0x20000801', '0x80002 2 0x20000C01', '0x80003 3 0x48D14D7'";
 
+const MIDDLE: &str = "'0x80001 2 0x20000801', '0x80002 2 0x20000C01'";
+
+const LEAF: &str = "0x80003 3 0x48D14D7";
+
 const LOAD: &str = "'u load 0x8080403ABC'";
 
 /// A line for `mode`, the root's word, the steps, and the output.
@@ -86,6 +90,106 @@ fn tables_that_sv48_refuses(rt: HostRuntime) -> Result<(), Fail> {
         },
     ] {
         assert!(rt; walks(rt.alloc(), &row)?, "{} {}", row.root, row.steps);
+    }
+    Ok(())
+}
+
+/// A root's word or a leaf that is all ones, all ones but V, the last table that there may be, and the last page.
+#[test]
+fn words_that_end_a_walk_of_sv48(rt: HostRuntime) -> Result<(), Fail> {
+    let last_leaf = "0x80003 3 0x3FFFFFFFFFFCD7";
+    for (root, leaf, steps, lines) in [
+        (
+            "0x80000 1 0xFFFFFFFFFFFFFFFF",
+            LEAF,
+            LOAD,
+            "1 trap 13 Reserved\n",
+        ),
+        (
+            "0x80000 1 0xFFFFFFFFFFFFFFFE",
+            LEAF,
+            LOAD,
+            "1 trap 13 Invalid\n",
+        ),
+        (
+            "0x80000 1 0x3FFFFFFFFFFC01",
+            LEAF,
+            LOAD,
+            "1 trap 5 Outside\n",
+        ),
+        (
+            "0x80000 1 0x3FFFE0000000D7",
+            LEAF,
+            "'u load 0xFFFFFFFFFF'",
+            "1 pa 0xffffffffffffff 512G\n",
+        ),
+        (
+            "0x80000 1 0x3FFFFFFFFFFCD7",
+            LEAF,
+            LOAD,
+            "1 trap 13 Misaligned\n",
+        ),
+        (
+            ROOT,
+            last_leaf,
+            "'u load 0x8080403FFF'",
+            "1 pa 0xffffffffffffff 4K\n",
+        ),
+        (
+            ROOT,
+            "0x80003 3 0xFFFFFFFFFFFFFFFF",
+            LOAD,
+            "1 trap 13 Reserved\n",
+        ),
+    ] {
+        let text = format!(in rt.alloc();
+            "mode = 'sv48'\nframes = ['0x80000', '0x80001', '0x80002', '0x80003']\nwords = ['{root}', {MIDDLE}, '{leaf}']\nsteps = [{steps}]\n"
+        )?;
+        assert!(rt;
+            walk_files::ends(rt.alloc(), text.as_str(), 0, lines, ""),
+            "{root} {leaf}"
+        );
+    }
+    Ok(())
+}
+
+/// The last page of memory, and the first PPN that is too large.
+const LAST_PAGE: &str = r"
+0 map 0 4K:0x1000 0x100000000000 ruad -> refused PpnTooLarge
+0 map 0 4K:0x1000 0xffffffffffffffff ruad -> refused PpnTooLarge
+0 map 0 1G:0x40000000 0xfffffffffff ruad -> refused Misaligned
+0 map 0 1G:0x40000000 0xffffffc0000 ruad -> leaf
+0 begin u load 0x7fffffff -> more
+0 load -> fill 0xffffffffffffff
+0 begin u load 0x7fffffff -> hit 0xffffffffffffff
+0 begin u store 0x7fffffff -> trap 15 Denied
+";
+
+const LAST_PAGE_OF_SV48: &str = r"
+0 map 0 4K:0x8000000000 0x100000000000 ruad -> refused PpnTooLarge
+0 map 0 512G:0x8000000000 0xfffffffffff ruad -> refused Misaligned
+0 map 0 512G:0x8000000000 0xffff8000000 ruad -> leaf
+0 begin u load 0xffffffffff -> more
+0 load -> fill 0xffffffffffffff
+0 begin u load 0xffffffffff -> hit 0xffffffffffffff
+0 begin u store 0xffffffffff -> trap 15 Denied
+";
+
+#[test]
+fn last_page_of_memory(rt: HostRuntime) -> Result<(), Fail> {
+    for row in [
+        Row {
+            name: "in Sv39",
+            keys: "",
+            turns: LAST_PAGE,
+        },
+        Row {
+            name: "in Sv48",
+            keys: "mode = 'sv48'",
+            turns: LAST_PAGE_OF_SV48,
+        },
+    ] {
+        assert!(rt; answers(rt.alloc(), &row)?, "{}", row.name);
     }
     Ok(())
 }

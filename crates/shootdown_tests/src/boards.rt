@@ -13,14 +13,14 @@ use std::thread;
 use std::thread::Threads;
 
 /// Two harts and one space of ASID 7, whose mailboxes have a capacity of 4.
-fn two_harts(harts: u16) -> Config {
+fn two_harts(scheme: Scheme, harts: u16) -> Config {
     let mut spaces = ArrayVec::new();
     spaces.push(Space { home: 0, asid: 7 });
     let mut spares = ArrayVec::new();
     spares.push(8);
     spares.push(8);
     Config {
-        scheme: Scheme::Sv39,
+        scheme,
         harts,
         spaces,
         window: 1,
@@ -31,8 +31,8 @@ fn two_harts(harts: u16) -> Config {
 }
 
 /// The ports of harts 0 and 1, if there are just these.
-fn two_ports(alloc: Global) -> Option<(HartPort, HartPort)> {
-    let (_board, mut ports) = Board::open(alloc, &two_harts(2)).ok()?;
+fn two_ports(alloc: Global, scheme: Scheme) -> Option<(HartPort, HartPort)> {
+    let (_board, mut ports) = Board::open(alloc, &two_harts(scheme, 2)).ok()?;
     let one = ports.pop()?;
     let zero = ports.pop()?;
     if ports.is_empty() {
@@ -44,7 +44,7 @@ fn two_ports(alloc: Global) -> Option<(HartPort, HartPort)> {
 
 #[test]
 fn requests_go_from_port_to_port(rt: HostRuntime) {
-    let opened = two_ports(rt.alloc());
+    let opened = two_ports(rt.alloc(), Scheme::Sv39);
     assert!(&rt; opened.is_some());
     let Some((mut zero, mut one)) = opened else {
         return;
@@ -81,8 +81,54 @@ fn requests_go_from_port_to_port(rt: HostRuntime) {
 #[test]
 fn layout_is_refused(rt: HostRuntime) {
     for harts in [0, 1, 3, 9] {
-        let refused = Board::open(rt.alloc(), &two_harts(harts)).err();
+        let refused = Board::open(rt.alloc(), &two_harts(Scheme::Sv48, harts)).err();
         assert!(&rt; refused == Some(OpenFault::BadLayout));
+    }
+}
+
+// The mailbox is closed while its one request waits: that one is served, and no other comes after it.
+#[test]
+fn closed_before_it_is_served(rt: HostRuntime) {
+    for scheme in [Scheme::Sv39, Scheme::Sv48] {
+        let opened = two_ports(rt.alloc(), scheme);
+        assert!(&rt; opened.is_some());
+        let Some((mut zero, mut one)) = opened else {
+            return;
+        };
+        assert!(&rt; zero.flush(Scope::All, 0b11) == Ok(0));
+        assert!(&rt; zero.flush(Scope::All, 0b11) == Ok(1));
+        assert!(&rt; zero.post(0, 1) == Ok(()));
+        assert!(&rt; zero.close_to(1) == Ok(()));
+        assert!(&rt; zero.close_to(1) == Err(Refusal::Closed));
+        assert!(&rt; zero.post(1, 1) == Err(Refusal::Closed));
+        assert!(&rt; one.serve(0).is_ok_and(|request| request.ticket == 0));
+        assert!(&rt; zero.collect(0) == Ok(Collected::Waiting(0b01)));
+        assert!(&rt; zero.ack_self(0) == Ok(Collected::Done));
+        assert!(&rt; zero.finish(0) == Ok(()));
+        assert!(&rt; zero.ack_self(1) == Ok(Collected::Waiting(0b10)));
+        assert!(&rt; zero.finish(1) == Err(Refusal::NotDone));
+        assert!(&rt; one.serve(0) == Err(Refusal::Empty));
+    }
+}
+
+// However often hart 0 looks, hart 1 has not served.
+#[test]
+fn hart_that_never_serves(rt: HostRuntime) {
+    for scheme in [Scheme::Sv39, Scheme::Sv48] {
+        let opened = two_ports(rt.alloc(), scheme);
+        assert!(&rt; opened.is_some());
+        let Some((mut zero, _)) = opened else { return };
+        for ticket in 0..5 {
+            assert!(&rt; zero.flush(Scope::All, 0b11) == Ok(ticket));
+        }
+        for ticket in 0..4 {
+            assert!(&rt; zero.post(ticket, 1) == Ok(()));
+        }
+        for _ in 0..1_000 {
+            assert!(&rt; zero.post(4, 1) == Err(Refusal::Full));
+            assert!(&rt; zero.collect(0) == Ok(Collected::Waiting(0b11)));
+        }
+        assert!(&rt; zero.finish(0) == Err(Refusal::NotDone));
     }
 }
 
@@ -151,7 +197,7 @@ fn in_two_threads(
 
 #[test]
 fn requests_cross_threads(rt: HostRuntime) -> Result<(), Fail> {
-    let opened = Board::open(rt.alloc(), &two_harts(2)).ok();
+    let opened = Board::open(rt.alloc(), &two_harts(Scheme::Sv39, 2)).ok();
     assert!(&rt; opened.is_some());
     let Some((board, ports)) = opened else {
         return Ok(());

@@ -576,6 +576,51 @@ fn pages_of_sv48(rt: HostRuntime) {
     }
 }
 
+/// The last page of 512 GiB and of 4 KiB, and words that end a walk of Sv48, with the loads that they take.
+#[test]
+fn hostile_words_of_sv48(rt: HostRuntime) {
+    let [root, upper, middle, _] = DEEP_WORDS;
+    let to_itself = with_deep_root(0x2000_0001);
+    let last_leaf = [root, upper, middle, 0x3F_FFFF_FFFF_FCD7];
+    let rows = [
+        (to_itself, 0x80_4020_1ABC, trap(13, Why::TooDeep), 4),
+        (to_itself, DEEP_VA, trap(13, Why::Invalid), 2),
+        (
+            with_deep_root(u64::MAX),
+            DEEP_VA,
+            trap(13, Why::Reserved),
+            1,
+        ),
+        (
+            with_deep_root(u64::MAX - 1),
+            DEEP_VA,
+            trap(13, Why::Invalid),
+            1,
+        ),
+        (
+            with_deep_root(0x3F_FFFF_FFFF_FC01),
+            DEEP_VA,
+            trap(5, Why::Outside),
+            2,
+        ),
+        (last_leaf, 0x80_8040_3FFF, small(0xFF_FFFF_FFFF_FFFF), 4),
+        (
+            with_deep_root(0x3F_FFE0_0000_00D7),
+            0xFF_FFFF_FFFF,
+            Ok((0xFF_FFFF_FFFF_FFFF, PageSize::Gib512, false)),
+            1,
+        ),
+    ];
+    for (words, va, answer, loads) in &rows {
+        assert_eq!(rt;
+            deep_load(Scheme::Sv48, *words, *va),
+            (*answer, *loads),
+            "{:x}",
+            *va
+        );
+    }
+}
+
 /// The ends of the two halves of each scheme: an address that is not canonical is refused before any word is read.
 #[test]
 fn halves_of_each_scheme(rt: HostRuntime) {

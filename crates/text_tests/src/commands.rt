@@ -1,8 +1,8 @@
-//! What no clause says: each public call with ample memory, readers and writers that fail, and the limits of a file.
+//! What no clause says: each public call with ample memory, a standard error that fails, and the longest file.
+use crate::readers_and_writers::{AtEnd, Narrow};
 use scenario::{Fault, StepFault, Which, command, run_text, walk_text};
 use std::alloc::Global;
-use std::io;
-use std::io::{ErrorKind, Read, Write};
+use std::io::Read;
 use std::test::Fail;
 
 /// A root, two tables and a leaf: PPN 0x12345, with V, R, W, U, A and D.
@@ -13,60 +13,6 @@ steps = ["u load 0x80403ABC"]
 "#;
 
 pub const LINES: &str = "1 pa 0x12345abc 4K\n";
-
-/// A reader that gives pieces of at most `piece` bytes, and fails once it was read `reads` times.
-#[derive(Drop)]
-struct Pieces<'a> {
-    left: &'a [u8],
-    piece: usize,
-    reads: usize,
-}
-
-impl Read for Pieces<'_> {
-    fn read(&mut self, buf: &mut [u8]) -> io::Result<usize> {
-        if self.reads == 0 {
-            return Err(io::Error::from(ErrorKind::Other));
-        }
-        self.reads -= 1;
-        let count = self.piece.min(self.left.len()).min(buf.len());
-        let (front, rest) = self.left.split_at(count);
-        buf[..count].copy_from_slice(front);
-        self.left = rest;
-        Ok(count)
-    }
-}
-
-/// What a narrow writer does once it is full.
-#[derive(Clone, Copy, PartialEq, Eq)]
-enum AtEnd {
-    Fails,
-    TakesNothing,
-}
-
-/// A writer that takes at most `step` bytes a write, and `room` bytes in all.
-#[derive(Drop)]
-struct Narrow {
-    held: Vec<u8>,
-    step: usize,
-    room: usize,
-    at_end: AtEnd,
-}
-
-impl Write for Narrow {
-    fn write(&mut self, buf: &[u8]) -> io::Result<usize> {
-        let left = self.room.saturating_sub(self.held.len());
-        let count = self.step.min(left).min(buf.len());
-        if count == 0 && self.at_end == AtEnd::Fails {
-            return Err(io::Error::from(ErrorKind::Other));
-        }
-        self.held.extend_from_slice(&buf[..count])?;
-        Ok(count)
-    }
-
-    fn flush(&mut self) -> io::Result<()> {
-        Ok(())
-    }
-}
 
 /// What a command ended with: the status, the output and standard error.
 #[derive(Drop)]
@@ -82,10 +28,6 @@ pub fn end_of<R: Read>(alloc: Global, which: Which, input: &mut R) -> Ended {
     let mut err = Vec::new(alloc);
     let status = command(alloc, which, "a file", input, &mut out, &mut err);
     Ended { status, out, err }
-}
-
-fn walk<R: Read>(alloc: Global, input: &mut R) -> Ended {
-    end_of(alloc, Which::Walk, input)
 }
 
 /// Whether a command is done, with these lines.
@@ -174,69 +116,6 @@ fn each_fault_has_its_text(rt: HostRuntime) -> Result<(), Fail> {
 }
 
 #[test]
-fn each_beginning_of_a_file(rt: HostRuntime) -> Result<(), Fail> {
-    for length in 0..FILE.len() {
-        let ended = walk(rt.alloc(), &mut &FILE.as_bytes()[..length]);
-        let quiet = ended.status == 0 || ended.out.is_empty();
-        assert!(rt; quiet, "{length}");
-        assert!(rt; matches!(ended.status, 0 | 2 | 3), "{length}");
-        assert_eq!(rt; ended.status == 0, ended.err.is_empty(), "{length}");
-    }
-    Ok(())
-}
-
-#[test]
-fn reader_of_one_byte_that_fails(rt: HostRuntime) -> Result<(), Fail> {
-    for reads in 0..FILE.len() + 2 {
-        let ended = walk(
-            rt.alloc(),
-            &mut Pieces {
-                left: FILE.as_bytes(),
-                piece: 1,
-                reads,
-            },
-        );
-        if reads == FILE.len() + 1 {
-            assert_eq!(rt; ended.status, 0);
-            assert_eq!(rt; ended.out.as_slice(), LINES.as_bytes());
-            assert!(rt; ended.err.is_empty());
-        } else {
-            assert_eq!(rt; ended.status, 2);
-            assert!(rt; ended.out.is_empty());
-            assert_eq!(rt;
-                ended.err.as_slice(),
-                b"svsim: cannot read a file\n".as_slice()
-            );
-        }
-    }
-    Ok(())
-}
-
-#[test]
-fn writer_that_is_full(rt: HostRuntime) -> Result<(), Fail> {
-    let alloc = rt.alloc();
-    for at_end in [AtEnd::Fails, AtEnd::TakesNothing] {
-        for room in 0..LINES.len() + 1 {
-            let mut input = FILE.as_bytes();
-            let mut out = Narrow {
-                held: Vec::new(alloc),
-                step: 1,
-                room,
-                at_end,
-            };
-            let mut err: Vec<u8> = Vec::new(alloc);
-            let status = command(alloc, Which::Walk, "f", &mut input, &mut out, &mut err);
-            let full = room < LINES.len();
-            let line: &[u8] = if full { b"svsim: output failed\n" } else { b"" };
-            assert_eq!(rt; status, if full { 4 } else { 0 });
-            assert_eq!(rt; out.held.as_slice(), &LINES.as_bytes()[..room]);
-            assert_eq!(rt; err.as_slice(), line);
-        }
-    }
-    Ok(())
-}
-
-#[test]
 fn full_standard_error_counts_for_nothing(rt: HostRuntime) -> Result<(), Fail> {
     let alloc = rt.alloc();
     let line = "svsim: key harts: wrong\n";
@@ -262,17 +141,19 @@ fn longest_file(rt: HostRuntime) -> Result<(), Fail> {
     let alloc = rt.alloc();
     for (count, status, left) in [(1_048_576, 0, 0), (1_048_577, 2, 0), (1_048_600, 2, 23)] {
         let text = vec![in alloc; b'\n'; count]?;
-        let mut input = text.as_slice();
-        let ended = walk(alloc, &mut input);
         let line: &[u8] = if status == 0 {
             b""
         } else {
             b"svsim: file too large\n"
         };
-        assert_eq!(rt; ended.status, status);
-        assert!(rt; ended.out.is_empty());
-        assert_eq!(rt; ended.err.as_slice(), line);
-        assert_eq!(rt; input.len(), left);
+        for which in [Which::Walk, Which::Run] {
+            let mut input = text.as_slice();
+            let ended = end_of(alloc, which, &mut input);
+            assert_eq!(rt; ended.status, status);
+            assert!(rt; ended.out.is_empty());
+            assert_eq!(rt; ended.err.as_slice(), line);
+            assert_eq!(rt; input.len(), left);
+        }
     }
     Ok(())
 }

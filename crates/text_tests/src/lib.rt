@@ -12,6 +12,8 @@ mod live_steps;
 #[cfg(test)]
 mod programs;
 #[cfg(test)]
+mod readers_and_writers;
+#[cfg(test)]
 mod refusal_numbers;
 #[cfg(test)]
 mod run_commands;

@@ -1,5 +1,5 @@
 //! The most steps of a file, and where their number stands in the order of checking.
-use crate::commands::{end_of, refuses};
+use crate::commands::{end_of, prints, refuses};
 use scenario::Which;
 use std::alloc::Global;
 use std::test::Fail;
@@ -22,17 +22,40 @@ fn steps_file(
     Ok(text)
 }
 
+/// The lines of so many steps with one answer.
+fn lines_of(alloc: Global, answer: &str, count: usize) -> Result<String, Fail> {
+    let mut lines = String::new(alloc);
+    for number in 0..count {
+        writeln!(lines, "{} {answer}", number + 1)?;
+    }
+    Ok(lines)
+}
+
 #[test]
 fn most_steps(rt: HostRuntime) -> Result<(), Fail> {
     let alloc = rt.alloc();
-    for (which, step, line) in [
-        (Which::Walk, "u load 0", "\n65536 trap 5 Outside\n"),
-        (Which::Run, "0 load", "\n65536 refused NotWalking\n"),
+    for (which, keys, step, answer) in [
+        (Which::Walk, "", "u load 0", "trap 5 Outside"),
+        (
+            Which::Walk,
+            "mode = 'sv48'\n",
+            "u store 0",
+            "trap 7 Outside",
+        ),
+        (Which::Run, "", "0 load", "refused NotWalking"),
+        (
+            Which::Run,
+            "mode = 'sv48'\n",
+            "0 create 0 1",
+            "refused NotFree",
+        ),
     ] {
-        let text = steps_file(alloc, "", step, step, 65_536)?;
-        let ended = end_of(alloc, which, &mut text.as_bytes());
-        assert_eq!(rt; ended.status, 0);
-        assert!(rt; ended.out.as_slice().ends_with(line.as_bytes()));
+        let text = steps_file(alloc, keys, step, step, 65_536)?;
+        let lines = lines_of(alloc, answer, 65_536)?;
+        assert!(rt;
+            prints(alloc, which, text.as_str(), lines.as_str()),
+            "{step}"
+        );
     }
     Ok(())
 }

@@ -4,7 +4,7 @@ use scenario::Which;
 use std::test::Fail;
 
 /// A page of 2 MiB that hart 0 maps and unmaps, and that hart 1 fills, still hits and then drops.
-const SUPERPAGE: &str = r#"harts = 2
+pub const SUPERPAGE: &str = r#"harts = 2
 steps = [
     "0 map 0 2M:0x400000 0x200 rwuad", "0 map 0 2M:0x400000 0x200 rwuad",
     "1 begin u load 0x5fffff", "1 load", "1 load",
@@ -15,7 +15,7 @@ steps = [
 ]
 "#;
 
-const SUPERPAGE_LINES: &str = "1 table 0x80002
+pub const SUPERPAGE_LINES: &str = "1 table 0x80002
 2 leaf
 3 more
 4 more
