@@ -1,0 +1,32 @@
+//! `memory_tests`: makes each call of the libraries that takes memory, and prints a line for each: whether it answered as usual,
+//! or that there was no memory. The status is 5 if there was none for one of them. A call that answers anything else is told so,
+//! and changes no status. `scripts/refuse_memory.sh` runs it once for each of its requests for memory, which is then refused.
+#![tactic(auto)]
+
+mod live;
+mod locked;
+mod machines;
+mod shootdown;
+mod verdict;
+
+use std::process::ExitCode;
+use verdict::Verdict;
+
+fn main(rt: HostRuntime) -> ExitCode {
+    let alloc = rt.alloc();
+    let mut status = 0;
+    for (name, verdict) in [
+        ("Machine::open", machines::open(alloc)),
+        ("Machine::run", machines::run(alloc)),
+        ("Locked::call", locked::calls(&rt, alloc)),
+        ("ends", live::two_ends(alloc)),
+        ("Board::open", live::board(alloc)),
+        ("run_live", live::run(&rt, alloc)),
+    ] {
+        if verdict == Verdict::NoMemory {
+            status = 5;
+        }
+        let _ = println!(rt; "{name}: {}", verdict.told());
+    }
+    ExitCode::from(status)
+}
