@@ -17,15 +17,15 @@ trap 'exit 130' HUP INT TERM
 passed=0
 failed=0
 
-# An allocator that refuses the request of number REFUSED, and with REFUSED_ON set all later ones; it writes to the file
-# REQUESTS how many there were.
+# An allocator that refuses the request of number REFUSED, and with REFUSED_ON set all later ones; it counts them in the
+# first 8 bytes of the file REQUESTS, since the programs may end without a last word.
 cat >"$own/refuse.c" <<'C'
 #include <errno.h>
 #include <fcntl.h>
 #include <stdatomic.h>
 #include <stddef.h>
-#include <stdio.h>
 #include <stdlib.h>
+#include <sys/mman.h>
 #include <unistd.h>
 
 extern void *__libc_malloc(size_t);
@@ -33,30 +33,25 @@ extern void *__libc_calloc(size_t, size_t);
 extern void *__libc_realloc(void *, size_t);
 extern void *__libc_memalign(size_t, size_t);
 
-static atomic_ulong requests;
+static atomic_ulong unshared;
+static atomic_ulong *requests = &unshared;
 static unsigned long refused;
 static int later;
 
 __attribute__((constructor)) static void begin(void) {
     const char *number = getenv("REFUSED");
+    const char *name = getenv("REQUESTS");
+    int file = name ? open(name, O_RDWR | O_CREAT | O_TRUNC, 0600) : -1;
     refused = number ? strtoul(number, NULL, 10) : 0;
     later = getenv("REFUSED_ON") != NULL;
-    atomic_store(&requests, 0);
-}
-
-__attribute__((destructor)) static void end(void) {
-    const char *name = getenv("REQUESTS");
-    char text[32];
-    int file = name ? open(name, O_WRONLY | O_CREAT | O_TRUNC, 0600) : -1;
-    if (file >= 0) {
-        int length = snprintf(text, sizeof text, "%lu\n", atomic_load(&requests));
-        if (write(file, text, length) < 0) _exit(99);
-        close(file);
-    }
+    if (file < 0 || ftruncate(file, sizeof *requests) != 0) _exit(99);
+    requests = mmap(NULL, sizeof *requests, PROT_READ | PROT_WRITE, MAP_SHARED, file, 0);
+    if (requests == MAP_FAILED) _exit(99);
+    close(file);
 }
 
 static int refuses(void) {
-    unsigned long number = atomic_fetch_add(&requests, 1) + 1;
+    unsigned long number = atomic_fetch_add(requests, 1) + 1;
     return refused != 0 && (number == refused || (later && number > refused));
 }
 
@@ -95,8 +90,8 @@ done
 refused_run() {
     local number=$1 on=$2
     shift 2
-    env LD_PRELOAD="$own/refuse.so" REQUESTS="$own/requests" REFUSED="$number" ${on:+REFUSED_ON=1} \
-        timeout 100 "$@" >"$own/out" 2>"$own/err" </dev/null
+    timeout 100 env LD_PRELOAD="$own/refuse.so" REQUESTS="$own/requests" REFUSED="$number" ${on:+REFUSED_ON=1} \
+        "$@" >"$own/out" 2>"$own/err" </dev/null
 }
 
 # Whether a run of memory_tests ended as it is to: by status, and by the same names on its lines.
@@ -124,8 +119,8 @@ refuse_each() {
     refused_run 0 "" "$@"
     status=$?
     cp "$own/out" "$own/usual"
-    count=$(cat "$own/requests")
-    if [ "$status" != 0 ]; then
+    count=$(od -An -tu8 "$own/requests" | tr -d " ")
+    if [ "$status" != 0 ] || [ "$count" = 0 ]; then
         echo "FAILED without refusals, status $status: ${*##*/}"
         failed=$((failed + 1))
         return

@@ -8,7 +8,7 @@ use history::{LiveStep, Reply, Scope};
 use pte::{Access, Ctx, Mode, Page, PteFlags, Scheme, What};
 use rings::ends;
 use shoot::Request;
-use spaces::Place;
+use spaces::{Config, Place};
 use std::alloc::{AllocError, Global};
 use std::sync::Wait;
 use std::thread::Threads;
@@ -108,6 +108,26 @@ fn is_shot_down(report: &LiveReport) -> bool {
     is_first && report.setup.as_slice() == setup.as_slice()
 }
 
+/// The run, if setup's harts are there and there are no more scripts than harts.
+fn live_run<R: Threads + Wait + Sync>(
+    rt: &R,
+    alloc: Global,
+    config: &Config,
+    setup: &[(u8, LiveStep)],
+    scripts: &[Vec<LiveStep>],
+) -> Option<Result<LiveReport, LiveFault>> {
+    if !setup.iter().all(|step| u16::from(step.0) < config.harts) {
+        return None;
+    }
+    if scripts.len() > usize::from(config.harts) {
+        return None;
+    }
+    let turns = 1_000_000_000;
+    Some(run_live(
+        rt, alloc, config, setup, scripts, turns, &OpenGate,
+    ))
+}
+
 /// A shootdown between two threads.
 pub fn run<R: Threads + Wait + Sync>(rt: &R, alloc: Global) -> Verdict {
     let Some(page) = superpage() else {
@@ -116,24 +136,11 @@ pub fn run<R: Threads + Wait + Sync>(rt: &R, alloc: Global) -> Verdict {
     let Ok(scripts) = scripts(alloc, page) else {
         return Verdict::NoMemory;
     };
-    let config = two_harts(Scheme::Sv39);
     let setup = [(0, map(page)), (0, map(page)), (1, LOAD)];
-    if scripts.len() > usize::from(config.harts)
-        || !setup.iter().all(|step| u16::from(step.0) < config.harts)
-    {
-        return Verdict::Other;
-    }
-    match run_live(
-        rt,
-        alloc,
-        &config,
-        &setup,
-        scripts.as_slice(),
-        1_000_000_000,
-        &OpenGate,
-    ) {
-        Ok(report) => Verdict::is_usual(is_shot_down(&report)),
-        Err(LiveFault::NoMemory | LiveFault::NoThread) => Verdict::NoMemory,
-        Err(LiveFault::BadLayout) => Verdict::Other,
+    let config = two_harts(Scheme::Sv39);
+    match live_run(rt, alloc, &config, setup.as_slice(), scripts.as_slice()) {
+        Some(Ok(report)) => Verdict::is_usual(is_shot_down(&report)),
+        Some(Err(LiveFault::NoMemory | LiveFault::NoThread)) => Verdict::NoMemory,
+        Some(Err(LiveFault::BadLayout)) | None => Verdict::Other,
     }
 }
