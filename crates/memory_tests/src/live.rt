@@ -123,9 +123,7 @@ fn live_run<R: Threads + Wait + Sync>(
         return None;
     }
     let turns = 1_000_000_000;
-    Some(run_live(
-        rt, alloc, config, setup, scripts, turns, &OpenGate,
-    ))
+    Some(run_live(rt, alloc, config, setup, scripts, turns, &OpenGate))
 }
 
 /// A shootdown between two threads.
