@@ -94,54 +94,56 @@ fn tables_that_sv48_refuses(rt: HostRuntime) -> Result<(), Fail> {
     Ok(())
 }
 
-/// A root's word or a leaf that is all ones, all ones but V, the last table that there may be, and the last page.
+/// The root's word and the leaf that a walk of Sv48 meets, the steps, and the output: words that are all ones, all ones but V,
+/// the last table that there may be, and the last page.
+const ENDINGS: [(&str, &str, &str, &str); 7] = [
+    (
+        "0x80000 1 0xFFFFFFFFFFFFFFFF",
+        LEAF,
+        LOAD,
+        "1 trap 13 Reserved\n",
+    ),
+    (
+        "0x80000 1 0xFFFFFFFFFFFFFFFE",
+        LEAF,
+        LOAD,
+        "1 trap 13 Invalid\n",
+    ),
+    (
+        "0x80000 1 0x3FFFFFFFFFFC01",
+        LEAF,
+        LOAD,
+        "1 trap 5 Outside\n",
+    ),
+    (
+        "0x80000 1 0x3FFFE0000000D7",
+        LEAF,
+        "'u load 0xFFFFFFFFFF'",
+        "1 pa 0xffffffffffffff 512G\n",
+    ),
+    (
+        "0x80000 1 0x3FFFFFFFFFFCD7",
+        LEAF,
+        LOAD,
+        "1 trap 13 Misaligned\n",
+    ),
+    (
+        ROOT,
+        "0x80003 3 0x3FFFFFFFFFFCD7",
+        "'u load 0x8080403FFF'",
+        "1 pa 0xffffffffffffff 4K\n",
+    ),
+    (
+        ROOT,
+        "0x80003 3 0xFFFFFFFFFFFFFFFF",
+        LOAD,
+        "1 trap 13 Reserved\n",
+    ),
+];
+
 #[test]
 fn words_that_end_a_walk_of_sv48(rt: HostRuntime) -> Result<(), Fail> {
-    let last_leaf = "0x80003 3 0x3FFFFFFFFFFCD7";
-    for (root, leaf, steps, lines) in [
-        (
-            "0x80000 1 0xFFFFFFFFFFFFFFFF",
-            LEAF,
-            LOAD,
-            "1 trap 13 Reserved\n",
-        ),
-        (
-            "0x80000 1 0xFFFFFFFFFFFFFFFE",
-            LEAF,
-            LOAD,
-            "1 trap 13 Invalid\n",
-        ),
-        (
-            "0x80000 1 0x3FFFFFFFFFFC01",
-            LEAF,
-            LOAD,
-            "1 trap 5 Outside\n",
-        ),
-        (
-            "0x80000 1 0x3FFFE0000000D7",
-            LEAF,
-            "'u load 0xFFFFFFFFFF'",
-            "1 pa 0xffffffffffffff 512G\n",
-        ),
-        (
-            "0x80000 1 0x3FFFFFFFFFFCD7",
-            LEAF,
-            LOAD,
-            "1 trap 13 Misaligned\n",
-        ),
-        (
-            ROOT,
-            last_leaf,
-            "'u load 0x8080403FFF'",
-            "1 pa 0xffffffffffffff 4K\n",
-        ),
-        (
-            ROOT,
-            "0x80003 3 0xFFFFFFFFFFFFFFFF",
-            LOAD,
-            "1 trap 13 Reserved\n",
-        ),
-    ] {
+    for (root, leaf, steps, lines) in ENDINGS {
         let text = format!(in rt.alloc();
             "mode = 'sv48'\nframes = ['0x80000', '0x80001', '0x80002', '0x80003']\nwords = ['{root}', {MIDDLE}, '{leaf}']\nsteps = [{steps}]\n"
         )?;

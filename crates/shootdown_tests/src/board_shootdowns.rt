@@ -4,7 +4,7 @@ ghost use Rattle.board.specs.Ports.{ArePorts, name_of};
 use crate::board_tables::{USER, invalid, layout, page, ports_of, readable};
 use board::*;
 use history::{Refusal, Scope};
-use pte::{Access, Page, What};
+use pte::{Access, Page, PteFlags, What};
 use shoot::Collected;
 use spaces::Place;
 use std::test::Fail;
@@ -88,6 +88,41 @@ fn whole_shootdown(rt: HostRuntime) {
     assert!(&rt; zero.finish(0) == Ok(()));
     assert!(&rt; zero.collect(0) == Err(Refusal::NotOpen));
     assert!(&rt; zero.collect(64) == Err(Refusal::NotOpen));
+}
+
+// A page of the kernel is in every address space: hart 1 holds it under both ASIDs until it serves the request, and under none
+// afterwards.
+#[test]
+fn shootdown_of_a_kernel_page(rt: HostRuntime) {
+    let (Some(mut ports), Some(page)) = (ports_of(rt.alloc(), 2), page(0xFFFF_FFFF_C000_0000))
+    else {
+        assert!(&rt; false);
+        return;
+    };
+    let (Some(mut one), Some(mut zero)) = (ports.pop(), ports.pop()) else {
+        assert!(&rt; false);
+        return;
+    };
+    let flags = readable() | PteFlags::G;
+    let va = 0xFFFF_FFFF_C000_0004;
+    assert!(&rt; one.map_step(Place::Kernel, page, 0x100, flags) == Err(Refusal::NotHome));
+    assert!(&rt; zero.map_step(Place::Kernel, page, 0x100, readable()) == Err(Refusal::BadFlags));
+    let _table = zero.map_step(Place::Kernel, page, 0x100, flags);
+    assert!(&rt; zero.map_step(Place::Kernel, page, 0x100, flags) == Ok(Mapped::Leaf));
+    assert!(&rt; one.translate(va, Access::Load, USER) == Ok(0x10_0004));
+    assert!(&rt; zero.unmap(Place::Kernel, page, 0b11) == Ok(0));
+    assert!(&rt; one.switch(1) == Ok(()));
+    assert!(&rt; one.translate(va, Access::Load, USER) == Ok(0x10_0004));
+    assert!(&rt; zero.post(0, 1) == Ok(()));
+    assert!(&rt;
+        one.serve(0)
+            .is_ok_and(|request| request.what == What::PageOf(page, None))
+    );
+    assert!(&rt; one.translate(va, Access::Load, USER) == invalid(13));
+    assert!(&rt; one.switch(0) == Ok(()));
+    assert!(&rt; one.translate(va, Access::Load, USER) == invalid(13));
+    assert!(&rt; zero.collect(0) == Ok(Collected::Waiting(0b01)));
+    assert!(&rt; zero.ack_self(0) == Ok(Collected::Done));
 }
 
 // Hart 1 asks hart 0: what hart 0 acknowledges, it acknowledges to the hart that asked.

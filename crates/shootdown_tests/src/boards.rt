@@ -78,6 +78,24 @@ fn requests_go_from_port_to_port(rt: HostRuntime) {
     assert!(&rt; zero.post(1, 1) == Err(Refusal::Closed));
 }
 
+// Of two reasons to refuse a call, the one that comes first in the order of the rules is told.
+#[test]
+fn refusals_come_in_their_order(rt: HostRuntime) {
+    let opened = two_ports(rt.alloc());
+    assert!(&rt; opened.is_some());
+    let Some((mut zero, _one)) = opened else {
+        return;
+    };
+    assert!(&rt; zero.flush(Scope::Space(1), 0b100) == Err(Refusal::NoHart));
+    assert!(&rt; zero.flush(Scope::Space(1), 0b10) == Err(Refusal::NoSpace));
+    assert!(&rt; zero.post(9, 0) == Err(Refusal::NoHart));
+    assert!(&rt; zero.close_to(1) == Ok(()));
+    assert!(&rt; zero.post(9, 1) == Err(Refusal::NotOpen));
+    assert!(&rt; zero.flush(Scope::All, 0b01) == Ok(0));
+    assert!(&rt; zero.post(0, 1) == Err(Refusal::NotNamed));
+    assert!(&rt; zero.close_to(2) == Err(Refusal::NoHart));
+}
+
 #[test]
 fn layout_is_refused(rt: HostRuntime) {
     for harts in [0, 1, 3, 9] {

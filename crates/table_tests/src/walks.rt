@@ -581,6 +581,7 @@ fn pages_of_sv48(rt: HostRuntime) {
 fn hostile_words_of_sv48(rt: HostRuntime) {
     let [root, upper, middle, _] = DEEP_WORDS;
     let to_itself = with_deep_root(0x2000_0001);
+    let last_table = with_deep_root(0x3F_FFFF_FFFF_FC01);
     let last_leaf = [root, upper, middle, 0x3F_FFFF_FFFF_FCD7];
     let rows = [
         (to_itself, 0x80_4020_1ABC, trap(13, Why::TooDeep), 4),
@@ -597,12 +598,7 @@ fn hostile_words_of_sv48(rt: HostRuntime) {
             trap(13, Why::Invalid),
             1,
         ),
-        (
-            with_deep_root(0x3F_FFFF_FFFF_FC01),
-            DEEP_VA,
-            trap(5, Why::Outside),
-            2,
-        ),
+        (last_table, DEEP_VA, trap(5, Why::Outside), 2),
         (last_leaf, 0x80_8040_3FFF, small(0xFF_FFFF_FFFF_FFFF), 4),
         (
             with_deep_root(0x3F_FFE0_0000_00D7),
