@@ -81,7 +81,7 @@ fn requests_go_from_port_to_port(rt: HostRuntime) {
 // Of two reasons to refuse a call, the one that comes first in the order of the rules is told.
 #[test]
 fn refusals_come_in_their_order(rt: HostRuntime) {
-    let opened = two_ports(rt.alloc());
+    let opened = two_ports(rt.alloc(), Scheme::Sv39);
     assert!(&rt; opened.is_some());
     let Some((mut zero, _one)) = opened else {
         return;
