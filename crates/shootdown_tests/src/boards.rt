@@ -135,7 +135,9 @@ fn hart_that_never_serves(rt: HostRuntime) {
     for scheme in [Scheme::Sv39, Scheme::Sv48] {
         let opened = two_ports(rt.alloc(), scheme);
         assert!(&rt; opened.is_some());
-        let Some((mut zero, _)) = opened else { return };
+        let Some((mut zero, _one)) = opened else {
+            return;
+        };
         for ticket in 0..5 {
             assert!(&rt; zero.flush(Scope::All, 0b11) == Ok(ticket));
         }
