@@ -17,6 +17,7 @@ use Rattle.walk.specs.Stage.{Stage, start_of}
 use Rattle.spaces.specs.declared.configuration.Config.{Config}
 use Rattle.spaces.specs.declared.places.Place.{Place}
 use Rattle.spaces.specs.declared.places.Place.TheVariants.{Space, Kernel}
+use Rattle.spaces.specs.declared.wishes.Wish.{Wish}
 use Rattle.spaces.specs.declared.wishes.Wish.TheVariants.{Map, Unmap, Protect}
 use Rattle.spaces.specs.Edits.{Store}
 use Rattle.spaces.specs.Layout.{Layout}
@@ -110,3 +111,7 @@ WalkAnswersAsComputed = (l : Layout) (v w : View) (root va : ℕ) (access : Acce
     → AnswersByLoads l v root va access ctx answer w
     → ((words : Tables) × Has words w.reads) × ((words : Tables) → Has words w.reads → answer ≡ answer_after (level_count l.scheme) words (start_of l.scheme root va access ctx))
     × (w.loads ≤ v.loads + level_count l.scheme) × (w.orders ≡ v.orders) × (w.words ≡ v.words) × (w.holders ≡ v.holders)
+
+-- the store of an edit is counted
+abbrev pub EachEditIsOneStore : Type 0
+EachEditIsOneStore = (c : Config) (wish : Wish) (ticket : ℕ) (v : View) (store : Store) → (noted c wish ticket v store).stores ≡ v.stores + 1

@@ -12,7 +12,7 @@ ghost use Rattle.spaces.specs.Tree.{IsAtHome, IsTree};
 ghost use Rattle.views.specs.declared.view.View.{View};
 ghost use Rattle.views.specs.Rule.{Has, tables_in};
 ghost use Rattle.views.specs.Board.{AcknowledgedIsClean, Board, CollectedIsClean, EqualWordsAskForEqualService, IsAsSaid, LeavesAreGlobalInWindow, MappingsAreGlobalInWindow, UnmappedIsWhereNoLeafLeads, UnmappedStaysUnmapped};
-ghost use Rattle.views.specs.Lasting.{CellsAreApart, CellsMeet, EditsMarkNothing, KernelIsInEverySpace, MarkedByALeafOver, StepsMarkNothing, TranslatesNoneHoldsNone, UnmappingBeginsLive, WalkAnswersAsComputed};
+ghost use Rattle.views.specs.Lasting.{CellsAreApart, CellsMeet, EachEditIsOneStore, EditsMarkNothing, KernelIsInEverySpace, MarkedByALeafOver, StepsMarkNothing, TranslatesNoneHoldsNone, UnmappingBeginsLive, WalkAnswersAsComputed};
 
 /// Once a hart was collected for an unmapping whose page is not mapped anew, what it filled translates no address of the page in
 /// any address space of the place.
@@ -111,4 +111,9 @@ pub fn translates_none_holds_none()
 /// levels, and changes no order and nothing of what its hart edits.
 pub fn walk_answers_as_computed()
     ensures { WalkAnswersAsComputed }
+{}
+
+/// A view counts the store of each edit, so no edit is accepted without one.
+pub fn each_edit_is_one_store()
+    ensures { EachEditIsOneStore }
 {}
