@@ -18,11 +18,11 @@ use Rattle.scenario.specs.Command.{done, Ending, misused, ending_of, ending_of_f
 use Rattle.keys.specs.Faults.{Failure, fault_in, not_toml}
 use Rattle.scenario.specs.Input.{AreLeft, IsReadTrouble}
 use Rattle.scenario.specs.Limits.{most_bytes}
-use Rattle.scenario.specs.LiveFile.{live_file, live_scenario_of}
+use Rattle.files.specs.LiveFile.{live_file, live_scenario_of}
 use Rattle.scenario.specs.Prints.{IsUnprinted, LinesOf, Prints, PrintsReplies}
 use Rattle.scenario.specs.Output.{EndsBy}
-use Rattle.scenario.specs.RunFile.{run_scenario_of}
-use Rattle.scenario.specs.WalkFile.{walk_scenario_of}
+use Rattle.files.specs.RunFile.{run_scenario_of}
+use Rattle.files.specs.WalkFile.{walk_scenario_of}
 
 -- the scenario of a text, and of the bytes of a file
 by_utf8 : {P : Type 0} (bytes text : List ℕ) (read : List ℕ → Result P Failure) → (text ≡ bytes) × IsUtf8 bytes

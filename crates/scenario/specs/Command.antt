@@ -13,9 +13,9 @@ use Rattle.scenario.specs.Prints.{LinesOf, Prints, PrintsLive, PrintsReplies}
 use Rattle.scenario.specs.Output.{AppendsFront, WritesAll, WritesFront}
 use Rattle.scenario.specs.Input.{AreLeft}
 use Rattle.scenario.specs.Limits.{most_bytes}
-use Rattle.scenario.specs.WalkFile.{walk_file}
-use Rattle.scenario.specs.RunFile.{run_file}
-use Rattle.scenario.specs.LiveFile.{live_file}
+use Rattle.files.specs.WalkFile.{walk_file}
+use Rattle.files.specs.RunFile.{run_file}
+use Rattle.files.specs.LiveFile.{live_file}
 
 -- the first fault of a file's bytes, if they have one
 abbrev pub file_fault : Job → List ℕ → Option Failure

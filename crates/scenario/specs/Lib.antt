@@ -1,9 +1,4 @@
 pub mod Limits
-pub mod Memory
-pub mod StepTexts
-pub mod RunFile
-pub mod LiveFile
-pub mod WalkFile
 pub mod Prints
 pub mod Output
 pub mod Input

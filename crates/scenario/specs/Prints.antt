@@ -12,9 +12,9 @@ use Rattle.keys.specs.Faults.{Failure, Fails, fault_in}
 use Rattle.keys.specs.declared.fault.Fault.TheVariants.{NoMemory}
 use Rattle.scenario.specs.declared.trouble.Trouble.{Trouble}
 use Rattle.scenario.specs.declared.trouble.Trouble.TheVariants.{Usage, Unreadable, TooLarge, NoThread, Refused}
-use Rattle.scenario.specs.LiveFile.{LivePlan}
-use Rattle.scenario.specs.RunFile.{RunPlan}
-use Rattle.scenario.specs.WalkFile.{WalkPlan}
+use Rattle.files.specs.LiveFile.{LivePlan}
+use Rattle.files.specs.RunFile.{RunPlan}
+use Rattle.files.specs.WalkFile.{WalkPlan}
 
 -- what `walk` prints: the lines of the answers of its steps, over the memory that the file describes
 abbrev pub Prints : WalkPlan → List ℕ → Type 0

@@ -7,22 +7,18 @@
 
 mod command_line;
 mod format_laws;
-mod frames;
 mod input;
 mod limits;
 mod live_program;
-mod live_scenario;
 mod output;
-mod plan;
 mod program;
-mod run_scenario;
-mod scenario;
 mod system;
 mod texts;
 mod trouble;
 
 pub use command_line::{Ask, NoWords, answer_words, ask_of};
-pub use format_laws::{first_wrong_step, worked_endings, worked_turns};
+pub use files::{first_wrong_step, worked_turns};
+pub use format_laws::worked_endings;
 pub use keys::{
     Fault, least_unknown_key, limits_are_checked, mode_is_sv39_by_default, worked_modes,
 };

@@ -1,10 +1,4 @@
-//! The limits of a scenario file.
+//! The limit of a file.
 
 /// The bytes that a file may have.
 pub const MOST_BYTES: usize = 1_048_576;
-
-/// The frames that a file may list.
-pub const MOST_FRAMES: usize = 512;
-
-/// The steps that a file may have.
-pub const MOST_STEPS: usize = 65_536;

@@ -5,16 +5,15 @@ ghost use Rattle.keys.specs.Faults.{fault_in};
 ghost use Rattle.scenario.specs.Command.{ending_in, Ends, EndsAs};
 ghost use Rattle.scenario.specs.Input.{AreLeft, ReadsUpTo};
 ghost use Rattle.scenario.specs.Limits.{most_bytes};
-ghost use Rattle.scenario.specs.LiveFile.{live_file, live_scenario_of, live_view};
+ghost use Rattle.files.specs.LiveFile.{live_file, live_scenario_of, live_view};
 ghost use Rattle.scenario.specs.Prints.{AreAnswers, IsUnprinted, IsUnstarted, LinesOf, PrintsLive};
 ghost use Rattle.scenario.specs.declared.program.Job.TheVariants.{Live};
 
 use crate::input::read_file;
-use crate::live_scenario::read_live;
 use crate::output::write_whole;
-use crate::plan::LiveScenario;
 use crate::program::{DONE, report};
 use crate::trouble::Trouble;
+use files::{LiveScenario, read_live};
 use harts::{Gate, LiveFault, LiveReport, run_live};
 use keys::Fault;
 use lines::live_lines;

@@ -1,0 +1,4 @@
+pub mod MemoryLemmas
+pub mod PpnLemmas
+pub mod ScriptLemmas
+pub mod TextLemmas

@@ -1,0 +1,6 @@
+pub mod Limits
+pub mod Memory
+pub mod StepTexts
+pub mod RunFile
+pub mod LiveFile
+pub mod WalkFile

@@ -1,0 +1,22 @@
+//! Scenario files read and checked: the text of each of the three kinds, to what it asks for, or its first fault.
+//!
+//! `read_walk`, `read_run` and `read_live` answer what the text of a file for `walk`, `run` and `live` asks for. Nothing is
+//! run: what comes of a scenario is in the crate `scenario`.
+#![tactic(auto)]
+
+mod format_laws;
+mod frames;
+mod limits;
+mod live_file;
+mod plan;
+mod run_file;
+mod walk_file;
+
+pub use format_laws::{first_wrong_step, worked_turns};
+pub use frames::TableFrames;
+pub use keys::Fault;
+pub use limits::{MOST_FRAMES, MOST_STEPS};
+pub use live_file::read_live;
+pub use plan::{LiveScenario, RunScenario, WalkScenario};
+pub use run_file::read_run;
+pub use walk_file::read_walk;

@@ -1,0 +1,62 @@
+//! The scenario of `run`, from its document.
+ghost use Rattle.std.specs.Prelude.{◌≡◌, ◌≤◌, length, map};
+ghost use Rattle.toml.specs.View.{table_view};
+ghost use Rattle.spaces.specs.Limits.{max_harts};
+ghost use Rattle.keys.specs.Faults.{Gives};
+ghost use Rattle.files.specs.Limits.{most_steps};
+ghost use Rattle.files.specs.StepTexts.{events_in};
+ghost use Rattle.files.specs.RunFile.{run_plan_of, run_scenario_of, run_view};
+
+use crate::limits::MOST_STEPS;
+use crate::plan::RunScenario;
+use history::Event;
+use keys::{Fault, check_keys, check_layout, config, document, mode, texts_of_key};
+use pte::Scheme;
+use std::alloc::Global;
+use steps::run_step_among;
+use toml::Table;
+
+/// The keys that `run` knows.
+const KEYS: [&str; 8] = [
+    "harts", "window", "base", "capacity", "spares", "spaces", "steps", "mode",
+];
+
+fn events(alloc: Global, scheme: Scheme, harts: u8, texts: &[&str]) -> Result<Vec<Event>, Fault>
+    requires { length texts.now ≤ most_steps }
+    ensures { Gives (λ v. v.items) result (events_in scheme harts (map (λ text. text.now) texts.now)) }
+{
+    let mut events = Vec::with_capacity(alloc, texts.len())?;
+    for (index, text) in texts.iter().enumerate() {
+        match run_step_among(scheme, harts, text) {
+            Ok(event) => events.push(event)?,
+            Err(fault) => return Err(Fault::Step(index as u32 + 1, fault)),
+        }
+    }
+    Ok(events)
+}
+
+/// The scenario of a document.
+#[tactic(auto, unfolding(crate::specs::RunFile::run_plan_of))]
+fn scenario(alloc: Global, table: &Table) -> Result<RunScenario, Fault>
+    ensures { Gives run_view result (run_plan_of (table_view table.now)) }
+{
+    check_keys(alloc, table, &KEYS)?;
+    let mut config = config(alloc, table)?;
+    let texts = texts_of_key(alloc, table, "steps")?;
+    config.scheme = mode(alloc, table)?;
+    check_layout(&config)?;
+    if texts.len() > MOST_STEPS {
+        return Err(Fault::TooMany);
+    }
+    let events = events(alloc, config.scheme, config.harts as u8, texts.as_slice())?;
+    Ok(RunScenario { config, events })
+}
+
+/// The scenario that a text is.
+#[tactic(auto, unfolding(crate::specs::RunFile::run_scenario_of))]
+pub fn read_run(alloc: Global, text: &str) -> Result<RunScenario, Fault>
+    ensures { Gives run_view result (run_scenario_of text.now) }
+{
+    let table = document(alloc, text)?;
+    scenario(alloc, &table)
+}

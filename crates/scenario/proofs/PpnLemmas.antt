@@ -1,9 +1,0 @@
--- The texts of the frames, which are no more than a file may list.
-use Rattle.std.proofs.Common.{◌≡◌, ℕ, List, length, map, Bor, ◌≤◌, le-leb}
-use Rattle.std.proofs.lemmas.List.{length-map}
-use Rattle.keys.specs.Keys.{each}
-use Rattle.keys.proofs.EachLemmas.{each-map}
-use Rattle.scenario.specs.WalkFile.{ppn_of, ppns_of}
-
-pub few_fit : (ts : List (Bor (List ℕ))) → length ts ≤ 512 → ppns_of (map (λ text. text.now) ts) ≡ each (λ (text : Bor (List ℕ)). ppn_of text.now) ts
-few_fit ts fits = rw (length-map ts (λ text. text.now), le-leb (length ts) 512 fits) (each-map ppn_of (λ (text : Bor (List ℕ)). text.now) ts)

@@ -1,5 +1,0 @@
-use Rattle.scenario.proofs.TextLemmas.{ScriptSoFar}
-use Rattle.scenario.proofs.live_scenario.script_steps.Given as goal
-
-abbrev pub invariant-loop-index : goal.invariant-loop-index
-invariant-loop-index l = ScriptSoFar l.scheme l.harts l.texts l.index l.steps.items

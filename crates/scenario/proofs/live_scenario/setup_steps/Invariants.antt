@@ -1,9 +1,0 @@
-use Rattle.std.proofs.Common.{◌<◌, All}
-use Rattle.scenario.proofs.TextLemmas.{SetupSoFar}
-use Rattle.scenario.proofs.live_scenario.setup_steps.Given as goal
-
-abbrev pub invariant-loop-index : goal.invariant-loop-index
-invariant-loop-index l = record {
-  read : SetupSoFar l.scheme l.harts l.texts l.index l.steps.items;
-  there : All (λ step. step.0 < l.harts) l.steps.items;
-}

@@ -1,5 +1,0 @@
-use Rattle.scenario.proofs.TextLemmas.{EventsSoFar}
-use Rattle.scenario.proofs.run_scenario.events.Given as goal
-
-abbrev pub invariant-loop-index : goal.invariant-loop-index
-invariant-loop-index l = EventsSoFar l.scheme l.harts l.texts l.index l.events.items

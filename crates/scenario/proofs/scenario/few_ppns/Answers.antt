@@ -1,6 +1,0 @@
-use Rattle.std.proofs.Common.{◌≤◌, length, arith}
-use Rattle.scenario.proofs.PpnLemmas.{few_fit}
-use Rattle.scenario.proofs.scenario.few_ppns.Goals as goal
-
-pub returns-clause-value : goal.returns-clause-value
-returns-clause-value c = let fits : length c.args.texts.now ≤ 512 = omega arith in rw (few_fit c.args.texts.now fits) c.ppns.ensures.value
