@@ -8,9 +8,10 @@ const UNMAP_AT_ONCE: &str =
 #
 #     ./svsim live examples/live-unmap-at-once.toml
 #
-# Each hart unmaps a page of its own space, asks the other one to drop it, and waits. `wait` serves while it waits, and
-# so each of them serves the other. Harts that waited without serving would both wait for good: a kernel that waits for
-# acknowledgements with its interrupts off hangs so.
+# Each hart unmaps a page of its own space, asks the other one to drop it, and waits. `wait` serves while it waits,
+# and so each of them serves the other. Harts that waited without serving would both wait for good, and so would two
+# processors that wait for each other's acknowledgement with their interrupts off. From memory, not looked up: for
+# this reason Linux warns where smp_call_function_many is called with interrupts off.
 #
 # The lines are the same however the threads run. No order in which one script goes before the other gives them: hart 0
 # is done only after hart 1 has served, and hart 1 only after hart 0 has.

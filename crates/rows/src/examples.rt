@@ -243,10 +243,11 @@ const HART_LEFT_OUT: Example = Example {
 #
 #     ./svsim run examples/hart-left-out.toml
 #
-# In a kernel: for each address space there is a mask of the processors that run in it, and only these are asked. With
-# ASIDs a switch of the space drops nothing, so a processor that has left may still hold its translations and use them
-# when it comes back. From memory, not looked up: Linux on RISC-V had it (mended in 2023 by "riscv: asid: Fixup stale
-# TLB entry cause application crash"): the switch away from a space took the hart off the mask.
+# In a kernel: for each address space there may be a mask of the processors that run in it, so that only these are
+# asked. With ASIDs a switch of the space drops nothing, so a processor that has left may still hold its translations
+# and use them when it comes back. From memory, not looked up: Linux has such masks (mm_cpumask), and on RISC-V it had
+# this mistake (mended in 2023 by "riscv: asid: Fixup stale TLB entry cause application crash"): the switch away from
+# a space took the hart off the mask.
 #
 # Here: hart 1 fills an entry of space 0 and switches to space 1. The unmapping names hart 0 alone; its order is done
 # and finished, and nothing is refused: whom an order has to name is up to the kernel. In line 14 hart 1 is back, and
@@ -395,11 +396,11 @@ const MAILBOX_FULL_AND_CLOSED: Example = Example {
 #
 #     ./svsim run examples/mailbox-full-and-closed.toml
 #
-# In a kernel: requests to another processor stand in a queue of bounded length. The sender that finds it full has to
-# wait, and a request that is dropped there is a flush that never happens. And a processor may go offline between the
-# moment when the mask was read and the moment when the request is sent. From memory, not looked up: Linux's
-# smp_call_function waits for the last call to the same processor, and a processor that goes offline empties its queue
-# once more (smpcfd_dying_cpu).
+# In a kernel: where the requests to another processor stand in a queue of bounded length, the sender that finds it
+# full has to wait, and a request that is dropped there is a flush that never happens. And a processor may go offline
+# between the moment when the mask was read and the moment when the request is sent. From memory, not looked up: in
+# Linux's smp_call_function_many a sender waits until its last call to the same processor is over, and a processor
+# that goes offline empties its queue once more (smpcfd_dying_cpu).
 #
 # Here: room for two, and three pages are unmapped. The third request is refused, also after the first was taken (line
 # 15) and acknowledged (line 18): room comes when the sender collects. Before it can post, the mailbox is closed. Hart

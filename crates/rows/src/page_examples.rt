@@ -170,11 +170,11 @@ const GLOBAL_PAGE_ASID_FENCE: Example = Example {
 #
 #     ./svsim run examples/global-page-asid-fence.toml
 #
-# In a kernel: a mapping of the kernel has G set and belongs to every address space, so SFENCE.VMA with an ASID in rs2
-# need not drop its entries, even at their own address (privileged manual 4.2.1). A flush of the kernel's range that
-# goes through the code for user pages, with the ASID of the process that happens to run, may do nothing. From memory,
-# not looked up: Linux on RISC-V flushes the kernel's range with no ASID (flush_tlb_kernel_range); on x86 a write of
-# CR3 keeps global entries, so kernels toggle CR4.PGE or use INVPCID.
+# In a kernel: where its own mappings have G set, they belong to every address space, so SFENCE.VMA with an ASID in
+# rs2 need not drop their entries, even at their own address (privileged manual 4.2.1). A flush of the kernel's range
+# that goes through the code for user pages, with the ASID of the process that happens to run, may do nothing. From
+# memory, not looked up: Linux on RISC-V flushes the kernel's range with no ASID (flush_tlb_kernel_range); on x86 a
+# write of CR3 keeps global entries, so kernels toggle CR4.PGE or use INVPCID.
 #
 # Here: hart 1 holds a kernel page, and changes its space: the entry stays and still answers (line 8). The page is
 # unmapped, and hart 1 fences with its ASID, with the address (line 10) and without (line 12). Both fences are `ok`
@@ -320,10 +320,10 @@ const SV48_SPLIT: Example = Example {
 #
 #     ./svsim run examples/sv48-split.toml
 #
-# In a kernel: the linear map of all memory is made of the largest leaves that fit. To make one small page of it read
-# only, the leaf above it is split first, and with Sv48 that may be a leaf of the root. A flush of the small range that
-# was asked for is then not a flush of the page that was split. From memory, not looked up: Linux on RISC-V flushes
-# everything there (__split_linear_mapping_p4d).
+# In a kernel: to make one small page of a large one read only, the leaf above it is split first, and with Sv48 that
+# may be a leaf of the root. A flush of the small range that was asked for is then not a flush of the page that was
+# split. From memory, not looked up: Linux's linear map of all memory is made of the largest leaves that fit; on
+# RISC-V Linux splits such a leaf (split_linear_mapping), and then flushes everything.
 #
 # Here: with Sv48 (privileged manual 4.5.1) a walk has four levels, and a leaf of the root maps 512 GiB. Hart 0 takes
 # the page apart and gives back three parts of it. Lines 12 to 14 are accesses through the old entry: to a page that is

@@ -12,8 +12,8 @@ const ASID_USED_AGAIN: Example = Example {
 #
 # In a kernel: there are fewer ASIDs than processes over time, so each is given out again and again. What a hart
 # filled under an ASID answers whoever runs under it later, for neither the end of a process nor a write of satp drops
-# anything. So a kernel flushes each hart between two owners of an ASID. From memory, not looked up: Linux on RISC-V
-# hands ASIDs out by generations, and every hart flushes its whole TLB before it runs a process of the next one
+# anything. So a kernel has to flush each hart between two owners of an ASID. From memory, not looked up: Linux on
+# RISC-V hands ASIDs out by generations, and every hart flushes its whole TLB before it runs a process of the next one
 # (context_tlb_flush_pending); on x86 Linux flushes a PCID that it gives to another process.
 #
 # Here: hart 1 runs a process in space 1, of ASID 2, and leaves it. The process ends, and the kernel makes its space
