@@ -175,7 +175,7 @@ for ((size = 1000; size <= 40000; size += 1000)); do
     (ulimit -v $size; exec "$svsim" run long.toml >out 2>err); status=$?
     limited "a long run with $size KiB of memory" long.lines
 done
-echo "$unloaded runs were not loaded for want of memory"
+echo "$unloaded runs were not loaded, for lack of memory"
 
 # Small stacks: 80 nested keys, the most that a document may have, need more than all else
 { head -c 158 /dev/zero | tr '\0' 'a' | sed 's/aa/a./g'; echo 'a = 1'; } >dotted.toml

@@ -135,7 +135,7 @@ fn with_room(alloc: Global, config: Arc<Config, Global>) -> Result<Board, AllocE
 
 impl Board {
     /// A port for each hart, in order, and the board that they belong to. `BadLayout` exactly if `Config::check_live` says no,
-    /// `NoMemory` if memory is wanting.
+    /// `NoMemory` if there is not enough memory.
     pub fn open(alloc: Global, config: &Config) -> Result<(Board, Vec<HartPort>), OpenFault>
         ensures bad_layout { (result ≡ Err OpenFault.BadLayout) ↔ (¬ MeetsLimits max_live_frames config.now) }
         ensures board { IfOk result (λ r. r.0 ≡ setup_of config.now) }

@@ -138,7 +138,7 @@ retiring_is_used = one_used (history_of run.retired_until_service) of_asid_2 (λ
 pub global_is_used : HoldsUsedAsids spaces_of_one_home (history_of run.retired_and_given_back) (global_entry (small_page 0xffffffffc0000000) 0x300 ∷ [])
 global_is_used = one_used (history_of run.retired_and_given_back) (global_entry (small_page 0xffffffffc0000000) 0x300) (λ e. absurd (true≢false e))
 
--- none of a space that is free, nor of an ASID that its space has no more
+-- none of a space that is free, nor of an ASID that its space no longer has
 unused : (H : History) (e : Entry) → e.global ≡ false → ((s : ℕ) → ¬ HasAsid spaces_of_one_home H s e.asid) → UsedAsidsForbid spaces_of_one_home H e
 unused H e local none entries at used =
     let has = used at.0 e at.1 (ap (λ (x : Entry). x.global) at.2 ∙ local) in

@@ -169,7 +169,7 @@ pub fn coherent_is_for_an_asid()
 {}
 
 /// A hart translates a page of a retiring space, whose ASID is in use, until it serves the request, and then holds nothing; of a free
-/// space, or of an ASID that its space has no more, it may hold nothing. Global entries are of no ASID.
+/// space, or of an ASID that its space no longer has, it may hold nothing. Global entries are of no ASID.
 #[tactic(auto, using(crate::proofs::RetiredFacts::retiring_translates, crate::proofs::RetiredFacts::nothing_held, crate::proofs::RetiredFacts::retiring_is_used, crate::proofs::RetiredFacts::global_is_used, crate::proofs::RetiredFacts::free_is_unused, crate::proofs::RetiredFacts::old_asid_is_unused))]
 pub fn used_asids_are_those_of_live_and_retiring_spaces()
     ensures translates { Translates (IsMappedBy (entries_of shootdowns.spaces_of_one_home (history_of retirements.retired_until_service) 1)) 2 0x1004 }

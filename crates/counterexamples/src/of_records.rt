@@ -47,7 +47,7 @@ pub fn what_is_no_accepted_post()
     ensures not_named { ¬ IsAcceptedPost two_harts (history_of two_posts) 0 2 (post_of 0 0 All) }
 {}
 
-/// A post is live no more once its receiver has acknowledged its order, nor once the ticket is finished; and a list in which an
+/// A post is no longer live once its receiver has acknowledged its order, nor once the ticket is finished; and a list in which an
 /// order stands has a post of that order.
 #[tactic(auto, using(crate::proofs::Refuted::acknowledged, crate::proofs::Refuted::finished, crate::proofs::Refuted::not_standing))]
 pub fn what_is_not_live()

@@ -46,8 +46,8 @@ pub(crate) fn turn_of(event: &Event, reply: &Reply) -> (Event, Reply)
 }
 
 impl<C: Named> Book<C> {
-    /// A machine of a configuration, and no event yet. `BadLayout` exactly if `Config::check` says no, `NoMemory` if memory is
-    /// wanting. `C` names the configuration.
+    /// A machine of a configuration, and no event yet. `BadLayout` exactly if `Config::check` says no, `NoMemory` if there
+    /// is not enough memory. `C` names the configuration.
     pub fn open(alloc: Global, config: &Config) -> Result<Book<C>, OpenFault>
         requires { C.config ≡ config.now }
         ensures bad_layout { (result ≡ Err OpenFault.BadLayout) ↔ (¬ MeetsLimits max_frames config.now) }

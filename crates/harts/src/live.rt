@@ -40,8 +40,9 @@ fn open(alloc: Global, config: &Config) -> Result<(Board, Vec<HartPort>), LiveFa
 /// the ticket. A hart whose script has ended serves every other hart in turns, until all scripts have ended or `turns` turns
 /// passed. All room for answers is taken before the first thread starts.
 ///
-/// `BadLayout` exactly if `Config::check_live` says no, `NoMemory` if memory is wanting, `NoThread` if a thread could not be
-/// started. What the threads do when is not promised.
+/// `BadLayout` exactly if `Config::check_live` says no, `NoMemory` if there is not enough memory,
+/// `NoThread` if a thread could not be started. In which order the threads take their steps is not
+/// promised.
 pub fn run_live<R: Threads + Wait + Sync, G: Gate + Sync>(
     rt: &R,
     alloc: Global,

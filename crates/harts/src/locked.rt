@@ -100,7 +100,8 @@ unsafe impl<C: Named + Send> Sync for Locked<C> {}
 
 impl<C: Named> Locked<C> {
     /// A machine of a configuration under a lock, and one tally for each list of the blank, whose turns are none. `BadLayout`
-    /// exactly if `Config::check` says no, `NoMemory` if memory is wanting. `C` names the configuration and the lists.
+    /// exactly if `Config::check` says no, `NoMemory` if there is not enough memory. `C` names the
+    /// configuration and the lists.
     pub fn open(
         alloc: Global,
         blank: Blank,

@@ -78,7 +78,7 @@ pub enum Event {
         hart: u8,
         from: u8,
     },
-    /// Fences the hart's TLB as the request asks that it serves.
+    /// Fences the hart's TLB as the request that it serves asks.
     ServeFence {
         hart: u8,
     },

@@ -24,7 +24,7 @@ pub fn document(alloc: Global, text: &str) -> Result<Table, Fault>
     document_of(toml::table_from_str(alloc, text))
 }
 
-/// What the reader of TOML answered: want of memory exactly where it says so.
+/// What the reader of TOML answered: out of memory exactly where it says so.
 fn document_of(read: Result<Table, toml::de::Error>) -> Result<Table, Fault>
     ensures table { IfOk read (λ table. result ≡ Ok table) }
     ensures memory { IfErr read (λ error. IsMemory error → result ≡ Err NoMemory) }

@@ -36,7 +36,7 @@ not_here j k [] all e s = s
 not_here j k (x ∷ xs) all e s =
     elim s [ inl q ↦ All-head (IsOfOther j) x xs all (e ∙ sym q) | inr n ↦ not_here j k xs (All-tail (IsOfOther j) x xs all) e n ]
 
--- one of the posts counts no more, and the others as before
+-- one of the posts no longer counts, and the others as before
 pub count_less : (f g : Sent → Bool) (k : ℕ) → ((x : Sent) → x.order ≡ k → (f x ≡ true) × (g x ≡ false)) → (xs : List Sent)
     → All (λ x. IsOfOther k x → f x ≡ g x) xs → Distinct xs → Stands k xs → count_where f xs ≡ suc (count_where g xs)
 count_less f g k changed [] all d s = absurd s

@@ -12,7 +12,8 @@ use std::alloc::Global;
 use std::marker::Brand;
 use std::sync::Wait;
 
-/// What is said of a history: each event has its reply, and at want of memory those that come later are missing.
+/// What is said of a history: each event has its reply, and where memory ran out the later ones are
+/// missing.
 fn of_history(
     verdict: Verdict,
     history: &[(Event, Reply)],

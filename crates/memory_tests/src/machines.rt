@@ -22,7 +22,7 @@ pub fn open(alloc: Global) -> Verdict {
 /// How often the events without a reply are run again.
 const MOST_RUNS: usize = 4;
 
-/// Runs the events, and after want of memory those without a reply again, as if nothing had been: the replies are the same.
+/// Runs the events, and where memory ran out those without a reply again: the replies are the same.
 fn run_on(alloc: Global, mut machine: Machine, events: &[Event], wanted: &[Reply]) -> Verdict {
     let mut replies: Vec<Reply> = Vec::new(alloc);
     let mut verdict = Verdict::Usual;

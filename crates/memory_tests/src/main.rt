@@ -1,6 +1,7 @@
-//! `memory_tests`: makes each call of the libraries that takes memory, and prints a line for each: whether it answered as usual,
-//! or that there was no memory. The status is 5 if there was none for one of them. A call that answers anything else is told so,
-//! and changes no status. `scripts/refuse_memory.sh` runs it once for each of its requests for memory, which is then refused.
+//! `memory_tests`: makes each call of the libraries that takes memory, and prints a line for each: whether
+//! it answered as usual, found no memory, or answered anything else. The status is 5 if one of them found
+//! no memory, else 0. `scripts/refuse_memory.sh` runs it once for each of its requests for memory, which is
+//! then refused.
 #![tactic(auto)]
 
 mod live;

@@ -48,7 +48,7 @@ steps = [
     "1 begin u load 0x1004",  # 15 hit 0x100004: the old process's memory
     "1 begin u store 0x1004", # 16 hit 0x100004
 
-    # With a third process it is done right. No hart may be in the space, and the ASID is not to be had meanwhile.
+    # With a third process it is done right. No hart may be in the space, and no other space gets the ASID meanwhile.
     "0 retire 1", # 17 refused InUse
     "1 switch 0",
     "0 retire 1", # 19 opened 0: it names every hart

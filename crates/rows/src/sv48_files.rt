@@ -295,7 +295,7 @@ const KERNEL_PAGE: &str = r"
 1 load -> trap 13 Invalid
 ";
 
-/// SFENCE.VMA for an address that Sv39 has not, and for one that Sv48 has not either.
+/// SFENCE.VMA for an address that Sv39 does not have, and for one that Sv48 does not have either.
 const FENCES: &str = r"
 0 map 0 4K:0x4000000000 0x100 ruad -> table 0x80002
 0 map 0 4K:0x4000000000 0x100 ruad -> table 0x80003

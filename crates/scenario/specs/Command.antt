@@ -77,7 +77,8 @@ error_line file ending = codes "svsim: " ++ reason file ending ++ codes "\n"
 abbrev pub IsTold : Ending → ℕ → List ℕ → Type 0
 IsTold ending status line = (status_of ending ≡ status) × (error_line (codes "f") ending ≡ line)
 
--- when a file of these bytes may end so; each may be unreadable, or want memory, and a faultless one for `live` a thread
+-- when a file of these bytes may end so; any may be unreadable or find no memory, and a faultless
+-- one for `live` no thread
 abbrev pub Suits : Job → List ℕ → Ending → Type 0
 Suits job bytes done = (length bytes ≤ most_bytes) × (file_fault job bytes ≡ None)
 Suits job bytes misused = ⊥
@@ -99,7 +100,7 @@ pub record EndsAs (job : Job) (bytes : List ℕ) (ending : Ending) (old new : Op
   pub suits : Suits job bytes ending
   pub leaves : Leaves (FileLines job bytes) ending old new
 
--- what is told of an ending: itself, or want of memory for its line, if it has one
+-- what is told of an ending: itself, or that there was no memory for its line, if it has one
 abbrev pub IsToldAs : Ending → Ending → Type 0
 IsToldAs done told = told ≡ done
 IsToldAs ending told = (told ≡ ending) ⊎ (told ≡ no_memory)

@@ -52,7 +52,7 @@ IsUnstarted TooLarge = ⊥
 IsUnstarted NoThread = Unit {0}
 IsUnstarted (Refused fault) = fault ≡ NoMemory
 
--- why a file for `live` that was read as this prints nothing: its first fault, want of memory, or of a thread
+-- why a file for `live` that was read as this prints nothing: its first fault, no memory, or no thread
 abbrev pub IsUnprinted : {P : Type 0} → Trouble → Result P Failure → Type 0
 IsUnprinted Usage read = ⊥
 IsUnprinted Unreadable read = ⊥

@@ -41,7 +41,7 @@ const REFUSED: u8 = 3;
 
 const OUTPUT_FAILED: u8 = 4;
 
-/// Want of memory, or of a thread.
+/// There was not enough memory, or no thread.
 const NO_MEMORY: u8 = 5;
 
 fn status(trouble: &Trouble) -> u8
@@ -122,7 +122,7 @@ pub(crate) fn report<E: Write>(alloc: Global, file: &str, trouble: &Trouble, err
 }
 
 /// Does a command on the file that `input` reads, and answers the status of the program: 0 done, 2 not read, too large, or
-/// not TOML, 3 a refused scenario, 4 the output failed, 5 want of memory. At all but 0 one line goes to `err`, as far as
+/// not TOML, 3 a refused scenario, 4 the output failed, 5 out of memory. At all but 0 one line goes to `err`, as far as
 /// it takes it; its own faults count for nothing. `file` is the file's name in the line. No more than 1,048,577 bytes are
 /// read, and any error of the reader is `cannot read`.
 pub fn command<R: Read, W: Write, E: Write>(

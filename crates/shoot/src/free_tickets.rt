@@ -53,7 +53,7 @@ impl FreeTickets {
         self.bits |= 1 << ticket;
     }
 
-    /// The ticket is free no more.
+    /// The ticket is no longer free.
     #[tactic(auto, using(crate::proofs::FreeTickets::unmarked))]
     pub(crate) fn remove(&mut self, ticket: usize)
         requires { ticket < MAX_TICKETS }

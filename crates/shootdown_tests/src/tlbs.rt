@@ -56,7 +56,7 @@ fn is_there(rt: &impl Abort, tlb: &Tlb, probe: &Probe) -> bool {
     lookup(rt, tlb, probe.asid, probe.va) == Some(probe.entry)
 }
 
-/// Whether of these entries just those are in the TLB that are to stay.
+/// Whether the TLB has just those of these entries that are to stay.
 fn are_left(rt: &impl Abort, tlb: &Tlb, probes: &[Probe], stays: &[bool]) -> bool {
     for (probe, stay) in probes.iter().zip(stays.iter()) {
         if is_there(rt, tlb, probe) != *stay {

@@ -12,7 +12,7 @@ use crate::unused_frames::UnusedFrames;
 use std::alloc::{AllocError, Global};
 use std::marker::Model;
 
-/// For which place each of up to 512 frames is in use as a spare one, if for one. Beside it stands which frames are unused, so
+/// For which place each of up to 512 frames is in use as a spare one, if for any. Beside it stands which frames are unused, so
 /// that a new table searches none of those in use.
 #[derive(Drop)]
 pub(crate) struct FrameUse {

@@ -203,7 +203,7 @@ impl Machine {
         Reply::Taken(request)
     }
 
-    /// Fences the hart's TLB as the request asks that it serves.
+    /// Fences the hart's TLB as the request that it serves asks.
     pub(crate) fn serve_fence(&mut self, hart: u8) -> Reply
         ensures reply { result ≡ reply_to self.old (ServeFence hart) }
         ensures follows { Follows self.old (ServeFence hart) result self.new }

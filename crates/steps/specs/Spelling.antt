@@ -13,7 +13,7 @@ use Rattle.steps.specs.Num.{num_of}
 use Rattle.steps.specs.Step.{translation_of}
 use Rattle.steps.specs.Words.{four_words, is_over, one_word, three_words, two_words}
 
--- what is no step at one word is none
+-- a text is no step if one of its words is wrong
 infixl 10 ◌>>=◌
 abbrev pub ◌>>=◌ : {A B : Type 0} → Option A → (A → Option B) → Option B
 read >>= f = option_and_then f read

@@ -34,9 +34,9 @@ pub fn run_step_is_written()
     ensures found_of_all { (scheme : Scheme) (text : List ℕ) (event : Event) → WritesRunStep scheme MAX_HARTS text event ↔ (run_step_of scheme text ≡ Some event) }
 {}
 
-/// Whether a text is a step of `run` does not depend on how many harts there are: that it is none is told before anything
-/// else. With more harts it stays the same step, or has the same fault, unless it named a hart that was not there: that its
-/// page is none is told last.
+/// Whether a text is a step of `run` does not depend on how many harts there are: `NotStep` is told
+/// before anything else. With more harts it stays the same step, or has the same fault, unless it
+/// named a hart that was not there: `NotPage` is told last.
 pub fn harts_are_told_between_steps_and_pages()
     ensures not_step { (scheme : Scheme) (m n : ℕ) (text : List ℕ) → step_among scheme m text ≡ Err NotStep → step_among scheme n text ≡ Err NotStep }
     ensures more_harts { (scheme : Scheme) (m n : ℕ) (text : List ℕ) → m ≤ n → ¬ (step_among scheme m text ≡ Err NoSuchHart) → step_among scheme n text ≡ step_among scheme m text }
@@ -61,7 +61,7 @@ pub fn setup_step_is_written()
     ensures found { (scheme : Scheme) (harts : ℕ) (text : List ℕ) (hart : ℕ) (step : LiveStep) → WritesSetupStep scheme harts text hart step ↔ (setup_step_in scheme harts text ≡ Ok (hart, step)) }
 {}
 
-/// Of the lines of `live` the same: that one is no step is told before anything else, and that its page is none last.
+/// Of the lines of `live` the same: `NotStep` is told before anything else, and `NotPage` last.
 pub fn harts_of_live_are_told_between_steps_and_pages()
     ensures not_step { (scheme : Scheme) (m n : ℕ) (text : List ℕ) → live_step_in scheme m text ≡ Err NotStep → live_step_in scheme n text ≡ Err NotStep }
     ensures more_harts { (scheme : Scheme) (m n : ℕ) (text : List ℕ) → m ≤ n → ¬ (live_step_in scheme m text ≡ Err NoSuchHart) → live_step_in scheme n text ≡ live_step_in scheme m text }

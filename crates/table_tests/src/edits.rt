@@ -189,7 +189,8 @@ fn with_base(base: u64) -> Config {
     }
 }
 
-/// Whether there is a memory of this configuration, or it is none within the limits; nothing if there was no room for it.
+/// Whether a memory of this configuration is opened, as it is within the limits; `None` if there is
+/// no room for it.
 fn opens(alloc: Global, config: &Config) -> Option<bool> {
     match Memory::open(alloc, config) {
         Ok(_) => Some(true),
@@ -556,7 +557,7 @@ fn frames_run_out(rt: HostRuntime) {
     );
 }
 
-/// A leaf in the way of a page is told before the want of a frame.
+/// Where a leaf is in the way and no frame is left, the leaf is told.
 #[test]
 fn leaf_is_told_before_no_frame(rt: HostRuntime) {
     let config = Config {

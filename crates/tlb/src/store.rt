@@ -207,7 +207,8 @@ impl Tlb {
         self.banks.oldest_match(asid, va)
     }
 
-    /// Adds an entry as the youngest. A full TLB drops its oldest entry; no other entry goes, be it of the same page.
+    /// Adds an entry as the youngest. A full TLB drops its oldest entry; no other goes, not even one of the
+    /// same page.
     pub fn fill(&mut self, entry: Entry)
         ensures { self.new ≡ record self.old { entries = filled self.old.entries entry } }
     {

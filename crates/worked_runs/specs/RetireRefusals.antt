@@ -95,7 +95,7 @@ while_retiring =
 abbrev pub acknowledged_by_1 : ℕ → List Step
 acknowledged_by_1 asid = (Post 0 0 1, Ok) ∷ (Take 1 0, taken 0 (SpaceOf asid)) ∷ (ServeFence 1, Ok) ∷ (Ack 1, Ok) ∷ []
 
--- a Reclaim wants each hart collected, be the ticket open or finished
+-- a Reclaim needs each hart collected, whether the ticket is open or finished
 abbrev pub collected_hart_by_hart : List Step
 collected_hart_by_hart =
     (Retire 0 1, Opened 0)
@@ -110,7 +110,7 @@ collected_hart_by_hart =
     ∷ (Reclaim 0 1, Ok)
     ∷ []
 
--- the next retirement of the space wants each hart collected once more
+-- after the next retirement of the space each hart has to be collected once more
 abbrev pub collected_once_more : List Step
 collected_once_more =
     collected_hart_by_hart

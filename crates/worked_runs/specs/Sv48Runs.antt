@@ -118,7 +118,7 @@ kernel_gigapage_shootdown =
     ∷ (Load 1, trap 13 Invalid)
     ∷ []
 
--- a fence takes the addresses that are canonical in Sv48, of which Sv39 has not all
+-- a fence takes the addresses that are canonical in Sv48, not all of which Sv39 has
 abbrev pub fences_in_sv48 : List Step
 fences_in_sv48 =
     (Map 0 (Space 0) (huge_page 0x4000000000) 0x40000 (flags (R + U + A + D)), Table 0x80002)
@@ -151,7 +151,7 @@ edits_in_sv48 =
     ∷ (Map 0 (Space 0) (small_page 0x800000000000) 0x100 (flags (R + U + A + D)), refused WrongHalf)
     ∷ []
 
--- a page that does not fit Sv39, of a size or at an address that it has not, is in neither half
+-- a page that does not fit Sv39, by its size or its address, is in neither half
 abbrev pub pages_that_do_not_fit : List Step
 pages_that_do_not_fit =
     (Map 0 (Space 0) (terapage 0x0) 0x10000000 (flags (R + U + A + D)), refused WrongHalf)

@@ -161,7 +161,7 @@ pub fn refused_edits()
     ensures { IsEachDueAfter two_harts shootdowns.map_superpage edits.refused_edits }
 {}
 
-/// A new table wants an unused spare frame of the home.
+/// A new table needs an unused spare frame of the home.
 #[tactic(auto, using(crate::proofs::EditRows::spare_frames_run_out))]
 pub fn spare_frames_run_out()
     ensures { IsRun edits.one_spare_frame edits.spare_frames_run_out }
@@ -223,7 +223,7 @@ pub fn retired_and_created_anew()
     ensures anew { IsRun shootdowns.spaces_of_one_home retirements.retired_and_created_anew }
 {}
 
-/// A new table takes the lowest frame that is unused, be it one that another space gave back.
+/// A new table takes the lowest frame that is unused, also one that another space gave back.
 #[tactic(auto, using(crate::proofs::RetireRows::frames_used_again))]
 pub fn frames_used_again()
     ensures { IsRun shootdowns.spaces_of_one_home retirements.frames_used_again }
@@ -306,7 +306,7 @@ pub fn refused_while_live()
     ensures { IsEachDueAfter retire_refusals.three_spaces [] retire_refusals.while_live }
 {}
 
-/// A Retire wants a free ticket, and says so last.
+/// A Retire needs a free ticket, which is tested last.
 #[tactic(auto, using(crate::proofs::RetireRows::no_ticket_left, crate::proofs::RetireRows::without_ticket, crate::proofs::RetireRows::retired_with_the_last_ticket, crate::proofs::RetireRows::retired_without_ticket))]
 pub fn refused_without_ticket()
     ensures before { IsRun retire_refusals.three_spaces retire_refusals.no_ticket_left }
@@ -329,7 +329,8 @@ pub fn refused_while_free()
     ensures each { IsEachDueAfter retire_refusals.three_spaces retire_refusals.free retire_refusals.while_free }
 {}
 
-/// A Reclaim wants each hart collected for the last retirement, be its ticket open, finished, or another order's by now.
+/// A Reclaim needs each hart collected for the last retirement, whether its ticket is open, finished
+/// or another order's by now.
 #[tactic(auto, using(crate::proofs::RetireRows::collected_once_more))]
 pub fn collected_for_each_retirement()
     ensures { IsRun retire_refusals.three_spaces retire_refusals.collected_once_more }
