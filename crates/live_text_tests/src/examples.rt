@@ -71,7 +71,7 @@ const FRAME_USED_TOO_EARLY: &str =
 #
 # In each run the line `1 4` is `pa 0x100008`, by the entry that hart 1 still holds. The line `1 2` tells whether that
 # was too late: at `trap 13 Invalid` space 1 did not have the frame yet; at `pa 0x100008` it did, and hart 1 reaches one
-# frame through both spaces. How often it shows is up to the machine:
+# frame through both spaces. How often it shows is up to the machine (after `./svsim prove`):
 #
 #     for i in $(seq 1000); do ./svsim live examples/live-frame-used-too-early.toml | grep '^1 2'; done | sort | uniq -c
 #
