@@ -2,12 +2,15 @@
 use Rattle.std.proofs.Common.{ap}
 use Rattle.tlb.specs.Service.{served}
 use Rattle.shoot.proofs.AcknowledgementWords.{same_what}
-use Rattle.views.specs.Board.{AcknowledgedIsClean, CollectedIsClean, EqualWordsAskForEqualService, UnmappedStaysUnmapped}
+use Rattle.views.specs.Board.{AcknowledgedIsClean, CollectedIsClean, EqualWordsAskForEqualService, UnmappedStaysUnmapped, own_words, shared_words}
 use Rattle.views.proofs.Fills.{unmapped-shared}
 use Rattle.views.proofs.OrderKeeps.{clear}
 
-pub unmapped_stays : UnmappedStaysUnmapped
-unmapped_stays c s b i v at n k at-k place page live = ((b.orders.kept i v at n k at-k place page live).unmapped, unmapped-shared c s b.tables b.orders i v at n k at-k place page live)
+pub unmapped_own : UnmappedStaysUnmapped own_words
+unmapped_own c s b i v at n k at-k place page live = (b.orders.kept i v at n k at-k place page live).unmapped
+
+pub unmapped_shared : UnmappedStaysUnmapped shared_words
+unmapped_shared c s b i v at n k at-k place page live = unmapped-shared c s b.tables b.orders i v at n k at-k place page live
 
 pub acknowledged_is_clean : AcknowledgedIsClean
 acknowledged_is_clean c s b i v at n k at-k place page live h small armed now j w at-w is asid va of holds =

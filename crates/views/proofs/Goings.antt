@@ -36,6 +36,7 @@ pub record IsGoingHome (l : Layout) (v w : View) (st : Stage) (word : ℕ) : Typ
 -- a walk in mid course: its last word was found, and not yet taken
 pub record IsGoing (l : Layout) (v : View) (root va : ℕ) (access : Access) (ctx : Ctx) (st : Stage) (word : ℕ) (w : View) : Type 0 where
   pub about : IsFor st va access ctx
+  pub canonical : IsCanonical l.scheme va
   pub on : (words : Tables) → Has words w.reads → OnPath l.scheme words root st × (words st.table (vpn_of st.va st.level) ≡ Some word)
   pub frame : TellsFrame l st word
   pub some_memory : (words : Tables) × Has words w.reads
@@ -73,6 +74,7 @@ module _ (l : Layout) (v : View) (local : Local l v) (root va : ℕ) (access : A
       → IsGoing l v root va access ctx (start_of l.scheme root va access ctx) word (walked v root (start_of l.scheme root va access ctx) [] word)
   begun-at word canonical tells = record {
     about = record { same_va = refl; same_access = refl; same_ctx = refl };
+    canonical = canonical;
     on = λ words has. (on_path-start l.scheme words root va access ctx canonical, has.0);
     frame = tells.frame;
     some_memory = tells.some_memory;
@@ -131,6 +133,7 @@ module _ (l : Layout) (v : View) (local : Local l v) (root va : ℕ) (access : A
         let some = goes going.some_memory.0 going.some_memory.1 (progress.More next) is in
         record {
           about = same-access next st va access ctx some.2 going.about;
+          canonical = going.canonical;
           on = λ words has.
               let parts = snoc-has words w.reads (read_of next found) has in
               let g = goes words parts.0 (progress.More next) is in

@@ -6,10 +6,13 @@ use Rattle.std.specs.Prelude.{Contains, ◌⊎◌, ◌%◌, None, if◌then◌el
 use mathlib.Core.Option.{some, some-injective, some-ne-none}
 use lib.ListN.{get_elem?}
 use Rattle.spaces.specs.declared.configuration.Config.{Config}
+use Rattle.pte.specs.declared.flags.PteFlags.{PteFlags}
 use Rattle.pte.specs.Address.{Holds, IsPage, Overlap, Span, pages_of}
 use Rattle.walk.specs.Pointers.{pointed}
 use Rattle.spaces.specs.declared.places.Place.{Place}
 use Rattle.spaces.specs.declared.places.Place.TheVariants.{Space, Kernel}
+use Rattle.spaces.specs.declared.wishes.Wish.TheVariants.{Map}
+use Rattle.spaces.specs.Edits.{Store}
 use Rattle.spaces.specs.Holders.{is_same_place}
 use Rattle.tlb.specs.Service.{overlaps}
 use Rattle.tlb.proofs.Overlapping.{overlaps-Overlap}
@@ -21,12 +24,13 @@ use Rattle.walk.proofs.Unique.{level_count_loads}
 use Rattle.views.specs.declared.view.Cause.{Cause}
 use Rattle.views.specs.declared.view.Cause.TheVariants.{Unmapped, Other}
 use Rattle.views.specs.declared.view.Order.{Order}
+use Rattle.views.specs.declared.view.View.{View}
 use Rattle.views.specs.Orders.{IsAsidFor, asid_in, is_over}
 use Rattle.spaces.specs.Layout.{layout_of}
 use Rattle.views.specs.Rule.{cell}
 use Rattle.shoot.proofs.AcknowledgementWords.{not_zero}
-use Rattle.views.specs.OrderTurns.{armed, last_word, looked, collected, for_ticket, fresh, marked, open_order}
-use Rattle.views.specs.Lasting.{CellsAreApart, CellsMeet, EditsMarkNothing, IsFor, KernelIsInEverySpace, MarkedByALeafOver, StepsMarkNothing, TranslatesNoneHoldsNone, UnmappingBeginsLive, WalkAnswersAsComputed, last_cell}
+use Rattle.views.specs.OrderTurns.{armed, last_word, looked, collected, for_ticket, fresh, marked, open_order, noted}
+use Rattle.views.specs.Lasting.{CellsAreApart, CellsMeet, EditsMarkNothing, IsFor, KernelIsInEverySpace, MarkedByALeafOver, StepsMarkNothing, TranslatesNoneHoldsNone, UnmappingBeginsLive, WalkAnswersAsComputed, WrongAddressChangesNothing, last_cell, unmarked}
 use Rattle.views.proofs.CellKeeps.{cell-inside}
 use Rattle.views.proofs.OrderKeeps.{receiver}
 
@@ -63,11 +67,11 @@ steps_mark_nothing v ticket hart word what is_found root st reads = (
     look false = refl
 
 pub edits_mark_nothing : EditsMarkNothing
-edits_mark_nothing c v ticket store place page ppn flags what = (refl, refl, refl, λ pointer. by (is_some (pointed (Some store.word))) pointer)
+edits_mark_nothing c v ticket store place page ppn flags what = (refl, refl, refl, λ pointer. by (is_some (pointed (Some store.word))) _ pointer)
   where
-    by : (t : Bool) → t ≡ true → map lasting (cond t v.orders (map (marked place page) v.orders)) ≡ map lasting v.orders
-    by true is = refl
-    by false is = absurd (false≢true is)
+    by : (t : Bool) (by_a_leaf : List Order) → t ≡ true → map lasting (cond t v.orders by_a_leaf) ≡ map lasting v.orders
+    by true by_a_leaf is = refl
+    by false by_a_leaf is = absurd (false≢true is)
 
 same-place : (p q : Place) → is_same_place p q ≡ true → q ≡ p
 same-place (Space s) (Space t) is = ap Space (sym (eqb-true s t is))
@@ -86,8 +90,18 @@ at-map f [] n k k' at at' = absurd (some-ne-none k (sym at))
 at-map f (x ∷ xs) zero k k' at at' = ap f (sym (some-injective x k at)) ∙ some-injective (f x) k' at'
 at-map f (x ∷ xs) (suc n) k k' at at' = at-map f xs n k k' at at'
 
-pub marked_by_a_leaf_over : MarkedByALeafOver
-marked_by_a_leaf_over c v ticket store place page ppn flags n k k' at at' was now = by (is_some (pointed (Some store.word))) at'
+-- a mark changes nothing else of an order
+but-for-marks : (place : Place) (page : Span) (ks : List Order) → map unmarked (map (marked place page) ks) ≡ map unmarked ks
+but-for-marks place page [] = refl
+but-for-marks place page (k ∷ ks) = ap (λ xs. unmarked k ∷ xs) (but-for-marks place page ks)
+
+kept-by-a-map : (place : Place) (page : Span) (ks : List Order) (is_pointer : Bool) → map unmarked (cond is_pointer ks (map (marked place page) ks)) ≡ map unmarked ks
+kept-by-a-map place page ks true = refl
+kept-by-a-map place page ks false = but-for-marks place page ks
+
+marked-over : (c : Config) (v : View) (ticket : ℕ) (store : Store) (place : Place) (page : Span) (ppn : ℕ) (flags : PteFlags) (n : ℕ) (k k' : Order) → get_elem? v.orders n ≡ some k
+    → get_elem? (noted c (Map place page ppn flags) ticket v store).orders n ≡ some k' → k.anew ≡ false → k'.anew ≡ true → (over : Span) × (k.cause ≡ Unmapped place over) × Overlap over page
+marked-over c v ticket store place page ppn flags n k k' at at' was now = by (is_some (pointed (Some store.word))) at'
   where
     by : (t : Bool) → get_elem? (cond t v.orders (map (marked place page) v.orders)) n ≡ some k' → (over : Span) × (k.cause ≡ Unmapped place over) × Overlap over page
     by true e =
@@ -100,8 +114,12 @@ marked_by_a_leaf_over c v ticket store place page ppn flags n k k' at at' was no
           | inr before ↦ absurd (false≢true (sym was ∙ before))
         ]
 
+pub marked_by_a_leaf_over : MarkedByALeafOver
+marked_by_a_leaf_over c v ticket store place page ppn flags =
+    (kept-by-a-map place page v.orders (is_some (pointed (Some store.word))), λ n k k' at at' was now. marked-over c v ticket store place page ppn flags n k k' at at' was now)
+
 pub kernel_is_in_every_space : KernelIsInEverySpace
-kernel_is_in_every_space c asid = (tt, λ s. refl)
+kernel_is_in_every_space c asid = (tt, λ s. (λ is. is, λ is. is))
 
 -- a row is read from what stands in it
 by-rows : (width s h s' h' : ℕ) → h < width → h' < width → s * width + h ≡ s' * width + h' → s ≡ s'
@@ -162,3 +180,7 @@ cells_meet sender receiver ticket word what is_found same =
 pub walk_answers_as_computed : WalkAnswersAsComputed
 walk_answers_as_computed l v w root va access ctx answer canonical a =
     (a.some_memory, (λ words has. (level_count_loads l.scheme words root va access ctx answer canonical).0 (a.each_memory words has)), omega (arith, a.count, a.few), a.home.orders, a.home.words, a.home.holders)
+
+pub wrong_address_changes_nothing : WrongAddressChangesNothing
+wrong_address_changes_nothing l v w root va access ctx answer wrong (inl as-it-was) = (as-it-was.1, as-it-was.2)
+wrong_address_changes_nothing l v w root va access ctx answer wrong (inr by-loads) = absurd (wrong by-loads.0)

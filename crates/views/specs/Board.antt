@@ -35,11 +35,17 @@ abbrev pub Steps : Config → ℕ → View → ℕ → (ℕ → ℕ) → (ℕ �
 Steps c id v i f after tells = (s : State ℕ View) → Board c s → get_elem? s.views id ≡ some v → slice_index s.words i < 2 ^ 64
     → Board c record { words = slice_set s.words i (f (slice_index s.words i)); homes = s.homes; views = slice_set s.views id (after (slice_index s.words i)) } × tells (slice_index s.words i)
 
--- while an unmapping is not marked anew, nothing that its home's words map, or the shared words, lies in its page
-abbrev pub UnmappedStaysUnmapped : Type 0
-UnmappedStaysUnmapped = (c : Config) (s : State ℕ View) → Board c s → (i : ℕ) (v : View) → get_elem? s.views i ≡ some v → (n : ℕ) (k : Order) → get_elem? v.orders n ≡ some k
-    → (place : Place) (page : Span) → IsLive k place page
-    → IsUnmapped (layout_of c) (words_of (memory_of (layout_of c) v)) place page × IsUnmapped (layout_of c) (tables_in (layout_of c) s.words) place page
+-- while an unmapping in a view is not marked anew, nothing that these words map lies in its page
+abbrev pub UnmappedStaysUnmapped : (Config → State ℕ View → View → Tables) → Type 0
+UnmappedStaysUnmapped words_at = (c : Config) (s : State ℕ View) → Board c s → (i : ℕ) (v : View) → get_elem? s.views i ≡ some v → (n : ℕ) (k : Order)
+    → get_elem? v.orders n ≡ some k → (place : Place) (page : Span) → IsLive k place page → IsUnmapped (layout_of c) (words_at c s v) place page
+
+-- the words as the home's view has them, and the shared words
+abbrev pub own_words : Config → State ℕ View → View → Tables
+own_words c s v = words_of (memory_of (layout_of c) v)
+
+abbrev pub shared_words : Config → State ℕ View → View → Tables
+shared_words c s v = tables_in (layout_of c) s.words
 
 -- an aligned leaf leads at no address of the page, from the root of a space that the place's tables hang below
 abbrev pub NoLeafLeads : Layout → Tables → Place → Span → Type 0

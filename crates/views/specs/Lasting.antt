@@ -1,5 +1,5 @@
 -- How long an order lasts: what each step leaves of it, and what marks it anew.
-use Rattle.std.specs.Prelude.{◌≡◌, ◌≢◌, ◌+◌, Result, ◌<◌, ◌≤◌, ◌⊎◌, Contains, ℕ, Bool, true, false, is_some, List, [], ◌∷◌, map, length, Option, Some, None}
+use Rattle.std.specs.Prelude.{◌≡◌, ◌≢◌, ◌+◌, Result, ◌<◌, ◌≤◌, ◌⊎◌, ◌↔◌, Contains, ℕ, Bool, true, false, is_some, List, [], ◌∷◌, map, length, Option, Some, None, Err}
 use mathlib.Core.Option.{some}
 use lib.ListN.{get_elem?}
 use Rattle.pte.specs.declared.flags.PteFlags.{PteFlags}
@@ -11,6 +11,8 @@ use Rattle.pte.specs.declared.permission.Access.{Access}
 use Rattle.pte.specs.declared.permission.Ctx.{Ctx}
 use Rattle.walk.specs.declared.found_or_trap.Found.{Found as FoundOf}
 use Rattle.walk.specs.declared.found_or_trap.Trap.{Trap}
+use Rattle.walk.specs.declared.found_or_trap.Why.TheVariants.{NotCanonical}
+use Rattle.walk.specs.Answer.{page_trap}
 use Rattle.walk.specs.Leads.{Tables}
 use Rattle.walk.specs.Loads.{answer_after}
 use Rattle.walk.specs.Stage.{Stage, start_of}
@@ -34,7 +36,7 @@ use Rattle.views.specs.Rule.{Has, cell, size, tickets, board_size}
 use Rattle.views.specs.Orders.{IsAsidFor, IsLive, asid_for, asid_in}
 use Rattle.views.specs.OrderTurns.{acknowledged, last_word, looked, noted, open_order, ordered, self_acked, with_armed}
 use Rattle.views.specs.Turns.{walked}
-use Rattle.views.specs.Walks.{AnswersByLoads}
+use Rattle.views.specs.Walks.{AnswersByLoads, Walked}
 use Rattle.views.specs.Board.{TranslatesNone}
 
 -- of each order its ticket, what it follows, and whether it was marked anew
@@ -61,15 +63,21 @@ EditsMarkNothing = (c : Config) (v : View) (ticket : ℕ) (store : Store) (place
     × (causes (noted c (Protect place page flags) ticket v store) ≡ (ticket, Other (PageOf page (asid_for c place)), false) ∷ causes v)
     × (is_some (pointed (Some store.word)) ≡ true → causes (noted c (Map place page ppn flags) ticket v store) ≡ causes v)
 
--- a map marks only what follows an unmapping in the same place of a page that it overlaps, and by a leaf
-abbrev pub MarkedByALeafOver : Type 0
-MarkedByALeafOver = (c : Config) (v : View) (ticket : ℕ) (store : Store) (place : Place) (page : Span) (ppn : ℕ) (flags : PteFlags) (n : ℕ) (k k' : Order)
-    → get_elem? v.orders n ≡ some k → get_elem? (noted c (Map place page ppn flags) ticket v store).orders n ≡ some k' → k.anew ≡ false → k'.anew ≡ true
-    → (over : Span) × (k.cause ≡ Unmapped place over) × Overlap over page
+-- an order but for its mark
+abbrev pub unmarked : Order → Order
+unmarked k = record k { anew = false }
 
--- a space has its own ASID alone, and the kernel is in the address spaces of all
+-- A map opens no order and drops none: each stands where it stood, and all of it but its mark stays. It marks only what follows an
+-- unmapping in the same place of a page that it overlaps, and by a leaf.
+abbrev pub MarkedByALeafOver : Type 0
+MarkedByALeafOver = (c : Config) (v : View) (ticket : ℕ) (store : Store) (place : Place) (page : Span) (ppn : ℕ) (flags : PteFlags)
+    → (map unmarked (noted c (Map place page ppn flags) ticket v store).orders ≡ map unmarked v.orders)
+    × ((n : ℕ) (k k' : Order) → get_elem? v.orders n ≡ some k → get_elem? (noted c (Map place page ppn flags) ticket v store).orders n ≡ some k' → k.anew ≡ false → k'.anew ≡ true
+    → (over : Span) × (k.cause ≡ Unmapped place over) × Overlap over page)
+
+-- the kernel is in the address spaces of all ASIDs, and a space in that of its own alone
 abbrev pub KernelIsInEverySpace : Type 0
-KernelIsInEverySpace = (c : Config) (asid : ℕ) → IsAsidFor c Kernel asid × ((s : ℕ) → IsAsidFor c (Space s) (asid_in c s))
+KernelIsInEverySpace = (c : Config) (asid : ℕ) → IsAsidFor c Kernel asid × ((s : ℕ) → IsAsidFor c (Space s) asid ↔ (asid ≡ asid_in c s))
 
 -- an entry that is for some address space of the place: a global one, one of the space's own ASID, or for the kernel any
 abbrev pub IsFor : Config → Place → Entry → Type 0
@@ -103,6 +111,11 @@ CellsMeet = (sender receiver : View) (ticket word : ℕ) (what : What) (is_found
     × (last_word (with_armed ticket receiver.hart sender).cell_steps ≡ 0)
     × (last_word (acknowledged sender.hart ticket what receiver).cell_steps ≡ acknowledgement what) × (acknowledgement what ≢ 0)
     × (last_word (looked ticket receiver.hart is_found word sender).cell_steps ≡ word)
+
+-- A walk of an address that is not canonical answers a page fault, and leaves the view as it was.
+abbrev pub WrongAddressChangesNothing : Type 0
+WrongAddressChangesNothing = (l : Layout) (v w : View) (root va : ℕ) (access : Access) (ctx : Ctx) (answer : Result FoundOf Trap) → ¬ IsCanonical l.scheme va
+    → Walked l v root va access ctx answer w → (answer ≡ Err (page_trap access NotCanonical)) × (w ≡ v)
 
 -- In each memory that has the words that a walk's loads found, and there is one, the walk's answer is the one that is computed by
 -- one load a level. It took at most as many loads as there are levels, and left the orders, the words and the holders.

@@ -53,8 +53,8 @@ pub record AnswersByLoads (l : Layout) (v : View) (root va : ℕ) (access : Acce
   pub entries : w.entries ≡ with_found (asid_at v.config root) v.entries answer
   pub home : IsSameHome v w
 
--- an address that is not canonical takes no load
+-- a walk makes loads for a canonical address alone
 abbrev pub Walked : Layout → View → ℕ → ℕ → Access → Ctx → Result Found Trap → View → Type 0
 Walked l v root va access ctx answer w =
     ((¬ IsCanonical l.scheme va) × (answer ≡ Err (page_trap access NotCanonical)) × (w ≡ v))
-    ⊎ AnswersByLoads l v root va access ctx answer w
+    ⊎ (IsCanonical l.scheme va × AnswersByLoads l v root va access ctx answer w)

@@ -11,8 +11,8 @@ ghost use Rattle.spaces.specs.Holders.{Holders};
 ghost use Rattle.spaces.specs.Tree.{IsAtHome, IsTree};
 ghost use Rattle.views.specs.declared.view.View.{View};
 ghost use Rattle.views.specs.Rule.{Has, tables_in};
-ghost use Rattle.views.specs.Board.{AcknowledgedIsClean, Board, CollectedIsClean, EqualWordsAskForEqualService, IsAsSaid, LeavesAreGlobalInWindow, MappingsAreGlobalInWindow, UnmappedIsWhereNoLeafLeads, UnmappedStaysUnmapped};
-ghost use Rattle.views.specs.Lasting.{CellsAreApart, CellsMeet, EachEditIsOneStore, EditsMarkNothing, KernelIsInEverySpace, MarkedByALeafOver, StepsMarkNothing, TranslatesNoneHoldsNone, UnmappingBeginsLive, WalkAnswersAsComputed};
+ghost use Rattle.views.specs.Board.{AcknowledgedIsClean, Board, CollectedIsClean, EqualWordsAskForEqualService, IsAsSaid, LeavesAreGlobalInWindow, MappingsAreGlobalInWindow, UnmappedIsWhereNoLeafLeads, UnmappedStaysUnmapped, own_words, shared_words};
+ghost use Rattle.views.specs.Lasting.{CellsAreApart, CellsMeet, EachEditIsOneStore, EditsMarkNothing, KernelIsInEverySpace, MarkedByALeafOver, StepsMarkNothing, TranslatesNoneHoldsNone, UnmappingBeginsLive, WalkAnswersAsComputed, WrongAddressChangesNothing};
 
 /// Once a hart was collected for an unmapping whose page is not mapped anew, what it filled translates no address of the page in
 /// any address space of the place.
@@ -23,7 +23,8 @@ pub fn collected_is_clean()
 /// While an unmapping in a home's view is not marked anew, nothing that the home's words map from a root of its place, or the
 /// shared words, lies in its page.
 pub fn unmapped_page_stays_unmapped()
-    ensures { UnmappedStaysUnmapped }
+    ensures own { UnmappedStaysUnmapped own_words }
+    ensures shared { UnmappedStaysUnmapped shared_words }
 {}
 
 /// A leaf of the table words, and a mapping that a hart holds, is global exactly in the window.
@@ -76,14 +77,15 @@ pub fn unmapping_begins_live()
 {}
 
 /// No step marks an order anew but the store of a leaf, and that only where the order follows an unmapping in the same place of
-/// a page that the leaf's overlaps. So until then the laws of live orders hold.
+/// a page that the leaf's overlaps. So until then the laws of live orders hold. No step drops an order, and none changes its
+/// ticket or what it follows.
 pub fn only_a_leaf_over_the_page_marks_anew()
     ensures steps { StepsMarkNothing }
     ensures edits { EditsMarkNothing }
     ensures leaf { MarkedByALeafOver }
 {}
 
-/// A page of the kernel is in the address space of every ASID, and one of a space in that of its own.
+/// A page of the kernel is in the address space of every ASID, and one of a space in that of its own alone.
 pub fn kernel_is_in_every_space()
     ensures { KernelIsInEverySpace }
 {}
@@ -111,6 +113,12 @@ pub fn translates_none_holds_none()
 /// levels, and changes no order and nothing of what its hart edits.
 pub fn walk_answers_as_computed()
     ensures { WalkAnswersAsComputed }
+{}
+
+/// A walk of an address that is not canonical, which `Walked` tells from the others, answers a page fault and leaves the view as
+/// it was: it counts no load and fills nothing.
+pub fn walk_of_a_wrong_address_changes_nothing()
+    ensures { WrongAddressChangesNothing }
 {}
 
 /// A view counts the store of each edit, so no edit is accepted without one.

@@ -12,7 +12,7 @@ use Rattle.board.proofs.translating.walk_words.Goals as goal
 by-loads : (l : Layout) (v : View) (root va : ℕ) (access : Access) (ctx : Ctx) (answer : Result Found Trap) (w : View)
     → IsCanonical l.scheme va → Walked l v root va access ctx answer w → AnswersByLoads l v root va access ctx answer w
 by-loads l v root va access ctx answer w canonical (inl not-canonical) = absurd (not-canonical.0 canonical)
-by-loads l v root va access ctx answer w canonical (inr loads) = loads
+by-loads l v root va access ctx answer w canonical (inr loads) = loads.1
 
 pub returns : goal.returns
 returns c =

@@ -21,11 +21,11 @@ loop-next-preserved c = record {
 
 pub returns-in-Found-clause-walked : goal.returns-in-Found-clause-walked
 returns-in-Found-clause-walked c =
-    inr (found-at (layout_of c.args.config.now) c.args.seat.now.me.0 c.requires.fit.local c.args.root c.args.va c.args.access c.args.ctx c.loop-next.walk c.loop-next.word c.loop-next.seat.me.0 c.loop-next.invariant.going c.in-Found.found c.in-Found.ensures)
+    inr (c.loop-next.invariant.going.canonical, found-at (layout_of c.args.config.now) c.args.seat.now.me.0 c.requires.fit.local c.args.root c.args.va c.args.access c.args.ctx c.loop-next.walk c.loop-next.word c.loop-next.seat.me.0 c.loop-next.invariant.going c.in-Found.found c.in-Found.ensures)
 
 pub returns-in-Trap-clause-walked : goal.returns-in-Trap-clause-walked
 returns-in-Trap-clause-walked c =
-    inr (trap-at (layout_of c.args.config.now) c.args.seat.now.me.0 c.requires.fit.local c.args.root c.args.va c.args.access c.args.ctx c.loop-next.walk c.loop-next.word c.loop-next.seat.me.0 c.loop-next.invariant.going c.in-Trap.trap c.in-Trap.ensures)
+    inr (c.loop-next.invariant.going.canonical, trap-at (layout_of c.args.config.now) c.args.seat.now.me.0 c.requires.fit.local c.args.root c.args.va c.args.access c.args.ctx c.loop-next.walk c.loop-next.word c.loop-next.seat.me.0 c.loop-next.invariant.going c.in-Trap.trap c.in-Trap.ensures)
 
 pub loop-next-smaller : goal.loop-next-smaller
 loop-next-smaller c =
