@@ -64,6 +64,10 @@ is_number m space = nat_lt space (length m.spaces)
 abbrev pub is_space : State → ℕ → Bool
 is_space m space = is_number m space && not (is_free (space_at m space).phase)
 
+-- the ASID of a space that is there and not free
+abbrev pub asid_of_space : State → ℕ → Option ℕ
+asid_of_space m space = if is_space m space then Some (space_at m space).asid else None
+
 abbrev pub is_place : State → Place → Bool
 is_place m (Space space) = is_space m space
 is_place m Kernel = true

@@ -30,7 +30,7 @@ pub(crate) enum AtOnce {
 
 /// A hart: the space that it runs in, the walk in flight, the request that it serves, and its TLB.
 #[derive(Drop)]
-pub(crate) struct Hart {
+pub struct Hart {
     space: u8,
     walk: Option<Walk>,
     serving: Option<Serving>,
@@ -58,19 +58,22 @@ impl Hart {
         }
     }
 
-    pub(crate) fn space(&self) -> u8
+    /// The space that it runs in.
+    pub fn space(&self) -> u8
         ensures { result ≡ self.now.space }
     {
         self.space
     }
 
-    pub(crate) fn walk(&self) -> Option<Walk>
+    /// Its walk in flight.
+    pub fn walk(&self) -> Option<Walk>
         ensures { result ≡ self.now.walk }
     {
         self.walk
     }
 
-    pub(crate) fn serving(&self) -> Option<Serving>
+    /// The request that it serves.
+    pub fn serving(&self) -> Option<Serving>
         ensures { result ≡ self.now.serving }
     {
         self.serving
@@ -88,8 +91,8 @@ impl Hart {
         self.serving.is_some()
     }
 
-    /// The oldest entry of the TLB that matches.
-    pub(crate) fn lookup(&self, asid: u16, va: VirtAddr) -> Option<Entry>
+    /// The oldest entry of the TLB that matches an address for an ASID.
+    pub fn lookup(&self, asid: u16, va: VirtAddr) -> Option<Entry>
         ensures oldest { result ≡ first_match self.now.entries asid va }
         ensures translates { IsSome result ↔ Translates (IsMappedBy self.now.entries) asid va }
     {

@@ -13,7 +13,9 @@ mod shootdown;
 mod space_state;
 mod spaces_kept;
 
+pub use hart::Hart;
 pub use history::{Event, Refusal, Reply, Scope};
 pub use machine::Machine;
+pub use serving::Serving;
 pub use shoot::Request;
 pub use spaces::{Config, OpenFault, Place, Space};

@@ -1,6 +1,6 @@
 //! The machine, and what is there.
 
-ghost use Rattle.std.specs.Prelude.{◌≡◌, ◌<◌, length, IsTrue};
+ghost use Rattle.std.specs.Prelude.{◌≡◌, ◌<◌, length, IsSome, IsTrue};
 ghost use Rattle.spaces.specs.Held.{IsMemory};
 ghost use Rattle.spaces.specs.Layout.{HasPlace};
 ghost use Rattle.stepcore.specs.State.{setup_in, hart_at, space_at, tickets_at, mailbox_at, mailbox_index};
@@ -50,13 +50,34 @@ impl Model for Machine {
 impl Machine {
     ghost use Rattle.history.specs.Due.{are_pair, are_harts};
     ghost use Rattle.history.specs.Setup.{is_hart};
-    ghost use Rattle.stepcore.specs.Answers.{asid_in, is_free, is_number, is_place, is_retiring, is_scope, is_space, retires, scope_retires};
+    ghost use Rattle.stepcore.specs.Answers.{asid_in, asid_of_space, is_free, is_number, is_place, is_retiring, is_scope, is_space, retires, scope_retires};
 
     /// How many harts there are, with numbers from 0 on.
     pub fn harts(&self) -> u8
         ensures { result ≡ length self.now.harts }
     {
         self.harts.len() as u8
+    }
+
+    /// Table memory.
+    pub fn memory(&self) -> &Memory
+        ensures { result.now ≡ self.now.memory }
+    {
+        &self.memory
+    }
+
+    /// The ASID of a space that is live or retiring.
+    pub fn asid_of_space(&self, space: u8) -> Option<u16>
+        ensures value { result ≡ asid_of_space self.now space }
+        ensures there { IsSome result → space < length self.now.memory.layout.homes }
+    {
+        // A machine tells here that it has as many spaces as roots.
+        let _memory = &self.memory;
+        if self.is_space(space) {
+            Some(self.space(space).asid)
+        } else {
+            None
+        }
     }
 
     /// Whether the hart is there.
@@ -150,14 +171,16 @@ impl Machine {
         }
     }
 
-    pub(crate) fn hart(&self, hart: u8) -> &Hart
+    /// A hart that is there: its space, its walk, what it serves, and its TLB.
+    pub fn hart(&self, hart: u8) -> &Hart
         requires { hart < length self.now.harts }
         ensures { result.now ≡ hart_at self.now hart }
     {
         &self.harts[usize::from(hart)]
     }
 
-    pub(crate) fn tickets(&self, hart: u8) -> &Tickets
+    /// The tickets of a hart that is there.
+    pub fn tickets(&self, hart: u8) -> &Tickets
         requires { hart < length self.now.harts }
         ensures { result.now ≡ tickets_at self.now hart }
     {
@@ -184,8 +207,8 @@ impl Machine {
         mailbox_index(sender, receiver)
     }
 
-    /// The ASID of the space that the hart runs in.
-    pub(crate) fn asid(&self, hart: u8) -> u16
+    /// The ASID of the space that a hart runs in.
+    pub fn asid(&self, hart: u8) -> u16
         requires { hart < length self.now.harts }
         ensures { result ≡ asid_in self.now (hart_at self.now hart) }
     {

@@ -5,7 +5,7 @@ ghost use Rattle.history.specs.Setup.{Setup};
 ghost use Rattle.history.specs.Turns.{History};
 ghost use Rattle.history.specs.Runs.{due_replies, with_turn};
 ghost use Rattle.history.specs.Due.{due};
-ghost use Rattle.stepcore.specs.Changes.{is_accepted};
+ghost use Rattle.stepcore.specs.Changes.{Follows, is_accepted};
 ghost use Rattle.stepcore.specs.Runs.{after_run, appended, AreDue, HartsAreInLiveSpaces, IsClear, IsClearOnceDone, IsCoherent, MailboxesKeepOrder, NothingAfterCloses, TlbsHoldUsedAsids, WalksHoldUsedFrames};
 ghost use Rattle.stepcore.specs.Stands.{Stands};
 
@@ -21,6 +21,7 @@ impl Machine {
     /// walk has come to an unused table frame.
     pub fn step(&mut self, event: Event) -> Reply
         ensures stands { (C : Setup) (H : History) → Stands C self.old H → Stands C self.new (with_turn event result H) }
+        ensures follows { Follows self.old event result self.new }
         ensures due { (C : Setup) (H : History) → Stands C self.old H → result ≡ due C H event }
         ensures refused { is_accepted result ≡ false → self.new ≡ self.old }
         ensures mailboxes { (C : Setup) (H : History) → Stands C self.old H → MailboxesKeepOrder C (with_turn event result H) self.new }
