@@ -1,0 +1,14 @@
+use Rattle.std.proofs.Common.{◌≡◌}
+use Rattle.history.specs.Setup.{Setup}
+use Rattle.history.specs.Turns.{History}
+use Rattle.stepcore.specs.Stands.{Stands}
+use Rattle.stale.specs.UseRuns.{history_at}
+use Rattle.stale.proofs.Telling.{AreTold}
+use Rattle.stale.proofs.runs.stale_uses.Given as goal
+
+abbrev pub invariant-loop-event : goal.invariant-loop-event
+invariant-loop-event l = record {
+  count : l.step ≡ l.event-index;
+  stands : (C : Setup) (H : History) → Stands C l.fn.machine H → Stands C l.machine (history_at C H l.events l.event-index);
+  told : (C : Setup) (H : History) → Stands C l.fn.machine H → AreTold C H l.events l.event-index l.uses.items;
+}

@@ -1,0 +1,4 @@
+pub mod Stale
+pub mod Mapped
+pub mod Uses
+pub mod UseRuns

@@ -1,0 +1,122 @@
+//! Whether the tables map now what a TLB entry holds.
+
+ghost use Rattle.std.specs.Prelude.{◌≡◌, ◌<◌, ◌^◌, ◌↔◌, IsTrue, None, length};
+ghost use Rattle.pte.specs.Entry.{ppn_bits};
+ghost use Rattle.walk.specs.Answer.{flags_fault};
+ghost use Rattle.walk.specs.Maps.{page_number};
+ghost use Rattle.history.specs.Setup.{Setup};
+ghost use Rattle.history.specs.Turns.{History};
+ghost use Rattle.history.specs.Staleness.{IsMappedNow};
+ghost use Rattle.walk.specs.Outcome.{Outcome};
+ghost use Rattle.spaces.specs.Held.{words_of};
+ghost use Rattle.spaces.specs.Layout.{root_ppn};
+ghost use Rattle.stepcore.specs.Stands.{Stands};
+ghost use Rattle.stale.specs.Mapped.{has_asid, is_reached, IsMappedFrom, IsMappedIn, mapping_of, reach_of};
+
+use pte::{Access, Ctx, PAGE_BYTES, VirtAddr};
+use spaces::{MAX_SPACES, Memory, Place};
+use stepcore::Machine;
+use tlb::Entry;
+use walk::{Found, Trap, translate_in};
+
+/// Whether the entry is global, or the space has its ASID.
+fn has_asid(machine: &Machine, entry: &Entry, space: u8) -> bool
+    ensures { result ≡ has_asid machine.now (reach_of entry.now) space }
+{
+    if entry.global {
+        return true;
+    }
+    match machine.asid_of_space(space) {
+        Some(asid) => asid == entry.asid,
+        None => false,
+    }
+}
+
+/// Whether the pages of an entry's ASID, or of every one, are reached through a space.
+fn is_reached(machine: &Machine, entry: &Entry, space: u8) -> bool
+    ensures value { result ≡ is_reached machine.now (reach_of entry.now) space }
+    ensures there { IsTrue result → space < length machine.now.memory.layout.homes }
+{
+    machine.memory().has(Place::Space(space)) && has_asid(machine, entry, space)
+}
+
+/// Whether the PPN is that of the entry's page at an address.
+fn is_frame_of(entry: &Entry, va: VirtAddr, ppn: u64) -> bool
+    ensures { IsTrue result ↔ (ppn ≡ (mapping_of entry.now (page_number va)).ppn) }
+{
+    let place = va.get() / PAGE_BYTES % entry.page.size().pages();
+    ppn.checked_sub(entry.ppn) == Some(place)
+}
+
+/// Whether a walk found the mapping that the entry has.
+fn is_found(entry: &Entry, va: VirtAddr, found: &Found) -> bool
+    ensures { IsTrue result ↔ ((page_number found.now.pa ≡ (mapping_of entry.now (page_number va)).ppn) × (found.now.flags ≡ entry.now.flags) × (found.now.global ≡ entry.now.global)) }
+{
+    is_frame_of(entry, va, found.pa / PAGE_BYTES)
+        && found.flags == entry.flags
+        && found.global == entry.global
+}
+
+/// What a walk of an access from the root of a space answers.
+fn walked(memory: &Memory, space: u8, va: VirtAddr, access: Access, ctx: Ctx) -> Result<Found, Trap>
+    requires { space < length memory.now.layout.homes }
+    ensures { Outcome memory.now.layout.scheme (words_of memory.now) (root_ppn memory.now.layout space) va access ctx result }
+{
+    let root = memory.root(space);
+    translate_in(memory.scheme(), memory, root, va.get(), access, ctx)
+}
+
+/// Whether the tables of a space map the entry's page at an address as the entry does. The entry answers this access of the address.
+fn is_mapped_from(
+    memory: &Memory,
+    space: u8,
+    entry: &Entry,
+    va: VirtAddr,
+    access: Access,
+    ctx: Ctx,
+) -> bool
+    requires there { space < length memory.now.layout.homes }
+    requires answers { flags_fault access ctx entry.now.flags ≡ None }
+    ensures { IsTrue result ↔ IsMappedFrom memory.now space (mapping_of entry.now (page_number va)) }
+{
+    match walked(memory, space, va, access, ctx) {
+        Ok(found) => is_found(entry, va, &found),
+        Err(_) => false,
+    }
+}
+
+/// Whether the tables map the entry's page at an address as the entry does, in each space of the entry's ASID, and there is
+/// one. The entry answers this access of the address.
+fn is_mapped(machine: &Machine, entry: &Entry, va: VirtAddr, access: Access, ctx: Ctx) -> bool
+    requires answers { flags_fault access ctx entry.now.flags ≡ None }
+    ensures { IsTrue result ↔ IsMappedIn machine.now (mapping_of entry.now (page_number va)) }
+{
+    let memory = machine.memory();
+    // A memory tells here how many spaces there can be.
+    let _kernel = memory.has(Place::Kernel);
+    let mut is_some = false;
+    for space in 0..MAX_SPACES as u8 {
+        if is_reached(machine, entry, space) {
+            if !is_mapped_from(memory, space, entry, va, access, ctx) {
+                return false;
+            }
+            is_some = true;
+        }
+    }
+    is_some
+}
+
+/// Whether the tables map the entry's page at an address as the entry does: there is a live or retiring space of the entry's ASID,
+/// for a global entry any space, and the tables of each map it so. The entry answers this access of the address.
+pub fn is_mapped_now(
+    machine: &Machine,
+    entry: &Entry,
+    va: VirtAddr,
+    access: Access,
+    ctx: Ctx,
+) -> bool
+    requires answers { flags_fault access ctx entry.now.flags ≡ None }
+    ensures { (C : Setup) (H : History) → Stands C machine.now H → IsTrue result ↔ IsMappedNow C H (reach_of entry.now) (mapping_of entry.now (page_number va)) }
+{
+    is_mapped(machine, entry, va, access, ctx)
+}
