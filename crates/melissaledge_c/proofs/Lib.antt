@@ -1,0 +1,3 @@
+pub mod LooseValues
+pub mod MachineValues
+pub mod TlbValues

@@ -1,0 +1,13 @@
+pub mod Codes
+pub mod Configs
+pub mod Events
+pub mod Flat
+pub mod MachineHeld
+pub mod MachineLoose
+pub mod Machines
+pub mod Replies
+pub mod Requests
+pub mod TlbHeld
+pub mod TlbLoose
+pub mod Tlbs
+pub mod Translations
