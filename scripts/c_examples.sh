@@ -1,0 +1,45 @@
+#!/bin/bash
+# The C interface: builds the static library, builds the C programs of examples/c over it with all warnings as errors, runs
+# them, and compares what they print with what they must print: examples/c/NAME.out, and for bad_arguments no wrong call.
+#
+#     scripts/c_examples.sh
+#
+# Needs rt, a C compiler ($CC, else cc), bash and coreutils; the toolchain's liblibc_c.a (rattle_alloc and the like, over malloc)
+# is found by `rt doc`. The last line is `N passed, M failed`. The gate runs no C, so this is no part of it.
+set -u
+unset CDPATH
+top=$(cd "$(dirname "$0")/.." && pwd)
+kit=$(cd "$top" && dirname "$(rt doc)")
+heap=$kit/c/liblibc_c.a
+crate=$top/crates/melissaledge_c
+[ -f "$heap" ] || { echo "c_examples: $heap is not there" >&2; exit 2; }
+(cd "$crate" && rt lib) || { echo 'c_examples: the library is not built' >&2; exit 2; }
+own=$(mktemp -d)
+trap 'rm -rf "$own"' EXIT
+trap 'exit 130' HUP INT TERM
+passed=0
+failed=0
+
+# Whether a program builds, ends with status 0 and prints the file WANTED.
+judge() {
+    local name=$1 wanted=$2
+    if ! ${CC:-cc} -Wall -Wextra -Werror -std=c11 -O2 -I "$crate/include" "$top/examples/c/$name.c" \
+        "$crate/out/libmelissaledge_c.a" "$heap" -o "$own/$name"; then
+        echo "FAILED $name: it does not build"
+        failed=$((failed + 1))
+    elif ! timeout 60 "$own/$name" >"$own/$name.out"; then
+        echo "FAILED $name: $(tail -n 5 "$own/$name.out")"
+        failed=$((failed + 1))
+    elif ! cmp "$own/$name.out" "$wanted"; then
+        echo "FAILED $name: other output"
+        failed=$((failed + 1))
+    else
+        passed=$((passed + 1))
+    fi
+}
+
+judge access_path "$top/examples/c/access_path.out"
+judge superpage_shootdown "$top/examples/c/superpage_shootdown.out"
+judge bad_arguments "$top/examples/c/bad_arguments.out"
+echo "$passed passed, $failed failed"
+[ "$failed" = 0 ]
