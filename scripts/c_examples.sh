@@ -1,10 +1,10 @@
 #!/bin/bash
 # The C interface: builds the static library, builds the C programs of examples/c over it with all warnings as errors, runs
-# them, and compares what they print with what they must print: examples/c/NAME.out, and for bad_arguments no wrong call.
+# them, and compares what they print with what they must print: examples/c/NAME.out.
 #
 #     scripts/c_examples.sh
 #
-# Needs rt, a C compiler ($CC, else cc), bash and coreutils; the toolchain's liblibc_c.a (rattle_alloc and the like, over malloc)
+# Needs rt, a C compiler ($CC, else cc) with a linker that knows --wrap, bash and coreutils; the toolchain's liblibc_c.a (rattle_alloc and the like, over malloc)
 # is found by `rt doc`. The last line is `N passed, M failed`. The gate runs no C, so this is no part of it.
 set -u
 unset CDPATH
@@ -20,11 +20,12 @@ trap 'exit 130' HUP INT TERM
 passed=0
 failed=0
 
-# Whether a program builds, ends with status 0 and prints the file WANTED.
+# Whether a program builds, with these flags too, ends with status 0 and prints what it must.
 judge() {
-    local name=$1 wanted=$2
+    local name=$1 wanted=$top/examples/c/$1.out
+    shift
     if ! ${CC:-cc} -Wall -Wextra -Werror -std=c11 -O2 -I "$crate/include" "$top/examples/c/$name.c" \
-        "$crate/out/libmelissaledge_c.a" "$heap" -o "$own/$name"; then
+        "$crate/out/libmelissaledge_c.a" "$heap" "$@" -o "$own/$name"; then
         echo "FAILED $name: it does not build"
         failed=$((failed + 1))
     elif ! timeout 60 "$own/$name" >"$own/$name.out"; then
@@ -38,8 +39,9 @@ judge() {
     fi
 }
 
-judge access_path "$top/examples/c/access_path.out"
-judge superpage_shootdown "$top/examples/c/superpage_shootdown.out"
-judge bad_arguments "$top/examples/c/bad_arguments.out"
+judge access_path
+judge superpage_shootdown
+judge bad_arguments
+judge no_memory -Wl,--wrap=malloc,--wrap=free
 echo "$passed passed, $failed failed"
 [ "$failed" = 0 ]
