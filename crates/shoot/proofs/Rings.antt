@@ -17,7 +17,7 @@ module _ {X : Type 0} (N k n : ℕ) (places : List X) (start : k < N) (fits : n 
   pub length-around : length (around k n places) ≡ n
   length-around = length-take-le n _ (simp (length-append, length-drop) (omega (arith, length-take-le k places (omega arith))))
 
-  get_or-around : (i : ℕ) (d : X) → i < n → get_or (around k n places) i d ≡ get_or places ((k + i) % N) d
+  pub get_or-around : (i : ℕ) (d : X) → i < n → get_or (around k n places) i d ≡ get_or places ((k + i) % N) d
   get_or-around i d within =
       let tail = length-drop k places in
       get_or-take n _ i d within ∙ elim (goes_around_once N (k + i) (omega arith)) [

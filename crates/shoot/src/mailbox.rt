@@ -1,6 +1,6 @@
 //! Mailboxes.
 
-ghost use Rattle.std.specs.Prelude.{◌≡◌, ◌≤◌, IsTrue};
+ghost use Rattle.std.specs.Prelude.{◌≡◌, ◌≤◌, IsTrue, slice_get};
 
 use crate::MAX_CAPACITY;
 use crate::request::Request;
@@ -88,6 +88,13 @@ impl Mailbox {
         ensures { result ≡ first_waiting self.now }
     {
         self.waiting.first()
+    }
+
+    /// The request that waits in a place: the oldest in place 0, and behind the last none.
+    pub fn waiting(&self, place: usize) -> Option<Request>
+        ensures { result ≡ slice_get self.now.waiting place }
+    {
+        self.waiting.get(place)
     }
 
     /// Takes the oldest request that waits. It stays outstanding.

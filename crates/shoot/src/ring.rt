@@ -57,6 +57,16 @@ impl Ring {
         Some(self.places[self.start])
     }
 
+    /// The request of a place: the oldest has 0.
+    pub(crate) fn get(&self, place: usize) -> Option<Request>
+        ensures { result ≡ slice_get self.now place }
+    {
+        if place >= self.len {
+            return None;
+        }
+        Some(self.places[(self.start + place) % MAX_CAPACITY])
+    }
+
     /// Puts a request behind the others, where there are fewer than 64.
     pub(crate) fn push_back(&mut self, request: Request)
         requires { length self.old < MAX_CAPACITY }

@@ -91,6 +91,13 @@ impl Hart {
         self.serving.is_some()
     }
 
+    /// Its TLB.
+    pub fn tlb(&self) -> &Tlb
+        ensures { result.now ≡ record { scheme = self.now.scheme; entries = self.now.entries } }
+    {
+        &self.tlb
+    }
+
     /// The oldest entry of the TLB that matches an address for an ASID.
     pub fn lookup(&self, asid: u16, va: VirtAddr) -> Option<Entry>
         ensures oldest { result ≡ first_match self.now.entries asid va }

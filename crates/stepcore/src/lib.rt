@@ -18,4 +18,5 @@ pub use history::{Event, Refusal, Reply, Scope};
 pub use machine::Machine;
 pub use serving::Serving;
 pub use shoot::Request;
+pub use space_state::{Phase, SpaceState};
 pub use spaces::{Config, OpenFault, Place, Space};

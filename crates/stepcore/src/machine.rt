@@ -110,8 +110,15 @@ impl Machine {
         usize::from(space) < self.spaces.len()
     }
 
-    /// What is kept of a space.
-    pub(crate) fn space(&self, space: u8) -> SpaceState
+    /// How many spaces there are, free ones too, with numbers from 0 on.
+    pub fn spaces(&self) -> u8
+        ensures { result ≡ length self.now.spaces }
+    {
+        self.spaces.len() as u8
+    }
+
+    /// The ASID and the phase of a space that is there. The ASID of a free one means nothing.
+    pub fn space(&self, space: u8) -> SpaceState
         requires { space < length self.now.spaces }
         ensures { result ≡ space_at self.now space }
     {
@@ -187,7 +194,8 @@ impl Machine {
         &self.tickets[usize::from(hart)]
     }
 
-    pub(crate) fn mailbox(&self, sender: u8, receiver: u8) -> &Mailbox
+    /// The mailbox from one hart to another, both there.
+    pub fn mailbox(&self, sender: u8, receiver: u8) -> &Mailbox
         requires sender { sender < length self.now.harts }
         requires receiver { receiver < length self.now.harts }
         ensures { result.now ≡ mailbox_at self.now sender receiver }

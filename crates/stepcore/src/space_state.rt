@@ -2,26 +2,32 @@
 
 ghost use Rattle.std.specs.Prelude.{◌≡◌};
 
-/// Whether a space is live, retiring or free. A retiring one has the ticket of its retirement, until that is finished.
+/// Whether a space is live, retiring or free.
 #[derive(Clone, Copy, PartialEq, Eq, Debug, Default)]
-pub(crate) enum Phase {
+pub enum Phase {
+    /// Harts may run in it.
     Live,
+    /// It was retired: the ticket of its retirement, until that is finished.
     Retiring(Option<u32>),
+    /// It has no mappings, and may be created.
     #[default]
     Free,
 }
 
 /// The ASID of a space, and its phase.
 #[derive(Clone, Copy, PartialEq, Eq, Debug, Default)]
-pub(crate) struct SpaceState {
-    pub(crate) asid: u16,
-    pub(crate) phase: Phase,
+pub struct SpaceState {
+    /// The ASID.
+    pub asid: u16,
+    /// The phase.
+    pub phase: Phase,
 }
 
 impl Phase {
     ghost use Rattle.stepcore.specs.Answers.{is_free, is_retiring};
 
-    pub(crate) fn is_free(self) -> bool
+    /// Whether it is free.
+    pub fn is_free(self) -> bool
         ensures { result ≡ is_free self }
     {
         match self {
@@ -31,7 +37,8 @@ impl Phase {
         }
     }
 
-    pub(crate) fn is_retiring(self) -> bool
+    /// Whether it is retiring.
+    pub fn is_retiring(self) -> bool
         ensures { result ≡ is_retiring self }
     {
         match self {

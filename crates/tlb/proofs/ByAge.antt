@@ -1,6 +1,6 @@
 -- The entries by age: what a look-up finds in them, and what a drop and a fill make of them.
 use Rattle.std.proofs.Common.{◌≡◌, sym, ◌∙◌, ap, refl, ℕ, zero, suc, ◌+◌, ◌<◌, ◌≤◌, Bool, true, false, Option, Some, None, List, [], ◌∷◌, ◌++◌, length, filter, inl, inr, arith}
-use Rattle.std.specs.Prelude.{find}
+use Rattle.std.specs.Prelude.{find, slice_get}
 use Rattle.std.specs.List.{filter_map, range_with_len, cons_option, AllByRecursion}
 use Rattle.std.proofs.lemmas.Bool.{cases_eq}
 use Rattle.std.proofs.lemmas.List.Elements.{filter-append, filter_map-append}
@@ -60,6 +60,18 @@ module _ (f : ℕ → Option Entry) where
       let rest = length_of_all n (a + 1) (λ k from below. gives k (omega arith) (omega arith)) in
       let here = gives a (omega arith) (omega arith) in
       rw here.1 (omega (arith, rest))
+
+  -- and the number of a place is the first number and the place
+  pub nth_given : (n a k : ℕ) → ((j : ℕ) → a ≤ j → j < a + n → (e : Entry) × (f j ≡ Some e)) → k < n → slice_get (filter_map f (range_with_len a n)) k ≡ f (a + k)
+  nth_given zero a k gives below = absurd (omega arith)
+  nth_given (suc n) a zero gives below =
+      let here = gives a (omega arith) (omega arith) in
+      let at : a + 0 ≡ a = omega arith in
+      rw (at, here.1) refl
+  nth_given (suc n) a (suc k) gives below =
+      let here = gives a (omega arith) (omega arith) in
+      let at : a + suc k ≡ a + 1 + k = omega arith in
+      rw (here.1, at) (nth_given n (a + 1) k (λ j from less. gives j (omega arith) (omega arith)) (omega arith))
 
   pub length_at_most : (n a : ℕ) → length (filter_map f (range_with_len a n)) ≤ n
   length_at_most zero a = omega arith

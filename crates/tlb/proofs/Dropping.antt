@@ -1,15 +1,16 @@
 -- What a drop of one slot, and a fill of one, make of the entries by age.
-use Rattle.std.proofs.Common.{◌≡◌, sym, ◌∙◌, ap, refl, ℕ, zero, suc, ◌+◌, ◌-◌, ◌<◌, ◌≤◌, Bool, true, false, Option, Some, List, [], ◌∷◌, ◌++◌, map, length, filter, arith, set}
+use Rattle.std.proofs.Common.{◌≡◌, sym, ◌∙◌, ap, refl, ℕ, zero, suc, ◌+◌, ◌-◌, ◌<◌, ◌≤◌, Bool, true, false, Option, Some, None, List, [], ◌∷◌, ◌++◌, map, length, filter, arith, set}
 use Rattle.std.specs.Prelude.{slice_get, slice_index}
 use Rattle.std.specs.List.{cons_option, filter_map, range_with_len}
 use Rattle.std.proofs.lemmas.List.Elements.{All-from_recursion}
+use Rattle.std.proofs.lemmas.Option.{slice_get_past}
 use Rattle.pte.specs.Address.{IsPage}
 use Rattle.tlb.specs.declared.store.Entry.{Entry}
 use Rattle.tlb.specs.declared.banks.Banks.{Banks}
 use Rattle.tlb.specs.Banks.{InUse, IsBanks, by_age, entries_of}
 use Rattle.tlb.specs.Entries.{IsTlb, filled}
 use Rattle.tlb.specs.Slots.{IsRanking, closed_up, slot_of}
-use Rattle.tlb.proofs.ByAge.{each_given, filter_kept, length_of_all, same_from, split, without_failing}
+use Rattle.tlb.proofs.ByAge.{each_given, filter_kept, length_of_all, nth_given, same_from, split, without_failing}
 use Rattle.tlb.proofs.Keeping.{filled_when_full, filled_with_room}
 use Rattle.tlb.proofs.Ranking.{age_at, closed_above, closed_below, moved_slot}
 
@@ -104,6 +105,16 @@ module _ (b : Banks) (is : IsBanks b) where
   -- they are as many as are counted
   pub length-entries_of : length (entries_of b) ≡ b.count
   length-entries_of = length_by_age b.held b.ages is.ages is.held b.count is.count
+
+  -- the entry of an age, which is its place among them, is in the slot of that age
+  pub entry_of_age : (age : ℕ) → age < b.count → slice_get (entries_of b) age ≡ slice_get b.held (slot_of b.ages age)
+  entry_of_age age below =
+      let start : 0 + age ≡ age = omega arith in
+      nth_given (λ n. slice_get b.held (slot_of b.ages n)) b.count 0 age (λ k from less. gives b.held b.ages is.ages is.held k (omega (arith, is.count))) below
+      ∙ ap (λ n. slice_get b.held (slot_of b.ages n)) start
+
+  pub no_entry_of_age : (age : ℕ) → b.count ≤ age → slice_get (entries_of b) age ≡ None
+  no_entry_of_age age above = slice_get_past (entries_of b) age (omega (arith, length-entries_of))
 
   -- the slot of an age, if it is in use, holds an entry of a page
   page_at : (age : ℕ) (e : Entry) → 0 ≤ age → age < 0 + b.count → slice_get b.held (slot_of b.ages age) ≡ Some e → IsPage e.page

@@ -1,6 +1,6 @@
 //! The entries of a TLB in banks, one for each size of page, each entry with an age.
 
-ghost use Rattle.std.specs.Prelude.{ℕ, Bool, ◌≡◌, ◌+◌, ◌<◌, ◌≤◌, ◌++◌, [], ◌∷◌, filter, map, not, slice_index, true};
+ghost use Rattle.std.specs.Prelude.{ℕ, Bool, ◌≡◌, ◌+◌, ◌<◌, ◌≤◌, ◌++◌, [], ◌∷◌, filter, length, map, not, slice_get, slice_index, true};
 ghost use Rattle.std.specs.Fn.{FnReturnsAt};
 ghost use Rattle.pte.specs.Address.{IsPage, level_of};
 ghost use Rattle.pte.specs.declared.address.PageSize.{PageSize};
@@ -144,6 +144,26 @@ impl Banks {
         }
         if least < self.count {
             Some(self.held[oldest])
+        } else {
+            None
+        }
+    }
+
+    /// How many entries there are.
+    pub(crate) fn len(&self) -> usize
+        requires { IsBanks self.now }
+        ensures { result ≡ length (entries_of self.now) }
+    {
+        usize::from(self.count)
+    }
+
+    /// The entry of an age, of which the oldest has 0.
+    pub(crate) fn entry(&self, age: usize) -> Option<Entry>
+        requires { IsBanks self.now }
+        ensures { result ≡ slice_get (entries_of self.now) age }
+    {
+        if age < usize::from(self.count) {
+            Some(self.held[slot_of(&self.ages, age as u8)])
         } else {
             None
         }

@@ -1,6 +1,6 @@
 //! The TLB of one hart: look-ups, fills, fences and services.
 
-ghost use Rattle.std.specs.Prelude.{◌≡◌, ◌↔◌, [], IsSome, None};
+ghost use Rattle.std.specs.Prelude.{◌≡◌, ◌↔◌, [], IsSome, IsTrue, None, length, slice_get};
 ghost use Rattle.pte.specs.Address.{IsPage};
 ghost use Rattle.tlb.specs.Banks.{IsBanks, entries_of};
 ghost use Rattle.pte.specs.declared.scheme.Scheme.{Scheme as SchemeOf};
@@ -205,6 +205,27 @@ impl Tlb {
         ensures translates { IsSome result ↔ Translates (IsMappedBy self.now.entries) asid va }
     {
         self.banks.oldest_match(asid, va)
+    }
+
+    /// How many entries there are, at most `TLB_SIZE`.
+    pub fn len(&self) -> usize
+        ensures { result ≡ length self.now.entries }
+    {
+        self.banks.len()
+    }
+
+    /// Whether there is no entry.
+    pub fn is_empty(&self) -> bool
+        ensures { IsTrue result ↔ (self.now.entries ≡ []) }
+    {
+        self.banks.len() == 0
+    }
+
+    /// The entry of an age: `entry(0)` is the oldest, `entry(len - 1)` the youngest, and from `len` on there is none.
+    pub fn entry(&self, age: usize) -> Option<Entry>
+        ensures { result ≡ slice_get self.now.entries age }
+    {
+        self.banks.entry(age)
     }
 
     /// Adds an entry as the youngest. A full TLB drops its oldest entry; no other goes, not even one of the
