@@ -1,4 +1,3 @@
 pub mod Hexadecimal
 pub mod LineLemmas
-pub mod LiveLemmas
 pub mod ReplyLemmas

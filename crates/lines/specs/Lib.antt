@@ -1,3 +1,2 @@
 pub mod AnswerLines
 pub mod ReplyLines
-pub mod LiveLines

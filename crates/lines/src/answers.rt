@@ -9,6 +9,7 @@ use std::alloc::{AllocError, Global};
 use steps::WalkStep;
 use walk::{Found, Trap, Why, Words, translate_in};
 
+/// The word of a size of page: `4K`, `2M`, `1G`, `512G`.
 pub fn size_word(size: PageSize) -> &'static str
     ensures { result.now ≡ size_text size }
 {
@@ -20,6 +21,7 @@ pub fn size_word(size: PageSize) -> &'static str
     }
 }
 
+/// The word of why an access traps.
 pub fn why_word(why: Why) -> &'static str
     ensures { result.now ≡ why_text why }
 {

@@ -3,11 +3,10 @@
 
 mod answer_laws;
 mod answers;
-mod live;
 mod numbers;
 mod replies;
 
 pub use answer_laws::one_text;
-pub use answers::walk_lines;
-pub use live::live_lines;
-pub use replies::reply_lines;
+pub use answers::{size_word, walk_lines, why_word};
+pub use numbers::{push_decimal, push_hexadecimal};
+pub use replies::{push_harts, push_page, push_reply, push_what, reply_lines};

@@ -38,7 +38,7 @@ fn write_hexadecimal(n: u64, buffer: &mut [u8; MOST_DIGITS]) -> usize
 }
 
 /// Adds a number in hexadecimal, without a prefix.
-pub(crate) fn push_hexadecimal(text: &mut String, n: u64) -> Result<(), AllocError>
+pub fn push_hexadecimal(text: &mut String, n: u64) -> Result<(), AllocError>
     ensures ok { OnOk result (string_bytes text.new ≡ string_bytes text.old ++ digits 16 false n) }
 {
     let mut buffer = [0; MOST_DIGITS];
@@ -50,7 +50,7 @@ pub(crate) fn push_hexadecimal(text: &mut String, n: u64) -> Result<(), AllocErr
 }
 
 /// Adds a number in decimal.
-pub(crate) fn push_decimal(text: &mut String, n: usize) -> Result<(), AllocError>
+pub fn push_decimal(text: &mut String, n: usize) -> Result<(), AllocError>
     ensures ok { OnOk result (string_bytes text.new ≡ string_bytes text.old ++ decimal n) }
 {
     text.push_str(Buffer::new().format(n))

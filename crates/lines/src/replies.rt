@@ -61,7 +61,7 @@ fn push_hart(text: &mut String, is_first: bool, hart: u8) -> Result<(), AllocErr
 }
 
 /// Adds the harts of a set, ascending, with commas between them.
-fn push_harts(text: &mut String, set: HartSet) -> Result<(), AllocError>
+pub fn push_harts(text: &mut String, set: HartSet) -> Result<(), AllocError>
     ensures ok { OnOk result (string_bytes text.new ≡ string_bytes text.old ++ harts_text set) }
 {
     let mut is_first = true;
@@ -74,7 +74,8 @@ fn push_harts(text: &mut String, set: HartSet) -> Result<(), AllocError>
     Ok(())
 }
 
-fn push_page(text: &mut String, page: Page) -> Result<(), AllocError>
+/// Adds a page: its size and its base, as `2M:0x400000`.
+pub fn push_page(text: &mut String, page: Page) -> Result<(), AllocError>
     ensures ok { OnOk result (string_bytes text.new ≡ string_bytes text.old ++ page_text page) }
 {
     let size = size_word(page.size());
@@ -92,7 +93,8 @@ fn push_reach(text: &mut String, asid: Option<u16>) -> Result<(), AllocError>
     }
 }
 
-fn push_what(text: &mut String, what: What) -> Result<(), AllocError>
+/// Adds what a request asks to drop.
+pub fn push_what(text: &mut String, what: What) -> Result<(), AllocError>
     ensures ok { OnOk result (string_bytes text.new ≡ string_bytes text.old ++ what_text what) }
 {
     match what {
@@ -116,7 +118,7 @@ fn push_request(text: &mut String, request: Request) -> Result<(), AllocError>
 }
 
 /// Adds the text of a reply.
-pub(crate) fn push_reply(text: &mut String, reply: Reply) -> Result<(), AllocError>
+pub fn push_reply(text: &mut String, reply: Reply) -> Result<(), AllocError>
     ensures ok { OnOk result (string_bytes text.new ≡ string_bytes text.old ++ reply_text reply) }
 {
     match reply {

@@ -6,7 +6,7 @@ use Rattle.harts.specs.declared.live_reply.LiveReply.{LiveReply}
 use Rattle.history.specs.Runs.{due_replies}
 use Rattle.history.specs.Setup.{setup_of}
 use Rattle.lines.specs.AnswerLines.{WritesLines}
-use Rattle.lines.specs.LiveLines.{live_lines}
+use Rattle.live_lines.specs.LiveLines.{live_lines}
 use Rattle.lines.specs.ReplyLines.{reply_lines}
 use Rattle.keys.specs.Faults.{Failure, Fails, fault_in}
 use Rattle.keys.specs.declared.fault.Fault.TheVariants.{NoMemory}

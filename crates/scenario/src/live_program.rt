@@ -16,7 +16,7 @@ use crate::trouble::Trouble;
 use files::{LiveScenario, read_live};
 use harts::{Gate, LiveFault, LiveReport, run_live};
 use keys::Fault;
-use lines::live_lines;
+use live_lines::live_lines;
 use std::alloc::Global;
 use std::io::{Read, Write};
 use std::sync::Wait;

@@ -4,7 +4,7 @@ use Rattle.std.proofs.lemmas.List.{drop_more}
 use Rattle.std.proofs.Math.Seq.{drop-length}
 use Rattle.std.specs.Fmt.{decimal}
 use Rattle.harts.specs.declared.live_reply.LiveReply.{LiveReply}
-use Rattle.lines.specs.LiveLines.{each_from, scripts_lines, steps_lines}
+use Rattle.live_lines.specs.LiveLines.{each_from, scripts_lines, steps_lines}
 
 -- what is written so far, and then the texts of the rest, is what was there and then the texts of all
 abbrev pub EachWritten : {X : Type 0} → (ℕ → X → List ℕ) → ℕ → List X → ℕ → List ℕ → List ℕ → Type 0

@@ -1,13 +1,12 @@
 //! The lines of live runs.
 ghost use Rattle.std.specs.Prelude.{◌≡◌, ◌++◌, OnOk, IfOk, map, string_bytes};
 ghost use Rattle.std.specs.Fmt.{decimal};
-ghost use Rattle.lines.specs.LiveLines.{counts_text, live_line, live_lines, live_text, pair_line, pairs_lines, scripts_lines, steps_lines};
+ghost use Rattle.live_lines.specs.LiveLines.{counts_text, live_line, live_lines, live_text, pair_line, pairs_lines, scripts_lines, steps_lines};
 
-use crate::numbers::{push_decimal, push_hexadecimal};
-use crate::replies::push_reply;
 use board::PairReport;
 use harts::LiveReply;
 use itoa::Buffer;
+use lines::{push_decimal, push_hexadecimal, push_reply};
 use std::alloc::{AllocError, Global};
 
 fn push_live(text: &mut String, reply: LiveReply) -> Result<(), AllocError>

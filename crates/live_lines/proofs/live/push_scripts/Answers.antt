@@ -1,6 +1,6 @@
 use Rattle.std.proofs.Common.{◌≡◌, length, arith}
-use Rattle.lines.proofs.LiveLemmas.{scripts_end}
-use Rattle.lines.proofs.live.push_scripts.Goals as goal
+use Rattle.live_lines.proofs.LiveLemmas.{scripts_end}
+use Rattle.live_lines.proofs.live.push_scripts.Goals as goal
 
 pub returns : goal.returns
 returns c =
