@@ -1,0 +1,134 @@
+//! Harts: where they run, what they walk for, what they serve, and what their TLBs hold.
+
+use crate::columns::pad;
+use crate::entries::{ENTRY_HEAD, entry_line};
+use crate::walks::{access_word, aim};
+use lines::push_what;
+use std::alloc::{AllocError, Global};
+use stepcore::{Hart, Machine, Serving};
+use walk::Walk;
+
+/// The columns of harts.
+const HART_HEAD: &str = "hart  space  asid   walk   address             level  table\n";
+
+/// The columns of requests that harts serve.
+const SERVICE_HEAD: &str = "hart  serves  ticket  fenced  drops\n";
+
+/// Adds the columns of a walk in flight.
+fn push_walk(line: &mut String, walk: Walk) -> Result<(), AllocError> {
+    let (va, level) = aim(walk);
+    let (table, _index) = walk.wants();
+    line.push_str(access_word(walk))?;
+    pad(line, 27)?;
+    write!(line, "0x{va:x}")?;
+    pad(line, 47)?;
+    write!(line, "{level}")?;
+    pad(line, 54)?;
+    write!(line, "0x{table:x}")
+}
+
+/// The line of a hart in a space of an ASID.
+fn hart_line(alloc: Global, number: u8, hart: &Hart, asid: u16) -> Result<String, AllocError> {
+    let mut line = String::new(alloc);
+    let space = hart.space();
+    write!(line, "{number}")?;
+    pad(&mut line, 6)?;
+    write!(line, "{space}")?;
+    pad(&mut line, 13)?;
+    write!(line, "{asid}")?;
+    pad(&mut line, 20)?;
+    match hart.walk() {
+        Some(walk) => push_walk(&mut line, walk)?,
+        None => line.push_str("-")?,
+    }
+    line.push_str("\n")?;
+    Ok(line)
+}
+
+/// The line of a request that a hart serves.
+fn service_line(alloc: Global, number: u8, serving: &Serving) -> Result<String, AllocError> {
+    let mut line = String::new(alloc);
+    let from = serving.from;
+    let ticket = serving.request.ticket;
+    write!(line, "{number}")?;
+    pad(&mut line, 6)?;
+    write!(line, "{from}")?;
+    pad(&mut line, 14)?;
+    write!(line, "{ticket}")?;
+    pad(&mut line, 22)?;
+    line.push_str(if serving.fenced { "yes" } else { "no" })?;
+    pad(&mut line, 30)?;
+    push_what(&mut line, serving.request.what)?;
+    line.push_str("\n")?;
+    Ok(line)
+}
+
+/// Adds the table of the harts.
+pub(crate) fn push_harts(
+    alloc: Global,
+    text: &mut String,
+    machine: &Machine,
+) -> Result<(), AllocError> {
+    text.push_str("\n")?;
+    text.push_str(HART_HEAD)?;
+    for number in 0..machine.harts() {
+        let line = hart_line(alloc, number, machine.hart(number), machine.asid(number))?;
+        text.push_str(line.as_str())?;
+    }
+    Ok(())
+}
+
+/// Adds the table of the requests that harts serve, if there is one.
+pub(crate) fn push_services(
+    alloc: Global,
+    text: &mut String,
+    machine: &Machine,
+) -> Result<(), AllocError> {
+    let mut rows = String::new(alloc);
+    for number in 0..machine.harts() {
+        if let Some(serving) = machine.hart(number).serving() {
+            let line = service_line(alloc, number, &serving)?;
+            rows.push_str(line.as_str())?;
+        }
+    }
+    push_table(text, SERVICE_HEAD, rows.as_str())
+}
+
+/// Adds the entries of the TLB of a hart, the oldest first.
+fn push_entries(
+    alloc: Global,
+    rows: &mut String,
+    number: u8,
+    hart: &Hart,
+) -> Result<(), AllocError> {
+    for age in 0..hart.tlb().len() {
+        if let Some(entry) = hart.tlb().entry(age) {
+            let line = entry_line(alloc, number, age, &entry)?;
+            rows.push_str(line.as_str())?;
+        }
+    }
+    Ok(())
+}
+
+/// Adds the table of the TLBs' entries, if there is one.
+pub(crate) fn push_tlbs(
+    alloc: Global,
+    text: &mut String,
+    machine: &Machine,
+) -> Result<(), AllocError> {
+    let mut rows = String::new(alloc);
+    for number in 0..machine.harts() {
+        push_entries(alloc, &mut rows, number, machine.hart(number))?;
+    }
+    push_table(text, ENTRY_HEAD, rows.as_str())
+}
+
+/// Adds a table after a blank line, if it has rows.
+pub(crate) fn push_table(text: &mut String, head: &str, rows: &str) -> Result<(), AllocError> {
+    if rows.is_empty() {
+        return Ok(());
+    }
+    text.push_str("\n")?;
+    text.push_str(head)?;
+    text.push_str(rows)
+}

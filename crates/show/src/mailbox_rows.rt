@@ -1,0 +1,101 @@
+//! Mailboxes with requests that are outstanding, and those that are closed.
+
+use crate::columns::pad;
+use crate::hart_rows::push_table;
+use lines::push_what;
+use shoot::{MAX_CAPACITY, Mailbox, Request};
+use std::alloc::{AllocError, Global};
+use stepcore::Machine;
+
+/// The columns of mailboxes.
+const MAILBOX_HEAD: &str = "from  to  mailbox  outstanding  ticket  drops\n";
+
+/// Adds the columns of a request that waits.
+fn push_request(line: &mut String, request: Request) -> Result<(), AllocError> {
+    let ticket = request.ticket;
+    pad(line, 32)?;
+    write!(line, "{ticket}")?;
+    pad(line, 40)?;
+    push_what(line, request.what)
+}
+
+/// The line of a mailbox, with the oldest request that waits.
+fn mailbox_line(
+    alloc: Global,
+    from: u8,
+    to: u8,
+    mailbox: &Mailbox,
+    capacity: u16,
+) -> Result<String, AllocError> {
+    let mut line = String::new(alloc);
+    let outstanding = mailbox.outstanding();
+    write!(line, "{from}")?;
+    pad(&mut line, 6)?;
+    write!(line, "{to}")?;
+    pad(&mut line, 10)?;
+    line.push_str(if mailbox.is_closed() {
+        "closed"
+    } else {
+        "open"
+    })?;
+    pad(&mut line, 19)?;
+    write!(line, "{outstanding} of {capacity}")?;
+    match mailbox.first_waiting() {
+        Some(request) => push_request(&mut line, request)?,
+        None => {
+            pad(&mut line, 32)?;
+            line.push_str("-")?;
+        }
+    }
+    line.push_str("\n")?;
+    Ok(line)
+}
+
+/// The line of a request that waits behind others.
+fn waiting_line(alloc: Global, request: Request) -> Result<String, AllocError> {
+    let mut line = String::new(alloc);
+    push_request(&mut line, request)?;
+    line.push_str("\n")?;
+    Ok(line)
+}
+
+/// Adds a mailbox with all requests that wait, the oldest first.
+fn push_mailbox(
+    alloc: Global,
+    rows: &mut String,
+    from: u8,
+    to: u8,
+    mailbox: &Mailbox,
+    capacity: u16,
+) -> Result<(), AllocError> {
+    let first = mailbox_line(alloc, from, to, mailbox, capacity)?;
+    rows.push_str(first.as_str())?;
+    for place in 1..MAX_CAPACITY {
+        let Some(request) = mailbox.waiting(place) else {
+            return Ok(());
+        };
+        let line = waiting_line(alloc, request)?;
+        rows.push_str(line.as_str())?;
+    }
+    Ok(())
+}
+
+/// Adds the table of the mailboxes that are closed or have requests that are outstanding, if there is one.
+pub(crate) fn push_mailboxes(
+    alloc: Global,
+    text: &mut String,
+    machine: &Machine,
+    capacity: u16,
+) -> Result<(), AllocError> {
+    let harts = machine.harts();
+    let mut rows = String::new(alloc);
+    for from in 0..harts {
+        for to in 0..harts {
+            let mailbox = machine.mailbox(from, to);
+            if mailbox.is_closed() || mailbox.outstanding() > 0 {
+                push_mailbox(alloc, &mut rows, from, to, mailbox, capacity)?;
+            }
+        }
+    }
+    push_table(text, MAILBOX_HEAD, rows.as_str())
+}

@@ -1,0 +1,105 @@
+//! Open orders.
+
+use crate::columns::pad;
+use crate::hart_rows::push_table;
+use lines::push_what;
+use shoot::{MAX_TICKETS, Tickets};
+use std::alloc::{AllocError, Global};
+use stepcore::Machine;
+
+/// The columns of open orders.
+const ORDER_HEAD: &str = "hart  ticket  named     posted    acknowledged  collected  drops\n";
+
+/// What an order knows of a hart.
+#[derive(Clone, Copy, PartialEq, Eq, Debug)]
+enum Mark {
+    Named,
+    Posted,
+    Acknowledged,
+    Collected,
+}
+
+/// Whether a hart has the mark for an open order.
+fn is_marked(tickets: &Tickets, ticket: u32, mark: Mark, hart: u8) -> bool {
+    match mark {
+        Mark::Named => tickets.names(ticket, hart),
+        Mark::Posted => tickets.is_posted(ticket, hart),
+        Mark::Acknowledged => tickets.is_acked(ticket, hart),
+        Mark::Collected => tickets.is_collected(ticket, hart),
+    }
+}
+
+/// Adds a place for each hart: its number where it has the mark, and `-` where not.
+fn push_marked(
+    line: &mut String,
+    harts: u8,
+    tickets: &Tickets,
+    ticket: u32,
+    mark: Mark,
+) -> Result<(), AllocError> {
+    for hart in 0..harts {
+        if is_marked(tickets, ticket, mark, hart) {
+            write!(line, "{hart}")?;
+        } else {
+            line.push_str("-")?;
+        }
+    }
+    Ok(())
+}
+
+/// The line of an open order.
+fn order_line(
+    alloc: Global,
+    harts: u8,
+    hart: u8,
+    tickets: &Tickets,
+    ticket: u32,
+) -> Result<String, AllocError> {
+    let mut line = String::new(alloc);
+    write!(line, "{hart}")?;
+    pad(&mut line, 6)?;
+    write!(line, "{ticket}")?;
+    pad(&mut line, 14)?;
+    push_marked(&mut line, harts, tickets, ticket, Mark::Named)?;
+    pad(&mut line, 24)?;
+    push_marked(&mut line, harts, tickets, ticket, Mark::Posted)?;
+    pad(&mut line, 34)?;
+    push_marked(&mut line, harts, tickets, ticket, Mark::Acknowledged)?;
+    pad(&mut line, 48)?;
+    push_marked(&mut line, harts, tickets, ticket, Mark::Collected)?;
+    pad(&mut line, 59)?;
+    push_what(&mut line, tickets.what(ticket))?;
+    line.push_str("\n")?;
+    Ok(line)
+}
+
+/// Adds the open orders of a hart.
+fn push_orders_of(
+    alloc: Global,
+    rows: &mut String,
+    harts: u8,
+    hart: u8,
+    tickets: &Tickets,
+) -> Result<(), AllocError> {
+    for ticket in 0..MAX_TICKETS as u32 {
+        if tickets.is_open(ticket) {
+            let line = order_line(alloc, harts, hart, tickets, ticket)?;
+            rows.push_str(line.as_str())?;
+        }
+    }
+    Ok(())
+}
+
+/// Adds the table of the open orders, if there is one.
+pub(crate) fn push_orders(
+    alloc: Global,
+    text: &mut String,
+    machine: &Machine,
+) -> Result<(), AllocError> {
+    let harts = machine.harts();
+    let mut rows = String::new(alloc);
+    for hart in 0..harts {
+        push_orders_of(alloc, &mut rows, harts, hart, machine.tickets(hart))?;
+    }
+    push_table(text, ORDER_HEAD, rows.as_str())
+}

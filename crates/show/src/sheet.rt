@@ -1,0 +1,60 @@
+//! The whole text.
+
+use crate::hart_rows::{push_harts, push_services, push_tlbs};
+use crate::mailbox_rows::push_mailboxes;
+use crate::order_rows::push_orders;
+use crate::runs::machine_after;
+use crate::space_rows::push_spaces;
+use crate::table_tree::push_tables;
+use files::{Fault, RunScenario};
+use pte::Scheme;
+use spaces::Config;
+use std::alloc::{AllocError, Global};
+use stepcore::Machine;
+
+fn scheme_word(scheme: Scheme) -> &'static str {
+    match scheme {
+        Scheme::Sv39 => "sv39",
+        Scheme::Sv48 => "sv48",
+    }
+}
+
+/// Adds the first line: after how many steps, and what the machine was opened with.
+fn push_first(text: &mut String, steps: usize, config: &Config) -> Result<(), AllocError> {
+    let scheme = scheme_word(config.scheme);
+    let (harts, window, capacity) = (config.harts, config.window, config.capacity);
+    writeln!(
+        text,
+        "after {steps} steps: {scheme}, harts {harts}, window {window}, capacity {capacity}"
+    )
+}
+
+/// The text of a machine after so many steps, opened with a configuration.
+fn sheet(
+    alloc: Global,
+    machine: &Machine,
+    steps: usize,
+    config: &Config,
+) -> Result<String, AllocError> {
+    let mut text = String::new(alloc);
+    push_first(&mut text, steps, config)?;
+    push_spaces(alloc, &mut text, machine)?;
+    push_harts(alloc, &mut text, machine)?;
+    push_services(alloc, &mut text, machine)?;
+    push_tlbs(alloc, &mut text, machine)?;
+    push_orders(alloc, &mut text, machine)?;
+    push_mailboxes(alloc, &mut text, machine, config.capacity)?;
+    push_tables(alloc, &mut text, machine, config.window)?;
+    Ok(text)
+}
+
+/// What `svsim show` prints of a scenario: its events are done on a machine, and then its state is told as tables of text, a
+/// line of at most 100 bytes for each row. `NoMemory` is the only fault.
+///
+/// The events are done once, in one pass, as `run` does them. What follows reads each table word once and each part of the
+/// machine a fixed number of times, whatever the number of events.
+pub fn show_text(alloc: Global, scenario: &RunScenario) -> Result<String, Fault> {
+    let machine = machine_after(alloc, scenario)?;
+    let text = sheet(alloc, &machine, scenario.events.len(), &scenario.config)?;
+    Ok(text)
+}

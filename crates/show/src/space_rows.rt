@@ -1,0 +1,68 @@
+//! Spaces.
+
+use crate::columns::pad;
+use spaces::Place;
+use std::alloc::{AllocError, Global};
+use stepcore::{Machine, Phase, SpaceState};
+
+/// The columns of spaces.
+const SPACE_HEAD: &str = "space  asid   home  root           state\n";
+
+/// Adds the ASID of a space, if it has one.
+fn push_asid(line: &mut String, state: SpaceState) -> Result<(), AllocError> {
+    let asid = state.asid;
+    match state.phase {
+        Phase::Live | Phase::Retiring(_) => write!(line, "{asid}"),
+        Phase::Free => line.push_str("-"),
+    }
+}
+
+/// Adds the phase of a space.
+fn push_phase(line: &mut String, phase: Phase) -> Result<(), AllocError> {
+    match phase {
+        Phase::Live => line.push_str("live"),
+        Phase::Retiring(Some(ticket)) => write!(line, "retiring, ticket {ticket}"),
+        Phase::Retiring(None) => line.push_str("retiring, ticket finished"),
+        Phase::Free => line.push_str("free"),
+    }
+}
+
+/// The line of a space.
+fn space_line(
+    alloc: Global,
+    space: u8,
+    state: SpaceState,
+    home: u8,
+    root: u64,
+) -> Result<String, AllocError> {
+    let mut line = String::new(alloc);
+    write!(line, "{space}")?;
+    pad(&mut line, 7)?;
+    push_asid(&mut line, state)?;
+    pad(&mut line, 14)?;
+    write!(line, "{home}")?;
+    pad(&mut line, 20)?;
+    write!(line, "0x{root:x}")?;
+    pad(&mut line, 35)?;
+    push_phase(&mut line, state.phase)?;
+    line.push_str("\n")?;
+    Ok(line)
+}
+
+/// Adds the table of the spaces.
+pub(crate) fn push_spaces(
+    alloc: Global,
+    text: &mut String,
+    machine: &Machine,
+) -> Result<(), AllocError> {
+    text.push_str("\n")?;
+    text.push_str(SPACE_HEAD)?;
+    let memory = machine.memory();
+    for space in 0..machine.spaces() {
+        let home = memory.home(Place::Space(space));
+        let root = memory.root(space);
+        let line = space_line(alloc, space, machine.space(space), home, root)?;
+        text.push_str(line.as_str())?;
+    }
+    Ok(())
+}

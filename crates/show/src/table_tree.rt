@@ -1,0 +1,159 @@
+//! Page tables, as a tree.
+
+use crate::columns::pad;
+use crate::entries::push_flags;
+use lines::size_word;
+use pte::{Kind, PageSize, Pte, PteFlags, Scheme, TABLE_LENGTH};
+use spaces::Memory;
+use std::alloc::{AllocError, Global};
+use stepcore::Machine;
+use walk::Words;
+
+/// How many bits of an address lie below the index in a table of level 0.
+const OFFSET_BITS: u32 = 12;
+
+/// How many bits of an address are the index in one table.
+const LEVEL_BITS: u32 = 9;
+
+/// A table: its PPN, its level, and the bits of its addresses above those that it translates.
+#[derive(Clone, Copy, PartialEq, Eq, Debug)]
+struct Table {
+    ppn: u64,
+    level: u8,
+    above: u64,
+}
+
+/// The first address that the word at an index of a table translates.
+fn address(scheme: Scheme, table: Table, index: u16) -> u64 {
+    let va = table.above | u64::from(index) << (OFFSET_BITS + LEVEL_BITS * u32::from(table.level));
+    if va >> (scheme.address_bits() - 1) == 1 {
+        va | u64::MAX << scheme.address_bits()
+    } else {
+        va
+    }
+}
+
+/// A line that begins with an index, farther in at a lower level.
+fn indexed_line(alloc: Global, depth: u8, index: u16) -> Result<String, AllocError> {
+    let mut line = String::new(alloc);
+    pad(&mut line, 2 + 2 * usize::from(depth))?;
+    write!(line, "{index}")?;
+    pad(&mut line, 7 + 2 * usize::from(depth))?;
+    Ok(line)
+}
+
+/// The line of a pointer.
+fn pointer_line(
+    alloc: Global,
+    depth: u8,
+    index: u16,
+    table: Table,
+    global: bool,
+) -> Result<String, AllocError> {
+    let (ppn, level) = (table.ppn, table.level);
+    let mut line = indexed_line(alloc, depth, index)?;
+    write!(line, "table 0x{ppn:x} level {level}")?;
+    line.push_str(if global { " g\n" } else { "\n" })?;
+    Ok(line)
+}
+
+/// The line of a leaf.
+fn leaf_line(
+    alloc: Global,
+    depth: u8,
+    index: u16,
+    size: PageSize,
+    va: u64,
+    ppn: u64,
+    flags: PteFlags,
+) -> Result<String, AllocError> {
+    let mut line = indexed_line(alloc, depth, index)?;
+    let size = size_word(size);
+    write!(line, "{size}:0x{va:x}")?;
+    pad(&mut line, 38)?;
+    write!(line, "0x{ppn:x}")?;
+    pad(&mut line, 53)?;
+    push_flags(&mut line, flags)?;
+    line.push_str("\n")?;
+    Ok(line)
+}
+
+/// Adds a word that is there, with all that lies below it. Of the levels each is one lower, so this ends.
+fn push_word(
+    alloc: Global,
+    text: &mut String,
+    memory: &Memory,
+    table: Table,
+    index: u16,
+    word: u64,
+) -> Result<(), AllocError> {
+    let scheme = memory.scheme();
+    let depth = scheme.top_level() - table.level;
+    let va = address(scheme, table, index);
+    match Pte(word).kind() {
+        Kind::Invalid | Kind::Reserved => Ok(()),
+        Kind::Leaf { ppn, flags } => {
+            let size = PageSize::at_level(table.level);
+            let line = leaf_line(alloc, depth, index, size, va, ppn, flags)?;
+            text.push_str(line.as_str())
+        }
+        Kind::Table { ppn, global } => {
+            if table.level == 0 {
+                return Ok(());
+            }
+            let below = Table {
+                ppn,
+                level: table.level - 1,
+                above: va,
+            };
+            let line = pointer_line(alloc, depth, index, below, global)?;
+            text.push_str(line.as_str())?;
+            push_words(alloc, text, memory, below, 0, TABLE_LENGTH)
+        }
+    }
+}
+
+/// Adds the words of a table from an index up to another, each with all that lies below it.
+fn push_words(
+    alloc: Global,
+    text: &mut String,
+    memory: &Memory,
+    table: Table,
+    from: u16,
+    to: u16,
+) -> Result<(), AllocError> {
+    for index in from..to {
+        if let Some(word) = memory.word(table.ppn, index) {
+            push_word(alloc, text, memory, table, index, word)?;
+        }
+    }
+    Ok(())
+}
+
+/// The table at the root of a space.
+fn root(memory: &Memory, space: u8) -> Table {
+    Table {
+        ppn: memory.root(space),
+        level: memory.scheme().top_level(),
+        above: 0,
+    }
+}
+
+/// Adds the tables of each space, and those of the kernel once.
+pub(crate) fn push_tables(
+    alloc: Global,
+    text: &mut String,
+    machine: &Machine,
+    window: u16,
+) -> Result<(), AllocError> {
+    let memory = machine.memory();
+    let first = TABLE_LENGTH - window;
+    for space in 0..machine.spaces() {
+        let table = root(memory, space);
+        let ppn = table.ppn;
+        write!(text, "\ntables of space {space}: root 0x{ppn:x}\n")?;
+        push_words(alloc, text, memory, table, 0, first)?;
+    }
+    text.push_str("\ntables of the kernel: in each root\n")?;
+    push_words(alloc, text, memory, root(memory, 0), first, TABLE_LENGTH)
+}

@@ -1,0 +1,5 @@
+//! Tests of what `svsim show` prints.
+#![tactic(auto)]
+
+#[cfg(test)]
+mod scratch;
