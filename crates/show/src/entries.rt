@@ -1,17 +1,24 @@
 //! Flags, and the entries of TLBs.
 
+ghost use Rattle.std.specs.Prelude.{◌≡◌, ◌++◌, IfOk, OnOk, string_bytes};
+ghost use Rattle.show.specs.Rows.{entry_line, flags_text, letter_if, owner_text};
+
 use crate::columns::pad;
 use lines::push_page;
 use pte::PteFlags;
 use std::alloc::{AllocError, Global};
 use tlb::Entry;
 
-fn letter(is_set: bool, letter: &'static str) -> &'static str {
+fn letter(is_set: bool, letter: &'static str) -> &'static str
+    ensures { result.now ≡ letter_if is_set letter.now }
+{
     if is_set { letter } else { "" }
 }
 
 /// Adds the letters of the flags that are set, of `rwxugad`. V is not among them: each leaf has it.
-pub(crate) fn push_flags(line: &mut String, flags: PteFlags) -> Result<(), AllocError> {
+pub(crate) fn push_flags(line: &mut String, flags: PteFlags) -> Result<(), AllocError>
+    ensures ok { OnOk result (string_bytes line.new ≡ string_bytes line.old ++ flags_text flags) }
+{
     line.push_str(letter(flags.may_read(), "r"))?;
     line.push_str(letter(flags.may_write(), "w"))?;
     line.push_str(letter(flags.may_execute(), "x"))?;
@@ -22,7 +29,9 @@ pub(crate) fn push_flags(line: &mut String, flags: PteFlags) -> Result<(), Alloc
 }
 
 /// Adds the ASID of an entry, or that it is global.
-fn push_owner(line: &mut String, entry: &Entry) -> Result<(), AllocError> {
+fn push_owner(line: &mut String, entry: &Entry) -> Result<(), AllocError>
+    ensures ok { OnOk result (string_bytes line.new ≡ string_bytes line.old ++ owner_text entry.now) }
+{
     let asid = entry.asid;
     if entry.global {
         line.push_str("global")
@@ -41,7 +50,9 @@ pub(crate) fn entry_line(
     hart: u8,
     age: usize,
     entry: &Entry,
-) -> Result<String, AllocError> {
+) -> Result<String, AllocError>
+    ensures { IfOk result (λ line. string_bytes line ≡ entry_line hart age entry.now) }
+{
     let mut line = String::new(alloc);
     let ppn = entry.ppn;
     write!(line, "{hart}")?;

@@ -1,5 +1,8 @@
 //! Harts: where they run, what they walk for, what they serve, and what their TLBs hold.
 
+ghost use Rattle.std.specs.Prelude.{◌≡◌, ◌++◌, IfOk, OnOk, Some, string_bytes};
+ghost use Rattle.show.specs.Rows.{hart_line, service_line, table_text, with_walk};
+
 use crate::columns::pad;
 use crate::entries::{ENTRY_HEAD, entry_line};
 use crate::walks::{access_word, aim};
@@ -46,7 +49,9 @@ fn hart_line(alloc: Global, number: u8, hart: &Hart, asid: u16) -> Result<String
 }
 
 /// The line of a request that a hart serves.
-fn service_line(alloc: Global, number: u8, serving: &Serving) -> Result<String, AllocError> {
+fn service_line(alloc: Global, number: u8, serving: &Serving) -> Result<String, AllocError>
+    ensures { IfOk result (λ line. string_bytes line ≡ service_line number serving.now) }
+{
     let mut line = String::new(alloc);
     let from = serving.from;
     let ticket = serving.request.ticket;
@@ -124,7 +129,9 @@ pub(crate) fn push_tlbs(
 }
 
 /// Adds a table after a blank line, if it has rows.
-pub(crate) fn push_table(text: &mut String, head: &str, rows: &str) -> Result<(), AllocError> {
+pub(crate) fn push_table(text: &mut String, head: &str, rows: &str) -> Result<(), AllocError>
+    ensures ok { OnOk result (string_bytes text.new ≡ string_bytes text.old ++ table_text head.now rows.now) }
+{
     if rows.is_empty() {
         return Ok(());
     }

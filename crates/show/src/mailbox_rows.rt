@@ -1,5 +1,8 @@
 //! Mailboxes with requests that are outstanding, and those that are closed.
 
+ghost use Rattle.std.specs.Prelude.{◌≡◌, IfOk, OnOk, string_bytes};
+ghost use Rattle.show.specs.Rows.{mailbox_line, waiting_line, with_request};
+
 use crate::columns::pad;
 use crate::hart_rows::push_table;
 use lines::push_what;
@@ -11,7 +14,9 @@ use stepcore::Machine;
 const MAILBOX_HEAD: &str = "from  to  mailbox  outstanding  ticket  drops\n";
 
 /// Adds the columns of a request that waits.
-fn push_request(line: &mut String, request: Request) -> Result<(), AllocError> {
+fn push_request(line: &mut String, request: Request) -> Result<(), AllocError>
+    ensures ok { OnOk result (string_bytes line.new ≡ with_request (string_bytes line.old) request) }
+{
     let ticket = request.ticket;
     pad(line, 32)?;
     write!(line, "{ticket}")?;
@@ -26,7 +31,9 @@ fn mailbox_line(
     to: u8,
     mailbox: &Mailbox,
     capacity: u16,
-) -> Result<String, AllocError> {
+) -> Result<String, AllocError>
+    ensures { IfOk result (λ line. string_bytes line ≡ mailbox_line from to mailbox.now capacity) }
+{
     let mut line = String::new(alloc);
     let outstanding = mailbox.outstanding();
     write!(line, "{from}")?;
@@ -52,7 +59,9 @@ fn mailbox_line(
 }
 
 /// The line of a request that waits behind others.
-fn waiting_line(alloc: Global, request: Request) -> Result<String, AllocError> {
+fn waiting_line(alloc: Global, request: Request) -> Result<String, AllocError>
+    ensures { IfOk result (λ line. string_bytes line ≡ waiting_line request) }
+{
     let mut line = String::new(alloc);
     push_request(&mut line, request)?;
     line.push_str("\n")?;

@@ -1,5 +1,11 @@
 //! Open orders.
 
+ghost use Rattle.std.specs.Prelude.{◌≡◌, ◌++◌, IfOk, IsTrue, OnOk, Some, string_bytes};
+ghost use Rattle.pte.specs.declared.address.What.{What};
+ghost use Rattle.shoot.specs.Tickets.{is_acked, is_collected, is_open, is_posted, names, what_at};
+ghost use Rattle.show.specs.Marks.{is_marked};
+ghost use Rattle.show.specs.Rows.{marks_text, order_line};
+
 use crate::columns::pad;
 use crate::hart_rows::push_table;
 use lines::push_what;
@@ -20,7 +26,10 @@ enum Mark {
 }
 
 /// Whether a hart has the mark for an open order.
-fn is_marked(tickets: &Tickets, ticket: u32, mark: Mark, hart: u8) -> bool {
+fn is_marked(tickets: &Tickets, ticket: u32, mark: Mark, hart: u8) -> bool
+    requires { IsTrue (is_open tickets.now ticket) }
+    ensures { result ≡ is_marked tickets.now ticket mark hart }
+{
     match mark {
         Mark::Named => tickets.names(ticket, hart),
         Mark::Posted => tickets.is_posted(ticket, hart),
@@ -36,7 +45,10 @@ fn push_marked(
     tickets: &Tickets,
     ticket: u32,
     mark: Mark,
-) -> Result<(), AllocError> {
+) -> Result<(), AllocError>
+    requires { IsTrue (is_open tickets.now ticket) }
+    ensures ok { OnOk result (string_bytes line.new ≡ string_bytes line.old ++ marks_text harts (is_marked tickets.now ticket mark)) }
+{
     for hart in 0..harts {
         if is_marked(tickets, ticket, mark, hart) {
             write!(line, "{hart}")?;
@@ -54,7 +66,11 @@ fn order_line(
     hart: u8,
     tickets: &Tickets,
     ticket: u32,
-) -> Result<String, AllocError> {
+) -> Result<String, AllocError>
+    requires { IsTrue (is_open tickets.now ticket) }
+    ensures { IfOk result (λ line. (what : What) → what_at tickets.now ticket ≡ Some what → string_bytes line ≡ order_line harts hart ticket
+        (names tickets.now ticket) (is_posted tickets.now ticket) (is_acked tickets.now ticket) (is_collected tickets.now ticket) what) }
+{
     let mut line = String::new(alloc);
     write!(line, "{hart}")?;
     pad(&mut line, 6)?;

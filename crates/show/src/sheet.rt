@@ -1,5 +1,10 @@
 //! The whole text.
 
+ghost use Rattle.std.specs.Prelude.{◌≡◌, ◌<◌, ◌≤◌, IfErr, IfOk, length, string_bytes};
+ghost use Rattle.pte.specs.Address.{table_length};
+ghost use Rattle.keys.specs.declared.fault.Fault.TheVariants.{NoMemory};
+ghost use Rattle.show.specs.Rows.{first_line, scheme_text};
+
 use crate::hart_rows::{push_harts, push_services, push_tlbs};
 use crate::mailbox_rows::push_mailboxes;
 use crate::order_rows::push_orders;
@@ -12,21 +17,33 @@ use spaces::Config;
 use std::alloc::{AllocError, Global};
 use stepcore::Machine;
 
-fn scheme_word(scheme: Scheme) -> &'static str {
+fn scheme_word(scheme: Scheme) -> &'static str
+    ensures { result.now ≡ scheme_text scheme }
+{
     match scheme {
         Scheme::Sv39 => "sv39",
         Scheme::Sv48 => "sv48",
     }
 }
 
-/// Adds the first line: after how many steps, and what the machine was opened with.
-fn push_first(text: &mut String, steps: usize, config: &Config) -> Result<(), AllocError> {
-    let scheme = scheme_word(config.scheme);
+/// The first line: after how many steps, and what the machine was opened with.
+fn first_line(alloc: Global, steps: usize, config: &Config) -> Result<String, AllocError>
+    ensures { IfOk result (λ line. string_bytes line ≡ first_line steps config.now) }
+{
+    let mut line = String::new(alloc);
     let (harts, window, capacity) = (config.harts, config.window, config.capacity);
-    writeln!(
-        text,
-        "after {steps} steps: {scheme}, harts {harts}, window {window}, capacity {capacity}"
-    )
+    line.push_str("after ")?;
+    write!(line, "{steps}")?;
+    line.push_str(" steps: ")?;
+    line.push_str(scheme_word(config.scheme))?;
+    line.push_str(", harts ")?;
+    write!(line, "{harts}")?;
+    line.push_str(", window ")?;
+    write!(line, "{window}")?;
+    line.push_str(", capacity ")?;
+    write!(line, "{capacity}")?;
+    line.push_str("\n")?;
+    Ok(line)
 }
 
 /// The text of a machine after so many steps, opened with a configuration.
@@ -35,9 +52,12 @@ fn sheet(
     machine: &Machine,
     steps: usize,
     config: &Config,
-) -> Result<String, AllocError> {
-    let mut text = String::new(alloc);
-    push_first(&mut text, steps, config)?;
+) -> Result<String, AllocError>
+    requires spaces { length machine.now.spaces ≡ length machine.now.memory.layout.homes }
+    requires some { 0 < length machine.now.memory.layout.homes }
+    requires window { config.now.window ≤ table_length }
+{
+    let mut text = first_line(alloc, steps, config)?;
     push_spaces(alloc, &mut text, machine)?;
     push_harts(alloc, &mut text, machine)?;
     push_services(alloc, &mut text, machine)?;
@@ -53,7 +73,9 @@ fn sheet(
 ///
 /// The events are done once, in one pass, as `run` does them. What follows reads each table word once and each part of the
 /// machine a fixed number of times, whatever the number of events.
-pub fn show_text(alloc: Global, scenario: &RunScenario) -> Result<String, Fault> {
+pub fn show_text(alloc: Global, scenario: &RunScenario) -> Result<String, Fault>
+    ensures fault { IfErr result (λ fault. fault ≡ NoMemory) }
+{
     let machine = machine_after(alloc, scenario)?;
     let text = sheet(alloc, &machine, scenario.events.len(), &scenario.config)?;
     Ok(text)

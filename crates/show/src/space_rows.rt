@@ -1,5 +1,8 @@
 //! Spaces.
 
+ghost use Rattle.std.specs.Prelude.{◌≡◌, ◌++◌, IfOk, OnOk, length, string_bytes};
+ghost use Rattle.show.specs.Rows.{asid_text, phase_text, space_line};
+
 use crate::columns::pad;
 use spaces::Place;
 use std::alloc::{AllocError, Global};
@@ -9,16 +12,19 @@ use stepcore::{Machine, Phase, SpaceState};
 const SPACE_HEAD: &str = "space  asid   home  root           state\n";
 
 /// Adds the ASID of a space, if it has one.
-fn push_asid(line: &mut String, state: SpaceState) -> Result<(), AllocError> {
-    let asid = state.asid;
-    match state.phase {
+fn push_asid(line: &mut String, asid: u16, phase: Phase) -> Result<(), AllocError>
+    ensures ok { OnOk result (string_bytes line.new ≡ string_bytes line.old ++ asid_text asid phase) }
+{
+    match phase {
         Phase::Live | Phase::Retiring(_) => write!(line, "{asid}"),
         Phase::Free => line.push_str("-"),
     }
 }
 
 /// Adds the phase of a space.
-fn push_phase(line: &mut String, phase: Phase) -> Result<(), AllocError> {
+fn push_phase(line: &mut String, phase: Phase) -> Result<(), AllocError>
+    ensures ok { OnOk result (string_bytes line.new ≡ string_bytes line.old ++ phase_text phase) }
+{
     match phase {
         Phase::Live => line.push_str("live"),
         Phase::Retiring(Some(ticket)) => write!(line, "retiring, ticket {ticket}"),
@@ -34,11 +40,13 @@ fn space_line(
     state: SpaceState,
     home: u8,
     root: u64,
-) -> Result<String, AllocError> {
+) -> Result<String, AllocError>
+    ensures { IfOk result (λ line. string_bytes line ≡ space_line space state home root) }
+{
     let mut line = String::new(alloc);
     write!(line, "{space}")?;
     pad(&mut line, 7)?;
-    push_asid(&mut line, state)?;
+    push_asid(&mut line, state.asid, state.phase)?;
     pad(&mut line, 14)?;
     write!(line, "{home}")?;
     pad(&mut line, 20)?;
@@ -54,7 +62,9 @@ pub(crate) fn push_spaces(
     alloc: Global,
     text: &mut String,
     machine: &Machine,
-) -> Result<(), AllocError> {
+) -> Result<(), AllocError>
+    requires { length machine.now.spaces ≡ length machine.now.memory.layout.homes }
+{
     text.push_str("\n")?;
     text.push_str(SPACE_HEAD)?;
     let memory = machine.memory();

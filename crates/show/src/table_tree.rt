@@ -1,5 +1,9 @@
 //! Page tables, as a tree.
 
+ghost use Rattle.std.specs.Prelude.{◌≡◌, ◌<◌, ◌≤◌, IfOk, IfSome, length, string_bytes};
+ghost use Rattle.show.specs.Rows.{indexed, leaf_line, pointer_line};
+ghost use Rattle.pte.specs.Address.{table_length, top_level};
+
 use crate::columns::pad;
 use crate::entries::push_flags;
 use lines::size_word;
@@ -24,7 +28,9 @@ struct Table {
 }
 
 /// The first address that the word at an index of a table translates.
-fn address(scheme: Scheme, table: Table, index: u16) -> u64 {
+fn address(scheme: Scheme, table: Table, index: u16) -> u64
+    requires { table.level ≤ top_level scheme }
+{
     let va = table.above | u64::from(index) << (OFFSET_BITS + LEVEL_BITS * u32::from(table.level));
     if va >> (scheme.address_bits() - 1) == 1 {
         va | u64::MAX << scheme.address_bits()
@@ -34,7 +40,9 @@ fn address(scheme: Scheme, table: Table, index: u16) -> u64 {
 }
 
 /// A line that begins with an index, farther in at a lower level.
-fn indexed_line(alloc: Global, depth: u8, index: u16) -> Result<String, AllocError> {
+fn indexed_line(alloc: Global, depth: u8, index: u16) -> Result<String, AllocError>
+    ensures { IfOk result (λ line. string_bytes line ≡ indexed depth index) }
+{
     let mut line = String::new(alloc);
     pad(&mut line, 2 + 2 * usize::from(depth))?;
     write!(line, "{index}")?;
@@ -49,11 +57,14 @@ fn pointer_line(
     index: u16,
     table: Table,
     global: bool,
-) -> Result<String, AllocError> {
+) -> Result<String, AllocError>
+    ensures { IfOk result (λ line. string_bytes line ≡ pointer_line depth index table.ppn table.level global) }
+{
     let (ppn, level) = (table.ppn, table.level);
     let mut line = indexed_line(alloc, depth, index)?;
     write!(line, "table 0x{ppn:x} level {level}")?;
-    line.push_str(if global { " g\n" } else { "\n" })?;
+    line.push_str(if global { " g" } else { "" })?;
+    line.push_str("\n")?;
     Ok(line)
 }
 
@@ -66,7 +77,9 @@ fn leaf_line(
     va: u64,
     ppn: u64,
     flags: PteFlags,
-) -> Result<String, AllocError> {
+) -> Result<String, AllocError>
+    ensures { IfOk result (λ line. string_bytes line ≡ leaf_line depth index size va ppn flags) }
+{
     let mut line = indexed_line(alloc, depth, index)?;
     let size = size_word(size);
     write!(line, "{size}:0x{va:x}")?;
@@ -78,28 +91,31 @@ fn leaf_line(
     Ok(line)
 }
 
-/// Adds a word that is there, with all that lies below it. Of the levels each is one lower, so this ends.
+/// Adds the line of a word, if it is a pointer or a leaf. The table that a pointer leads to comes back.
 fn push_word(
     alloc: Global,
     text: &mut String,
-    memory: &Memory,
+    scheme: Scheme,
     table: Table,
     index: u16,
     word: u64,
-) -> Result<(), AllocError> {
-    let scheme = memory.scheme();
+) -> Result<Option<Table>, AllocError>
+    requires { table.level ≤ top_level scheme }
+    ensures { IfOk result (λ found. IfSome found (λ below. below.level < table.level)) }
+{
     let depth = scheme.top_level() - table.level;
     let va = address(scheme, table, index);
     match Pte(word).kind() {
-        Kind::Invalid | Kind::Reserved => Ok(()),
+        Kind::Invalid | Kind::Reserved => Ok(None),
         Kind::Leaf { ppn, flags } => {
             let size = PageSize::at_level(table.level);
             let line = leaf_line(alloc, depth, index, size, va, ppn, flags)?;
-            text.push_str(line.as_str())
+            text.push_str(line.as_str())?;
+            Ok(None)
         }
         Kind::Table { ppn, global } => {
             if table.level == 0 {
-                return Ok(());
+                return Ok(None);
             }
             let below = Table {
                 ppn,
@@ -108,12 +124,12 @@ fn push_word(
             };
             let line = pointer_line(alloc, depth, index, below, global)?;
             text.push_str(line.as_str())?;
-            push_words(alloc, text, memory, below, 0, TABLE_LENGTH)
+            Ok(Some(below))
         }
     }
 }
 
-/// Adds the words of a table from an index up to another, each with all that lies below it.
+/// Adds the words of a table from an index up to another, each with all that lies below it, one level after the other.
 fn push_words(
     alloc: Global,
     text: &mut String,
@@ -121,17 +137,26 @@ fn push_words(
     table: Table,
     from: u16,
     to: u16,
-) -> Result<(), AllocError> {
+) -> Result<(), AllocError>
+    requires { table.level ≤ top_level memory.now.layout.scheme }
+{
+    let scheme = memory.scheme();
     for index in from..to {
-        if let Some(word) = memory.word(table.ppn, index) {
-            push_word(alloc, text, memory, table, index, word)?;
+        let Some(word) = memory.word(table.ppn, index) else {
+            return Ok(());
+        };
+        if let Some(below) = push_word(alloc, text, scheme, table, index, word)? {
+            push_words(alloc, text, memory, below, 0, TABLE_LENGTH)?;
         }
     }
     Ok(())
 }
 
 /// The table at the root of a space.
-fn root(memory: &Memory, space: u8) -> Table {
+fn root(memory: &Memory, space: u8) -> Table
+    requires { space < length memory.now.layout.homes }
+    ensures { result.level ≡ top_level memory.now.layout.scheme }
+{
     Table {
         ppn: memory.root(space),
         level: memory.scheme().top_level(),
@@ -145,7 +170,11 @@ pub(crate) fn push_tables(
     text: &mut String,
     machine: &Machine,
     window: u16,
-) -> Result<(), AllocError> {
+) -> Result<(), AllocError>
+    requires spaces { length machine.now.spaces ≡ length machine.now.memory.layout.homes }
+    requires some { 0 < length machine.now.memory.layout.homes }
+    requires window { window ≤ table_length }
+{
     let memory = machine.memory();
     let first = TABLE_LENGTH - window;
     for space in 0..machine.spaces() {

@@ -1,5 +1,8 @@
 //! A walk in flight: what it is for, and how far it is.
 
+ghost use Rattle.std.specs.Prelude.{◌≡◌};
+ghost use Rattle.show.specs.Rows.{access_text};
+
 use pte::PageSize;
 use walk::{Found, Progress, Walk};
 
@@ -28,7 +31,9 @@ pub(crate) fn aim(walk: Walk) -> (u64, u8) {
 }
 
 /// The word of a walk's access: `fetch`, `load` or `store`.
-pub(crate) fn access_word(walk: Walk) -> &'static str {
+pub(crate) fn access_word(walk: Walk) -> &'static str
+    ensures { result.now ≡ access_text walk.access }
+{
     match walk.load(None) {
         Progress::Trap(trap) => match trap.cause {
             1 => "fetch",
