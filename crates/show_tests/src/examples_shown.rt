@@ -1,5 +1,5 @@
-//! What `show` prints of the first steps of files in the folder `examples`, worked out by hand from the rules of
-//! docs/PROTOCOL.md. A test's name and its comment say what is to be seen.
+//! What `show` prints of the first steps of files in the folder `examples`, worked out by hand from
+//! the rules of docs/PROTOCOL.md. A test's name and its comment say what is to be seen.
 use files::read_run;
 use show::show_text;
 use std::alloc::Global;
@@ -16,7 +16,8 @@ fn shows(alloc: Global, file: &str, sheet: &str) -> Result<bool, Fail> {
     Ok(text.as_str() == sheet)
 }
 
-/// `shootdown`, 7 steps. A superpage was unmapped, and hart 1 still holds it: nobody was asked.
+/// `shootdown`, 7 steps.
+/// A superpage was unmapped, and hart 1 still holds it: nobody was asked.
 #[test]
 fn superpage_is_held(rt: HostRuntime) -> Result<(), Fail> {
     let file = r#"harts = 2
@@ -55,7 +56,8 @@ tables of the kernel: in each root
     Ok(())
 }
 
-/// `shootdown`, 11 steps. Hart 1 serves the request for it, and has fenced: its TLB is empty.
+/// `shootdown`, 11 steps.
+/// Hart 1 serves the request for it, and has fenced: its TLB is empty.
 #[test]
 fn superpage_is_served(rt: HostRuntime) -> Result<(), Fail> {
     let file = r#"harts = 2
@@ -101,7 +103,8 @@ tables of the kernel: in each root
     Ok(())
 }
 
-/// `superpage-split`, 25 steps. The superpage became a table of small pages, and a walk begins at the root.
+/// `superpage-split`, 25 steps.
+/// The superpage became a table of small pages, and a walk begins at the root.
 #[test]
 fn superpage_is_split(rt: HostRuntime) -> Result<(), Fail> {
     let file = r#"harts = 2
@@ -160,7 +163,8 @@ tables of the kernel: in each root
     Ok(())
 }
 
-/// `sv48-split`, 36 steps. Sv48: leaves at two levels below the root, and a walk at the fourth.
+/// `sv48-split`, 36 steps.
+/// Sv48: leaves at two levels below the root, and a walk at the fourth.
 #[test]
 fn four_levels(rt: HostRuntime) -> Result<(), Fail> {
     let file = r#"harts = 2
@@ -237,7 +241,8 @@ tables of the kernel: in each root
     Ok(())
 }
 
-/// `exit-and-fork`, 16 steps. Space 1 retires under ticket 0, whose request waits; hart 1 still holds a page of it.
+/// `exit-and-fork`, 16 steps.
+/// Space 1 retires under ticket 0, whose request waits; hart 1 still holds a page of it.
 #[test]
 fn space_retires(rt: HostRuntime) -> Result<(), Fail> {
     let file = r#"harts = 2
@@ -297,7 +302,8 @@ tables of the kernel: in each root
     Ok(())
 }
 
-/// `exit-and-fork`, 22 steps. All harts are collected and the ticket is finished; the tables are there still.
+/// `exit-and-fork`, 22 steps.
+/// All harts are collected and the ticket is finished; the tables are there still.
 #[test]
 fn ticket_of_space_is_finished(rt: HostRuntime) -> Result<(), Fail> {
     let file = r#"harts = 2
@@ -354,7 +360,8 @@ tables of the kernel: in each root
     Ok(())
 }
 
-/// `exit-and-fork`, 23 steps. The space is given back.
+/// `exit-and-fork`, 23 steps.
+/// The space is given back.
 #[test]
 fn space_is_free(rt: HostRuntime) -> Result<(), Fail> {
     let file = r#"harts = 2
@@ -409,7 +416,8 @@ tables of the kernel: in each root
     Ok(())
 }
 
-/// `mailbox-full-and-closed`, 13 steps. Two requests wait in a mailbox for two.
+/// `mailbox-full-and-closed`, 13 steps.
+/// Two requests wait in a mailbox for two.
 #[test]
 fn mailbox_is_full(rt: HostRuntime) -> Result<(), Fail> {
     let file = r#"harts = 2
@@ -461,7 +469,8 @@ tables of the kernel: in each root
     Ok(())
 }
 
-/// `mailbox-full-and-closed`, 25 steps. The mailbox is closed, and hart 1 serves what was accepted before.
+/// `mailbox-full-and-closed`, 25 steps.
+/// The mailbox is closed, and hart 1 serves what was accepted before.
 #[test]
 fn mailbox_is_closed(rt: HostRuntime) -> Result<(), Fail> {
     let file = r#"harts = 2
@@ -527,7 +536,8 @@ tables of the kernel: in each root
     Ok(())
 }
 
-/// `walk-in-flight`, 16 steps. Hart 1 has read two pointers, and hart 2 holds the leaf.
+/// `walk-in-flight`, 16 steps.
+/// Hart 1 has read two pointers, and hart 2 holds the leaf.
 #[test]
 fn walk_is_in_flight(rt: HostRuntime) -> Result<(), Fail> {
     let file = r#"harts = 3
@@ -581,7 +591,8 @@ tables of the kernel: in each root
     Ok(())
 }
 
-/// `global-page-asid-fence`, 8 steps. A page of the kernel: its tables stand once, and the entry is of no ASID.
+/// `global-page-asid-fence`, 8 steps.
+/// A page of the kernel: its tables stand once, and the entry is of no ASID.
 #[test]
 fn kernel_page_is_global(rt: HostRuntime) -> Result<(), Fail> {
     let file = r#"harts = 2
@@ -601,7 +612,7 @@ steps = [
 
 space  asid   home  root           state
 0      1      0     0x80001        live
-1      2      0     0x80002        live
+1      2      1     0x80002        live
 
 hart  space  asid   walk   address             level  table
 0     0      1      -
