@@ -1,1 +1,4 @@
+pub mod CountLemmas
+pub mod RowLemmas
 pub mod RunLemmas
+pub mod WalkLemmas

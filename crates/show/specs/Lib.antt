@@ -1,3 +1,5 @@
 pub mod Marks
 pub mod Rows
 pub mod Runs
+pub mod Sheet
+pub mod Walks

@@ -1,7 +1,7 @@
-//! Lines of columns.
+//! Lines of columns, and tables of lines.
 
-ghost use Rattle.std.specs.Prelude.{◌≡◌, OnOk, string_bytes};
-ghost use Rattle.show.specs.Rows.{upto};
+ghost use Rattle.std.specs.Prelude.{◌≡◌, ◌++◌, OnOk, string_bytes};
+ghost use Rattle.show.specs.Rows.{table_text, upto};
 
 use std::alloc::AllocError;
 
@@ -14,4 +14,16 @@ pub(crate) fn pad(line: &mut String, column: usize) -> Result<(), AllocError>
         line.push_str(" ")?;
     }
     Ok(())
+}
+
+/// Adds a table after a blank line, if it has rows.
+pub(crate) fn push_table(text: &mut String, head: &str, rows: &str) -> Result<(), AllocError>
+    ensures ok { OnOk result (string_bytes text.new ≡ string_bytes text.old ++ table_text head.now rows.now) }
+{
+    if rows.is_empty() {
+        return Ok(());
+    }
+    text.push_str("\n")?;
+    text.push_str(head)?;
+    text.push_str(rows)
 }

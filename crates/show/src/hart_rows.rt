@@ -1,14 +1,16 @@
 //! Harts: where they run, what they walk for, what they serve, and what their TLBs hold.
 
 ghost use Rattle.std.specs.Prelude.{◌≡◌, ◌++◌, IfOk, OnOk, Some, string_bytes};
-ghost use Rattle.show.specs.Rows.{hart_line, service_line, table_text, with_walk};
+ghost use Rattle.show.specs.Sheet.{entry_row, entry_rows, harts_text, service_row, services_text, tlbs_text};
+ghost use Rattle.show.specs.Rows.{hart_line, service_line, with_walk};
 
-use crate::columns::pad;
+use crate::columns::{pad, push_table};
 use crate::entries::{ENTRY_HEAD, entry_line};
 use crate::walks::{access_word, aim};
 use lines::push_what;
 use std::alloc::{AllocError, Global};
 use stepcore::{Hart, Machine, Serving};
+use tlb::Entry;
 use walk::Walk;
 
 /// The columns of harts.
@@ -18,7 +20,9 @@ const HART_HEAD: &str = "hart  space  asid   walk   address             level  t
 const SERVICE_HEAD: &str = "hart  serves  ticket  fenced  drops\n";
 
 /// Adds the columns of a walk in flight.
-fn push_walk(line: &mut String, walk: Walk) -> Result<(), AllocError> {
+fn push_walk(line: &mut String, walk: Walk) -> Result<(), AllocError>
+    ensures ok { OnOk result (string_bytes line.new ≡ with_walk (string_bytes line.old) (Some walk)) }
+{
     let (va, level) = aim(walk);
     let (table, _index) = walk.wants();
     line.push_str(access_word(walk))?;
@@ -31,7 +35,9 @@ fn push_walk(line: &mut String, walk: Walk) -> Result<(), AllocError> {
 }
 
 /// The line of a hart in a space of an ASID.
-fn hart_line(alloc: Global, number: u8, hart: &Hart, asid: u16) -> Result<String, AllocError> {
+fn hart_line(alloc: Global, number: u8, hart: &Hart, asid: u16) -> Result<String, AllocError>
+    ensures { IfOk result (λ line. string_bytes line ≡ hart_line number hart.now asid) }
+{
     let mut line = String::new(alloc);
     let space = hart.space();
     write!(line, "{number}")?;
@@ -73,12 +79,29 @@ pub(crate) fn push_harts(
     alloc: Global,
     text: &mut String,
     machine: &Machine,
-) -> Result<(), AllocError> {
-    text.push_str("\n")?;
-    text.push_str(HART_HEAD)?;
+) -> Result<(), AllocError>
+    ensures ok { OnOk result (string_bytes text.new ≡ string_bytes text.old ++ harts_text machine.now) }
+{
+    let mut rows = String::new(alloc);
     for number in 0..machine.harts() {
         let line = hart_line(alloc, number, machine.hart(number), machine.asid(number))?;
-        text.push_str(line.as_str())?;
+        rows.push_str(line.as_str())?;
+    }
+    push_table(text, HART_HEAD, rows.as_str())
+}
+
+/// Adds the request that a hart serves, if there is one.
+fn push_service(
+    alloc: Global,
+    rows: &mut String,
+    number: u8,
+    serving: Option<Serving>,
+) -> Result<(), AllocError>
+    ensures ok { OnOk result (string_bytes rows.new ≡ string_bytes rows.old ++ service_row number serving) }
+{
+    if let Some(serving) = serving {
+        let line = service_line(alloc, number, &serving)?;
+        rows.push_str(line.as_str())?;
     }
     Ok(())
 }
@@ -88,29 +111,39 @@ pub(crate) fn push_services(
     alloc: Global,
     text: &mut String,
     machine: &Machine,
-) -> Result<(), AllocError> {
+) -> Result<(), AllocError>
+    ensures ok { OnOk result (string_bytes text.new ≡ string_bytes text.old ++ services_text machine.now) }
+{
     let mut rows = String::new(alloc);
     for number in 0..machine.harts() {
-        if let Some(serving) = machine.hart(number).serving() {
-            let line = service_line(alloc, number, &serving)?;
-            rows.push_str(line.as_str())?;
-        }
+        push_service(alloc, &mut rows, number, machine.hart(number).serving())?;
     }
     push_table(text, SERVICE_HEAD, rows.as_str())
 }
 
-/// Adds the entries of the TLB of a hart, the oldest first.
-fn push_entries(
+/// Adds the entry of an age, if there is one.
+fn push_entry(
     alloc: Global,
     rows: &mut String,
     number: u8,
-    hart: &Hart,
-) -> Result<(), AllocError> {
+    age: usize,
+    entry: Option<Entry>,
+) -> Result<(), AllocError>
+    ensures ok { OnOk result (string_bytes rows.new ≡ string_bytes rows.old ++ entry_row number age entry) }
+{
+    if let Some(entry) = entry {
+        let line = entry_line(alloc, number, age, &entry)?;
+        rows.push_str(line.as_str())?;
+    }
+    Ok(())
+}
+
+/// Adds the entries of the TLB of a hart, the oldest first.
+fn push_entries(alloc: Global, rows: &mut String, number: u8, hart: &Hart) -> Result<(), AllocError>
+    ensures ok { OnOk result (string_bytes rows.new ≡ string_bytes rows.old ++ entry_rows number hart.now.entries) }
+{
     for age in 0..hart.tlb().len() {
-        if let Some(entry) = hart.tlb().entry(age) {
-            let line = entry_line(alloc, number, age, &entry)?;
-            rows.push_str(line.as_str())?;
-        }
+        push_entry(alloc, rows, number, age, hart.tlb().entry(age))?;
     }
     Ok(())
 }
@@ -120,22 +153,12 @@ pub(crate) fn push_tlbs(
     alloc: Global,
     text: &mut String,
     machine: &Machine,
-) -> Result<(), AllocError> {
+) -> Result<(), AllocError>
+    ensures ok { OnOk result (string_bytes text.new ≡ string_bytes text.old ++ tlbs_text machine.now) }
+{
     let mut rows = String::new(alloc);
     for number in 0..machine.harts() {
         push_entries(alloc, &mut rows, number, machine.hart(number))?;
     }
     push_table(text, ENTRY_HEAD, rows.as_str())
-}
-
-/// Adds a table after a blank line, if it has rows.
-pub(crate) fn push_table(text: &mut String, head: &str, rows: &str) -> Result<(), AllocError>
-    ensures ok { OnOk result (string_bytes text.new ≡ string_bytes text.old ++ table_text head.now rows.now) }
-{
-    if rows.is_empty() {
-        return Ok(());
-    }
-    text.push_str("\n")?;
-    text.push_str(head)?;
-    text.push_str(rows)
 }

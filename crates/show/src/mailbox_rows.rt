@@ -1,10 +1,10 @@
 //! Mailboxes with requests that are outstanding, and those that are closed.
 
-ghost use Rattle.std.specs.Prelude.{◌≡◌, IfOk, OnOk, string_bytes};
+ghost use Rattle.std.specs.Prelude.{◌≡◌, ◌++◌, ◌<◌, length, IfOk, OnOk, string_bytes};
+ghost use Rattle.show.specs.Sheet.{mailbox_rows, mailbox_rows_from, mailbox_rows_if, mailboxes_text, waiting_row};
 ghost use Rattle.show.specs.Rows.{mailbox_line, waiting_line, with_request};
 
-use crate::columns::pad;
-use crate::hart_rows::push_table;
+use crate::columns::{pad, push_table};
 use lines::push_what;
 use shoot::{MAX_CAPACITY, Mailbox, Request};
 use std::alloc::{AllocError, Global};
@@ -68,6 +68,21 @@ fn waiting_line(alloc: Global, request: Request) -> Result<String, AllocError>
     Ok(line)
 }
 
+/// Adds the request that waits in a place, if there is one.
+fn push_waiting(
+    alloc: Global,
+    rows: &mut String,
+    waiting: Option<Request>,
+) -> Result<(), AllocError>
+    ensures ok { OnOk result (string_bytes rows.new ≡ string_bytes rows.old ++ waiting_row waiting) }
+{
+    if let Some(request) = waiting {
+        let line = waiting_line(alloc, request)?;
+        rows.push_str(line.as_str())?;
+    }
+    Ok(())
+}
+
 /// Adds a mailbox with all requests that wait, the oldest first.
 fn push_mailbox(
     alloc: Global,
@@ -76,15 +91,48 @@ fn push_mailbox(
     to: u8,
     mailbox: &Mailbox,
     capacity: u16,
-) -> Result<(), AllocError> {
+) -> Result<(), AllocError>
+    ensures ok { OnOk result (string_bytes rows.new ≡ string_bytes rows.old ++ mailbox_rows from to mailbox.now capacity) }
+{
     let first = mailbox_line(alloc, from, to, mailbox, capacity)?;
     rows.push_str(first.as_str())?;
-    for place in 1..MAX_CAPACITY {
-        let Some(request) = mailbox.waiting(place) else {
-            return Ok(());
-        };
-        let line = waiting_line(alloc, request)?;
-        rows.push_str(line.as_str())?;
+    for place in 0..MAX_CAPACITY {
+        push_waiting(alloc, rows, mailbox.waiting(place + 1))?;
+    }
+    Ok(())
+}
+
+/// Adds a mailbox, if it is closed or has requests that are outstanding.
+fn push_mailbox_if(
+    alloc: Global,
+    rows: &mut String,
+    from: u8,
+    to: u8,
+    mailbox: &Mailbox,
+    capacity: u16,
+) -> Result<(), AllocError>
+    ensures ok { OnOk result (string_bytes rows.new ≡ string_bytes rows.old ++ mailbox_rows_if from to mailbox.now capacity) }
+{
+    if mailbox.is_closed() || mailbox.outstanding() > 0 {
+        push_mailbox(alloc, rows, from, to, mailbox, capacity)
+    } else {
+        Ok(())
+    }
+}
+
+/// Adds the mailboxes of a sender.
+fn push_mailboxes_from(
+    alloc: Global,
+    rows: &mut String,
+    machine: &Machine,
+    from: u8,
+    capacity: u16,
+) -> Result<(), AllocError>
+    requires { from < length machine.now.harts }
+    ensures ok { OnOk result (string_bytes rows.new ≡ string_bytes rows.old ++ mailbox_rows_from machine.now capacity from (length machine.now.harts)) }
+{
+    for to in 0..machine.harts() {
+        push_mailbox_if(alloc, rows, from, to, machine.mailbox(from, to), capacity)?;
     }
     Ok(())
 }
@@ -95,16 +143,12 @@ pub(crate) fn push_mailboxes(
     text: &mut String,
     machine: &Machine,
     capacity: u16,
-) -> Result<(), AllocError> {
-    let harts = machine.harts();
+) -> Result<(), AllocError>
+    ensures ok { OnOk result (string_bytes text.new ≡ string_bytes text.old ++ mailboxes_text machine.now capacity) }
+{
     let mut rows = String::new(alloc);
-    for from in 0..harts {
-        for to in 0..harts {
-            let mailbox = machine.mailbox(from, to);
-            if mailbox.is_closed() || mailbox.outstanding() > 0 {
-                push_mailbox(alloc, &mut rows, from, to, mailbox, capacity)?;
-            }
-        }
+    for from in 0..machine.harts() {
+        push_mailboxes_from(alloc, &mut rows, machine, from, capacity)?;
     }
     push_table(text, MAILBOX_HEAD, rows.as_str())
 }

@@ -1,13 +1,12 @@
 //! Open orders.
 
 ghost use Rattle.std.specs.Prelude.{◌≡◌, ◌++◌, IfOk, IsTrue, OnOk, Some, string_bytes};
-ghost use Rattle.pte.specs.declared.address.What.{What};
 ghost use Rattle.shoot.specs.Tickets.{is_acked, is_collected, is_open, is_posted, names, what_at};
 ghost use Rattle.show.specs.Marks.{is_marked};
+ghost use Rattle.show.specs.Sheet.{order_row, order_rows, orders_text};
 ghost use Rattle.show.specs.Rows.{marks_text, order_line};
 
-use crate::columns::pad;
-use crate::hart_rows::push_table;
+use crate::columns::{pad, push_table};
 use lines::push_what;
 use shoot::{MAX_TICKETS, Tickets};
 use std::alloc::{AllocError, Global};
@@ -68,8 +67,7 @@ fn order_line(
     ticket: u32,
 ) -> Result<String, AllocError>
     requires { IsTrue (is_open tickets.now ticket) }
-    ensures { IfOk result (λ line. (what : What) → what_at tickets.now ticket ≡ Some what → string_bytes line ≡ order_line harts hart ticket
-        (names tickets.now ticket) (is_posted tickets.now ticket) (is_acked tickets.now ticket) (is_collected tickets.now ticket) what) }
+    ensures { IfOk result (λ line. string_bytes line ≡ order_row harts hart tickets.now ticket (what_at tickets.now ticket)) }
 {
     let mut line = String::new(alloc);
     write!(line, "{hart}")?;
@@ -89,6 +87,24 @@ fn order_line(
     Ok(line)
 }
 
+/// Adds the order of a ticket, if it is open.
+fn push_order(
+    alloc: Global,
+    rows: &mut String,
+    harts: u8,
+    hart: u8,
+    tickets: &Tickets,
+    ticket: u32,
+) -> Result<(), AllocError>
+    ensures ok { OnOk result (string_bytes rows.new ≡ string_bytes rows.old ++ order_row harts hart tickets.now ticket (what_at tickets.now ticket)) }
+{
+    if tickets.is_open(ticket) {
+        let line = order_line(alloc, harts, hart, tickets, ticket)?;
+        rows.push_str(line.as_str())?;
+    }
+    Ok(())
+}
+
 /// Adds the open orders of a hart.
 fn push_orders_of(
     alloc: Global,
@@ -96,12 +112,11 @@ fn push_orders_of(
     harts: u8,
     hart: u8,
     tickets: &Tickets,
-) -> Result<(), AllocError> {
+) -> Result<(), AllocError>
+    ensures ok { OnOk result (string_bytes rows.new ≡ string_bytes rows.old ++ order_rows harts hart tickets.now) }
+{
     for ticket in 0..MAX_TICKETS as u32 {
-        if tickets.is_open(ticket) {
-            let line = order_line(alloc, harts, hart, tickets, ticket)?;
-            rows.push_str(line.as_str())?;
-        }
+        push_order(alloc, rows, harts, hart, tickets, ticket)?;
     }
     Ok(())
 }
@@ -111,7 +126,9 @@ pub(crate) fn push_orders(
     alloc: Global,
     text: &mut String,
     machine: &Machine,
-) -> Result<(), AllocError> {
+) -> Result<(), AllocError>
+    ensures ok { OnOk result (string_bytes text.new ≡ string_bytes text.old ++ orders_text machine.now) }
+{
     let harts = machine.harts();
     let mut rows = String::new(alloc);
     for hart in 0..harts {

@@ -3,6 +3,7 @@
 ghost use Rattle.std.specs.Prelude.{◌≡◌, ◌<◌, ◌≤◌, IfErr, IfOk, length, string_bytes};
 ghost use Rattle.pte.specs.Address.{table_length};
 ghost use Rattle.keys.specs.declared.fault.Fault.TheVariants.{NoMemory};
+ghost use Rattle.show.specs.Sheet.{IsSheet, Shows};
 ghost use Rattle.show.specs.Rows.{first_line, scheme_text};
 
 use crate::hart_rows::{push_harts, push_services, push_tlbs};
@@ -10,7 +11,7 @@ use crate::mailbox_rows::push_mailboxes;
 use crate::order_rows::push_orders;
 use crate::runs::machine_after;
 use crate::space_rows::push_spaces;
-use crate::table_tree::push_tables;
+use crate::table_tree::tree_text;
 use files::{Fault, RunScenario};
 use pte::Scheme;
 use spaces::Config;
@@ -56,6 +57,7 @@ fn sheet(
     requires spaces { length machine.now.spaces ≡ length machine.now.memory.layout.homes }
     requires some { 0 < length machine.now.memory.layout.homes }
     requires window { config.now.window ≤ table_length }
+    ensures { IfOk result (λ text. IsSheet steps config.now machine.now (string_bytes text)) }
 {
     let mut text = first_line(alloc, steps, config)?;
     push_spaces(alloc, &mut text, machine)?;
@@ -64,7 +66,8 @@ fn sheet(
     push_tlbs(alloc, &mut text, machine)?;
     push_orders(alloc, &mut text, machine)?;
     push_mailboxes(alloc, &mut text, machine, config.capacity)?;
-    push_tables(alloc, &mut text, machine, config.window)?;
+    let tree = tree_text(alloc, machine, config.window)?;
+    text.push_str(tree.as_str())?;
     Ok(text)
 }
 
@@ -74,6 +77,7 @@ fn sheet(
 /// The events are done once, in one pass, as `run` does them. What follows reads each table word once and each part of the
 /// machine a fixed number of times, whatever the number of events.
 pub fn show_text(alloc: Global, scenario: &RunScenario) -> Result<String, Fault>
+    ensures shown { IfOk result (λ text. Shows scenario.now.config scenario.now.events.items (string_bytes text)) }
     ensures fault { IfErr result (λ fault. fault ≡ NoMemory) }
 {
     let machine = machine_after(alloc, scenario)?;

@@ -1,9 +1,10 @@
 //! Spaces.
 
 ghost use Rattle.std.specs.Prelude.{◌≡◌, ◌++◌, IfOk, OnOk, length, string_bytes};
+ghost use Rattle.show.specs.Sheet.{spaces_text};
 ghost use Rattle.show.specs.Rows.{asid_text, phase_text, space_line};
 
-use crate::columns::pad;
+use crate::columns::{pad, push_table};
 use spaces::Place;
 use std::alloc::{AllocError, Global};
 use stepcore::{Machine, Phase, SpaceState};
@@ -64,15 +65,15 @@ pub(crate) fn push_spaces(
     machine: &Machine,
 ) -> Result<(), AllocError>
     requires { length machine.now.spaces ≡ length machine.now.memory.layout.homes }
+    ensures ok { OnOk result (string_bytes text.new ≡ string_bytes text.old ++ spaces_text machine.now) }
 {
-    text.push_str("\n")?;
-    text.push_str(SPACE_HEAD)?;
+    let mut rows = String::new(alloc);
     let memory = machine.memory();
     for space in 0..machine.spaces() {
         let home = memory.home(Place::Space(space));
         let root = memory.root(space);
         let line = space_line(alloc, space, machine.space(space), home, root)?;
-        text.push_str(line.as_str())?;
+        rows.push_str(line.as_str())?;
     }
-    Ok(())
+    push_table(text, SPACE_HEAD, rows.as_str())
 }

@@ -164,25 +164,23 @@ fn root(memory: &Memory, space: u8) -> Table
     }
 }
 
-/// Adds the tables of each space, and those of the kernel once.
-pub(crate) fn push_tables(
-    alloc: Global,
-    text: &mut String,
-    machine: &Machine,
-    window: u16,
-) -> Result<(), AllocError>
+/// The lines of the tables of each space, and of those of the kernel once.
+pub(crate) fn tree_text(alloc: Global, machine: &Machine, window: u16) -> Result<String, AllocError>
     requires spaces { length machine.now.spaces ≡ length machine.now.memory.layout.homes }
     requires some { 0 < length machine.now.memory.layout.homes }
     requires window { window ≤ table_length }
 {
+    let mut text = String::new(alloc);
     let memory = machine.memory();
     let first = TABLE_LENGTH - window;
     for space in 0..machine.spaces() {
         let table = root(memory, space);
         let ppn = table.ppn;
         write!(text, "\ntables of space {space}: root 0x{ppn:x}\n")?;
-        push_words(alloc, text, memory, table, 0, first)?;
+        push_words(alloc, &mut text, memory, table, 0, first)?;
     }
     text.push_str("\ntables of the kernel: in each root\n")?;
-    push_words(alloc, text, memory, root(memory, 0), first, TABLE_LENGTH)
+    let table = root(memory, 0);
+    push_words(alloc, &mut text, memory, table, first, TABLE_LENGTH)?;
+    Ok(text)
 }

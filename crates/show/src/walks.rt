@@ -1,32 +1,51 @@
 //! A walk in flight: what it is for, and how far it is.
 
-ghost use Rattle.std.specs.Prelude.{◌≡◌};
+ghost use Rattle.std.specs.Prelude.{◌≡◌, Some};
+ghost use Rattle.walk.specs.Step.{load_of};
+ghost use Rattle.show.specs.Walks.{found_of, IsFoundBy};
 ghost use Rattle.show.specs.Rows.{access_text};
 
-use pte::PageSize;
 use walk::{Found, Progress, Walk};
 
-/// The words of leaves of PPN 0 with all flags but G: one for U-mode, one for S-mode.
-const ANY_LEAVES: [u64; 2] = [0xdf, 0xcf];
+/// The word of a leaf of PPN 0 with all flags but G, which every access in U-mode may use.
+const USER_LEAF: u64 = 0xdf;
 
-/// What the walk would find in a leaf that allows all accesses.
-fn found_in_any(walk: Walk) -> Option<Found> {
-    for word in ANY_LEAVES {
-        if let Progress::Found(found) = walk.load(Some(word)) {
-            return Some(found);
-        }
+/// The same without U, which every access in S-mode may use.
+const SUPER_LEAF: u64 = 0xcf;
+
+/// What the walk would find in a word.
+fn found_in(walk: Walk, word: u64) -> Option<Found>
+    ensures { result ≡ found_of (load_of walk (Some word)) }
+{
+    match walk.load(Some(word)) {
+        Progress::Found(found) => Some(found),
+        Progress::More(_) => None,
+        Progress::Trap(_) => None,
     }
-    None
+}
+
+/// What the walk would find in a leaf of PPN 0 that it may use.
+fn found_in_any(walk: Walk) -> Option<Found>
+    ensures { IsFoundBy walk result }
+{
+    match found_in(walk, USER_LEAF) {
+        Some(found) => Some(found),
+        None => found_in(walk, SUPER_LEAF),
+    }
 }
 
 /// The virtual address of a walk, and the level of the table that it reads next.
-pub(crate) fn aim(walk: Walk) -> (u64, u8) {
+pub(crate) fn aim(walk: Walk) -> (u64, u8)
+    ensures va { result.0 ≡ walk.va }
+    ensures level { result.1 ≡ walk.level }
+{
+    let (_table, _index) = walk.wants();
     match found_in_any(walk) {
         Some(found) => (
-            found.page.base().get() | found.pa,
+            found.page.base().get() + found.pa,
             found.page.size().level(),
         ),
-        None => (0, PageSize::Kib4.level()),
+        None => (0, 0),
     }
 }
 
