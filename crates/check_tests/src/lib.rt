@@ -1,0 +1,9 @@
+//! Tests of what is told of files: each fault, several in one file, and files without one.
+#![tactic(auto)]
+
+#[cfg(test)]
+mod files_told;
+#[cfg(test)]
+mod keys_told;
+#[cfg(test)]
+mod steps_told;

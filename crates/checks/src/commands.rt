@@ -1,0 +1,67 @@
+//! The command that a file is for.
+use toml::Table;
+
+/// The commands that read a file.
+#[derive(Clone, Copy, Debug, PartialEq, Eq)]
+pub enum Command {
+    Walk,
+    Run,
+    Live,
+}
+
+/// The keys of the files for `run`.
+const RUN_KEYS: [&str; 8] = [
+    "harts", "window", "base", "capacity", "spares", "spaces", "steps", "mode",
+];
+
+/// The keys of the files for `live`.
+const LIVE_KEYS: [&str; 10] = [
+    "harts", "window", "base", "capacity", "spares", "spaces", "setup", "scripts", "turns", "mode",
+];
+
+/// The keys of the files for `walk`.
+const WALK_KEYS: [&str; 5] = ["root", "frames", "words", "steps", "mode"];
+
+/// The command that a document is for: `live` if it has a key that no other command knows (`setup`, `scripts`, `turns`), else
+/// `walk` if it has one of its own (`root`, `frames`, `words`), else `run`.
+pub fn command_of(table: &Table) -> Command {
+    if has_live_key(table) {
+        Command::Live
+    } else if has_walk_key(table) {
+        Command::Walk
+    } else {
+        Command::Run
+    }
+}
+
+fn has_key(table: &Table, key: &str) -> bool {
+    table.get(key).is_some()
+}
+
+fn has_live_key(table: &Table) -> bool {
+    has_key(table, "setup") || has_key(table, "scripts") || has_key(table, "turns")
+}
+
+fn has_walk_key(table: &Table) -> bool {
+    has_key(table, "root") || has_key(table, "frames") || has_key(table, "words")
+}
+
+impl Command {
+    /// The word of the command line.
+    pub fn name(self) -> &'static str {
+        match self {
+            Command::Walk => "walk",
+            Command::Run => "run",
+            Command::Live => "live",
+        }
+    }
+
+    /// The keys that it knows.
+    pub(crate) fn keys(self) -> &'static [&'static str] {
+        match self {
+            Command::Walk => &WALK_KEYS,
+            Command::Run => &RUN_KEYS,
+            Command::Live => &LIVE_KEYS,
+        }
+    }
+}

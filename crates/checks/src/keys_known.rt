@@ -1,0 +1,59 @@
+//! Keys that the command does not know.
+use crate::commands::Command;
+use crate::near::nearest;
+use crate::report::Report;
+use crate::values::Document;
+use std::alloc::AllocError;
+
+/// Whether the command knows the key.
+fn knows(command: Command, key: &str) -> bool {
+    command.keys().iter().any(|known| *known == key)
+}
+
+/// The first other command that knows the key.
+fn other_that_knows(key: &str) -> Option<Command> {
+    if knows(Command::Run, key) {
+        Some(Command::Run)
+    } else if knows(Command::Live, key) {
+        Some(Command::Live)
+    } else if knows(Command::Walk, key) {
+        Some(Command::Walk)
+    } else {
+        None
+    }
+}
+
+/// Tells each key that the command does not know, in the order of their bytes.
+pub fn tell_unknown(
+    report: &mut Report,
+    document: &Document<'_>,
+    command: Command,
+) -> Result<(), AllocError> {
+    for key in document.table.keys() {
+        if !knows(command, key.as_str()) {
+            tell_unknown_key(report, document, command, key.as_str())?;
+        }
+    }
+    Ok(())
+}
+
+fn tell_unknown_key(
+    report: &mut Report,
+    document: &Document<'_>,
+    command: Command,
+    key: &str,
+) -> Result<(), AllocError> {
+    let alloc = document.alloc;
+    let this = command.name();
+    let what = match other_that_knows(key) {
+        Some(other) => {
+            let other = other.name();
+            format!(in alloc; "a key of {other}, not of {this}")?
+        }
+        None => match nearest(key, command.keys()) {
+            Some(meant) => format!(in alloc; "no key of {this}; perhaps {meant}")?,
+            None => format!(in alloc; "no key of {this}")?,
+        },
+    };
+    document.tell(report, key, what.as_str())
+}

@@ -1,0 +1,20 @@
+//! What is wrong with a file: the command that it is for, and a line for each fault that is found in it.
+#![tactic(auto)]
+
+mod checked;
+mod commands;
+mod fields;
+mod forms;
+mod keys_known;
+mod layout;
+mod near;
+mod places;
+mod report;
+mod spaces_told;
+mod step_texts;
+mod tables_told;
+mod values;
+
+pub use checked::{Checked, check_text};
+pub use commands::{Command, command_of};
+pub use near::{is_near, nearest};

@@ -1,0 +1,44 @@
+//! The lines that explain.
+use std::alloc::{AllocError, Global};
+
+/// The most letters of a word of the file that are printed.
+const MOST_LETTERS: usize = 40;
+
+/// The lines that explain what is wrong, in order, each without its end.
+#[derive(Drop)]
+pub struct Report {
+    pub alloc: Global,
+    pub lines: Vec<String>,
+}
+
+impl Report {
+    pub fn new(alloc: Global) -> Report {
+        Report {
+            alloc,
+            lines: Vec::new(alloc),
+        }
+    }
+
+    /// Adds a line, after the number of the line of the file if it is known.
+    pub fn add(&mut self, line: Option<usize>, what: &str) -> Result<(), AllocError> {
+        let text = match line {
+            Some(line) => format!(in self.alloc; "line {line}: {what}")?,
+            None => String::from_str(self.alloc, what)?,
+        };
+        self.lines.push(text)?;
+        Ok(())
+    }
+}
+
+/// A word of the file as it is printed: between backquotes, without control characters, and cut after 40 letters.
+pub fn shown(alloc: Global, word: &str) -> Result<String, AllocError> {
+    let mut text = String::from_str(alloc, "`")?;
+    for letter in word.chars().take(MOST_LETTERS) {
+        text.push(if letter.is_control() { '?' } else { letter })?;
+    }
+    if word.chars().count() > MOST_LETTERS {
+        text.push_str("..")?;
+    }
+    text.push_str("`")?;
+    Ok(text)
+}
