@@ -179,6 +179,7 @@ fn layouts(rt: HostRuntime) -> Result<(), Fail> {
         let lines = format!(in rt.alloc(); "file for {command}\n{told}\n1 fault\n")?;
         let printed = checked.text.as_str();
         assert!(rt; printed == lines.as_str(), "{text}\n{printed}");
+        assert!(rt; checked.lines.len() == 1);
         let line = fault_line(rt.alloc(), &checked)?;
         assert!(rt; line.as_str() == fault, "{text}\n{line}");
     }
@@ -186,7 +187,7 @@ fn layouts(rt: HostRuntime) -> Result<(), Fail> {
 }
 
 /// Texts, the command, the one fault, and the line of the command.
-const OTHERS: [(&str, &str, &str, &str); 16] = [
+const OTHERS: [(&str, &str, &str, &str); 18] = [
     (
         "root = 1",
         "walk",
@@ -268,8 +269,20 @@ const OTHERS: [(&str, &str, &str, &str); 16] = [
     (
         "zoo = 1",
         "run",
-        "line 1: key `zoo`: no key of run",
+        "line 1: key `zoo`: no key of run; perhaps root of walk",
         "key zoo: wrong",
+    ),
+    (
+        "trns = 5",
+        "run",
+        "line 1: key `trns`: no key of run; perhaps turns of live",
+        "key trns: wrong",
+    ),
+    (
+        "velocity = 5",
+        "run",
+        "line 1: key `velocity`: no key of run",
+        "key velocity: wrong",
     ),
     (
         "sapces = [\"0 1\"]",
@@ -292,6 +305,7 @@ fn others(rt: HostRuntime) -> Result<(), Fail> {
         let lines = format!(in rt.alloc(); "file for {command}\n{told}\n1 fault\n")?;
         let printed = checked.text.as_str();
         assert!(rt; printed == lines.as_str(), "{text}\n{printed}");
+        assert!(rt; checked.lines.len() == 1);
         let line = fault_line(rt.alloc(), &checked)?;
         assert!(rt; line.as_str() == fault, "{text}\n{line}");
     }

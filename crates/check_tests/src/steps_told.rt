@@ -214,3 +214,17 @@ fn too_many_steps(rt: HostRuntime) -> Result<(), Fail> {
     );
     Ok(())
 }
+
+#[test]
+fn no_more_than_200_faults(rt: HostRuntime) -> Result<(), Fail> {
+    let mut text = String::from_str(rt.alloc(), "steps = [")?;
+    for _ in 0..300 {
+        text.push_str("'0 laod',")?;
+    }
+    text.push_str("]")?;
+    let checked = check_text(rt.alloc(), text.as_str())?;
+    assert!(rt; checked.lines.len() == 200);
+    let last = "\n200 faults are told, and there may be more\n";
+    assert!(rt; checked.text.as_str().ends_with(last));
+    Ok(())
+}

@@ -1,9 +1,19 @@
 //! The whole of a file: its command, each fault in a line, and the last line.
+ghost use Rattle.std.specs.Prelude.{◌≡◌, ◌↔◌, ◌+◌, ◌++◌, None, Some, IfOk, OnOk, codes, false, length, map, option_map, string_bytes, vec_len};
+ghost use Rattle.toml.specs.Parse.{parse_document};
+ghost use Rattle.toml.specs.View.{table_view};
+ghost use Rattle.keys.specs.Faults.{failure_of, fault_in};
+ghost use Rattle.keys.specs.declared.fault.Fault.TheVariants.{NotToml};
+ghost use Rattle.files.specs.LiveFile.{live_scenario_of};
+ghost use Rattle.files.specs.RunFile.{run_scenario_of};
+ghost use Rattle.files.specs.WalkFile.{walk_scenario_of};
+ghost use Rattle.checks.specs.Told.{command_of, fault_for, fault_of, is_memory, last_text, lines_text, name_by, name_of, whole_text};
+
 use crate::commands::{Command, command_of};
 use crate::keys_known::tell_unknown;
 use crate::layout::tell_layout;
 use crate::places::Place;
-use crate::report::Report;
+use crate::report::{MOST_TOLD, Report};
 use crate::step_texts::{List, Reader};
 use crate::tables_told::tell_tables;
 use crate::values::{Document, kind};
@@ -17,22 +27,78 @@ use toml::Table;
 /// What a check of a file found.
 #[derive(Drop)]
 pub struct Checked {
-    /// The lines that are printed: the command, a line for each fault, and `ok` or the number of faults.
+    /// A line for each fault that is told, without its end.
+    pub lines: Vec<String>,
+    /// What is printed: the command, those lines, and `ok` or the number of faults.
     pub text: String,
     /// What the command answers for the file: the first fault in the order of checking.
     pub fault: Option<Fault>,
 }
 
-/// The first fault of a text for a command.
-fn fault_of(alloc: Global, command: Command, text: &str) -> Result<Option<Fault>, AllocError> {
-    let fault = match command {
-        Command::Walk => read_walk(alloc, text).err(),
-        Command::Run => read_run(alloc, text).err(),
-        Command::Live => read_live(alloc, text).err(),
-    };
+/// Whether it is that of memory.
+fn is_memory(fault: &Fault) -> bool
+    ensures { result ≡ is_memory fault.now }
+{
     match fault {
-        Some(Fault::NoMemory) => Err(AllocError),
-        fault => Ok(fault),
+        Fault::NoMemory => true,
+        Fault::NotToml
+        | Fault::Key(_)
+        | Fault::Layout
+        | Fault::TooMany
+        | Fault::Step(_, _)
+        | Fault::Script(_, _, _)
+        | Fault::Output => false,
+    }
+}
+
+/// A fault that a reader told. `AllocError`: there was not enough memory.
+fn told(fault: Fault) -> Result<Option<Fault>, AllocError>
+    ensures { IfOk result (λ told. (told ≡ Some fault) × (is_memory fault ≡ false)) }
+{
+    if is_memory(&fault) {
+        return Err(AllocError);
+    }
+    Ok(Some(fault))
+}
+
+#[tactic(auto, using(crate::proofs::FaultLemmas::failing))]
+fn walk_fault(alloc: Global, text: &str) -> Result<Option<Fault>, AllocError>
+    ensures { IfOk result (λ fault. option_map failure_of fault ≡ option_map Some (fault_in (walk_scenario_of text.now))) }
+{
+    match read_walk(alloc, text) {
+        Ok(_scenario) => Ok(None),
+        Err(fault) => told(fault),
+    }
+}
+
+#[tactic(auto, using(crate::proofs::FaultLemmas::failing))]
+fn run_fault(alloc: Global, text: &str) -> Result<Option<Fault>, AllocError>
+    ensures { IfOk result (λ fault. option_map failure_of fault ≡ option_map Some (fault_in (run_scenario_of text.now))) }
+{
+    match read_run(alloc, text) {
+        Ok(_scenario) => Ok(None),
+        Err(fault) => told(fault),
+    }
+}
+
+#[tactic(auto, using(crate::proofs::FaultLemmas::failing))]
+fn live_fault(alloc: Global, text: &str) -> Result<Option<Fault>, AllocError>
+    ensures { IfOk result (λ fault. option_map failure_of fault ≡ option_map Some (fault_in (live_scenario_of text.now))) }
+{
+    match read_live(alloc, text) {
+        Ok(_scenario) => Ok(None),
+        Err(fault) => told(fault),
+    }
+}
+
+/// The first fault of a text for a command. `AllocError`: there was not enough memory.
+fn fault_for(alloc: Global, command: Command, text: &str) -> Result<Option<Fault>, AllocError>
+    ensures { IfOk result (λ fault. option_map failure_of fault ≡ option_map Some (fault_for command text.now)) }
+{
+    match command {
+        Command::Walk => walk_fault(alloc, text),
+        Command::Run => run_fault(alloc, text),
+        Command::Live => live_fault(alloc, text),
     }
 }
 
@@ -48,6 +114,9 @@ fn tell_texts(
         List::Walk | List::Run | List::Setup => 0,
     };
     for (index, text) in texts.iter().enumerate() {
+        if report.is_full() {
+            break;
+        }
         if let Some(fault) = reader.fault(text) {
             let what = reader.explain(text, fault)?;
             let number = index.saturating_add(1);
@@ -133,6 +202,9 @@ fn scripts<'a>(
         document.tell(report, "scripts", what.as_str())?;
     }
     for value in values.as_slice() {
+        if report.is_full() {
+            break;
+        }
         let texts = document.texts_in(report, "scripts", "an array of texts for each hart", value)?;
         scripts.push(texts)?;
     }
@@ -146,7 +218,10 @@ fn tell_scripts(
     reader: Reader,
     scripts: &[Option<Vec<&str>>],
 ) -> Result<(), AllocError> {
-    let place = Place::of_key(document.alloc, document.text, "scripts")?;
+    let mut place = Place::of_key(document.alloc, document.text, "scripts")?;
+    if scripts.iter().any(|texts| texts.is_none()) {
+        place.marks.clear();
+    }
     for (hart, texts) in scripts.iter().enumerate() {
         let mut reader = reader;
         reader.list = List::Script(hart);
@@ -203,7 +278,9 @@ fn tell_all(
 }
 
 /// Tells where the reader of TOML stopped, and why.
-fn tell_error(report: &mut Report, text: &str, error: &toml::de::Error) -> Result<(), AllocError> {
+fn tell_error(report: &mut Report, text: &str, error: &toml::de::Error) -> Result<(), AllocError>
+    ensures { OnOk result (length report.new.lines.items ≡ length report.old.lines.items + 1) }
+{
     let start = error.span().map_or(0, |span| span.start);
     let mut line = 1_usize;
     let mut column = 1_usize;
@@ -220,50 +297,111 @@ fn tell_error(report: &mut Report, text: &str, error: &toml::de::Error) -> Resul
     report.add(None, what.as_str())
 }
 
-/// The text of a report.
-fn text_of(report: &Report, name: &str) -> Result<String, AllocError> {
-    let mut text = String::new(report.alloc);
+/// Adds the lines, each with its end.
+fn push_lines(text: &mut String, lines: &[String]) -> Result<(), AllocError>
+    ensures { OnOk result (string_bytes text.new ≡ string_bytes text.old ++ lines_text (map string_bytes lines.now)) }
+{
+    match lines {
+        [] => Ok(()),
+        [line, rest @ ..] => {
+            text.push_str(line.as_str())?;
+            text.push_str("\n")?;
+            push_lines(text, rest)
+        }
+    }
+}
+
+/// Adds the last line: `ok`, or the number of faults that are told.
+fn push_last(text: &mut String, count: usize) -> Result<(), AllocError>
+    ensures { OnOk result (string_bytes text.new ≡ string_bytes text.old ++ last_text count) }
+{
+    if count == 0 {
+        text.push_str("ok\n")
+    } else if count == 1 {
+        text.push_str("1 fault\n")
+    } else if count < MOST_TOLD {
+        writeln!(text, "{count} faults")
+    } else {
+        writeln!(text, "{count} faults are told, and there may be more")
+    }
+}
+
+/// What is printed.
+fn text_of(alloc: Global, name: &str, lines: &[String]) -> Result<String, AllocError>
+    ensures { IfOk result (λ text. string_bytes text ≡ whole_text name.now (map string_bytes lines.now)) }
+{
+    let mut text = String::new(alloc);
     writeln!(text, "file for {name}")?;
-    for line in report.lines.as_slice() {
-        text.push_str(line.as_str())?;
-        text.push_str("\n")?;
-    }
-    match report.lines.len() {
-        0 => text.push_str("ok\n")?,
-        1 => text.push_str("1 fault\n")?,
-        count => writeln!(text, "{count} faults")?,
-    }
+    push_lines(&mut text, lines)?;
+    push_last(&mut text, lines.len())?;
     Ok(text)
 }
 
-/// What is found in a document that was read.
-fn check_table(alloc: Global, text: &str, table: &Table) -> Result<Checked, AllocError> {
-    let command = command_of(table);
-    let fault = fault_of(alloc, command, text)?;
-    let mut report = Report::new(alloc);
-    if let Some(fault) = &fault {
-        let document = Document { alloc, text, table };
-        tell_all(&mut report, &document, command)?;
-        if report.lines.is_empty() {
-            let what = format!(in alloc; "{fault}")?;
-            report.add(None, what.as_str())?;
-        }
+/// The lines that explain a document that has this fault: at least one.
+fn explained(document: &Document<'_>, command: Command, fault: &Fault) -> Result<Report, AllocError>
+    ensures { IfOk result (λ report. ¬ (vec_len report.lines ≡ 0)) }
+{
+    let mut report = Report::new(document.alloc);
+    tell_all(&mut report, document, command)?;
+    if report.lines.is_empty() {
+        let what = format!(in document.alloc; "{fault}")?;
+        report.add(None, what.as_str())?;
     }
-    let text = text_of(&report, command.name())?;
-    Ok(Checked { text, fault })
+    Ok(report)
 }
 
-/// Reads a file of any command, and explains each fault that is found in it. `AllocError`: there was not enough memory.
-pub fn check_text(alloc: Global, text: &str) -> Result<Checked, AllocError> {
+/// The lines that explain a document: none where it has no fault.
+fn report_of(
+    document: &Document<'_>,
+    command: Command,
+    fault: &Option<Fault>,
+) -> Result<Report, AllocError>
+    ensures { IfOk result (λ report. (fault.now ≡ None) ↔ (vec_len report.lines ≡ 0)) }
+{
+    match fault {
+        None => Ok(Report::new(document.alloc)),
+        Some(fault) => explained(document, command, fault),
+    }
+}
+
+/// What is found in a document that was read.
+fn check_table(alloc: Global, text: &str, table: &Table) -> Result<Checked, AllocError>
+    ensures fault { IfOk result (λ checked. option_map failure_of checked.fault ≡ option_map Some (fault_for (command_of (table_view table.now)) text.now)) }
+    ensures told { IfOk result (λ checked. (checked.fault ≡ None) ↔ (vec_len checked.lines ≡ 0)) }
+    ensures text { IfOk result (λ checked. string_bytes checked.text ≡ whole_text (name_of (command_of (table_view table.now))) (map string_bytes checked.lines.items)) }
+{
+    let command = command_of(table);
+    let fault = fault_for(alloc, command, text)?;
+    let document = Document { alloc, text, table };
+    let lines = report_of(&document, command, &fault)?.lines;
+    let text = text_of(alloc, command.name(), lines.as_slice())?;
+    Ok(Checked { lines, text, fault })
+}
+
+/// What is told of a text that the reader of TOML refused.
+fn not_toml(alloc: Global, text: &str, error: &toml::de::Error) -> Result<Checked, AllocError>
+    ensures fault { IfOk result (λ checked. checked.fault ≡ Some NotToml) }
+    ensures told { IfOk result (λ checked. ¬ (vec_len checked.lines ≡ 0)) }
+    ensures text { IfOk result (λ checked. string_bytes checked.text ≡ whole_text (codes "no command") (map string_bytes checked.lines.items)) }
+{
+    let mut report = Report::new(alloc);
+    tell_error(&mut report, text, error)?;
+    let lines = report.lines;
+    let text = text_of(alloc, "no command", lines.as_slice())?;
+    let fault = Some(Fault::NotToml);
+    Ok(Checked { lines, text, fault })
+}
+
+/// Reads a file of any command, and explains each fault that is found in it, 200 at most. The command is told by the keys
+/// (`command_of`), and `fault` is what that command answers. `AllocError`: there was not enough memory.
+pub fn check_text(alloc: Global, text: &str) -> Result<Checked, AllocError>
+    ensures fault { IfOk result (λ checked. option_map failure_of checked.fault ≡ option_map Some (fault_of text.now)) }
+    ensures told { IfOk result (λ checked. (checked.fault ≡ None) ↔ (vec_len checked.lines ≡ 0)) }
+    ensures text { IfOk result (λ checked. string_bytes checked.text ≡ whole_text (name_by (parse_document text.now)) (map string_bytes checked.lines.items)) }
+{
     match toml::table_from_str(alloc, text) {
         Ok(table) => check_table(alloc, text, &table),
         Err(error) if error.is_memory() => Err(AllocError),
-        Err(error) => {
-            let mut report = Report::new(alloc);
-            tell_error(&mut report, text, &error)?;
-            let text = text_of(&report, "no command")?;
-            let fault = Some(Fault::NotToml);
-            Ok(Checked { text, fault })
-        }
+        Err(error) => not_toml(alloc, text, &error),
     }
 }

@@ -5,7 +5,7 @@ use std::alloc::{AllocError, Global};
 use steps::{StepFault, num, run_step_among};
 
 /// What a word of a step is.
-#[derive(Clone, Copy, Debug, PartialEq, Eq)]
+#[derive(Clone, Copy, PartialEq, Eq)]
 pub enum Field {
     Mode,
     Access,

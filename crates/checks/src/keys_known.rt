@@ -23,6 +23,16 @@ fn other_that_knows(key: &str) -> Option<Command> {
     }
 }
 
+/// The key that is meant perhaps, and a command that knows it.
+fn nearest_of_others(key: &str) -> Option<(&'static str, Command)> {
+    for command in [Command::Live, Command::Walk, Command::Run] {
+        if let Some(meant) = nearest(key, command.keys()) {
+            return Some((meant, command));
+        }
+    }
+    None
+}
+
 /// Tells each key that the command does not know, in the order of their bytes.
 pub fn tell_unknown(
     report: &mut Report,
@@ -30,6 +40,9 @@ pub fn tell_unknown(
     command: Command,
 ) -> Result<(), AllocError> {
     for key in document.table.keys() {
+        if report.is_full() {
+            break;
+        }
         if !knows(command, key.as_str()) {
             tell_unknown_key(report, document, command, key.as_str())?;
         }
@@ -52,7 +65,13 @@ fn tell_unknown_key(
         }
         None => match nearest(key, command.keys()) {
             Some(meant) => format!(in alloc; "no key of {this}; perhaps {meant}")?,
-            None => format!(in alloc; "no key of {this}")?,
+            None => match nearest_of_others(key) {
+                Some((meant, other)) => {
+                    let other = other.name();
+                    format!(in alloc; "no key of {this}; perhaps {meant} of {other}")?
+                }
+                None => format!(in alloc; "no key of {this}")?,
+            },
         },
     };
     document.tell(report, key, what.as_str())

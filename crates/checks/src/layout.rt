@@ -79,6 +79,9 @@ fn tell_each_spare(
             Some(spares) => total = total.map(|total| total.saturating_add(u64::from(spares))),
             None => {
                 total = None;
+                if report.is_full() {
+                    break;
+                }
                 tell_spare(report, document, hart, value)?;
             }
         }

@@ -1,5 +1,10 @@
 //! The lines that explain.
+ghost use Rattle.std.specs.Prelude.{◌≡◌, ◌+◌, [], OnOk, length};
+
 use std::alloc::{AllocError, Global};
+
+/// The most faults that are told.
+pub const MOST_TOLD: usize = 200;
 
 /// The most letters of a word of the file that are printed.
 const MOST_LETTERS: usize = 40;
@@ -12,7 +17,9 @@ pub struct Report {
 }
 
 impl Report {
-    pub fn new(alloc: Global) -> Report {
+    pub fn new(alloc: Global) -> Report
+        ensures { result.lines.items ≡ [] }
+    {
         Report {
             alloc,
             lines: Vec::new(alloc),
@@ -20,13 +27,20 @@ impl Report {
     }
 
     /// Adds a line, after the number of the line of the file if it is known.
-    pub fn add(&mut self, line: Option<usize>, what: &str) -> Result<(), AllocError> {
+    pub fn add(&mut self, line: Option<usize>, what: &str) -> Result<(), AllocError>
+        ensures { OnOk result (length self.new.lines.items ≡ length self.old.lines.items + 1) }
+    {
         let text = match line {
             Some(line) => format!(in self.alloc; "line {line}: {what}")?,
             None => String::from_str(self.alloc, what)?,
         };
         self.lines.push(text)?;
         Ok(())
+    }
+
+    /// Whether no more faults are told.
+    pub fn is_full(&self) -> bool {
+        self.lines.len() >= MOST_TOLD
     }
 }
 

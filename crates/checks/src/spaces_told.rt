@@ -75,7 +75,7 @@ fn tell_each(
 ) -> Result<(), AllocError> {
     let place = Place::of_key(document.alloc, document.text, "spaces")?;
     let mut before: Vec<(usize, u16)> = Vec::new(document.alloc);
-    for (index, text) in texts.iter().enumerate() {
+    for (index, text) in texts.iter().enumerate().take(MAX_SPACES) {
         let line = place.line_of(0, index).or(place.line);
         match space_of(document, harts, text)? {
             Ok(space) => {

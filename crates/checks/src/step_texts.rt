@@ -12,7 +12,7 @@ use std::str::from_utf8;
 use steps::{StepFault, live_step_among, num, run_step_among, setup_step_among, walk_step, words};
 
 /// The list that a step stands in.
-#[derive(Clone, Copy, Debug, PartialEq, Eq)]
+#[derive(Clone, Copy, PartialEq, Eq)]
 pub enum List {
     Walk,
     Run,

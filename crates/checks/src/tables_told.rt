@@ -19,6 +19,9 @@ pub fn tell_tables(report: &mut Report, document: &Document<'_>) -> Result<(), A
     };
     let place = Place::of_key(document.alloc, document.text, "words")?;
     for (index, text) in texts.as_slice().iter().enumerate() {
+        if report.is_full() {
+            break;
+        }
         if let Some(what) = wrong_word(document, frames.as_ref(), text)? {
             let line = place.line_of(0, index).or(place.line);
             let number = index.saturating_add(1);
@@ -47,6 +50,9 @@ fn tell_frames(
     let place = Place::of_key(alloc, document.text, "frames")?;
     let mut frames = Vec::new(alloc);
     for (index, text) in texts.as_slice().iter().enumerate() {
+        if report.is_full() {
+            break;
+        }
         match number(alloc, text)?.filter(|ppn| *ppn < PPN_LIMIT) {
             Some(ppn) => frames.push(ppn)?,
             None => {

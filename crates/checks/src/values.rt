@@ -162,6 +162,7 @@ impl<'a> Document<'a> {
         for (index, value) in values.as_slice().iter().enumerate() {
             match value.as_str() {
                 Some(text) => texts.push(text)?,
+                None if report.is_full() => are_texts = false,
                 None => {
                     are_texts = false;
                     self.tell_element(report, key, index, value)?;

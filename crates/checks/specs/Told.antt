@@ -1,0 +1,89 @@
+-- What is told of a text: the command that it is for, its first fault, and the lines.
+use Rattle.std.specs.Prelude.{ℕ, ◌==◌, ◌||◌, Bool, true, false, nat_lt, List, [], ◌∷◌, ◌++◌, length, codes, Option, Some, None, if◌then◌else◌}
+use Rattle.std.specs.Fmt.{decimal}
+use Rattle.toml.specs.Data.{Members, get_member}
+use Rattle.toml.specs.Parse.{parse_document}
+use Rattle.keys.specs.Faults.{Failure, fault_in, not_toml}
+use Rattle.keys.specs.declared.fault.Fault.{Fault}
+use Rattle.keys.specs.declared.fault.Fault.TheVariants as faults
+use Rattle.files.specs.LiveFile.{live_scenario_of}
+use Rattle.files.specs.RunFile.{run_scenario_of}
+use Rattle.files.specs.WalkFile.{walk_scenario_of}
+use Rattle.checks.specs.declared.commands.Command.{Command}
+use Rattle.checks.specs.declared.commands.Command.TheVariants.{Walk, Run, Live}
+
+-- ---- the command
+
+abbrev pub is_there : {X : Type 0} → Option X → Bool
+is_there None = false
+is_there (Some x) = true
+
+abbrev pub has_key : List ℕ → Members → Bool
+has_key key ms = is_there (get_member key ms)
+
+-- a key that `live` alone knows
+abbrev pub has_live_key : Members → Bool
+has_live_key ms = has_key (codes "setup") ms || (has_key (codes "scripts") ms || has_key (codes "turns") ms)
+
+-- a key that `walk` alone knows
+abbrev pub has_walk_key : Members → Bool
+has_walk_key ms = has_key (codes "root") ms || (has_key (codes "frames") ms || has_key (codes "words") ms)
+
+abbrev pub command_of : Members → Command
+command_of ms = if has_live_key ms then Live else if has_walk_key ms then Walk else Run
+
+abbrev pub name_of : Command → List ℕ
+name_of Walk = codes "walk"
+name_of Run = codes "run"
+name_of Live = codes "live"
+
+-- ---- the first fault
+
+-- that of a text for a command
+abbrev pub fault_for : Command → List ℕ → Option Failure
+fault_for Walk text = fault_in (walk_scenario_of text)
+fault_for Run text = fault_in (run_scenario_of text)
+fault_for Live text = fault_in (live_scenario_of text)
+
+abbrev pub fault_by : Option Members → List ℕ → Option Failure
+fault_by None text = Some not_toml
+fault_by (Some ms) text = fault_for (command_of ms) text
+
+-- that of a text for the command that its keys are for
+abbrev pub fault_of : List ℕ → Option Failure
+fault_of text = fault_by (parse_document text) text
+
+-- the fault is no fault of the text: memory ran out
+abbrev pub is_memory : Fault → Bool
+is_memory faults.NoMemory = true
+is_memory faults.NotToml = false
+is_memory (faults.Key name) = false
+is_memory faults.Layout = false
+is_memory faults.TooMany = false
+is_memory (faults.Step n fault) = false
+is_memory (faults.Script hart n fault) = false
+is_memory faults.Output = false
+
+-- ---- the lines
+
+abbrev pub name_by : Option Members → List ℕ
+name_by None = codes "no command"
+name_by (Some ms) = name_of (command_of ms)
+
+abbrev pub lines_text : List (List ℕ) → List ℕ
+lines_text [] = []
+lines_text (line ∷ lines) = line ++ codes "\n" ++ lines_text lines
+
+abbrev pub most_told : ℕ
+most_told = 200
+
+abbrev pub last_text : ℕ → List ℕ
+last_text n =
+    if n == 0 then codes "ok\n"
+    else if n == 1 then codes "1 fault\n"
+    else if nat_lt n most_told then decimal n ++ codes " faults\n"
+    else decimal n ++ codes " faults are told, and there may be more\n"
+
+-- the command, the lines that explain, and the last line
+abbrev pub whole_text : List ℕ → List (List ℕ) → List ℕ
+whole_text name lines = codes "file for " ++ name ++ codes "\n" ++ lines_text lines ++ last_text (length lines)
