@@ -1,5 +1,5 @@
 -- A fault that is none of memory is the failure that was read.
-use Rattle.std.proofs.Common.{◌≡◌, Bool, true, false, Result, Some, option_map, ap, sym}
+use Rattle.std.proofs.Common.{◌≡◌, false, Result, Some, option_map, ap, sym}
 use Rattle.keys.specs.Faults.{Failure, Fails, failure_of, fault_in}
 use Rattle.keys.specs.declared.fault.Fault.{Fault}
 use Rattle.keys.specs.declared.fault.Fault.TheVariants as faults

@@ -6,9 +6,9 @@ use Rattle.toml.specs.Parse.{parse_document}
 use Rattle.keys.specs.Faults.{Failure, fault_in, not_toml}
 use Rattle.keys.specs.declared.fault.Fault.{Fault}
 use Rattle.keys.specs.declared.fault.Fault.TheVariants as faults
-use Rattle.files.specs.LiveFile.{live_scenario_of}
-use Rattle.files.specs.RunFile.{run_scenario_of}
-use Rattle.files.specs.WalkFile.{walk_scenario_of}
+use Rattle.files.specs.LiveFile.{live_keys, live_scenario_of}
+use Rattle.files.specs.RunFile.{run_keys, run_scenario_of}
+use Rattle.files.specs.WalkFile.{walk_keys, walk_scenario_of}
 use Rattle.checks.specs.declared.commands.Command.{Command}
 use Rattle.checks.specs.declared.commands.Command.TheVariants.{Walk, Run, Live}
 
@@ -36,6 +36,12 @@ abbrev pub name_of : Command → List ℕ
 name_of Walk = codes "walk"
 name_of Run = codes "run"
 name_of Live = codes "live"
+
+-- the keys that it knows
+abbrev pub keys_of : Command → List (List ℕ)
+keys_of Walk = walk_keys
+keys_of Run = run_keys
+keys_of Live = live_keys
 
 -- ---- the first fault
 

@@ -1,7 +1,8 @@
 //! The command that a file is for.
 ghost use Rattle.std.specs.Prelude.{◌≡◌};
 ghost use Rattle.toml.specs.View.{table_view};
-ghost use Rattle.checks.specs.Told.{command_of, has_key, has_live_key, has_walk_key, name_of};
+ghost use Rattle.keys.specs.Keys.{key_texts};
+ghost use Rattle.checks.specs.Told.{command_of, has_key, has_live_key, has_walk_key, keys_of, name_of};
 
 use keys::value_at;
 use toml::Table;
@@ -75,7 +76,9 @@ impl Command {
     }
 
     /// The keys that it knows.
-    pub(crate) fn keys(self) -> &'static [&'static str] {
+    pub(crate) fn keys(self) -> &'static [&'static str]
+        ensures { key_texts result.now ≡ keys_of self }
+    {
         match self {
             Command::Walk => &WALK_KEYS,
             Command::Run => &RUN_KEYS,

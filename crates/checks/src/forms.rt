@@ -85,15 +85,7 @@ const LIVE_NAMES: [&str; 14] = [
 /// The form of the steps of `walk`, which have no names.
 pub const WALK_FORM: &str = "MODE ACCESS ADDRESS";
 
-/// The forms of the steps with names, of `run` or else of `live`.
-fn forms(command: Command) -> &'static [&'static str] {
-    match command {
-        Command::Live => &LIVE_FORMS,
-        Command::Run | Command::Walk => &RUN_FORMS,
-    }
-}
-
-/// The names of these steps.
+/// The names of the steps of `run` or else of `live`.
 pub fn names(command: Command) -> &'static [&'static str] {
     match command {
         Command::Live => &LIVE_NAMES,
@@ -111,8 +103,9 @@ fn is_named(form: &str, name: &str) -> bool {
 
 /// The form of the steps with this name.
 pub fn form_of(command: Command, name: &str) -> Option<&'static str> {
-    forms(command)
-        .iter()
-        .copied()
-        .find(|form| is_named(form, name))
+    let forms: &'static [&'static str] = match command {
+        Command::Live => &LIVE_FORMS,
+        Command::Run | Command::Walk => &RUN_FORMS,
+    };
+    forms.iter().copied().find(|form| is_named(form, name))
 }

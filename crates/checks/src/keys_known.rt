@@ -1,4 +1,8 @@
 //! Keys that the command does not know.
+ghost use Rattle.std.specs.Prelude.{◌≡◌};
+ghost use Rattle.keys.specs.Keys.{is_known, key_texts};
+ghost use Rattle.checks.specs.Told.{keys_of};
+
 use crate::commands::Command;
 use crate::near::nearest;
 use crate::report::Report;
@@ -6,8 +10,20 @@ use crate::values::Document;
 use std::alloc::AllocError;
 
 /// Whether the command knows the key.
-fn knows(command: Command, key: &str) -> bool {
-    command.keys().iter().any(|known| *known == key)
+fn knows(command: Command, key: &str) -> bool
+    ensures { result ≡ is_known (keys_of command) key.now }
+{
+    has_text(command.keys(), key)
+}
+
+/// Whether a text is one of these.
+fn has_text(texts: &[&str], key: &str) -> bool
+    ensures { result ≡ is_known (key_texts texts.now) key.now }
+{
+    match texts {
+        [] => false,
+        [first, rest @ ..] => key == *first || has_text(rest, key),
+    }
 }
 
 /// The first other command that knows the key.

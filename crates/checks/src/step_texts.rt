@@ -6,9 +6,9 @@ use crate::fields::{Field, field_of};
 use crate::forms::{WALK_FORM, form_of, names};
 use crate::near::nearest;
 use crate::report::shown;
+use crate::values::text_of;
 use pte::Scheme;
 use std::alloc::{AllocError, Global};
-use std::str::from_utf8;
 use steps::{StepFault, live_step_among, num, run_step_among, setup_step_among, walk_step, words};
 
 /// The list that a step stands in.
@@ -28,11 +28,6 @@ pub struct Reader {
     pub list: List,
     pub scheme: Scheme,
     pub harts: u8,
-}
-
-/// A word as text.
-fn text_of(word: &[u8]) -> &str {
-    from_utf8(word).unwrap_or("?")
 }
 
 impl List {
