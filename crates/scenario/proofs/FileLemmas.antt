@@ -13,8 +13,8 @@ use Rattle.scenario.specs.declared.trouble.Trouble.TheVariants as troubles
 use Rattle.scenario.specs.declared.program.Which.{Which}
 use Rattle.scenario.specs.declared.program.Which.TheVariants.{Walk, Run}
 use Rattle.scenario.specs.declared.program.Job.{Job}
-use Rattle.scenario.specs.declared.program.Job.TheVariants.{Plain, Live}
-use Rattle.scenario.specs.Command.{done, Ending, misused, ending_of, ending_of_fault, Ends, EndsAs, file_fault, FileLines, IsToldAs, Leaves, no_memory, no_thread, output_failed, refused, Reports, status_of, too_large, unreadable}
+use Rattle.scenario.specs.declared.program.Job.TheVariants.{Plain, Live, Inspect}
+use Rattle.scenario.specs.Command.{done, Ending, explained, Explains, failure_status, misused, ending_of, ending_of_fault, Ends, EndsAs, file_fault, FileLines, IsToldAs, Leaves, no_memory, no_thread, output_failed, refused, Reports, stale_used, status_of, Suits, too_large, unreadable}
 use Rattle.keys.specs.Faults.{Failure, fault_in, not_toml}
 use Rattle.scenario.specs.Input.{AreLeft, IsReadTrouble}
 use Rattle.scenario.specs.Limits.{most_bytes}
@@ -25,13 +25,22 @@ use Rattle.files.specs.RunFile.{run_scenario_of}
 use Rattle.files.specs.WalkFile.{walk_scenario_of}
 
 -- the scenario of a text, and of the bytes of a file
-by_utf8 : {P : Type 0} (bytes text : List ℕ) (read : List ℕ → Result P Failure) → (text ≡ bytes) × IsUtf8 bytes
+pub by_utf8 : {P : Type 0} (bytes text : List ℕ) (read : List ℕ → Result P Failure) → (text ≡ bytes) × IsUtf8 bytes
     → (if is_utf8 bytes then read bytes else Err not_toml) ≡ read text
 by_utf8 bytes text read h = rw (is_utf8-from_IsUtf8 bytes h.1) (ap read (sym h.0))
 
-by_other : {P : Type 0} (bytes : List ℕ) (read : List ℕ → Result P Failure) → ¬ (IsUtf8 bytes)
+pub by_other : {P : Type 0} (bytes : List ℕ) (read : List ℕ → Result P Failure) → ¬ (IsUtf8 bytes)
     → (if is_utf8 bytes then read bytes else Err not_toml) ≡ Err not_toml
 by_other bytes read h =
+    elim (cases_Bool (is_utf8 bytes)) [ inl holds ↦ absurd (h (IsUtf8-from_is_utf8 bytes holds)) | inr fails ↦ rw fails ]
+
+pub by_option : {P : Type 0} (e : Option P) (bytes text : List ℕ) (read : List ℕ → Option P) → (text ≡ bytes) × IsUtf8 bytes
+    → (if is_utf8 bytes then read bytes else e) ≡ read text
+by_option e bytes text read h = rw (is_utf8-from_IsUtf8 bytes h.1) (ap read (sym h.0))
+
+pub by_no_text : {P : Type 0} (e : Option P) (bytes : List ℕ) (read : List ℕ → Option P) → ¬ (IsUtf8 bytes)
+    → (if is_utf8 bytes then read bytes else e) ≡ e
+by_no_text e bytes read h =
     elim (cases_Bool (is_utf8 bytes)) [ inl holds ↦ absurd (h (IsUtf8-from_is_utf8 bytes holds)) | inr fails ↦ rw fails ]
 
 -- the first fault of a text, and what is printed of it
@@ -62,16 +71,16 @@ pub live_file-not_utf8 : (bytes : List ℕ) → ¬ (IsUtf8 bytes) → live_file 
 live_file-not_utf8 bytes h = by_other bytes live_scenario_of h
 
 -- a fault of a file that is not too long is an ending
-pub fault_ends : (job : Job) (bytes : List ℕ) (fault : Fault) (old new : Option (List ℕ)) → length bytes ≤ most_bytes
-    → EndsBy fault (file_fault job bytes) (FileLines job bytes) old new → EndsAs job bytes (ending_of_fault fault) old new
-fault_ends job bytes faults.NotToml old new short h = record { suits = (short, h.0); leaves = h.1 }
-fault_ends job bytes (faults.Key name) old new short h = record { suits = (short, h.0); leaves = h.1 }
-fault_ends job bytes faults.Layout old new short h = record { suits = (short, h.0); leaves = h.1 }
-fault_ends job bytes faults.TooMany old new short h = record { suits = (short, h.0); leaves = h.1 }
-fault_ends job bytes (faults.Step n fault) old new short h = record { suits = (short, h.0); leaves = h.1 }
-fault_ends job bytes (faults.Script hart n fault) old new short h = record { suits = (short, h.0); leaves = h.1 }
-fault_ends job bytes faults.Output old new short h = record { suits = (short, h.0); leaves = h.1 }
-fault_ends job bytes faults.NoMemory old new short h = record { suits = tt; leaves = h }
+pub fault_ends : (which : Which) (bytes : List ℕ) (fault : Fault) (old new : Option (List ℕ)) → length bytes ≤ most_bytes
+    → EndsBy fault (file_fault (Plain which) bytes) (FileLines (Plain which) bytes) old new → EndsAs (Plain which) bytes (ending_of_fault fault) old new
+fault_ends which bytes faults.NotToml old new short h = record { suits = (short, h.0); leaves = h.1 }
+fault_ends which bytes (faults.Key name) old new short h = record { suits = (short, h.0); leaves = h.1 }
+fault_ends which bytes faults.Layout old new short h = record { suits = (short, h.0); leaves = h.1 }
+fault_ends which bytes faults.TooMany old new short h = record { suits = (short, h.0); leaves = h.1 }
+fault_ends which bytes (faults.Step n fault) old new short h = record { suits = (short, h.0); leaves = h.1 }
+fault_ends which bytes (faults.Script hart n fault) old new short h = record { suits = (short, h.0); leaves = h.1 }
+fault_ends which bytes faults.Output old new short h = record { suits = (short, h.0); leaves = h.1 }
+fault_ends which bytes faults.NoMemory old new short h = record { suits = tt; leaves = h }
 
 -- a file for `live` that prints nothing, and is not too long, ends so
 pub unprinted_ends : (bytes : List ℕ) (trouble : Trouble) (out : Option (List ℕ)) → length bytes ≤ most_bytes → IsUnprinted trouble (live_file bytes)
@@ -168,19 +177,26 @@ not_memory : IsRefusal 5 → ⊥
 not_memory (inl e) = cc
 not_memory (inr e) = cc
 
-silent_by : (Lines : List ℕ → Type 0) (ending told : Ending) (old new : Option (List ℕ)) → IsToldAs ending told → IsRefusal (status_of told) → Leaves Lines ending old new → Keeps old new
-silent_by Lines done told old new is refused_so h = absurd (not_done (subst (λ e. IsRefusal (status_of e)) is refused_so))
-silent_by Lines misused told old new is refused_so h = h
-silent_by Lines unreadable told old new is refused_so h = h
-silent_by Lines too_large told old new is refused_so h = h
-silent_by Lines (refused failure) told old new is refused_so h = h
-silent_by Lines output_failed told old new (inl is) refused_so h = absurd (not_failed (subst (λ e. IsRefusal (status_of e)) is refused_so))
-silent_by Lines output_failed told old new (inr is) refused_so h = absurd (not_memory (subst (λ e. IsRefusal (status_of e)) is refused_so))
-silent_by Lines no_memory told old new is refused_so h = h
-silent_by Lines no_thread told old new is refused_so h = h
+not_used : IsRefusal 1 → ⊥
+not_used (inl e) = cc
+not_used (inr e) = cc
 
-pub silent : (job : Job) (file : List ℕ) (left : Option (List ℕ)) (ending : Ending) (status : ℕ) (out_old out_new err_old err_new : Option (List ℕ))
+silent_by : (job : Job) (bytes : List ℕ) (ending told : Ending) (old new : Option (List ℕ)) → ¬ Explains job → Suits job bytes ending → IsToldAs ending told → IsRefusal (status_of told)
+    → Leaves (FileLines job bytes) ending old new → Keeps old new
+silent_by job bytes done told old new quiet suits is refused_so h = absurd (not_done (subst (λ e. IsRefusal (status_of e)) is refused_so))
+silent_by job bytes stale_used told old new quiet suits is refused_so h = absurd (not_used (subst (λ e. IsRefusal (status_of e)) is refused_so))
+silent_by job bytes (explained failure) told old new quiet suits is refused_so h = absurd (quiet suits.0)
+silent_by job bytes misused told old new quiet suits is refused_so h = h
+silent_by job bytes unreadable told old new quiet suits is refused_so h = h
+silent_by job bytes too_large told old new quiet suits is refused_so h = h
+silent_by job bytes (refused failure) told old new quiet suits is refused_so h = h
+silent_by job bytes output_failed told old new quiet suits (inl is) refused_so h = absurd (not_failed (subst (λ e. IsRefusal (status_of e)) is refused_so))
+silent_by job bytes output_failed told old new quiet suits (inr is) refused_so h = absurd (not_memory (subst (λ e. IsRefusal (status_of e)) is refused_so))
+silent_by job bytes no_memory told old new quiet suits is refused_so h = h
+silent_by job bytes no_thread told old new quiet suits is refused_so h = h
+
+pub silent : (job : Job) → ¬ Explains job → (file : List ℕ) (left : Option (List ℕ)) (ending : Ending) (status : ℕ) (out_old out_new err_old err_new : Option (List ℕ))
     → (bytes : List ℕ) × AreLeft left bytes × EndsAs job bytes ending out_old out_new → Reports file ending status err_old err_new
     → (status ≡ 2) ⊎ (status ≡ 3) → Keeps out_old out_new
-silent job file left ending status out_old out_new err_old err_new (bytes, has, ends) r refused_so =
-    silent_by (FileLines job bytes) ending r.told out_old out_new r.is_told (subst IsRefusal r.status_is refused_so) ends.leaves
+silent job quiet file left ending status out_old out_new err_old err_new (bytes, has, ends) r refused_so =
+    silent_by job bytes ending r.told out_old out_new quiet ends.suits r.is_told (subst IsRefusal r.status_is refused_so) ends.leaves

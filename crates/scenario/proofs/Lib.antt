@@ -2,3 +2,4 @@ pub mod FileLemmas
 pub mod OutputLemmas
 pub mod RunLemmas
 pub mod CommandLemmas
+pub mod InspectionLemmas

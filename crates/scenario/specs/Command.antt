@@ -1,41 +1,89 @@
 -- How a command ends, by its status.
-use Rattle.std.specs.Prelude.{◌≡◌, ℕ, ◌<◌, ◌≤◌, ◌⊎◌, ◌++◌, List, [], length, codes, string_bytes, Option, Some, None, Result, Ok, Err}
+use Rattle.std.specs.Prelude.{◌≡◌, ℕ, ◌<◌, ◌≤◌, ◌⊎◌, ◌++◌, List, [], length, codes, string_bytes, Option, Some, None, Result, Ok, Err, if◌then◌else◌}
 use Rattle.std.specs.Io.KnownBytes.{Keeps}
 use Rattle.scenario.specs.declared.program.Which.TheVariants.{Walk, Run}
 use Rattle.scenario.specs.declared.program.Job.{Job}
-use Rattle.scenario.specs.declared.program.Job.TheVariants.{Plain, Live}
+use Rattle.scenario.specs.declared.program.Job.TheVariants.{Plain, Live, Inspect}
+use Rattle.scenario.specs.declared.program.Inspection.{Inspection}
+use Rattle.scenario.specs.declared.program.Inspection.TheVariants.{Stale, Show, Draw, Check}
 use Rattle.scenario.specs.declared.trouble.Trouble.{Trouble}
 use Rattle.scenario.specs.declared.trouble.Trouble.TheVariants as troubles
 use Rattle.keys.specs.declared.fault.Fault.{Fault}
 use Rattle.keys.specs.declared.fault.Fault.TheVariants as faults
 use Rattle.keys.specs.Faults.{Failure, not_toml, wrong_key, bad_layout, too_many, wrong_step, wrong_script, failure_text, fault_in}
-use Rattle.scenario.specs.Prints.{LinesOf, Prints, PrintsLive, PrintsReplies}
+use Rattle.scenario.specs.Prints.{LinesOf, Prints, PrintsLive, PrintsReplies, PrintsStale, PrintsState, TellsFaults, UsesOf}
 use Rattle.scenario.specs.Output.{AppendsFront, WritesAll, WritesFront}
 use Rattle.scenario.specs.Input.{AreLeft}
 use Rattle.scenario.specs.Limits.{most_bytes}
 use Rattle.files.specs.WalkFile.{walk_file}
 use Rattle.files.specs.RunFile.{run_file}
 use Rattle.files.specs.LiveFile.{live_file}
+use Rattle.checks.specs.Told.{fault_of}
+use Rattle.std.specs.Str.{is_utf8}
 
 -- the first fault of a file's bytes, if they have one
+abbrev pub inspected_fault : Inspection → List ℕ → Option Failure
+inspected_fault Stale bytes = fault_in (run_file bytes)
+inspected_fault Show bytes = fault_in (run_file bytes)
+inspected_fault Draw bytes = fault_in (run_file bytes)
+inspected_fault Check bytes = if is_utf8 bytes then fault_of bytes else Some not_toml
+
 abbrev pub file_fault : Job → List ℕ → Option Failure
 file_fault (Plain Walk) bytes = fault_in (walk_file bytes)
 file_fault (Plain Run) bytes = fault_in (run_file bytes)
 file_fault Live bytes = fault_in (live_file bytes)
+file_fault (Inspect inspection) bytes = inspected_fault inspection bytes
 
--- what is printed of a file
+-- what is printed of a file; of a picture no clause says which text it is
+abbrev pub InspectedLines : Inspection → List ℕ → List ℕ → Type 0
+InspectedLines Stale bytes = LinesOf PrintsStale (run_file bytes)
+InspectedLines Show bytes = LinesOf PrintsState (run_file bytes)
+InspectedLines Draw bytes = λ lines. Unit {0}
+InspectedLines Check bytes = TellsFaults bytes (inspected_fault Check bytes)
+
 abbrev pub FileLines : Job → List ℕ → List ℕ → Type 0
 FileLines (Plain Walk) bytes = LinesOf Prints (walk_file bytes)
 FileLines (Plain Run) bytes = LinesOf PrintsReplies (run_file bytes)
 FileLines Live bytes = LinesOf PrintsLive (live_file bytes)
+FileLines (Inspect inspection) bytes = InspectedLines inspection bytes
 
 -- whether it starts threads
 abbrev pub StartsThreads : Job → Type 0
 StartsThreads (Plain which) = ⊥
 StartsThreads Live = Unit {0}
+StartsThreads (Inspect inspection) = ⊥
+
+-- whether it tells what is wrong with a faulty file, and not only its first fault
+abbrev pub Explains : Job → Type 0
+Explains (Inspect Stale) = ⊥
+Explains (Inspect Show) = ⊥
+Explains (Inspect Draw) = ⊥
+Explains (Inspect Check) = Unit {0}
+Explains (Plain which) = ⊥
+Explains Live = ⊥
+
+-- whether there is something to print: of a faulty file, for `check` alone
+abbrev pub IsPrinted : Job → List ℕ → Type 0
+IsPrinted (Plain which) bytes = file_fault (Plain which) bytes ≡ None
+IsPrinted Live bytes = file_fault Live bytes ≡ None
+IsPrinted (Inspect Stale) bytes = inspected_fault Stale bytes ≡ None
+IsPrinted (Inspect Show) bytes = inspected_fault Show bytes ≡ None
+IsPrinted (Inspect Draw) bytes = inspected_fault Draw bytes ≡ None
+IsPrinted (Inspect Check) bytes = Unit {0}
+
+-- whether its status tells that stale mappings were used, and they were
+abbrev pub FindsUses : Job → List ℕ → Type 0
+FindsUses (Inspect Stale) bytes = UsesOf (run_file bytes)
+FindsUses (Inspect Show) bytes = ⊥
+FindsUses (Inspect Draw) bytes = ⊥
+FindsUses (Inspect Check) bytes = ⊥
+FindsUses (Plain which) bytes = ⊥
+FindsUses Live bytes = ⊥
 
 pub data Ending : Type 0 where
   done : Ending
+  stale_used : Ending
+  explained : Failure → Ending
   misused : Ending
   unreadable : Ending
   too_large : Ending
@@ -50,6 +98,8 @@ failure_status _ = 3
 
 abbrev pub status_of : Ending → ℕ
 status_of done = 0
+status_of stale_used = 1
+status_of (explained failure) = failure_status failure
 status_of misused = 2
 status_of unreadable = 2
 status_of too_large = 2
@@ -60,6 +110,8 @@ status_of no_thread = 5
 
 abbrev pub reason : List ℕ → Ending → List ℕ
 reason file done = []
+reason file stale_used = []
+reason file (explained failure) = failure_text failure
 reason file misused = codes "usage: svsim COMMAND FILE"
 reason file unreadable = codes "cannot read " ++ file
 reason file too_large = codes "file too large"
@@ -71,6 +123,7 @@ reason file no_thread = codes "no thread"
 -- the line on standard error
 abbrev pub error_line : List ℕ → Ending → List ℕ
 error_line file done = []
+error_line file stale_used = []
 error_line file ending = codes "svsim: " ++ reason file ending ++ codes "\n"
 
 -- of a file named `f`, an ending has this status and this line
@@ -80,18 +133,22 @@ IsTold ending status line = (status_of ending ≡ status) × (error_line (codes 
 -- when a file of these bytes may end so; any may be unreadable or find no memory, and a faultless
 -- one for `live` no thread
 abbrev pub Suits : Job → List ℕ → Ending → Type 0
-Suits job bytes done = (length bytes ≤ most_bytes) × (file_fault job bytes ≡ None)
+Suits job bytes done = (length bytes ≤ most_bytes) × (file_fault job bytes ≡ None) × ¬ FindsUses job bytes
+Suits job bytes stale_used = (length bytes ≤ most_bytes) × (file_fault job bytes ≡ None) × FindsUses job bytes
+Suits job bytes (explained failure) = Explains job × (length bytes ≤ most_bytes) × (file_fault job bytes ≡ Some failure)
 Suits job bytes misused = ⊥
 Suits job bytes unreadable = Unit {0}
 Suits job bytes too_large = most_bytes < length bytes
 Suits job bytes (refused failure) = (length bytes ≤ most_bytes) × (file_fault job bytes ≡ Some failure)
-Suits job bytes output_failed = (length bytes ≤ most_bytes) × (file_fault job bytes ≡ None)
+Suits job bytes output_failed = (length bytes ≤ most_bytes) × IsPrinted job bytes
 Suits job bytes no_memory = Unit {0}
 Suits job bytes no_thread = StartsThreads job × (length bytes ≤ most_bytes) × (file_fault job bytes ≡ None)
 
 -- what was written of the lines: all, a beginning, or nothing
 abbrev pub Leaves : (List ℕ → Type 0) → Ending → Option (List ℕ) → Option (List ℕ) → Type 0
 Leaves Lines done old new = WritesAll Lines old new
+Leaves Lines stale_used old new = WritesAll Lines old new
+Leaves Lines (explained failure) old new = WritesAll Lines old new
 Leaves Lines output_failed old new = WritesFront Lines old new
 Leaves Lines _ old new = Keeps old new
 
@@ -103,6 +160,7 @@ pub record EndsAs (job : Job) (bytes : List ℕ) (ending : Ending) (old new : Op
 -- what is told of an ending: itself, or that there was no memory for its line, if it has one
 abbrev pub IsToldAs : Ending → Ending → Type 0
 IsToldAs done told = told ≡ done
+IsToldAs stale_used told = told ≡ stale_used
 IsToldAs ending told = (told ≡ ending) ⊎ (told ≡ no_memory)
 
 -- the status is that of what is told, and its line was written as far as standard error took it

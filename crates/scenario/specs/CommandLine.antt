@@ -6,7 +6,9 @@ use Rattle.std.specs.Str.{bytes_eq}
 use Rattle.std.specs.declared.io.ErrorKind.{ErrorKind}
 use Rattle.std.specs.declared.io.ErrorKind.TheVariants as kinds
 use Rattle.scenario.specs.declared.program.Job.{Job}
-use Rattle.scenario.specs.declared.program.Job.TheVariants.{Plain, Live}
+use Rattle.scenario.specs.declared.program.Job.TheVariants.{Plain, Live, Inspect}
+use Rattle.scenario.specs.declared.program.Inspection.{Inspection}
+use Rattle.scenario.specs.declared.program.Inspection.TheVariants.{Stale, Show, Draw, Check}
 use Rattle.scenario.specs.declared.program.Which.TheVariants.{Walk, Run}
 use Rattle.scenario.specs.declared.command_line.Ask.{Ask}
 use Rattle.scenario.specs.declared.command_line.NoWords.{NoWords}
@@ -21,12 +23,20 @@ pub record Asked : Type 0 where
 abbrev pub ask_view : Ask → Asked
 ask_view ask = record { job = ask.job; file = ask.file.now }
 
+abbrev pub inspection_of : List ℕ → Option Inspection
+inspection_of word =
+    if bytes_eq word (codes "stale") then Some Stale
+    else if bytes_eq word (codes "show") then Some Show
+    else if bytes_eq word (codes "draw") then Some Draw
+    else if bytes_eq word (codes "check") then Some Check
+    else None
+
 abbrev pub job_of : List ℕ → Option Job
 job_of word =
     if bytes_eq word (codes "walk") then Some (Plain Walk)
     else if bytes_eq word (codes "run") then Some (Plain Run)
     else if bytes_eq word (codes "live") then Some Live
-    else None
+    else option_map Inspect (inspection_of word)
 
 -- `-` and more
 abbrev pub is_option : List ℕ → Bool

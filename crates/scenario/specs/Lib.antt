@@ -4,3 +4,4 @@ pub mod Output
 pub mod Input
 pub mod Command
 pub mod CommandLine
+pub mod Inspections

@@ -1,5 +1,5 @@
 -- What is printed of a scenario.
-use Rattle.std.specs.Prelude.{◌≡◌, ℕ, List, [], length, map, None, Result, Ok, Err}
+use Rattle.std.specs.Prelude.{◌≡◌, ◌↔◌, ℕ, List, [], length, map, Option, None, Result, Ok, Err}
 use Rattle.board.specs.Reports.{pairs_of}
 use Rattle.board.specs.declared.report.PairReport.{PairReport}
 use Rattle.harts.specs.declared.live_reply.LiveReply.{LiveReply}
@@ -15,6 +15,10 @@ use Rattle.scenario.specs.declared.trouble.Trouble.TheVariants.{Usage, Unreadabl
 use Rattle.files.specs.LiveFile.{LivePlan}
 use Rattle.files.specs.RunFile.{RunPlan}
 use Rattle.files.specs.WalkFile.{WalkPlan}
+use Rattle.stale_lines.specs.Tells.{TellsStale, UsesStaleMapping}
+use Rattle.show.specs.Sheet.{Shows}
+use Rattle.checks.specs.Told.{name_by, whole_text}
+use Rattle.toml.specs.Parse.{parse_document}
 
 -- what `walk` prints: the lines of the answers of its steps, over the memory that the file describes
 abbrev pub Prints : WalkPlan → List ℕ → Type 0
@@ -59,3 +63,20 @@ IsUnprinted Unreadable read = ⊥
 IsUnprinted TooLarge read = ⊥
 IsUnprinted NoThread read = fault_in read ≡ None
 IsUnprinted (Refused fault) read = Fails fault read
+
+-- what `stale` prints: a line for each step that makes mappings stale and each access that one answers, in the order of the steps
+abbrev pub PrintsStale : RunPlan → List ℕ → Type 0
+PrintsStale plan lines = TellsStale (setup_of plan.config) plan.events lines
+
+-- what `show` prints: the state of a machine after the steps, each of which had its due reply
+abbrev pub PrintsState : RunPlan → List ℕ → Type 0
+PrintsState plan lines = Shows plan.config plan.events lines
+
+-- what `check` prints of a text with this first fault: the command that it is for, and lines that explain, none if there is no fault
+abbrev pub TellsFaults : List ℕ → Option Failure → List ℕ → Type 0
+TellsFaults text first lines = (told : List (List ℕ)) × (lines ≡ whole_text (name_by (parse_document text)) told) × ((first ≡ None) ↔ (told ≡ []))
+
+-- a stale mapping answers some access of the scenario
+abbrev pub UsesOf : Result RunPlan Failure → Type 0
+UsesOf (Ok plan) = UsesStaleMapping (setup_of plan.config) plan.events
+UsesOf (Err e) = ⊥

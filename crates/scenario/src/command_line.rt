@@ -5,10 +5,11 @@ ghost use Rattle.std.specs.Io.KnownBytes.{Keeps};
 ghost use Rattle.std.specs.IoError.{error_kind};
 ghost use Rattle.scenario.specs.declared.command_line.NoWords.TheVariants.{NoMemory};
 ghost use Rattle.scenario.specs.Command.{EndsOn, Reports};
-ghost use Rattle.scenario.specs.CommandLine.{ask_view, asked, asked_by, asked_in, asked_of_three, asked_of_two, is_end, is_option, job_of, no_words_by};
+ghost use Rattle.scenario.specs.CommandLine.{ask_view, asked, asked_by, asked_in, asked_of_three, asked_of_two, inspection_of, is_end, is_option, job_of, no_words_by};
 
 use crate::live_program::live_command;
-use crate::program::{Job, Which, command, report};
+use crate::inspect_program::inspect_command;
+use crate::program::{Inspection, Job, Which, command, report};
 use crate::trouble::Trouble;
 use harts::Gate;
 use keys::Fault;
@@ -53,6 +54,24 @@ impl From<io::Error> for NoWords {
     }
 }
 
+fn inspection_of(word: &str) -> Option<Inspection>
+    ensures { result ≡ inspection_of word.now }
+{
+    if word == "stale" {
+        return Some(Inspection::Stale);
+    }
+    if word == "show" {
+        return Some(Inspection::Show);
+    }
+    if word == "draw" {
+        return Some(Inspection::Draw);
+    }
+    if word == "check" {
+        return Some(Inspection::Check);
+    }
+    None
+}
+
 fn job_of(word: &str) -> Option<Job>
     ensures { result ≡ job_of word.now }
 {
@@ -65,7 +84,10 @@ fn job_of(word: &str) -> Option<Job>
     if word == "live" {
         return Some(Job::Live);
     }
-    None
+    match inspection_of(word) {
+        Some(inspection) => Some(Job::Inspect(inspection)),
+        None => None,
+    }
 }
 
 /// Whether a word is an option: `-` and more.
@@ -150,6 +172,9 @@ fn on_file<T: Threads + Wait + Sync, R: Read + Drop, W: Write, E: Write, G: Gate
     match ask.job {
         Job::Plain(which) => command(alloc, which, ask.file, &mut reader, out, err),
         Job::Live => live_command(rt, alloc, ask.file, &mut reader, out, err, gate),
+        Job::Inspect(inspection) => {
+            inspect_command(alloc, inspection, ask.file, &mut reader, out, err)
+        }
     }
 }
 

@@ -1,13 +1,14 @@
 //! Scenario files: from a file's bytes to the lines that `svsim` prints.
 //!
 //! `walk_text` and `run_text` answer a text, `command` does the whole of a command over any reader and writers, `live_command`
-//! the whole of `live`, whose harts are threads, and `answer_words` is the whole program over the words of the command line. A
+//! the whole of `live`, whose harts are threads, `inspect_command` that of `stale`, `show`, `draw` and `check`, and `answer_words` is the whole program over the words of the command line. A
 //! text is read and checked whole before its first line is written.
 #![tactic(auto)]
 
 mod command_line;
 mod format_laws;
 mod input;
+mod inspect_program;
 mod limits;
 mod live_program;
 mod output;
@@ -24,7 +25,8 @@ pub use keys::{
 };
 pub use lines::one_text;
 pub use live_program::live_command;
-pub use program::{Job, Which, command};
+pub use inspect_program::inspect_command;
+pub use program::{Inspection, Job, Which, command};
 pub use steps::StepFault;
 pub use system::start;
 pub use texts::{run_text, walk_text};

@@ -24,6 +24,19 @@ pub enum Which {
     Run,
 }
 
+/// What a file can be looked at for, beside its replies.
+#[derive(Clone, Copy, Debug, PartialEq, Eq)]
+pub enum Inspection {
+    /// Which steps make mappings of TLBs stale, and which accesses stale mappings answer.
+    Stale,
+    /// The state of the machine after the last step.
+    Show,
+    /// A picture of the run.
+    Draw,
+    /// What is wrong with a file, of any command.
+    Check,
+}
+
 /// What the program can be asked for.
 #[derive(Clone, Copy, Debug, PartialEq, Eq)]
 pub enum Job {
@@ -31,6 +44,8 @@ pub enum Job {
     Plain(Which),
     /// `live`: runs scripts of harts, each on a thread of its own.
     Live,
+    /// Tells of a file what its replies don't.
+    Inspect(Inspection),
 }
 
 pub(crate) const DONE: u8 = 0;
