@@ -1,3 +1,4 @@
 pub mod Kept
+pub mod ScriptLemmas
 pub mod Tallied
 pub mod Woven

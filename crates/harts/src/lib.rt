@@ -5,7 +5,7 @@ mod blank;
 mod book;
 mod gate;
 mod live;
-mod live_course;
+mod live_latch;
 mod live_port;
 mod live_reply;
 mod live_report;

@@ -1,13 +1,14 @@
 //! Live runs: each hart is a thread, which does the steps of its script by its port.
 
-ghost use Rattle.std.specs.Prelude.{◌≡◌, ◌≤◌, ◌<◌, ◌↔◌, All, IfOk, OnOk, Err, length, map};
+ghost use Rattle.std.specs.Prelude.{◌≡◌, ◌≤◌, ◌<◌, ◌↔◌, All, true, IfOk, OnOk, Err, length, map};
 ghost use Rattle.spaces.specs.Limits.{max_live_frames, MeetsLimits};
 ghost use Rattle.history.specs.Setup.{setup_of};
 ghost use Rattle.board.specs.Ports.{ArePorts, name_of};
 ghost use Rattle.board.specs.Reports.{pairs_of};
+ghost use Rattle.harts.specs.Scripts.{are_made, AreAnswered};
 
 use crate::gate::Gate;
-use crate::live_course::Course;
+use crate::live_latch::Latch;
 use crate::live_port::step_of;
 use crate::live_report::{LiveFault, LiveReport};
 use crate::live_threads::{roles_of, run_threads};
@@ -56,17 +57,19 @@ pub fn run_live<R: Threads + Wait + Sync, G: Gate + Sync>(
     requires scripts { length scripts.now ≤ config.now.harts }
     ensures bad_layout { (result ≡ Err LiveFault.BadLayout) ↔ (¬ MeetsLimits max_live_frames config.now) }
     ensures setup { IfOk result (λ r. length r.setup.items ≡ length setup.now) }
+    ensures made { IfOk result (λ r. are_made (map (λ step. step.1) setup.now) r.setup.items ≡ true) }
     ensures scripts { IfOk result (λ r. length r.scripts.items ≡ config.now.harts) }
+    ensures answered { IfOk result (λ r. AreAnswered (map (λ script. script.items) scripts.now) (map (λ replies. replies.items) r.scripts.items)) }
     ensures pairs { IfOk result (λ r. map (λ pair. (pair.sender, pair.receiver)) r.report.pairs.items ≡ pairs_of config.now.harts config.now.harts) }
 {
     let (board, mut ports) = open(alloc, config)?;
-    let course = Course::new(config.harts as u8);
+    let latch = Latch::new(config.harts as u8);
     let mut answers = Vec::with_capacity(alloc, setup.len())?;
     for (hart, step) in setup {
-        answers.push_reserved(step_of(&mut ports, *hart, step, turns, &course));
+        answers.push_reserved(step_of(&mut ports, *hart, step, turns, &latch));
     }
     let roles = roles_of(alloc, ports, scripts)?;
-    let (ports, scripts) = run_threads(rt, alloc, roles, turns, &course, gate)?;
+    let (ports, scripts) = run_threads(rt, alloc, roles, turns, &latch, gate)?;
     Ok(LiveReport {
         setup: answers,
         scripts,

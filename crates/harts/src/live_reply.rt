@@ -1,9 +1,11 @@
 //! What a step of a live run answers.
 
-ghost use Rattle.std.specs.Prelude.{◌≡◌, ℕ, Ok, IfOk, IfErr};
+ghost use Rattle.std.specs.Prelude.{◌≡◌, ℕ, true, Ok, IfOk, IfErr};
 ghost use Rattle.history.specs.declared.reply.Reply.TheVariants as reply;
 ghost use Rattle.board.specs.declared.mapped.Mapped.TheVariants as mapped;
 ghost use Rattle.shoot.specs.declared.tickets.Collected.TheVariants as collected;
+ghost use Rattle.history.specs.declared.live_step.LiveStep.{LiveStep};
+ghost use Rattle.harts.specs.Scripts.{may_answer};
 
 use board::Mapped;
 use history::{Refusal, Reply};
@@ -29,6 +31,7 @@ impl LiveReply {
 
     /// The answer of a translation.
     pub(crate) fn of_translation(answer: Result<u64, Trap>) -> LiveReply
+        ensures made { (step : LiveStep) → may_answer step result ≡ true }
         ensures found { IfOk answer (λ pa. result ≡ live.Translated pa) }
         ensures trap { IfErr answer (λ trap. result ≡ live.Replied (reply.Trap trap)) }
     {
@@ -40,6 +43,7 @@ impl LiveReply {
 
     /// The answer of a step of mapping.
     pub(crate) fn of_map(answer: Result<Mapped, Refusal>) -> LiveReply
+        ensures made { (step : LiveStep) → may_answer step result ≡ true }
         ensures table { (ppn : ℕ) → answer ≡ Ok (mapped.Table ppn) → result ≡ live.Replied (reply.Table ppn) }
         ensures leaf { answer ≡ Ok mapped.Leaf → result ≡ live.Replied reply.Leaf }
         ensures refused { IfErr answer (λ refusal. result ≡ live.Replied (reply.Refused refusal)) }
@@ -53,6 +57,7 @@ impl LiveReply {
 
     /// The answer of a call that opens a ticket.
     pub(crate) fn of_opening(answer: Result<u32, Refusal>) -> LiveReply
+        ensures made { (step : LiveStep) → may_answer step result ≡ true }
         ensures opened { IfOk answer (λ ticket. result ≡ live.Replied (reply.Opened ticket)) }
         ensures refused { IfErr answer (λ refusal. result ≡ live.Replied (reply.Refused refusal)) }
     {
@@ -64,6 +69,7 @@ impl LiveReply {
 
     /// The answer of a call that has nothing to tell.
     pub(crate) fn of_call(answer: Result<(), Refusal>) -> LiveReply
+        ensures made { (step : LiveStep) → may_answer step result ≡ true }
         ensures ok { IfOk answer (λ _. result ≡ live.Replied reply.Ok) }
         ensures refused { IfErr answer (λ refusal. result ≡ live.Replied (reply.Refused refusal)) }
     {
@@ -75,6 +81,7 @@ impl LiveReply {
 
     /// The answer of a service.
     pub(crate) fn of_service(answer: Result<Request, Refusal>) -> LiveReply
+        ensures made { (step : LiveStep) → may_answer step result ≡ true }
         ensures taken { IfOk answer (λ request. result ≡ live.Replied (reply.Taken request)) }
         ensures refused { IfErr answer (λ refusal. result ≡ live.Replied (reply.Refused refusal)) }
     {
@@ -86,6 +93,7 @@ impl LiveReply {
 
     /// The answer of a call that tells how far a ticket is.
     pub(crate) fn of_collection(answer: Result<Collected, Refusal>) -> LiveReply
+        ensures made { (step : LiveStep) → may_answer step result ≡ true }
         ensures done { answer ≡ Ok collected.Done → result ≡ live.Replied reply.Done }
         ensures waiting { (harts : ℕ) → answer ≡ Ok (collected.Waiting harts) → result ≡ live.Replied (reply.Waiting harts) }
         ensures refused { IfErr answer (λ refusal. result ≡ live.Replied (reply.Refused refusal)) }

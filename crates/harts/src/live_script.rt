@@ -2,13 +2,15 @@
 
 ghost use Rattle.std.specs.Prelude.{◌≡◌, ◌≤◌, [], length, vec_capacity};
 ghost use Rattle.board.specs.Ports.{name_of};
+ghost use Rattle.harts.specs.Scripts.{IsAnswered};
 
 use crate::gate::Gate;
-use crate::live_course::Course;
+use crate::live_latch::Latch;
 use crate::live_port::{perform, serve_until_over};
 use crate::live_reply::LiveReply;
 use board::HartPort;
 use history::LiveStep;
+use std::snapshot::Snapshot;
 
 /// What the thread of a hart begins with: its port, its script, and room for the answers.
 #[derive(Drop)]
@@ -17,36 +19,37 @@ pub(crate) struct Role<'a> {
     pub(crate) port: HartPort,
     pub(crate) script: &'a [LiveStep],
     pub(crate) answers: Vec<LiveReply>,
+    /// The steps of the script, for contracts alone.
+    pub(crate) steps: Snapshot<Vec<LiveStep>>,
     ghost none: { answers.items ≡ [] },
     ghost room: { length script.now ≤ vec_capacity answers },
+    ghost same: { steps.value.items ≡ script.now },
 }
 
-/// The steps of a script in order, each between the two calls of the gate.
+/// The steps of a script in order, each between the two calls of the gate. In a run that was abandoned, of which there is no
+/// report, the script is halted before its next step.
 fn play<G: Gate>(
     port: &mut HartPort,
     hart: u8,
     script: &[LiveStep],
     answers: &mut Vec<LiveReply>,
     turns: u32,
-    course: &Course,
+    latch: &Latch,
     gate: &G,
 )
     requires none { answers.old.items ≡ [] }
     requires room { length script.now ≤ vec_capacity answers.old }
     ensures same { name_of port.new ≡ name_of port.old }
-    ensures at_most { length answers.new.items ≤ length script.now }
+    ensures answered { IsAnswered script.now answers.new.items }
 {
     let mut number = 0_u32;
     for step in script {
-        if course.is_abandoned() {
-            break;
-        }
         number = number.saturating_add(1);
-        if !gate.before(hart, number) {
+        if latch.is_abandoned() || !gate.before(hart, number) {
             answers.push_reserved(LiveReply::Halted);
-            break;
+            return;
         }
-        answers.push_reserved(perform(port, step, turns, course));
+        answers.push_reserved(perform(port, step, turns, latch));
         gate.after(hart, number);
     }
 }
@@ -58,16 +61,16 @@ pub(crate) fn run_script<G: Gate>(
     script: &[LiveStep],
     mut answers: Vec<LiveReply>,
     turns: u32,
-    course: &Course,
+    latch: &Latch,
     gate: &G,
 ) -> (HartPort, Vec<LiveReply>)
     requires none { answers.items ≡ [] }
     requires room { length script.now ≤ vec_capacity answers }
     ensures same { name_of result.0 ≡ name_of port }
-    ensures at_most { length result.1.items ≤ length script.now }
+    ensures answered { IsAnswered script.now result.1.items }
 {
-    play(&mut port, hart, script, &mut answers, turns, course, gate);
-    course.end_one();
-    serve_until_over(&mut port, turns, course);
+    play(&mut port, hart, script, &mut answers, turns, latch, gate);
+    latch.count_down();
+    serve_until_over(&mut port, turns, latch);
     (port, answers)
 }

@@ -1,8 +1,9 @@
 -- What is printed of a scenario.
-use Rattle.std.specs.Prelude.{◌≡◌, ◌↔◌, ℕ, List, [], length, map, Option, None, Result, Ok, Err}
+use Rattle.std.specs.Prelude.{◌≡◌, ◌↔◌, ℕ, true, List, [], length, map, Option, None, Result, Ok, Err}
 use Rattle.board.specs.Reports.{pairs_of}
 use Rattle.board.specs.declared.report.PairReport.{PairReport}
 use Rattle.harts.specs.declared.live_reply.LiveReply.{LiveReply}
+use Rattle.harts.specs.Scripts.{are_made, AreAnswered}
 use Rattle.history.specs.Runs.{due_replies}
 use Rattle.history.specs.Setup.{setup_of}
 use Rattle.lines.specs.AnswerLines.{WritesLines}
@@ -28,11 +29,13 @@ Prints plan lines = WritesLines plan.scheme plan.tables plan.root 1 plan.steps l
 abbrev pub PrintsReplies : RunPlan → List ℕ → Type 0
 PrintsReplies plan lines = lines ≡ reply_lines (due_replies (setup_of plan.config) [] plan.events)
 
--- a run of the plan may answer so: it answers each step of the setup, has a script for each hart, and tells of each mailbox once,
--- by sender and then by receiver
+-- a run of the plan may answer so: each step of the setup was made and has its reply, each hart has answered its script, up to its
+-- end or to the step before which it was halted, and each mailbox is told of once, by sender and then by receiver
 pub record AreAnswers (plan : LivePlan) (setup : List LiveReply) (scripts : List (List LiveReply)) (pairs : List PairReport) : Type 0 where
   pub setup_count : length setup ≡ length plan.setup
+  pub setup_made : are_made (map (λ step. step.1) plan.setup) setup ≡ true
   pub script_count : length scripts ≡ plan.config.harts
+  pub answered : AreAnswered plan.scripts scripts
   pub pairs_are : map (λ pair. (pair.sender, pair.receiver)) pairs ≡ pairs_of plan.config.harts plan.config.harts
 
 -- what `live` prints: the lines of the answers of some run; what the threads do when, no clause says

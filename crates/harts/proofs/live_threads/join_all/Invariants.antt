@@ -1,14 +1,19 @@
-use Rattle.std.proofs.Common.{◌≡◌, ◌+◌, ◌≤◌, ◌++◌, length, map}
+use Rattle.std.proofs.Common.{◌≡◌, ◌+◌, ◌≤◌, ◌++◌, List, length, map}
 use Rattle.std.specs.Prelude.{vec_capacity}
 use Rattle.std.specs.Vec.Iter.{into_iter_items, into_iter_len}
 use Rattle.board.specs.Ports.{name_of}
+use Rattle.harts.specs.declared.live_reply.LiveReply.{LiveReply}
+use Rattle.harts.specs.Scripts.{are_answered}
 use Rattle.harts.proofs.live_threads.join_all.Given as goal
 
+-- what answers the scripts of the threads that are left, answers all scripts after the answers so far
 abbrev pub invariant-loop-handle : goal.invariant-loop-handle
 invariant-loop-handle g l = record {
-  same : map name_of l.ports.items ++ map (λ handle. name_of handle.promise.0.value) (into_iter_items l.handle-iterator) ≡ map (λ handle. name_of handle.promise.0.value) l.fn.handles.items;
+  same : map name_of l.ports.items ++ map (λ handle. name_of handle.promise.port.value) (into_iter_items l.handle-iterator) ≡ map (λ handle. name_of handle.promise.port.value) l.fn.handles.items;
   count : length l.answers.items + length (into_iter_items l.handle-iterator) ≡ length l.fn.handles.items;
   port_room : length l.ports.items + length (into_iter_items l.handle-iterator) ≤ vec_capacity l.ports;
   answer_room : length l.answers.items + length (into_iter_items l.handle-iterator) ≤ vec_capacity l.answers;
   left : into_iter_len l.handle-iterator ≡ length (into_iter_items l.handle-iterator);
+  answered : (more : List (List LiveReply)) → are_answered (map (λ handle. handle.promise.steps.value.items) l.fn.handles.items) (map (λ replies. replies.items) l.answers.items ++ more)
+      ≡ are_answered (map (λ handle. handle.promise.steps.value.items) (into_iter_items l.handle-iterator)) more;
 }

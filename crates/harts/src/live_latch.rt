@@ -1,19 +1,20 @@
-//! How far the scripts of a live run are.
+//! The latch of a live run, for which its threads wait.
 
 use std::sync::atomic::{AtomicBool, AtomicU32, Ordering};
 
-/// How far a live run is, which its threads share.
+/// Counts the scripts of a run that have ended, and tells whether the run was abandoned. It is open once all scripts have ended,
+/// or the run was abandoned. The threads of a run share one.
 #[derive(Drop)]
-pub(crate) struct Course {
+pub(crate) struct Latch {
     pub(crate) harts: u8,
     ended: AtomicU32,
     abandoned: AtomicBool,
 }
 
-impl Course {
-    /// No script has ended.
-    pub(crate) fn new(harts: u8) -> Course {
-        Course {
+impl Latch {
+    /// The latch of a run of so many harts, of which no script has ended.
+    pub(crate) fn new(harts: u8) -> Latch {
+        Latch {
             harts,
             ended: AtomicU32::new(0),
             abandoned: AtomicBool::new(false),
@@ -21,7 +22,7 @@ impl Course {
     }
 
     /// One more script has ended.
-    pub(crate) fn end_one(&self) {
+    pub(crate) fn count_down(&self) {
         self.ended.fetch_add(1, Ordering::SeqCst);
     }
 
@@ -35,7 +36,7 @@ impl Course {
     }
 
     /// Whether no hart has anything to wait for.
-    pub(crate) fn is_over(&self) -> bool {
+    pub(crate) fn is_open(&self) -> bool {
         self.is_abandoned() || self.ended.load(Ordering::SeqCst) >= u32::from(self.harts)
     }
 }
