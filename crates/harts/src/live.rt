@@ -37,6 +37,9 @@ fn open(alloc: Global, config: &Config) -> Result<(Board, Vec<HartPort>), LiveFa
 /// Runs setup's steps in order on this thread, each by the port of its hart. Then each hart is a thread of its own, which does
 /// the steps of its script in order; a hart past the end of `scripts` has none. `gate` is told of each step of a script.
 ///
+/// At `Ok` each step of setup has its answer, and each step of a script, up to its end or to the step before which the gate
+/// ended it: that one is answered `Halted`, and nothing follows. Only a wait answers `Timeout`.
+///
 /// A wait takes at most `turns` turns. In a turn the hart serves once from each other hart, the lowest first, and then collects
 /// the ticket. A hart whose script has ended serves every other hart in turns, until all scripts have ended or `turns` turns
 /// passed. All room for answers is taken before the first thread starts.
@@ -68,7 +71,8 @@ pub fn run_live<R: Threads + Wait + Sync, G: Gate + Sync>(
     for (hart, step) in setup {
         answers.push_reserved(step_of(&mut ports, *hart, step, turns, &latch));
     }
-    let roles = roles_of(alloc, ports, scripts)?;
+    let empty = Vec::new(alloc);
+    let roles = roles_of(alloc, ports, scripts, &empty)?;
     let (ports, scripts) = run_threads(rt, alloc, roles, turns, &latch, gate)?;
     Ok(LiveReport {
         setup: answers,

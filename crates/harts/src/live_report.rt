@@ -12,7 +12,8 @@ use std::alloc::AllocError;
 pub struct LiveReport {
     /// The answer to each step of setup, in order.
     pub setup: Vec<LiveReply>,
-    /// For each hart, in order, the answers to the steps of its script up to its end. None for a hart without a script.
+    /// For each hart, in order, the answers to the steps of its script, in order: to all of them, or, if the gate ended the
+    /// script, to those before, and `Halted`. None for a hart without a script.
     pub scripts: Vec<Vec<LiveReply>>,
     /// What each mailbox did, setup and the time after the scripts included.
     pub report: Report,

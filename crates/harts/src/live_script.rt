@@ -10,20 +10,33 @@ use crate::live_port::{perform, serve_until_over};
 use crate::live_reply::LiveReply;
 use board::HartPort;
 use history::LiveStep;
-use std::snapshot::Snapshot;
 
 /// What the thread of a hart begins with: its port, its script, and room for the answers.
 #[derive(Drop)]
 pub(crate) struct Role<'a> {
     pub(crate) hart: u8,
     pub(crate) port: HartPort,
-    pub(crate) script: &'a [LiveStep],
+    pub(crate) script: &'a Vec<LiveStep>,
     pub(crate) answers: Vec<LiveReply>,
-    /// The steps of the script, for contracts alone.
-    pub(crate) steps: Snapshot<Vec<LiveStep>>,
     ghost none: { answers.items ≡ [] },
-    ghost room: { length script.now ≤ vec_capacity answers },
-    ghost same: { steps.value.items ≡ script.now },
+    ghost room: { length script.now.items ≤ vec_capacity answers },
+}
+
+impl<'a> Role<'a> {
+    pub(crate) fn into_parts(self) -> (u8, HartPort, &'a Vec<LiveStep>, Vec<LiveReply>)
+        ensures same { (result.1 ≡ self.entry.port) × (result.2.now.items ≡ self.entry.script.now.items) }
+        ensures none { result.3.items ≡ [] }
+        ensures room { length result.2.now.items ≤ vec_capacity result.3 }
+    {
+        let Role {
+            hart,
+            port,
+            script,
+            answers,
+            ..
+        } = self;
+        (hart, port, script, answers)
+    }
 }
 
 /// The steps of a script in order, each between the two calls of the gate. In a run that was abandoned, of which there is no

@@ -1,6 +1,6 @@
 //! The threads of a live run.
 
-ghost use Rattle.std.specs.Prelude.{◌≡◌, ◌≢◌, ◌≤◌, true, [], IfOk, IfErr, IfSome, length, map, slice_index_or, vec_capacity};
+ghost use Rattle.std.specs.Prelude.{◌≡◌, ◌≢◌, ◌≤◌, true, [], Ok, IfOk, IfErr, IfSome, length, map, slice_index_or, vec_capacity};
 ghost use Rattle.harts.specs.Scripts.{are_answered, IsAnswered, scripts_of};
 ghost use Rattle.board.specs.Ports.{name_of};
 
@@ -17,7 +17,7 @@ use std::sync::Wait;
 use std::thread;
 use std::thread::{Promise, PromisedHandle, Threads};
 
-/// What the thread of a hart began with: it gives that port back, with replies that answer those steps.
+/// What the thread of a hart began with, for contracts alone: it gives that port back, with replies that answer those steps.
 #[derive(Drop)]
 pub(crate) struct Played {
     port: Snapshot<HartPort>,
@@ -32,33 +32,32 @@ impl Promise<(HartPort, Vec<LiveReply>)> for Played {
     ghost kept_by = { λ p r. (name_of r.0 ≡ name_of p.port.value) × IsAnswered p.steps.value.items r.1.items };
 }
 
+impl Played {
+    fn of(port: &HartPort, script: &Vec<LiveStep>) -> Played
+        ensures port { name_of result.port.value ≡ name_of port.now }
+        ensures steps { result.steps.value.items ≡ script.now.items }
+    {
+        Played {
+            port: Snapshot::of(port),
+            steps: Snapshot::of(script),
+        }
+    }
+}
+
 type Running = PromisedHandle<(HartPort, Vec<LiveReply>), Played>;
 
-/// What the thread of a hart begins with: the script of its number, or none past the last script.
-fn role_of<'a>(
-    alloc: Global,
-    port: HartPort,
+/// The script of a hart, which is the empty one if there is none.
+fn script_of<'a>(
     scripts: &'a [Vec<LiveStep>],
-    hart: u8,
-) -> Result<Role<'a>, AllocError>
-    ensures port { IfOk result (λ role. name_of role.port ≡ name_of port) }
-    ensures steps { IfOk result (λ role. role.steps.value.items ≡ slice_index_or (map (λ script. script.items) scripts.now) hart []) }
+    hart: usize,
+    empty: &'a Vec<LiveStep>,
+) -> &'a Vec<LiveStep>
+    requires { empty.now.items ≡ [] }
+    ensures { result.now.items ≡ slice_index_or (map (λ script. script.items) scripts.now) hart [] }
 {
-    match scripts.get(usize::from(hart)) {
-        Some(script) => Ok(Role {
-            hart,
-            port,
-            script: script.as_slice(),
-            answers: Vec::with_capacity(alloc, script.len())?,
-            steps: Snapshot::of(script),
-        }),
-        None => Ok(Role {
-            hart,
-            port,
-            script: &[],
-            answers: Vec::new(alloc),
-            steps: Snapshot::of(&Vec::new(alloc)),
-        }),
+    match scripts.get(hart) {
+        Some(script) => script,
+        None => empty,
     }
 }
 
@@ -67,16 +66,25 @@ pub(crate) fn roles_of<'a>(
     alloc: Global,
     ports: Vec<HartPort>,
     scripts: &'a [Vec<LiveStep>],
+    empty: &'a Vec<LiveStep>,
 ) -> Result<Vec<Role<'a>>, AllocError>
-    requires { length ports.items ≤ 8 }
+    requires few { length ports.items ≤ 8 }
+    requires empty { empty.now.items ≡ [] }
     ensures same { IfOk result (λ roles. map (λ role. name_of role.port) roles.items ≡ map name_of ports.items) }
-    ensures scripts { IfOk result (λ roles. map (λ role. role.steps.value.items) roles.items ≡ scripts_of (length ports.items) (map (λ script. script.items) scripts.now)) }
+    ensures scripts { IfOk result (λ roles. map (λ role. role.script.now.items) roles.items ≡ scripts_of (length ports.items) (map (λ script. script.items) scripts.now)) }
     ensures count { IfOk result (λ roles. length roles.items ≡ length ports.items) }
 {
     let mut roles = Vec::with_capacity(alloc, ports.len())?;
     for port in ports {
-        let hart = roles.len() as u8;
-        roles.push_reserved(role_of(alloc, port, scripts, hart)?);
+        let hart = roles.len();
+        let script = script_of(scripts, hart, empty);
+        let answers = Vec::with_capacity(alloc, script.len())?;
+        roles.push_reserved(Role {
+            hart: hart as u8,
+            port,
+            script,
+            answers,
+        });
     }
     Ok(roles)
 }
@@ -101,6 +109,19 @@ fn join_all<R: Threads>(
     }
 }
 
+/// The handle of a thread. If it could not be started, the run is abandoned.
+fn handle_of<E: Drop>(started: Result<Running, E>, latch: &Latch) -> Option<Running>
+    ensures { IfSome result (λ handle. started ≡ Ok handle) }
+{
+    match started {
+        Ok(handle) => Some(handle),
+        Err(_) => {
+            latch.abandon();
+            None
+        }
+    }
+}
+
 /// A thread for each hart, in order. None if one could not be started; then the others end before their next step.
 fn start_all<'a, R: Threads + Wait + Sync, G: Gate + Sync>(
     rt: &R,
@@ -110,47 +131,30 @@ fn start_all<'a, R: Threads + Wait + Sync, G: Gate + Sync>(
     latch: &Latch,
     gate: &G,
 ) -> Option<Vec<Running>>
-    requires none { handles.items ≡ [] }
-    requires room { length roles.items ≤ vec_capacity handles }
+    requires { (handles.items ≡ []) × (length roles.items ≤ vec_capacity handles) }
     ensures ports { IfSome result (λ handles. map (λ handle. name_of handle.promise.port.value) handles.items ≡ map (λ role. name_of role.port) roles.entry.items) }
-    ensures scripts { IfSome result (λ handles. map (λ handle. handle.promise.steps.value.items) handles.items ≡ map (λ role. role.steps.value.items) roles.entry.items) }
+    ensures scripts { IfSome result (λ handles. map (λ handle. handle.promise.steps.value.items) handles.items ≡ map (λ role. role.script.now.items) roles.entry.items) }
 {
     thread::scope(
         thread::scope_env(),
         rt,
         |scope| -> Option<Vec<Running>>
-            requires none { handles.items ≡ [] }
-            requires room { length roles.items ≤ vec_capacity handles }
+            requires { (handles.items ≡ []) × (length roles.items ≤ vec_capacity handles) }
             ensures ports { IfSome result (λ handles. map (λ handle. name_of handle.promise.port.value) handles.items ≡ map (λ role. name_of role.port) roles.entry.items) }
-            ensures scripts { IfSome result (λ handles. map (λ handle. handle.promise.steps.value.items) handles.items ≡ map (λ role. role.steps.value.items) roles.entry.items) }
+            ensures scripts { IfSome result (λ handles. map (λ handle. handle.promise.steps.value.items) handles.items ≡ map (λ role. role.script.now.items) roles.entry.items) }
         {
             for role in roles {
-                let Role {
-                    hart,
-                    port,
-                    script,
-                    answers,
-                    steps,
-                    ..
-                } = role;
-                let promise = Played {
-                    port: Snapshot::of(&port),
-                    steps,
-                };
+                let (hart, port, script, answers) = role.into_parts();
+                let promise = Played::of(&port, script);
                 let started = scope.spawn_with(
                     promise,
                     move || -> (HartPort, Vec<LiveReply>)
-                        requires none { answers.items ≡ [] }
-                        requires room { length script.now ≤ vec_capacity answers }
+                        requires { (answers.items ≡ []) × (length script.now.items ≤ vec_capacity answers) }
                         ensures port { name_of result.0 ≡ name_of port }
-                        ensures answered { IsAnswered script.entry.now result.1.items }
-                    { run_script(port, hart, script, answers, turns, latch, gate) },
+                        ensures answered { IsAnswered script.entry.now.items result.1.items }
+                    { run_script(port, hart, script.as_slice(), answers, turns, latch, gate) },
                 );
-                let Ok(handle) = started else {
-                    latch.abandon();
-                    return None;
-                };
-                handles.push_reserved(handle);
+                handles.push_reserved(handle_of(started, latch)?);
             }
             Some(handles)
         },
@@ -168,7 +172,7 @@ pub(crate) fn run_threads<'a, R: Threads + Wait + Sync, G: Gate + Sync>(
 ) -> Result<(Vec<HartPort>, Vec<Vec<LiveReply>>), LiveFault>
     ensures ports { IfOk result (λ r. map name_of r.0.items ≡ map (λ role. name_of role.port) roles.entry.items) }
     ensures count { IfOk result (λ r. length r.1.items ≡ length roles.entry.items) }
-    ensures answered { IfOk result (λ r. are_answered (map (λ role. role.steps.value.items) roles.entry.items) (map (λ replies. replies.items) r.1.items) ≡ true) }
+    ensures answered { IfOk result (λ r. are_answered (map (λ role. role.script.now.items) roles.entry.items) (map (λ replies. replies.items) r.1.items) ≡ true) }
     ensures layout { IfErr result (λ fault. fault ≢ LiveFault.BadLayout) }
 {
     let handles = Vec::with_capacity(alloc, roles.len())?;

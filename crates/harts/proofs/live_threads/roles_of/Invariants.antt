@@ -8,7 +8,7 @@ use Rattle.harts.proofs.live_threads.roles_of.Given as goal
 abbrev pub invariant-loop-port : goal.invariant-loop-port
 invariant-loop-port l = record {
   same : map (λ role. name_of role.port) l.roles.items ++ map name_of (into_iter_items l.port-iterator) ≡ map name_of l.fn.ports.items;
-  scripts : map (λ role. role.steps.value.items) l.roles.items ++ scripts_of (length (into_iter_items l.port-iterator)) (drop (length l.roles.items) (map (λ script. script.items) l.fn.scripts))
+  scripts : map (λ role. role.script.now.items) l.roles.items ++ scripts_of (length (into_iter_items l.port-iterator)) (drop (length l.roles.items) (map (λ script. script.items) l.fn.scripts))
       ≡ scripts_of (length l.fn.ports.items) (map (λ script. script.items) l.fn.scripts);
   room : length l.roles.items + length (into_iter_items l.port-iterator) ≤ vec_capacity l.roles;
   count : length l.roles.items + length (into_iter_items l.port-iterator) ≡ length l.fn.ports.items;

@@ -7,7 +7,7 @@ use Rattle.harts.proofs.live_threads.fn.start_all.scope.Given as goal
 abbrev pub invariant-loop-role : goal.invariant-loop-role
 invariant-loop-role g l = record {
   same : map (λ handle. name_of handle.promise.port.value) l.handles.items ++ map (λ role. name_of role.port) (into_iter_items l.role-iterator) ≡ map (λ role. name_of role.port) (into_iter_items l.initial.role-iterator);
-  scripts : map (λ handle. handle.promise.steps.value.items) l.handles.items ++ map (λ role. role.steps.value.items) (into_iter_items l.role-iterator) ≡ map (λ role. role.steps.value.items) (into_iter_items l.initial.role-iterator);
+  scripts : map (λ handle. handle.promise.steps.value.items) l.handles.items ++ map (λ role. role.script.now.items) (into_iter_items l.role-iterator) ≡ map (λ role. role.script.now.items) (into_iter_items l.initial.role-iterator);
   room : length l.handles.items + length (into_iter_items l.role-iterator) ≤ vec_capacity l.handles;
   left : into_iter_len l.role-iterator ≡ length (into_iter_items l.role-iterator);
 }
