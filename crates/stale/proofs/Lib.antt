@@ -5,3 +5,5 @@ pub mod Hitting
 pub mod Acked
 pub mod Telling
 pub mod Unmapping
+pub mod Adding
+pub mod Changed

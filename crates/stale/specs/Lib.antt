@@ -1,4 +1,6 @@
+pub mod Told
 pub mod Stale
+pub mod Leaves
 pub mod Mapped
 pub mod Uses
 pub mod UseRuns

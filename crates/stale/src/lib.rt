@@ -1,14 +1,19 @@
 //! Stale mappings: what a TLB holds while the page tables do not map it so, and the accesses that it answers by it.
 #![tactic(auto)]
 
+mod changes;
 mod hits;
+mod items;
 mod mapped;
 mod promises;
+mod report;
 mod runs;
 
 pub use hits::{StaleUse, stale_use};
+pub use items::{BecameStale, StaleAt, StaleItem};
 pub use mapped::is_mapped_now;
 pub use promises::{
     acknowledged_page_is_not_stale, changed_page_is_not_stale, unmapping_makes_stale,
 };
+pub use report::{stale_report, step_stale};
 pub use runs::{UseAt, stale_uses};

@@ -1,5 +1,7 @@
-//! Tests of stale mappings: which accesses of a run are answered by one.
+//! Tests of stale mappings: which steps make mappings stale, and which accesses of a run are answered by one.
 #![tactic(auto)]
 
+#[cfg(test)]
+mod texts;
 #[cfg(test)]
 mod uses;

@@ -1,0 +1,5 @@
+use Rattle.stale.proofs.Adding.{ToldEntries}
+use Rattle.stale.proofs.report.tell_tlb.Given as goal
+
+abbrev pub invariant-loop-age : goal.invariant-loop-age
+invariant-loop-age l = ToldEntries l.opening l.fn.items.items l.hart l.tlb.entries l.age l.items.items

@@ -1,0 +1,5 @@
+use Rattle.stale.proofs.Adding.{ToldHarts}
+use Rattle.stale.proofs.report.tell_tlbs.Given as goal
+
+abbrev pub invariant-loop-hart : goal.invariant-loop-hart
+invariant-loop-hart l = ToldHarts l.opening l.fn.items.items l.machine l.hart l.items.items

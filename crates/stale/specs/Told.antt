@@ -1,0 +1,100 @@
+-- What is told of a run: the mappings that become stale step by step, and the stale ones that are used.
+use Rattle.std.specs.Prelude.{ℕ, ◌≡◌, ◌<◌, ◌⊎◌, List, length, Option, Some, None, slice_get, Contains}
+use Rattle.pte.specs.Address.{Span}
+use Rattle.tlb.specs.declared.store.Entry.{Entry}
+use Rattle.tlb.specs.Mappings.{Mapping, LiesIn, IsMappingOf}
+use Rattle.history.specs.Setup.{Setup}
+use Rattle.history.specs.declared.event.Event.{Event}
+use Rattle.history.specs.declared.event.Event.TheVariants.{Unmap, Protect}
+use Rattle.history.specs.Turns.{History, opened_ticket}
+use Rattle.history.specs.Due.{due}
+use Rattle.stepcore.specs.State.{State, hart_at}
+use Rattle.stale.specs.declared.report.Opening.{Opening}
+use Rattle.stale.specs.declared.items.StaleAt.{StaleAt}
+use Rattle.stale.specs.declared.items.StaleItem.{StaleItem}
+use Rattle.stale.specs.declared.items.StaleItem.TheVariants.{Became, Used}
+use Rattle.stale.specs.Leaves.{smaller, IsHeld}
+use Rattle.stale.specs.Stale.{BecomesStale, UsesStale}
+use Rattle.stale.specs.Uses.{Tells}
+use Rattle.stale.specs.UseRuns.{due_turn, history_at}
+
+-- an item tells that this mapping of a hart becomes stale: it is one of the entry, in the page
+abbrev pub TellsBecoming : StaleItem → ℕ → Mapping → Type 0
+TellsBecoming (Became became) h m = (h ≡ became.hart) × IsMappingOf became.entry m × LiesIn became.page m.page
+TellsBecoming (Used use_) h m = ⊥
+
+-- or that the hart uses it
+abbrev pub TellsUse : StaleItem → ℕ → Mapping → Type 0
+TellsUse (Became became) h m = ⊥
+TellsUse (Used use_) h m = Tells (Some use_) h m
+
+-- or that a hart opened an order under a ticket
+abbrev pub TellsOrder : StaleItem → ℕ → ℕ → Type 0
+TellsOrder (Became became) home ticket = (home ≡ became.home) × (ticket ≡ became.ticket)
+TellsOrder (Used use_) home ticket = ⊥
+
+-- some item of the step tells it
+pub record IsAmong (items : List StaleAt) (n : ℕ) (T : StaleItem → Type 0) : Type 0 where
+  pub told : StaleAt
+  pub among : Contains items told
+  pub step : told.step ≡ n
+  pub tells : T told.item
+
+-- the items tell that the mapping of h becomes stale by event n; that h uses it there; and that event n, of this hart, opened an
+-- order under this ticket
+abbrev pub IsToldBecoming : List StaleAt → ℕ → ℕ → Mapping → Type 0
+IsToldBecoming items n h m = IsAmong items n (λ item. TellsBecoming item h m)
+
+abbrev pub IsToldUse : List StaleAt → ℕ → ℕ → Mapping → Type 0
+IsToldUse items n h m = IsAmong items n (λ item. TellsUse item h m)
+
+abbrev pub IsToldOrder : List StaleAt → ℕ → ℕ → ℕ → Type 0
+IsToldOrder items n home ticket = IsAmong items n (λ item. TellsOrder item home ticket)
+
+-- event n, from 0 on, makes the mapping of h stale
+pub record BecomesAt (C : Setup) (H : History) (events : List Event) (n h : ℕ) (m : Mapping) : Type 0 where
+  pub event : Event
+  pub is : slice_get events n ≡ Some event
+  pub becomes : BecomesStale C (due_turn C (history_at C H events n) event) (history_at C H events n) h m
+
+-- the event is an edit of a page by this hart
+abbrev pub IsEditOf : ℕ → Event → Type 0
+IsEditOf home (Unmap hart place page named) = hart ≡ home
+IsEditOf home (Protect hart place page flags named) = hart ≡ home
+IsEditOf home _ = ⊥
+
+-- event n, from 0 on, is an unmapping or a change of flags by this hart, and opens an order under this ticket
+pub record OpensAt (C : Setup) (H : History) (events : List Event) (n home ticket : ℕ) : Type 0 where
+  pub event : Event
+  pub is : slice_get events n ≡ Some event
+  pub edit : IsEditOf home event
+  pub opened : opened_ticket (due C (history_at C H events n) event) ≡ Some ticket
+
+-- what is told of an entry that holds the leaf that was changed
+abbrev pub became_of : Opening → ℕ → Entry → StaleAt
+became_of opening hart e = record {
+  step = opening.step;
+  item = Became (record {
+    hart = hart;
+    entry = e;
+    page = smaller e.page opening.change.page;
+    home = opening.home;
+    ticket = opening.ticket;
+  });
+}
+
+pub record IsItemOf (opening : Opening) (hart : ℕ) (e : Entry) (item : StaleAt) : Type 0 where
+  pub held : IsHeld opening.change e
+  pub is : item ≡ became_of opening hart e
+
+-- of an entry, if there is one; and of one of the first entries of a TLB
+abbrev pub IsOfEntry : Opening → ℕ → Option Entry → StaleAt → Type 0
+IsOfEntry opening hart None item = ⊥
+IsOfEntry opening hart (Some e) item = IsItemOf opening hart e item
+
+abbrev pub IsOfEntries : Opening → ℕ → List Entry → ℕ → StaleAt → Type 0
+IsOfEntries opening hart entries n item = (age : ℕ) × (age < n) × IsOfEntry opening hart (slice_get entries age) item
+
+-- of some entry of some hart below this number
+abbrev pub IsOfHarts : State → Opening → ℕ → StaleAt → Type 0
+IsOfHarts m opening n item = (hart : ℕ) × (hart < n) × IsOfEntries opening hart (hart_at m hart).entries (length (hart_at m hart).entries) item
