@@ -1,5 +1,5 @@
 -- The leaf that an edit changes, as a machine finds it.
-use Rattle.std.proofs.Common.{◌≡◌, ℕ, Option, Some, None, Ok, refl, ap, sym, ◌∙◌, subst}
+use Rattle.std.proofs.Common.{◌≡◌, ℕ, Option, Some, None, Ok, refl, sym, ◌∙◌, subst}
 use Rattle.std.specs.Prelude.{Result}
 use Rattle.pte.specs.Address.{Span}
 use Rattle.pte.specs.declared.flags.PteFlags.{PteFlags}
@@ -19,7 +19,7 @@ pub page_with : (place : Place) (page : Span) (flags : Option PteFlags) → page
 page_with place page None = refl
 page_with place page (Some f) = refl
 
-same_store : (a b : Store) (r : Result Store MapFault) → r ≡ Ok a → r ≡ Ok b → a ≡ b
+pub same_store : (a b : Store) (r : Result Store MapFault) → r ≡ Ok a → r ≡ Ok b → a ≡ b
 same_store a b r is_a is_b = let both : Ok a ≡ Ok b = sym is_a ∙ is_b in cc
 
 pub no_leaf : (m : State) (hart : ℕ) (place : Place) (page : Span) (flags : Option PteFlags) (edit : Store) (change : Change) → edit_in m hart (wish_with place page flags) ≡ Ok edit

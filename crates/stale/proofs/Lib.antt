@@ -7,3 +7,10 @@ pub mod Telling
 pub mod Unmapping
 pub mod Adding
 pub mod Changed
+pub mod NoEdit
+pub mod UnderLeaf
+pub mod ByEdit
+pub mod ToldEdit
+pub mod Overlaps
+pub mod Stepping
+pub mod Reporting

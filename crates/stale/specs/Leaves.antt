@@ -60,3 +60,8 @@ pub record IsHeld (change : Change) (e : Entry) : Type 0 where
   pub flags : e.flags ≡ change.flags
   pub overlap : Overlap e.page change.page
   pub frame : IsSameFrame change e (page_number (smaller e.page change.page).base)
+
+-- the mapping is one of the leaf that is changed, if any is
+abbrev pub IsChanged : Option Change → Mapping → Type 0
+IsChanged None m = ⊥
+IsChanged (Some change) m = IsOfLeaf change m

@@ -1,22 +1,24 @@
 -- What is told of a run: the mappings that become stale step by step, and the stale ones that are used.
-use Rattle.std.specs.Prelude.{ℕ, ◌≡◌, ◌<◌, ◌⊎◌, List, length, Option, Some, None, slice_get, Contains}
-use Rattle.pte.specs.Address.{Span}
+use Rattle.std.specs.Prelude.{ℕ, Bool, false, ◌≡◌, ◌+◌, ◌<◌, List, length, Option, Some, None, slice_get, Contains}
 use Rattle.tlb.specs.declared.store.Entry.{Entry}
 use Rattle.tlb.specs.Mappings.{Mapping, LiesIn, IsMappingOf}
 use Rattle.history.specs.Setup.{Setup}
 use Rattle.history.specs.declared.event.Event.{Event}
 use Rattle.history.specs.declared.event.Event.TheVariants.{Unmap, Protect}
-use Rattle.history.specs.Turns.{History, opened_ticket}
+use Rattle.history.specs.declared.reply.Reply.{Reply}
+use Rattle.history.specs.Turns.{History, is_opened, opened_ticket}
 use Rattle.history.specs.Due.{due}
 use Rattle.stepcore.specs.State.{State, hart_at}
+use Rattle.stale.specs.declared.changes.Change.{Change}
+use Rattle.stale.specs.declared.hits.StaleUse.{StaleUse}
 use Rattle.stale.specs.declared.report.Opening.{Opening}
 use Rattle.stale.specs.declared.items.StaleAt.{StaleAt}
 use Rattle.stale.specs.declared.items.StaleItem.{StaleItem}
 use Rattle.stale.specs.declared.items.StaleItem.TheVariants.{Became, Used}
 use Rattle.stale.specs.Leaves.{smaller, IsHeld}
-use Rattle.stale.specs.Stale.{BecomesStale, UsesStale}
+use Rattle.stale.specs.Stale.{BecomesStale}
 use Rattle.stale.specs.Uses.{Tells}
-use Rattle.stale.specs.UseRuns.{due_turn, history_at}
+use Rattle.stale.specs.UseRuns.{due_turn, history_at, UsedAt}
 
 -- an item tells that this mapping of a hart becomes stale: it is one of the entry, in the page
 abbrev pub TellsBecoming : StaleItem → ℕ → Mapping → Type 0
@@ -57,6 +59,12 @@ pub record BecomesAt (C : Setup) (H : History) (events : List Event) (n h : ℕ)
   pub is : slice_get events n ≡ Some event
   pub becomes : BecomesStale C (due_turn C (history_at C H events n) event) (history_at C H events n) h m
 
+-- the turn is an unmapping or a change of flags, and opens an order
+abbrev pub is_edit : Event → Reply → Bool
+is_edit (Unmap hart place page named) reply = is_opened reply
+is_edit (Protect hart place page flags named) reply = is_opened reply
+is_edit _ reply = false
+
 -- the event is an edit of a page by this hart
 abbrev pub IsEditOf : ℕ → Event → Type 0
 IsEditOf home (Unmap hart place page named) = hart ≡ home
@@ -69,6 +77,16 @@ pub record OpensAt (C : Setup) (H : History) (events : List Event) (n home ticke
   pub is : slice_get events n ≡ Some event
   pub edit : IsEditOf home event
   pub opened : opened_ticket (due C (history_at C H events n) event) ≡ Some ticket
+
+-- the same by the number of the step, from 1 on
+abbrev pub BecomesBy : Setup → History → List Event → ℕ → ℕ → Mapping → Type 0
+BecomesBy C H events number h m = (n : ℕ) × (number ≡ n + 1) × BecomesAt C H events n h m
+
+abbrev pub UsedBy : Setup → History → List Event → ℕ → ℕ → Mapping → Type 0
+UsedBy C H events number h m = (n : ℕ) × (number ≡ n + 1) × UsedAt C H events n h m
+
+abbrev pub OpensBy : Setup → History → List Event → ℕ → ℕ → ℕ → Type 0
+OpensBy C H events number home ticket = (n : ℕ) × (number ≡ n + 1) × OpensAt C H events n home ticket
 
 -- what is told of an entry that holds the leaf that was changed
 abbrev pub became_of : Opening → ℕ → Entry → StaleAt
@@ -98,3 +116,23 @@ IsOfEntries opening hart entries n item = (age : ℕ) × (age < n) × IsOfEntry 
 -- of some entry of some hart below this number
 abbrev pub IsOfHarts : State → Opening → ℕ → StaleAt → Type 0
 IsOfHarts m opening n item = (hart : ℕ) × (hart < n) × IsOfEntries opening hart (hart_at m hart).entries (length (hart_at m hart).entries) item
+
+-- the hart of an edit of a page
+abbrev pub home_in : Event → ℕ
+home_in (Unmap hart place page named) = hart
+home_in (Protect hart place page flags named) = hart
+home_in _ = 0
+
+-- what is told of an event that changes a leaf, once it was answered: something if it opened an order
+abbrev pub IsOfTicket : State → Change → ℕ → ℕ → Option ℕ → StaleAt → Type 0
+IsOfTicket m change home step None item = ⊥
+IsOfTicket m change home step (Some ticket) item = IsOfHarts m (record { step = step; home = home; ticket = ticket; change = change }) (length m.harts) item
+
+abbrev pub IsOfChange : State → Option Change → ℕ → ℕ → Option ℕ → StaleAt → Type 0
+IsOfChange m None home step ticket item = ⊥
+IsOfChange m (Some change) home step ticket item = IsOfTicket m change home step ticket item
+
+-- and of a use
+abbrev pub IsOfUse : Option StaleUse → ℕ → StaleAt → Type 0
+IsOfUse None step item = ⊥
+IsOfUse (Some use_) step item = item ≡ record { step = step; item = Used use_ }

@@ -1,16 +1,27 @@
 //! Leaves that a step takes away or gives other flags, and the entries that hold them.
 
-ghost use Rattle.std.specs.Prelude.{ℕ, true, false, ◌≡◌, ◌<◌, ◌^◌, ◌↔◌, IsTrue, IfSome, IfNone, Some};
+ghost use Rattle.std.specs.Prelude.{ℕ, true, false, ◌≡◌, ◌<◌, ◌^◌, ◌↔◌, ◌∷◌, IsTrue, IfSome, IfNone, Some};
 ghost use Rattle.pte.specs.declared.flags.PteFlags.{PteFlags as PteFlagsOf};
+ghost use Rattle.pte.specs.Address.{IsPage};
 ghost use Rattle.pte.specs.Entry.{ppn_bits};
 ghost use Rattle.walk.specs.Maps.{page_number};
 ghost use Rattle.spaces.specs.Held.{words_of, spare_of};
 ghost use Rattle.spaces.specs.Layout.{HasPlace};
 ghost use Rattle.spaces.specs.Edits.{edit_of};
+ghost use Rattle.tlb.specs.Mappings.{IsMappedBy, Mapping};
+ghost use Rattle.history.specs.Setup.{Setup};
+ghost use Rattle.history.specs.Turns.{History, opened_ticket};
+ghost use Rattle.history.specs.Harts.{entries_of};
+ghost use Rattle.history.specs.Due.{due};
+ghost use Rattle.laws.specs.Kept.{HasPage};
 ghost use Rattle.stepcore.specs.Answers.{asid_of, is_place};
+ghost use Rattle.stepcore.specs.Stands.{Stands};
+ghost use Rattle.stale.specs.Stale.{BecomesStale};
+ghost use Rattle.stale.specs.Told.{home_in, IsEditOf};
+ghost use Rattle.stale.specs.UseRuns.{due_turn};
 ghost use Rattle.stale.specs.declared.changes.Change.{Change as ChangeOf};
 ghost use Rattle.stale.specs.Mapped.{reach_of};
-ghost use Rattle.stale.specs.Leaves.{smaller, wish_with, IsChangeOf, IsHeld, IsLeafUnder, IsSameFrame};
+ghost use Rattle.stale.specs.Leaves.{smaller, wish_with, IsChanged, IsChangeOf, IsHeld, IsLeafUnder, IsSameFrame};
 
 use pte::{Kind, PAGE_BYTES, Page, Pte, PteFlags};
 use spaces::{Edit, MapFault, Memory, Place, protect_edit, unmap_edit};
@@ -141,8 +152,11 @@ fn change_in(
 ) -> Option<Change>
     ensures some { IfSome result (λ change. IsChangeOf machine.now hart (wish_with place page flags) change) }
     ensures range { IfSome result (λ change. change.ppn < 2 ^ ppn_bits) }
+    ensures page { IfSome result (λ change. IsPage change.page) }
     ensures none { IfNone result ((change : ChangeOf) → ¬ IsChangeOf machine.now hart (wish_with place page flags) change) }
 {
+    // A page tells here that it is aligned.
+    let _base = page.base();
     let memory = machine.memory();
     let reach = reach_in(machine, place)?;
     let Ok(edit) = edit_due(memory, hart, place, page, flags) else {
@@ -160,6 +174,10 @@ fn change_in(
 /// The leaf that an event would change now, if it is accepted.
 pub(crate) fn change_of(machine: &Machine, event: &Event) -> Option<Change>
     ensures range { IfSome result (λ change. change.ppn < 2 ^ ppn_bits) }
+    ensures page { IfSome result (λ change. IsPage change.page) }
+    ensures edit { IfSome result (λ _. IsEditOf (home_in event.now) event.now) }
+    ensures changed { (C : Setup) (H : History) (t h : ℕ) (m : Mapping) → Stands C machine.now H → HasPage event.now → opened_ticket (due C H event.now) ≡ Some t
+        → BecomesStale C (due_turn C H event.now) H h m ↔ (IsMappedBy (entries_of C (due_turn C H event.now ∷ H) h) m × IsChanged result m) }
 {
     match *event {
         Event::Unmap {

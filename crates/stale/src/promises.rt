@@ -12,7 +12,8 @@ ghost use Rattle.history.specs.Orders.{Cause, Unmapped};
 ghost use Rattle.history.specs.Due.{Lawful};
 ghost use Rattle.history.specs.Staleness.{HasAnswered, is_mapped_anew, is_superseded, IsChange, IsForAsid};
 ghost use Rattle.laws.specs.Kept.{HavePages, IsSetup};
-ghost use Rattle.stale.specs.Stale.{Stale, unmapping, UsesStale};
+ghost use Rattle.stale.specs.Stale.{BecomesStale, Stale, unmapping, UsesStale};
+ghost use Rattle.stale.specs.Told.{is_edit};
 
 /// A hart that an unmapping names and that has acknowledged it neither holds nor uses a stale mapping of the page in its address
 /// space, until the page is mapped anew.
@@ -37,4 +38,11 @@ pub fn unmapping_makes_stale()
     ensures { (C : Setup) → IsSetup C → (H : History) (hart : ℕ) (place : Place) (page : Span) (named ticket h : ℕ) (m : Mapping)
         → Lawful C (unmapping hart place page named ticket ∷ H) → HavePages (unmapping hart place page named ticket ∷ H)
         → IsMappedBy (entries_of C H h) m → m.asid ≡ asid_in C H place → LiesIn page m.page → Stale C (unmapping hart place page named ticket ∷ H) h m }
+{}
+
+/// No step but an unmapping or a change of flags that opens an order makes a mapping stale: no fill, no store that maps a page, and
+/// neither the retirement of a space nor what becomes of it later.
+pub fn only_edits_make_stale()
+    ensures { (C : Setup) → IsSetup C → (turn : Turn) (H : History) (h : ℕ) (m : Mapping) → Lawful C (turn ∷ H) → HavePages (turn ∷ H)
+        → is_edit turn.event turn.reply ≡ false → ¬ BecomesStale C turn H h m }
 {}

@@ -1,20 +1,20 @@
 //! What becomes stale in a run, and what stale mappings it uses.
 
-ghost use Rattle.std.specs.Prelude.{ℕ, ◌≡◌, ◌<◌, ◌^◌, ◌↔◌, ◌⊎◌, IfSome, IfNone, OnOk, IfOk, Contains, length};
+ghost use Rattle.std.specs.Prelude.{ℕ, ◌≡◌, ◌<◌, ◌^◌, ◌↔◌, ◌⊎◌, Some, IfSome, OnOk, IfOk, Contains, length};
 ghost use Rattle.pte.specs.Entry.{ppn_bits};
 ghost use Rattle.history.specs.Setup.{Setup};
-ghost use Rattle.history.specs.Turns.{History};
+ghost use Rattle.history.specs.Turns.{History, opened_ticket};
 ghost use Rattle.history.specs.Due.{due};
 ghost use Rattle.history.specs.Runs.{with_turn};
 ghost use Rattle.tlb.specs.Mappings.{Mapping};
 ghost use Rattle.stepcore.specs.Stands.{Stands};
 ghost use Rattle.stale.specs.declared.items.StaleAt.{StaleAt as StaleAtOf};
 ghost use Rattle.stale.specs.Stale.{BecomesStale, UsesStale};
-ghost use Rattle.stale.specs.UseRuns.{due_turn, history_at, UsedAt};
-ghost use Rattle.stale.specs.Told.{BecomesAt, IsOfEntries, IsOfEntry, IsOfHarts, IsToldBecoming, IsToldOrder, IsToldUse, OpensAt};
+ghost use Rattle.stale.specs.UseRuns.{due_turn};
+ghost use Rattle.stale.specs.Told.{home_in, BecomesBy, IsEditOf, IsOfChange, IsOfEntries, IsOfEntry, IsOfHarts, IsOfUse, IsToldBecoming, IsToldOrder, IsToldUse, OpensBy, UsedBy};
 
 use crate::changes::{Change, change_of, is_held, smaller};
-use crate::hits::stale_use;
+use crate::hits::{StaleUse, stale_use};
 use crate::items::{BecameStale, StaleAt, StaleItem};
 use std::alloc::{AllocError, Global};
 use stepcore::{Event, Machine, Reply};
@@ -89,8 +89,10 @@ fn tell_tlbs(
     Ok(())
 }
 
-/// The hart of an event that opens orders for pages.
-fn home_of(event: &Event) -> u8 {
+/// The hart of an unmapping or a change of flags.
+fn home_of(event: &Event) -> u8
+    ensures { result ≡ home_in event.now }
+{
     match *event {
         Event::Unmap { hart, .. } => hart,
         Event::Protect { hart, .. } => hart,
@@ -98,31 +100,69 @@ fn home_of(event: &Event) -> u8 {
     }
 }
 
-/// Does one event, which is the step of this number, and adds what becomes stale by it and what stale mapping it uses. An error
-/// comes only if there is no memory to tell it: the event is done all the same.
-pub fn step_stale(
-    machine: &mut Machine,
-    event: Event,
+/// Tells what became stale by the change of a leaf, if its event was answered by a ticket.
+fn tell_change(
+    machine: &Machine,
+    change: Option<Change>,
+    home: u8,
+    reply: &Reply,
     step: usize,
     items: &mut Vec<StaleAt>,
-) -> Result<Reply, AllocError> {
-    let change = change_of(machine, &event);
-    let reply = machine.step(event);
-    if let (Some(change), Reply::Opened(ticket)) = (change, reply) {
-        let opening = Opening {
-            step,
-            home: home_of(&event),
-            ticket,
-            change,
-        };
-        tell_tlbs(machine, &opening, items)?;
-    }
-    if let Some(used) = stale_use(machine, &event, &reply) {
+) -> Result<(), AllocError>
+    requires { IfSome change (λ change. change.ppn < 2 ^ ppn_bits) }
+    ensures { OnOk result ((item : StaleAtOf) → Contains items.new.items item ↔ (Contains items.old.items item ⊎ IsOfChange machine.now change home step (opened_ticket reply.now) item)) }
+{
+    let Some(change) = change else {
+        return Ok(());
+    };
+    let Reply::Opened(ticket) = *reply else {
+        return Ok(());
+    };
+    let opening = Opening {
+        step,
+        home,
+        ticket,
+        change,
+    };
+    tell_tlbs(machine, &opening, items)
+}
+
+/// Tells a use, if there is one.
+fn tell_use(used: Option<StaleUse>, step: usize, items: &mut Vec<StaleAt>) -> Result<(), AllocError>
+    ensures { OnOk result ((item : StaleAtOf) → Contains items.new.items item ↔ (Contains items.old.items item ⊎ IsOfUse used step item)) }
+{
+    if let Some(used) = used {
         items.push(StaleAt {
             step,
             item: StaleItem::Used(used),
         })?;
     }
+    Ok(())
+}
+
+/// Does one event, which is the step of this number, and adds what becomes stale by it and what stale mapping it uses: an item for
+/// each entry some of whose mappings become stale, with the hart of the event and the ticket of the order that it opened. An error
+/// comes only if there is no memory for an item: the event is done all the same.
+pub fn step_stale(
+    machine: &mut Machine,
+    event: Event,
+    step: usize,
+    items: &mut Vec<StaleAt>,
+) -> Result<Reply, AllocError>
+    ensures stands { (C : Setup) (H : History) → Stands C machine.old H → Stands C machine.new (with_turn event (due C H event) H) }
+    ensures reply { IfOk result (λ reply. (C : Setup) (H : History) → Stands C machine.old H → reply ≡ due C H event) }
+    ensures became { OnOk result ((C : Setup) (H : History) (n h : ℕ) (m : Mapping) → Stands C machine.old H
+        → IsToldBecoming items.new.items n h m ↔ (IsToldBecoming items.old.items n h m ⊎ ((n ≡ step) × BecomesStale C (due_turn C H event) H h m))) }
+    ensures used { OnOk result ((C : Setup) (H : History) (n h : ℕ) (m : Mapping) → Stands C machine.old H
+        → IsToldUse items.new.items n h m ↔ (IsToldUse items.old.items n h m ⊎ ((n ≡ step) × UsesStale C (due_turn C H event) H h m))) }
+    ensures orders { OnOk result ((C : Setup) (H : History) (n home ticket : ℕ) → Stands C machine.old H → IsToldOrder items.new.items n home ticket
+        → IsToldOrder items.old.items n home ticket ⊎ ((n ≡ step) × IsEditOf home event × (opened_ticket (due C H event) ≡ Some ticket))) }
+{
+    let change = change_of(machine, &event);
+    let reply = machine.step(event);
+    let used = stale_use(machine, &event, &reply);
+    tell_change(machine, change, home_of(&event), &reply, step, items)?;
+    tell_use(used, step, items)?;
     Ok(reply)
 }
 
@@ -132,7 +172,14 @@ pub fn stale_report(
     alloc: Global,
     machine: &mut Machine,
     events: &[Event],
-) -> Result<Vec<StaleAt>, AllocError> {
+) -> Result<Vec<StaleAt>, AllocError>
+    ensures became { IfOk result (λ items. (C : Setup) (H : History) (number h : ℕ) (m : Mapping) → Stands C machine.old H
+        → BecomesBy C H events.now number h m ↔ IsToldBecoming items.items number h m) }
+    ensures used { IfOk result (λ items. (C : Setup) (H : History) (number h : ℕ) (m : Mapping) → Stands C machine.old H
+        → UsedBy C H events.now number h m ↔ IsToldUse items.items number h m) }
+    ensures orders { IfOk result (λ items. (C : Setup) (H : History) (number home ticket : ℕ) → Stands C machine.old H
+        → IsToldOrder items.items number home ticket → OpensBy C H events.now number home ticket) }
+{
     let mut items = Vec::new(alloc);
     let mut step = 0;
     for event in events {

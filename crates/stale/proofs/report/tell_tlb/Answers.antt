@@ -1,4 +1,4 @@
-use Rattle.std.proofs.Common.{◌≡◌, ◌⊎◌, Option, Some, sym, ◌∙◌, subst, length, slice_get, arith}
+use Rattle.std.proofs.Common.{◌⊎◌, Option, subst, arith}
 use Rattle.std.specs.Prelude.{◌↔◌, Contains}
 use Rattle.tlb.specs.declared.store.Entry.{Entry}
 use Rattle.stale.specs.Told.{IsOfEntry}

@@ -1,4 +1,4 @@
-use Rattle.std.proofs.Common.{◌≡◌, ◌⊎◌, List, sym, ◌∙◌, ap, subst, length, arith}
+use Rattle.std.proofs.Common.{◌⊎◌, List, ◌∙◌, ap, subst, length, arith}
 use Rattle.std.specs.Prelude.{◌↔◌, Contains}
 use Rattle.tlb.specs.declared.store.Entry.{Entry}
 use Rattle.tlb.specs.Entries.{TlbState}
