@@ -1,1 +1,2 @@
 pub mod StaleLines
+pub mod Printed

@@ -1,5 +1,10 @@
 //! From a scenario to the lines of what becomes stale in it.
 
+ghost use Rattle.std.specs.Prelude.{◌≡◌, IfOk, IfErr, string_bytes};
+ghost use Rattle.history.specs.Setup.{setup_of};
+ghost use Rattle.keys.specs.declared.fault.Fault.TheVariants.{NoMemory};
+ghost use Rattle.stale_lines.specs.Printed.{Prints};
+
 use crate::items::{stale_lines, uses_in};
 use files::RunScenario;
 use keys::Fault;
@@ -19,7 +24,10 @@ pub struct StaleText {
 
 /// Opens the machine of a scenario, does its steps, and tells what becomes stale and what stale mappings are used. `NoMemory`: there
 /// is no memory for the machine or the lines.
-pub fn stale_text(alloc: Global, scenario: &RunScenario) -> Result<StaleText, Fault> {
+pub fn stale_text(alloc: Global, scenario: &RunScenario) -> Result<StaleText, Fault>
+    ensures prints { IfOk result (λ printed. Prints (setup_of scenario.now.config) scenario.now.events.items (string_bytes printed.text) printed.is_used) }
+    ensures fault { IfErr result (λ fault. fault ≡ NoMemory) }
+{
     let mut machine = match Machine::open(alloc, &scenario.config) {
         Ok(machine) => machine,
         Err(OpenFault::NoMemory) => return Err(Fault::NoMemory),
