@@ -94,6 +94,59 @@ fn halted_by_the_gate(rt: HostRuntime) -> Result<(), Fail> {
     Ok(())
 }
 
+// The gate ends the script of hart 1 before its last step: there are as many answers as steps.
+#[test]
+fn halted_before_the_last_step(rt: HostRuntime) -> Result<(), Fail> {
+    let alloc = rt.alloc();
+    let there = [flush(0b10), flush(0b10), flush(0b10)];
+    let scripts = vec![in alloc;
+        Vec::from_array(alloc, [flush(0b01)])?,
+        Vec::from_array(alloc, there)?,
+    ]?;
+    let gate = Ending::new(1, 3);
+    let ran = run(&rt, alloc, &homes(2), &[], scripts.as_slice(), 3, &gate);
+    let Some(Ok(ran)) = ran else {
+        return Err(Fail::new("no run"));
+    };
+    assert!(&rt; ran.scripts.len() == 2);
+    assert!(&rt; ran.scripts[0].as_slice() == [opened(0)].as_slice());
+    assert!(&rt; ran.scripts[1].as_slice() == [opened(0), opened(1), LiveReply::Halted].as_slice());
+    assert!(&rt; gate.is_in_order());
+    assert!(&rt; gate.calls_of(0) == Some(2) && gate.calls_of(1) == Some(5));
+    Ok(())
+}
+
+// A hart whose script was halted before its first step serves the others, as any hart whose script has ended.
+#[test]
+fn halted_hart_serves(rt: HostRuntime) -> Result<(), Fail> {
+    let alloc = rt.alloc();
+    let here = [flush(0b11), post(0, 1), ackself(0), wait(0)];
+    let scripts = vec![in alloc;
+        Vec::from_array(alloc, here)?,
+        Vec::from_array(alloc, [flush(0b10), serve(0)])?,
+    ]?;
+    let gate = Ending::new(1, 1);
+    let ran = run(
+        &rt,
+        alloc,
+        &homes(2),
+        &[],
+        scripts.as_slice(),
+        1_000_000_000,
+        &gate,
+    );
+    let Some(Ok(ran)) = ran else {
+        return Err(Fail::new("no run"));
+    };
+    assert!(&rt; ran.scripts.len() == 2);
+    assert!(&rt; ran.scripts[0].as_slice() == [opened(0), OK, waiting(0b10), DONE].as_slice());
+    assert!(&rt; ran.scripts[1].as_slice() == [LiveReply::Halted].as_slice());
+    let pairs = ran.report.pairs.as_slice();
+    assert_pair(&rt, pairs, 0, 1, 1);
+    assert_pair(&rt, pairs, 1, 0, 0);
+    Ok(())
+}
+
 // The gate is told of no step of setup.
 #[test]
 fn setup_passes_no_gate(rt: HostRuntime) -> Result<(), Fail> {
