@@ -1,0 +1,346 @@
+//! What is open while a run is recorded, hart by hart.
+
+use crate::lanes::Lanes;
+use crate::layout::Column;
+use crate::record::{Arrow, Bar, Message, Span};
+use crate::staleness::is_over;
+use pte::{PAGE_BYTES, Page, VirtAddr};
+use std::alloc::{AllocError, Global};
+use stepcore::Machine;
+use tlb::Entry;
+
+/// A walk or a service that goes on.
+#[derive(Clone, Copy)]
+pub struct Doing {
+    pub span: Span,
+    pub first: u32,
+}
+
+/// A message that is under way to a hart.
+#[derive(Clone, Copy)]
+pub struct Flight {
+    pub message: Message,
+    pub sender: u8,
+    pub ticket: u32,
+    pub first: u32,
+}
+
+/// An order that is open, and since when it is done.
+#[derive(Clone, Copy)]
+pub struct OpenOrder {
+    pub ticket: u32,
+    pub first: u32,
+    pub done: Option<u32>,
+}
+
+/// A stale mapping that a TLB holds: an entry, and the page of it that is stale.
+#[derive(Clone, Copy)]
+pub struct Held {
+    pub entry: Entry,
+    pub page: Page,
+    pub first: u32,
+}
+
+impl Held {
+    /// The PPN that the entry has for the page.
+    pub fn ppn(&self) -> u64 {
+        let bytes = self
+            .page
+            .base()
+            .get()
+            .saturating_sub(self.entry.page.base().get());
+        self.entry.ppn.saturating_add(bytes / PAGE_BYTES)
+    }
+}
+
+/// What is open of one hart.
+#[derive(Drop)]
+pub struct Track {
+    pub doing: Option<Doing>,
+    /// The hart and the ticket of the request that it serves.
+    pub serves: Option<(u8, u32)>,
+    pub flights: Lanes<Flight>,
+    pub orders: Lanes<OpenOrder>,
+    pub stale: Lanes<Held>,
+    /// How many characters the longest text of its steps has.
+    pub characters: usize,
+    /// How many characters the longest label of its stale mappings has.
+    pub label: usize,
+}
+
+/// A number of characters, as far as it can be.
+fn short(length: usize) -> u16 {
+    u16::try_from(length).unwrap_or(u16::MAX)
+}
+
+impl Track {
+    /// A hart of which nothing is open.
+    pub fn new(alloc: Global) -> Track {
+        Track {
+            doing: None,
+            serves: None,
+            flights: Lanes::new(alloc),
+            orders: Lanes::new(alloc),
+            stale: Lanes::new(alloc),
+            characters: 0,
+            label: 0,
+        }
+    }
+
+    /// The column that has room for all that was open.
+    pub fn column(&self, left: u32) -> Column {
+        Column {
+            left,
+            flights: self.flights.count(),
+            orders: self.orders.count(),
+            characters: short(self.characters),
+            stale: self.stale.count(),
+            label: short(self.label),
+        }
+    }
+
+    /// The lane of the message that has been under way longest, from a hart and, for an acknowledgement, of a ticket.
+    fn lane_of(&self, message: Message, sender: u8, ticket: u32) -> Option<u16> {
+        let mut found: Option<(u16, u32)> = None;
+        for lane in 0..self.flights.count() {
+            if let Some(flight) = self.flights.get(lane) {
+                let fits = flight.message == message
+                    && flight.sender == sender
+                    && (message == Message::Request || flight.ticket == ticket);
+                let is_older = match found {
+                    Some((_, first)) => flight.first < first,
+                    None => true,
+                };
+                if fits && is_older {
+                    found = Some((lane, flight.first));
+                }
+            }
+        }
+        found.map(|(lane, _)| lane)
+    }
+
+    /// Ends the message that has been under way longest.
+    pub fn arrive(
+        &mut self,
+        message: Message,
+        sender: u8,
+        receiver: u8,
+        ticket: u32,
+        last: u32,
+        arrows: &mut Vec<Arrow>,
+    ) -> Result<(), AllocError> {
+        let Some(lane) = self.lane_of(message, sender, ticket) else {
+            return Ok(());
+        };
+        self.land(receiver, lane, last, true, arrows)
+    }
+
+    /// Ends the message in a lane.
+    fn land(
+        &mut self,
+        receiver: u8,
+        lane: u16,
+        last: u32,
+        has_end: bool,
+        arrows: &mut Vec<Arrow>,
+    ) -> Result<(), AllocError> {
+        let Some(flight) = self.flights.get(lane) else {
+            return Ok(());
+        };
+        self.flights.close(lane);
+        Ok(arrows.push(Arrow {
+            message: flight.message,
+            sender: flight.sender,
+            receiver,
+            lane,
+            first: flight.first,
+            last,
+            has_end,
+        })?)
+    }
+
+    /// Ends the walk or the service.
+    pub fn end_doing(
+        &mut self,
+        hart: u8,
+        last: u32,
+        has_end: bool,
+        bars: &mut Vec<Bar>,
+    ) -> Result<(), AllocError> {
+        let Some(doing) = self.doing else {
+            return Ok(());
+        };
+        self.doing = None;
+        Ok(bars.push(Bar {
+            span: doing.span,
+            hart,
+            lane: 0,
+            first: doing.first,
+            last,
+            has_end,
+        })?)
+    }
+
+    /// The lane of an order.
+    fn order_lane(&self, ticket: u32) -> Option<u16> {
+        for lane in 0..self.orders.count() {
+            if let Some(order) = self.orders.get(lane) {
+                if order.ticket == ticket {
+                    return Some(lane);
+                }
+            }
+        }
+        None
+    }
+
+    /// An order is done from a row on, unless it was before.
+    pub fn mark_done(&mut self, ticket: u32, row: u32) {
+        let Some(lane) = self.order_lane(ticket) else {
+            return;
+        };
+        if let Some(order) = self.orders.get(lane) {
+            if order.done.is_none() {
+                self.orders.set(
+                    lane,
+                    OpenOrder {
+                        ticket: order.ticket,
+                        first: order.first,
+                        done: Some(row),
+                    },
+                );
+            }
+        }
+    }
+
+    /// Ends an order.
+    pub fn finish(
+        &mut self,
+        hart: u8,
+        ticket: u32,
+        last: u32,
+        bars: &mut Vec<Bar>,
+    ) -> Result<(), AllocError> {
+        let Some(lane) = self.order_lane(ticket) else {
+            return Ok(());
+        };
+        self.end_order(hart, lane, last, true, bars)
+    }
+
+    fn end_order(
+        &mut self,
+        hart: u8,
+        lane: u16,
+        last: u32,
+        has_end: bool,
+        bars: &mut Vec<Bar>,
+    ) -> Result<(), AllocError> {
+        let Some(order) = self.orders.get(lane) else {
+            return Ok(());
+        };
+        self.orders.close(lane);
+        Ok(bars.push(Bar {
+            span: Span::Order {
+                ticket: order.ticket,
+                done: order.done,
+            },
+            hart,
+            lane,
+            first: order.first,
+            last,
+            has_end,
+        })?)
+    }
+
+    /// The lane of a stale mapping of an entry that has an address.
+    pub fn stale_lane(&self, entry: &Entry, va: VirtAddr) -> Option<u16> {
+        for lane in 0..self.stale.count() {
+            if let Some(held) = self.stale.get(lane) {
+                if held.entry == *entry && held.page.contains(va) {
+                    return Some(lane);
+                }
+            }
+        }
+        None
+    }
+
+    /// Ends the stale mapping in a lane.
+    pub fn end_stale(
+        &mut self,
+        hart: u8,
+        lane: u16,
+        last: u32,
+        has_end: bool,
+        bars: &mut Vec<Bar>,
+    ) -> Result<(), AllocError> {
+        let Some(held) = self.stale.get(lane) else {
+            return Ok(());
+        };
+        self.stale.close(lane);
+        Ok(bars.push(Bar {
+            span: Span::Stale {
+                page: held.page,
+                ppn: held.ppn(),
+            },
+            hart,
+            lane,
+            first: held.first,
+            last,
+            has_end,
+        })?)
+    }
+
+    /// Ends the stale mapping in a lane, if it is stale no more.
+    fn drop_lane(
+        &mut self,
+        machine: &Machine,
+        hart: u8,
+        lane: u16,
+        stored: &Option<Page>,
+        row: u32,
+        bars: &mut Vec<Bar>,
+    ) -> Result<(), AllocError> {
+        let Some(held) = self.stale.get(lane) else {
+            return Ok(());
+        };
+        if !is_over(machine, hart, &held, stored) {
+            return Ok(());
+        }
+        self.end_stale(hart, lane, row, true, bars)
+    }
+
+    /// Ends the mappings that are stale no more after a step, which stored a leaf for a page or for none.
+    pub fn drop_over(
+        &mut self,
+        machine: &Machine,
+        hart: u8,
+        stored: &Option<Page>,
+        row: u32,
+        bars: &mut Vec<Bar>,
+    ) -> Result<(), AllocError> {
+        for lane in 0..self.stale.count() {
+            self.drop_lane(machine, hart, lane, stored, row, bars)?;
+        }
+        Ok(())
+    }
+
+    /// Ends all that is open, since the run ends.
+    pub fn end_all(
+        &mut self,
+        hart: u8,
+        last: u32,
+        bars: &mut Vec<Bar>,
+        arrows: &mut Vec<Arrow>,
+    ) -> Result<(), AllocError> {
+        self.end_doing(hart, last, false, bars)?;
+        for lane in 0..self.orders.count() {
+            self.end_order(hart, lane, last, false, bars)?;
+        }
+        for lane in 0..self.stale.count() {
+            self.end_stale(hart, lane, last, false, bars)?;
+        }
+        for lane in 0..self.flights.count() {
+            self.land(hart, lane, last, false, arrows)?;
+        }
+        Ok(())
+    }
+}

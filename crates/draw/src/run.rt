@@ -1,0 +1,360 @@
+//! Records a run: opens a machine, makes the steps, and tells what stands where in its picture.
+
+use crate::layout::FIRST_COLUMN;
+use crate::record::{Message, Record, Span, StaleHit};
+use crate::recorder::{Doing, Flight, Held, OpenOrder, Track};
+use crate::staleness::stored_page;
+use crate::step_words::{hart_of, push_step};
+use files::{Fault, RunScenario};
+use lines::push_page;
+use pte::Page;
+use spaces::OpenFault;
+use stale::{BecameStale, StaleAt, StaleItem, StaleUse, step_stale};
+use std::alloc::{AllocError, Global};
+use stepcore::{Event, Machine, Reply};
+
+/// A run while it is recorded: what is open, and what has ended.
+#[derive(Drop)]
+struct Recorder {
+    tracks: Vec<Track>,
+    record: Record,
+    /// A text that is measured.
+    scratch: String,
+}
+
+/// Adds the label of a stale mapping: its page, and the PPN for it.
+pub fn push_mapping(text: &mut String, page: Page, ppn: u64) -> Result<(), AllocError> {
+    push_page(text, page)?;
+    write!(text, " PPN 0x{ppn:x}")
+}
+
+impl Recorder {
+    fn new(alloc: Global, harts: u8, steps: usize) -> Result<Recorder, AllocError> {
+        let mut tracks = Vec::new(alloc);
+        for _ in 0..harts {
+            tracks.push(Track::new(alloc))?;
+        }
+        Ok(Recorder {
+            tracks,
+            record: Record {
+                columns: Vec::new(alloc),
+                replies: Vec::with_capacity(alloc, steps)?,
+                bars: Vec::new(alloc),
+                arrows: Vec::new(alloc),
+                hits: Vec::new(alloc),
+            },
+            scratch: String::new(alloc),
+        })
+    }
+
+    /// The hart makes room for a text of its step.
+    fn measure(&mut self, hart: u8, event: &Event, reply: Reply) -> Result<(), AllocError> {
+        self.scratch.clear();
+        push_step(&mut self.scratch, event, reply)?;
+        let length = self.scratch.len();
+        if let Some(track) = self.tracks.get_mut(usize::from(hart)) {
+            track.characters = track.characters.max(length);
+        }
+        Ok(())
+    }
+
+    /// A walk or a service begins.
+    fn begin(&mut self, hart: u8, span: Span, first: u32) {
+        if let Some(track) = self.tracks.get_mut(usize::from(hart)) {
+            track.doing = Some(Doing { span, first });
+        }
+    }
+
+    /// A walk or a service ends.
+    fn end(&mut self, hart: u8, last: u32) -> Result<(), AllocError> {
+        match self.tracks.get_mut(usize::from(hart)) {
+            Some(track) => track.end_doing(hart, last, true, &mut self.record.bars),
+            None => Ok(()),
+        }
+    }
+
+    /// A message leaves for a hart.
+    fn send(&mut self, receiver: u8, flight: Flight) -> Result<(), AllocError> {
+        match self.tracks.get_mut(usize::from(receiver)) {
+            Some(track) => track.flights.open(flight),
+            None => Ok(()),
+        }
+    }
+
+    /// A message arrives at a hart.
+    fn receive(
+        &mut self,
+        receiver: u8,
+        message: Message,
+        sender: u8,
+        ticket: u32,
+        row: u32,
+    ) -> Result<(), AllocError> {
+        match self.tracks.get_mut(usize::from(receiver)) {
+            Some(track) => track.arrive(
+                message,
+                sender,
+                receiver,
+                ticket,
+                row,
+                &mut self.record.arrows,
+            ),
+            None => Ok(()),
+        }
+    }
+
+    /// A hart takes a request.
+    fn take(&mut self, hart: u8, from: u8, ticket: u32, row: u32) -> Result<(), AllocError> {
+        self.receive(hart, Message::Request, from, ticket, row)?;
+        if let Some(track) = self.tracks.get_mut(usize::from(hart)) {
+            track.serves = Some((from, ticket));
+        }
+        self.begin(hart, Span::Service, row);
+        Ok(())
+    }
+
+    /// A hart acknowledges what it serves.
+    fn acknowledge(&mut self, hart: u8, row: u32) -> Result<(), AllocError> {
+        let served = match self.tracks.get(usize::from(hart)) {
+            Some(track) => track.serves,
+            None => None,
+        };
+        self.end(hart, row)?;
+        match served {
+            Some((to, ticket)) => self.send(
+                to,
+                Flight {
+                    message: Message::Acknowledgement,
+                    sender: hart,
+                    ticket,
+                    first: row,
+                },
+            ),
+            None => Ok(()),
+        }
+    }
+
+    /// An order opens.
+    fn open_order(&mut self, hart: u8, ticket: u32, first: u32) -> Result<(), AllocError> {
+        match self.tracks.get_mut(usize::from(hart)) {
+            Some(track) => track.orders.open(OpenOrder {
+                ticket,
+                first,
+                done: None,
+            }),
+            None => Ok(()),
+        }
+    }
+
+    /// An order is done, if the reply says so.
+    fn progress(&mut self, hart: u8, ticket: u32, reply: &Reply, row: u32) {
+        if matches!(reply, Reply::Done) {
+            if let Some(track) = self.tracks.get_mut(usize::from(hart)) {
+                track.mark_done(ticket, row);
+            }
+        }
+    }
+
+    /// An order ends.
+    fn finish(&mut self, hart: u8, ticket: u32, row: u32) -> Result<(), AllocError> {
+        match self.tracks.get_mut(usize::from(hart)) {
+            Some(track) => track.finish(hart, ticket, row, &mut self.record.bars),
+            None => Ok(()),
+        }
+    }
+
+    /// Records an access that was not refused: a walk begins, goes on or ends.
+    fn note_access(
+        &mut self,
+        row: u32,
+        hart: u8,
+        is_begin: bool,
+        reply: &Reply,
+    ) -> Result<(), AllocError> {
+        let goes_on = matches!(reply, Reply::More);
+        if is_begin && goes_on {
+            self.begin(hart, Span::Walk, row);
+        }
+        if !is_begin && !goes_on {
+            return self.end(hart, row);
+        }
+        Ok(())
+    }
+
+    /// Records a step by which a request or an order goes on, and that was not refused.
+    fn note_protocol(&mut self, row: u32, event: &Event, reply: &Reply) -> Result<(), AllocError> {
+        match *event {
+            Event::Post { hart, ticket, to } => self.send(
+                to,
+                Flight {
+                    message: Message::Request,
+                    sender: hart,
+                    ticket,
+                    first: row,
+                },
+            ),
+            Event::Take { hart, from } => match *reply {
+                Reply::Taken(request) => self.take(hart, from, request.ticket, row),
+                _ => Ok(()),
+            },
+            Event::Ack { hart } => self.acknowledge(hart, row),
+            Event::AckSelf { hart, ticket } => {
+                self.progress(hart, ticket, reply, row);
+                Ok(())
+            }
+            Event::Collect { hart, ticket, from } => {
+                self.progress(hart, ticket, reply, row);
+                self.receive(hart, Message::Acknowledgement, from, ticket, row)
+            }
+            Event::Finish { hart, ticket } => self.finish(hart, ticket, row),
+            _ => Ok(()),
+        }
+    }
+
+    /// Records a step that was not refused.
+    fn note(&mut self, row: u32, event: &Event, reply: &Reply) -> Result<(), AllocError> {
+        if let Reply::Opened(ticket) = *reply {
+            return self.open_order(hart_of(event), ticket, row);
+        }
+        match *event {
+            Event::Begin { hart, .. } => self.note_access(row, hart, true, reply),
+            Event::Load { hart } => self.note_access(row, hart, false, reply),
+            _ => self.note_protocol(row, event, reply),
+        }
+    }
+
+    /// Ends the bars of a hart's mappings that are stale no more.
+    fn drop_stale(
+        &mut self,
+        machine: &Machine,
+        hart: u8,
+        stored: &Option<Page>,
+        row: u32,
+    ) -> Result<(), AllocError> {
+        match self.tracks.get_mut(usize::from(hart)) {
+            Some(track) => track.drop_over(machine, hart, stored, row, &mut self.record.bars),
+            None => Ok(()),
+        }
+    }
+
+    /// Ends the bars of mappings that are stale no more since a step that was not refused.
+    fn note_drops(
+        &mut self,
+        machine: &Machine,
+        row: u32,
+        event: &Event,
+        reply: &Reply,
+    ) -> Result<(), AllocError> {
+        let stored = stored_page(event, reply);
+        if stored.is_none() {
+            return self.drop_stale(machine, hart_of(event), &stored, row);
+        }
+        for hart in 0..machine.harts() {
+            self.drop_stale(machine, hart, &stored, row)?;
+        }
+        Ok(())
+    }
+
+    /// Begins a bar for a mapping that became stale, if it has none.
+    fn note_becoming(&mut self, row: u32, became: &BecameStale) -> Result<(), AllocError> {
+        let Some(track) = self.tracks.get_mut(usize::from(became.hart)) else {
+            return Ok(());
+        };
+        if track
+            .stale_lane(&became.entry, became.page.base())
+            .is_some()
+        {
+            return Ok(());
+        }
+        let held = Held {
+            entry: became.entry,
+            page: became.page,
+            first: row,
+        };
+        self.scratch.clear();
+        push_mapping(&mut self.scratch, held.page, held.ppn())?;
+        track.label = track.label.max(self.scratch.len());
+        track.stale.open(held)
+    }
+
+    /// Marks an access that was answered by a stale mapping.
+    fn note_hit(&mut self, row: u32, used: &StaleUse) -> Result<(), AllocError> {
+        let lane = match self.tracks.get(usize::from(used.hart)) {
+            Some(track) => track.stale_lane(&used.entry, used.va),
+            None => None,
+        };
+        Ok(
+            self.record.hits.push(StaleHit {
+                row,
+                hart: used.hart,
+                lane,
+            })?,
+        )
+    }
+
+    /// Records what a step did with stale mappings.
+    fn note_items(&mut self, row: u32, items: &[StaleAt]) -> Result<(), AllocError> {
+        for at in items {
+            match &at.item {
+                StaleItem::Became(became) => self.note_becoming(row, became)?,
+                StaleItem::Used(used) => self.note_hit(row, used)?,
+            }
+        }
+        Ok(())
+    }
+
+    /// Makes a step, and records it.
+    fn step(
+        &mut self,
+        machine: &mut Machine,
+        row: u32,
+        event: &Event,
+        items: &mut Vec<StaleAt>,
+    ) -> Result<(), AllocError> {
+        items.clear();
+        let reply = step_stale(machine, *event, row as usize, items)?;
+        self.measure(hart_of(event), event, reply)?;
+        if !matches!(reply, Reply::Refused(_)) {
+            self.note(row, event, &reply)?;
+            self.note_items(row, items.as_slice())?;
+            self.note_drops(machine, row, event, &reply)?;
+        }
+        Ok(self.record.replies.push(reply)?)
+    }
+
+    /// Ends all that is open, and lays out the columns.
+    fn close(mut self, last: u32) -> Result<Record, AllocError> {
+        let mut hart: u8 = 0;
+        let mut left = FIRST_COLUMN;
+        for track in self.tracks.as_mut_slice() {
+            track.end_all(hart, last, &mut self.record.bars, &mut self.record.arrows)?;
+            let column = track.column(left);
+            left = u32::try_from(column.right()).unwrap_or(u32::MAX);
+            self.record.columns.push(column)?;
+            hart = hart.saturating_add(1);
+        }
+        Ok(self.record)
+    }
+}
+
+/// Opens the machine of a scenario.
+fn open(alloc: Global, scenario: &RunScenario) -> Result<Machine, Fault> {
+    match Machine::open(alloc, &scenario.config) {
+        Ok(machine) => Ok(machine),
+        Err(OpenFault::NoMemory) => Err(Fault::NoMemory),
+        Err(OpenFault::BadLayout) => Err(Fault::Layout),
+    }
+}
+
+/// Makes the steps of a scenario, and records them.
+pub fn record(alloc: Global, scenario: &RunScenario) -> Result<Record, Fault> {
+    let mut machine = open(alloc, scenario)?;
+    let mut recorder = Recorder::new(alloc, machine.harts(), scenario.events.len())?;
+    let mut items = Vec::new(alloc);
+    let mut row: u32 = 0;
+    for event in scenario.events.as_slice() {
+        recorder.step(&mut machine, row, event, &mut items)?;
+        row = row.saturating_add(1);
+    }
+    Ok(recorder.close(row.saturating_sub(1))?)
+}
