@@ -1,6 +1,6 @@
 //! Where things stand in a picture: rows, and the columns of the harts, in pixels from the top left.
 
-ghost use Rattle.std.specs.Prelude.{◌≡◌, ◌+◌, ◌*◌, ◌<◌, ◌≤◌, ◌^◌};
+ghost use Rattle.std.specs.Prelude.{◌≡◌, ◌+◌, ◌*◌, ◌/◌, ◌<◌, ◌≤◌, ◌^◌};
 ghost use Rattle.draw.specs.Layout.{doing_x, row_top, stale_x, text_x};
 
 /// How high a row is.
@@ -57,13 +57,20 @@ pub struct Column {
     pub label: u16,
 }
 
+/// How many lines of heads stand above a row, counted from 0.
+pub fn heads_above(row: u32) -> u32
+    ensures { result ≡ row / 40 + 1 }
+{
+    row / ROWS_A_HEAD + 1
+}
+
 /// The top of a row, counted from 0.
 pub fn row_top(row: u32) -> u64
     ensures value { result ≡ row_top row }
     ensures above { 222 ≤ result }
     ensures bound { result < 2 ^ 40 }
 {
-    let heads = u64::from(row / ROWS_A_HEAD) + 1;
+    let heads = u64::from(heads_above(row));
     LEGEND_HEIGHT + heads * HEAD_HEIGHT + u64::from(row) * ROW_HEIGHT
 }
 

@@ -1,9 +1,11 @@
 //! Writes a recorded run as an SVG document.
 
-ghost use Rattle.std.specs.Prelude.{◌<◌, ◌^◌};
+ghost use Rattle.std.specs.Prelude.{◌≡◌, ◌<◌, ◌^◌, IfErr};
+ghost use Rattle.keys.specs.declared.fault.Fault.TheVariants.{NoMemory};
 
 use crate::layout::{
-    Column, HEAD_HEIGHT, LEAST_WIDTH, Point, ROW_HEIGHT, ROWS_A_HEAD, row_middle, row_top,
+    Column, HEAD_HEIGHT, LEAST_WIDTH, Point, ROW_HEIGHT, ROWS_A_HEAD, heads_above, row_middle,
+    row_top,
 };
 use crate::legend::push_legend;
 use crate::record::{Arrow, Bar, Message, Record, Span, StaleHit};
@@ -179,7 +181,18 @@ impl Picture {
         )
     }
 
-    /// Adds the bar of an order, and its ticket.
+    /// Adds the ticket of an order in a row.
+    fn push_ticket(&mut self, x: u64, row: u32, ticket: u32) -> Result<(), AllocError>
+        requires { x < 2 ^ 60 }
+    {
+        let at = Point {
+            x: x + 7,
+            y: row_middle(row) + 4,
+        };
+        push_number(&mut self.svg, "ticket", at, u64::from(ticket))
+    }
+
+    /// Adds the bar of an order, and its ticket: in the first row, and below each line of heads.
     fn push_order(
         &mut self,
         x: u64,
@@ -193,14 +206,27 @@ impl Picture {
         if let Some(row) = done {
             self.push_span("done", x, 14, row, bar)?;
         }
-        let at = Point {
-            x: x + 7,
-            y: row_middle(bar.first) + 4,
-        };
-        push_number(&mut self.svg, "ticket", at, u64::from(ticket))
+        self.push_ticket(x, bar.first, ticket)?;
+        for heads in heads_above(bar.first)..heads_above(bar.last) {
+            self.push_ticket(x, heads.saturating_mul(ROWS_A_HEAD), ticket)?;
+        }
+        Ok(())
     }
 
-    /// Adds the bar of a stale mapping, and its label.
+    /// Adds the label of a stale mapping in a row.
+    fn push_label(&mut self, x: u64, row: u32, page: Page, ppn: u64) -> Result<(), AllocError>
+        requires { x < 2 ^ 60 }
+    {
+        self.scratch.clear();
+        push_mapping(&mut self.scratch, page, ppn)?;
+        let at = Point {
+            x: x + 5,
+            y: row_middle(row) + 4,
+        };
+        push_text(&mut self.svg, "mapping", at, self.scratch.as_str())
+    }
+
+    /// Adds the bar of a stale mapping, and its label: in the first row, and below each line of heads.
     fn push_stale(
         &mut self,
         column: &Column,
@@ -210,13 +236,11 @@ impl Picture {
     ) -> Result<(), AllocError> {
         let x = column.stale_x(bar.lane);
         self.push_span("stale", x, column.stale_width(), bar.first, bar)?;
-        self.scratch.clear();
-        push_mapping(&mut self.scratch, page, ppn)?;
-        let at = Point {
-            x: x + 5,
-            y: row_middle(bar.first) + 4,
-        };
-        push_text(&mut self.svg, "mapping", at, self.scratch.as_str())
+        self.push_label(x, bar.first, page, ppn)?;
+        for heads in heads_above(bar.first)..heads_above(bar.last) {
+            self.push_label(x, heads.saturating_mul(ROWS_A_HEAD), page, ppn)?;
+        }
+        Ok(())
     }
 
     /// Adds a bar.
@@ -394,8 +418,11 @@ fn write(alloc: Global, record: &Record, events: &[Event]) -> Result<String, All
     Ok(picture.svg)
 }
 
-/// The picture of a run.
-pub fn draw_text(alloc: Global, scenario: &RunScenario) -> Result<String, Fault> {
+/// The picture of a run, as an SVG document: a column a hart, a row a step, and what the legend in it says. An error comes only if
+/// there is no memory.
+pub fn draw_text(alloc: Global, scenario: &RunScenario) -> Result<String, Fault>
+    ensures { IfErr result (λ fault. fault ≡ NoMemory) }
+{
     let record = record(alloc, scenario)?;
     Ok(write(alloc, &record, scenario.events.as_slice())?)
 }

@@ -1,5 +1,8 @@
 //! Records a run: opens a machine, makes the steps, and tells what stands where in its picture.
 
+ghost use Rattle.std.specs.Prelude.{◌≡◌, IfErr};
+ghost use Rattle.keys.specs.declared.fault.Fault.TheVariants.{NoMemory};
+
 use crate::layout::FIRST_COLUMN;
 use crate::record::{Message, Record, Span, StaleHit};
 use crate::recorder::{Doing, Flight, Held, OpenOrder, Track};
@@ -338,7 +341,9 @@ impl Recorder {
 }
 
 /// Opens the machine of a scenario.
-fn open(alloc: Global, scenario: &RunScenario) -> Result<Machine, Fault> {
+fn open(alloc: Global, scenario: &RunScenario) -> Result<Machine, Fault>
+    ensures { IfErr result (λ fault. fault ≡ NoMemory) }
+{
     match Machine::open(alloc, &scenario.config) {
         Ok(machine) => Ok(machine),
         Err(OpenFault::NoMemory) => Err(Fault::NoMemory),
@@ -347,7 +352,9 @@ fn open(alloc: Global, scenario: &RunScenario) -> Result<Machine, Fault> {
 }
 
 /// Makes the steps of a scenario, and records them.
-pub fn record(alloc: Global, scenario: &RunScenario) -> Result<Record, Fault> {
+pub fn record(alloc: Global, scenario: &RunScenario) -> Result<Record, Fault>
+    ensures { IfErr result (λ fault. fault ≡ NoMemory) }
+{
     let mut machine = open(alloc, scenario)?;
     let mut recorder = Recorder::new(alloc, machine.harts(), scenario.events.len())?;
     let mut items = Vec::new(alloc);
