@@ -1,0 +1,40 @@
+#!/bin/sh
+# The pictures of the files for `run` of the folder examples: examples/NAME.svg.
+#
+#     scripts/pictures.sh            compares each with what `svsim draw` prints of its file
+#     scripts/pictures.sh --write    writes each anew
+#
+# Before `./svsim prove` each picture takes about a minute. The last line is `N passed, M failed`.
+set -u
+unset CDPATH
+top=$(cd "$(dirname "$0")/.." && pwd)
+write=no
+case $# in
+    0) ;;
+    1) [ "$1" = --write ] || { echo "usage: pictures.sh [--write]" >&2; exit 2; }
+       write=yes ;;
+    *) echo "usage: pictures.sh [--write]" >&2; exit 2 ;;
+esac
+own=$(mktemp -d)
+trap 'rm -rf "$own"' EXIT
+trap 'exit 130' HUP INT TERM
+passed=0
+failed=0
+for file in "$top"/examples/*.toml; do
+    case ${file##*/} in first.toml | live-*) continue ;; esac
+    picture=${file%.toml}.svg
+    if ! "$top/svsim" draw "$file" >"$own/picture"; then
+        echo "FAILED ${file##*/}: no picture"
+        failed=$((failed + 1))
+    elif [ $write = yes ]; then
+        cp "$own/picture" "$picture"
+        passed=$((passed + 1))
+    elif cmp "$own/picture" "$picture"; then
+        passed=$((passed + 1))
+    else
+        echo "FAILED ${file##*/}: another picture"
+        failed=$((failed + 1))
+    fi
+done
+echo "$passed passed, $failed failed"
+[ $failed -eq 0 ]
