@@ -1,4 +1,4 @@
-use Rattle.std.proofs.Common.{◌≡◌, ◌∙◌, ◌++◌, ◌≤◌, List, ℕ, length, ap, arith, string_bytes}
+use Rattle.std.proofs.Common.{◌∙◌, ◌++◌, ◌≤◌, List, ℕ, length, ap, arith, string_bytes}
 use Rattle.draw.specs.Shapes.{escape}
 use Rattle.draw.proofs.Escaping.{byte_more, bytes_end}
 use Rattle.draw.proofs.shapes.push_escaped.Goals as goal
