@@ -106,11 +106,11 @@ uninspected_ends inspection bytes (troubles.Refused faults.NoMemory) out short h
 explained_failure : (file : List ℕ) (failure : Failure) (status : ℕ) (old new : Option (List ℕ)) → Reports file (refused failure) status old new → Reports file (explained failure) status old new
 explained_failure file failure status old new r = elim r.is_told [
   | inl is ↦ record {
-      told = explained failure;
-      is_told = inl refl;
-      status_is = rw is at r.status_is;
-      tells = rw is at r.tells;
-    }
+    told = explained failure;
+    is_told = inl refl;
+    status_is = rw is at r.status_is;
+    tells = rw is at r.tells;
+  }
   | inr is ↦ record { told = no_memory; is_told = inr refl; status_is = rw is at r.status_is; tells = rw is at r.tells }
 ]
 

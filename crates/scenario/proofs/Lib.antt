@@ -3,3 +3,4 @@ pub mod OutputLemmas
 pub mod RunLemmas
 pub mod CommandLemmas
 pub mod InspectionLemmas
+pub mod StaleLemmas

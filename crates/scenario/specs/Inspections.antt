@@ -1,5 +1,5 @@
 -- What an inspection of a file finds, and how it ends.
-use Rattle.std.specs.Prelude.{◌≡◌, ℕ, List, Option, Some, None, Result, Ok, Err}
+use Rattle.std.specs.Prelude.{◌≡◌, ℕ, Bool, List, Option, Some, None, Result, Ok, Err, if◌then◌else◌}
 use Rattle.scenario.specs.declared.program.Inspection.{Inspection}
 use Rattle.scenario.specs.declared.program.Inspection.TheVariants.{Stale, Show, Draw, Check}
 use Rattle.scenario.specs.declared.inspect_program.Finding.{Finding}
@@ -32,6 +32,9 @@ abbrev pub IsPictureFound : Result RunPlan Failure → Finding → Type 0
 IsPictureFound read Nothing = fault_in read ≡ None
 IsPictureFound read StaleUsed = ⊥
 IsPictureFound read (Faulty fault) = ⊥
+
+abbrev pub finding_by_use : Bool → Finding
+finding_by_use used = if used then StaleUsed else Nothing
 
 abbrev pub finding_of : Option Fault → Finding
 finding_of None = Nothing

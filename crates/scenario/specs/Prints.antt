@@ -1,5 +1,5 @@
 -- What is printed of a scenario.
-use Rattle.std.specs.Prelude.{◌≡◌, ◌↔◌, ℕ, true, List, [], length, map, Option, None, Result, Ok, Err}
+use Rattle.std.specs.Prelude.{◌≡◌, ◌↔◌, ℕ, Bool, true, List, [], length, map, Option, None, Result, Ok, Err}
 use Rattle.board.specs.Reports.{pairs_of}
 use Rattle.board.specs.declared.report.PairReport.{PairReport}
 use Rattle.harts.specs.declared.live_reply.LiveReply.{LiveReply}
@@ -16,7 +16,9 @@ use Rattle.scenario.specs.declared.trouble.Trouble.TheVariants.{Usage, Unreadabl
 use Rattle.files.specs.LiveFile.{LivePlan}
 use Rattle.files.specs.RunFile.{RunPlan}
 use Rattle.files.specs.WalkFile.{WalkPlan}
-use Rattle.stale_lines.specs.Tells.{TellsStale, UsesStaleMapping}
+use Rattle.stale.specs.Told.{UsedBy}
+use Rattle.stale_lines.specs.Printed.{Prints as PrintsItems}
+use Rattle.tlb.specs.Mappings.{Mapping}
 use Rattle.show.specs.Sheet.{Shows}
 use Rattle.checks.specs.Told.{name_by, whole_text}
 use Rattle.toml.specs.Parse.{parse_document}
@@ -69,7 +71,7 @@ IsUnprinted (Refused fault) read = Fails fault read
 
 -- what `stale` prints: a line for each step that makes mappings stale and each access that one answers, in the order of the steps
 abbrev pub PrintsStale : RunPlan → List ℕ → Type 0
-PrintsStale plan lines = TellsStale (setup_of plan.config) plan.events lines
+PrintsStale plan lines = (used : Bool) × PrintsItems (setup_of plan.config) plan.events lines used
 
 -- what `show` prints: the state of a machine after the steps, each of which had its due reply
 abbrev pub PrintsState : RunPlan → List ℕ → Type 0
@@ -81,5 +83,5 @@ TellsFaults text first lines = (told : List (List ℕ)) × (lines ≡ whole_text
 
 -- a stale mapping answers some access of the scenario
 abbrev pub UsesOf : Result RunPlan Failure → Type 0
-UsesOf (Ok plan) = UsesStaleMapping (setup_of plan.config) plan.events
+UsesOf (Ok plan) = (number h : ℕ) × (m : Mapping) × UsedBy (setup_of plan.config) [] plan.events number h m
 UsesOf (Err e) = ⊥

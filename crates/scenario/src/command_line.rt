@@ -7,8 +7,8 @@ ghost use Rattle.scenario.specs.declared.command_line.NoWords.TheVariants.{NoMem
 ghost use Rattle.scenario.specs.Command.{EndsOn, Reports};
 ghost use Rattle.scenario.specs.CommandLine.{ask_view, asked, asked_by, asked_in, asked_of_three, asked_of_two, inspection_of, is_end, is_option, job_of, no_words_by};
 
-use crate::live_program::live_command;
 use crate::inspect_program::inspect_command;
+use crate::live_program::live_command;
 use crate::program::{Inspection, Job, Which, command, report};
 use crate::trouble::Trouble;
 use harts::Gate;

@@ -7,7 +7,7 @@ ghost use Rattle.files.specs.RunFile.{run_scenario_of};
 ghost use Rattle.scenario.specs.declared.program.Job.TheVariants.{Inspect};
 ghost use Rattle.scenario.specs.Command.{Ends, EndsAs};
 ghost use Rattle.scenario.specs.Input.{AreLeft, ReadsUpTo};
-ghost use Rattle.scenario.specs.Inspections.{ending_by, IsChecked, IsFound, IsPictureFound, IsStaleFound, IsStateFound, IsFoundIn, IsUninspected, IsUntold, finding_of, text_fault_of};
+ghost use Rattle.scenario.specs.Inspections.{ending_by, IsChecked, IsFound, IsPictureFound, IsStaleFound, IsStateFound, IsFoundIn, IsUninspected, IsUntold, finding_by_use, finding_of, text_fault_of};
 ghost use Rattle.scenario.specs.Limits.{most_bytes};
 
 use crate::input::read_file;
@@ -43,6 +43,17 @@ struct Inspected {
     finding: Finding,
 }
 
+/// What `stale` found.
+fn finding_by_use(used: bool) -> Finding
+    ensures { result ≡ finding_by_use used }
+{
+    if used {
+        Finding::StaleUsed
+    } else {
+        Finding::Nothing
+    }
+}
+
 /// Which mappings become stale in a scenario of `run`, and which accesses they answer.
 fn stale_of(alloc: Global, text: &str) -> Result<Inspected, Fault>
     ensures ok { IfOk result (λ found. IsStaleFound (run_scenario_of text.now) (string_bytes found.text) found.finding) }
@@ -50,14 +61,9 @@ fn stale_of(alloc: Global, text: &str) -> Result<Inspected, Fault>
 {
     let scenario = read_run(alloc, text)?;
     let told = stale_text(alloc, &scenario)?;
-    let finding = if told.is_used {
-        Finding::StaleUsed
-    } else {
-        Finding::Nothing
-    };
     Ok(Inspected {
         text: told.text,
-        finding,
+        finding: finding_by_use(told.is_used),
     })
 }
 
@@ -110,11 +116,7 @@ fn checked(alloc: Global, text: &str) -> Result<Inspected, Fault>
 }
 
 /// Inspects a text.
-fn inspection_of_text(
-    alloc: Global,
-    inspection: Inspection,
-    text: &str,
-) -> Result<Inspected, Fault>
+fn inspection_of_text(alloc: Global, inspection: Inspection, text: &str) -> Result<Inspected, Fault>
     ensures ok { IfOk result (λ found. IsFoundIn inspection text.now (string_bytes found.text) found.finding) }
     ensures err { IfErr result (λ fault. IsUntold fault (text_fault_of inspection text.now)) }
 {
