@@ -4,6 +4,10 @@
 #[cfg(test)]
 mod commands;
 #[cfg(test)]
+mod inspection_ends;
+#[cfg(test)]
+mod inspections;
+#[cfg(test)]
 mod limits;
 #[cfg(test)]
 mod lines_written;
