@@ -41,18 +41,27 @@ judge() {
     fi
 }
 
-# Files: a walk, a run and a live run with their lines, and one whose lines are long.
+# What stands on standard output for an empty file, and for one that is faulty.
+empty_out() { case $1 in walk | run | live) echo none ;; *) echo any ;; esac; }
+faulty_out() { case $1 in check) echo any ;; *) echo none ;; esac; }
+
+# Files: one for each command with its lines, and one whose lines are long. In that of stale no stale mapping is used.
+all='walk run live stale show draw check'
 cp "$top/examples/first.toml" walk.toml
 cp "$top/examples/shootdown.toml" run.toml
 cp "$top/examples/live-unmap-at-once.toml" live.toml
-for which in walk run live; do
+grep -v '# 7 hit' run.toml >stale.toml
+cp run.toml show.toml
+cp run.toml draw.toml
+cp run.toml check.toml
+for which in $all; do
     "$svsim" $which $which.toml >$which.lines 2>err || { echo "hostile_users: $which fails" >&2; exit 2; }
 done
 { echo 'steps = ['; for ((i = 0; i < 65536; i++)); do echo '"0 load",'; done; echo ']'; } >long.toml
 "$svsim" run long.toml >long.lines
 
 # Outputs that fail
-for which in walk run live; do
+for which in $all; do
     "$svsim" $which $which.toml >/dev/full 2>err; status=$?; : >out
     judge "$which to a full device" $status 4 'output failed' any
     "$svsim" $which $which.toml >&- 2>err; status=$?
@@ -75,6 +84,12 @@ judge 'a pipe that ends, its signal ignored' $status 4 'output failed' wanted
 (trap '' XFSZ; ulimit -f 1; "$svsim" run long.toml >out 2>err); status=$?
 judge 'a file that may not grow' $status 4 'output failed' any
 
+# A stale mapping that is used
+"$svsim" stale run.toml >out 2>err; status=$?
+judge 'a stale mapping that is used' $status 1 '' any
+"$svsim" stale run.toml >/dev/full 2>err; status=$?; : >out
+judge 'a stale mapping that is used, to a full device' $status 4 'output failed' any
+
 # Words
 usage='usage: svsim COMMAND FILE'
 words() {
@@ -95,28 +110,28 @@ judge 'an empty name of the program' $status 0 '' run.lines
 judge 'a name of the program that is no text' $status 2 "$usage" none
 long=$(head -c 100000 /dev/zero | tr '\0' n)
 for name in '' none . .. / /proc/self/mem "$long" run.toml/ 'a  b' $'tab\there' $'\e[31m'; do
-    for which in walk run live; do
+    for which in $all; do
         "$svsim" $which "$name" >out 2>err; status=$?
         judge "$which of a file that is none: ${name:0:20}" $status 2 "cannot read $name" none
     done
 done
 
 # Files
-for which in walk run live; do
+for which in $all; do
     "$svsim" $which /dev/null >out 2>err; status=$?
-    judge "$which of nothing" $status 0 '' none
+    judge "$which of nothing" $status 0 '' "$(empty_out $which)"
     "$svsim" $which /dev/zero >out 2>err; status=$?
     judge "$which of a device that never ends" $status 2 'file too large' none
     truncate -s 1T sparse; "$svsim" $which sparse >out 2>err; status=$?
     judge "$which of a sparse file" $status 2 'file too large' none
     truncate -s 0 sparse; truncate -s 1M sparse; "$svsim" $which sparse >out 2>err; status=$?
-    judge "$which of zeros" $status 2 'not TOML' none
+    judge "$which of zeros" $status 2 'not TOML' "$(faulty_out $which)"
     head -c 1000 /dev/urandom >noise; printf '\xff' >>noise; "$svsim" $which noise >out 2>err; status=$?
     judge "$which of noise" $status 2 'not TOML' none
     rm -f fifo; mkfifo fifo; (cat $which.toml >fifo) & "$svsim" $which fifo >out 2>err; status=$?; wait
     judge "$which of a FIFO" $status 0 '' $which.lines
     (: >fifo) & "$svsim" $which fifo >out 2>err; status=$?; wait
-    judge "$which of an empty FIFO" $status 0 '' none
+    judge "$which of an empty FIFO" $status 0 '' "$(empty_out $which)"
     (cat $which.toml; sleep 0.2; echo; echo '# more') >fifo & "$svsim" $which fifo >out 2>err; status=$?; wait
     judge "$which of a slow FIFO" $status 0 '' $which.lines
     (yes '#' | head -c 2000000 >fifo) 2>/dev/null & "$svsim" $which fifo >out 2>err; status=$?; wait
@@ -165,7 +180,7 @@ limited() {
     fi
 }
 unloaded=0
-for which in walk run live; do
+for which in $all; do
     for ((size = 1000; size <= 40000; size += 500)); do
         (ulimit -v $size; exec "$svsim" $which $which.toml >out 2>err); status=$?
         limited "$which with $size KiB of memory" $which.lines
@@ -180,13 +195,13 @@ echo "$unloaded runs were not loaded, for lack of memory"
 # Small stacks: 80 nested keys, the most that a document may have, need more than all else
 { head -c 158 /dev/zero | tr '\0' 'a' | sed 's/aa/a./g'; echo 'a = 1'; } >dotted.toml
 for size in 192 256 512 1024 8192; do
-    for which in walk run live; do
+    for which in $all; do
         (ulimit -s $size; exec "$svsim" $which $which.toml >out 2>err); status=$?
         judge "$which with a stack of $size KiB" $status 0 '' $which.lines
         (ulimit -s $size; exec "$svsim" $which deep80.toml >out 2>err); status=$?
-        judge "$which of 80 nested arrays with a stack of $size KiB" $status 3 'key steps: wrong' none
+        judge "$which of 80 nested arrays with a stack of $size KiB" $status 3 'key steps: wrong' "$(faulty_out $which)"
         (ulimit -s $size; exec "$svsim" $which dotted.toml >out 2>err); status=$?
-        judge "$which of 80 nested keys with a stack of $size KiB" $status 3 'key a: wrong' none
+        judge "$which of 80 nested keys with a stack of $size KiB" $status 3 'key a: wrong' "$(faulty_out $which)"
     done
 done
 
