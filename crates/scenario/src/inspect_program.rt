@@ -168,8 +168,8 @@ fn run<R: Read, W: Write>(
 /// Does an inspection of the file that `input` reads, and answers the status of the program: 0 done, and for `stale` no access was
 /// answered by a stale mapping, 1 for `stale` one was, 2 not read, too large, or not TOML, 3 a refused scenario, 4 the output
 /// failed, 5 out of memory. At 2 to 5 one line goes to `err`, as far as it takes it; its own faults count for nothing. `check`
-/// writes what is wrong with a faulty file to `out`, at 2 and 3 too; the others write nothing then. `file` is the file's name in
-/// the line. No more than 1,048,577 bytes are read, and any error of the reader is `cannot read`.
+/// writes what is wrong with a faulty file to `out`, at 2 and 3 too, if the file is UTF-8; the others write nothing then. `file` is
+/// the file's name in the line. No more than 1,048,577 bytes are read, and any error of the reader is `cannot read`.
 pub fn inspect_command<R: Read, W: Write, E: Write>(
     alloc: Global,
     inspection: Inspection,
