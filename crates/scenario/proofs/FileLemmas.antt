@@ -13,8 +13,8 @@ use Rattle.scenario.specs.declared.trouble.Trouble.TheVariants as troubles
 use Rattle.scenario.specs.declared.program.Which.{Which}
 use Rattle.scenario.specs.declared.program.Which.TheVariants.{Walk, Run}
 use Rattle.scenario.specs.declared.program.Job.{Job}
-use Rattle.scenario.specs.declared.program.Job.TheVariants.{Plain, Live, Inspect}
-use Rattle.scenario.specs.Command.{done, Ending, explained, Explains, failure_status, misused, ending_of, ending_of_fault, Ends, EndsAs, file_fault, FileLines, IsToldAs, Leaves, no_memory, no_thread, output_failed, refused, Reports, stale_used, status_of, Suits, too_large, unreadable}
+use Rattle.scenario.specs.declared.program.Job.TheVariants.{Plain, Live}
+use Rattle.scenario.specs.Command.{done, Ending, explained, Explains, misused, ending_of, ending_of_fault, Ends, EndsAs, file_fault, FileLines, IsToldAs, Leaves, no_memory, no_thread, output_failed, refused, Reports, stale_used, status_of, Suits, too_large, unreadable}
 use Rattle.keys.specs.Faults.{Failure, fault_in, not_toml}
 use Rattle.scenario.specs.Input.{AreLeft, IsReadTrouble}
 use Rattle.scenario.specs.Limits.{most_bytes}

@@ -20,7 +20,7 @@ use Rattle.scenario.specs.declared.inspect_program.Finding.{Finding}
 use Rattle.scenario.specs.declared.inspect_program.Finding.TheVariants.{Nothing, StaleUsed, Faulty}
 use Rattle.scenario.specs.declared.trouble.Trouble.{Trouble}
 use Rattle.scenario.specs.declared.trouble.Trouble.TheVariants as troubles
-use Rattle.scenario.specs.Command.{done, EndsAs, ending_of, ending_of_fault, explained, inspected_fault, IsToldAs, no_memory, refused, Reports, stale_used}
+use Rattle.scenario.specs.Command.{EndsAs, ending_of, ending_of_fault, explained, inspected_fault, no_memory, refused, Reports, stale_used}
 use Rattle.scenario.specs.Inspections.{ending_of_finding, explained_in, IsChecked, IsFound, IsFoundIn, IsUninspected, IsUntold, finding_of, text_fault_of}
 use Rattle.scenario.specs.Limits.{most_bytes}
 use Rattle.scenario.specs.Output.{AppendsFront}

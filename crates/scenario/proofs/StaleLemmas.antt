@@ -1,5 +1,5 @@
 -- Whether a stale mapping is used, by what is told of a run.
-use Rattle.std.proofs.Common.{◌≡◌, ◌∙◌, ℕ, zero, suc, ◌<◌, Bool, true, false, List, [], ◌∷◌, Result, Ok, Option, Some, None, inl, inr, ap, sym, subst, refl, arith}
+use Rattle.std.proofs.Common.{◌≡◌, ◌∙◌, ℕ, zero, suc, ◌<◌, Bool, true, false, List, [], ◌∷◌, Result, Ok, inl, inr, ap, sym, refl, arith}
 use Rattle.std.specs.Prelude.{◌↔◌, IsTrue, Contains}
 use Rattle.std.proofs.lemmas.Bool.{cases_Bool, true≢false}
 use Rattle.walk.specs.Maps.{page_number}
@@ -11,11 +11,10 @@ use Rattle.stale.specs.declared.hits.StaleUse.{StaleUse}
 use Rattle.stale.specs.declared.items.StaleAt.{StaleAt}
 use Rattle.stale.specs.declared.items.StaleItem.{StaleItem}
 use Rattle.stale.specs.declared.items.StaleItem.TheVariants.{Became, Used}
-use Rattle.stale.specs.Told.{IsToldUse, TellsUse, UsedBy}
-use Rattle.stale.specs.Uses.{Tells}
+use Rattle.stale.specs.Told.{TellsUse, UsedBy}
 use Rattle.stale_lines.specs.Printed.{Prints}
 use Rattle.stale_lines.specs.StaleLines.{is_use, uses_in}
-use Rattle.keys.specs.Faults.{Failure, fault_in}
+use Rattle.keys.specs.Faults.{Failure}
 use Rattle.files.specs.RunFile.{RunPlan}
 use Rattle.scenario.specs.Inspections.{finding_by_use, IsStaleFound}
 
