@@ -4,7 +4,7 @@ ghost use Rattle.std.specs.Prelude.{◌≡◌, Ok, Err};
 ghost use Rattle.std.specs.Result.{OkIff};
 ghost use Rattle.melissaledge_c.specs.Codes.{access_of, code_of, is_set, mode_of, number_of, page_of, scheme_of, size_of, why_code};
 
-use pte::{Access, Mode, Page, PageSize, Scheme, VirtAddr, scheme_tests_are_facts};
+use pte::{Access, Mode, Page, PageSize, Scheme, VirtAddr, tests_are_facts};
 use walk::Why;
 
 /// What is wrong with a call of C.
@@ -129,7 +129,7 @@ fn size_of(bytes: u64) -> Option<PageSize>
 pub(crate) fn page_of(base: u64, bytes: u64) -> Result<Page, Fault>
     ensures { result ≡ page_of base bytes }
 {
-    scheme_tests_are_facts();
+    tests_are_facts();
     let Some(size) = size_of(bytes) else {
         return Err(Fault::Page);
     };

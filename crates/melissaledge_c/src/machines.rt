@@ -11,7 +11,7 @@ use crate::configs::{ConfigAsked, SpaceAsked, config_of};
 use crate::events::{EventAsked, event_of};
 use crate::machine_handle::MachineHandle;
 use crate::replies::ReplyGiven;
-use pte::{Scheme, VirtAddr, scheme_tests_are_facts};
+use pte::{Scheme, VirtAddr, tests_are_facts};
 use std::alloc::Global;
 use stepcore::{Event, Machine, OpenFault};
 
@@ -97,7 +97,7 @@ pub extern "C" fn melissaledge_machine_step(
 fn answer_of(machine: &Machine, hart: u8, asid: u16, va: u64) -> i32
     ensures { SaysAt (nat_lt hart (length machine.now.harts)) (is_canonical widest va) machine.now hart asid va result }
 {
-    scheme_tests_are_facts();
+    tests_are_facts();
     if hart >= machine.harts() {
         return Fault::Hart.code();
     }

@@ -11,7 +11,7 @@ use crate::requests::{
 };
 use crate::tlb_handle::TlbHandle;
 use crate::translations::Answer;
-use pte::{Scheme, VirtAddr, scheme_tests_are_facts};
+use pte::{Scheme, VirtAddr, tests_are_facts};
 use std::alloc::Global;
 use tlb::Tlb;
 
@@ -61,7 +61,7 @@ pub extern "C" fn melissaledge_tlb_lookup(
     ensures looked_up { LooksUp tlb.old.held asid va result entry.old entry.new }
     ensures kept { tlb.new.held ≡ tlb.old.held }
 {
-    scheme_tests_are_facts();
+    tests_are_facts();
     let Some(open) = tlb.take(alloc) else {
         return Fault::NotOpen.code();
     };
@@ -151,7 +151,7 @@ pub extern "C" fn melissaledge_entry_translate(
 ) -> i32
     ensures { Answers (entry_of entry.now) (asked_of asked.now) asked.now.va result answer.old answer.new }
 {
-    scheme_tests_are_facts();
+    tests_are_facts();
     let entry = match entry_of(entry) {
         Ok(entry) => entry,
         Err(fault) => return fault.code(),

@@ -3,7 +3,20 @@
 ghost use Rattle.std.specs.Prelude.{◌≡◌};
 ghost use Rattle.pte.specs.Address.{address_bits, top_level};
 
-/// A scheme of translation: how many levels of tables there are, and so how many bits a virtual address has.
+/// How many levels of tables Sv39 has: LEVELS of the manual (4.4.1).
+pub const SV39_LEVELS: u8 = 3;
+
+/// How many levels of tables Sv48 has: LEVELS of the manual (4.5.1).
+pub const SV48_LEVELS: u8 = 4;
+
+/// How many bits of an address are the index in a table of one level.
+pub const LEVEL_BITS: u32 = 9;
+
+/// How many bits of an address are its place in a page of 4 KiB.
+pub const OFFSET_BITS: u32 = 12;
+
+/// A scheme of translation: how many levels of tables there are, and so how many bits a virtual
+/// address has.
 #[derive(Clone, Copy, PartialEq, Eq, Debug, Default)]
 pub enum Scheme {
     /// Three levels, and addresses of 39 bits.
@@ -14,25 +27,25 @@ pub enum Scheme {
 }
 
 impl Scheme {
-    /// How many bits a virtual address has: all bits above the highest of them must equal it (privileged manual 4.4.1 and
-    /// 4.5.1).
+    /// How many bits a virtual address has, 39 or 48: all bits above the highest of them must equal
+    /// it (privileged manual 4.4.1 and 4.5.1).
     pub fn address_bits(self) -> u32
         ensures { result ≡ address_bits self }
     {
         match self {
-            Scheme::Sv39 => 39,
-            Scheme::Sv48 => 48,
+            Scheme::Sv39 => OFFSET_BITS + LEVEL_BITS * SV39_LEVELS as u32,
+            Scheme::Sv48 => OFFSET_BITS + LEVEL_BITS * SV48_LEVELS as u32,
         }
     }
 
-    /// The level of a root table: LEVELS less 1 of the manual (4.4.1 and 4.5.1). Levels go down to 0, whose leaves are pages of
-    /// 4 KiB.
+    /// The level of a root table: LEVELS less 1 of the manual (4.4.1 and 4.5.1). Levels go down to
+    /// 0, whose leaves are pages of 4 KiB.
     pub fn top_level(self) -> u8
         ensures { result ≡ top_level self }
     {
         match self {
-            Scheme::Sv39 => 2,
-            Scheme::Sv48 => 3,
+            Scheme::Sv39 => SV39_LEVELS - 1,
+            Scheme::Sv48 => SV48_LEVELS - 1,
         }
     }
 }
