@@ -18,7 +18,8 @@ use Rattle.walk.specs.Pointers.{pointed, pointed_kind}
 use Rattle.walk.specs.Answer.{answer_at, kind_answer, leaf_answer}
 use Rattle.walk.specs.Stage.{Stage, start_of, OnPath, IsFor}
 use Rattle.walk.specs.Loads.{GoesOn}
-use Rattle.walk.specs.Step.{ended, step_of, load_of}
+use Rattle.std.specs.declared.ops.ControlFlow.TheVariants.{Continue, Break}
+use Rattle.walk.specs.Step.{ended, flow_of, step_of, load_of}
 use Rattle.walk.specs.Leads.{Tables, word_at, PointsTo, Leads, IsGlobalAt}
 use Rattle.walk.specs.Outcome.{Outcome}
 use Rattle.walk.proofs.Paths.{leads-start, leads-below, through, none_above, global-here, global-none}
@@ -107,6 +108,27 @@ module _ (scheme : Scheme) (words : Tables) (root : ℕ) where
 pub goes-load : (scheme : Scheme) (words : Tables) (root : ℕ) (s : Stage) (w : Option ℕ) (ppn index : ℕ) (made : Progress) → OnPath scheme words root s → w ≡ words ppn index → ppn ≡ s.table → index ≡ vpn_of s.va s.level → made ≡ load_of s w → GoesOn scheme words root s made
 goes-load scheme words root s w ppn index made on told at by is =
     subst (GoesOn scheme words root s) (sym is) (goes-on scheme words root s w on (told ∙ ap (λ p. words p index) at ∙ ap (words s.table) by))
+
+-- where the walk does not go on, what it ends with is the outcome
+pub goes-over : (scheme : Scheme) (words : Tables) (root : ℕ) (s : Stage) (made : Progress)
+    (answer : Result Found Trap) → GoesOn scheme words root s made → flow_of made ≡ Break answer
+    → Outcome scheme words root s.va s.access s.ctx answer
+goes-over scheme words root s (progress.More next) answer goes over = cc
+goes-over scheme words root s (progress.Found found) answer goes over =
+    let same : Ok found ≡ answer = cc in
+    subst (Outcome scheme words root s.va s.access s.ctx) same goes
+goes-over scheme words root s (progress.Trap trap) answer goes over =
+    let same : Err trap ≡ answer = cc in
+    subst (Outcome scheme words root s.va s.access s.ctx) same goes
+
+pub goes-further : (scheme : Scheme) (words : Tables) (root : ℕ) (s : Stage) (made : Progress)
+    (next : Stage) → GoesOn scheme words root s made → flow_of made ≡ Continue next
+    → GoesOn scheme words root s (progress.More next)
+goes-further scheme words root s (progress.More one) next goes on =
+    let same : one ≡ next = cc in
+    subst (λ (n : Stage). GoesOn scheme words root s (progress.More n)) same goes
+goes-further scheme words root s (progress.Found found) next goes on = cc
+goes-further scheme words root s (progress.Trap trap) next goes on = cc
 
 pub outcome-same : (scheme : Scheme) (words : Tables) (root : ℕ) (s : Stage) (va : ℕ) (access : Access) (ctx : Ctx) (answer : Result Found Trap) → IsFor s va access ctx → Outcome scheme words root s.va s.access s.ctx answer → Outcome scheme words root va access ctx answer
 outcome-same scheme words root s va access ctx answer same h =

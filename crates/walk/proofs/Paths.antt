@@ -162,3 +162,5 @@ module _ (scheme : Scheme) (words : Tables) (root va : ℕ) where
         leads-above i (i + 1) u w (omega arith) (omega arith) path,
         subst (PointsTo (word_at words va (i + 1) (path.tables (i + 1)))) (ap path.tables back ∙ path.last) point,
       )
+
+pub ruleset pointer_by_pointer = (leads-start, leads_down, leads_up)

@@ -220,3 +220,5 @@ passes_at_end scheme old new root va table index i t w path none p =
       same_word scheme old root va i t table w (old table index) path here,
       subst (λ k. Leads scheme new root va k table (new table index)) level p.after,
     )
+
+pub ruleset agrees_elsewhere = (stored_agrees, stored-here)

@@ -204,3 +204,61 @@ dirty_alone = computed 0x20000401 0x20000801 0x48D1497 Load user _ refl
 pub fetch_not_accessed : rows.fetch_not_accessed
 unfolding kind_of
 fetch_not_accessed = computed 0x20000401 0x20000801 0x48D141B Fetch user _ refl
+
+-- the rows of each table
+pub ruleset pages = (
+  small_page,
+  middle_page,
+  large_page,
+  misaligned,
+  misaligned_by_half,
+  misaligned_large_page,
+)
+
+pub ruleset permissions = (
+  sum_lets_no_fetch,
+  sum_lets_load,
+  sum_lets_store,
+  no_sum,
+  user_fetches,
+  no_mxr,
+  mxr_lets_load,
+  no_store,
+  supervisor_page,
+  supervisor_fetches,
+)
+
+pub ruleset accessed_and_dirty = (
+  not_accessed,
+  clean_page_loads,
+  not_dirty,
+  accessed_before_dirty,
+  dirty_alone,
+  fetch_not_accessed,
+)
+
+pub ruleset orders_of_faults = (
+  denied_first,
+  denied_before_misaligned,
+  misaligned_before_accessed,
+  misaligned_before_dirty,
+)
+
+pub ruleset words = (
+  user_pointer,
+  accessed_pointer,
+  dirty_pointer,
+  high_bit,
+  lowest_high_bit,
+  write_only,
+  write_and_execute,
+  software_bits,
+  software_bits_of_pointer,
+  root_to_itself,
+  all_ones,
+  all_ones_but_v,
+)
+
+pub ruleset global_bits = (global_pointer, global_middle_pointer, global_leaf)
+
+pub ruleset ends_of_paths = (too_deep, outside_load, outside_store, outside_fetch, highest_table)

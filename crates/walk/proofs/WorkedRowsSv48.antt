@@ -94,3 +94,24 @@ behind_the_low_half = refused Sv48 words 0x800000000000 (λ is. elim is [ inl lo
 
 pub before_the_high_half : rows.before_the_high_half
 before_the_high_half = refused Sv48 words 0xFFFF7FFFFFFFFFFF (λ is. elim is [ inl low ↦ omega arith | inr high ↦ let from = high.0 in omega arith ])
+
+-- the rows of each table
+pub ruleset pages_of_sv48 = (four_loads, widest_page, large_page, middle_page, global_root_pointer)
+
+pub ruleset faults_of_sv48 = (
+  misaligned_widest_page,
+  widest_page_misaligned_by_half,
+  denied_before_misaligned,
+  widest_page_not_dirty,
+  outside_at_level_2,
+  too_deep,
+  reserved_at_level_2,
+)
+
+pub ruleset halves_of_sv48 = (
+  last_of_the_low_half,
+  first_of_the_high_half,
+  not_of_sv39,
+  behind_the_low_half,
+  before_the_high_half,
+)

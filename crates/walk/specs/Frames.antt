@@ -1,4 +1,5 @@
--- Memory as worked examples have it: three tables for Sv39 and four for Sv48, each of zeros but for one word.
+-- Memory as worked examples have it: three tables for Sv39 and four for Sv48, each of zeros but for
+-- one word.
 use Rattle.std.specs.Prelude.{ℕ, ◌==◌, if◌then◌else◌, Option, Some, None}
 
 -- a table of zeros but for the word at one index

@@ -20,10 +20,15 @@ finish go (progress.Trap trap) = Err trap
 -- the answer of a walk within n loads; TooDeep if it would need more
 abbrev pub answer_after : ℕ → Tables → Stage → Result Found Trap
 answer_after zero words s = Err (page_trap s.access TooDeep)
-answer_after (suc n) words s = finish (answer_after n words) (load_of s (word_at words s.va s.level s.table))
+answer_after (suc n) words s =
+    finish (answer_after n words) (load_of s (word_at words s.va s.level s.table))
 
--- what the word of a memory makes of a walk on its path: a walk on the path one level below, or the outcome
+-- what the word of a memory makes of a walk on its path: a walk on the path one level below, or the
+-- outcome
 abbrev pub GoesOn : Scheme → Tables → ℕ → Stage → Progress → Type 0
-GoesOn scheme words root s (progress.More next) = OnPath scheme words root next × (next.level + 1 ≡ s.level) × IsFor next s.va s.access s.ctx
-GoesOn scheme words root s (progress.Found found) = Outcome scheme words root s.va s.access s.ctx (Ok found)
-GoesOn scheme words root s (progress.Trap trap) = Outcome scheme words root s.va s.access s.ctx (Err trap)
+GoesOn scheme words root s (progress.More next) =
+    OnPath scheme words root next × (next.level + 1 ≡ s.level) × IsFor next s.va s.access s.ctx
+GoesOn scheme words root s (progress.Found found) =
+    Outcome scheme words root s.va s.access s.ctx (Ok found)
+GoesOn scheme words root s (progress.Trap trap) =
+    Outcome scheme words root s.va s.access s.ctx (Err trap)

@@ -12,9 +12,11 @@ use Rattle.walk.specs.Leads.{Tables, Leads, IsGlobalAt}
 abbrev pub page_number : ℕ → ℕ
 page_number address = address / bytes_of Kib4
 
--- Maps is the set of these: for a canonical address of the page an aligned leaf leads; the PPN is the leaf's and the page's
--- place in the leaf's page, the flags are the leaf's, and global says whether G is on the leaf or on a pointer above it
-pub record Maps (scheme : Scheme) (words : Tables) (root page ppn : ℕ) (flags : PteFlags) (global : Bool) : Type 0 where
+-- Maps is the set of these: for a canonical address of the page an aligned leaf leads; the PPN is
+-- the leaf's and the page's place in the leaf's page, the flags are the leaf's, and global says
+-- whether G is on the leaf or on a pointer above it
+pub record Maps (scheme : Scheme) (words : Tables) (root page ppn : ℕ) (flags : PteFlags)
+    (global : Bool) : Type 0 where
   pub va : ℕ
   pub level : ℕ
   pub table : ℕ

@@ -1,5 +1,5 @@
--- What the translation of an address answers
--- (privileged manual 4.3.2, virtual address translation process; 4.4.1 and 4.5.1, canonical addresses).
+-- What the translation of an address answers (privileged manual 4.3.2, virtual address translation
+-- process; 4.4.1 and 4.5.1, canonical addresses).
 use Rattle.std.specs.Prelude.{ℕ, Bool, ◌≡◌, ◌≤◌, ◌⊎◌, ◌↔◌, Option, Result, Err, IsTrue}
 use Rattle.pte.specs.declared.scheme.Scheme.{Scheme}
 use Rattle.pte.specs.declared.permission.Access.{Access}
@@ -12,7 +12,8 @@ use Rattle.walk.specs.Answer.{answer_at, page_trap}
 use Rattle.walk.specs.Leads.{Tables, Leads, IsGlobalAt}
 
 -- the answer for what leads at the lowest level at which anything leads
-pub record Ends (scheme : Scheme) (words : Tables) (root va : ℕ) (access : Access) (ctx : Ctx) (answer : Result Found Trap) : Type 0 where
+pub record Ends (scheme : Scheme) (words : Tables) (root va : ℕ) (access : Access) (ctx : Ctx)
+    (answer : Result Found Trap) : Type 0 where
   pub level : ℕ
   pub table : ℕ
   pub word : Option ℕ

@@ -25,7 +25,8 @@ next_table words va level (Some table) = pointed (word_at words va level table)
 -- the table that n pointers of an address lead to from a table of a level, if there are that many
 abbrev pub table_below : Tables → ℕ → ℕ → ℕ → ℕ → Option ℕ
 table_below words va level table zero = Some table
-table_below words va level table (suc n) = next_table words va (level - n) (table_below words va level table n)
+table_below words va level table (suc n) =
+    next_table words va (level - n) (table_below words va level table n)
 
 -- and from the root
 abbrev pub table_after : Scheme → Tables → ℕ → ℕ → ℕ → Option ℕ
@@ -33,4 +34,5 @@ table_after scheme words root va n = table_below words va (top_level scheme) roo
 
 -- after this many loads of a walk a pointer above level 0 leads
 abbrev pub goes_on : Scheme → Tables → ℕ → ℕ → ℕ → Bool
-goes_on scheme words root va loads = nat_lt loads (top_level scheme) && is_some (table_after scheme words root va (suc loads))
+goes_on scheme words root va loads =
+    nat_lt loads (top_level scheme) && is_some (table_after scheme words root va (suc loads))

@@ -16,8 +16,10 @@ pub record AgreeBut (old new : Tables) (table index : ℕ) : Type 0 where
 pub record KeepsPointers (old new : Tables) : Type 0 where
   pub kept : (t n next : ℕ) → PointsTo (old t n) next → new t n ≡ old t n
 
--- the path of an address, at level i or above, leads to the word of this index of this table, in both memories
-pub record PassesThrough (scheme : Scheme) (old new : Tables) (root va i table index : ℕ) : Type 0 where
+-- the path of an address, at level i or above, leads to the word of this index of this table, in
+-- both memories
+pub record PassesThrough (scheme : Scheme) (old new : Tables)
+    (root va i table index : ℕ) : Type 0 where
   pub level : ℕ
   pub from : i ≤ level
   pub asked : vpn_of va level ≡ index

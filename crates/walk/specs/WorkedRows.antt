@@ -9,7 +9,9 @@ use Rattle.pte.specs.declared.scheme.Scheme.TheVariants.{Sv39}
 use Rattle.walk.specs.declared.found_or_trap.Found.{Found}
 use Rattle.walk.specs.declared.found_or_trap.Trap.{Trap}
 use Rattle.walk.specs.declared.found_or_trap.Why.{Why}
-use Rattle.walk.specs.declared.found_or_trap.Why.TheVariants.{Invalid, Reserved, TooDeep, Outside, Denied, Misaligned, NotAccessed, NotDirty}
+use Rattle.walk.specs.declared.found_or_trap.Why.TheVariants.{Invalid, Reserved, TooDeep, Outside}
+use Rattle.walk.specs.declared.found_or_trap.Why.TheVariants.{Denied, Misaligned, NotAccessed}
+use Rattle.walk.specs.declared.found_or_trap.Why.TheVariants.{NotDirty}
 use Rattle.walk.specs.Frames.{three_frames}
 use Rattle.walk.specs.Outcome.{Outcome}
 
@@ -25,25 +27,52 @@ supervisor = record { mode = Super; sum = false; mxr = false }
 abbrev pub with_sum : Ctx
 with_sum = record { mode = Super; sum = true; mxr = false }
 
--- from the root at 0x80000 an access of 0x80403ABC has this answer and no other, where the three words are those on its path
+-- from the root at 0x80000 an access of 0x80403ABC has this answer and no other, where the three
+-- words are those on its path
 unfoldable pub Gives : ℕ → ℕ → ℕ → Access → Ctx → Result Found Trap → Type 0
-Gives root middle low access ctx answer = (given : Result Found Trap) → Outcome Sv39 (three_frames root middle low) 0x80000 0x80403ABC access ctx given → given ≡ answer
+Gives root middle low access ctx answer =
+    (given : Result Found Trap)
+    → Outcome Sv39 (three_frames root middle low) 0x80000 0x80403ABC access ctx given
+    → given ≡ answer
 
 abbrev pub trap : ℕ → Why → Result Found Trap
 trap cause why = Err (record { cause = cause; why = why })
 
 -- the page at 0x12345000, found with these flags
 abbrev pub small : ℕ → Bool → Result Found Trap
-small flags global = Ok (record { pa = 0x12345ABC; page = record { base = 0x80403000; size = Kib4 }; ppn = 0x12345; flags = record { 0 = flags }; global = global })
+small flags global =
+    Ok (record {
+      pa = 0x12345ABC;
+      page = record { base = 0x80403000; size = Kib4 };
+      ppn = 0x12345;
+      flags = record { 0 = flags };
+      global = global;
+    })
 
 abbrev pub small_page : Type 0
 small_page = Gives 0x20000401 0x20000801 0x48D14D7 Load user (small 0xD6 false)
 
 abbrev pub middle_page : Type 0
-middle_page = Gives 0x20000401 0x48800D7 0x48D14D7 Load user (Ok (record { pa = 0x12203ABC; page = record { base = 0x80400000; size = Mib2 }; ppn = 0x12200; flags = record { 0 = 0xD6 }; global = false }))
+middle_page =
+    Gives 0x20000401 0x48800D7 0x48D14D7 Load user
+    (Ok (record {
+      pa = 0x12203ABC;
+      page = record { base = 0x80400000; size = Mib2 };
+      ppn = 0x12200;
+      flags = record { 0 = 0xD6 };
+      global = false;
+    }))
 
 abbrev pub large_page : Type 0
-large_page = Gives 0x100000D7 0x20000801 0x48D14D7 Load user (Ok (record { pa = 0x40403ABC; page = record { base = 0x80000000; size = Gib1 }; ppn = 0x40000; flags = record { 0 = 0xD6 }; global = false }))
+large_page =
+    Gives 0x100000D7 0x20000801 0x48D14D7 Load user
+    (Ok (record {
+      pa = 0x40403ABC;
+      page = record { base = 0x80000000; size = Gib1 };
+      ppn = 0x40000;
+      flags = record { 0 = 0xD6 };
+      global = false;
+    }))
 
 abbrev pub misaligned : Type 0
 misaligned = Gives 0x20000401 0x48804D7 0x48D14D7 Load user (trap 13 Misaligned)

@@ -1,6 +1,7 @@
 //! What a walk ends with.
 
 use pte::{Access, Ctx, Page, PteFlags, access_cause, allowed, page_cause};
+use thiserror::Error;
 
 /// What a leaf gives for an address.
 #[derive(Clone, Copy, PartialEq, Eq, Debug)]
@@ -13,38 +14,49 @@ pub struct Found {
     pub ppn: u64,
     /// The leaf's flags.
     pub flags: PteFlags,
-    /// Whether G is set in the leaf or in a pointer above it, so that the mapping belongs to all address spaces.
+    /// Whether G is set in the leaf or in a pointer above it, so that the mapping belongs to all
+    /// address spaces.
     pub global: bool,
 }
 
 /// Why there is no translation. Of several reasons at one word the first in this order is given.
-#[derive(Clone, Copy, PartialEq, Eq, Debug)]
+#[derive(Clone, Copy, PartialEq, Eq, Debug, Error)]
 pub enum Why {
     /// The address is not canonical. No word was read.
+    #[error("the address is not canonical")]
     NotCanonical,
     /// The table's word lies outside memory. This alone is an access fault.
+    #[error("the table's word lies outside memory")]
     Outside,
     /// V is clear.
+    #[error("V is clear")]
     Invalid,
     /// The word is one that the manual reserves.
+    #[error("the word is reserved")]
     Reserved,
     /// There is a pointer at level 0.
+    #[error("there is a pointer at level 0")]
     TooDeep,
     /// The leaf's flags do not permit the access.
+    #[error("the flags do not permit the access")]
     Denied,
     /// The leaf is a superpage whose PPN is no multiple of its size.
+    #[error("the superpage's PPN is no multiple of its size")]
     Misaligned,
     /// A is clear.
+    #[error("A is clear")]
     NotAccessed,
     /// The access is a store and D is clear.
+    #[error("D is clear")]
     NotDirty,
 }
 
 /// The exception that an access raises.
-#[derive(Clone, Copy, PartialEq, Eq, Debug)]
+#[derive(Clone, Copy, PartialEq, Eq, Debug, Error)]
+#[error("exception {cause}: {why}")]
 pub struct Trap {
-    /// The cause, as in scause (privileged manual 4.1.8): of the access fault of the access (1, 5 or 7) for `Outside`, else of
-    /// its page fault (12, 13 or 15).
+    /// The cause, as in scause (privileged manual 4.1.8): of the access fault of the access (1, 5
+    /// or 7) for `Outside`, else of its page fault (12, 13 or 15).
     pub cause: u8,
     /// What was wrong.
     pub why: Why,
@@ -78,8 +90,8 @@ impl Trap {
 ghost use Rattle.std.specs.Prelude.{◌≡◌};
 ghost use Rattle.walk.specs.Answer.{accessed_fault, flags_fault};
 
-/// What in the flags of an aligned leaf refuses an access, the first of `Denied`, `NotAccessed` and `NotDirty` that
-/// applies, or `None`. A TLB entry answers by it without the tables.
+/// What in the flags of an aligned leaf refuses an access, the first of `Denied`, `NotAccessed` and
+/// `NotDirty` that applies, or `None`. A TLB entry answers by it without the tables.
 pub fn flags_fault(flags: PteFlags, access: Access, ctx: Ctx) -> Option<Why>
     ensures { result ≡ flags_fault access ctx flags }
 {

@@ -7,9 +7,10 @@ use pte::{
     Access, Ctx, Kind, PAGE_BYTES, Page, PageSize, Pte, PteFlags, Scheme, VirtAddr, allowed,
 };
 use std::marker::Model;
+use std::ops::ControlFlow;
 
-/// A walk between two loads. It holds no memory: `wants` tells the word that comes next, and `load` takes it. Nor does it hold
-/// its scheme, which only says at which level it begins.
+/// A walk between two loads. It holds no memory: `wants` tells the word that comes next, and `load`
+/// takes it. Nor does it hold its scheme, which only says at which level it begins.
 #[derive(Clone, Copy, PartialEq, Eq, Debug)]
 pub struct Walk {
     va: VirtAddr,
@@ -28,11 +29,32 @@ impl Model for Walk {
 
     ghost Value = { Stage };
 
-    ghost view = { λ w. record { va = w.va; access = w.access; ctx = w.ctx; level = w.level; table = w.table; global = w.global } };
+    ghost view = { λ w. record {
+      va = w.va;
+      access = w.access;
+      ctx = w.ctx;
+      level = w.level;
+      table = w.table;
+      global = w.global;
+    } };
 
-    ghost invariant = { λ w. IsInLimits (record { va = w.va; access = w.access; ctx = w.ctx; level = w.level; table = w.table; global = w.global }) };
+    ghost invariant = { λ w. IsInLimits (record {
+      va = w.va;
+      access = w.access;
+      ctx = w.ctx;
+      level = w.level;
+      table = w.table;
+      global = w.global;
+    }) };
 
-    ghost inverse = { λ s. record { va = s.va; access = s.access; ctx = s.ctx; level = s.level; table = s.table; global = s.global } };
+    ghost inverse = { λ s. record {
+      va = s.va;
+      access = s.access;
+      ctx = s.ctx;
+      level = s.level;
+      table = s.table;
+      global = s.global;
+    } };
 }
 
 /// What comes of a load.
@@ -46,12 +68,28 @@ pub enum Progress {
     Trap(Trap),
 }
 
+impl Progress {
+    ghost use Rattle.walk.specs.Step.{flow_of};
+
+    /// The walk that goes on, or what it ends with.
+    pub fn flow(self) -> ControlFlow<Result<Found, Trap>, Walk>
+        ensures { result ≡ flow_of self }
+    {
+        match self {
+            Progress::More(next) => ControlFlow::Continue(next),
+            Progress::Found(found) => ControlFlow::Break(Ok(found)),
+            Progress::Trap(trap) => ControlFlow::Break(Err(trap)),
+        }
+    }
+}
+
 impl Walk {
     ghost use Rattle.std.specs.Prelude.{◌||◌, Err, OnErr};
     ghost use Rattle.std.specs.Result.{OkIff};
     ghost use Rattle.pte.specs.declared.scheme.Scheme.TheVariants.{Sv39};
     ghost use Rattle.pte.specs.Address.{IsCanonical, vpn_of};
-    ghost use Rattle.pte.specs.Entry.{is_global, ppn_bits};
+    ghost use Rattle.pte.specs.Entry.{is_global};
+    ghost use Rattle.pte.specs.declared.entry.TheConstants.{PPN_BITS};
     ghost use Rattle.walk.specs.Answer.{leaf_answer, leaf_fault, page_trap};
     ghost use Rattle.walk.specs.Step.{load_of};
     ghost use Rattle.walk.specs.Stage.{IsInLimits, start_of};
@@ -59,16 +97,16 @@ impl Walk {
 
     /// The walk of Sv39 for an access of a virtual address, as `begin_in` has it.
     pub fn begin(root: u64, va: u64, access: Access, ctx: Ctx) -> Result<Walk, Trap>
-        requires { root < 2 ^ ppn_bits }
+        requires { root < 2 ^ PPN_BITS }
         ensures ok { OkIff result (IsCanonical Sv39 va) (start_of Sv39 root va access ctx) }
         ensures err { OnErr result (result ≡ Err (page_trap access Why.NotCanonical)) }
     {
         Walk::begin_in(Scheme::Sv39, root, va, access, ctx)
     }
 
-    /// The walk of a scheme for an access of a virtual address from the root table at a PPN, which the caller keeps below
-    /// 2^44. It waits for a word of the root. Refused with `NotCanonical` exactly if the address is not canonical in the
-    /// scheme.
+    /// The walk of a scheme for an access of a virtual address from the root table at a PPN, which
+    /// the caller keeps below 2^44. It waits for a word of the root. Refused with `NotCanonical`
+    /// exactly if the address is not canonical in the scheme.
     pub fn begin_in(
         scheme: Scheme,
         root: u64,
@@ -76,24 +114,34 @@ impl Walk {
         access: Access,
         ctx: Ctx,
     ) -> Result<Walk, Trap>
-        requires { root < 2 ^ ppn_bits }
+        requires { root < 2 ^ PPN_BITS }
         ensures ok { OkIff result (IsCanonical scheme va) (start_of scheme root va access ctx) }
         ensures err { OnErr result (result ≡ Err (page_trap access Why.NotCanonical)) }
     {
         let Some(va) = VirtAddr::new_in(scheme, va) else {
             return Err(Trap::page(access, Why::NotCanonical));
         };
-        Ok(Walk {
+        Ok(Walk::from_root(scheme, root, va, access, ctx))
+    }
+
+    /// The walk that `begin_in` begins, of an address that the caller found canonical in the
+    /// scheme.
+    pub fn from_root(scheme: Scheme, root: u64, va: VirtAddr, access: Access, ctx: Ctx) -> Walk
+        requires { root < 2 ^ PPN_BITS }
+        ensures { result ≡ start_of scheme root va access ctx }
+    {
+        Walk {
             va,
             access,
             ctx,
             level: scheme.top_level(),
             table: root,
             global: false,
-        })
+        }
     }
 
-    /// The word that the walk waits for: the PPN of its table, below 2^44, and the index there, below 512.
+    /// The word that the walk waits for: the PPN of its table, below 2^44, and the index there,
+    /// below 512.
     pub fn wants(&self) -> (u64, u16)
         ensures table { result.0 ≡ self.now.table }
         ensures index { result.1 ≡ vpn_of self.now.va self.now.level }
@@ -102,7 +150,8 @@ impl Walk {
         (self.table, self.va.vpn(self.level))
     }
 
-    /// Goes on with the word that the walk waited for, `None` if it lies outside memory (privileged manual 4.3.2, steps 2 to 8).
+    /// Goes on with the word that the walk waited for, `None` if it lies outside memory (privileged
+    /// manual 4.3.2, steps 2 to 8).
     #[inline(always)]
     pub fn load(self, word: Option<u64>) -> Progress
         ensures { result ≡ load_of self word }
@@ -147,8 +196,9 @@ impl Walk {
     /// What a leaf at the walk's level gives.
     #[inline(always)]
     fn leaf(self, ppn: u64, flags: PteFlags) -> Result<Found, Trap>
-        requires { ppn < 2 ^ ppn_bits }
-        ensures { result ≡ leaf_answer self.va self.access self.ctx self.level (self.global || is_global flags.0) ppn flags }
+        requires { ppn < 2 ^ PPN_BITS }
+        ensures { result ≡ leaf_answer self.va self.access self.ctx self.level
+            (self.global || is_global flags.0) ppn flags }
     {
         if let Some(why) = self.fault(ppn, flags) {
             return Err(Trap::page(self.access, why));

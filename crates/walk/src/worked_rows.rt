@@ -1,11 +1,11 @@
-//! Worked rows: the definitions give what the manual gives by hand. Each function does nothing, and each of its clauses is a
-//! row.
+//! Worked rows: the definitions give what the manual gives by hand. Each function does nothing, and
+//! each of its clauses is a row.
 
 ghost use Rattle.walk.specs.WorkedRows as rows;
 ghost use Rattle.walk.specs.WorkedRowsSv48 as rows_of_sv48;
 
 /// A page of each size is found where its leaf says, and a leaf out of line is none.
-#[tactic(auto, using(crate::proofs::WorkedRows::small_page, crate::proofs::WorkedRows::middle_page, crate::proofs::WorkedRows::large_page, crate::proofs::WorkedRows::misaligned, crate::proofs::WorkedRows::misaligned_by_half, crate::proofs::WorkedRows::misaligned_large_page))]
+#[tactic(auto, using(crate::proofs::WorkedRows::pages))]
 pub fn worked_pages()
     ensures small_page { rows.small_page }
     ensures middle_page { rows.middle_page }
@@ -16,7 +16,7 @@ pub fn worked_pages()
 {}
 
 /// Which access a leaf lets, by U, R, W and X, by the mode, SUM and MXR.
-#[tactic(auto, using(crate::proofs::WorkedRows::sum_lets_no_fetch, crate::proofs::WorkedRows::sum_lets_load, crate::proofs::WorkedRows::sum_lets_store, crate::proofs::WorkedRows::no_sum, crate::proofs::WorkedRows::user_fetches, crate::proofs::WorkedRows::no_mxr, crate::proofs::WorkedRows::mxr_lets_load, crate::proofs::WorkedRows::no_store, crate::proofs::WorkedRows::supervisor_page, crate::proofs::WorkedRows::supervisor_fetches))]
+#[tactic(auto, using(crate::proofs::WorkedRows::permissions))]
 pub fn worked_permissions()
     ensures sum_lets_no_fetch { rows.sum_lets_no_fetch }
     ensures sum_lets_load { rows.sum_lets_load }
@@ -31,7 +31,7 @@ pub fn worked_permissions()
 {}
 
 /// A walk faults without A, for a store without D too, and sets neither.
-#[tactic(auto, using(crate::proofs::WorkedRows::not_accessed, crate::proofs::WorkedRows::clean_page_loads, crate::proofs::WorkedRows::not_dirty, crate::proofs::WorkedRows::accessed_before_dirty, crate::proofs::WorkedRows::dirty_alone, crate::proofs::WorkedRows::fetch_not_accessed))]
+#[tactic(auto, using(crate::proofs::WorkedRows::accessed_and_dirty))]
 pub fn worked_accessed_and_dirty()
     ensures not_accessed { rows.not_accessed }
     ensures clean_page_loads { rows.clean_page_loads }
@@ -42,7 +42,7 @@ pub fn worked_accessed_and_dirty()
 {}
 
 /// Where several faults apply, the first is told.
-#[tactic(auto, using(crate::proofs::WorkedRows::denied_first, crate::proofs::WorkedRows::denied_before_misaligned, crate::proofs::WorkedRows::misaligned_before_accessed, crate::proofs::WorkedRows::misaligned_before_dirty))]
+#[tactic(auto, using(crate::proofs::WorkedRows::orders_of_faults))]
 pub fn worked_orders_of_faults()
     ensures denied_first { rows.denied_first }
     ensures denied_before_misaligned { rows.denied_before_misaligned }
@@ -51,7 +51,7 @@ pub fn worked_orders_of_faults()
 {}
 
 /// What words are invalid or reserved, and which bits count for nothing.
-#[tactic(auto, using(crate::proofs::WorkedRows::user_pointer, crate::proofs::WorkedRows::accessed_pointer, crate::proofs::WorkedRows::dirty_pointer, crate::proofs::WorkedRows::high_bit, crate::proofs::WorkedRows::lowest_high_bit, crate::proofs::WorkedRows::write_only, crate::proofs::WorkedRows::write_and_execute, crate::proofs::WorkedRows::software_bits, crate::proofs::WorkedRows::software_bits_of_pointer, crate::proofs::WorkedRows::root_to_itself, crate::proofs::WorkedRows::all_ones, crate::proofs::WorkedRows::all_ones_but_v))]
+#[tactic(auto, using(crate::proofs::WorkedRows::words))]
 pub fn worked_words()
     ensures user_pointer { rows.user_pointer }
     ensures accessed_pointer { rows.accessed_pointer }
@@ -68,7 +68,7 @@ pub fn worked_words()
 {}
 
 /// G of any pointer on the path, or of the leaf, makes the mapping global.
-#[tactic(auto, using(crate::proofs::WorkedRows::global_pointer, crate::proofs::WorkedRows::global_middle_pointer, crate::proofs::WorkedRows::global_leaf))]
+#[tactic(auto, using(crate::proofs::WorkedRows::global_bits))]
 pub fn worked_global_bits()
     ensures global_pointer { rows.global_pointer }
     ensures global_middle_pointer { rows.global_middle_pointer }
@@ -76,7 +76,7 @@ pub fn worked_global_bits()
 {}
 
 /// A path that leads to no table, or too deep.
-#[tactic(auto, using(crate::proofs::WorkedRows::too_deep, crate::proofs::WorkedRows::outside_load, crate::proofs::WorkedRows::outside_store, crate::proofs::WorkedRows::outside_fetch, crate::proofs::WorkedRows::highest_table))]
+#[tactic(auto, using(crate::proofs::WorkedRows::ends_of_paths))]
 pub fn worked_ends_of_paths()
     ensures too_deep { rows.too_deep }
     ensures outside_load { rows.outside_load }
@@ -85,8 +85,9 @@ pub fn worked_ends_of_paths()
     ensures highest_table { rows.highest_table }
 {}
 
-/// In Sv48 a page of each size is found where its leaf says, and G of the root's pointer makes it global.
-#[tactic(auto, using(crate::proofs::WorkedRowsSv48::four_loads, crate::proofs::WorkedRowsSv48::widest_page, crate::proofs::WorkedRowsSv48::large_page, crate::proofs::WorkedRowsSv48::middle_page, crate::proofs::WorkedRowsSv48::global_root_pointer))]
+/// In Sv48 a page of each size is found where its leaf says, and G of the root's pointer makes it
+/// global.
+#[tactic(auto, using(crate::proofs::WorkedRowsSv48::pages_of_sv48))]
 pub fn worked_pages_of_sv48()
     ensures four_loads { rows_of_sv48.four_loads }
     ensures widest_page { rows_of_sv48.widest_page }
@@ -96,7 +97,7 @@ pub fn worked_pages_of_sv48()
 {}
 
 /// Faults on a path of four levels.
-#[tactic(auto, using(crate::proofs::WorkedRowsSv48::misaligned_widest_page, crate::proofs::WorkedRowsSv48::widest_page_misaligned_by_half, crate::proofs::WorkedRowsSv48::denied_before_misaligned, crate::proofs::WorkedRowsSv48::widest_page_not_dirty, crate::proofs::WorkedRowsSv48::outside_at_level_2, crate::proofs::WorkedRowsSv48::too_deep, crate::proofs::WorkedRowsSv48::reserved_at_level_2))]
+#[tactic(auto, using(crate::proofs::WorkedRowsSv48::faults_of_sv48))]
 pub fn worked_faults_of_sv48()
     ensures misaligned_widest_page { rows_of_sv48.misaligned_widest_page }
     ensures widest_page_misaligned_by_half { rows_of_sv48.widest_page_misaligned_by_half }
@@ -108,7 +109,7 @@ pub fn worked_faults_of_sv48()
 {}
 
 /// Which addresses are canonical in Sv48, and not in Sv39.
-#[tactic(auto, using(crate::proofs::WorkedRowsSv48::last_of_the_low_half, crate::proofs::WorkedRowsSv48::first_of_the_high_half, crate::proofs::WorkedRowsSv48::not_of_sv39, crate::proofs::WorkedRowsSv48::behind_the_low_half, crate::proofs::WorkedRowsSv48::before_the_high_half))]
+#[tactic(auto, using(crate::proofs::WorkedRowsSv48::halves_of_sv48))]
 pub fn worked_halves_of_sv48()
     ensures last_of_the_low_half { rows_of_sv48.last_of_the_low_half }
     ensures first_of_the_high_half { rows_of_sv48.first_of_the_high_half }
