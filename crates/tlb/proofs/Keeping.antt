@@ -8,7 +8,8 @@ use Rattle.pte.specs.declared.scheme.Scheme.{Scheme}
 use Rattle.pte.specs.Address.{IsPage, is_canonical}
 use Rattle.pte.specs.declared.address.What.{What}
 use Rattle.tlb.specs.declared.store.Entry.{Entry}
-use Rattle.tlb.specs.Entries.{tlb_size, filled, IsTlb}
+use Rattle.tlb.specs.Entries.{filled, IsTlb}
+use Rattle.tlb.specs.declared.store.TheConstants.{TLB_SIZE}
 use Rattle.tlb.specs.Fence.{fenced, is_fenced}
 use Rattle.tlb.specs.Service.{is_served, served}
 
@@ -19,14 +20,14 @@ pub All-filled : (P : Entry → Type 0) (entries : List Entry) (e : Entry) → A
 All-filled P entries e all new = All-drop P _ _ (All-push P entries e all new)
 
 -- a fill of a TLB with room, and of a full one
-pub filled_with_room : (entries : List Entry) (e : Entry) → length entries < tlb_size → filled entries e ≡ entries ++ e ∷ []
+pub filled_with_room : (entries : List Entry) (e : Entry) → length entries < TLB_SIZE → filled entries e ≡ entries ++ e ∷ []
 filled_with_room entries e room =
-    let none : length (entries ++ e ∷ []) - tlb_size ≡ 0 = omega (arith, length-append entries (e ∷ [])) in
+    let none : length (entries ++ e ∷ []) - TLB_SIZE ≡ 0 = omega (arith, length-append entries (e ∷ [])) in
     ap (λ n. drop n (entries ++ e ∷ [])) none
 
-pub filled_when_full : (oldest e : Entry) (others : List Entry) → length others + 1 ≡ tlb_size → filled (oldest ∷ others) e ≡ others ++ e ∷ []
+pub filled_when_full : (oldest e : Entry) (others : List Entry) → length others + 1 ≡ TLB_SIZE → filled (oldest ∷ others) e ≡ others ++ e ∷ []
 filled_when_full oldest e others full =
-    let one : length ((oldest ∷ others) ++ e ∷ []) - tlb_size ≡ 1 = omega (arith, length-append (oldest ∷ others) (e ∷ [])) in
+    let one : length ((oldest ∷ others) ++ e ∷ []) - TLB_SIZE ≡ 1 = omega (arith, length-append (oldest ∷ others) (e ∷ [])) in
     ap (λ n. drop n ((oldest ∷ others) ++ e ∷ [])) one
 
 pub IsTlb-nil : IsTlb []
@@ -37,7 +38,7 @@ IsTlb-filter p entries tlb = record { size = omega (arith, length-filter-le p en
 
 pub IsTlb-filled : (entries : List Entry) (e : Entry) → IsTlb entries → IsPage e.page → IsTlb (filled entries e)
 IsTlb-filled entries e tlb page = record {
-  size = omega (arith, length-drop (length (entries ++ e ∷ []) - tlb_size) (entries ++ e ∷ []));
+  size = omega (arith, length-drop (length (entries ++ e ∷ []) - TLB_SIZE) (entries ++ e ∷ []));
   pages = All-filled (λ x. IsPage x.page) entries e tlb.pages page;
 }
 
@@ -63,7 +64,7 @@ Contains-filter p entries e at = All-contains (Contains entries) (filter p entri
 pub Contains-filled : (entries : List Entry) (new e : Entry) → Contains (filled entries new) e → Contains entries e ⊎ (new ≡ e)
 Contains-filled entries new e at =
     let all = entries ++ new ∷ [] in
-    let gone = length all - tlb_size in
+    let gone = length all - TLB_SIZE in
     Contains-push_cases entries new e (All-contains (Contains all) (drop gone all) e (All-drop (Contains all) gone all (All-contains_itself all)) at)
 
 -- a fence of every address and every ASID leaves nothing
@@ -76,3 +77,5 @@ pub fenced_none : (scheme : Scheme) (entries : List Entry) (rs1 : ℕ) (rs2 : Op
 fenced_none scheme [] rs1 rs2 off = refl
 fenced_none scheme (e ∷ entries) rs1 None off = rw off (ap (λ (es : List Entry). e ∷ es) (fenced_none scheme entries rs1 None off))
 fenced_none scheme (e ∷ entries) rs1 (Some asid) off = rw off (ap (λ (es : List Entry). e ∷ es) (fenced_none scheme entries rs1 (Some asid) off))
+
+pub ruleset fills = (filled_with_room, filled_when_full)

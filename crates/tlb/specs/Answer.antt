@@ -4,16 +4,17 @@ use Rattle.pte.specs.declared.permission.Access.{Access}
 use Rattle.pte.specs.declared.permission.Ctx.{Ctx}
 use Rattle.pte.specs.declared.address.PageSize.TheVariants.{Kib4}
 use Rattle.pte.specs.Address.{bytes_of}
-use Rattle.pte.specs.Entry.{ppn_bits}
+use Rattle.pte.specs.declared.entry.TheConstants.{PPN_BITS}
 use Rattle.walk.specs.declared.found_or_trap.Found.{Found}
 use Rattle.walk.specs.declared.found_or_trap.Trap.{Trap}
 use Rattle.walk.specs.declared.found_or_trap.Why.{Why}
 use Rattle.walk.specs.Answer.{flags_fault, page_trap}
 use Rattle.tlb.specs.declared.store.Entry.{Entry}
 
--- the physical address: the entry's PPN, of which the bits of a PPN count, and the place in the entry's page
+-- the physical address: the entry's PPN, of which the bits of a PPN count, and the place in the
+-- entry's page
 abbrev pub address_of : Entry → ℕ → ℕ
-address_of e va = e.ppn % 2 ^ ppn_bits * bytes_of Kib4 + va % bytes_of e.page.size
+address_of e va = e.ppn % 2 ^ PPN_BITS * bytes_of Kib4 + va % bytes_of e.page.size
 
 abbrev pub unless : Option Why → Access → ℕ → Result ℕ Trap
 unless None access pa = Ok pa
@@ -25,7 +26,14 @@ answer_of e va access ctx = unless (flags_fault access ctx e.flags) access (addr
 
 -- what a walk found in the address space of an ASID
 abbrev pub entry_of : ℕ → Found → Entry
-entry_of asid found = record { asid = asid; global = found.global; page = found.page; ppn = found.ppn; flags = found.flags }
+entry_of asid found =
+    record {
+      asid = asid;
+      global = found.global;
+      page = found.page;
+      ppn = found.ppn;
+      flags = found.flags;
+    }
 
 -- what a walk answers, of which an access needs the physical address
 abbrev pub address_found : Result Found Trap → Result ℕ Trap

@@ -1,16 +1,12 @@
--- The entries of a TLB, a list with the oldest first: which of them an address matches, and what a fill leaves.
-use Rattle.std.specs.Prelude.{ℕ, Bool, ◌+◌, ◌-◌, ◌≤◌, ◌==◌, ◌&&◌, ◌||◌, nat_lt, nat_le, Option, List, [], ◌∷◌, ◌++◌, length, drop, find, All}
+-- The entries of a TLB, a list with the oldest first: which of them an address matches, and what a
+-- fill leaves.
+use Rattle.std.specs.Prelude.{ℕ, Bool, ◌-◌, ◌≤◌, ◌==◌, ◌&&◌, ◌||◌, Option}
+use Rattle.std.specs.Prelude.{List, [], ◌∷◌, ◌++◌, length, drop, find, All}
 use Rattle.pte.specs.declared.scheme.Scheme.{Scheme}
-use Rattle.pte.specs.Address.{Span, bytes_of, IsPage}
+pub use Rattle.pte.specs.Address.{holds}
+use Rattle.pte.specs.Address.{IsPage}
 use Rattle.tlb.specs.declared.store.Entry.{Entry}
-
--- how many entries a TLB holds
-abbrev pub tlb_size : ℕ
-tlb_size = 16
-
--- the address lies in the page
-abbrev pub holds : Span → ℕ → Bool
-holds page va = nat_le page.base va && nat_lt va (page.base + bytes_of page.size)
+use Rattle.tlb.specs.declared.store.TheConstants.{TLB_SIZE}
 
 -- the page has the address, and the entry is global or of the ASID
 abbrev pub is_match : ℕ → ℕ → Entry → Bool
@@ -22,7 +18,7 @@ first_match entries asid va = find (is_match asid va) entries
 
 -- the youngest entries, as many as a TLB holds
 abbrev pub youngest : List Entry → List Entry
-youngest entries = drop (length entries - tlb_size) entries
+youngest entries = drop (length entries - TLB_SIZE) entries
 
 -- what a fill leaves: the new entry is the youngest, and of one entry too many the oldest goes
 abbrev pub filled : List Entry → Entry → List Entry
@@ -35,5 +31,5 @@ pub record TlbState : Type 0 where
 
 -- what every TLB keeps
 pub record IsTlb (entries : List Entry) : Type 0 where
-  pub size : length entries ≤ tlb_size
+  pub size : length entries ≤ TLB_SIZE
   pub pages : All (λ e. IsPage e.page) entries

@@ -1,15 +1,17 @@
--- Which entries SFENCE.VMA takes out, by its four forms (privileged manual 4.2.1, Supervisor Memory-Management Fence
--- Instruction). An operand is None where the register is x0, and Some of its value where it is another register, whatever
--- the value is. The manual lets a fence take out more; here each form takes out just what the manual asks for.
-use Rattle.std.specs.Prelude.{ℕ, Bool, true, ◌%◌, ◌^◌, ◌==◌, ◌&&◌, not, Option, Some, None, List, filter}
+-- Which entries SFENCE.VMA takes out, by its four forms (privileged manual 4.2.1, Supervisor
+-- Memory-Management Fence Instruction). An operand is None where the register is x0, and Some of
+-- its value where it is another register, whatever the value is. The manual lets a fence take out
+-- more; here each form takes out just what the manual asks for.
+use Rattle.std.specs.Prelude.{ℕ, Bool, true, ◌%◌, ◌^◌, ◌==◌, ◌&&◌, not, Option, Some, None, List}
+use Rattle.std.specs.Prelude.{filter}
 use Rattle.pte.specs.declared.scheme.Scheme.{Scheme}
-use Rattle.pte.specs.Address.{is_canonical}
+use Rattle.pte.specs.declared.TheConstants.{ASID_BITS}
+use Rattle.pte.specs.Address.{holds, is_canonical}
 use Rattle.tlb.specs.declared.store.Entry.{Entry}
-use Rattle.tlb.specs.Entries.{holds}
 
 -- how many bits an ASID has
 abbrev pub asid_bits : ℕ
-asid_bits = 16
+asid_bits = ASID_BITS
 
 -- rs1 is canonical, and the entry holds a leaf for that address
 abbrev pub is_of_address : Scheme → ℕ → Entry → Bool
@@ -17,7 +19,7 @@ is_of_address scheme rs1 e = is_canonical scheme rs1 && holds e.page rs1
 
 -- the entry is not global and has the ASID of rs2, whose higher bits are ignored
 abbrev pub is_of_space : ℕ → Entry → Bool
-is_of_space rs2 e = not e.global && (e.asid == rs2 % 2 ^ asid_bits)
+is_of_space rs2 e = not e.global && (e.asid == rs2 % 2 ^ ASID_BITS)
 
 -- the fence takes the entry out
 abbrev pub is_fenced : Scheme → Option ℕ → Option ℕ → Entry → Bool

@@ -1,11 +1,11 @@
 -- A TLB as a set of mappings of 4 KiB pages, and which addresses it translates.
-use Rattle.std.specs.Prelude.{ℕ, Bool, ◌≡◌, ◌+◌, ◌*◌, ◌%◌, ◌≤◌, ◌⊎◌, ◌==◌, ◌&&◌, ◌||◌, if◌then◌else◌, Option, Some, None, List, Contains}
+use Rattle.std.specs.Prelude.{ℕ, Bool, ◌≡◌, ◌+◌, ◌*◌, ◌%◌, ◌≤◌, ◌⊎◌, ◌==◌, ◌&&◌, ◌||◌}
+use Rattle.std.specs.Prelude.{if◌then◌else◌, Option, Some, None, List, Contains}
 use Rattle.pte.specs.declared.flags.PteFlags.{PteFlags}
 use Rattle.pte.specs.declared.address.PageSize.TheVariants.{Kib4}
-use Rattle.pte.specs.Address.{Span, bytes_of, pages_of}
+use Rattle.pte.specs.Address.{Span, bytes_of, overlaps, pages_of}
 use Rattle.walk.specs.Maps.{page_number}
 use Rattle.tlb.specs.declared.store.Entry.{Entry}
-use Rattle.tlb.specs.Service.{overlaps}
 
 -- the mapping of one page of 4 KiB, by its number, for one ASID or, with None, for every one
 pub record Mapping : Type 0 where
@@ -37,7 +37,8 @@ pub record Translates (set : Mapping → Type 0) (asid va : ℕ) : Type 0 where
   pub space : (mapping.asid ≡ None) ⊎ (mapping.asid ≡ Some asid)
   pub page : mapping.page ≡ page_number va
 
--- the entry's page overlaps the page, and the entry is global or of the ASID; with None, whatever its ASID
+-- the entry's page overlaps the page, and the entry is global or of the ASID; with None, whatever
+-- its ASID
 abbrev pub maps_into : Span → Option ℕ → Entry → Bool
 maps_into page None e = overlaps page e.page
 maps_into page (Some asid) e = overlaps page e.page && (e.global || (e.asid == asid))

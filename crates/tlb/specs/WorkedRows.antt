@@ -1,6 +1,7 @@
--- Worked rows: what was worked out by hand from the rules of fences, matches and services; in the first part whatever the
--- entries' PPNs and flags are.
-use Rattle.std.specs.Prelude.{◌≡◌, ℕ, zero, suc, ◌+◌, ◌*◌, Bool, true, false, Some, None, Ok, Err, List, [], ◌∷◌, map}
+-- Worked rows: what was worked out by hand from the rules of fences, matches and services; in the
+-- first part whatever the entries' PPNs and flags are.
+use Rattle.std.specs.Prelude.{◌≡◌, ℕ, zero, suc, ◌+◌, ◌*◌, Bool, true, false, Some, None, Ok, Err}
+use Rattle.std.specs.Prelude.{List, [], ◌∷◌, map}
 use Rattle.pte.specs.declared.scheme.Scheme.TheVariants.{Sv39, Sv48}
 use Rattle.pte.specs.declared.flags.PteFlags.{PteFlags}
 use Rattle.pte.specs.declared.address.PageSize.{PageSize}
@@ -68,7 +69,8 @@ module _ (ppn : ℕ) (flags : PteFlags) where
   abbrev pub form_3_behind_the_page : Type 0
   form_3_behind_the_page = fenced Sv39 four (Some 0x1000) None ≡ a ∷ c ∷ d ∷ []
 
-  -- a kernel page, by its last address; what is not canonical lies between the last address below and the first above
+  -- a kernel page, by its last address; what is not canonical lies between the last address below
+  -- and the first above
   abbrev pub k : Entry
   k = entry 1 true (page Kib4 0xFFFFFFFFC0000000)
 
@@ -85,10 +87,12 @@ module _ (ppn : ℕ) (flags : PteFlags) where
   last_canonical_below = fenced Sv39 (below ∷ above ∷ []) (Some 0x3FFFFFFFFF) None ≡ above ∷ []
 
   abbrev pub first_canonical_above : Type 0
-  first_canonical_above = fenced Sv39 (below ∷ above ∷ []) (Some 0xFFFFFFC000000000) None ≡ below ∷ []
+  first_canonical_above =
+      fenced Sv39 (below ∷ above ∷ []) (Some 0xFFFFFFC000000000) None ≡ below ∷ []
 
   abbrev pub not_canonical_above : Type 0
-  not_canonical_above = fenced Sv39 (below ∷ above ∷ []) (Some 0xFFFFFFBFFFFFFFFF) None ≡ below ∷ above ∷ []
+  not_canonical_above =
+      fenced Sv39 (below ∷ above ∷ []) (Some 0xFFFFFFBFFFFFFFFF) None ≡ below ∷ above ∷ []
 
   -- a fence of Sv48 counts addresses that Sv39 does not have
   abbrev pub beyond : Entry
@@ -101,10 +105,12 @@ module _ (ppn : ℕ) (flags : PteFlags) where
   sv39_leaves_it = fenced Sv39 (beyond ∷ a ∷ []) (Some 0x4000000000) None ≡ beyond ∷ a ∷ []
 
   abbrev pub sv48_takes_it_out_of_its_space : Type 0
-  sv48_takes_it_out_of_its_space = fenced Sv48 (beyond ∷ a ∷ []) (Some 0x4000000FFF) (Some 1) ≡ a ∷ []
+  sv48_takes_it_out_of_its_space =
+      fenced Sv48 (beyond ∷ a ∷ []) (Some 0x4000000FFF) (Some 1) ≡ a ∷ []
 
   abbrev pub sv48_leaves_it_of_another_space : Type 0
-  sv48_leaves_it_of_another_space = fenced Sv48 (beyond ∷ a ∷ []) (Some 0x4000000000) (Some 2) ≡ beyond ∷ a ∷ []
+  sv48_leaves_it_of_another_space =
+      fenced Sv48 (beyond ∷ a ∷ []) (Some 0x4000000000) (Some 2) ≡ beyond ∷ a ∷ []
 
   -- the ends of the two halves of Sv48
   abbrev pub last_low : Entry
@@ -114,16 +120,22 @@ module _ (ppn : ℕ) (flags : PteFlags) where
   first_high = entry 1 false (page Gib512 0xFFFF800000000000)
 
   abbrev pub last_canonical_of_sv48 : Type 0
-  last_canonical_of_sv48 = fenced Sv48 (last_low ∷ first_high ∷ []) (Some 0x7FFFFFFFFFFF) None ≡ first_high ∷ []
+  last_canonical_of_sv48 =
+      fenced Sv48 (last_low ∷ first_high ∷ []) (Some 0x7FFFFFFFFFFF) None ≡ first_high ∷ []
 
   abbrev pub first_canonical_above_of_sv48 : Type 0
-  first_canonical_above_of_sv48 = fenced Sv48 (last_low ∷ first_high ∷ []) (Some 0xFFFF800000000000) None ≡ last_low ∷ []
+  first_canonical_above_of_sv48 =
+      fenced Sv48 (last_low ∷ first_high ∷ []) (Some 0xFFFF800000000000) None ≡ last_low ∷ []
 
   abbrev pub not_canonical_of_sv48 : Type 0
-  not_canonical_of_sv48 = fenced Sv48 (last_low ∷ first_high ∷ []) (Some 0x800000000000) None ≡ last_low ∷ first_high ∷ []
+  not_canonical_of_sv48 =
+      fenced Sv48 (last_low ∷ first_high ∷ []) (Some 0x800000000000) None
+      ≡ last_low ∷ first_high ∷ []
 
   abbrev pub not_canonical_above_of_sv48 : Type 0
-  not_canonical_above_of_sv48 = fenced Sv48 (last_low ∷ first_high ∷ []) (Some 0xFFFF7FFFFFFFFFFF) None ≡ last_low ∷ first_high ∷ []
+  not_canonical_above_of_sv48 =
+      fenced Sv48 (last_low ∷ first_high ∷ []) (Some 0xFFFF7FFFFFFFFFFF) None
+      ≡ last_low ∷ first_high ∷ []
 
   -- 512 GiB at 0x8000000000
   abbrev pub widest : Entry
@@ -145,20 +157,27 @@ module _ (ppn : ℕ) (flags : PteFlags) where
   widest_is_fenced_by_any_address = fenced Sv48 (a ∷ widest ∷ []) (Some 0x8080403ABC) None ≡ a ∷ []
 
   abbrev pub widest_goes_by_a_part : Type 0
-  widest_goes_by_a_part = served (a ∷ widest ∷ beyond ∷ []) (PageOf (page Kib4 0xFFFFFFF000) (Some 1)) ≡ a ∷ beyond ∷ []
+  widest_goes_by_a_part =
+      served (a ∷ widest ∷ beyond ∷ []) (PageOf (page Kib4 0xFFFFFFF000) (Some 1)) ≡ a ∷ beyond ∷ []
 
   abbrev pub parts_go_by_the_widest : Type 0
-  parts_go_by_the_widest = served (entry 1 false (page Kib4 0xFFFFFFF000) ∷ beyond ∷ widest ∷ []) (PageOf (page Gib512 0x8000000000) (Some 1)) ≡ beyond ∷ []
+  parts_go_by_the_widest =
+      served (entry 1 false (page Kib4 0xFFFFFFF000) ∷ beyond ∷ widest ∷ [])
+      (PageOf (page Gib512 0x8000000000) (Some 1)) ≡ beyond ∷ []
 
   abbrev pub parts_of_all_spaces_go : Type 0
-  parts_of_all_spaces_go = served (entry 2 true (page Gib1 0x8040000000) ∷ beyond ∷ []) (PageOf (page Gib512 0x8000000000) None) ≡ beyond ∷ []
+  parts_of_all_spaces_go =
+      served (entry 2 true (page Gib1 0x8040000000) ∷ beyond ∷ [])
+      (PageOf (page Gib512 0x8000000000) None) ≡ beyond ∷ []
 
   -- all 16 bits of an ASID count
   abbrev pub last_asid : Entry
   last_asid = entry 0xFFFF false (page Kib4 0)
 
   abbrev pub form_2_all_bits : Type 0
-  form_2_all_bits = fenced Sv39 (last_asid ∷ entry 0x7FFF false (page Kib4 0) ∷ []) None (Some 0xFFFF) ≡ entry 0x7FFF false (page Kib4 0) ∷ []
+  form_2_all_bits =
+      fenced Sv39 (last_asid ∷ entry 0x7FFF false (page Kib4 0) ∷ []) None (Some 0xFFFF)
+      ≡ entry 0x7FFF false (page Kib4 0) ∷ []
 
   -- ASID 0 is an address space as any other
   abbrev pub asid_0_matches_its_own : Type 0
@@ -232,7 +251,8 @@ module _ (ppn : ℕ) (flags : PteFlags) where
   seventeenth_drops_first = first_match (pages 17) 1 0x1000 ≡ None
 
   abbrev pub seventeenth_keeps_second : Type 0
-  seventeenth_keeps_second = first_match (pages 17) 1 0x2000 ≡ Some (entry 1 false (page Kib4 0x2000))
+  seventeenth_keeps_second =
+      first_match (pages 17) 1 0x2000 ≡ Some (entry 1 false (page Kib4 0x2000))
 
   -- a page that is filled twice, with another PPN, is there twice, and the older entry answers
   abbrev pub moved : Entry
@@ -244,8 +264,9 @@ module _ (ppn : ℕ) (flags : PteFlags) where
   abbrev pub older_answers : Type 0
   older_answers = first_match (filled (filled [] a) moved) 0 0 ≡ Some a
 
-  -- three entries hold an address, each of another size, filled in this order: the oldest answers. A service drops the larger
-  -- two, and the third is then the oldest of all: it is there after 15 fills of other pages and gone after one more
+  -- three entries hold an address, each of another size, filled in this order: the oldest answers.
+  -- A service drops the larger two, and the third is then the oldest of all: it is there after 15
+  -- fills of other pages and gone after one more
   abbrev pub first_of_three : Entry
   first_of_three = entry 1 false (page Gib1 0)
 
@@ -262,7 +283,8 @@ module _ (ppn : ℕ) (flags : PteFlags) where
   oldest_of_three_sizes = first_match three_sizes 1 0x1000 ≡ Some first_of_three
 
   abbrev pub one_of_three_stays : Type 0
-  one_of_three_stays = served three_sizes (PageOf (page Kib4 0x40000) (Some 1)) ≡ second_of_three ∷ []
+  one_of_three_stays =
+      served three_sizes (PageOf (page Kib4 0x40000) (Some 1)) ≡ second_of_three ∷ []
 
   -- the TLB of the entry alone after n fills more, of the pages of 4 KiB 2 to n + 1
   abbrev pub fills_later : ℕ → List Entry
@@ -291,21 +313,34 @@ module _ (ppn : ℕ) (flags : PteFlags) where
 
   -- the tag of an address is the number of its page there, of which 32 bits count
   abbrev pub tags : Type 0
-  tags = (tag_of 0x8080403FFF Kib4 ≡ 0x8080403) × (tag_of 0x8080403FFF Gib512 ≡ 1) × (tag_of 0xFFFFFFFFFFFFFFFF Kib4 ≡ 0xFFFFFFFF)
+  tags =
+      (tag_of 0x8080403FFF Kib4 ≡ 0x8080403) × (tag_of 0x8080403FFF Gib512 ≡ 1)
+      × (tag_of 0xFFFFFFFFFFFFFFFF Kib4 ≡ 0xFFFFFFFF)
 
   -- what a walk found on a leaf of 2 MiB, and under a global mapping or not
   abbrev pub found : Bool → Found
-  found global = record { pa = 0; page = page Mib2 0x400000; ppn = ppn; flags = flags; global = global }
+  found global =
+      record { pa = 0; page = page Mib2 0x400000; ppn = ppn; flags = flags; global = global }
 
   abbrev pub found_is_of_the_space : Type 0
   found_is_of_the_space = first_match (entry_of 1 (found false) ∷ []) 2 0x5FFFFF ≡ None
 
   abbrev pub found_global_is_of_every_space : Type 0
-  found_global_is_of_every_space = first_match (entry_of 1 (found true) ∷ []) 2 0x5FFFFF ≡ Some (entry 1 true (page Mib2 0x400000))
+  found_global_is_of_every_space =
+      first_match (entry_of 1 (found true) ∷ []) 2 0x5FFFFF
+      ≡ Some (entry 1 true (page Mib2 0x400000))
 
--- what a leaf of U-mode with A and no D answers: of its PPN 44 bits count, and the place is that in its own page
+-- what a leaf of U-mode with A and no D answers: of its PPN 44 bits count, and the place is that in
+-- its own page
 abbrev pub clean : PageSize → ℕ → Entry
-clean size ppn = record { asid = 1; global = false; page = record { base = 0x40000000; size = size }; ppn = ppn; flags = record { 0 = 0x56 } }
+clean size ppn =
+    record {
+      asid = 1;
+      global = false;
+      page = record { base = 0x40000000; size = size };
+      ppn = ppn;
+      flags = record { 0 = 0x56 };
+    }
 
 abbrev pub user : Ctx
 user = record { mode = User; sum = false; mxr = false }
@@ -320,13 +355,26 @@ abbrev pub huge_page_answers : Type 0
 huge_page_answers = answer_of (clean Gib1 0x40000) 0x7FFFFFFF Load user ≡ Ok 0x7FFFFFFF
 
 abbrev pub widest_page_answers : Type 0
-widest_page_answers = answer_of (record { asid = 1; global = false; page = record { base = 0x8000000000; size = Gib512 }; ppn = 0x10000000; flags = record { 0 = 0x56 } }) 0x8080403ABC Load user ≡ Ok 0x10080403ABC
+widest_page_answers =
+    answer_of
+    (record {
+      asid = 1;
+      global = false;
+      page = record { base = 0x8000000000; size = Gib512 };
+      ppn = 0x10000000;
+      flags = record { 0 = 0x56 };
+    })
+    0x8080403ABC Load user
+    ≡ Ok 0x10080403ABC
 
 abbrev pub bits_of_the_ppn : Type 0
 bits_of_the_ppn = answer_of (clean Kib4 0x180000012345) 0x40000ABC Load user ≡ Ok 0x80000012345ABC
 
 abbrev pub clean_page_is_not_stored_to : Type 0
-clean_page_is_not_stored_to = answer_of (clean Kib4 0x12345) 0x40000ABC Store user ≡ Err (record { cause = 15; why = NotDirty })
+clean_page_is_not_stored_to =
+    answer_of (clean Kib4 0x12345) 0x40000ABC Store user
+    ≡ Err (record { cause = 15; why = NotDirty })
 
 abbrev pub clean_page_is_not_executed : Type 0
-clean_page_is_not_executed = answer_of (clean Kib4 0x12345) 0x40000ABC Fetch user ≡ Err (record { cause = 12; why = Denied })
+clean_page_is_not_executed =
+    answer_of (clean Kib4 0x12345) 0x40000ABC Fetch user ≡ Err (record { cause = 12; why = Denied })

@@ -1,28 +1,32 @@
 //! The entries of a TLB in banks, one for each size of page, each entry with an age.
 
-ghost use Rattle.std.specs.Prelude.{ℕ, Bool, ◌≡◌, ◌+◌, ◌<◌, ◌≤◌, ◌++◌, [], ◌∷◌, filter, length, map, not, slice_get, slice_index, true};
+ghost use Rattle.std.specs.Prelude.{ℕ, Bool, ◌≡◌, ◌+◌, ◌<◌, ◌≤◌, ◌++◌, [], ◌∷◌, filter, length};
+ghost use Rattle.std.specs.Prelude.{map, not, slice_get, slice_index, true};
 ghost use Rattle.std.specs.Fn.{FnReturnsAt};
-ghost use Rattle.pte.specs.Address.{IsPage, level_of};
+ghost use Rattle.pte.specs.Address.{holds, IsPage, level_of, overlaps};
 ghost use Rattle.pte.specs.declared.address.PageSize.{PageSize};
 ghost use Rattle.tlb.specs.declared.store.Entry.{Entry};
 ghost use Rattle.tlb.specs.Banks.{HasAll, InUse, IsBanks, bank_of, entries_of, tag_of};
-ghost use Rattle.tlb.specs.Entries.{filled, first_match, holds, is_match};
-ghost use Rattle.tlb.specs.Service.{overlaps};
+ghost use Rattle.tlb.specs.Entries.{filled, first_match, is_match};
 ghost use Rattle.tlb.specs.Slots.{IsIn, closed_up};
 
 use crate::slots::{
     SlotSet, close_up, lowest_slot, slot_of, slots_with_tag, with_slot, without_slot,
 };
 use crate::store::{Entry, TLB_SIZE};
-use pte::{Page, PageSize, VirtAddr};
+use pte::{LEVEL_BITS, OFFSET_BITS, Page, PageSize, SV48_LEVELS, VirtAddr};
 
-/// At most 16 entries, in 16 slots that the banks share. Each slot has an age, each number below 16 once. The slots in use are
-/// those with an age below the count, so the ages of the entries are the numbers below the count, and the oldest has 0. A slot in
-/// use is in the bank of its entry's size and in no other.
+/// How many sizes of pages there are: one for each level of the widest scheme.
+const SIZES: usize = SV48_LEVELS as usize;
+
+/// At most 16 entries, in 16 slots that the banks share. Each slot has an age, each number below 16
+/// once. The slots in use are those with an age below the count, so the ages of the entries are the
+/// numbers below the count, and the oldest has 0. A slot in use is in the bank of its entry's size
+/// and in no other.
 #[derive(Drop)]
 pub(crate) struct Banks {
     // For each level the bank of that size: the slots in use that hold an entry of such a page.
-    banks: [SlotSet; 4],
+    banks: [SlotSet; SIZES],
     // Of each slot, the tag of its page in its bank.
     tags: [u32; TLB_SIZE],
     ages: [u8; TLB_SIZE],
@@ -36,7 +40,7 @@ pub(crate) struct Banks {
 fn tag_of(va: VirtAddr, size: PageSize) -> u32
     ensures { result ≡ tag_of va size }
 {
-    ((va.get() >> (12 + 9 * u32::from(size.level()))) % (1 << 32)) as u32
+    ((va.get() >> (OFFSET_BITS + LEVEL_BITS * u32::from(size.level()))) % (1 << 32)) as u32
 }
 
 // The page has the address, and the entry is global or of the ASID.
@@ -53,7 +57,7 @@ impl Banks {
         ensures empty { entries_of result ≡ [] }
     {
         Banks {
-            banks: [0; 4],
+            banks: [0; SIZES],
             tags: [0; TLB_SIZE],
             ages: [0, 1, 2, 3, 4, 5, 6, 7, 8, 9, 10, 11, 12, 13, 14, 15],
             held: [Entry::default(); TLB_SIZE],
@@ -63,7 +67,8 @@ impl Banks {
 
     // The slots of the bank of a size that have the tag of the address.
     fn in_bank(&self, size: PageSize, va: VirtAddr) -> SlotSet
-        ensures { (slot : ℕ) → slot < 16 → IsIn (bank_of self.now size) slot → slice_index self.now.tags slot ≡ tag_of va size → IsIn result slot }
+        ensures { (slot : ℕ) → slot < TLB_SIZE → IsIn (bank_of self.now size) slot
+            → slice_index self.now.tags slot ≡ tag_of va size → IsIn result slot }
     {
         let bank = self.banks[usize::from(size.level())];
         if bank == 0 {
@@ -72,10 +77,12 @@ impl Banks {
         bank & slots_with_tag(&self.tags, tag_of(va, size))
     }
 
-    // The slots of all banks that have the tag of the address there: each one that has a match is among them.
+    // The slots of all banks that have the tag of the address there: each one that has a match is
+    // among them.
     #[inline(always)]
     fn candidates(&self, va: VirtAddr) -> SlotSet
-        ensures { (slot : ℕ) (size : PageSize) → slot < 16 → IsIn (bank_of self.now size) slot → slice_index self.now.tags slot ≡ tag_of va size → IsIn result slot }
+        ensures { (slot : ℕ) (size : PageSize) → slot < TLB_SIZE → IsIn (bank_of self.now size) slot
+            → slice_index self.now.tags slot ≡ tag_of va size → IsIn result slot }
     {
         self.in_bank(PageSize::Kib4, va)
             | self.in_bank(PageSize::Mib2, va)
@@ -83,11 +90,13 @@ impl Banks {
             | self.in_bank(PageSize::Gib512, va)
     }
 
-    // The slots of the bank of a size that can have a page that overlaps this one: of a smaller size all, else those that have
-    // the tag of its base.
+    // The slots of the bank of a size that can have a page that overlaps this one: of a smaller
+    // size all, else those that have the tag of its base.
     fn in_bank_of(&self, size: PageSize, page: &Page) -> SlotSet
         requires { IsPage page.now }
-        ensures { (slot : ℕ) → slot < 16 → IsIn (bank_of self.now size) slot → (level_of page.now.size ≤ level_of size → slice_index self.now.tags slot ≡ tag_of page.now.base size) → IsIn result slot }
+        ensures { (slot : ℕ) → slot < TLB_SIZE → IsIn (bank_of self.now size) slot
+            → (level_of page.now.size ≤ level_of size
+            → slice_index self.now.tags slot ≡ tag_of page.now.base size) → IsIn result slot }
     {
         if size.level() < page.size().level() {
             self.banks[usize::from(size.level())]
@@ -124,8 +133,8 @@ impl Banks {
         self.banks[0] | self.banks[1] | self.banks[2] | self.banks[3]
     }
 
-    /// The entry that matches and has the least age. Only what has the address's tag in its bank is looked at whole: no other
-    /// slot can match.
+    /// The entry that matches and has the least age. Only what has the address's tag in its bank is
+    /// looked at whole: no other slot can match.
     #[inline(always)]
     pub(crate) fn oldest_match(&self, asid: u16, va: VirtAddr) -> Option<Entry>
         requires { IsBanks self.now }
@@ -172,7 +181,7 @@ impl Banks {
     // Takes out the entry of a slot, and lowers the ages above its age.
     fn drop_slot(&mut self, slot: usize)
         requires kept { IsBanks self.old }
-        requires within { slot < 16 }
+        requires within { slot < TLB_SIZE }
         requires in_use { InUse self.old slot }
         ensures kept { IsBanks self.new }
         ensures held { self.new.held ≡ self.old.held }
@@ -189,7 +198,7 @@ impl Banks {
     // Adds an entry where there is room.
     fn add_youngest(&mut self, entry: Entry)
         requires kept { IsBanks self.old }
-        requires room { self.old.count < 16 }
+        requires room { self.old.count < TLB_SIZE }
         requires page { IsPage entry.page }
         ensures kept { IsBanks self.new }
         ensures entries { entries_of self.new ≡ entries_of self.old ++ entry ∷ [] }
@@ -221,7 +230,10 @@ impl Banks {
         requires kept { IsBanks self.old }
         requires callable { F.IsAlwaysCallable goes }
         ensures kept { IsBanks self.new }
-        ensures entries { (test : Entry → Bool) → ((e : Entry) (r : Bool) → FnReturnsAt F.Fn goes e r → r ≡ test e) → HasAll self.old test slots → entries_of self.new ≡ filter (λ e. not (test e)) (entries_of self.old) }
+        ensures entries { (test : Entry → Bool)
+            → ((e : Entry) (r : Bool) → FnReturnsAt F.Fn goes e r → r ≡ test e)
+            → HasAll self.old test slots
+            → entries_of self.new ≡ filter (λ e. not (test e)) (entries_of self.old) }
     {
         let mut left = slots;
         while left != 0 {
@@ -239,7 +251,7 @@ impl Banks {
         ensures kept { IsBanks self.new }
         ensures empty { entries_of self.new ≡ [] }
     {
-        self.banks = [0; 4];
+        self.banks = [0; SIZES];
         self.count = 0;
     }
 }

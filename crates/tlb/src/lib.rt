@@ -10,7 +10,7 @@ mod worked_rows;
 pub use laws::{
     each_entry_is_kept_or_dropped, fill_drops_at_most_the_oldest, found_entry_is_mapped,
     look_up_translates, mapped_entry_answers_as_a_walk, mappings_come_by_fills,
-    served_page_is_not_mapped, service_is_its_fences, tests_are_facts, unmapped_page_is_not_found,
+    served_page_is_not_mapped, service_is_its_fences, unmapped_page_is_not_found,
     unmapped_page_is_not_translated, what_goes_is_gone,
 };
 pub use store::{Entry, TLB_SIZE, Tlb};

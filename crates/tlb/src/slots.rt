@@ -12,7 +12,7 @@ pub(crate) type SlotSet = u16;
 
 /// The slots that have a tag.
 pub(crate) fn slots_with_tag(tags: &[u32; TLB_SIZE], tag: u32) -> SlotSet
-    ensures { (slot : ℕ) → slot < 16 → slice_index tags.now slot ≡ tag → IsIn result slot }
+    ensures { (slot : ℕ) → slot < TLB_SIZE → slice_index tags.now slot ≡ tag → IsIn result slot }
 {
     let same = u32x16::from_array(*tags).simd_eq(u32x16::splat(tag));
     same.to_bitmask() as u16
@@ -20,19 +20,20 @@ pub(crate) fn slots_with_tag(tags: &[u32; TLB_SIZE], tag: u32) -> SlotSet
 
 /// The slot of an age that some slot has.
 pub(crate) fn slot_of(ages: &[u8; TLB_SIZE], age: u8) -> usize
-    requires { slot_of ages.now age < 16 }
+    requires { slot_of ages.now age < TLB_SIZE }
     ensures { result ≡ slot_of ages.now age }
 {
     let same = u8x16::from_array(*ages).simd_eq(u8x16::splat(age));
     same.to_bitmask().trailing_zeros() as usize
 }
 
-// What becomes of an age where one is dropped: those above it come one down, and the dropped one goes to the end.
+// What becomes of an age where one is dropped: those above it come one down, and the dropped one
+// goes to the end.
 fn closed_up(dropped: u8, age: u8) -> u8
     ensures { result ≡ closed_up dropped age }
 {
     if age == dropped {
-        15
+        TLB_SIZE as u8 - 1
     } else if age > dropped {
         age - 1
     } else {
@@ -40,7 +41,8 @@ fn closed_up(dropped: u8, age: u8) -> u8
     }
 }
 
-/// Closes the gap that an age leaves: each age above it comes one down, and its slot has the last age from now on.
+/// Closes the gap that an age leaves: each age above it comes one down, and its slot has the last
+/// age from now on.
 pub(crate) fn close_up(ages: &mut [u8; TLB_SIZE], dropped: u8)
     ensures { ages.new ≡ map (closed_up dropped) ages.old }
 {
@@ -52,7 +54,7 @@ pub(crate) fn close_up(ages: &mut [u8; TLB_SIZE], dropped: u8)
 /// The lowest slot of a set.
 pub(crate) fn lowest_slot(set: SlotSet) -> usize
     requires { 0 < set }
-    ensures within { result < 16 }
+    ensures within { result < TLB_SIZE }
     ensures there { IsIn set result }
 {
     set.trailing_zeros() as usize
@@ -60,7 +62,7 @@ pub(crate) fn lowest_slot(set: SlotSet) -> usize
 
 /// A set and one slot more.
 pub(crate) fn with_slot(set: SlotSet, slot: usize) -> SlotSet
-    requires { slot < 16 }
+    requires { slot < TLB_SIZE }
     ensures there { IsIn result slot }
     ensures others { (k : ℕ) → k ≢ slot → bit_at result k ≡ bit_at set k }
 {
@@ -69,10 +71,10 @@ pub(crate) fn with_slot(set: SlotSet, slot: usize) -> SlotSet
 
 /// A set without a slot.
 pub(crate) fn without_slot(set: SlotSet, slot: usize) -> SlotSet
-    requires { slot < 16 }
+    requires { slot < TLB_SIZE }
     ensures less { IsIn set slot → result < set }
     ensures gone { bit_at result slot ≡ 0 }
-    ensures others { (k : ℕ) → k < 16 → k ≢ slot → bit_at result k ≡ bit_at set k }
+    ensures others { (k : ℕ) → k < TLB_SIZE → k ≢ slot → bit_at result k ≡ bit_at set k }
 {
     set & !(1 << slot)
 }

@@ -9,18 +9,18 @@ ghost use Rattle.tlb.specs.Answer.{answer_of, entry_of};
 ghost use Rattle.tlb.specs.Entries.{IsTlb, filled, first_match};
 ghost use Rattle.tlb.specs.Fence.{fenced, is_fenced, is_of_space};
 ghost use Rattle.tlb.specs.Mappings.{IsMappedBy, Translates};
-ghost use Rattle.tlb.specs.Service.{is_served, overlaps, served, Served};
+ghost use Rattle.tlb.specs.Service.{is_served, served, Served};
 
 use crate::banks::Banks;
-use pte::{Access, Ctx, PAGE_BYTES, PPN_BITS, Page, PteFlags, Scheme, VirtAddr, What, page_cause};
+use pte::{ASID_BITS, Access, Ctx, PAGE_BYTES, PPN_BITS, Page, PteFlags, Scheme, VirtAddr, What};
 use std::marker::Model;
 use walk::{Found, Trap, flags_fault};
 
 /// How many entries a TLB holds.
 pub const TLB_SIZE: usize = 16;
 
-/// How many ASIDs there are: an ASID has 16 bits.
-const ASIDS: u64 = 1 << 16;
+/// How many ASIDs there are.
+const ASIDS: u64 = 1 << ASID_BITS;
 
 /// A successful leaf translation, as a walk found it in the address space of an ASID.
 #[derive(Clone, Copy, PartialEq, Eq, Debug, Default)]
@@ -51,25 +51,24 @@ impl Entry {
         }
     }
 
-    /// What the entry answers to an access of an address of its page, without the tables (privileged manual 4.3.2, steps 5 to
-    /// 8): the physical address, or a page fault with the first of `Denied`, `NotAccessed` and `NotDirty` that applies. Of the
-    /// PPN the low 44 bits count.
+    /// What the entry answers to an access of an address of its page, without the tables
+    /// (privileged manual 4.3.2, steps 5 to 8): the physical address, or a page fault with the
+    /// first of `Denied`, `NotAccessed` and `NotDirty` that applies. Of the PPN the low 44 bits
+    /// count.
     pub fn translate(&self, va: VirtAddr, access: Access, ctx: Ctx) -> Result<u64, Trap>
         ensures { result ≡ answer_of self.now va access ctx }
     {
         if let Some(why) = flags_fault(self.flags, access, ctx) {
-            return Err(Trap {
-                cause: page_cause(access),
-                why,
-            });
+            return Err(Trap::page(access, why));
         }
         Ok(self.ppn % (1 << PPN_BITS) * PAGE_BYTES + va.get() % self.page.size().bytes())
     }
 }
 
-/// The TLB of one hart: at most `TLB_SIZE` entries, each with its age, in a bank for each size of page, and the scheme that tells
-/// which addresses its fences count. In contracts it is the list of its entries by age, the oldest first. Nothing but `fence`,
-/// `serve` and the fill of a full TLB takes an entry out, whatever becomes of the page tables meanwhile.
+/// The TLB of one hart: at most `TLB_SIZE` entries, each with its age, in a bank for each size of
+/// page, and the scheme that tells which addresses its fences count. In contracts it is the list of
+/// its entries by age, the oldest first. Nothing but `fence`, `serve` and the fill of a full TLB
+/// takes an entry out, whatever becomes of the page tables meanwhile.
 #[derive(Drop)]
 pub struct Tlb {
     scheme: Scheme,
@@ -112,18 +111,11 @@ fn is_fenced(scheme: Scheme, entry: &Entry, rs1: Option<u64>, rs2: Option<u64>) 
     by_address && by_space
 }
 
-// Some address lies in both pages.
-fn overlaps(page: &Page, other: &Page) -> bool
-    ensures { result ≡ overlaps page.now other.now }
-{
-    page.overlaps(other)
-}
-
 // The service of a page takes the entry out.
 fn is_served(entry: &Entry, page: &Page, asid: Option<u16>) -> bool
     ensures { result ≡ is_served (What.PageOf page.now asid) entry.now }
 {
-    overlaps(page, &entry.page)
+    page.overlaps(&entry.page)
         && match asid {
             None => true,
             Some(asid) => is_of_space(entry, u64::from(asid)),
@@ -134,7 +126,8 @@ fn is_served(entry: &Entry, page: &Page, asid: Option<u16>) -> bool
 fn drop_of_space(banks: &mut Banks, rs2: Option<u64>)
     requires { IsBanks banks.old }
     ensures kept { IsBanks banks.new }
-    ensures entries { (scheme : SchemeOf) → entries_of banks.new ≡ fenced scheme (entries_of banks.old) None rs2 }
+    ensures entries { (scheme : SchemeOf)
+        → entries_of banks.new ≡ fenced scheme (entries_of banks.old) None rs2 }
 {
     match rs2 {
         None => banks.clear(),
@@ -196,8 +189,8 @@ impl Tlb {
         }
     }
 
-    /// The oldest entry whose page has the address and that is global or of the ASID. There is one exactly if the mappings
-    /// of the entries translate the address for that ASID.
+    /// The oldest entry whose page has the address and that is global or of the ASID. There is one
+    /// exactly if the mappings of the entries translate the address for that ASID.
     #[inline(always)]
     pub fn lookup(&self, asid: u16, va: VirtAddr) -> Option<Entry>
         ensures oldest { result ≡ first_match self.now.entries asid va }
@@ -221,36 +214,40 @@ impl Tlb {
         self.banks.len() == 0
     }
 
-    /// The entry of an age: `entry(0)` is the oldest, `entry(len - 1)` the youngest, and from `len` on there is none.
+    /// The entry of an age: `entry(0)` is the oldest, `entry(len - 1)` the youngest, and from `len`
+    /// on there is none.
     pub fn entry(&self, age: usize) -> Option<Entry>
         ensures { result ≡ slice_get self.now.entries age }
     {
         self.banks.entry(age)
     }
 
-    /// Adds an entry as the youngest. A full TLB drops its oldest entry; no other goes, not even one of the
-    /// same page.
+    /// Adds an entry as the youngest. A full TLB drops its oldest entry; no other goes, not even
+    /// one of the same page.
     pub fn fill(&mut self, entry: Entry)
         ensures { self.new ≡ record self.old { entries = filled self.old.entries entry } }
     {
-        // A page tells here that it is aligned and canonical, which the TLB keeps of each entry.
-        let _base = entry.page.base();
+        entry.page.invariant();
         self.banks.add(entry);
     }
 
-    /// SFENCE.VMA with the registers rs1, for an address, and rs2, for an ASID, each `None` for x0 (privileged manual 4.2.1).
-    /// Of rs2 the low 16 bits count. Where rs1 is not canonical in the TLB's scheme nothing is dropped.
+    /// SFENCE.VMA with the registers rs1, for an address, and rs2, for an ASID, each `None` for x0
+    /// (privileged manual 4.2.1). Of rs2 the low 16 bits count. Where rs1 is not canonical in the
+    /// TLB's scheme nothing is dropped.
     pub fn fence(&mut self, rs1: Option<u64>, rs2: Option<u64>)
-        ensures { self.new ≡ record self.old { entries = fenced self.old.scheme self.old.entries rs1 rs2 } }
+        ensures { self.new
+            ≡ record self.old { entries = fenced self.old.scheme self.old.entries rs1 rs2 } }
     {
         drop_fenced(self.scheme, &mut self.banks, rs1, rs2);
     }
 
-    /// Serves a request: drops each entry whose page overlaps the request's and that is of its ASID, or all of its space, or all.
-    /// Where the page is one of the TLB's scheme, these are the entries that a fence for some address of the page would drop.
+    /// Serves a request: drops each entry whose page overlaps the request's and that is of its
+    /// ASID, or all of its space, or all. Where the page is one of the TLB's scheme, these are the
+    /// entries that a fence for some address of the page would drop.
     pub fn serve(&mut self, what: &What)
         ensures list { self.new ≡ record self.old { entries = served self.old.entries what.now } }
-        ensures meaning { IsRequest self.old.scheme what.now → Served self.old.scheme self.old.entries what.now self.new.entries }
+        ensures meaning { IsRequest self.old.scheme what.now
+            → Served self.old.scheme self.old.entries what.now self.new.entries }
     {
         match what {
             What::PageOf(page, asid) => self.serve_page(page, *asid),
@@ -261,11 +258,12 @@ impl Tlb {
 
     // The service of a page: one test an entry, in place of a fence for each address.
     fn serve_page(&mut self, page: &Page, asid: Option<u16>)
-        ensures list { self.new ≡ record self.old { entries = served self.old.entries (What.PageOf page.now asid) } }
-        ensures meaning { IsRequest self.old.scheme (What.PageOf page.now asid) → Served self.old.scheme self.old.entries (What.PageOf page.now asid) self.new.entries }
+        ensures list { self.new
+            ≡ record self.old { entries = served self.old.entries (What.PageOf page.now asid) } }
+        ensures meaning { IsRequest self.old.scheme (What.PageOf page.now asid)
+            → Served self.old.scheme self.old.entries (What.PageOf page.now asid) self.new.entries }
     {
-        // A page tells here that it is aligned, which its tags rest on.
-        let _base = page.base();
+        page.invariant();
         drop_served(&mut self.banks, page, asid);
     }
 }
