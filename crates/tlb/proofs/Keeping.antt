@@ -5,12 +5,14 @@ use Rattle.std.specs.List.{AllPass}
 use Rattle.std.proofs.lemmas.List.Elements.{All-nil, All-push, All-drop, All-filter, All-contains, All-contains_itself, filter_passes, Contains-push_cases}
 use Rattle.std.proofs.lemmas.List.Sums.{length-filter, count_by-le-length}
 use Rattle.pte.specs.declared.scheme.Scheme.{Scheme}
-use Rattle.pte.specs.Address.{IsPage, is_canonical}
+use Rattle.pte.specs.Address.{IsPage, holds, is_canonical}
+use Rattle.std.specs.Prelude.{◌&&◌}
+use Rattle.std.proofs.lemmas.Bool.{and_parts}
 use Rattle.pte.specs.declared.address.What.{What}
 use Rattle.tlb.specs.declared.store.Entry.{Entry}
 use Rattle.tlb.specs.Entries.{filled, IsTlb}
 use Rattle.tlb.specs.declared.store.TheConstants.{TLB_SIZE}
-use Rattle.tlb.specs.Fence.{fenced, is_fenced}
+use Rattle.tlb.specs.Fence.{fenced, is_fenced, is_of_space}
 use Rattle.tlb.specs.Service.{is_served, served}
 
 length-filter-le : (p : Entry → Bool) (entries : List Entry) → length (filter p entries) ≤ length entries
@@ -77,5 +79,13 @@ pub fenced_none : (scheme : Scheme) (entries : List Entry) (rs1 : ℕ) (rs2 : Op
 fenced_none scheme [] rs1 rs2 off = refl
 fenced_none scheme (e ∷ entries) rs1 None off = rw off (ap (λ (es : List Entry). e ∷ es) (fenced_none scheme entries rs1 None off))
 fenced_none scheme (e ∷ entries) rs1 (Some asid) off = rw off (ap (λ (es : List Entry). e ∷ es) (fenced_none scheme entries rs1 (Some asid) off))
+
+-- what a fence for an address takes out holds the address
+pub fenced_holds : (scheme : Scheme) (va : ℕ) (rs2 : Option ℕ) (e : Entry)
+    → is_fenced scheme (Some va) rs2 e ≡ true → holds e.page va ≡ true
+fenced_holds scheme va None e goes = (and_parts (is_canonical scheme va) (holds e.page va) goes).1
+fenced_holds scheme va (Some rs2) e goes =
+    let both = and_parts (is_canonical scheme va && holds e.page va) (is_of_space rs2 e) goes in
+    (and_parts (is_canonical scheme va) (holds e.page va) both.0).1
 
 pub ruleset fills = (filled_with_room, filled_when_full)

@@ -185,7 +185,8 @@ impl Banks {
         requires in_use { InUse self.old slot }
         ensures kept { IsBanks self.new }
         ensures held { self.new.held ≡ self.old.held }
-        ensures ages { self.new.ages ≡ map (closed_up (slice_index self.old.ages slot)) self.old.ages }
+        ensures ages { self.new.ages
+            ≡ map (closed_up (slice_index self.old.ages slot)) self.old.ages }
         ensures count { self.new.count + 1 ≡ self.old.count }
     {
         let age = self.ages[slot];

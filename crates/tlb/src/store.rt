@@ -1,7 +1,8 @@
 //! The TLB of one hart: look-ups, fills, fences and services.
 
-ghost use Rattle.std.specs.Prelude.{◌≡◌, ◌↔◌, [], IsSome, IsTrue, None, length, slice_get};
-ghost use Rattle.pte.specs.Address.{IsPage};
+ghost use Rattle.std.specs.Prelude.{◌≡◌, ◌↔◌, [], IsSome, IsTrue, None, Some, length, slice_get};
+ghost use Rattle.std.specs.Prelude.{true};
+ghost use Rattle.pte.specs.Address.{IsPage, is_canonical};
 ghost use Rattle.tlb.specs.Banks.{IsBanks, entries_of};
 ghost use Rattle.pte.specs.declared.scheme.Scheme.{Scheme as SchemeOf};
 ghost use Rattle.pte.specs.declared.scheme.Scheme.TheVariants.{Sv39};
@@ -93,22 +94,16 @@ fn is_of_space(entry: &Entry, rs2: u64) -> bool
     !entry.global && u64::from(entry.asid) == rs2 % ASIDS
 }
 
-// The fence takes the entry out.
-fn is_fenced(scheme: Scheme, entry: &Entry, rs1: Option<u64>, rs2: Option<u64>) -> bool
-    ensures { result ≡ is_fenced scheme rs1 rs2 entry.now }
+// The fence for an address, if that is canonical in the scheme, takes the entry out.
+fn is_fenced(entry: &Entry, va: VirtAddr, rs2: Option<u64>) -> bool
+    ensures { (scheme : SchemeOf) → is_canonical scheme va ≡ true
+        → result ≡ is_fenced scheme (Some va) rs2 entry.now }
 {
-    let by_address = match rs1 {
-        None => true,
-        Some(va) => match VirtAddr::new_in(scheme, va) {
-            None => return false,
-            Some(va) => entry.page.contains(va),
-        },
-    };
     let by_space = match rs2 {
         None => true,
         Some(rs2) => is_of_space(entry, rs2),
     };
-    by_address && by_space
+    entry.page.contains(va) && by_space
 }
 
 // The service of a page takes the entry out.
@@ -148,7 +143,7 @@ fn drop_fenced(scheme: Scheme, banks: &mut Banks, rs1: Option<u64>, rs2: Option<
     let Some(va) = VirtAddr::new_in(scheme, va) else {
         return;
     };
-    banks.drop_among(banks.near_address(va), |e| is_fenced(scheme, e, rs1, rs2));
+    banks.drop_among(banks.near_address(va), |e| is_fenced(e, va, rs2));
 }
 
 // Leaves what the service of a page does not take out.
@@ -156,7 +151,8 @@ fn drop_served(banks: &mut Banks, page: &Page, asid: Option<u16>)
     requires kept { IsBanks banks.old }
     requires page { IsPage page.now }
     ensures kept { IsBanks banks.new }
-    ensures entries { entries_of banks.new ≡ served (entries_of banks.old) (What.PageOf page.now asid) }
+    ensures entries { entries_of banks.new
+        ≡ served (entries_of banks.old) (What.PageOf page.now asid) }
 {
     banks.drop_among(banks.near_page(page), |e| is_served(e, page, asid));
 }
