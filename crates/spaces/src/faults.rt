@@ -1,13 +1,16 @@
 //! Why memory is not opened, and why a page is not mapped, unmapped or protected.
 
 use std::alloc::AllocError;
+use thiserror::Error;
 
 /// Why no memory is opened.
-#[derive(Clone, Copy, PartialEq, Eq, Debug)]
+#[derive(Clone, Copy, PartialEq, Eq, Debug, Error)]
 pub enum OpenFault {
     /// There was no memory for what is opened.
+    #[error("out of memory")]
     NoMemory,
     /// `Config::check` says no.
+    #[error("the configuration is not within the limits")]
     BadLayout,
 }
 
@@ -23,29 +26,40 @@ impl From<AllocError> for OpenFault {
 }
 
 /// Why an edit is refused, in the order in which the tests are made: first what the call says, then what the tables hold.
-#[derive(Clone, Copy, PartialEq, Eq, Debug)]
+#[derive(Clone, Copy, PartialEq, Eq, Debug, Error)]
 pub enum MapFault {
     /// The hart is not the home of the place.
+    #[error("the hart is not the home of these tables")]
     NotHome,
     /// A page that is none of the scheme (`Page::fits`), a page of a space outside the user's half of the root, or a page of the
     /// kernel outside the window.
+    #[error("the page lies outside the part of the root that its place has")]
     WrongHalf,
     /// Flags that no leaf has, G for a space, or no G for the kernel.
+    #[error("no leaf of this place has these flags")]
     BadFlags,
     /// The PPN has more than 44 bits.
+    #[error("the PPN is 2^44 or more")]
     PpnTooLarge,
     /// The PPN is no multiple of the page's size in pages.
+    #[error("the PPN is no multiple of the page's size")]
     Misaligned,
     /// Map: a leaf above the page's level.
+    #[error("a larger page is mapped there")]
     LeafInWay,
     /// Map: a table is missing, and no spare frame of the home is unused.
+    #[error("no spare frame of the home is left")]
     NoFrame,
     /// Map: a leaf at the page's level.
+    #[error("the page is already mapped")]
     AlreadyMapped,
     /// Map: a table at the page's level.
+    #[error("a table of smaller pages is there")]
     TableInWay,
     /// Unmap and protect: an empty word on the path.
+    #[error("the page is not mapped")]
     NotMapped,
     /// Unmap and protect: a leaf above the page's level, or a table at it.
+    #[error("a page of another size is mapped there")]
     WrongSize,
 }
