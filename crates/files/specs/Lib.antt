@@ -1,4 +1,3 @@
-pub mod Limits
 pub mod Memory
 pub mod StepTexts
 pub mod RunFile

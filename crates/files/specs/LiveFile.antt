@@ -17,8 +17,8 @@ use Rattle.files.specs.declared.plan.LiveScenario.{LiveScenario}
 use Rattle.files.specs.RunFile.{in_scheme}
 use Rattle.files.specs.StepTexts.{few_of, scripts_in, setup_steps_in}
 
--- what the harts begin with, the steps that are made before they run, each with its hart, the script of each hart from 0,
--- and the most turns of a wait
+-- what the harts begin with, the steps that are made before they run, each with its hart, the
+-- script of each hart from 0, and the most turns of a wait
 pub record LivePlan : Type 0 where
   pub config : Config
   pub setup : List (ℕ × LiveStep)
@@ -29,11 +29,18 @@ abbrev pub scripts_view : Vec (Vec LiveStep Global) Global → List (List LiveSt
 scripts_view v = map (λ steps. steps.items) v.items
 
 abbrev pub live_view : LiveScenario → LivePlan
-live_view s = record { config = s.config; setup = s.setup.items; scripts = scripts_view s.scripts; turns = s.turns }
+live_view s =
+    record {
+      config = s.config;
+      setup = s.setup.items;
+      scripts = scripts_view s.scripts;
+      turns = s.turns;
+    }
 
 abbrev pub live_keys : List (List ℕ)
 live_keys =
-    codes "harts" ∷ codes "window" ∷ codes "base" ∷ codes "capacity" ∷ codes "spares" ∷ codes "spaces" ∷ codes "setup" ∷ codes "scripts"
+    codes "harts" ∷ codes "window" ∷ codes "base" ∷ codes "capacity" ∷ codes "spares"
+    ∷ codes "spaces" ∷ codes "setup" ∷ codes "scripts"
     ∷ codes "turns" ∷ codes "mode" ∷ []
 
 -- ---- the scripts and the turns
@@ -46,7 +53,8 @@ abbrev pub scripts_of : ℕ → Data → Option (List (List (List ℕ)))
 scripts_of harts d = option_and_then (λ ds. few_scripts harts (listed ds)) (as_array d)
 
 abbrev pub scripts_at : ℕ → Members → Result (List (List (List ℕ))) Failure
-scripts_at harts ms = value_or (codes "scripts") [] (scripts_of harts) (get_member (codes "scripts") ms)
+scripts_at harts ms =
+    value_or (codes "scripts") [] (scripts_of harts) (get_member (codes "scripts") ms)
 
 -- the texts that references point to
 abbrev pub script_views : Vec (Vec (Bor (List ℕ)) Global) Global → List (List (List ℕ))
@@ -81,7 +89,12 @@ live_plan_of ms = do
   _ ← few_of (step_count setup scripts)
   before ← setup_steps_in scheme config.harts setup
   each_hart ← scripts_in scheme config.harts 0 scripts
-  Ok (record { config = in_scheme scheme config; setup = before; scripts = each_hart; turns = turns })
+  Ok (record {
+    config = in_scheme scheme config;
+    setup = before;
+    scripts = each_hart;
+    turns = turns;
+  })
 
 unfoldable pub live_scenario_of : List ℕ → Result LivePlan Failure
 live_scenario_of text = ok_or (parse_document text) not_toml >>= live_plan_of

@@ -15,11 +15,13 @@ names word ppn index = (word.ppn == ppn) && (word.index == index)
 
 -- the word at an index of a frame: that of the last text that names it, else 0
 abbrev pub last_word : List TableWord → ℕ → ℕ → ℕ
-last_word words ppn index = fold (λ old word. if names word ppn index then word.word else old) 0 words
+last_word words ppn index =
+    fold (λ old word. if names word ppn index then word.word else old) 0 words
 
 -- the same where the PPN is a frame's and the index a table's; all else is outside memory
 abbrev pub word_in : (ℕ → Bool) → List TableWord → ℕ → ℕ → Option ℕ
-word_in is_frame words ppn index = if is_frame ppn && nat_lt index table_length then Some (last_word words ppn index) else None
+word_in is_frame words ppn index =
+    if is_frame ppn && nat_lt index table_length then Some (last_word words ppn index) else None
 
 -- ---- how the code keeps it
 
@@ -32,10 +34,14 @@ place_of frames ppn = position (nat_eq ppn) frames.ppns.items
 
 -- where a word stands among the words of all frames
 abbrev pub position_of : Frames → ℕ → ℕ → Option ℕ
-position_of frames ppn index = if nat_lt index table_length then option_map (λ place. table_length * place + index) (place_of frames ppn) else None
+position_of frames ppn index =
+    if nat_lt index table_length
+    then option_map (λ place. table_length * place + index) (place_of frames ppn) else None
 
 abbrev pub word_at : TableFrames → ℕ → ℕ → Option ℕ
-word_at tables ppn index = option_map (λ position. get_or tables.words.items position 0) (position_of tables.frames ppn index)
+word_at tables ppn index =
+    option_map (λ position. get_or tables.words.items position 0)
+    (position_of tables.frames ppn index)
 
 -- an old word, after this one was stored
 abbrev pub stored : TableWord → ℕ → ℕ → Option ℕ → Option ℕ

@@ -24,7 +24,8 @@ run_view s = record { config = s.config; events = s.events.items }
 
 abbrev pub run_keys : List (List ℕ)
 run_keys =
-    codes "harts" ∷ codes "window" ∷ codes "base" ∷ codes "capacity" ∷ codes "spares" ∷ codes "spaces" ∷ codes "steps" ∷ codes "mode" ∷ []
+    codes "harts" ∷ codes "window" ∷ codes "base" ∷ codes "capacity" ∷ codes "spares"
+    ∷ codes "spaces" ∷ codes "steps" ∷ codes "mode" ∷ []
 
 abbrev pub in_scheme : Scheme → Config → Config
 in_scheme scheme config = record config { scheme = scheme }

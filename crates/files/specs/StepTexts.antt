@@ -10,7 +10,7 @@ use Rattle.steps.specs.declared.step.WalkStep.{WalkStep}
 use Rattle.steps.specs.LiveSteps.{live_step_in, setup_step_in}
 use Rattle.steps.specs.RunStep.{step_among}
 use Rattle.steps.specs.Step.{walk_step_of}
-use Rattle.files.specs.Limits.{most_steps}
+use Rattle.files.specs.declared.limits.TheConstants.{MOST_STEPS}
 use Rattle.keys.specs.Faults.{Failure, too_many, wrong_script, wrong_step, ◌>>=◌}
 
 -- what is wrong with the step of this number, if something is
@@ -19,16 +19,18 @@ numbered n (Ok x) = Ok x
 numbered n (Err fault) = Err (wrong_step n fault)
 
 -- the step of each text, the first of which has this number, or the first fault
-abbrev pub steps_from : {X : Type 0} → (List ℕ → Result X StepFault) → ℕ → List (List ℕ) → Result (List X) Failure
+abbrev pub steps_from : {X : Type 0} → (List ℕ → Result X StepFault) → ℕ → List (List ℕ)
+    → Result (List X) Failure
 steps_from read n [] = Ok []
-steps_from read n (text ∷ texts) = numbered n (read text) >>= λ step. steps_from read (n + 1) texts >>= λ steps. Ok (step ∷ steps)
+steps_from read n (text ∷ texts) =
+    numbered n (read text) >>= λ step. steps_from read (n + 1) texts >>= λ steps. Ok (step ∷ steps)
 
 abbrev pub walk_step_in : List ℕ → Result WalkStep StepFault
 walk_step_in text = ok_or (walk_step_of text) NotStep
 
 -- no more steps than a file may have
 abbrev pub few_of : ℕ → Result (Unit {0}) Failure
-few_of n = if nat_le n most_steps then Ok tt else Err too_many
+few_of n = if nat_le n MOST_STEPS then Ok tt else Err too_many
 
 abbrev pub few : {X : Type 0} → List X → Result (Unit {0}) Failure
 few xs = few_of (length xs)
@@ -59,17 +61,20 @@ abbrev pub script_in : Scheme → ℕ → ℕ → List (List ℕ) → Result (Li
 script_in scheme harts hart texts = in_script hart (steps_from (live_step_in scheme harts) 1 texts)
 
 -- the scripts of the harts, the first of which has this number, or the first fault
-abbrev pub scripts_in : Scheme → ℕ → ℕ → List (List (List ℕ)) → Result (List (List LiveStep)) Failure
+abbrev pub scripts_in : Scheme → ℕ → ℕ → List (List (List ℕ))
+    → Result (List (List LiveStep)) Failure
 scripts_in scheme harts hart [] = Ok []
 scripts_in scheme harts hart (texts ∷ scripts) =
-    script_in scheme harts hart texts >>= λ steps. scripts_in scheme harts (hart + 1) scripts >>= λ rest. Ok (steps ∷ rest)
+    script_in scheme harts hart texts
+    >>= λ steps. scripts_in scheme harts (hart + 1) scripts >>= λ rest. Ok (steps ∷ rest)
 
 -- each of the texts is read as the step in its place
 abbrev pub AreRead : {X : Type 0} → (List ℕ → Result X StepFault) → List (List ℕ) → List X → Type 0
 AreRead read texts steps = map read texts ≡ map Ok steps
 
 -- the text of this number is wrong, for this fault, and none before it
-pub record IsFirstWrong {X : Type 0} (read : List ℕ → Result X StepFault) (texts : List (List ℕ)) (n : ℕ) (fault : StepFault) : Type 0 where
+pub record IsFirstWrong {X : Type 0} (read : List ℕ
+    → Result X StepFault) (texts : List (List ℕ)) (n : ℕ) (fault : StepFault) : Type 0 where
   pub before : List (List ℕ)
   pub text : List ℕ
   pub behind : List (List ℕ)

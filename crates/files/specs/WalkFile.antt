@@ -7,6 +7,7 @@ use Rattle.toml.specs.Parse.{parse_document}
 use Rattle.pte.specs.Address.{table_length}
 use Rattle.pte.specs.declared.scheme.Scheme.{Scheme}
 use Rattle.pte.specs.Entry.{ppn_bits}
+use Rattle.spaces.specs.Defaults.{default_config}
 use Rattle.walk.specs.Leads.{Tables}
 use Rattle.files.specs.declared.frames.TableWord.{TableWord}
 use Rattle.files.specs.declared.plan.WalkScenario.{WalkScenario}
@@ -15,7 +16,7 @@ use Rattle.steps.specs.Num.{num_of}
 use Rattle.steps.specs.Words.{words_of}
 use Rattle.keys.specs.Faults.{Failure, not_toml, wrong_key, ◌>>=◌}
 use Rattle.keys.specs.Keys.{below, each, known_only, one_number, texts_at, value_or}
-use Rattle.files.specs.Limits.{most_frames}
+use Rattle.files.specs.declared.limits.TheConstants.{MOST_FRAMES}
 use Rattle.files.specs.Memory.{is_listed, word_at, word_in}
 use Rattle.keys.specs.Settings.{mode_at}
 use Rattle.files.specs.StepTexts.{few, walk_steps_in}
@@ -28,7 +29,8 @@ pub record WalkPlan : Type 0 where
   pub steps : List WalkStep
 
 abbrev pub plan_view : WalkScenario → WalkPlan
-plan_view s = record { scheme = s.scheme; root = s.root; tables = word_at s.tables; steps = s.steps.items }
+plan_view s =
+    record { scheme = s.scheme; root = s.root; tables = word_at s.tables; steps = s.steps.items }
 
 abbrev pub walk_keys : List (List ℕ)
 walk_keys = codes "root" ∷ codes "frames" ∷ codes "words" ∷ codes "steps" ∷ codes "mode" ∷ []
@@ -43,24 +45,30 @@ abbrev pub root_of : Data → Option ℕ
 root_of d = option_and_then ppn_of (as_str d)
 
 abbrev pub root_at : Members → Result ℕ Failure
-root_at ms = value_or (codes "root") 0x80000 root_of (get_member (codes "root") ms)
+root_at ms = value_or (codes "root") default_config.base root_of (get_member (codes "root") ms)
 
 abbrev pub ppns_of : List (List ℕ) → Option (List ℕ)
-ppns_of texts = if nat_le (length texts) most_frames then each ppn_of texts else None
+ppns_of texts = if nat_le (length texts) MOST_FRAMES then each ppn_of texts else None
 
 -- the set of the frames
 abbrev pub frames_at : Members → Result (ℕ → Bool) Failure
-frames_at ms = texts_at (codes "frames") ms >>= λ texts. ok_or (option_map is_listed (ppns_of texts)) (wrong_key (codes "frames"))
+frames_at ms =
+    texts_at (codes "frames") ms >>= λ texts. ok_or (option_map is_listed (ppns_of texts))
+    (wrong_key (codes "frames"))
 
 -- ---- table words
 
 abbrev pub word_in_table : (ℕ → Bool) → ℕ → ℕ → ℕ → Option TableWord
 word_in_table is_frame ppn index word =
-    if is_frame ppn && nat_lt index table_length then Some (record { ppn = ppn; index = index; word = word }) else None
+    if is_frame ppn && nat_lt index table_length
+    then Some (record { ppn = ppn; index = index; word = word }) else None
 
 abbrev pub word_of_words : (ℕ → Bool) → List (List ℕ) → Option TableWord
 word_of_words is_frame (ppn ∷ index ∷ word ∷ []) =
-    option_and_then (λ p. option_and_then (λ i. option_and_then (λ w. word_in_table is_frame p i w) (num_of word)) (num_of index)) (num_of ppn)
+    option_and_then
+    (λ p. option_and_then
+    (λ i. option_and_then (λ w. word_in_table is_frame p i w) (num_of word)) (num_of index))
+    (num_of ppn)
 word_of_words is_frame _ = None
 
 -- the table word that a text `PPN INDEX WORD` writes
@@ -68,7 +76,9 @@ abbrev pub word_of : (ℕ → Bool) → List ℕ → Option TableWord
 word_of is_frame text = word_of_words is_frame (words_of text)
 
 abbrev pub words_at : (ℕ → Bool) → Members → Result (List TableWord) Failure
-words_at is_frame ms = texts_at (codes "words") ms >>= λ texts. ok_or (each (word_of is_frame) texts) (wrong_key (codes "words"))
+words_at is_frame ms =
+    texts_at (codes "words") ms >>= λ texts. ok_or (each (word_of is_frame) texts)
+    (wrong_key (codes "words"))
 
 abbrev pub tables_at : (ℕ → Bool) → Members → Result Tables Failure
 tables_at is_frame ms = words_at is_frame ms >>= λ words. Ok (word_in is_frame words)

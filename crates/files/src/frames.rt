@@ -2,7 +2,7 @@
 ghost use Rattle.std.specs.Prelude.{◌≡◌, ◌≤◌, ◌*◌, vec_len};
 ghost use Rattle.std.specs.List.Sorted.{IsStrictlyIncreasing};
 ghost use Rattle.pte.specs.Address.{table_length};
-ghost use Rattle.files.specs.Limits.{most_frames};
+ghost use Rattle.files.specs.declared.limits.TheConstants.{MOST_FRAMES};
 
 use pte::TABLE_LENGTH;
 use std::alloc::{AllocError, Global};
@@ -23,7 +23,7 @@ pub struct TableWord {
 #[derive(Debug, Drop)]
 pub struct Frames {
     ppns: Vec<u64>,
-    ghost few: { vec_len ppns ≤ most_frames },
+    ghost few: { vec_len ppns ≤ MOST_FRAMES },
     ghost rising: { IsStrictlyIncreasing ppns.items },
 }
 
@@ -33,7 +33,7 @@ impl Frames {
 
     /// The frames that a list names; doubles are allowed.
     pub fn new(ppns: Vec<u64>) -> Result<Frames, AllocError>
-        requires { vec_len ppns ≤ most_frames }
+        requires { vec_len ppns ≤ MOST_FRAMES }
         ensures { IfOk result (λ frames. is_frame_of frames ≡ is_listed ppns.items) }
     {
         let mut ppns = ppns;
@@ -49,7 +49,8 @@ impl Frames {
         self.ppns.binary_search(&ppn).ok()
     }
 
-    /// Where a word stands among the words of all frames, if its frame is there and its index is within a table.
+    /// Where a word stands among the words of all frames, if its frame is there and its index is
+    /// within a table.
     fn position(&self, ppn: u64, index: u16) -> Option<usize>
         ensures { result ≡ position_of self.now ppn index }
     {
@@ -98,7 +99,8 @@ impl TableFrames {
 
     /// Frames whose words are all 0.
     fn empty(alloc: Global, frames: Frames) -> Result<TableFrames, AllocError>
-        ensures { IfOk result (λ tables. (ppn index : ℕ) → word_at tables ppn index ≡ word_in (is_frame_of frames) [] ppn index) }
+        ensures { IfOk result (λ tables. (ppn index : ℕ)
+            → word_at tables ppn index ≡ word_in (is_frame_of frames) [] ppn index) }
     {
         let words = vec![in alloc; 0; TABLE_WORDS * frames.ppns.len()]?;
         Ok(TableFrames { frames, words })
@@ -106,7 +108,8 @@ impl TableFrames {
 
     /// Stores a word; one that is not in these tables changes nothing.
     fn store(&mut self, word: TableWord)
-        ensures { (ppn index : ℕ) → word_at self.new ppn index ≡ stored word ppn index (word_at self.old ppn index) }
+        ensures { (ppn index : ℕ)
+            → word_at self.new ppn index ≡ stored word ppn index (word_at self.old ppn index) }
     {
         if let Some(position) = self.frames.position(word.ppn, word.index) {
             self.words[position] = word.word;

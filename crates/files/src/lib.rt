@@ -1,7 +1,8 @@
-//! Scenario files read and checked: the text of each of the three kinds, to what it asks for, or its first fault.
+//! Scenario files read and checked: the text of each of the three kinds, to what it asks for, or
+//! its first fault.
 //!
-//! `read_walk`, `read_run` and `read_live` answer what the text of a file for `walk`, `run` and `live` asks for. Nothing is
-//! run: what comes of a scenario is in the crate `scenario`.
+//! `read_walk`, `read_run` and `read_live` answer what the text of a file for `walk`, `run` and
+//! `live` asks for. Nothing is run: what comes of a scenario is in the crate `scenario`.
 #![tactic(auto)]
 
 mod format_laws;

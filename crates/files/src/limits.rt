@@ -1,7 +1,9 @@
 //! The limits of a scenario.
 
-/// The frames that a file may list.
-pub const MOST_FRAMES: usize = 512;
+use spaces::MAX_FRAMES;
+
+/// The frames that a file may list: as many as table memory may have.
+pub const MOST_FRAMES: usize = MAX_FRAMES as usize;
 
 /// The steps that a file may have.
 pub const MOST_STEPS: usize = 65_536;

@@ -1,10 +1,8 @@
 //! The scenario of `live`, from its document.
 ghost use Rattle.std.specs.Prelude.{◌≡◌, ◌≤◌, ◌<◌, All, IfOk, IfSome, IsTrue, length, map, nat_le, option_map};
 ghost use Rattle.toml.specs.View.{table_view, view};
-ghost use Rattle.spaces.specs.Limits.{max_harts};
 ghost use Rattle.keys.specs.Faults.{Gives};
 ghost use Rattle.keys.specs.Keys.{each, text_views, texts_of};
-ghost use Rattle.files.specs.Limits.{most_steps};
 ghost use Rattle.files.specs.StepTexts.{script_in, scripts_in, setup_steps_in};
 ghost use Rattle.files.specs.LiveFile.{few_scripts, live_plan_of, live_scenario_of, live_view, script_views, scripts_at, scripts_of, scripts_view, step_count, turns_at, turns_of};
 
@@ -15,7 +13,7 @@ use keys::{
     Fault, check_keys, check_live_layout, config, document, key_fault, mode, texts_in,
     texts_of_key, value_at,
 };
-use pte::Scheme;
+use pte::{MAX_HARTS, Scheme};
 use std::alloc::{AllocError, Global};
 use steps::{live_step_among, setup_step_among};
 use toml::{Table, Value};
@@ -51,8 +49,10 @@ fn turns(alloc: Global, table: &Table) -> Result<u32, Fault>
 
 /// The texts of each array, each of which has texts alone.
 fn scripts<'a>(alloc: Global, values: &'a [Value]) -> Result<Option<Vec<Vec<&'a str>>>, AllocError>
-    ensures read { IfOk result (λ found. option_map script_views found ≡ each (λ value. texts_of (view value)) values.now) }
-    ensures count { IfOk result (λ found. IfSome found (λ scripts. length scripts.items ≡ length values.now)) }
+    ensures read { IfOk result (λ found. option_map script_views found
+        ≡ each (λ value. texts_of (view value)) values.now) }
+    ensures count { IfOk result (λ found. IfSome found (λ scripts. length scripts.items
+        ≡ length values.now)) }
 {
     let mut scripts = Vec::with_capacity(alloc, values.len())?;
     for value in values {
@@ -69,7 +69,8 @@ fn few_scripts<'a>(
     values: &'a [Value],
     harts: u16,
 ) -> Result<Option<Vec<Vec<&'a str>>>, AllocError>
-    ensures read { IfOk result (λ found. option_map script_views found ≡ few_scripts harts (map view values.now)) }
+    ensures read { IfOk result (λ found. option_map script_views found
+        ≡ few_scripts harts (map view values.now)) }
     ensures few { IfOk result (λ found. IfSome found (λ scripts. length scripts.items ≤ harts)) }
 {
     if values.len() > usize::from(harts) {
@@ -83,7 +84,8 @@ fn scripts_in<'a>(
     value: &'a Value,
     harts: u16,
 ) -> Result<Option<Vec<Vec<&'a str>>>, AllocError>
-    ensures read { IfOk result (λ found. option_map script_views found ≡ scripts_of harts (view value.now)) }
+    ensures read { IfOk result (λ found. option_map script_views found
+        ≡ scripts_of harts (view value.now)) }
     ensures few { IfOk result (λ found. IfSome found (λ scripts. length scripts.items ≤ harts)) }
 {
     match value.as_array() {
@@ -112,9 +114,11 @@ fn scripts_of_key<'a>(
 
 /// Whether the setup and the scripts together have no more steps than a file may have.
 fn are_few(setup: &[&str], scripts: &[Vec<&str>]) -> bool
-    ensures value { result ≡ nat_le (step_count (map (λ text. text.now) setup.now) (map text_views scripts.now)) most_steps }
-    ensures setup { IsTrue result → length setup.now ≤ most_steps }
-    ensures scripts { IsTrue result → All (λ texts. length texts.items ≤ most_steps) scripts.now }
+    ensures value { result
+        ≡ nat_le (step_count (map (λ text. text.now) setup.now) (map text_views scripts.now))
+        MOST_STEPS }
+    ensures setup { IsTrue result → length setup.now ≤ MOST_STEPS }
+    ensures scripts { IsTrue result → All (λ texts. length texts.items ≤ MOST_STEPS) scripts.now }
 {
     if setup.len() > MOST_STEPS {
         return false;
@@ -135,8 +139,9 @@ fn setup_steps(
     harts: u8,
     texts: &[&str],
 ) -> Result<Vec<(u8, LiveStep)>, Fault>
-    requires { length texts.now ≤ most_steps }
-    ensures read { Gives (λ v. v.items) result (setup_steps_in scheme harts (map (λ text. text.now) texts.now)) }
+    requires { length texts.now ≤ MOST_STEPS }
+    ensures read { Gives (λ v. v.items) result
+        (setup_steps_in scheme harts (map (λ text. text.now) texts.now)) }
     ensures there { IfOk result (λ v. All (λ step. step.0 < harts) v.items) }
 {
     let mut steps = Vec::with_capacity(alloc, texts.len())?;
@@ -157,8 +162,9 @@ fn script_steps(
     hart: u8,
     texts: &[&str],
 ) -> Result<Vec<LiveStep>, Fault>
-    requires { length texts.now ≤ most_steps }
-    ensures { Gives (λ v. v.items) result (script_in scheme harts hart (map (λ text. text.now) texts.now)) }
+    requires { length texts.now ≤ MOST_STEPS }
+    ensures { Gives (λ v. v.items) result
+        (script_in scheme harts hart (map (λ text. text.now) texts.now)) }
 {
     let mut steps = Vec::with_capacity(alloc, texts.len())?;
     for (index, text) in texts.iter().enumerate() {
@@ -177,9 +183,10 @@ fn scripts_steps(
     harts: u8,
     scripts: &[Vec<&str>],
 ) -> Result<Vec<Vec<LiveStep>>, Fault>
-    requires harts { length scripts.now ≤ max_harts }
-    requires few { All (λ texts. length texts.items ≤ most_steps) scripts.now }
-    ensures read { Gives scripts_view result (scripts_in scheme harts 0 (map text_views scripts.now)) }
+    requires harts { length scripts.now ≤ MAX_HARTS }
+    requires few { All (λ texts. length texts.items ≤ MOST_STEPS) scripts.now }
+    ensures read { Gives scripts_view result
+        (scripts_in scheme harts 0 (map text_views scripts.now)) }
     ensures count { IfOk result (λ v. length v.items ≡ length scripts.now) }
 {
     let mut all = Vec::with_capacity(alloc, scripts.len())?;

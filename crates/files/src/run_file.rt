@@ -1,9 +1,7 @@
 //! The scenario of `run`, from its document.
 ghost use Rattle.std.specs.Prelude.{◌≡◌, ◌≤◌, length, map};
 ghost use Rattle.toml.specs.View.{table_view};
-ghost use Rattle.spaces.specs.Limits.{max_harts};
 ghost use Rattle.keys.specs.Faults.{Gives};
-ghost use Rattle.files.specs.Limits.{most_steps};
 ghost use Rattle.files.specs.StepTexts.{events_in};
 ghost use Rattle.files.specs.RunFile.{run_plan_of, run_scenario_of, run_view};
 
@@ -22,8 +20,9 @@ const KEYS: [&str; 8] = [
 ];
 
 fn events(alloc: Global, scheme: Scheme, harts: u8, texts: &[&str]) -> Result<Vec<Event>, Fault>
-    requires { length texts.now ≤ most_steps }
-    ensures { Gives (λ v. v.items) result (events_in scheme harts (map (λ text. text.now) texts.now)) }
+    requires { length texts.now ≤ MOST_STEPS }
+    ensures { Gives (λ v. v.items) result
+        (events_in scheme harts (map (λ text. text.now) texts.now)) }
 {
     let mut events = Vec::with_capacity(alloc, texts.len())?;
     for (index, text) in texts.iter().enumerate() {

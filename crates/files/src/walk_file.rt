@@ -4,7 +4,6 @@ ghost use Rattle.pte.specs.Entry.{ppn_bits};
 ghost use Rattle.toml.specs.View.{table_view};
 ghost use Rattle.keys.specs.Keys.{each, text_views};
 ghost use Rattle.keys.specs.Faults.{Gives};
-ghost use Rattle.files.specs.Limits.{most_frames, most_steps};
 ghost use Rattle.files.specs.Memory.{is_frame_of, is_listed, word_at};
 ghost use Rattle.files.specs.StepTexts.{walk_steps_in};
 ghost use Rattle.files.specs.WalkFile.{frames_at, plan_view, ppn_of, ppns_of, root_at, tables_at, walk_plan_of, walk_scenario_of, word_in_table, word_of, words_at};
@@ -14,6 +13,7 @@ use crate::limits::{MOST_FRAMES, MOST_STEPS};
 use crate::plan::WalkScenario;
 use keys::{Fault, check_keys, document, key_fault, mode, number, texts_of_key, value_at};
 use pte::{PPN_BITS, TABLE_LENGTH};
+use spaces::Config;
 use std::alloc::{AllocError, Global};
 use steps::{StepFault, WalkStep, next_word, num, walk_step};
 use toml::Table;
@@ -21,17 +21,12 @@ use toml::Table;
 /// The keys that `walk` knows.
 const KEYS: [&str; 5] = ["root", "frames", "words", "steps", "mode"];
 
-/// PPNs are below this.
-const PPN_LIMIT: u64 = 1 << PPN_BITS;
-
-const DEFAULT_ROOT: u64 = 0x80000;
-
 fn ppn(alloc: Global, text: &str) -> Result<Option<u64>, AllocError>
     ensures value { IfOk result (λ n. n ≡ ppn_of text.now) }
     ensures in_range { IfOk result (λ n. IfSome n (λ ppn. ppn < 2 ^ ppn_bits)) }
 {
     let n = number(alloc, text)?;
-    Ok(n.filter(|n| *n < PPN_LIMIT))
+    Ok(n.filter(|n| *n < 1 << PPN_BITS))
 }
 
 fn root(alloc: Global, table: &Table) -> Result<u64, Fault>
@@ -39,7 +34,7 @@ fn root(alloc: Global, table: &Table) -> Result<u64, Fault>
     ensures in_range { IfOk result (λ root. root < 2 ^ ppn_bits) }
 {
     let Some(value) = value_at(table, "root") else {
-        return Ok(DEFAULT_ROOT);
+        return Ok(Config::default().base);
     };
     let Some(text) = value.as_str() else {
         return Err(key_fault(alloc, "root"));
@@ -51,7 +46,8 @@ fn root(alloc: Global, table: &Table) -> Result<u64, Fault>
 }
 
 fn ppns(alloc: Global, texts: &[&str]) -> Result<Option<Vec<u64>>, AllocError>
-    ensures value { IfOk result (λ found. option_map (λ v. v.items) found ≡ each (λ text. ppn_of text.now) texts.now) }
+    ensures value { IfOk result (λ found. option_map (λ v. v.items) found
+        ≡ each (λ text. ppn_of text.now) texts.now) }
     ensures few { IfOk result (λ found. IfSome found (λ v. vec_len v ≤ length texts.now)) }
 {
     let mut ppns = Vec::new(alloc);
@@ -65,8 +61,9 @@ fn ppns(alloc: Global, texts: &[&str]) -> Result<Option<Vec<u64>>, AllocError>
 }
 
 fn few_ppns(alloc: Global, texts: &[&str]) -> Result<Option<Vec<u64>>, AllocError>
-    ensures value { IfOk result (λ found. option_map (λ v. v.items) found ≡ ppns_of (map (λ text. text.now) texts.now)) }
-    ensures few { IfOk result (λ found. IfSome found (λ v. vec_len v ≤ most_frames)) }
+    ensures value { IfOk result (λ found. option_map (λ v. v.items) found
+        ≡ ppns_of (map (λ text. text.now) texts.now)) }
+    ensures few { IfOk result (λ found. IfSome found (λ v. vec_len v ≤ MOST_FRAMES)) }
 {
     if texts.len() > MOST_FRAMES {
         return Ok(None);
@@ -111,7 +108,8 @@ fn table_words(
     frames: &Frames,
     texts: &[&str],
 ) -> Result<Option<Vec<TableWord>>, AllocError>
-    ensures { IfOk result (λ found. option_map (λ v. v.items) found ≡ each (λ text. word_of (is_frame_of frames.now) text.now) texts.now) }
+    ensures { IfOk result (λ found. option_map (λ v. v.items) found
+        ≡ each (λ text. word_of (is_frame_of frames.now) text.now) texts.now) }
 {
     let mut words = Vec::with_capacity(alloc, texts.len())?;
     for text in texts {
@@ -123,21 +121,12 @@ fn table_words(
     Ok(Some(words))
 }
 
-fn words_in(
-    alloc: Global,
-    frames: &Frames,
-    texts: &[&str],
-) -> Result<Option<Vec<TableWord>>, AllocError>
-    ensures { IfOk result (λ found. option_map (λ v. v.items) found ≡ each (word_of (is_frame_of frames.now)) (map (λ text. text.now) texts.now)) }
-{
-    table_words(alloc, frames, texts)
-}
-
 fn words_of_key(alloc: Global, table: &Table, frames: &Frames) -> Result<Vec<TableWord>, Fault>
-    ensures { Gives (λ v. v.items) result (words_at (is_frame_of frames.now) (table_view table.now)) }
+    ensures { Gives (λ v. v.items) result
+        (words_at (is_frame_of frames.now) (table_view table.now)) }
 {
     let texts = texts_of_key(alloc, table, "words")?;
-    match words_in(alloc, frames, texts.as_slice())? {
+    match table_words(alloc, frames, texts.as_slice())? {
         Some(words) => Ok(words),
         None => Err(key_fault(alloc, "words")),
     }
@@ -152,7 +141,7 @@ fn tables(alloc: Global, table: &Table, frames: Frames) -> Result<TableFrames, F
 }
 
 fn steps(alloc: Global, texts: &[&str]) -> Result<Vec<WalkStep>, Fault>
-    requires { length texts.now ≤ most_steps }
+    requires { length texts.now ≤ MOST_STEPS }
     ensures { Gives (λ v. v.items) result (walk_steps_in (map (λ text. text.now) texts.now)) }
 {
     let mut steps = Vec::with_capacity(alloc, texts.len())?;

@@ -6,7 +6,8 @@ use Rattle.toml.specs.Data.{Data, as_str, as_array}
 use Rattle.toml.specs.View.{view, items_of, array_view}
 use Rattle.toml.specs.declared.value.Value.{Value}
 use Rattle.keys.specs.Keys.{each, listed, texts_of}
-use Rattle.spaces.specs.Limits.{max_harts, max_spaces}
+use Rattle.pte.specs.declared.TheConstants.{MAX_HARTS}
+use Rattle.spaces.specs.declared.configuration.TheConstants.{MAX_SPACES}
 use Rattle.keys.specs.Settings.{few_spaces, space_of, spares_of, whole_of, wholes_of}
 
 -- what is read so far, and what each of the rest gives, is what each of them all gives
@@ -53,11 +54,11 @@ no_text = record { ref_ptr = (0, 0); now = [] }
 
 -- ---- the configuration
 
-pub spaces_fit : (ts : List (Bor (List ℕ))) → length ts ≤ max_spaces → few_spaces (map (λ text. text.now) ts) ≡ each (λ (text : Bor (List ℕ)). space_of text.now) ts
-spaces_fit ts fits = rw (length-map ts (λ text. text.now), le-leb (length ts) max_spaces fits) (each-map space_of (λ (text : Bor (List ℕ)). text.now) ts)
+pub spaces_fit : (ts : List (Bor (List ℕ))) → length ts ≤ MAX_SPACES → few_spaces (map (λ text. text.now) ts) ≡ each (λ (text : Bor (List ℕ)). space_of text.now) ts
+spaces_fit ts fits = rw (length-map ts (λ text. text.now), le-leb (length ts) MAX_SPACES fits) (each-map space_of (λ (text : Bor (List ℕ)). text.now) ts)
 
-pub wholes_fit : (values : List Value) → length values ≤ max_harts → wholes_of (map view values) ≡ each (λ value. whole_of (view value)) values
-wholes_fit values fits = rw (length-map values view, le-leb (length values) max_harts fits) (each-map whole_of view values)
+pub wholes_fit : (values : List Value) → length values ≤ MAX_HARTS → wholes_of (map view values) ≡ each (λ value. whole_of (view value)) values
+wholes_fit values fits = rw (length-map values view, le-leb (length values) MAX_HARTS fits) (each-map whole_of view values)
 
 pub spares_of_array : (values : Vec Value Global) (d : Data) → Some (array_view values) ≡ as_array d → wholes_of (map view values.items) ≡ spares_of d
 spares_of_array values d is = rw (sym is, listed-items (map view values.items)) refl

@@ -1,4 +1,3 @@
 pub mod EachLemmas
 pub mod KeyLemmas
-pub mod LimitLemmas
 pub mod StepLemmas

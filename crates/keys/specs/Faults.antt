@@ -6,8 +6,9 @@ use Rattle.keys.specs.declared.fault.Fault.TheVariants as faults
 use Rattle.steps.specs.declared.fault.StepFault.{StepFault}
 use Rattle.steps.specs.StepFaults.{step_fault_text}
 
--- what is wrong with a text: it is no TOML, a key is wrong, the layout is not within the limits, there are too many steps,
--- or the step of a number is wrong, in the file's one list of steps or in the script of a hart
+-- what is wrong with a text: it is no TOML, a key is wrong, the layout is not within the limits,
+-- there are too many steps, or the step of a number is wrong, in the file's one list of steps or in
+-- the script of a hart
 pub data Failure : Type 0 where
   not_toml : Failure
   wrong_key : List ℕ → Failure
@@ -21,8 +22,11 @@ failure_text not_toml = codes "not TOML"
 failure_text (wrong_key name) = codes "key " ++ name ++ codes ": wrong"
 failure_text bad_layout = codes "layout refused"
 failure_text too_many = codes "too many steps"
-failure_text (wrong_step n fault) = codes "step " ++ decimal n ++ codes ": " ++ step_fault_text fault
-failure_text (wrong_script hart n fault) = codes "script " ++ decimal hart ++ codes " step " ++ decimal n ++ codes ": " ++ step_fault_text fault
+failure_text (wrong_step n fault) =
+    codes "step " ++ decimal n ++ codes ": " ++ step_fault_text fault
+failure_text (wrong_script hart n fault) =
+    codes "script " ++ decimal hart ++ codes " step " ++ decimal n ++ codes ": "
+    ++ step_fault_text fault
 
 -- what a fault says of the text; the two others say nothing of it
 abbrev pub failure_of : Fault → Option Failure

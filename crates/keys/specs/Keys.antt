@@ -1,5 +1,5 @@
 -- What the keys of a document give.
-use Rattle.std.specs.Prelude.{◌≡◌, ◌⊎◌, ℕ, Bool, nat_lt, nat_le, false, List, [], ◌∷◌, length, map, Option, Some, None, option_and_then, option_map, Result, Ok, Err, if◌then◌else◌, Vec}
+use Rattle.std.specs.Prelude.{◌≡◌, ◌⊎◌, ℕ, Bool, nat_lt, false, List, [], ◌∷◌, map, Option, Some, None, option_and_then, option_map, Result, Ok, Err, if◌then◌else◌, Vec}
 use Rattle.std.specs.declared.alloc.Global.{Global}
 use denote.Ref.{Bor}
 use Rattle.std.specs.List.{list_any}
@@ -32,7 +32,8 @@ lesser key (Some other) = if is_before other key then Some other else Some key
 -- the least key by bytes that is not known
 abbrev pub least_unknown : List (List ℕ) → Members → Option (List ℕ)
 least_unknown known no_members = None
-least_unknown known (member key d ms) = if is_known known key then least_unknown known ms else lesser key (least_unknown known ms)
+least_unknown known (member key d ms) =
+    if is_known known key then least_unknown known ms else lesser key (least_unknown known ms)
 
 abbrev pub fails_if : Option (List ℕ) → Result (Unit {0}) Failure
 fails_if None = Ok tt
@@ -50,7 +51,8 @@ HasKey key (member k d ms) = (key ≡ k) ⊎ HasKey key ms
 pub record IsLeastUnknown (known : List (List ℕ)) (ms : Members) (key : List ℕ) : Type 0 where
   pub has : HasKey key ms
   pub unknown : is_known known key ≡ false
-  pub least : (other : List ℕ) → HasKey other ms → is_known known other ≡ false → is_before other key ≡ false
+  pub least : (other : List ℕ) → HasKey other ms → is_known known other ≡ false
+      → is_before other key ≡ false
 
 -- ---- values
 

@@ -1,15 +1,16 @@
--- The harts, the spaces and the table memory that the keys of a document ask for, and whether they are within the limits.
-use Rattle.std.specs.Prelude.{ℕ, ℤ, pos, negsuc, ◌+◌, ◌^◌, ◌&&◌, ◌==◌, Bool, replicate, take, nat_lt, nat_le, codes, List, [], ◌∷◌, length, Option, Some, None, option_and_then, option_map, Result, Ok, Err, if◌then◌else◌}
-use Rattle.std.specs.List.{list_all}
+-- The harts, the spaces and the table memory that the keys of a document ask for, and whether they
+-- are within the limits.
+use Rattle.std.specs.Prelude.{ℕ, ℤ, pos, negsuc, ◌^◌, nat_le, codes, List, [], ◌∷◌, length, Option, Some, None, option_and_then, option_map, Result, Ok, Err, if◌then◌else◌}
 use Rattle.toml.specs.Data.{Data, as_str, as_integer, as_array, Members, get_member}
 use Rattle.std.specs.Str.{bytes_eq}
 use Rattle.pte.specs.declared.scheme.Scheme.{Scheme}
 use Rattle.pte.specs.declared.scheme.Scheme.TheVariants.{Sv39, Sv48}
-use Rattle.pte.specs.Entry.{ppn_bits}
+use Rattle.pte.specs.declared.TheConstants.{MAX_HARTS}
 use Rattle.spaces.specs.declared.configuration.Config.{Config}
 use Rattle.spaces.specs.declared.configuration.Space.{Space}
-use Rattle.spaces.specs.Layout.{frame_count, layout_of}
-use Rattle.spaces.specs.Limits.{asids_differ, max_capacity, max_harts, max_spaces, max_window}
+use Rattle.spaces.specs.declared.configuration.TheConstants.{MAX_SPACES}
+use Rattle.spaces.specs.Defaults.{default_config, default_spaces, default_spares}
+use Rattle.spaces.specs.Limits.{is_within_limits}
 use Rattle.steps.specs.Num.{num_of}
 use Rattle.steps.specs.Words.{words_of}
 use Rattle.keys.specs.Faults.{Failure, bad_layout, ◌>>=◌}
@@ -37,17 +38,18 @@ scheme_named word =
 
 -- the scheme of translation
 abbrev pub mode_of : Data → Option Scheme
-mode_of d = option_and_then (λ text. option_and_then scheme_named (one_word (words_of text))) (as_str d)
+mode_of d =
+    option_and_then (λ text. option_and_then scheme_named (one_word (words_of text))) (as_str d)
 
 abbrev pub mode_at : Members → Result Scheme Failure
-mode_at ms = value_or (codes "mode") Sv39 mode_of (get_member (codes "mode") ms)
+mode_at ms = value_or (codes "mode") default_config.scheme mode_of (get_member (codes "mode") ms)
 
 -- the PPN of the first table frame
 abbrev pub base_of : Data → Option ℕ
 base_of d = option_and_then one_number (as_str d)
 
 abbrev pub base_at : Members → Result ℕ Failure
-base_at ms = value_or (codes "base") 0x80000 base_of (get_member (codes "base") ms)
+base_at ms = value_or (codes "base") default_config.base base_of (get_member (codes "base") ms)
 
 -- at most as many of them as this
 abbrev pub at_most : {X : Type 0} → ℕ → List X → Option (List X)
@@ -55,24 +57,23 @@ at_most most xs = if nat_le (length xs) most then Some xs else None
 
 -- how many spare frames each hart has
 abbrev pub wholes_of : List Data → Option (List ℕ)
-wholes_of ds = option_and_then (each whole_of) (at_most max_harts ds)
+wholes_of ds = option_and_then (each whole_of) (at_most MAX_HARTS ds)
 
 abbrev pub spares_of : Data → Option (List ℕ)
 spares_of d = option_and_then (λ ds. wholes_of (listed ds)) (as_array d)
 
--- 8 for each of the first 8 harts
-abbrev pub default_spares : ℕ → List ℕ
-default_spares harts = take harts (replicate max_harts 8)
-
 abbrev pub spares_at : ℕ → Members → Result (List ℕ) Failure
-spares_at harts ms = value_or (codes "spares") (default_spares harts) spares_of (get_member (codes "spares") ms)
+spares_at harts ms =
+    value_or (codes "spares") (default_spares harts) spares_of (get_member (codes "spares") ms)
 
 abbrev pub space : ℕ → ℕ → Space
 space home asid = record { home = home; asid = asid }
 
 abbrev pub space_of_words : List (List ℕ) → Option Space
 space_of_words (home ∷ asid ∷ []) =
-    option_and_then (λ h. option_map (λ a. space h a) (option_and_then (below (2 ^ 16)) (num_of asid))) (option_and_then (below (2 ^ 8)) (num_of home))
+    option_and_then
+    (λ h. option_map (λ a. space h a) (option_and_then (below (2 ^ 16)) (num_of asid)))
+    (option_and_then (below (2 ^ 8)) (num_of home))
 space_of_words _ = None
 
 -- the space that a text `HOME ASID` writes
@@ -80,26 +81,27 @@ abbrev pub space_of : List ℕ → Option Space
 space_of text = space_of_words (words_of text)
 
 abbrev pub few_spaces : List (List ℕ) → Option (List Space)
-few_spaces texts = option_and_then (each space_of) (at_most max_spaces texts)
+few_spaces texts = option_and_then (each space_of) (at_most MAX_SPACES texts)
 
 abbrev pub spaces_of : Data → Option (List Space)
 spaces_of d = option_and_then few_spaces (texts_of d)
 
 abbrev pub spaces_at : Members → Result (List Space) Failure
-spaces_at ms = value_or (codes "spaces") (space 0 1 ∷ []) spaces_of (get_member (codes "spaces") ms)
+spaces_at ms = value_or (codes "spaces") default_spaces spaces_of (get_member (codes "spaces") ms)
 
--- ---- the configuration, in the order of checking, but for the scheme, whose key comes after the steps
+-- ---- the configuration, in the order of checking, but for the scheme
+-- (whose key comes after the steps)
 
 unfoldable pub config_at : Members → Result Config Failure
 config_at ms = do
-  harts ← whole_at (codes "harts") 1 ms
-  window ← whole_at (codes "window") 1 ms
+  harts ← whole_at (codes "harts") default_config.harts ms
+  window ← whole_at (codes "window") default_config.window ms
   base ← base_at ms
-  capacity ← whole_at (codes "capacity") 4 ms
+  capacity ← whole_at (codes "capacity") default_config.capacity ms
   spares ← spares_at harts ms
   spaces ← spaces_at ms
   Ok (record {
-    scheme = Sv39;
+    scheme = default_config.scheme;
     harts = harts;
     spaces = record { items = spaces };
     window = window;
@@ -107,23 +109,6 @@ config_at ms = do
     spares = record { items = spares };
     capacity = capacity;
   })
-
--- the number is from 1 to this
-abbrev pub is_from_one : ℕ → ℕ → Bool
-is_from_one most n = nat_le 1 n && nat_le n most
-
--- the limits hold, with no more table frames than this
-unfoldable pub is_within_limits : ℕ → Config → Bool
-is_within_limits frames c =
-    is_from_one max_harts c.harts
-    && (is_from_one max_spaces (length c.spaces.items)
-    && (is_from_one max_window c.window
-    && (is_from_one max_capacity c.capacity
-    && ((length c.spares.items == c.harts)
-    && (list_all (λ s. nat_lt s.home c.harts) c.spaces.items
-    && (asids_differ c.spaces.items
-    && (nat_le (frame_count (layout_of c)) frames
-    && nat_le (c.base + frame_count (layout_of c)) (2 ^ ppn_bits))))))))
 
 abbrev pub checked : ℕ → Config → Result (Unit {0}) Failure
 checked frames c = if is_within_limits frames c then Ok tt else Err bad_layout

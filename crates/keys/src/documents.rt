@@ -9,7 +9,7 @@ ghost use Rattle.toml.specs.Parse.{parse_document};
 ghost use Rattle.toml.specs.View.{table_view, view};
 ghost use Rattle.keys.specs.Faults.{Fails, Gives, not_toml, wrong_key};
 ghost use Rattle.keys.specs.declared.fault.Fault.TheVariants.{NoMemory, NotToml};
-ghost use Rattle.keys.specs.Keys.{each, is_known, key_texts, known_only, least_unknown, one_number, one_word, text_views, texts_at, texts_of};
+ghost use Rattle.keys.specs.Keys.{each, key_texts, known_only, least_unknown, one_number, one_word, text_views, texts_at, texts_of};
 ghost use Rattle.steps.specs.Num.{num_of};
 
 use crate::fault::Fault;
@@ -37,20 +37,15 @@ fn document_of(read: Result<Table, toml::de::Error>) -> Result<Table, Fault>
     }
 }
 
-fn has_text(texts: &[&str], key: &str) -> bool
-    ensures { result ≡ list_any (λ text. bytes_eq key.now text.now) texts.now }
-{
-    texts.iter().any(|text| key == *text)
-}
-
 fn is_known(known: &[&str], key: &str) -> bool
-    ensures { result ≡ is_known (key_texts known.now) key.now }
+    ensures { result ≡ list_any (λ text. bytes_eq key.now text.now) known.now }
 {
-    has_text(known, key)
+    known.iter().any(|text| key == *text)
 }
 
 fn unknown_key<'a>(table: &'a Table, known: &[&str]) -> Option<&'a String>
-    ensures { option_map (λ key. string_bytes key.now) result ≡ least_unknown (key_texts known.now) (table_view table.now) }
+    ensures { option_map (λ key. string_bytes key.now) result
+        ≡ least_unknown (key_texts known.now) (table_view table.now) }
 {
     table.keys().find(|key| !is_known(known, key.as_str()))
 }
@@ -66,7 +61,8 @@ pub fn key_fault(alloc: Global, key: &str) -> Fault
 
 /// Refuses a key that is not one of the known: the least by bytes.
 pub fn check_keys(alloc: Global, table: &Table, known: &[&str]) -> Result<(), Fault>
-    ensures { Gives (λ done. done) result (known_only (key_texts known.now) (table_view table.now)) }
+    ensures { Gives (λ done. done) result
+        (known_only (key_texts known.now) (table_view table.now)) }
 {
     match unknown_key(table, known) {
         Some(key) => Err(key_fault(alloc, key.as_str())),
@@ -75,7 +71,8 @@ pub fn check_keys(alloc: Global, table: &Table, known: &[&str]) -> Result<(), Fa
 }
 
 pub fn value_at<'a>(table: &'a Table, key: &str) -> Option<&'a Value>
-    ensures { option_map (λ value. view value.now) result ≡ get_member key.now (table_view table.now) }
+    ensures { option_map (λ value. view value.now) result
+        ≡ get_member key.now (table_view table.now) }
 {
     table.get(key)
 }
@@ -99,7 +96,8 @@ fn number_in(words: &[&[u8]]) -> Option<u64>
 
 /// The texts of an array, each of which is a text.
 fn texts<'a>(alloc: Global, values: &'a [Value]) -> Result<Option<Vec<&'a str>>, AllocError>
-    ensures { IfOk result (λ found. option_map text_views found ≡ each (λ value. as_str (view value)) values.now) }
+    ensures { IfOk result (λ found. option_map text_views found
+        ≡ each (λ value. as_str (view value)) values.now) }
 {
     let mut texts = Vec::with_capacity(alloc, values.len())?;
     for value in values {

@@ -20,7 +20,8 @@ pub enum Fault {
     TooMany,
     /// The step of this number, from 1; of a file for `live` the step of the setup.
     Step(u32, StepFault),
-    /// The step of the script of this hart, from 0, that has this number, from 1. Files for `live` alone have scripts.
+    /// The step of the script of this hart, from 0, that has this number, from 1. Files for `live`
+    /// alone have scripts.
     Script(u8, u32, StepFault),
     /// The writer failed, or took no bytes.
     Output,

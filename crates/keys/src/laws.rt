@@ -1,21 +1,17 @@
 //! Laws of the keys: each call makes no step, and its clauses hold of the definitions alone.
 ghost use Rattle.pte.specs.declared.scheme.Scheme.TheVariants.{Sv39, Sv48};
 ghost use Rattle.std.specs.Prelude.{◌≡◌, ◌↔◌, List, [], ℕ, pos, Some, None, Ok, codes, true, false, IsTrue};
-ghost use Rattle.spaces.specs.declared.configuration.Config.{Config};
-ghost use Rattle.spaces.specs.Limits.{MeetsLimits};
 ghost use Rattle.toml.specs.Data.{Members, boolean, get_member, integer, string};
 ghost use Rattle.keys.specs.Keys.{HasKey, is_known, IsLeastUnknown, least_unknown};
-ghost use Rattle.keys.specs.Settings.{is_within_limits, mode_at, mode_of};
+ghost use Rattle.keys.specs.Settings.{mode_at, mode_of};
 
-/// The unknown key that is reported is the least by bytes, and none is reported only where all keys are known.
+/// The unknown key that is reported is the least by bytes, and none is reported only where all keys
+/// are known.
 pub fn least_unknown_key()
-    ensures least { (known : List (List ℕ)) (ms : Members) (key : List ℕ) → least_unknown known ms ≡ Some key → IsLeastUnknown known ms key }
-    ensures none { (known : List (List ℕ)) (ms : Members) → least_unknown known ms ≡ None → (key : List ℕ) → is_known known key ≡ false → ¬ HasKey key ms }
-{}
-
-/// The test of a configuration's limits, for so many frames, holds exactly where the configuration is within them.
-pub fn limits_are_checked()
-    ensures { (frames : ℕ) (config : Config) → IsTrue (is_within_limits frames config) ↔ MeetsLimits frames config }
+    ensures least { (known : List (List ℕ)) (ms : Members) (key : List ℕ)
+        → least_unknown known ms ≡ Some key → IsLeastUnknown known ms key }
+    ensures none { (known : List (List ℕ)) (ms : Members) → least_unknown known ms ≡ None
+        → (key : List ℕ) → is_known known key ≡ false → ¬ HasKey key ms }
 {}
 
 /// A file without the key `mode` is one of Sv39.

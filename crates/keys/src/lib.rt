@@ -1,4 +1,5 @@
-//! The keys of scenario files: documents, what their keys hold, the configuration that they ask for, and what may be wrong.
+//! The keys of scenario files: documents, what their keys hold, the configuration that they ask
+//! for, and what may be wrong.
 #![tactic(auto)]
 
 mod documents;
@@ -8,5 +9,5 @@ mod settings;
 
 pub use documents::{check_keys, document, key_fault, number, texts_in, texts_of_key, value_at};
 pub use fault::Fault;
-pub use laws::{least_unknown_key, limits_are_checked, mode_is_sv39_by_default, worked_modes};
+pub use laws::{least_unknown_key, mode_is_sv39_by_default, worked_modes};
 pub use settings::{check_layout, check_live_layout, config, mode};

@@ -1,11 +1,11 @@
 //! The harts, the spaces and the table memory that the keys of a document ask for.
-ghost use Rattle.std.specs.Prelude.{◌≡◌, ◌≤◌, IfOk, OnOk, [], ◌∷◌, length, map, option_and_then, option_map};
+ghost use Rattle.std.specs.Prelude.{◌≡◌, ◌≤◌, IfOk, OnOk, length, map, option_and_then, option_map};
 ghost use Rattle.toml.specs.View.{table_view, view};
 ghost use Rattle.spaces.specs.Limits.{max_frames, max_live_frames, MeetsLimits};
 ghost use Rattle.keys.specs.Faults.{Gives};
 ghost use Rattle.steps.specs.Words.{words_of};
 ghost use Rattle.keys.specs.Keys.{each, one_word};
-ghost use Rattle.keys.specs.Settings.{base_at, checked, config_at, default_spares, few_spaces, mode_at, scheme_named, space, space_of, space_of_words, spaces_at, spaces_of, spares_at, spares_of, whole_at, whole_of, wholes_of};
+ghost use Rattle.keys.specs.Settings.{base_at, checked, config_at, few_spaces, mode_at, scheme_named, space, space_of, space_of_words, spaces_at, spaces_of, spares_at, spares_of, whole_at, whole_of, wholes_of};
 
 use crate::documents::{key_fault, number, texts_in, value_at};
 use crate::fault::Fault;
@@ -15,11 +15,6 @@ use spaces::{Config, MAX_HARTS, MAX_SPACES, Space};
 use std::alloc::{AllocError, Global};
 use steps::{num, words};
 use toml::{Table, Value};
-
-const DEFAULT_BASE: u64 = 0x80000;
-
-/// The spare frames of each hart where no key says how many.
-const DEFAULT_SPARES: u16 = 8;
 
 /// A whole number from 0 to 65535.
 fn whole(value: &Value) -> Option<u16>
@@ -45,7 +40,7 @@ fn base(alloc: Global, table: &Table) -> Result<u64, Fault>
     ensures { Gives (λ n. n) result (base_at (table_view table.now)) }
 {
     let Some(value) = value_at(table, "base") else {
-        return Ok(DEFAULT_BASE);
+        return Ok(Config::default().base);
     };
     let Some(text) = value.as_str() else {
         return Err(key_fault(alloc, "base"));
@@ -80,7 +75,8 @@ fn scheme_in(words: &[&[u8]]) -> Option<Scheme>
 
 /// The scheme that a text of one word names.
 fn scheme(alloc: Global, text: &str) -> Result<Option<Scheme>, AllocError>
-    ensures { IfOk result (λ scheme. scheme ≡ option_and_then scheme_named (one_word (words_of text.now))) }
+    ensures { IfOk result (λ scheme. scheme
+        ≡ option_and_then scheme_named (one_word (words_of text.now))) }
 {
     let words = words(alloc, text)?;
     Ok(scheme_in(words.as_slice()))
@@ -91,7 +87,7 @@ pub fn mode(alloc: Global, table: &Table) -> Result<Scheme, Fault>
     ensures { Gives (λ scheme. scheme) result (mode_at (table_view table.now)) }
 {
     let Some(value) = value_at(table, "mode") else {
-        return Ok(Scheme::Sv39);
+        return Ok(Config::default().scheme);
     };
     let Some(text) = value.as_str() else {
         return Err(key_fault(alloc, "mode"));
@@ -100,15 +96,6 @@ pub fn mode(alloc: Global, table: &Table) -> Result<Scheme, Fault>
         Some(scheme) => Ok(scheme),
         None => Err(key_fault(alloc, "mode")),
     }
-}
-
-/// A hart's number of spare frames, for as many harts as there may be.
-fn default_spares(harts: u16) -> ArrayVec<u16, MAX_HARTS>
-    ensures { result.items ≡ default_spares harts }
-{
-    let mut spares = ArrayVec::from([DEFAULT_SPARES; MAX_HARTS]);
-    spares.truncate(usize::from(harts));
-    spares
 }
 
 /// Whole numbers, as many as there may be harts at most.
@@ -143,7 +130,7 @@ fn spares(alloc: Global, table: &Table, harts: u16) -> Result<ArrayVec<u16, MAX_
     ensures { Gives (λ v. v.items) result (spares_at harts (table_view table.now)) }
 {
     let Some(value) = value_at(table, "spares") else {
-        return Ok(default_spares(harts));
+        return Ok(Config::with_harts(harts).spares);
     };
     match spares_in(value) {
         Some(spares) => Ok(spares),
@@ -174,7 +161,8 @@ fn spaces_of(
     texts: &[&str],
 ) -> Result<Option<ArrayVec<Space, MAX_SPACES>>, AllocError>
     requires { length texts.now ≤ MAX_SPACES }
-    ensures { IfOk result (λ found. option_map (λ v. v.items) found ≡ each (λ text. space_of text.now) texts.now) }
+    ensures { IfOk result (λ found. option_map (λ v. v.items) found
+        ≡ each (λ text. space_of text.now) texts.now) }
 {
     let mut spaces = ArrayVec::new();
     for text in texts {
@@ -190,20 +178,13 @@ fn few_spaces(
     alloc: Global,
     texts: &[&str],
 ) -> Result<Option<ArrayVec<Space, MAX_SPACES>>, AllocError>
-    ensures { IfOk result (λ found. option_map (λ v. v.items) found ≡ few_spaces (map (λ text. text.now) texts.now)) }
+    ensures { IfOk result (λ found. option_map (λ v. v.items) found
+        ≡ few_spaces (map (λ text. text.now) texts.now)) }
 {
     if texts.len() > MAX_SPACES {
         return Ok(None);
     }
     spaces_of(alloc, texts)
-}
-
-fn default_spaces() -> ArrayVec<Space, MAX_SPACES>
-    ensures { result.items ≡ space 0 1 ∷ [] }
-{
-    let mut spaces = ArrayVec::new();
-    spaces.push(Space { home: 0, asid: 1 });
-    spaces
 }
 
 fn spaces_in(
@@ -222,7 +203,7 @@ fn spaces(alloc: Global, table: &Table) -> Result<ArrayVec<Space, MAX_SPACES>, F
     ensures { Gives (λ v. v.items) result (spaces_at (table_view table.now)) }
 {
     let Some(value) = value_at(table, "spaces") else {
-        return Ok(default_spaces());
+        return Ok(Config::default().spaces);
     };
     match spaces_in(alloc, value)? {
         Some(spaces) => Ok(spaces),
@@ -230,20 +211,21 @@ fn spaces(alloc: Global, table: &Table) -> Result<ArrayVec<Space, MAX_SPACES>, F
     }
 }
 
-/// The configuration that the keys of a document ask for, within the limits or not, but for the scheme, whose key comes after
-/// the steps.
+/// The configuration that the keys of a document ask for, within the limits or not, but for the
+/// scheme, whose key comes after the steps.
 #[tactic(auto, unfolding(crate::specs::Settings::config_at))]
 pub fn config(alloc: Global, table: &Table) -> Result<Config, Fault>
     ensures { Gives (λ config. config) result (config_at (table_view table.now)) }
 {
-    let harts = whole_at(alloc, table, "harts", 1)?;
-    let window = whole_at(alloc, table, "window", 1)?;
+    let default = Config::default();
+    let harts = whole_at(alloc, table, "harts", default.harts)?;
+    let window = whole_at(alloc, table, "window", default.window)?;
     let base = base(alloc, table)?;
-    let capacity = whole_at(alloc, table, "capacity", 4)?;
+    let capacity = whole_at(alloc, table, "capacity", default.capacity)?;
     let spares = spares(alloc, table, harts)?;
     let spaces = spaces(alloc, table)?;
     Ok(Config {
-        scheme: Scheme::Sv39,
+        scheme: default.scheme,
         harts,
         spaces,
         window,
@@ -265,7 +247,8 @@ pub fn check_layout(config: &Config) -> Result<(), Fault>
     }
 }
 
-/// Refuses a configuration that is not within the limits for harts on threads, with at most 96 table frames.
+/// Refuses a configuration that is not within the limits for harts on threads, with at most 96
+/// table frames.
 pub fn check_live_layout(config: &Config) -> Result<(), Fault>
     ensures checked { Gives (λ done. done) result (checked max_live_frames config.now) }
     ensures within { OnOk result (MeetsLimits max_live_frames config.now) }

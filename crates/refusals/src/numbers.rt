@@ -1,4 +1,5 @@
-//! The number of each refusal, one equation each. Programs may store these numbers, so none ever changes.
+//! The number of each refusal, one equation each. Programs may store these numbers, so none ever
+//! changes.
 
 ghost use Rattle.std.specs.Prelude.{◌≡◌};
 ghost use Rattle.refusals.specs.Numbers.{code_of};

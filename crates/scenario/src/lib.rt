@@ -21,12 +21,11 @@ pub use command_line::{Ask, NoWords, answer_words, ask_of};
 pub use files::{first_wrong_step, worked_turns};
 pub use format_laws::worked_endings;
 pub use inspect_program::inspect_command;
-pub use keys::{
-    Fault, least_unknown_key, limits_are_checked, mode_is_sv39_by_default, worked_modes,
-};
+pub use keys::{Fault, least_unknown_key, mode_is_sv39_by_default, worked_modes};
 pub use lines::one_text;
 pub use live_program::live_command;
 pub use program::{Inspection, Job, Which, command};
+pub use spaces::limits_are_checked;
 pub use steps::StepFault;
 pub use system::start;
 pub use texts::{run_text, walk_text};

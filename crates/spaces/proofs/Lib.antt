@@ -31,3 +31,6 @@ pub mod Marks
 pub mod MarkedFrames
 pub mod Halves
 pub mod DistinctAsids
+pub mod LimitLemmas
+pub mod DefaultLimits
+pub mod PlaceTests

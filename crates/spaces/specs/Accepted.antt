@@ -18,22 +18,28 @@ pub record IsFlags (place : Place) (flags : PteFlags) : Type 0 where
   pub global : is_wrong_global place flags ≡ false
   pub byte : flags.0 < 2 ^ 8
 
--- the new word, by the level of the table and the old word: a pointer in place of 0 above the page's level, a leaf in place
--- of 0, 0 in place of a leaf, or a leaf with the same PPN and other flags
+-- the new word, by the level of the table and the old word: a pointer in place of 0 above the
+-- page's level, a leaf in place of 0, 0 in place of a leaf, or a leaf with the same PPN and other
+-- flags
 pub data Writes (spare : Option ℕ) (level old : ℕ) : Wish → ℕ → Type 0 where
-  adds_table : (place : Place) (page : Span) (ppn : ℕ) (flags : PteFlags) (frame : ℕ) → level_of page.size < level → old ≡ 0 → spare ≡ Some frame
+  adds_table : (place : Place) (page : Span) (ppn : ℕ) (flags : PteFlags) (frame : ℕ)
+      → level_of page.size < level → old ≡ 0 → spare ≡ Some frame
       → Writes spare level old (Map place page ppn flags) (table_word frame (is_kernel place))
-  adds_leaf : (place : Place) (page : Span) (ppn : ℕ) (flags : PteFlags) → level ≡ level_of page.size → old ≡ 0
+  adds_leaf : (place : Place) (page : Span) (ppn : ℕ) (flags : PteFlags)
+      → level ≡ level_of page.size → old ≡ 0
       → IsFlags place flags → ppn < 2 ^ ppn_bits → ppn % pages_of page.size ≡ 0
       → Writes spare level old (Map place page ppn flags) (leaf_word ppn flags)
-  removes_leaf : (place : Place) (page : Span) (q : ℕ) (f : PteFlags) → level ≡ level_of page.size → kind_of old ≡ Leaf q f
+  removes_leaf : (place : Place) (page : Span) (q : ℕ) (f : PteFlags) → level ≡ level_of page.size
+      → kind_of old ≡ Leaf q f
       → Writes spare level old (Unmap place page) 0
-  changes_leaf : (place : Place) (page : Span) (flags : PteFlags) (q : ℕ) (f : PteFlags) → level ≡ level_of page.size → kind_of old ≡ Leaf q f
+  changes_leaf : (place : Place) (page : Span) (flags : PteFlags) (q : ℕ) (f : PteFlags)
+      → level ≡ level_of page.size → kind_of old ≡ Leaf q f
       → IsFlags place flags
       → Writes spare level old (Protect place page flags) (leaf_word q flags)
 
 -- the word stands on the page's path in its place, at the home
-pub record Accepted (l : Layout) (words : Tables) (spare : Option ℕ) (hart : ℕ) (wish : Wish) (store : Store) : Type 0 where
+pub record Accepted (l : Layout) (words : Tables) (spare : Option ℕ) (hart : ℕ) (wish : Wish)
+    (store : Store) : Type 0 where
   pub home : hart ≡ home_of l (place_of wish)
   pub within : IsIn l (place_of wish) (page_of wish).base
   pub by : store.place ≡ place_of wish

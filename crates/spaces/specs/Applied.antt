@@ -20,7 +20,8 @@ points_at (Some table) ppn = table == ppn
 
 -- a new table is in use for the place of the edit
 abbrev pub holders_after : Holders → Place → Store → Holders
-holders_after holders place store ppn = if points_at (pointed (Some store.word)) ppn then Some place else holders ppn
+holders_after holders place store ppn =
+    if points_at (pointed (Some store.word)) ppn then Some place else holders ppn
 
 -- the same frame by frame, from this PPN on: a new table is in use for the place
 abbrev pub list_after : ℕ → List (Option Place) → Place → Option ℕ → List (Option Place)

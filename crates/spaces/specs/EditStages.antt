@@ -22,12 +22,18 @@ table_fault (Protect place page flags) = WrongSize
 
 -- where the path of the wished page starts: at the root of its space, or at a table of the window
 abbrev pub first_stage : Layout → Wish → EditStage
-first_stage l wish = record { wish = wish; level = start_level l (place_of wish); table = start_table l (place_of wish) (page_of wish).base }
+first_stage l wish =
+    record {
+      wish = wish;
+      level = start_level l (place_of wish);
+      table = start_table l (place_of wish) (page_of wish).base;
+    }
 
 -- no page of the kernel is of the root's level, where the window's tables stand
 abbrev pub path_start : Layout → Wish → Result EditStage MapFault
 path_start l wish =
-    if is_kernel (place_of wish) && level_of (page_of wish).size == top_level l.scheme then Err (table_fault wish) else Ok (first_stage l wish)
+    if is_kernel (place_of wish) && level_of (page_of wish).size == top_level l.scheme
+    then Err (table_fault wish) else Ok (first_stage l wish)
 
 abbrev pub unless_fault : Option MapFault → Result EditStage MapFault → Result EditStage MapFault
 unless_fault None r = r
@@ -39,19 +45,23 @@ edit_start l hart wish = unless_fault (wish_fault l hart wish) (path_start l wis
 
 -- the same of the home
 abbrev pub at_home_fault : Layout → Wish → Option MapFault
-at_home_fault l wish = if is_wrong_half l (place_of wish) (page_of wish) then Some WrongHalf else leaf_fault wish
+at_home_fault l wish =
+    if is_wrong_half l (place_of wish) (page_of wish) then Some WrongHalf else leaf_fault wish
 
 abbrev pub start_at_home : Layout → Wish → Result EditStage MapFault
 start_at_home l wish = unless_fault (at_home_fault l wish) (path_start l wish)
 
 -- a layout without spaces and spare frames
 abbrev pub bare_layout : Scheme → ℕ → ℕ → Layout
-bare_layout scheme window base = record { scheme = scheme; window = window; base = base; homes = []; spares = [] }
+bare_layout scheme window base =
+    record { scheme = scheme; window = window; base = base; homes = []; spares = [] }
 
 -- what a stage ends with over the words of one memory
 abbrev pub answer_from : EditStage → Tables → Option ℕ → Result Store MapFault
 answer_from e words spare =
-    store_due e.wish spare (path_end words (page_of e.wish).base (level_of (page_of e.wish).size) (e.level - level_of (page_of e.wish).size) e.table)
+    store_due e.wish spare
+    (path_end words (page_of e.wish).base (level_of (page_of e.wish).size)
+    (e.level - level_of (page_of e.wish).size) e.table)
 
 -- the same from a begin
 abbrev pub answer_of : Result EditStage MapFault → Tables → Option ℕ → Result Store MapFault
@@ -64,7 +74,8 @@ next_of (Err fault) = next.Refused fault
 
 -- the store that is due, if the path ends at this word
 abbrev pub due_here : EditStage → ℕ → Option ℕ → Result Store MapFault
-due_here e word spare = store_due e.wish spare (record { level = e.level; table = e.table; entry = word })
+due_here e word spare =
+    store_due e.wish spare (record { level = e.level; table = e.table; entry = word })
 
 abbrev pub stage_below : EditStage → Option ℕ → Option EditStage
 stage_below e None = None
@@ -72,7 +83,8 @@ stage_below e (Some table) = Some (record { wish = e.wish; level = e.level - 1; 
 
 -- above the page's level the path goes on at a pointer
 abbrev pub below_of : EditStage → ℕ → Option EditStage
-below_of e word = if e.level == level_of (page_of e.wish).size then None else stage_below e (pointed (Some word))
+below_of e word =
+    if e.level == level_of (page_of e.wish).size then None else stage_below e (pointed (Some word))
 
 abbrev pub more_or_end : Option EditStage → Result Store MapFault → Next
 more_or_end None due = next_of due
@@ -89,7 +101,8 @@ index_of e = vpn_of (page_of e.wish).base e.level
 -- what the next word of one memory makes of an edit agrees with its end over that memory
 abbrev pub Continues : EditStage → Tables → Option ℕ → Next → Type 0
 Continues e words spare (next.More after) =
-    IsStage after × (after.wish ≡ e.wish) × (after.level + 1 ≡ e.level) × (answer_from after words spare ≡ answer_from e words spare)
+    IsStage after × (after.wish ≡ e.wish) × (after.level + 1 ≡ e.level)
+    × (answer_from after words spare ≡ answer_from e words spare)
 Continues e words spare (next.Edit store) = answer_from e words spare ≡ Ok store
 Continues e words spare (next.Refused fault) = answer_from e words spare ≡ Err fault
 

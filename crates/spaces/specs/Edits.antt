@@ -93,7 +93,8 @@ wish_fault l hart wish =
 
 -- where a path ends: a word of a table of a level, which is 0 outside memory
 abbrev pub end_at : Tables → ℕ → ℕ → ℕ → PathEnd
-end_at words va level table = record { level = level; table = table; entry = unwrap_or (word_at words va level table) 0 }
+end_at words va level table =
+    record { level = level; table = table; entry = unwrap_or (word_at words va level table) 0 }
 
 -- a path goes on at a pointer
 abbrev pub go_on : Kind → (ℕ → PathEnd) → PathEnd → PathEnd
@@ -102,11 +103,13 @@ go_on kinds.Invalid below here = here
 go_on kinds.Reserved below here = here
 go_on (kinds.Leaf ppn flags) below here = here
 
--- the end of the path of an address from a table that is this many levels above the lowest level that is looked at
+-- the end of the path of an address from a table that is this many levels above the lowest level
+-- that is looked at
 unfoldable pub path_end : Tables → ℕ → ℕ → ℕ → ℕ → PathEnd
 path_end words va lowest zero table = end_at words va lowest table
 path_end words va lowest (suc n) table =
-    go_on (kind_of (end_at words va (lowest + suc n) table).entry) (path_end words va lowest n) (end_at words va (lowest + suc n) table)
+    go_on (kind_of (end_at words va (lowest + suc n) table).entry) (path_end words va lowest n)
+    (end_at words va (lowest + suc n) table)
 
 -- the root that a page's path starts at; the kernel's tables are below each root
 abbrev pub path_root : Layout → Place → ℕ
@@ -151,15 +154,18 @@ upper_word (Protect place page flags) spare (kinds.Table q g) = Err NotMapped
 -- the word that is due where the path of the page ends, or why there is none
 abbrev pub due_word : Wish → Option ℕ → PathEnd → Result ℕ MapFault
 due_word wish spare end =
-    if end.level == level_of (page_of wish).size then page_word wish (kind_of end.entry) else upper_word wish spare (kind_of end.entry)
+    if end.level == level_of (page_of wish).size then page_word wish (kind_of end.entry)
+    else upper_word wish spare (kind_of end.entry)
 
 abbrev pub store_at : Place → ℕ → PathEnd → Result ℕ MapFault → Result Store MapFault
-store_at place va end (Ok word) = Ok (record { place = place; ppn = end.table; index = vpn_of va end.level; word = word })
+store_at place va end (Ok word) =
+    Ok (record { place = place; ppn = end.table; index = vpn_of va end.level; word = word })
 store_at place va end (Err fault) = Err fault
 
 -- the store that is due at the end of the path, by the lowest unused spare frame of the home
 abbrev pub store_due : Wish → Option ℕ → PathEnd → Result Store MapFault
-store_due wish spare end = store_at (place_of wish) (page_of wish).base end (due_word wish spare end)
+store_due wish spare end =
+    store_at (place_of wish) (page_of wish).base end (due_word wish spare end)
 
 abbrev pub unless : Option MapFault → Result Store MapFault → Result Store MapFault
 unless None r = r
@@ -168,8 +174,10 @@ unless (Some fault) r = Err fault
 -- the end of the path of the wished page
 abbrev pub wish_end : Layout → Tables → Wish → PathEnd
 wish_end l words wish =
-    path_end words (page_of wish).base (level_of (page_of wish).size) (top_level l.scheme - level_of (page_of wish).size) (path_root l (place_of wish))
+    path_end words (page_of wish).base (level_of (page_of wish).size)
+    (top_level l.scheme - level_of (page_of wish).size) (path_root l (place_of wish))
 
 -- the store that is due, or the first fault
 unfoldable pub edit_of : Layout → Tables → Option ℕ → ℕ → Wish → Result Store MapFault
-edit_of l words spare hart wish = unless (wish_fault l hart wish) (store_due wish spare (wish_end l words wish))
+edit_of l words spare hart wish =
+    unless (wish_fault l hart wish) (store_due wish spare (wish_end l words wish))

@@ -8,7 +8,8 @@ use Rattle.spaces.specs.declared.places.Place.{Place}
 use Rattle.spaces.specs.declared.places.Place.TheVariants.{Space}
 use Rattle.spaces.specs.Layout.{Layout, HasPlace, frame_count, is_frame, user_slots}
 use Rattle.spaces.specs.Holders.{Holders, is_held_for, unused_spare}
-use Rattle.spaces.specs.Limits.{max_harts, max_spaces, max_window, max_frames}
+use Rattle.pte.specs.declared.TheConstants.{MAX_HARTS}
+use Rattle.spaces.specs.declared.configuration.TheConstants.{MAX_FRAMES, MAX_SPACES, MAX_WINDOW}
 use Rattle.spaces.specs.Opening.{is_word}
 use Rattle.spaces.specs.Tree.{IsTree}
 use Rattle.spaces.specs.Edits.{Store, place_of, edit_of}
@@ -25,7 +26,8 @@ word_index l ppn i = (ppn - l.base) * table_length + i
 
 -- the words as tables
 unfoldable pub words_of : Held → Tables
-words_of m ppn i = if is_word m.layout ppn i then slice_get m.words (word_index m.layout ppn i) else None
+words_of m ppn i =
+    if is_word m.layout ppn i then slice_get m.words (word_index m.layout ppn i) else None
 
 -- the place that each frame is in use for, by its place in the list
 abbrev pub held_at : Option (Option Place) → Option Place
@@ -33,12 +35,15 @@ held_at None = None
 held_at (Some holder) = holder
 
 abbrev pub holders_of : Held → Holders
-holders_of m ppn = if is_frame m.layout ppn then held_at (slice_get m.holders (ppn - m.layout.base)) else None
+holders_of m ppn =
+    if is_frame m.layout ppn then held_at (slice_get m.holders (ppn - m.layout.base)) else None
 
--- whether word n of the list is one of a space alone, by the holders in the list and the number of the root's frame
+-- whether word n of the list is one of a space alone, by the holders in the list and the number of
+-- the root's frame
 abbrev pub is_own_at : List (Option Place) → ℕ → ℕ → ℕ → Bool
 is_own_at holders root space n =
-    (n / table_length == root && nat_lt (n % table_length) user_slots) || is_held_for (held_at (slice_get holders (n / table_length))) (Space space)
+    (n / table_length == root && nat_lt (n % table_length) user_slots)
+    || is_held_for (held_at (slice_get holders (n / table_length))) (Space space)
 
 -- the lowest spare frame of a hart that is not in use
 abbrev pub spare_of : Held → ℕ → Option ℕ
@@ -47,12 +52,12 @@ spare_of m h = unused_spare m.layout (holders_of m) h
 -- the layout is within the limits
 pub record IsLayout (l : Layout) : Type 0 where
   pub some_space : 1 ≤ length l.homes
-  pub spaces : length l.homes ≤ max_spaces
-  pub harts : length l.spares ≤ max_harts
+  pub spaces : length l.homes ≤ MAX_SPACES
+  pub harts : length l.spares ≤ MAX_HARTS
   pub homes : All (λ home. home < length l.spares) l.homes
   pub some_window : 1 ≤ l.window
-  pub window : l.window ≤ max_window
-  pub frames_fit : frame_count l ≤ max_frames
+  pub window : l.window ≤ MAX_WINDOW
+  pub frames_fit : frame_count l ≤ MAX_FRAMES
   pub ppns_fit : l.base + frame_count l ≤ 2 ^ ppn_bits
 
 -- what every memory keeps

@@ -1,4 +1,5 @@
--- For which place each spare frame is in use, which one a new table takes, and what giving back the frames of a space leaves.
+-- For which place each spare frame is in use, which one a new table takes, and what giving back the
+-- frames of a space leaves.
 use Rattle.std.specs.Prelude.{ℕ, Bool, zero, suc, true, false, ◌+◌, ◌==◌, ◌&&◌, ◌||◌, nat_lt, if◌then◌else◌, Option, Some, None, is_none, slice_index}
 use Rattle.walk.specs.Leads.{Tables}
 use Rattle.spaces.specs.declared.places.Place.{Place}
@@ -22,7 +23,8 @@ is_held_for (Some other) place = is_same_place other place
 -- the first unused one of so many frames from a PPN on
 abbrev pub first_unused : Holders → ℕ → ℕ → Option ℕ
 first_unused holders zero ppn = None
-first_unused holders (suc n) ppn = if is_none (holders ppn) then Some ppn else first_unused holders n (ppn + 1)
+first_unused holders (suc n) ppn =
+    if is_none (holders ppn) then Some ppn else first_unused holders n (ppn + 1)
 
 -- the lowest unused spare frame of a hart
 abbrev pub unused_spare : Layout → Holders → ℕ → Option ℕ
@@ -30,7 +32,8 @@ unused_spare l holders h = first_unused holders (slice_index l.spares h) (spare_
 
 -- a word of a space alone: one of its root's user half, or of a frame in use for it
 abbrev pub is_word_of : Layout → Holders → ℕ → ℕ → ℕ → Bool
-is_word_of l holders s ppn i = (ppn == root_ppn l s && nat_lt i user_slots) || is_held_for (holders ppn) (Space s)
+is_word_of l holders s ppn i =
+    (ppn == root_ppn l s && nat_lt i user_slots) || is_held_for (holders ppn) (Space s)
 
 abbrev pub zero_word : Option ℕ → Option ℕ
 zero_word None = None
@@ -38,7 +41,8 @@ zero_word (Some word) = Some 0
 
 -- the words and the holders once the space is given back: its words are 0, and its frames unused
 abbrev pub emptied : Layout → Holders → ℕ → Tables → Tables
-emptied l holders s words ppn i = if is_word_of l holders s ppn i then zero_word (words ppn i) else words ppn i
+emptied l holders s words ppn i =
+    if is_word_of l holders s ppn i then zero_word (words ppn i) else words ppn i
 
 abbrev pub given_back : Option Place → ℕ → Option Place
 given_back old s = if is_held_for old (Space s) then None else old

@@ -1,5 +1,5 @@
--- How table memory is laid out in frames: the tables of the kernel window, the roots of the spaces, then each hart's spare
--- frames. A frame is a physical page, named by its PPN.
+-- How table memory is laid out in frames: the tables of the kernel window, the roots of the spaces,
+-- then each hart's spare frames. A frame is a physical page, named by its PPN.
 use Rattle.std.specs.Prelude.{ℕ, Bool, ◌+◌, ◌-◌, ◌/◌, ◌<◌, ◌&&◌, List, length, map, sum, take, slice_index, nat_le, nat_lt}
 use Rattle.pte.specs.declared.scheme.Scheme.{Scheme}
 use Rattle.pte.specs.Address.{table_length}
@@ -7,8 +7,8 @@ use Rattle.spaces.specs.declared.configuration.Config.{Config}
 use Rattle.spaces.specs.declared.places.Place.{Place}
 use Rattle.spaces.specs.declared.places.Place.TheVariants.{Space, Kernel}
 
--- the scheme, the number of the window's slots, the PPN of the first frame, the home of each space, and each hart's number of
--- spare frames
+-- the scheme, the number of the window's slots, the PPN of the first frame, the home of each space,
+-- and each hart's number of spare frames
 pub record Layout : Type 0 where
   pub scheme : Scheme
   pub window : ℕ
@@ -18,7 +18,14 @@ pub record Layout : Type 0 where
 
 -- the layout of a configuration, and how many frames it has
 abbrev pub layout_of : Config → Layout
-layout_of c = record { scheme = c.scheme; window = c.window; base = c.base; homes = map (λ s. s.home) c.spaces.items; spares = c.spares.items }
+layout_of c =
+    record {
+      scheme = c.scheme;
+      window = c.window;
+      base = c.base;
+      homes = map (λ s. s.home) c.spaces.items;
+      spares = c.spares.items;
+    }
 
 abbrev pub frame_count : Layout → ℕ
 frame_count l = l.window + length l.homes + sum l.spares

@@ -1,5 +1,6 @@
 pub mod Layout
 pub mod Limits
+pub mod Defaults
 pub mod Opening
 pub mod Edits
 pub mod EditStages

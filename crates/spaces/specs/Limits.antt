@@ -1,30 +1,19 @@
--- The limits of a configuration.
-use Rattle.std.specs.Prelude.{ℕ, ◌≡◌, ◌+◌, ◌<◌, ◌≤◌, ◌^◌, Bool, true, ◌==◌, ◌&&◌, not, IsTrue, All, List, [], ◌∷◌, length}
-use Rattle.std.specs.List.{list_any}
+-- The limits of a configuration, and their test.
+use Rattle.std.specs.Prelude.{ℕ, ◌≡◌, ◌+◌, ◌<◌, ◌≤◌, ◌^◌, Bool, true, ◌==◌, ◌&&◌, not, nat_le, nat_lt, IsTrue, All, List, [], ◌∷◌, length}
+use Rattle.std.specs.List.{list_all, list_any}
+use Rattle.pte.specs.declared.TheConstants.{MAX_CAPACITY, MAX_HARTS}
 use Rattle.pte.specs.Entry.{ppn_bits}
 use Rattle.spaces.specs.declared.configuration.Config.{Config}
 use Rattle.spaces.specs.declared.configuration.Space.{Space}
+use Rattle.spaces.specs.declared.configuration.TheConstants.{MAX_FRAMES, MAX_LIVE_FRAMES, MAX_SPACES, MAX_WINDOW}
 use Rattle.spaces.specs.Layout.{layout_of, frame_count}
-
--- the most harts, spaces and slots of the window, and the largest capacity of a mailbox
-abbrev pub max_harts : ℕ
-max_harts = 8
-
-abbrev pub max_spaces : ℕ
-max_spaces = 32
-
-abbrev pub max_window : ℕ
-max_window = 4
-
-abbrev pub max_capacity : ℕ
-max_capacity = 64
 
 -- how many table frames there may be at most, and how many for harts on threads
 abbrev pub max_frames : ℕ
-max_frames = 512
+max_frames = MAX_FRAMES
 
 abbrev pub max_live_frames : ℕ
-max_live_frames = 96
+max_live_frames = MAX_LIVE_FRAMES
 
 -- no space has the ASID of one after it
 abbrev pub asids_differ : List Space → Bool
@@ -34,15 +23,32 @@ asids_differ (s ∷ ss) = not (list_any (λ other. other.asid == s.asid) ss) && 
 -- the configuration is within the limits, its number of frames within this one
 pub record MeetsLimits (frames : ℕ) (c : Config) : Type 0 where
   pub some_hart : 1 ≤ c.harts
-  pub harts : c.harts ≤ max_harts
+  pub harts : c.harts ≤ MAX_HARTS
   pub some_space : 1 ≤ length c.spaces.items
-  pub spaces : length c.spaces.items ≤ max_spaces
+  pub spaces : length c.spaces.items ≤ MAX_SPACES
   pub homes : All (λ s. s.home < c.harts) c.spaces.items
   pub asids : IsTrue (asids_differ c.spaces.items)
   pub some_window : 1 ≤ c.window
-  pub window : c.window ≤ max_window
+  pub window : c.window ≤ MAX_WINDOW
   pub spares : length c.spares.items ≡ c.harts
   pub frames_fit : frame_count (layout_of c) ≤ frames
   pub ppns_fit : c.base + frame_count (layout_of c) ≤ 2 ^ ppn_bits
   pub some_capacity : 1 ≤ c.capacity
-  pub capacity : c.capacity ≤ max_capacity
+  pub capacity : c.capacity ≤ MAX_CAPACITY
+
+-- the number is from 1 to this
+abbrev pub is_from_one : ℕ → ℕ → Bool
+is_from_one most n = nat_le 1 n && nat_le n most
+
+-- the same as a test (law `limits_are_tested`)
+unfoldable pub is_within_limits : ℕ → Config → Bool
+is_within_limits frames c =
+    is_from_one MAX_HARTS c.harts
+    && (is_from_one MAX_SPACES (length c.spaces.items)
+    && (is_from_one MAX_WINDOW c.window
+    && (is_from_one MAX_CAPACITY c.capacity
+    && ((length c.spares.items == c.harts)
+    && (list_all (λ s. nat_lt s.home c.harts) c.spaces.items
+    && (asids_differ c.spaces.items
+    && (nat_le (frame_count (layout_of c)) frames
+    && nat_le (c.base + frame_count (layout_of c)) (2 ^ ppn_bits))))))))

@@ -1,4 +1,5 @@
--- The words of table memory at its opening: 0, but for the window's slots of each root, which point to the window's tables.
+-- The words of table memory at its opening: 0, but for the window's slots of each root, which point
+-- to the window's tables.
 use Rattle.std.specs.Prelude.{ℕ, Bool, ◌+◌, ◌-◌, ◌/◌, ◌%◌, ◌&&◌, nat_le, nat_lt, if◌then◌else◌, true, Some, None, List, [], ◌∷◌, ◌++◌, zero, suc}
 use Rattle.pte.specs.Address.{table_length}
 use Rattle.pte.specs.Entry.{table_word}
@@ -7,13 +8,16 @@ use Rattle.spaces.specs.Layout.{Layout, is_frame, is_root, first_window_slot, wi
 
 -- word i of each root
 abbrev pub root_word : Layout → ℕ → ℕ
-root_word l i = if nat_le (first_window_slot l) i then table_word (window_ppn l (i - first_window_slot l)) true else 0
+root_word l i =
+    if nat_le (first_window_slot l) i then table_word (window_ppn l (i - first_window_slot l)) true
+    else 0
 
 -- there is a word i of the table at a PPN
 abbrev pub is_word : Layout → ℕ → ℕ → Bool
 is_word l ppn i = is_frame l ppn && nat_lt i table_length
 
--- the word at the opening: of a root as above, of any other frame 0; and the memory of all these words
+-- the word at the opening: of a root as above, of any other frame 0; and the memory of all these
+-- words
 abbrev pub first_word : Layout → ℕ → ℕ → ℕ
 first_word l ppn i = if is_root l ppn then root_word l i else 0
 
@@ -23,4 +27,5 @@ opening l ppn i = if is_word l ppn i then Some (first_word l ppn i) else None
 -- the first so many of these words, frame by frame
 abbrev pub first_words : Layout → ℕ → List ℕ
 first_words l zero = []
-first_words l (suc n) = first_words l n ++ first_word l (l.base + n / table_length) (n % table_length) ∷ []
+first_words l (suc n) =
+    first_words l n ++ first_word l (l.base + n / table_length) (n % table_length) ∷ []

@@ -1,4 +1,5 @@
--- The tables as a tree: what the words at the home of one hart keep, whatever the words of the others are.
+-- The tables as a tree: what the words at the home of one hart keep, whatever the words of the
+-- others are.
 use Rattle.std.specs.Prelude.{ℕ, true, false, ◌≡◌, ◌+◌, ◌-◌, ◌<◌, ◌≤◌, ◌⊎◌, Option, Some, None, IsSome, length, slice_index}
 use Rattle.pte.specs.declared.entry.Kind.{Kind}
 use Rattle.pte.specs.declared.entry.Kind.TheVariants as kinds
@@ -11,7 +12,8 @@ use Rattle.spaces.specs.declared.places.Place.TheVariants.{Space, Kernel}
 use Rattle.spaces.specs.Holders.{Holders}
 use Rattle.spaces.specs.Layout.{Layout, HasPlace, home_of, is_root, root_ppn, window_ppn, spare_ppn, user_slots, first_window_slot}
 
--- the topmost table of a place on the path of an address, and its level: a space's root, or a table of the window
+-- the topmost table of a place on the path of an address, and its level: a space's root, or a table
+-- of the window
 abbrev pub start_level : Layout → Place → ℕ
 start_level l (Space s) = top_level l.scheme
 start_level l Kernel = top_level l.scheme - 1
@@ -31,16 +33,18 @@ table_on l words place va n = table_below words va (start_level l place) (start_
 
 -- the frame is at home on the hart: a root of its spaces, a table of the window, or a spare frame
 pub data IsAtHome (l : Layout) (h f : ℕ) : Type 0 where
-  of_root : (s : ℕ) → s < length l.homes → slice_index l.homes s ≡ h → f ≡ root_ppn l s → IsAtHome l h f
+  of_root : (s : ℕ) → s < length l.homes → slice_index l.homes s ≡ h → f ≡ root_ppn l s
+      → IsAtHome l h f
   of_window : (k : ℕ) → k < l.window → h ≡ 0 → f ≡ window_ppn l k → IsAtHome l h f
   of_spare : (n : ℕ) → n < slice_index l.spares h → f ≡ spare_ppn l h + n → IsAtHome l h f
 
 -- a spare frame of the hart that is in use for a place
-pub record IsSpareFor (l : Layout) (h : ℕ) (holders : Holders) (place : Place) (f : ℕ) : Type 0 where
-  pub number : ℕ
-  pub below : number < slice_index l.spares h
-  pub is : f ≡ spare_ppn l h + number
-  pub held : holders f ≡ Some place
+pub record IsSpareFor (l : Layout) (h : ℕ) (holders : Holders) (place : Place) (f : ℕ) : Type 0
+  where
+    pub number : ℕ
+    pub below : number < slice_index l.spares h
+    pub is : f ≡ spare_ppn l h + number
+    pub held : holders f ≡ Some place
 
 -- a topmost table of a place
 abbrev pub IsTop : Layout → Place → ℕ → Type 0
@@ -73,25 +77,34 @@ IsEntryOf word (kinds.Leaf ppn flags) = Unit {0}
 -- the frames of one home, whose spare frames are in use for these places
 pub record IsHome (l : Layout) (words : Tables) (h : ℕ) (holders : Holders) : Type 0 where
   -- what is in use for a place of this home is a spare frame of it
-  pub held : (f : ℕ) (place : Place) → holders f ≡ Some place → home_of l place ≡ h → (n : ℕ) × (n < slice_index l.spares h) × (f ≡ spare_ppn l h + n)
+  pub held : (f : ℕ) (place : Place) → holders f ≡ Some place → home_of l place ≡ h
+      → (n : ℕ) × (n < slice_index l.spares h) × (f ≡ spare_ppn l h + n)
   pub present : (f i : ℕ) → IsAtHome l h f → i < table_length → IsSome (words f i)
-  pub entries : (f i word : ℕ) → IsAtHome l h f → words f i ≡ Some word → IsEntryOf word (kind_of word)
+  pub entries : (f i word : ℕ) → IsAtHome l h f → words f i ≡ Some word
+      → IsEntryOf word (kind_of word)
   -- every root points to the window's tables, and its other upper slots are empty
   pub window : (s k : ℕ) → s < length l.homes → slice_index l.homes s ≡ h → k < l.window
       → words (root_ppn l s) (first_window_slot l + k) ≡ Some (table_word (window_ppn l k) true)
-  pub upper : (s i : ℕ) → s < length l.homes → slice_index l.homes s ≡ h → user_slots ≤ i → i < first_window_slot l
+  pub upper : (s i : ℕ) → s < length l.homes → slice_index l.homes s ≡ h → user_slots ≤ i
+      → i < first_window_slot l
       → words (root_ppn l s) i ≡ Some 0
-  -- any other pointer leads from a table of a place to a spare frame in use for that place, to which no other leads
-  pub closed : (f i g : ℕ) → IsAtHome l h f → IsOwn l f i → pointed (words f i) ≡ Some g → IsStep l h holders f g
+  -- any other pointer leads from a table of a place to a spare frame in use for that place, to
+  -- which no other leads
+  pub closed : (f i g : ℕ) → IsAtHome l h f → IsOwn l f i → pointed (words f i) ≡ Some g
+      → IsStep l h holders f g
   pub once : (f i f' i' g : ℕ) → IsAtHome l h f → IsAtHome l h f' → IsOwn l f i → IsOwn l f' i'
       → pointed (words f i) ≡ Some g → pointed (words f' i') ≡ Some g → (f ≡ f') × (i ≡ i')
-  pub unused : (n i : ℕ) → holders (spare_ppn l h + n) ≡ None → n < slice_index l.spares h → i < table_length → words (spare_ppn l h + n) i ≡ Some 0
+  pub unused : (n i : ℕ) → holders (spare_ppn l h + n) ≡ None → n < slice_index l.spares h
+      → i < table_length → words (spare_ppn l h + n) i ≡ Some 0
   -- pointers lead down level by level: at the lowest there is none
   pub bottom : (place : Place) (va t : ℕ) → HasPlace l place → home_of l place ≡ h → IsIn l place va
-      → table_on l words place va (start_level l place) ≡ Some t → pointed (word_at words va 0 t) ≡ None
+      → table_on l words place va (start_level l place) ≡ Some t
+      → pointed (word_at words va 0 t) ≡ None
   -- no word of a space has G
-  pub plain : (s va n t word : ℕ) → s < length l.homes → slice_index l.homes s ≡ h → IsIn l (Space s) va → n ≤ top_level l.scheme
-      → table_on l words (Space s) va n ≡ Some t → word_at words va (top_level l.scheme - n) t ≡ Some word → is_global word ≡ false
+  pub plain : (s va n t word : ℕ) → s < length l.homes → slice_index l.homes s ≡ h
+      → IsIn l (Space s) va → n ≤ top_level l.scheme
+      → table_on l words (Space s) va n ≡ Some t
+      → word_at words va (top_level l.scheme - n) t ≡ Some word → is_global word ≡ false
 
 -- the frames of all homes
 abbrev pub IsTree : Layout → Tables → Holders → Type 0

@@ -3,7 +3,7 @@ use Rattle.std.specs.Prelude.{ℕ, Bool, true, false, ◌≡◌, ◌≤◌, ◌<
 use Rattle.std.specs.Int.{bit_at}
 use Rattle.spaces.specs.declared.places.Place.{Place}
 use Rattle.spaces.specs.Held.{held_at}
-use Rattle.spaces.specs.Limits.{max_frames}
+use Rattle.spaces.specs.declared.configuration.TheConstants.{MAX_FRAMES}
 
 -- bit n % 64 of word n / 64 is the mark of frame n
 abbrev pub marked_in : List ℕ → ℕ → Bool
@@ -22,7 +22,8 @@ IsLowest marks from to (Some n) = IsLowestMarked marks from to n
 
 -- the marks are those of the frames that nothing holds
 abbrev pub AreMarked : (ℕ → Bool) → List (Option Place) → Type 0
-AreMarked marks holders = (n : ℕ) → n < length holders → marks n ≡ is_none (held_at (slice_get holders n))
+AreMarked marks holders =
+    (n : ℕ) → n < length holders → marks n ≡ is_none (held_at (slice_get holders n))
 
 -- the frame of a number is in use for nothing
 abbrev pub is_unused_in : List (Option Place) → ℕ → Bool
@@ -30,5 +31,5 @@ is_unused_in holders n = is_none (held_at (slice_get holders n))
 
 -- there are no more frames than marks, and the marks are right
 pub record IsFrameUse (marks : ℕ → Bool) (holders : List (Option Place)) : Type 0 where
-  pub few : length holders ≤ max_frames
+  pub few : length holders ≤ MAX_FRAMES
   pub marked : AreMarked marks holders

@@ -2,7 +2,7 @@
 
 ghost use Rattle.std.specs.Prelude.{◌≡◌, ◌+◌, ◌≤◌, ◌<◌, ◌^◌, ◌↔◌, IfSome, IsTrue, None, Some, ◌==◌, All, if◌then◌else◌, length, nat_lt, slice_index, sum};
 ghost use Rattle.std.specs.List.{list_any};
-ghost use Rattle.spaces.specs.Limits.{asids_differ, max_harts};
+ghost use Rattle.spaces.specs.Limits.{asids_differ};
 
 use crate::places::Place;
 use arrayvec::ArrayVec;
@@ -20,6 +20,9 @@ pub const MAX_FRAMES: u64 = 512;
 
 /// How many table frames there may be for harts on threads.
 pub const MAX_LIVE_FRAMES: u64 = 96;
+
+/// How many spare frames each hart has by default.
+pub const DEFAULT_SPARES: u16 = 8;
 
 /// An address space: the hart that alone stores to its tables, and its ASID.
 #[derive(Clone, Copy, PartialEq, Eq, Debug, Default)]
@@ -43,16 +46,29 @@ pub struct Config {
     pub window: u16,
     /// The PPN of the first table frame. The PPNs of all table frames are below 2^44.
     pub base: u64,
-    /// How many spare frames for new tables each hart has: one number for each hart. Window, spaces and spares together are
-    /// at most 512 table frames.
+    /// How many spare frames for new tables each hart has: one number for each hart. Window, spaces
+    /// and spares together are at most 512 table frames.
     pub spares: ArrayVec<u16, MAX_HARTS>,
     /// The capacity of each mailbox, from 1 to 64.
     pub capacity: u16,
 }
 
+impl Default for Config {
+    ghost use Rattle.spaces.specs.Defaults.{default_config};
+
+    ghost is_default = { λ config. config ≡ default_config };
+
+    /// What a file asks for that leaves each key out: Sv39, one hart with 8 spare frames, one space
+    /// of it with ASID 1, a window of one slot, frames from PPN 0x80000 on, and mailboxes of
+    /// capacity 4.
+    fn default() -> Config {
+        Config::with_harts(1)
+    }
+}
+
 /// The sum of the numbers.
 pub(crate) fn total(spares: &[u16]) -> u64
-    requires { length spares.now ≤ max_harts }
+    requires { length spares.now ≤ MAX_HARTS }
     ensures value { result ≡ sum spares.now }
     ensures bound { result < 2 ^ 32 }
 {
@@ -79,18 +95,41 @@ fn asids_differ(spaces: &[Space]) -> bool
 impl Config {
     ghost use Rattle.pte.specs.Entry.{ppn_bits};
     ghost use Rattle.spaces.specs.Layout.{layout_of, frame_count, HasPlace, home_of, root_ppn, spare_ppn};
-    ghost use Rattle.spaces.specs.Limits.{max_frames, max_live_frames, MeetsLimits};
+    ghost use Rattle.spaces.specs.Defaults.{default_for};
+    ghost use Rattle.spaces.specs.Limits.{is_within_limits, max_frames, max_live_frames, MeetsLimits};
+
+    /// The default for so many harts, each of which has 8 spare frames; there may be 8 harts at
+    /// most.
+    pub fn with_harts(harts: u16) -> Config
+        ensures { result ≡ default_for harts }
+    {
+        let mut spaces = ArrayVec::new();
+        spaces.push(Space { home: 0, asid: 1 });
+        let mut spares = ArrayVec::from([DEFAULT_SPARES; MAX_HARTS]);
+        spares.truncate(usize::from(harts));
+        Config {
+            scheme: Scheme::Sv39,
+            harts,
+            spaces,
+            window: 1,
+            base: 0x8_0000,
+            spares,
+            capacity: 4,
+        }
+    }
 
     /// Whether the limits hold that the fields tell, with at most 512 table frames.
     pub fn check(&self) -> bool
-        ensures { IsTrue result ↔ MeetsLimits max_frames self.now }
+        ensures value { result ≡ is_within_limits max_frames self.now }
+        ensures limits { IsTrue result ↔ MeetsLimits max_frames self.now }
     {
         self.meets_limits(MAX_FRAMES)
     }
 
     /// Whether the limits hold that the fields tell, with at most 96 table frames.
     pub fn check_live(&self) -> bool
-        ensures { IsTrue result ↔ MeetsLimits max_live_frames self.now }
+        ensures value { result ≡ is_within_limits max_live_frames self.now }
+        ensures limits { IsTrue result ↔ MeetsLimits max_live_frames self.now }
     {
         self.meets_limits(MAX_LIVE_FRAMES)
     }
@@ -138,7 +177,9 @@ impl Config {
     pub fn spare(&self, hart: u8, number: u16) -> Option<u64>
         requires limits { MeetsLimits max_frames self.now }
         requires hart { hart < length self.now.spares.items }
-        ensures value { result ≡ (if nat_lt number (slice_index self.now.spares.items hart) then Some (spare_ppn (layout_of self.now) hart + number) else None) }
+        ensures value { result
+            ≡ (if nat_lt number (slice_index self.now.spares.items hart)
+            then Some (spare_ppn (layout_of self.now) hart + number) else None) }
         ensures range { IfSome result (λ frame. frame < 2 ^ ppn_bits) }
     {
         let hart = usize::from(hart);

@@ -14,14 +14,15 @@ use crate::edits::Edit;
 use crate::faults::MapFault;
 use crate::places::Place;
 use crate::wishes::{PathEnd, Wish};
-use pte::{Scheme, TABLE_LENGTH};
+use bitflags::Flags;
+use pte::{PPN_BITS, PteFlags, Scheme, TABLE_LENGTH};
 use std::marker::Model;
 
 /// How many of a root's slots are the user's half.
 pub(crate) const USER_SLOTS: u16 = TABLE_LENGTH / 2;
 
-/// An edit between two loads. It holds no memory: `wants` tells the word that comes next, and `load` takes it. It ends after at
-/// most three loads under Sv39, and four under Sv48.
+/// An edit between two loads. It holds no memory: `wants` tells the word that comes next, and
+/// `load` takes it. It ends after at most three loads under Sv39, and four under Sv48.
 #[derive(Clone, Copy, Debug)]
 pub struct EditWalk {
     wish: Wish,
@@ -54,14 +55,18 @@ pub enum Next {
     Refused(MapFault),
 }
 
+/// V, in the word of an entry.
+const VALID: u64 = 0x01;
+
 /// The table that a word points to. A pointer has V, no other flag but G, and no bit from 54 on.
 #[inline(always)]
 #[tactic(auto, using(crate::proofs::Pointers::targets))]
 pub(crate) fn target(word: u64) -> Option<u64>
     ensures { result ≡ pointed (Some word) }
 {
+    let global = u64::from(PteFlags::G.bits());
     let flags = word % 256;
-    let is_pointer = word >> 54 == 0 && (flags == 0x01 || flags == 0x21);
+    let is_pointer = word >> (10 + PPN_BITS) == 0 && (flags == VALID || flags == VALID + global);
     if is_pointer { Some(word >> 10) } else { None }
 }
 
@@ -69,9 +74,9 @@ impl EditWalk {
     ghost use Rattle.std.specs.Prelude.{ℕ, ◌==◌, IsTrue, None, Option, Some};
     ghost use Rattle.pte.specs.Address.{level_of};
 
-    /// The edit that a hart begins. The refusals that no word decides come here, in the order of `MapFault`; last that of a
-    /// page of the kernel of the root's level, where the window's table stands: `TableInWay`, or `WrongSize` to unmap or
-    /// protect it.
+    /// The edit that a hart begins. The refusals that no word decides come here, in the order of
+    /// `MapFault`; last that of a page of the kernel of the root's level, where the window's table
+    /// stands: `TableInWay`, or `WrongSize` to unmap or protect it.
     pub fn begin(config: &Config, hart: u8, wish: Wish) -> Result<EditWalk, MapFault>
         requires limits { MeetsLimits max_frames config.now }
         requires place { HasPlace (layout_of config.now) (place_of wish) }
@@ -83,7 +88,8 @@ impl EditWalk {
         EditWalk::start(config.scheme, config.window, config.base, wish)
     }
 
-    /// The edit that its home begins, in memory of a scheme and a window of so many slots, from a PPN on.
+    /// The edit that its home begins, in memory of a scheme and a window of so many slots, from a
+    /// PPN on.
     #[inline(always)]
     pub(crate) fn start(
         scheme: Scheme,
@@ -166,19 +172,21 @@ impl EditWalk {
         Ok(Edit::new(self.wish.place(), ppn, index, word))
     }
 
-    /// Whether the edit waits for a word of its page's level, so that the store that is due does not turn on the spare frame.
-    /// No edit is below that level: tested by `<=`, the compiler sees that the loads are few.
+    /// Whether the edit waits for a word of its page's level, so that the store that is due does
+    /// not turn on the spare frame. No edit is below that level: tested by `<=`, the compiler sees
+    /// that the loads are few.
     #[inline(always)]
     #[tactic(auto, using(crate::proofs::Stages::needless))]
     pub(crate) fn is_at_page(&self) -> bool
         ensures level { result ≡ (self.now.level == level_of (page_of self.now.wish).size) }
-        ensures spare { IsTrue result → (word : ℕ) (o : Option ℕ) → due_here self.now word None ≡ due_here self.now word o }
+        ensures spare { IsTrue result → (word : ℕ) (o : Option ℕ)
+            → due_here self.now word None ≡ due_here self.now word o }
     {
         self.level <= self.wish.level()
     }
 
-    /// Goes on with the word that the edit waited for; `spare` is the PPN of the home's lowest unused spare frame, which is
-    /// below 2^44.
+    /// Goes on with the word that the edit waited for; `spare` is the PPN of the home's lowest
+    /// unused spare frame, which is below 2^44.
     #[inline(always)]
     pub fn load(self, word: u64, spare: Option<u64>) -> Next
         requires { IfSome spare (λ frame. frame < 2 ^ ppn_bits) }

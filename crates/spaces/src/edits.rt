@@ -35,7 +35,8 @@ impl Model for Edit {
 
     ghost view = { λ e. record { place = e.place; ppn = e.ppn; index = e.index; word = e.word } };
 
-    ghost inverse = { λ s. record { place = s.place; ppn = s.ppn; index = s.index; word = s.word } };
+    ghost inverse = { λ s.
+        record { place = s.place; ppn = s.ppn; index = s.index; word = s.word } };
 }
 
 impl Edit {
@@ -73,10 +74,12 @@ impl Edit {
     }
 }
 
-/// The lowest unused spare frame of the hart, which is looked for only where the store that is due turns on it.
+/// The lowest unused spare frame of the hart, which is looked for only where the store that is due
+/// turns on it.
 #[inline(always)]
 fn spare_for(memory: &Memory, hart: u8, walk: &EditWalk) -> Option<u64>
-    ensures same { (word : ℕ) → due_here walk.now word result ≡ due_here walk.now word (spare_of memory.now hart) }
+    ensures same { (word : ℕ)
+        → due_here walk.now word result ≡ due_here walk.now word (spare_of memory.now hart) }
     ensures range { IfSome result (λ frame. frame < 2 ^ ppn_bits) }
 {
     if walk.is_at_page() {
@@ -90,7 +93,8 @@ fn spare_for(memory: &Memory, hart: u8, walk: &EditWalk) -> Option<u64>
 #[inline(always)]
 fn edit_due(memory: &Memory, hart: u8, wish: &Wish) -> Result<Edit, MapFault>
     requires { HasPlace memory.now.layout (place_of wish.now) }
-    ensures outcome { result ≡ edit_of memory.now.layout (words_of memory.now) (spare_of memory.now hart) hart wish.now }
+    ensures outcome { result
+        ≡ edit_of memory.now.layout (words_of memory.now) (spare_of memory.now hart) hart wish.now }
 {
     let mut walk = memory.begin(hart, wish)?;
     loop {
@@ -103,8 +107,9 @@ fn edit_due(memory: &Memory, hart: u8, wish: &Wish) -> Result<Edit, MapFault>
     }
 }
 
-/// The one store that is due next to map the page to the PPN with these flags: a pointer where a table is missing, which
-/// takes the lowest unused spare frame of the home, else the leaf. The refusals are tested in the order of `MapFault`.
+/// The one store that is due next to map the page to the PPN with these flags: a pointer where a
+/// table is missing, which takes the lowest unused spare frame of the home, else the leaf. The
+/// refusals are tested in the order of `MapFault`.
 #[inline(always)]
 pub fn next_map_edit(
     memory: &Memory,
@@ -115,7 +120,9 @@ pub fn next_map_edit(
     flags: PteFlags,
 ) -> Result<Edit, MapFault>
     requires { HasPlace memory.now.layout place }
-    ensures outcome { result ≡ edit_of memory.now.layout (words_of memory.now) (spare_of memory.now hart) hart (wish.Map place page ppn flags) }
+    ensures outcome { result
+        ≡ edit_of memory.now.layout (words_of memory.now) (spare_of memory.now hart) hart
+        (wish.Map place page ppn flags) }
     ensures due { IfOk result (IsDue memory.now) }
 {
     edit_due(
@@ -130,19 +137,23 @@ pub fn next_map_edit(
     )
 }
 
-/// The one store that unmaps the page: 0 in the place of its leaf. Refused, in this order, with `NotHome`, `WrongHalf`, and
-/// then `NotMapped` or `WrongSize` by what the path of the page ends at.
+/// The one store that unmaps the page: 0 in the place of its leaf. Refused, in this order, with
+/// `NotHome`, `WrongHalf`, and then `NotMapped` or `WrongSize` by what the path of the page ends
+/// at.
 #[inline(always)]
 pub fn unmap_edit(memory: &Memory, hart: u8, place: Place, page: Page) -> Result<Edit, MapFault>
     requires { HasPlace memory.now.layout place }
-    ensures outcome { result ≡ edit_of memory.now.layout (words_of memory.now) (spare_of memory.now hart) hart (wish.Unmap place page) }
+    ensures outcome { result
+        ≡ edit_of memory.now.layout (words_of memory.now) (spare_of memory.now hart) hart
+        (wish.Unmap place page) }
     ensures due { IfOk result (IsDue memory.now) }
 {
     edit_due(memory, hart, &Wish::Unmap { place, page })
 }
 
-/// The one store that gives the page's leaf other flags, and keeps its PPN. Refused, in this order, with `NotHome`,
-/// `WrongHalf`, `BadFlags`, and then `NotMapped` or `WrongSize` by what the path of the page ends at.
+/// The one store that gives the page's leaf other flags, and keeps its PPN. Refused, in this order,
+/// with `NotHome`, `WrongHalf`, `BadFlags`, and then `NotMapped` or `WrongSize` by what the path of
+/// the page ends at.
 #[inline(always)]
 pub fn protect_edit(
     memory: &Memory,
@@ -152,20 +163,26 @@ pub fn protect_edit(
     flags: PteFlags,
 ) -> Result<Edit, MapFault>
     requires { HasPlace memory.now.layout place }
-    ensures outcome { result ≡ edit_of memory.now.layout (words_of memory.now) (spare_of memory.now hart) hart (wish.Protect place page flags) }
+    ensures outcome { result
+        ≡ edit_of memory.now.layout (words_of memory.now) (spare_of memory.now hart) hart
+        (wish.Protect place page flags) }
     ensures due { IfOk result (IsDue memory.now) }
 {
     edit_due(memory, hart, &Wish::Protect { place, page, flags })
 }
 
-/// Stores the edit's word; a new table is in use for the place from then on. Asks for an edit of this memory as it is now.
+/// Stores the edit's word; a new table is in use for the place from then on. Asks for an edit of
+/// this memory as it is now.
 pub fn apply(memory: &mut Memory, edit: Edit)
     requires { IsDue memory.old edit }
     ensures layout { memory.new.layout ≡ memory.old.layout }
-    ensures words { (ppn i : ℕ) → words_of memory.new ppn i ≡ words_after (words_of memory.old) edit ppn i }
-    ensures holders { (ppn : ℕ) → holders_of memory.new ppn ≡ holders_after (holders_of memory.old) edit.place edit ppn }
+    ensures words { (ppn i : ℕ)
+        → words_of memory.new ppn i ≡ words_after (words_of memory.old) edit ppn i }
+    ensures holders { (ppn : ℕ)
+        → holders_of memory.new ppn ≡ holders_after (holders_of memory.old) edit.place edit ppn }
     // what it does to the mappings of all roots, for what was wished
-    ensures maps { (hart : ℕ) (w : WishOf) → IsEdit memory.old.layout (words_of memory.old) (holders_of memory.old) hart w edit
+    ensures maps { (hart : ℕ) (w : WishOf)
+        → IsEdit memory.old.layout (words_of memory.old) (holders_of memory.old) hart w edit
         → HasEffect memory.old.layout w edit (words_of memory.old) (words_of memory.new) }
 {
     memory.store(edit.place, edit.ppn, edit.index, edit.word);

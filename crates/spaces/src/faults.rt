@@ -25,14 +25,15 @@ impl From<AllocError> for OpenFault {
     }
 }
 
-/// Why an edit is refused, in the order in which the tests are made: first what the call says, then what the tables hold.
+/// Why an edit is refused, in the order in which the tests are made: first what the call says, then
+/// what the tables hold.
 #[derive(Clone, Copy, PartialEq, Eq, Debug, Error)]
 pub enum MapFault {
     /// The hart is not the home of the place.
     #[error("the hart is not the home of these tables")]
     NotHome,
-    /// A page that is none of the scheme (`Page::fits`), a page of a space outside the user's half of the root, or a page of the
-    /// kernel outside the window.
+    /// A page that is none of the scheme (`Page::fits`), a page of a space outside the user's half
+    /// of the root, or a page of the kernel outside the window.
     #[error("the page lies outside the part of the root that its place has")]
     WrongHalf,
     /// Flags that no leaf has, G for a space, or no G for the kernel.

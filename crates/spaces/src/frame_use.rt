@@ -12,8 +12,8 @@ use crate::unused_frames::UnusedFrames;
 use std::alloc::{AllocError, Global};
 use std::marker::Model;
 
-/// For which place each of up to 512 frames is in use as a spare one, if for any. Beside it stands which frames are unused, so
-/// that a new table searches none of those in use.
+/// For which place each of up to 512 frames is in use as a spare one, if for any. Beside it stands
+/// which frames are unused, so that a new table searches none of those in use.
 #[derive(Drop)]
 pub(crate) struct FrameUse {
     holders: Vec<Option<Place>>,
@@ -60,7 +60,8 @@ fn free_frames(holders: &mut [Option<Place>], unused: &mut UnusedFrames, space: 
     requires few { length holders.old ≤ max_frames }
     requires marks { AreMarked (marked_in unused.old) holders.old }
     ensures length { length holders.new ≡ length holders.old }
-    ensures holders { (n : ℕ) → held_at (slice_get holders.new n) ≡ given_back (held_at (slice_get holders.old n)) space }
+    ensures holders { (n : ℕ)
+        → held_at (slice_get holders.new n) ≡ given_back (held_at (slice_get holders.old n)) space }
     ensures marks { AreMarked (marked_in unused.new) holders.new }
 {
     for at in 0..holders.len() {
@@ -109,7 +110,8 @@ impl FrameUse {
     /// The frames of a space are unused from now on.
     pub(crate) fn give_back(&mut self, space: u8)
         ensures length { length self.new ≡ length self.old }
-        ensures holders { (n : ℕ) → held_at (slice_get self.new n) ≡ given_back (held_at (slice_get self.old n)) space }
+        ensures holders { (n : ℕ)
+            → held_at (slice_get self.new n) ≡ given_back (held_at (slice_get self.old n)) space }
     {
         free_frames(&mut self.holders, &mut self.unused, space);
     }

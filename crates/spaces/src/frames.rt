@@ -4,7 +4,7 @@ ghost use Rattle.std.specs.Prelude.{◌≡◌, ◌+◌, ◌*◌, ◌<◌, ◌≤
 ghost use Rattle.pte.specs.Address.{table_length};
 ghost use Rattle.pte.specs.Entry.{ppn_bits};
 ghost use Rattle.spaces.specs.Layout.{frame_count, HasPlace, home_of, layout_of, root_ppn, user_slots};
-ghost use Rattle.spaces.specs.Limits.{max_frames, max_harts, max_spaces, MeetsLimits};
+ghost use Rattle.spaces.specs.Limits.{max_frames, MeetsLimits};
 ghost use Rattle.spaces.specs.Opening.{first_word, first_words, is_word, opening};
 ghost use Rattle.spaces.specs.Edits.{place_of};
 ghost use Rattle.spaces.specs.EditStages.{edit_start};
@@ -42,13 +42,25 @@ impl Model for Memory {
     ghost Value = { Held };
 
     ghost view = { λ m. record {
-      layout = record { scheme = m.scheme; window = m.window; base = m.base; homes = m.homes.items; spares = m.spares.items };
+      layout = record {
+        scheme = m.scheme;
+        window = m.window;
+        base = m.base;
+        homes = m.homes.items;
+        spares = m.spares.items;
+      };
       words = m.words.items;
       holders = m.frames;
     } };
 
     ghost invariant = { λ m. IsMemory (record {
-      layout = record { scheme = m.scheme; window = m.window; base = m.base; homes = m.homes.items; spares = m.spares.items };
+      layout = record {
+        scheme = m.scheme;
+        window = m.window;
+        base = m.base;
+        homes = m.homes.items;
+        spares = m.spares.items;
+      };
       words = m.words.items;
       holders = m.frames;
     }) };
@@ -56,7 +68,7 @@ impl Model for Memory {
 
 /// The homes of the spaces.
 fn homes_of(spaces: &[Space]) -> ArrayVec<u8, MAX_SPACES>
-    requires { length spaces.now ≤ max_spaces }
+    requires { length spaces.now ≤ MAX_SPACES }
     ensures { result.items ≡ map (λ s. s.home) spaces.now }
 {
     let mut homes = ArrayVec::new();
@@ -68,7 +80,7 @@ fn homes_of(spaces: &[Space]) -> ArrayVec<u8, MAX_SPACES>
 
 /// The spare frames of each hart.
 fn copy_of(spares: &[u16]) -> ArrayVec<u16, MAX_HARTS>
-    requires { length spares.now ≤ max_harts }
+    requires { length spares.now ≤ MAX_HARTS }
     ensures { result.items ≡ spares.now }
 {
     let mut copy = ArrayVec::new();
@@ -81,7 +93,8 @@ fn copy_of(spares: &[u16]) -> ArrayVec<u16, MAX_HARTS>
 /// The words of all frames at the opening, frame by frame.
 pub fn first_words(alloc: Global, config: &Config) -> Result<Vec<u64>, AllocError>
     requires { MeetsLimits max_frames config.now }
-    ensures { IfOk result (λ words. words.items ≡ first_words (layout_of config.now) (frame_count (layout_of config.now) * table_length)) }
+    ensures { IfOk result (λ words. words.items
+        ≡ first_words (layout_of config.now) (frame_count (layout_of config.now) * table_length)) }
 {
     let count = config.frame_count() * u64::from(TABLE_LENGTH);
     let mut words = Vec::with_capacity(alloc, count as usize)?;
@@ -112,13 +125,16 @@ fn first_word(config: &Config, ppn: u64, index: u16) -> u64
 impl Memory {
     ghost use Rattle.std.specs.Prelude.{OnOk, Err};
 
-    /// The memory of a configuration, with all the room that it ever takes. Its words are 0 but for the window's slots of
-    /// each root. `BadLayout` exactly if `Config::check` says no, `NoMemory` if the words cannot be allocated.
+    /// The memory of a configuration, with all the room that it ever takes. Its words are 0 but for
+    /// the window's slots of each root. `BadLayout` exactly if `Config::check` says no, `NoMemory`
+    /// if the words cannot be allocated.
     pub fn open(alloc: Global, config: &Config) -> Result<Memory, OpenFault>
-        ensures bad_layout { (result ≡ Err OpenFault.BadLayout) ↔ (¬ MeetsLimits max_frames config.now) }
+        ensures bad_layout { (result ≡ Err OpenFault.BadLayout)
+            ↔ (¬ MeetsLimits max_frames config.now) }
         ensures limits { OnOk result (MeetsLimits max_frames config.now) }
         ensures layout { IfOk result (λ memory. memory.layout ≡ layout_of config.now) }
-        ensures words { IfOk result (λ memory. (ppn i : ℕ) → words_of memory ppn i ≡ opening (layout_of config.now) ppn i) }
+        ensures words { IfOk result (λ memory. (ppn i : ℕ)
+            → words_of memory ppn i ≡ opening (layout_of config.now) ppn i) }
         ensures holders { IfOk result (λ memory. (ppn : ℕ) → holders_of memory ppn ≡ None) }
     {
         if !config.check() {
@@ -146,7 +162,9 @@ impl Memory {
 
     /// Where a word stands, if it is there.
     fn word_index(&self, ppn: u64, index: u16) -> Option<usize>
-        ensures { result ≡ (if is_word self.now.layout ppn index then Some (word_index self.now.layout ppn index) else None) }
+        ensures { result
+            ≡ (if is_word self.now.layout ppn index then Some (word_index self.now.layout ppn index)
+            else None) }
     {
         let is_word = self.base <= ppn
             && ppn < self.base + self.frame_count()
@@ -245,12 +263,20 @@ impl Memory {
     ghost use Rattle.spaces.specs.Held.{IsDue};
     ghost use Rattle.spaces.specs.Applied.{holders_after, words_after};
 
-    /// Stores one word; the table that it points to, if it does, is in use for the place from now on.
+    /// Stores one word; the table that it points to, if it does, is in use for the place from now
+    /// on.
     pub(crate) fn store(&mut self, place: Place, ppn: u64, index: u16, word: u64)
-        requires { IsDue self.old (record { place = place; ppn = ppn; index = index; word = word }) }
+        requires { IsDue self.old
+            (record { place = place; ppn = ppn; index = index; word = word }) }
         ensures layout { self.new.layout ≡ self.old.layout }
-        ensures words { (f i : ℕ) → words_of self.new f i ≡ words_after (words_of self.old) (record { place = place; ppn = ppn; index = index; word = word }) f i }
-        ensures holders { (f : ℕ) → holders_of self.new f ≡ holders_after (holders_of self.old) place (record { place = place; ppn = ppn; index = index; word = word }) f }
+        ensures words { (f i : ℕ)
+            → words_of self.new f i
+            ≡ words_after (words_of self.old)
+            (record { place = place; ppn = ppn; index = index; word = word }) f i }
+        ensures holders { (f : ℕ)
+            → holders_of self.new f
+            ≡ holders_after (holders_of self.old) place
+            (record { place = place; ppn = ppn; index = index; word = word }) f }
     {
         let at = (ppn - self.base) * u64::from(TABLE_LENGTH) + u64::from(index);
         self.words[at as usize] = word;
@@ -264,19 +290,26 @@ impl Memory {
 fn clear(words: &mut [u64], first: usize, count: usize)
     requires { first + count ≤ length words.old }
     ensures length { length words.new ≡ length words.old }
-    ensures words { (n : ℕ) → slice_get words.new n ≡ (if nat_lt n (first + count) && nat_le first n then zero_word (slice_get words.old n) else slice_get words.old n) }
+    ensures words { (n : ℕ)
+        → slice_get words.new n
+        ≡ (if nat_lt n (first + count) && nat_le first n then zero_word (slice_get words.old n)
+        else slice_get words.old n) }
 {
     for at in first..first + count {
         words[at] = 0;
     }
 }
 
-/// Stores 0 on each word of a space, whose root is the frame of this number. Words of no other frame are read or stored.
+/// Stores 0 on each word of a space, whose root is the frame of this number. Words of no other
+/// frame are read or stored.
 fn empty_words(words: &mut [u64], holders: &[Option<Place>], root: usize, space: u8)
     requires length { length words.old ≡ length holders.now * table_length }
     requires root { root < length holders.now }
     ensures length { length words.new ≡ length words.old }
-    ensures words { (n : ℕ) → slice_get words.new n ≡ (if is_own_at holders.now root space n then zero_word (slice_get words.old n) else slice_get words.old n) }
+    ensures words { (n : ℕ)
+        → slice_get words.new n
+        ≡ (if is_own_at holders.now root space n then zero_word (slice_get words.old n)
+        else slice_get words.old n) }
 {
     let table = usize::from(TABLE_LENGTH);
     for frame in 0..holders.len() {
@@ -295,9 +328,13 @@ impl Memory {
     pub fn give_back(&mut self, space: u8)
         requires { space < length self.old.layout.homes }
         ensures layout { self.new.layout ≡ self.old.layout }
-        ensures words { (ppn i : ℕ) → words_of self.new ppn i ≡ emptied self.old.layout (holders_of self.old) space (words_of self.old) ppn i }
-        ensures holders { (ppn : ℕ) → holders_of self.new ppn ≡ given_back (holders_of self.old ppn) space }
-        ensures empties { EmptiesSpace self.old.layout space (words_of self.old) (words_of self.new) }
+        ensures words { (ppn i : ℕ)
+            → words_of self.new ppn i
+            ≡ emptied self.old.layout (holders_of self.old) space (words_of self.old) ppn i }
+        ensures holders { (ppn : ℕ)
+            → holders_of self.new ppn ≡ given_back (holders_of self.old ppn) space }
+        ensures empties { EmptiesSpace self.old.layout space (words_of self.old)
+            (words_of self.new) }
     {
         let root = usize::from(self.window) + usize::from(space);
         empty_words(&mut self.words, self.frames.holders(), root, space);

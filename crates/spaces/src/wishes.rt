@@ -110,13 +110,16 @@ impl Wish {
         page.size().level()
     }
 
-    /// Whether the page is none of the scheme, or lies outside the part of the root that the place has beside a window of so
-    /// many slots.
+    /// Whether the page is none of the scheme, or lies outside the part of the root that the place
+    /// has beside a window of so many slots.
     #[inline(always)]
     pub(crate) fn is_wrong_half(&self, scheme: Scheme, window: u16) -> bool
         requires { window ≤ table_length }
         ensures page { result ≡ false → level_of (page_of self.now).size ≤ top_level scheme }
-        ensures value { (base : ℕ) → result ≡ is_wrong_half (bare_layout scheme window base) (place_of self.now) (page_of self.now) }
+        ensures value { (base : ℕ)
+            → result
+            ≡ is_wrong_half (bare_layout scheme window base) (place_of self.now)
+            (page_of self.now) }
     {
         match scheme {
             Scheme::Sv39 => self.is_wrong_half_in(Scheme::Sv39, window),
@@ -129,7 +132,10 @@ impl Wish {
     fn is_wrong_half_in(&self, scheme: Scheme, window: u16) -> bool
         requires { window ≤ table_length }
         ensures page { result ≡ false → level_of (page_of self.now).size ≤ top_level scheme }
-        ensures value { (base : ℕ) → result ≡ is_wrong_half (bare_layout scheme window base) (place_of self.now) (page_of self.now) }
+        ensures value { (base : ℕ)
+            → result
+            ≡ is_wrong_half (bare_layout scheme window base) (place_of self.now)
+            (page_of self.now) }
     {
         let page = self.page();
         let base = page.base();
@@ -209,7 +215,8 @@ impl Wish {
         }
     }
 
-    /// The word that is due above the page's level, by what stands there and the lowest unused spare frame.
+    /// The word that is due above the page's level, by what stands there and the lowest unused
+    /// spare frame.
     #[inline(always)]
     fn upper_word(&self, spare: Option<u64>, entry: u64) -> Result<u64, MapFault>
         requires { IfSome spare (λ frame. frame < 2 ^ ppn_bits) }

@@ -4,7 +4,8 @@ ghost use Rattle.std.specs.Prelude.{◌≡◌, ◌↔◌, ◌<◌, ◌≤◌, �
 ghost use Rattle.std.specs.List.{range_with_len};
 ghost use Rattle.shoot.specs.Mailbox.{empty_mailbox};
 ghost use Rattle.shoot.specs.Tickets.{no_tickets};
-ghost use Rattle.spaces.specs.Limits.{MeetsLimits, max_frames, max_harts, max_capacity, max_spaces};
+ghost use Rattle.pte.specs.declared.TheConstants.{MAX_CAPACITY, MAX_HARTS};
+ghost use Rattle.spaces.specs.Limits.{MeetsLimits, max_frames};
 ghost use Rattle.spaces.specs.declared.faults.OpenFault.TheVariants as fault;
 ghost use Rattle.tlb.specs.Fence.{asid_bits};
 ghost use Rattle.history.specs.Setup.{setup_of};
@@ -31,7 +32,7 @@ fn asid_of(space: &Space) -> u16
 
 /// What is kept of each space at the opening.
 fn live_spaces(spaces: &[Space]) -> ArrayVec<SpaceState, MAX_SPACES>
-    requires { length spaces.now ≤ max_spaces }
+    requires { length spaces.now ≤ MAX_SPACES }
     ensures spaces { result.items ≡ map (λ s. live_space s.asid) spaces.now }
     ensures bits { All (λ s. s.asid < 2 ^ asid_bits) spaces.now }
 {
@@ -58,7 +59,7 @@ fn idle_harts(alloc: Global, scheme: Scheme, count: u8) -> Result<Vec<Hart>, All
 
 /// The tickets of each hart, all of them free.
 fn free_tickets(alloc: Global, count: u8) -> Result<Vec<Tickets>, AllocError>
-    requires { count ≤ max_harts }
+    requires { count ≤ MAX_HARTS }
     ensures { IfOk result (λ tickets. tickets.items ≡ map no_tickets (range_with_len 0 count)) }
 {
     let mut tickets = Vec::with_capacity(alloc, usize::from(count))?;
@@ -70,9 +71,9 @@ fn free_tickets(alloc: Global, count: u8) -> Result<Vec<Tickets>, AllocError>
 
 /// A mailbox for each pair of harts.
 fn empty_mailboxes(alloc: Global, harts: u8, capacity: usize) -> Result<Vec<Mailbox>, AllocError>
-    requires harts { harts ≤ max_harts }
+    requires harts { harts ≤ MAX_HARTS }
     requires some { 1 ≤ capacity }
-    requires bounded { capacity ≤ max_capacity }
+    requires bounded { capacity ≤ MAX_CAPACITY }
     ensures { IfOk result (λ mailboxes. mailboxes.items ≡ replicate (harts * harts) (empty_mailbox capacity)) }
 {
     let pairs = usize::from(harts) * usize::from(harts);

@@ -95,3 +95,9 @@ terapage_of_live = refl
 
 pub no_terapage_of_live : rows.no_terapage_of_live
 no_terapage_of_live = refl
+
+pub ruleset live_step_rows = (translate_to_store, map_of_the_kernel, unmap_of_a_space, protect_of_a_space, flush_of_a_space, switch_to_a_space, fence_of_an_address, post_to_hart_2, serve_of_hart_0, ackself_of_the_last, collect_of_a_ticket, finish_of_a_ticket, close_to_hart_7, wait_for_a_ticket, setup_of_hart_3)
+
+pub ruleset live_fault_rows = (hart_before_a_line, no_hart_before_setup, collect_with_a_hart, take_in_a_script, take_in_the_setup, retire_in_a_script, wait_in_a_run, collect_without_a_hart, unread_before_absent, absent_before_no_page, absent_of_the_setup, no_page_of_live, no_page_of_the_setup)
+
+pub ruleset live_page_rows = (terapage_of_live, no_terapage_of_live)

@@ -95,3 +95,11 @@ far_page = refl
 
 pub farther_page : rows.farther_page
 farther_page = refl
+
+pub ruleset letter_rows = (letter_r, letter_w, letter_x, letter_u, letter_g, letter_a, letter_d, three_letters, no_letters, letter_twice, letter_v)
+
+pub ruleset step_rows = (blanks_between_words, store_of_walk, begin_with_mxr, fence_of_a_space, unmap_of_the_kernel, flush_of_all, take_from_hart_0, retire_of_a_space, reclaim_of_a_space, create_of_a_space, wide_asid)
+
+pub ruleset fault_rows = (no_step, no_hart, no_page)
+
+pub ruleset page_rows = (terapage, no_terapage, unaligned_terapage, far_page, farther_page)

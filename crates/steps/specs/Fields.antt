@@ -24,7 +24,8 @@ use Rattle.steps.specs.Num.{num_of}
 
 -- a number below a limit
 abbrev pub number_below : ℕ → List ℕ → Option ℕ
-number_below limit word = option_and_then (λ n. if nat_lt n limit then Some n else None) (num_of word)
+number_below limit word =
+    option_and_then (λ n. if nat_lt n limit then Some n else None) (num_of word)
 
 abbrev pub ticket_of : List ℕ → Option ℕ
 ticket_of word = number_below (2 ^ 32) word
@@ -39,10 +40,13 @@ asid_of word = number_below (2 ^ 16) word
 
 -- `k` for the kernel window
 abbrev pub place_of : List ℕ → Option Place
-place_of word = if bytes_eq word (codes "k") then Some places.Kernel else option_map places.Space (space_of word)
+place_of word =
+    if bytes_eq word (codes "k") then Some places.Kernel
+    else option_map places.Space (space_of word)
 
 abbrev pub scope_of : List ℕ → Option Scope
-scope_of word = if bytes_eq word (codes "all") then Some scopes.All else option_map scopes.Space (space_of word)
+scope_of word =
+    if bytes_eq word (codes "all") then Some scopes.All else option_map scopes.Space (space_of word)
 
 -- the register x0, or another that holds the number
 abbrev pub register_of : List ℕ → Option (Option ℕ)
@@ -52,12 +56,19 @@ register_of word = if bytes_eq word (codes "x0") then Some None else option_map 
 
 abbrev pub page_after : List ℕ → PageSize → List ℕ → Option PageWord
 page_after prefix size word =
-    if bytes_eq (take (length prefix) word) prefix then option_map (λ base. record { base = base; size = size }) (num_of (drop (length prefix) word)) else None
+    if bytes_eq (take (length prefix) word) prefix
+    then
+    option_map (λ base. record { base = base; size = size })
+    (num_of (drop (length prefix) word))
+    else None
 
 -- a size, a colon and the address, whatever it is
 abbrev pub sized_page_of : List ℕ → Option PageWord
 sized_page_of word =
-    option_or (option_or (option_or (page_after (codes "4K:") Kib4 word) (page_after (codes "2M:") Mib2 word)) (page_after (codes "1G:") Gib1 word)) (page_after (codes "512G:") Gib512 word)
+    option_or
+    (option_or
+    (option_or (page_after (codes "4K:") Kib4 word) (page_after (codes "2M:") Mib2 word))
+    (page_after (codes "1G:") Gib1 word)) (page_after (codes "512G:") Gib512 word)
 
 -- the scheme has pages of that size
 abbrev pub has_size : Scheme → PageWord → Bool
@@ -65,28 +76,34 @@ has_size scheme page = nat_le (level_of page.size) (top_level scheme)
 
 -- the same of a size that the scheme has
 abbrev pub page_of : Scheme → List ℕ → Option PageWord
-page_of scheme word = option_and_then (λ page. if has_size scheme page then Some page else None) (sized_page_of word)
+page_of scheme word =
+    option_and_then (λ page. if has_size scheme page then Some page else None) (sized_page_of word)
 
 -- the address is canonical and a multiple of the size (privileged manual 4.4.1 and 4.5.1)
 abbrev pub is_page : Scheme → PageWord → Bool
 is_page scheme page = is_canonical scheme page.base && (page.base % bytes_of page.size == 0)
 
 abbrev pub page_at : Scheme → PageWord → Result Span StepFault
-page_at scheme page = if is_page scheme page then Ok (record { base = page.base; size = page.size }) else Err NotPage
+page_at scheme page =
+    if is_page scheme page then Ok (record { base = page.base; size = page.size }) else Err NotPage
 
 -- ---- flags
 
 -- the bit of a letter: r, w, x, u, g, a, d
 abbrev pub flag_of : ℕ → Option ℕ
 flag_of letter =
-    if letter == 114 then Some 0x02 else if letter == 119 then Some 0x04 else if letter == 120 then Some 0x08 else if letter == 117 then Some 0x10
-    else if letter == 103 then Some 0x20 else if letter == 97 then Some 0x40 else if letter == 100 then Some 0x80 else None
+    if letter == 114 then Some 0x02 else if letter == 119 then Some 0x04
+    else if letter == 120 then Some 0x08 else if letter == 117 then Some 0x10
+    else if letter == 103 then Some 0x20 else if letter == 97 then Some 0x40
+    else if letter == 100 then Some 0x80 else None
 
 -- the bits of the letters and those that are set already, of which no letter may be
 abbrev pub with_letters : ℕ → List ℕ → Option ℕ
 with_letters bits [] = Some bits
 with_letters bits (letter ∷ letters) =
-    option_and_then (λ bit. if bit_and bits bit == 0 then with_letters (bit_or bits bit) letters else None) (flag_of letter)
+    option_and_then
+    (λ bit. if bit_and bits bit == 0 then with_letters (bit_or bits bit) letters else None)
+    (flag_of letter)
 
 abbrev pub bits_of : List ℕ → Option ℕ
 bits_of [] = None
@@ -110,7 +127,8 @@ abbrev pub with_harts : List Bool → List ℕ → List Bool
 with_harts set [] = set
 with_harts set (hart ∷ harts) = with_harts (slice_set set hart true) harts
 
--- ---- harts that are named, whether they are there or not: the set of those that can be, and the greatest number
+-- ---- harts that are named, whether they are there or not
+-- (the set of those that can be, and the greatest number)
 
 abbrev pub nobody : NamedHarts
 nobody = record { set = no_harts; greatest = None }
@@ -126,7 +144,8 @@ with_hart named hart =
 
 -- the harts of the parts that were read, and that of one part more
 abbrev pub with_part : Option NamedHarts → List ℕ → Option NamedHarts
-with_part named part = option_and_then (λ hart. option_map (λ (n : NamedHarts). with_hart n hart) named) (num_of part)
+with_part named part =
+    option_and_then (λ hart. option_map (λ (n : NamedHarts). with_hart n hart) named) (num_of part)
 
 -- numbers of harts with commas between them
 abbrev pub listed_of : List ℕ → Option NamedHarts
@@ -143,4 +162,5 @@ are_there harts (Some greatest) = nat_lt greatest harts
 
 -- bit h for hart h, if all of them are there
 abbrev pub named_among : ℕ → NamedHarts → Result ℕ StepFault
-named_among harts named = if are_there harts named.greatest then Ok (byte_of named.set) else Err NoSuchHart
+named_among harts named =
+    if are_there harts named.greatest then Ok (byte_of named.set) else Err NoSuchHart

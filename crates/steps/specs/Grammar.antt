@@ -41,7 +41,8 @@ Breaks (b ∷ bs) = is_blank b ≡ true
 abbrev pub HasWords : List ℕ → List (List ℕ) → Type 0
 HasWords text [] = IsBlanks text
 HasWords text (word ∷ words) =
-    (lead : List ℕ) × (rest : List ℕ) × (text ≡ lead ++ (word ++ rest)) × IsBlanks lead × IsWord word × Breaks rest × HasWords rest words
+    (lead : List ℕ) × (rest : List ℕ) × (text ≡ lead ++ (word ++ rest)) × IsBlanks lead
+    × IsWord word × Breaks rest × HasWords rest words
 
 -- ---- steps
 

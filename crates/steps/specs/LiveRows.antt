@@ -14,19 +14,30 @@ use Rattle.steps.specs.RunStep.{step_among}
 -- ---- each line once, and one of the setup
 
 abbrev pub translate_to_store : Type 0
-translate_to_store = live_step_in Sv39 8 (codes "translate s+sum store 0x1F") ≡ Ok (live.Translate 31 Store (record { mode = Super; sum = true; mxr = false }))
+translate_to_store =
+    live_step_in Sv39 8 (codes "translate s+sum store 0x1F")
+    ≡ Ok (live.Translate 31 Store (record { mode = Super; sum = true; mxr = false }))
 
 abbrev pub map_of_the_kernel : Type 0
-map_of_the_kernel = live_step_in Sv39 8 (codes "map k 2M:0xffffffffc0000000 512 rg") ≡ Ok (live.Map places.Kernel (record { base = 0xffffffffc0000000; size = Mib2 }) 512 (record { 0 = 0x22 }))
+map_of_the_kernel =
+    live_step_in Sv39 8 (codes "map k 2M:0xffffffffc0000000 512 rg")
+    ≡ Ok (live.Map places.Kernel (record { base = 0xffffffffc0000000; size = Mib2 }) 512
+    (record { 0 = 0x22 }))
 
 abbrev pub unmap_of_a_space : Type 0
-unmap_of_a_space = live_step_in Sv39 8 (codes "unmap 0 4K:0x1000 1,0") ≡ Ok (live.Unmap (places.Space 0) (record { base = 0x1000; size = Kib4 }) 0x03)
+unmap_of_a_space =
+    live_step_in Sv39 8 (codes "unmap 0 4K:0x1000 1,0")
+    ≡ Ok (live.Unmap (places.Space 0) (record { base = 0x1000; size = Kib4 }) 0x03)
 
 abbrev pub protect_of_a_space : Type 0
-protect_of_a_space = live_step_in Sv39 8 (codes "protect 255 1G:0x40000000 xad 7") ≡ Ok (live.Protect (places.Space 255) (record { base = 0x40000000; size = Gib1 }) (record { 0 = 0xC8 }) 0x80)
+protect_of_a_space =
+    live_step_in Sv39 8 (codes "protect 255 1G:0x40000000 xad 7")
+    ≡ Ok (live.Protect (places.Space 255) (record { base = 0x40000000; size = Gib1 })
+    (record { 0 = 0xC8 }) 0x80)
 
 abbrev pub flush_of_a_space : Type 0
-flush_of_a_space = live_step_in Sv39 8 (codes "flush 31 0,2") ≡ Ok (live.Flush (scopes.Space 31) 0x05)
+flush_of_a_space =
+    live_step_in Sv39 8 (codes "flush 31 0,2") ≡ Ok (live.Flush (scopes.Space 31) 0x05)
 
 abbrev pub switch_to_a_space : Type 0
 switch_to_a_space = live_step_in Sv39 8 (codes "switch 0xFF") ≡ Ok (live.Switch 255)
@@ -41,7 +52,8 @@ abbrev pub serve_of_hart_0 : Type 0
 serve_of_hart_0 = live_step_in Sv39 8 (codes "serve 0") ≡ Ok (live.Serve 0)
 
 abbrev pub ackself_of_the_last : Type 0
-ackself_of_the_last = live_step_in Sv39 8 (codes "ackself 4294967295") ≡ Ok (live.AckSelf 4294967295)
+ackself_of_the_last =
+    live_step_in Sv39 8 (codes "ackself 4294967295") ≡ Ok (live.AckSelf 4294967295)
 
 abbrev pub collect_of_a_ticket : Type 0
 collect_of_a_ticket = live_step_in Sv39 8 (codes "collect 5") ≡ Ok (live.Collect 5)
@@ -102,7 +114,11 @@ no_page_of_the_setup = setup_step_in Sv39 2 (codes "1 unmap 0 4K:0x1 0,1") ≡ E
 -- ---- pages of 512 GiB by the scheme
 
 abbrev pub terapage_of_live : Type 0
-terapage_of_live = live_step_in Sv48 1 (codes "map 0 512G:0x8000000000 0x10000000 rwuad") ≡ Ok (live.Map (places.Space 0) (record { base = 0x8000000000; size = Gib512 }) 0x10000000 (record { 0 = 0xD6 }))
+terapage_of_live =
+    live_step_in Sv48 1 (codes "map 0 512G:0x8000000000 0x10000000 rwuad")
+    ≡ Ok (live.Map (places.Space 0) (record { base = 0x8000000000; size = Gib512 }) 0x10000000
+    (record { 0 = 0xD6 }))
 
 abbrev pub no_terapage_of_live : Type 0
-no_terapage_of_live = live_step_in Sv39 1 (codes "map 0 512G:0x8000000000 0x10000000 rwuad") ≡ Err NotStep
+no_terapage_of_live =
+    live_step_in Sv39 1 (codes "map 0 512G:0x8000000000 0x10000000 rwuad") ≡ Err NotStep

@@ -1,5 +1,5 @@
--- The steps of `live` that texts write. A line of a script says what the script's hart does; a line of the setup names its hart
--- first.
+-- The steps of `live` that texts write. A line of a script says what the script's hart does; a line
+-- of the setup names its hart first.
 use Rattle.std.specs.Prelude.{ℕ, List, [], ◌∷◌, Result, Ok, Err, if◌then◌else◌}
 use Rattle.pte.specs.declared.scheme.Scheme.{Scheme}
 use Rattle.history.specs.declared.live_step.LiveStep.{LiveStep}
@@ -20,7 +20,8 @@ use Rattle.steps.specs.Words.{words_of}
 
 -- an edit of a page, for so many harts: the harts that it names are there, and then its page is one
 abbrev pub live_edit_of : Scheme → ℕ → EditStep → Result LiveStep StepFault
-live_edit_of scheme harts (Map place page ppn flags) = page_at scheme page >>= λ span. Ok (steps.Map place span ppn flags)
+live_edit_of scheme harts (Map place page ppn flags) =
+    page_at scheme page >>= λ span. Ok (steps.Map place span ppn flags)
 live_edit_of scheme harts (Unmap place page named) = do
   set ← named_among harts named
   span ← page_at scheme page
@@ -41,7 +42,8 @@ live_pair_of harts _ = Err NotStep
 abbrev pub live_step_by : Scheme → ℕ → Spelled → Result LiveStep StepFault
 live_step_by scheme harts (Translate step) = Ok (steps.Translate step.va step.access step.ctx)
 live_step_by scheme harts (Edit edit) = live_edit_of scheme harts edit
-live_step_by scheme harts (Flush scope named) = named_among harts named >>= λ set. Ok (steps.Flush scope set)
+live_step_by scheme harts (Flush scope named) =
+    named_among harts named >>= λ set. Ok (steps.Flush scope set)
 live_step_by scheme harts (Fence rs1 rs2) = Ok (steps.Fence rs1 rs2)
 live_step_by scheme harts (Switch space) = Ok (steps.Switch space)
 live_step_by scheme harts (Pair pair) = live_pair_of harts pair
@@ -53,12 +55,15 @@ live_step_by scheme harts _ = Err NotStep
 
 -- what a line of a script writes in a scheme, for so many harts: a step, or what is wrong with it
 abbrev pub live_step_in : Scheme → ℕ → List ℕ → Result LiveStep StepFault
-live_step_in scheme harts text = asked (spelled_of scheme (words_of text)) >>= live_step_by scheme harts
+live_step_in scheme harts text =
+    asked (spelled_of scheme (words_of text)) >>= live_step_by scheme harts
 
 -- the step and its hart, where it is not known yet that the hart is there
 abbrev pub setup_step_by : Scheme → ℕ → ℕ → Spelled → Result (ℕ × LiveStep) StepFault
 setup_step_by scheme harts hart step =
-    if is_of_live step then among harts hart >>= (λ h. live_step_by scheme harts step >>= λ s. Ok (h, s)) else Err NotStep
+    if is_of_live step
+    then among harts hart >>= (λ h. live_step_by scheme harts step >>= λ s. Ok (h, s))
+    else Err NotStep
 
 abbrev pub setup_of_words : Scheme → ℕ → List (List ℕ) → Result (ℕ × LiveStep) StepFault
 setup_of_words scheme harts [] = Err NotStep
@@ -67,6 +72,7 @@ setup_of_words scheme harts (hart ∷ words) = do
   step ← asked (spelled_of scheme words)
   setup_step_by scheme harts h step
 
--- what a line of the setup writes in a scheme, for so many harts: a hart and its step, or what is wrong with it
+-- what a line of the setup writes in a scheme, for so many harts: a hart and its step, or what is
+-- wrong with it
 abbrev pub setup_step_in : Scheme → ℕ → List ℕ → Result (ℕ × LiveStep) StepFault
 setup_step_in scheme harts text = setup_of_words scheme harts (words_of text)

@@ -55,16 +55,20 @@ size_text Gib512 = codes "512G:"
 
 -- the size, and the address of its first byte: a page of the scheme
 abbrev pub WritesPage : Scheme → List ℕ → Span → Type 0
-WritesPage scheme word page = (digits : List ℕ) × (word ≡ size_text page.size ++ digits) × WritesNumber digits page.base × IsPageOf scheme page
+WritesPage scheme word page =
+    (digits : List ℕ) × (word ≡ size_text page.size ++ digits) × WritesNumber digits page.base
+    × IsPageOf scheme page
 
 -- each letter adds its bit, which is not set yet
 abbrev pub AddLetters : ℕ → List ℕ → ℕ → Type 0
 AddLetters bits [] all = bits ≡ all
 AddLetters bits (letter ∷ letters) all =
-    (bit : ℕ) × (flag_of letter ≡ Some bit) × (bit_and bits bit ≡ 0) × AddLetters (bit_or bits bit) letters all
+    (bit : ℕ) × (flag_of letter ≡ Some bit) × (bit_and bits bit ≡ 0)
+    × AddLetters (bit_or bits bit) letters all
 
 abbrev pub WritesFlags : List ℕ → PteFlags → Type 0
-WritesFlags word flags = ((word ≡ codes "-") × (flags.0 ≡ 0)) ⊎ ((0 < length word) × AddLetters 0 word flags.0)
+WritesFlags word flags =
+    ((word ≡ codes "-") × (flags.0 ≡ 0)) ⊎ ((0 < length word) × AddLetters 0 word flags.0)
 
 -- ---- harts
 
@@ -77,12 +81,15 @@ abbrev pub WritesHarts : ℕ → List ℕ → List ℕ → Type 0
 WritesHarts harts word [] = ⊥
 WritesHarts harts word (hart ∷ []) = WritesBelow harts word hart × IsPart word
 WritesHarts harts word (hart ∷ next ∷ more) =
-    (part : List ℕ) × (rest : List ℕ) × (word ≡ part ++ 44 ∷ rest) × WritesBelow harts part hart × IsPart part × WritesHarts harts rest (next ∷ more)
+    (part : List ℕ) × (rest : List ℕ) × (word ≡ part ++ 44 ∷ rest) × WritesBelow harts part hart
+    × IsPart part × WritesHarts harts rest (next ∷ more)
 
 -- a set of harts, bit h for hart h, which may be named more than once and in any order
 abbrev pub WritesNamed : ℕ → List ℕ → ℕ → Type 0
 WritesNamed harts word set =
-    ((word ≡ codes "-") × (set ≡ 0)) ⊎ ((named : List ℕ) × WritesHarts harts word named × (set ≡ byte_of (with_harts no_harts named)))
+    ((word ≡ codes "-") × (set ≡ 0))
+    ⊎ ((named : List ℕ) × WritesHarts harts word named
+    × (set ≡ byte_of (with_harts no_harts named)))
 
 -- ---- steps
 
@@ -109,41 +116,59 @@ hart_of (Create hart space asid) = hart
 
 -- the words after the hart's, in a scheme and for so many harts
 abbrev pub Tells : Scheme → ℕ → List (List ℕ) → Event → Type 0
-Tells scheme harts words (Begin hart va access ctx) = (a : List ℕ) × (words ≡ codes "begin" ∷ ctx_text ctx ∷ access_text access ∷ a ∷ []) × WritesNumber a va
+Tells scheme harts words (Begin hart va access ctx) =
+    (a : List ℕ) × (words ≡ codes "begin" ∷ ctx_text ctx ∷ access_text access ∷ a ∷ [])
+    × WritesNumber a va
 Tells scheme harts words (Load hart) = words ≡ codes "load" ∷ []
 Tells scheme harts words (Map hart place page ppn flags) =
-    (a : List ℕ) × (b : List ℕ) × (c : List ℕ) × (d : List ℕ) × (words ≡ codes "map" ∷ a ∷ b ∷ c ∷ d ∷ [])
+    (a : List ℕ) × (b : List ℕ) × (c : List ℕ) × (d : List ℕ)
+    × (words ≡ codes "map" ∷ a ∷ b ∷ c ∷ d ∷ [])
     × WritesPlace a place × WritesPage scheme b page × WritesNumber c ppn × WritesFlags d flags
 Tells scheme harts words (Unmap hart place page named) =
     (a : List ℕ) × (b : List ℕ) × (c : List ℕ) × (words ≡ codes "unmap" ∷ a ∷ b ∷ c ∷ [])
     × WritesPlace a place × WritesPage scheme b page × WritesNamed harts c named
 Tells scheme harts words (Protect hart place page flags named) =
-    (a : List ℕ) × (b : List ℕ) × (c : List ℕ) × (d : List ℕ) × (words ≡ codes "protect" ∷ a ∷ b ∷ c ∷ d ∷ [])
-    × WritesPlace a place × WritesPage scheme b page × WritesFlags c flags × WritesNamed harts d named
+    (a : List ℕ) × (b : List ℕ) × (c : List ℕ) × (d : List ℕ)
+    × (words ≡ codes "protect" ∷ a ∷ b ∷ c ∷ d ∷ [])
+    × WritesPlace a place × WritesPage scheme b page × WritesFlags c flags
+    × WritesNamed harts d named
 Tells scheme harts words (Flush hart scope named) =
-    (a : List ℕ) × (b : List ℕ) × (words ≡ codes "flush" ∷ a ∷ b ∷ []) × WritesScope a scope × WritesNamed harts b named
-Tells scheme harts words (Switch hart space) = (a : List ℕ) × (words ≡ codes "switch" ∷ a ∷ []) × WritesSpace a space
+    (a : List ℕ) × (b : List ℕ) × (words ≡ codes "flush" ∷ a ∷ b ∷ []) × WritesScope a scope
+    × WritesNamed harts b named
+Tells scheme harts words (Switch hart space) =
+    (a : List ℕ) × (words ≡ codes "switch" ∷ a ∷ []) × WritesSpace a space
 Tells scheme harts words (Fence hart rs1 rs2) =
-    (a : List ℕ) × (b : List ℕ) × (words ≡ codes "fence" ∷ a ∷ b ∷ []) × WritesRegister a rs1 × WritesRegister b rs2
+    (a : List ℕ) × (b : List ℕ) × (words ≡ codes "fence" ∷ a ∷ b ∷ []) × WritesRegister a rs1
+    × WritesRegister b rs2
 Tells scheme harts words (Post hart ticket to) =
-    (a : List ℕ) × (b : List ℕ) × (words ≡ codes "post" ∷ a ∷ b ∷ []) × WritesTicket a ticket × WritesBelow harts b to
-Tells scheme harts words (Take hart from) = (a : List ℕ) × (words ≡ codes "take" ∷ a ∷ []) × WritesBelow harts a from
+    (a : List ℕ) × (b : List ℕ) × (words ≡ codes "post" ∷ a ∷ b ∷ []) × WritesTicket a ticket
+    × WritesBelow harts b to
+Tells scheme harts words (Take hart from) =
+    (a : List ℕ) × (words ≡ codes "take" ∷ a ∷ []) × WritesBelow harts a from
 Tells scheme harts words (ServeFence hart) = words ≡ codes "servefence" ∷ []
 Tells scheme harts words (Ack hart) = words ≡ codes "ack" ∷ []
-Tells scheme harts words (AckSelf hart ticket) = (a : List ℕ) × (words ≡ codes "ackself" ∷ a ∷ []) × WritesTicket a ticket
+Tells scheme harts words (AckSelf hart ticket) =
+    (a : List ℕ) × (words ≡ codes "ackself" ∷ a ∷ []) × WritesTicket a ticket
 Tells scheme harts words (Collect hart ticket from) =
-    (a : List ℕ) × (b : List ℕ) × (words ≡ codes "collect" ∷ a ∷ b ∷ []) × WritesTicket a ticket × WritesBelow harts b from
-Tells scheme harts words (Finish hart ticket) = (a : List ℕ) × (words ≡ codes "finish" ∷ a ∷ []) × WritesTicket a ticket
-Tells scheme harts words (Close hart to) = (a : List ℕ) × (words ≡ codes "close" ∷ a ∷ []) × WritesBelow harts a to
-Tells scheme harts words (Retire hart space) = (a : List ℕ) × (words ≡ codes "retire" ∷ a ∷ []) × WritesSpace a space
-Tells scheme harts words (Reclaim hart space) = (a : List ℕ) × (words ≡ codes "reclaim" ∷ a ∷ []) × WritesSpace a space
+    (a : List ℕ) × (b : List ℕ) × (words ≡ codes "collect" ∷ a ∷ b ∷ []) × WritesTicket a ticket
+    × WritesBelow harts b from
+Tells scheme harts words (Finish hart ticket) =
+    (a : List ℕ) × (words ≡ codes "finish" ∷ a ∷ []) × WritesTicket a ticket
+Tells scheme harts words (Close hart to) =
+    (a : List ℕ) × (words ≡ codes "close" ∷ a ∷ []) × WritesBelow harts a to
+Tells scheme harts words (Retire hart space) =
+    (a : List ℕ) × (words ≡ codes "retire" ∷ a ∷ []) × WritesSpace a space
+Tells scheme harts words (Reclaim hart space) =
+    (a : List ℕ) × (words ≡ codes "reclaim" ∷ a ∷ []) × WritesSpace a space
 Tells scheme harts words (Create hart space asid) =
-    (a : List ℕ) × (b : List ℕ) × (words ≡ codes "create" ∷ a ∷ b ∷ []) × WritesSpace a space × WritesAsid b asid
+    (a : List ℕ) × (b : List ℕ) × (words ≡ codes "create" ∷ a ∷ b ∷ []) × WritesSpace a space
+    × WritesAsid b asid
 
 -- the hart's number and the words after it, for so many harts
-pub record WritesRunStep (scheme : Scheme) (harts : ℕ) (text : List ℕ) (event : Event) : Type 0 where
-  pub hart : List ℕ
-  pub words : List (List ℕ)
-  pub text_has : HasWords text (hart ∷ words)
-  pub number : WritesBelow harts hart (hart_of event)
-  pub tells : Tells scheme harts words event
+pub record WritesRunStep (scheme : Scheme) (harts : ℕ) (text : List ℕ) (event : Event) : Type 0
+  where
+    pub hart : List ℕ
+    pub words : List (List ℕ)
+    pub text_has : HasWords text (hart ∷ words)
+    pub number : WritesBelow harts hart (hart_of event)
+    pub tells : Tells scheme harts words event

@@ -1,4 +1,5 @@
--- The steps of `run` that texts write. A step names its hart first; the second word says what the hart does.
+-- The steps of `run` that texts write. A step names its hart first; the second word says what the
+-- hart does.
 use Rattle.std.specs.Prelude.{ℕ, List, [], ◌∷◌, Option, Result, Ok, Err, if◌then◌else◌}
 use Rattle.std.specs.Result.{result_ok}
 use Rattle.pte.specs.declared.scheme.Scheme.{Scheme}
@@ -21,7 +22,8 @@ use Rattle.steps.specs.Words.{words_of}
 
 -- an edit of a page, for so many harts: the harts that it names are there, and then its page is one
 abbrev pub edit_event_of : Scheme → ℕ → ℕ → EditStep → Result Event StepFault
-edit_event_of scheme harts hart (Map place page ppn flags) = page_at scheme page >>= λ span. Ok (events.Map hart place span ppn flags)
+edit_event_of scheme harts hart (Map place page ppn flags) =
+    page_at scheme page >>= λ span. Ok (events.Map hart place span ppn flags)
 edit_event_of scheme harts hart (Unmap place page named) = do
   set ← named_among harts named
   span ← page_at scheme page
@@ -34,7 +36,8 @@ edit_event_of scheme harts hart (Protect place page flags named) = do
 -- a step with another hart, for so many harts: that one is there
 abbrev pub pair_event_of : ℕ → ℕ → PairStep → Result Event StepFault
 pair_event_of harts hart (Post ticket to) = among harts to >>= λ to. Ok (events.Post hart ticket to)
-pair_event_of harts hart (CollectFrom ticket from) = among harts from >>= λ from. Ok (events.Collect hart ticket from)
+pair_event_of harts hart (CollectFrom ticket from) =
+    among harts from >>= λ from. Ok (events.Collect hart ticket from)
 pair_event_of harts hart (Take from) = among harts from >>= λ from. Ok (events.Take hart from)
 pair_event_of harts hart (Close to) = among harts to >>= λ to. Ok (events.Close hart to)
 pair_event_of harts hart (Serve from) = Err NotStep
@@ -44,7 +47,8 @@ abbrev pub event_of : Scheme → ℕ → ℕ → Spelled → Result Event StepFa
 event_of scheme harts hart (Begin step) = Ok (events.Begin hart step.va step.access step.ctx)
 event_of scheme harts hart Load = Ok (events.Load hart)
 event_of scheme harts hart (Edit edit) = edit_event_of scheme harts hart edit
-event_of scheme harts hart (Flush scope named) = named_among harts named >>= λ set. Ok (events.Flush hart scope set)
+event_of scheme harts hart (Flush scope named) =
+    named_among harts named >>= λ set. Ok (events.Flush hart scope set)
 event_of scheme harts hart (Fence rs1 rs2) = Ok (events.Fence hart rs1 rs2)
 event_of scheme harts hart ServeFence = Ok (events.ServeFence hart)
 event_of scheme harts hart (Switch space) = Ok (events.Switch hart space)
@@ -59,7 +63,8 @@ event_of scheme harts hart _ = Err NotStep
 
 -- the same where it is not known yet that the hart is there
 abbrev pub run_step_by : Scheme → ℕ → ℕ → Spelled → Result Event StepFault
-run_step_by scheme harts hart step = if is_of_run step then among harts hart >>= (λ h. event_of scheme harts h step) else Err NotStep
+run_step_by scheme harts hart step =
+    if is_of_run step then among harts hart >>= (λ h. event_of scheme harts h step) else Err NotStep
 
 abbrev pub step_in : Scheme → ℕ → List (List ℕ) → Result Event StepFault
 step_in scheme harts [] = Err NotStep

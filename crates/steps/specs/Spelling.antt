@@ -1,4 +1,5 @@
--- What the words of a step say: its name, and what stands after it, with the numbers as they are written.
+-- What the words of a step say: its name, and what stands after it, with the numbers as they are
+-- written.
 use Rattle.std.specs.Prelude.{ℕ, ◌&&◌, Bool, true, false, codes, List, [], ◌∷◌, Option, Some, None, option_and_then, if◌then◌else◌}
 use Rattle.std.specs.Option.{option_or}
 use Rattle.std.specs.Str.{bytes_eq}
@@ -74,9 +75,12 @@ fence_of_words name words =
 
 abbrev pub space_step_of_words : List ℕ → List (List ℕ) → Option Spelled
 space_step_of_words name words =
-    if bytes_eq name (codes "switch") then one_word words >>= space_of >>= (λ space. Some (Switch space))
-    else if bytes_eq name (codes "retire") then one_word words >>= space_of >>= (λ space. Some (Retire space))
-    else if bytes_eq name (codes "reclaim") then one_word words >>= space_of >>= (λ space. Some (Reclaim space))
+    if bytes_eq name (codes "switch")
+    then one_word words >>= space_of >>= (λ space. Some (Switch space))
+    else if bytes_eq name (codes "retire")
+    then one_word words >>= space_of >>= (λ space. Some (Retire space))
+    else if bytes_eq name (codes "reclaim")
+    then one_word words >>= space_of >>= (λ space. Some (Reclaim space))
     else if bytes_eq name (codes "create") then (do
       w ← two_words words
       space ← space_of w.0
@@ -102,23 +106,34 @@ ticket_step_of_words name words =
       ticket ← ticket_of w.0
       to ← num_of w.1
       Some (Pair (Post ticket to)))
-    else if bytes_eq name (codes "ackself") then one_word words >>= ticket_of >>= (λ ticket. Some (AckSelf ticket))
-    else if bytes_eq name (codes "collect") then option_or (collect_of_words words) (collect_from_of_words words)
-    else if bytes_eq name (codes "finish") then one_word words >>= ticket_of >>= (λ ticket. Some (Finish ticket))
-    else if bytes_eq name (codes "wait") then one_word words >>= ticket_of >>= (λ ticket. Some (Wait ticket))
+    else if bytes_eq name (codes "ackself")
+    then one_word words >>= ticket_of >>= (λ ticket. Some (AckSelf ticket))
+    else if bytes_eq name (codes "collect")
+    then option_or (collect_of_words words) (collect_from_of_words words)
+    else if bytes_eq name (codes "finish")
+    then one_word words >>= ticket_of >>= (λ ticket. Some (Finish ticket))
+    else if bytes_eq name (codes "wait")
+    then one_word words >>= ticket_of >>= (λ ticket. Some (Wait ticket))
     else None
 
 abbrev pub mailbox_step_of_words : List ℕ → List (List ℕ) → Option Spelled
 mailbox_step_of_words name words =
-    if bytes_eq name (codes "take") then one_word words >>= num_of >>= (λ from. Some (Pair (Take from)))
-    else if bytes_eq name (codes "serve") then one_word words >>= num_of >>= (λ from. Some (Pair (Serve from)))
-    else if bytes_eq name (codes "close") then one_word words >>= num_of >>= (λ to. Some (Pair (Close to)))
+    if bytes_eq name (codes "take")
+    then one_word words >>= num_of >>= (λ from. Some (Pair (Take from)))
+    else if bytes_eq name (codes "serve")
+    then one_word words >>= num_of >>= (λ from. Some (Pair (Serve from)))
+    else if bytes_eq name (codes "close")
+    then one_word words >>= num_of >>= (λ to. Some (Pair (Close to)))
     else if bytes_eq name (codes "ack") && is_over words then Some Ack
     else None
 
 abbrev pub spelled_by : Scheme → List ℕ → List (List ℕ) → Option Spelled
 spelled_by scheme name words =
-    option_or (option_or (option_or (option_or (option_or (access_of_words name words) (edit_of_words scheme name words)) (fence_of_words name words)) (space_step_of_words name words))
+    option_or
+    (option_or
+    (option_or
+    (option_or (option_or (access_of_words name words) (edit_of_words scheme name words))
+    (fence_of_words name words)) (space_step_of_words name words))
     (ticket_step_of_words name words)) (mailbox_step_of_words name words)
 
 -- what the words after the hart's say in a scheme, if they are a step of `run` or of `live`

@@ -28,19 +28,26 @@ mode_text Super = codes "s"
 
 -- the mode, and what it has of SUM and MXR
 abbrev pub ctx_text : Ctx → List ℕ
-ctx_text ctx = mode_text ctx.mode ++ (if ctx.sum then codes "+sum" else []) ++ (if ctx.mxr then codes "+mxr" else [])
+ctx_text ctx =
+    mode_text ctx.mode ++ (if ctx.sum then codes "+sum" else [])
+    ++ (if ctx.mxr then codes "+mxr" else [])
 
 abbrev pub ctxs_of : Mode → List Ctx
 ctxs_of mode =
-    record { mode = mode; sum = false; mxr = false } ∷ record { mode = mode; sum = true; mxr = false }
-    ∷ record { mode = mode; sum = false; mxr = true } ∷ record { mode = mode; sum = true; mxr = true } ∷ []
+    record { mode = mode; sum = false; mxr = false }
+    ∷ record { mode = mode; sum = true; mxr = false }
+    ∷ record { mode = mode; sum = false; mxr = true }
+    ∷ record { mode = mode; sum = true; mxr = true } ∷ []
 
 abbrev pub ctx_of : List ℕ → Option Ctx
 ctx_of = named ctx_text (ctxs_of User ++ ctxs_of Super)
 
 abbrev pub translation_of : List ℕ → List ℕ → List ℕ → Option WalkStep
 translation_of mode access address =
-    option_and_then (λ ctx. option_and_then (λ a. option_map (λ va. record { ctx = ctx; access = a; va = va }) (num_of address)) (access_of access)) (ctx_of mode)
+    option_and_then
+    (λ ctx. option_and_then
+    (λ a. option_map (λ va. record { ctx = ctx; access = a; va = va }) (num_of address))
+    (access_of access)) (ctx_of mode)
 
 -- three words and no more
 abbrev pub step_of_words : List (List ℕ) → Option WalkStep

@@ -10,7 +10,8 @@ step_fault_text NoSuchHart = codes "no such hart"
 step_fault_text NotPage = codes "not a page"
 
 infixl 10 ◌>>=◌
-abbrev pub ◌>>=◌ : {A B : Type 0} → Result A StepFault → (A → Result B StepFault) → Result B StepFault
+abbrev pub ◌>>=◌ : {A B : Type 0} → Result A StepFault → (A → Result B StepFault)
+    → Result B StepFault
 (Ok x) >>= f = f x
 (Err e) >>= f = Err e
 

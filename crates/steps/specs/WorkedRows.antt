@@ -18,7 +18,9 @@ use Rattle.steps.specs.Words.{words_of}
 
 -- what an entry with these flags says: R, W, X, U, G, A, D
 abbrev pub said : ℕ → List Bool
-said bits = may_read bits ∷ may_write bits ∷ may_execute bits ∷ is_user bits ∷ is_global bits ∷ is_accessed bits ∷ is_dirty bits ∷ []
+said bits =
+    may_read bits ∷ may_write bits ∷ may_execute bits ∷ is_user bits ∷ is_global bits
+    ∷ is_accessed bits ∷ is_dirty bits ∷ []
 
 abbrev pub letters : List ℕ → Option (List Bool)
 letters word = option_map said (bits_of word)
@@ -45,7 +47,8 @@ abbrev pub letter_d : Type 0
 letter_d = letters (codes "d") ≡ Some (false ∷ false ∷ false ∷ false ∷ false ∷ false ∷ true ∷ [])
 
 abbrev pub three_letters : Type 0
-three_letters = letters (codes "dux") ≡ Some (false ∷ false ∷ true ∷ true ∷ false ∷ false ∷ true ∷ [])
+three_letters =
+    letters (codes "dux") ≡ Some (false ∷ false ∷ true ∷ true ∷ false ∷ false ∷ true ∷ [])
 
 abbrev pub no_letters : Type 0
 no_letters = letters (codes "-") ≡ Some (false ∷ false ∷ false ∷ false ∷ false ∷ false ∷ false ∷ [])
@@ -62,16 +65,23 @@ abbrev pub blanks_between_words : Type 0
 blanks_between_words = words_of (codes " \ta  bc\t") ≡ codes "a" ∷ codes "bc" ∷ []
 
 abbrev pub store_of_walk : Type 0
-store_of_walk = walk_step_of (codes "s+sum store 0x1F") ≡ Some (record { ctx = record { mode = Super; sum = true; mxr = false }; access = Store; va = 31 })
+store_of_walk =
+    walk_step_of (codes "s+sum store 0x1F")
+    ≡ Some
+    (record { ctx = record { mode = Super; sum = true; mxr = false }; access = Store; va = 31 })
 
 abbrev pub begin_with_mxr : Type 0
-begin_with_mxr = run_step_of Sv39 (codes "7 begin u+mxr load 10") ≡ Some (events.Begin 7 10 Load (record { mode = User; sum = false; mxr = true }))
+begin_with_mxr =
+    run_step_of Sv39 (codes "7 begin u+mxr load 10")
+    ≡ Some (events.Begin 7 10 Load (record { mode = User; sum = false; mxr = true }))
 
 abbrev pub fence_of_a_space : Type 0
 fence_of_a_space = run_step_of Sv39 (codes "0 fence x0 2") ≡ Some (events.Fence 0 None (Some 2))
 
 abbrev pub unmap_of_the_kernel : Type 0
-unmap_of_the_kernel = run_step_of Sv39 (codes "1 unmap k 2M:0x400000 1,7,1") ≡ Some (events.Unmap 1 places.Kernel (record { base = 0x400000; size = Mib2 }) 0x82)
+unmap_of_the_kernel =
+    run_step_of Sv39 (codes "1 unmap k 2M:0x400000 1,7,1")
+    ≡ Some (events.Unmap 1 places.Kernel (record { base = 0x400000; size = Mib2 }) 0x82)
 
 abbrev pub flush_of_all : Type 0
 flush_of_all = run_step_of Sv39 (codes "0 flush all -") ≡ Some (events.Flush 0 scopes.All 0)
@@ -106,7 +116,9 @@ no_page = step_among Sv39 8 (codes "7 unmap 0 4K:0x1 0") ≡ Err NotPage
 -- ---- pages of 512 GiB, and addresses, by the scheme
 
 abbrev pub terapage : Type 0
-terapage = run_step_of Sv48 (codes "1 unmap k 512G:0xffffff8000000000 0") ≡ Some (events.Unmap 1 places.Kernel (record { base = 0xffffff8000000000; size = Gib512 }) 0x01)
+terapage =
+    run_step_of Sv48 (codes "1 unmap k 512G:0xffffff8000000000 0")
+    ≡ Some (events.Unmap 1 places.Kernel (record { base = 0xffffff8000000000; size = Gib512 }) 0x01)
 
 abbrev pub no_terapage : Type 0
 no_terapage = step_among Sv39 1 (codes "9 unmap 0 512G:0x1 9") ≡ Err NotStep

@@ -10,7 +10,8 @@ pub enum StepFault {
     NotStep,
     /// It names a hart that is not there.
     NoSuchHart,
-    /// The address of its page is not canonical, or no multiple of the page's size (privileged manual 4.4.1 and 4.5.1).
+    /// The address of its page is not canonical, or no multiple of the page's size (privileged
+    /// manual 4.4.1 and 4.5.1).
     NotPage,
 }
 

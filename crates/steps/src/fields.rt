@@ -1,6 +1,6 @@
 //! The words of a step.
-ghost use Rattle.std.specs.Prelude.{◌≡◌};
-ghost use Rattle.steps.specs.Fields.{among, are_there, asid_of, bits_of, flag_of, flags_of, listed_of, named_among, named_of, page_after, page_at, page_of, place_of, register_of, scope_of, sized_page_of, space_of, ticket_of, with_hart, with_letters, with_part};
+ghost use Rattle.std.specs.Prelude.{◌≡◌, option_map};
+ghost use Rattle.steps.specs.Fields.{among, are_there, asid_of, flag_of, flags_of, listed_of, named_among, named_of, page_after, page_at, page_of, place_of, register_of, scope_of, sized_page_of, space_of, ticket_of, with_hart, with_letters, with_part};
 
 use crate::fault::StepFault;
 use crate::numbers::num;
@@ -84,7 +84,8 @@ pub fn scope(word: &[u8]) -> Option<Scope>
     Some(Scope::Space(space))
 }
 
-/// The operand of a fence: `None` is the register x0, which the word `x0` names, and a number is what another holds.
+/// The operand of a fence: `None` is the register x0, which the word `x0` names, and a number is
+/// what another holds.
 pub fn register(word: &[u8]) -> Option<Option<u64>>
     ensures { result ≡ register_of word.now }
 {
@@ -138,56 +139,50 @@ pub fn page_at(scheme: Scheme, word: PageWord) -> Result<Page, StepFault>
     }
 }
 
-fn flag(letter: u8) -> Option<u8>
-    ensures { result ≡ flag_of letter }
+/// The flag of a letter: one of `rwxugad`.
+fn flag(letter: u8) -> Option<PteFlags>
+    ensures { option_map (λ flag. flag.0) result ≡ flag_of letter }
 {
     match letter {
-        b'r' => Some(0x02),
-        b'w' => Some(0x04),
-        b'x' => Some(0x08),
-        b'u' => Some(0x10),
-        b'g' => Some(0x20),
-        b'a' => Some(0x40),
-        b'd' => Some(0x80),
+        b'r' => Some(PteFlags::R),
+        b'w' => Some(PteFlags::W),
+        b'x' => Some(PteFlags::X),
+        b'u' => Some(PteFlags::U),
+        b'g' => Some(PteFlags::G),
+        b'a' => Some(PteFlags::A),
+        b'd' => Some(PteFlags::D),
         _ => None,
     }
 }
 
-/// The bits of the letters and those that are set already, of which no letter may be.
-fn with_letters(bits: u8, letters: &[u8]) -> Option<u8>
-    ensures { result ≡ with_letters bits letters.now }
+/// The flags of the letters and those that are set already, of which no letter may be.
+fn with_letters(flags: PteFlags, letters: &[u8]) -> Option<PteFlags>
+    ensures { option_map (λ flags. flags.0) result ≡ with_letters flags.0 letters.now }
 {
     match letters {
-        [] => Some(bits),
+        [] => Some(flags),
         [letter, rest @ ..] => {
-            let bit = flag(*letter)?;
-            if bits & bit == 0 {
-                with_letters(bits | bit, rest)
-            } else {
+            let flag = flag(*letter)?;
+            if flags.intersects(flag) {
                 None
+            } else {
+                with_letters(flags.union(flag), rest)
             }
         }
     }
-}
-
-fn bits(word: &[u8]) -> Option<u8>
-    ensures { result ≡ bits_of word.now }
-{
-    if word.is_empty() {
-        return None;
-    }
-    if word == b"-".as_slice() {
-        return Some(0);
-    }
-    with_letters(0, word)
 }
 
 /// Letters of `rwxugad`, each at most once, or `-` for none.
 pub fn flags(word: &[u8]) -> Option<PteFlags>
     ensures { result ≡ flags_of word.now }
 {
-    let bits = bits(word)?;
-    Some(PteFlags::from_bits_retain(bits))
+    if word.is_empty() {
+        return None;
+    }
+    if word == b"-".as_slice() {
+        return Some(PteFlags::empty());
+    }
+    with_letters(PteFlags::empty(), word)
 }
 
 /// One of so many harts.

@@ -24,53 +24,77 @@ pub fn num_is_written()
 /// A text writes at most one step of `walk`, and the reader finds just the step that is written.
 pub fn walk_step_is_written()
     ensures one { (text : List ℕ) (a b : WalkStep) → WritesStep text a → WritesStep text b → a ≡ b }
-    ensures found { (text : List ℕ) (step : WalkStep) → WritesStep text step ↔ (walk_step_of text ≡ Some step) }
+    ensures found { (text : List ℕ) (step : WalkStep)
+        → WritesStep text step ↔ (walk_step_of text ≡ Some step) }
 {}
 
-/// For each number of harts, a text writes at most one step of `run`, and the reader finds just the step that is written.
+/// For each number of harts, a text writes at most one step of `run`, and the reader finds just the
+/// step that is written.
 pub fn run_step_is_written()
-    ensures one { (scheme : Scheme) (harts : ℕ) (text : List ℕ) (a b : Event) → WritesRunStep scheme harts text a → WritesRunStep scheme harts text b → a ≡ b }
-    ensures found { (scheme : Scheme) (harts : ℕ) (text : List ℕ) (event : Event) → WritesRunStep scheme harts text event ↔ (step_among scheme harts text ≡ Ok event) }
-    ensures found_of_all { (scheme : Scheme) (text : List ℕ) (event : Event) → WritesRunStep scheme MAX_HARTS text event ↔ (run_step_of scheme text ≡ Some event) }
+    ensures one { (scheme : Scheme) (harts : ℕ) (text : List ℕ) (a b : Event)
+        → WritesRunStep scheme harts text a → WritesRunStep scheme harts text b → a ≡ b }
+    ensures found { (scheme : Scheme) (harts : ℕ) (text : List ℕ) (event : Event)
+        → WritesRunStep scheme harts text event ↔ (step_among scheme harts text ≡ Ok event) }
+    ensures found_of_all { (scheme : Scheme) (text : List ℕ) (event : Event)
+        → WritesRunStep scheme MAX_HARTS text event ↔ (run_step_of scheme text ≡ Some event) }
 {}
 
 /// Whether a text is a step of `run` does not depend on how many harts there are: `NotStep` is told
 /// before anything else. With more harts it stays the same step, or has the same fault, unless it
 /// named a hart that was not there: `NotPage` is told last.
 pub fn harts_are_told_between_steps_and_pages()
-    ensures not_step { (scheme : Scheme) (m n : ℕ) (text : List ℕ) → step_among scheme m text ≡ Err NotStep → step_among scheme n text ≡ Err NotStep }
-    ensures more_harts { (scheme : Scheme) (m n : ℕ) (text : List ℕ) → m ≤ n → ¬ (step_among scheme m text ≡ Err NoSuchHart) → step_among scheme n text ≡ step_among scheme m text }
+    ensures not_step { (scheme : Scheme) (m n : ℕ) (text : List ℕ)
+        → step_among scheme m text ≡ Err NotStep → step_among scheme n text ≡ Err NotStep }
+    ensures more_harts { (scheme : Scheme) (m n : ℕ) (text : List ℕ) → m ≤ n
+        → ¬ (step_among scheme m text ≡ Err NoSuchHart)
+        → step_among scheme n text ≡ step_among scheme m text }
 {}
 
 /// A text that writes a step in Sv39 writes the same step in Sv48.
 pub fn steps_of_sv39_are_steps_of_sv48()
-    ensures { (harts : ℕ) (text : List ℕ) (event : Event) → step_among Sv39 harts text ≡ Ok event → step_among Sv48 harts text ≡ Ok event }
+    ensures { (harts : ℕ) (text : List ℕ) (event : Event) → step_among Sv39 harts text ≡ Ok event
+        → step_among Sv48 harts text ≡ Ok event }
 {}
 
-/// For each number of harts, a line of a script writes at most one step of `live`, and the reader finds just the step that is
-/// written.
+/// For each number of harts, a line of a script writes at most one step of `live`, and the reader
+/// finds just the step that is written.
 pub fn live_step_is_written()
-    ensures one { (scheme : Scheme) (harts : ℕ) (text : List ℕ) (a b : LiveStep) → WritesLiveStep scheme harts text a → WritesLiveStep scheme harts text b → a ≡ b }
-    ensures found { (scheme : Scheme) (harts : ℕ) (text : List ℕ) (step : LiveStep) → WritesLiveStep scheme harts text step ↔ (live_step_in scheme harts text ≡ Ok step) }
+    ensures one { (scheme : Scheme) (harts : ℕ) (text : List ℕ) (a b : LiveStep)
+        → WritesLiveStep scheme harts text a → WritesLiveStep scheme harts text b → a ≡ b }
+    ensures found { (scheme : Scheme) (harts : ℕ) (text : List ℕ) (step : LiveStep)
+        → WritesLiveStep scheme harts text step ↔ (live_step_in scheme harts text ≡ Ok step) }
 {}
 
-/// For each number of harts, a line of the setup writes at most one hart and step of `live`, and the reader finds just those
-/// that are written.
+/// For each number of harts, a line of the setup writes at most one hart and step of `live`, and
+/// the reader finds just those that are written.
 pub fn setup_step_is_written()
-    ensures one { (scheme : Scheme) (harts : ℕ) (text : List ℕ) (g h : ℕ) (a b : LiveStep) → WritesSetupStep scheme harts text g a → WritesSetupStep scheme harts text h b → (g ≡ h) × (a ≡ b) }
-    ensures found { (scheme : Scheme) (harts : ℕ) (text : List ℕ) (hart : ℕ) (step : LiveStep) → WritesSetupStep scheme harts text hart step ↔ (setup_step_in scheme harts text ≡ Ok (hart, step)) }
+    ensures one { (scheme : Scheme) (harts : ℕ) (text : List ℕ) (g h : ℕ) (a b : LiveStep)
+        → WritesSetupStep scheme harts text g a → WritesSetupStep scheme harts text h b
+        → (g ≡ h) × (a ≡ b) }
+    ensures found { (scheme : Scheme) (harts : ℕ) (text : List ℕ) (hart : ℕ) (step : LiveStep)
+        → WritesSetupStep scheme harts text hart step
+        ↔ (setup_step_in scheme harts text ≡ Ok (hart, step)) }
 {}
 
 /// Of the lines of `live` the same: `NotStep` is told before anything else, and `NotPage` last.
 pub fn harts_of_live_are_told_between_steps_and_pages()
-    ensures not_step { (scheme : Scheme) (m n : ℕ) (text : List ℕ) → live_step_in scheme m text ≡ Err NotStep → live_step_in scheme n text ≡ Err NotStep }
-    ensures more_harts { (scheme : Scheme) (m n : ℕ) (text : List ℕ) → m ≤ n → ¬ (live_step_in scheme m text ≡ Err NoSuchHart) → live_step_in scheme n text ≡ live_step_in scheme m text }
-    ensures setup_not_step { (scheme : Scheme) (m n : ℕ) (text : List ℕ) → setup_step_in scheme m text ≡ Err NotStep → setup_step_in scheme n text ≡ Err NotStep }
-    ensures setup_more_harts { (scheme : Scheme) (m n : ℕ) (text : List ℕ) → m ≤ n → ¬ (setup_step_in scheme m text ≡ Err NoSuchHart) → setup_step_in scheme n text ≡ setup_step_in scheme m text }
+    ensures not_step { (scheme : Scheme) (m n : ℕ) (text : List ℕ)
+        → live_step_in scheme m text ≡ Err NotStep → live_step_in scheme n text ≡ Err NotStep }
+    ensures more_harts { (scheme : Scheme) (m n : ℕ) (text : List ℕ) → m ≤ n
+        → ¬ (live_step_in scheme m text ≡ Err NoSuchHart)
+        → live_step_in scheme n text ≡ live_step_in scheme m text }
+    ensures setup_not_step { (scheme : Scheme) (m n : ℕ) (text : List ℕ)
+        → setup_step_in scheme m text ≡ Err NotStep → setup_step_in scheme n text ≡ Err NotStep }
+    ensures setup_more_harts { (scheme : Scheme) (m n : ℕ) (text : List ℕ) → m ≤ n
+        → ¬ (setup_step_in scheme m text ≡ Err NoSuchHart)
+        → setup_step_in scheme n text ≡ setup_step_in scheme m text }
 {}
 
 /// A line of `live` that writes a step in Sv39 writes the same step in Sv48.
 pub fn live_steps_of_sv39_are_live_steps_of_sv48()
-    ensures script { (harts : ℕ) (text : List ℕ) (step : LiveStep) → live_step_in Sv39 harts text ≡ Ok step → live_step_in Sv48 harts text ≡ Ok step }
-    ensures setup { (harts : ℕ) (text : List ℕ) (hart : ℕ) (step : LiveStep) → setup_step_in Sv39 harts text ≡ Ok (hart, step) → setup_step_in Sv48 harts text ≡ Ok (hart, step) }
+    ensures script { (harts : ℕ) (text : List ℕ) (step : LiveStep)
+        → live_step_in Sv39 harts text ≡ Ok step → live_step_in Sv48 harts text ≡ Ok step }
+    ensures setup { (harts : ℕ) (text : List ℕ) (hart : ℕ) (step : LiveStep)
+        → setup_step_in Sv39 harts text ≡ Ok (hart, step)
+        → setup_step_in Sv48 harts text ≡ Ok (hart, step) }
 {}

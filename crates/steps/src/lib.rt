@@ -1,7 +1,7 @@
 //! The texts of steps: numbers, words, and the steps that `svsim` reads.
 //!
-//! A step is one text of a scenario file. Its words stand between spaces and tabs, and its numbers are hexadecimal after `0x`
-//! or decimal.
+//! A step is one text of a scenario file. Its words stand between spaces and tabs, and its numbers
+//! are hexadecimal after `0x` or decimal.
 #![tactic(auto)]
 
 mod fault;

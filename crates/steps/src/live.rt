@@ -112,33 +112,15 @@ fn setup_step_by(
     Ok((hart, step))
 }
 
-fn live_step_in(scheme: Scheme, harts: u8, text: &[u8]) -> Result<LiveStep, StepFault>
-    ensures { result ≡ live_step_in scheme harts text.now }
-{
-    let Some(step) = spelled_in(scheme, text) else {
-        return Err(StepFault::NotStep);
-    };
-    live_step_by(scheme, harts, step)
-}
-
-fn setup_step_in(scheme: Scheme, harts: u8, text: &[u8]) -> Result<(u8, LiveStep), StepFault>
-    ensures { result ≡ setup_step_in scheme harts text.now }
-{
-    let (hart, rest) = next_word(text).ok_or(StepFault::NotStep)?;
-    let hart = num(hart).ok_or(StepFault::NotStep)?;
-    let Some(step) = spelled_in(scheme, rest) else {
-        return Err(StepFault::NotStep);
-    };
-    setup_step_by(scheme, harts, hart, step)
-}
-
-/// The step of `live` in a scheme that a line of a script writes where there are so many harts, with numbers from 0, or the
-/// first of its faults. A script is one hart's, and its lines name no hart before the step.
+/// The step of `live` in a scheme that a line of a script writes where there are so many harts,
+/// with numbers from 0, or the first of its faults. A script is one hart's, and its lines name no
+/// hart before the step.
 ///
-/// The words are one of these lines, where G is a hart, T a ticket below 2^32, S a space below 256, PL a space or `k`, PAGE a
-/// size and an address such as `4K:0x1000`, FLAGS letters of `rwxugad` or `-`, NAMED harts such as `0,1` or `-`, SCOPE a space
-/// or `all`, R a number or `x0`, M a mode such as `s+sum`, A an access, and VA, PPN numbers. The sizes are `4K`, `2M`, `1G`,
-/// and in Sv48 `512G`:
+/// The words are one of these lines, where G is a hart, T a ticket below 2^32, S a space below 256,
+/// PL a space or `k`, PAGE a size and an address such as `4K:0x1000`, FLAGS letters of `rwxugad` or
+/// `-`, NAMED harts such as `0,1` or `-`, SCOPE a space or `all`, R a number or `x0`, M a mode such
+/// as `s+sum`, A an access, and VA, PPN numbers. The sizes are `4K`, `2M`, `1G`, and in Sv48
+/// `512G`:
 ///
 /// ```text
 /// translate M A VA       map PL PAGE PPN FLAGS    unmap PL PAGE NAMED    protect PL PAGE FLAGS NAMED
@@ -147,20 +129,29 @@ fn setup_step_in(scheme: Scheme, harts: u8, text: &[u8]) -> Result<(u8, LiveStep
 /// close G                wait T
 /// ```
 ///
-/// `StepFault::NotStep`: the words are none of them. `NoSuchHart`: they are, and name a hart that is not there.
-/// `NotPage`: all harts are there, and the page's address is not canonical in the scheme or no multiple of its size
-/// (privileged manual 4.4.1 and 4.5.1).
+/// `StepFault::NotStep`: the words are none of them. `NoSuchHart`: they are, and name a hart that
+/// is not there. `NotPage`: all harts are there, and the page's address is not canonical in the
+/// scheme or no multiple of its size (privileged manual 4.4.1 and 4.5.1).
 pub fn live_step_among(scheme: Scheme, harts: u8, text: &str) -> Result<LiveStep, StepFault>
     ensures { result ≡ live_step_in scheme harts text.now }
 {
-    live_step_in(scheme, harts, text.as_bytes())
+    let Some(step) = spelled_in(scheme, text.as_bytes()) else {
+        return Err(StepFault::NotStep);
+    };
+    live_step_by(scheme, harts, step)
 }
 
-/// The hart and the step of `live` in a scheme that a line of the setup writes where there are so many harts, or the first of
-/// its faults: the hart's number, and then the words of a line of a script, as `live_step_among` has them. That the line's own
-/// hart is not there is `NoSuchHart` too.
+/// The hart and the step of `live` in a scheme that a line of the setup writes where there are so
+/// many harts, or the first of its faults: the hart's number, and then the words of a line of a
+/// script, as `live_step_among` has them. That the line's own hart is not there is `NoSuchHart`
+/// too.
 pub fn setup_step_among(scheme: Scheme, harts: u8, text: &str) -> Result<(u8, LiveStep), StepFault>
     ensures { result ≡ setup_step_in scheme harts text.now }
 {
-    setup_step_in(scheme, harts, text.as_bytes())
+    let (hart, rest) = next_word(text.as_bytes()).ok_or(StepFault::NotStep)?;
+    let hart = num(hart).ok_or(StepFault::NotStep)?;
+    let Some(step) = spelled_in(scheme, rest) else {
+        return Err(StepFault::NotStep);
+    };
+    setup_step_by(scheme, harts, hart, step)
 }

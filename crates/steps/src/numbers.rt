@@ -4,7 +4,8 @@ ghost use Rattle.std.specs.Char.{digit_value};
 ghost use Rattle.std.specs.Option.{SomeIff};
 ghost use Rattle.steps.specs.Num.{digits_of, num_of};
 
-/// The number that a word writes: `0x` and 1 to 16 hexadecimal digits, or 1 to 20 decimal digits of a value below 2^64.
+/// The number that a word writes: `0x` and 1 to 16 hexadecimal digits, or 1 to 20 decimal digits of
+/// a value below 2^64.
 pub fn num(word: &[u8]) -> Option<u64>
     ensures { result ≡ num_of word.now }
 {
@@ -36,7 +37,8 @@ fn number(digits: &[u8], radix: u32, longest: usize) -> Option<u64>
 fn with_digit(number: u64, digit: u8, radix: u32) -> Option<u64>
     requires low { 2 ≤ radix }
     requires high { radix ≤ 36 }
-    ensures { SomeIff result ((digit_value digit < radix) × (number * radix + digit_value digit < 2 ^ 64)) (number * radix + digit_value digit) }
+    ensures { SomeIff result ((digit_value digit < radix)
+        × (number * radix + digit_value digit < 2 ^ 64)) (number * radix + digit_value digit) }
 {
     let digit = char::from(digit).to_digit(radix)?;
     number

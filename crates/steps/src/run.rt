@@ -118,24 +118,14 @@ fn run_step_by(scheme: Scheme, harts: u8, hart: u64, step: Spelled) -> Result<Ev
     event(scheme, harts, hart, step)
 }
 
-fn step_in(scheme: Scheme, harts: u8, text: &[u8]) -> Result<Event, StepFault>
-    ensures { result ≡ step_among scheme harts text.now }
-{
-    let (hart, rest) = next_word(text).ok_or(StepFault::NotStep)?;
-    let hart = num(hart).ok_or(StepFault::NotStep)?;
-    let Some(step) = spelled_in(scheme, rest) else {
-        return Err(StepFault::NotStep);
-    };
-    run_step_by(scheme, harts, hart, step)
-}
-
-/// The step of `run` in a scheme that a text writes where there are so many harts, with numbers from 0, or the first of its
-/// faults.
+/// The step of `run` in a scheme that a text writes where there are so many harts, with numbers
+/// from 0, or the first of its faults.
 ///
-/// The words are one of these lines, where H, G are harts, T a ticket below 2^32, S a space below 256, N an ASID of 16 bits, PL a
-/// space or `k`, PAGE a size and an address such as `4K:0x1000`, FLAGS letters of `rwxugad` or `-`, NAMED harts such as `0,1` or
-/// `-`, SCOPE a space or `all`, R a number or `x0`, M a mode such as `s+sum`, A an access, and VA, PPN numbers. The sizes are
-/// `4K`, `2M`, `1G`, and in Sv48 `512G`:
+/// The words are one of these lines, where H, G are harts, T a ticket below 2^32, S a space below
+/// 256, N an ASID of 16 bits, PL a space or `k`, PAGE a size and an address such as `4K:0x1000`,
+/// FLAGS letters of `rwxugad` or `-`, NAMED harts such as `0,1` or `-`, SCOPE a space or `all`, R a
+/// number or `x0`, M a mode such as `s+sum`, A an access, and VA, PPN numbers. The sizes are `4K`,
+/// `2M`, `1G`, and in Sv48 `512G`:
 ///
 /// ```text
 /// H begin M A VA         H load                 H map PL PAGE PPN FLAGS    H unmap PL PAGE NAMED
@@ -145,17 +135,22 @@ fn step_in(scheme: Scheme, harts: u8, text: &[u8]) -> Result<Event, StepFault>
 /// H retire S             H reclaim S            H create S N
 /// ```
 ///
-/// `StepFault::NotStep`: the words are none of them. `NoSuchHart`: they are, and name a hart that is not there.
-/// `NotPage`: all harts are there, and the page's address is not canonical in the scheme or no multiple of its size
-/// (privileged manual 4.4.1 and 4.5.1).
+/// `StepFault::NotStep`: the words are none of them. `NoSuchHart`: they are, and name a hart that
+/// is not there. `NotPage`: all harts are there, and the page's address is not canonical in the
+/// scheme or no multiple of its size (privileged manual 4.4.1 and 4.5.1).
 pub fn run_step_among(scheme: Scheme, harts: u8, text: &str) -> Result<Event, StepFault>
     ensures { result ≡ step_among scheme harts text.now }
 {
-    step_in(scheme, harts, text.as_bytes())
+    let (hart, rest) = next_word(text.as_bytes()).ok_or(StepFault::NotStep)?;
+    let hart = num(hart).ok_or(StepFault::NotStep)?;
+    let Some(step) = spelled_in(scheme, rest) else {
+        return Err(StepFault::NotStep);
+    };
+    run_step_by(scheme, harts, hart, step)
 }
 
-/// The step of `run` in a scheme that a text writes where there are 8 harts, as many as there may be (`shoot::MAX_HARTS`);
-/// `None` where it has a fault.
+/// The step of `run` in a scheme that a text writes where there are 8 harts, as many as there may
+/// be (`shoot::MAX_HARTS`); `None` where it has a fault.
 pub fn run_step(scheme: Scheme, text: &str) -> Option<Event>
     ensures { result ≡ run_step_of scheme text.now }
 {

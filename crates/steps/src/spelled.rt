@@ -45,8 +45,8 @@ pub enum PairStep {
     Close { to: u64 },
 }
 
-/// What the words after the hart's say, in `run` or in `live`: a case for each name of a step, with its numbers as they are
-/// written.
+/// What the words after the hart's say, in `run` or in `live`: a case for each name of a step, with
+/// its numbers as they are written.
 #[derive(Clone, Copy)]
 pub enum Spelled {
     Begin { step: WalkStep },
@@ -301,7 +301,8 @@ fn mailbox_step(name: &[u8], rest: &[u8]) -> Option<Spelled>
     }
 }
 
-/// The step of this name with the words of the text after it, in a scheme that has the sizes of its pages.
+/// The step of this name with the words of the text after it, in a scheme that has the sizes of its
+/// pages.
 fn spelled_by(scheme: Scheme, name: &[u8], rest: &[u8]) -> Option<Spelled>
     ensures { result ≡ spelled_by scheme name.now (words_of rest.now) }
 {

@@ -31,7 +31,8 @@ fn word_len(text: &[u8]) -> usize
 
 /// The first word of a text, and what stands after it.
 pub fn next_word(text: &[u8]) -> Option<(&[u8], &[u8])>
-    ensures words { MatchOption result (words_of text.now ≡ []) (λ next. words_of text.now ≡ next.0.now ∷ words_of next.1.now) }
+    ensures words { MatchOption result (words_of text.now ≡ []) (λ next. words_of text.now
+        ≡ next.0.now ∷ words_of next.1.now) }
     ensures shorter { IfSome result (λ next. length next.1.now < length text.now) }
 {
     let (_, text) = text.split_at(blank_len(text));
@@ -50,7 +51,8 @@ pub fn is_over(text: &[u8]) -> bool
 
 /// The word of a text that has just one.
 pub fn one_word(text: &[u8]) -> Option<&[u8]>
-    ensures { MatchOption result (one_word (words_of text.now) ≡ None) (λ a. one_word (words_of text.now) ≡ Some a.now) }
+    ensures { MatchOption result (one_word (words_of text.now)
+        ≡ None) (λ a. one_word (words_of text.now) ≡ Some a.now) }
 {
     let (a, rest) = next_word(text)?;
     if is_over(rest) { Some(a) } else { None }
@@ -58,7 +60,8 @@ pub fn one_word(text: &[u8]) -> Option<&[u8]>
 
 /// The words of a text that has two.
 pub fn two_words(text: &[u8]) -> Option<(&[u8], &[u8])>
-    ensures { MatchOption result (two_words (words_of text.now) ≡ None) (λ a. two_words (words_of text.now) ≡ Some (a.0.now, a.1.now)) }
+    ensures { MatchOption result (two_words (words_of text.now)
+        ≡ None) (λ a. two_words (words_of text.now) ≡ Some (a.0.now, a.1.now)) }
 {
     let (a, rest) = next_word(text)?;
     let b = one_word(rest)?;
@@ -67,7 +70,8 @@ pub fn two_words(text: &[u8]) -> Option<(&[u8], &[u8])>
 
 /// The words of a text that has three.
 pub fn three_words(text: &[u8]) -> Option<(&[u8], &[u8], &[u8])>
-    ensures { MatchOption result (three_words (words_of text.now) ≡ None) (λ a. three_words (words_of text.now) ≡ Some (a.0.now, a.1.now, a.2.now)) }
+    ensures { MatchOption result (three_words (words_of text.now)
+        ≡ None) (λ a. three_words (words_of text.now) ≡ Some (a.0.now, a.1.now, a.2.now)) }
 {
     let (a, rest) = next_word(text)?;
     let (b, c) = two_words(rest)?;
@@ -76,7 +80,8 @@ pub fn three_words(text: &[u8]) -> Option<(&[u8], &[u8], &[u8])>
 
 /// The words of a text that has four.
 pub fn four_words(text: &[u8]) -> Option<(&[u8], &[u8], &[u8], &[u8])>
-    ensures { MatchOption result (four_words (words_of text.now) ≡ None) (λ a. four_words (words_of text.now) ≡ Some (a.0.now, a.1.now, a.2.now, a.3.now)) }
+    ensures { MatchOption result (four_words (words_of text.now)
+        ≡ None) (λ a. four_words (words_of text.now) ≡ Some (a.0.now, a.1.now, a.2.now, a.3.now)) }
 {
     let (a, rest) = next_word(text)?;
     let (b, c, d) = three_words(rest)?;

@@ -1,10 +1,11 @@
-//! Worked rows: the definitions give what was worked out by hand. Each function does nothing, and each of its clauses is a row.
+//! Worked rows: the definitions give what was worked out by hand. Each function does nothing, and
+//! each of its clauses is a row.
 
 ghost use Rattle.steps.specs.LiveRows as live;
 ghost use Rattle.steps.specs.WorkedRows as rows;
 
 /// Each letter is the flag of its name, and stands at most once.
-#[tactic(auto, using(crate::proofs::WorkedRows::letter_r, crate::proofs::WorkedRows::letter_w, crate::proofs::WorkedRows::letter_x, crate::proofs::WorkedRows::letter_u, crate::proofs::WorkedRows::letter_g, crate::proofs::WorkedRows::letter_a, crate::proofs::WorkedRows::letter_d, crate::proofs::WorkedRows::three_letters, crate::proofs::WorkedRows::no_letters, crate::proofs::WorkedRows::letter_twice, crate::proofs::WorkedRows::letter_v))]
+#[tactic(auto, using(crate::proofs::WorkedRows::letter_rows))]
 pub fn worked_letters()
     ensures letter_r { rows.letter_r }
     ensures letter_w { rows.letter_w }
@@ -20,7 +21,7 @@ pub fn worked_letters()
 {}
 
 /// What texts are read as.
-#[tactic(auto, using(crate::proofs::WorkedRows::blanks_between_words, crate::proofs::WorkedRows::store_of_walk, crate::proofs::WorkedRows::begin_with_mxr, crate::proofs::WorkedRows::fence_of_a_space, crate::proofs::WorkedRows::unmap_of_the_kernel, crate::proofs::WorkedRows::flush_of_all, crate::proofs::WorkedRows::take_from_hart_0, crate::proofs::WorkedRows::retire_of_a_space, crate::proofs::WorkedRows::reclaim_of_a_space, crate::proofs::WorkedRows::create_of_a_space, crate::proofs::WorkedRows::wide_asid))]
+#[tactic(auto, using(crate::proofs::WorkedRows::step_rows))]
 pub fn worked_steps()
     ensures blanks_between_words { rows.blanks_between_words }
     ensures store_of_walk { rows.store_of_walk }
@@ -36,7 +37,7 @@ pub fn worked_steps()
 {}
 
 /// The first fault of several.
-#[tactic(auto, using(crate::proofs::WorkedRows::no_step, crate::proofs::WorkedRows::no_hart, crate::proofs::WorkedRows::no_page))]
+#[tactic(auto, using(crate::proofs::WorkedRows::fault_rows))]
 pub fn worked_faults()
     ensures no_step { rows.no_step }
     ensures no_hart { rows.no_hart }
@@ -44,7 +45,7 @@ pub fn worked_faults()
 {}
 
 /// Pages of 512 GiB, and addresses, by the scheme.
-#[tactic(auto, using(crate::proofs::WorkedRows::terapage, crate::proofs::WorkedRows::no_terapage, crate::proofs::WorkedRows::unaligned_terapage, crate::proofs::WorkedRows::far_page, crate::proofs::WorkedRows::farther_page))]
+#[tactic(auto, using(crate::proofs::WorkedRows::page_rows))]
 pub fn worked_pages()
     ensures terapage { rows.terapage }
     ensures no_terapage { rows.no_terapage }
@@ -54,7 +55,7 @@ pub fn worked_pages()
 {}
 
 /// What lines of `live` are read as.
-#[tactic(auto, using(crate::proofs::LiveRows::translate_to_store, crate::proofs::LiveRows::map_of_the_kernel, crate::proofs::LiveRows::unmap_of_a_space, crate::proofs::LiveRows::protect_of_a_space, crate::proofs::LiveRows::flush_of_a_space, crate::proofs::LiveRows::switch_to_a_space, crate::proofs::LiveRows::fence_of_an_address, crate::proofs::LiveRows::post_to_hart_2, crate::proofs::LiveRows::serve_of_hart_0, crate::proofs::LiveRows::ackself_of_the_last, crate::proofs::LiveRows::collect_of_a_ticket, crate::proofs::LiveRows::finish_of_a_ticket, crate::proofs::LiveRows::close_to_hart_7, crate::proofs::LiveRows::wait_for_a_ticket, crate::proofs::LiveRows::setup_of_hart_3))]
+#[tactic(auto, using(crate::proofs::LiveRows::live_step_rows))]
 pub fn worked_live_steps()
     ensures translate_to_store { live.translate_to_store }
     ensures map_of_the_kernel { live.map_of_the_kernel }
@@ -74,7 +75,7 @@ pub fn worked_live_steps()
 {}
 
 /// Lines that only one of `run` and `live` has, and the first fault of several.
-#[tactic(auto, using(crate::proofs::LiveRows::hart_before_a_line, crate::proofs::LiveRows::no_hart_before_setup, crate::proofs::LiveRows::collect_with_a_hart, crate::proofs::LiveRows::take_in_a_script, crate::proofs::LiveRows::take_in_the_setup, crate::proofs::LiveRows::retire_in_a_script, crate::proofs::LiveRows::wait_in_a_run, crate::proofs::LiveRows::collect_without_a_hart, crate::proofs::LiveRows::unread_before_absent, crate::proofs::LiveRows::absent_before_no_page, crate::proofs::LiveRows::absent_of_the_setup, crate::proofs::LiveRows::no_page_of_live, crate::proofs::LiveRows::no_page_of_the_setup))]
+#[tactic(auto, using(crate::proofs::LiveRows::live_fault_rows))]
 pub fn worked_live_faults()
     ensures hart_before_a_line { live.hart_before_a_line }
     ensures no_hart_before_setup { live.no_hart_before_setup }
@@ -92,7 +93,7 @@ pub fn worked_live_faults()
 {}
 
 /// Pages of 512 GiB in lines of `live`, by the scheme.
-#[tactic(auto, using(crate::proofs::LiveRows::terapage_of_live, crate::proofs::LiveRows::no_terapage_of_live))]
+#[tactic(auto, using(crate::proofs::LiveRows::live_page_rows))]
 pub fn worked_live_pages()
     ensures terapage_of_live { live.terapage_of_live }
     ensures no_terapage_of_live { live.no_terapage_of_live }

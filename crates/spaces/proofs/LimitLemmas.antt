@@ -9,8 +9,9 @@ use Rattle.walk.proofs.Unique.{same_bool}
 use Rattle.spaces.specs.declared.configuration.Config.{Config}
 use Rattle.spaces.specs.declared.configuration.Space.{Space}
 use Rattle.spaces.specs.Layout.{frame_count, layout_of}
-use Rattle.spaces.specs.Limits.{max_capacity, max_harts, max_spaces, max_window, MeetsLimits}
-use Rattle.keys.specs.Settings.{is_from_one, is_within_limits}
+use Rattle.pte.specs.declared.TheConstants.{MAX_CAPACITY, MAX_HARTS}
+use Rattle.spaces.specs.declared.configuration.TheConstants.{MAX_SPACES, MAX_WINDOW}
+use Rattle.spaces.specs.Limits.{MeetsLimits, is_from_one, is_within_limits}
 
 both : (a b : Bool) → a ≡ true → b ≡ true → (a && b) ≡ true
 both a b e f = rw (e, f) refl
@@ -32,10 +33,10 @@ homes_told harts (s ∷ ss) e = let parts = and_parts (nat_lt s.home harts) _ e 
 pub within : (frames : ℕ) (c : Config) → MeetsLimits frames c → is_within_limits frames c ≡ true
 unfolding is_within_limits
 within frames c m =
-    both _ _ (from_one max_harts c.harts m.some_hart m.harts)
-    (both _ _ (from_one max_spaces (length c.spaces.items) m.some_space m.spaces)
-    (both _ _ (from_one max_window c.window m.some_window m.window)
-    (both _ _ (from_one max_capacity c.capacity m.some_capacity m.capacity)
+    both _ _ (from_one MAX_HARTS c.harts m.some_hart m.harts)
+    (both _ _ (from_one MAX_SPACES (length c.spaces.items) m.some_space m.spaces)
+    (both _ _ (from_one MAX_WINDOW c.window m.some_window m.window)
+    (both _ _ (from_one MAX_CAPACITY c.capacity m.some_capacity m.capacity)
     (both _ _ (eq-eqb (length c.spares.items) c.harts m.spares)
     (both _ _ (homes_test c.harts c.spaces.items (recursion_from_All _ c.spaces.items m.homes))
     (both _ _ m.asids
@@ -52,10 +53,10 @@ meets frames c e =
     let homes = and_parts _ _ spares.1 in
     let asids = and_parts _ _ homes.1 in
     let fits = and_parts _ _ asids.1 in
-    let hart_range = is_one_to max_harts c.harts harts.0 in
-    let space_range = is_one_to max_spaces (length c.spaces.items) spaces.0 in
-    let window_range = is_one_to max_window c.window window.0 in
-    let capacity_range = is_one_to max_capacity c.capacity capacity.0 in
+    let hart_range = is_one_to MAX_HARTS c.harts harts.0 in
+    let space_range = is_one_to MAX_SPACES (length c.spaces.items) spaces.0 in
+    let window_range = is_one_to MAX_WINDOW c.window window.0 in
+    let capacity_range = is_one_to MAX_CAPACITY c.capacity capacity.0 in
     record {
       some_hart = hart_range.0;
       harts = hart_range.1;
