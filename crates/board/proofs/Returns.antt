@@ -7,7 +7,7 @@ use Rattle.std.specs.Global.{Vec}
 use Rattle.std.specs.Option.{option_map}
 use Rattle.std.specs.List.{range_with_len}
 use Rattle.history.specs.Setup.{Setup}
-use Rattle.shoot.specs.Request.{Message}
+use Rattle.shoot.specs.Request.{Request}
 use Rattle.rings.specs.Ends.{OutboxState, InboxState, count_of}
 use Rattle.board.specs.Ports.{End, PortState, ArePorts, IsPort, capacities, capacities_of, element, end_of_inbox, end_of_outbox, name_of, row}
 use Rattle.board.specs.Reports.{IsReport, IsReportOf, accepted, accepted_by, pairs_of, taken, taken_by}
@@ -104,7 +104,7 @@ module _ (setup : Setup) (ports : List PortState) (are : ArePorts setup (map nam
 
   of_ports : (pair : PairReport) → IsPairOf outs ins pair → IsReportOf ports pair
   of_ports pair told = record {
-    order = same-accepted pair.sender pair.receiver ∙ (told.order ∙ ap (λ (l : List Message). l ++ pair.waiting.items) (sym (same-taken pair.sender pair.receiver)));
+    order = same-accepted pair.sender pair.receiver ∙ (told.order ∙ ap (λ (l : List Request). l ++ pair.waiting.items) (sym (same-taken pair.sender pair.receiver)));
     accepted_count = told.accepted_count ∙ ap count_of (sym (same-accepted pair.sender pair.receiver));
     taken_count = told.taken_count ∙ ap count_of (sym (same-taken pair.sender pair.receiver));
   }

@@ -23,7 +23,7 @@ use Rattle.views.specs.Orders.{asked, dropping, is_in}
 use Rattle.views.specs.OrderTurns.{IsAsking, IsAwaiting, armed, collected, for_ticket, fresh, marked, open_order, orders_after}
 use Rattle.views.specs.declared.view.View.{View}
 use Rattle.board.specs.Answers.{acked_by, collected_by, outbox_with}
-use Rattle.shoot.specs.Request.{Message}
+use Rattle.shoot.specs.Request.{Request}
 use Rattle.shoot.proofs.HartBytes.{done}
 use Rattle.board.specs.Ports.{End, element, end_of_outbox}
 use Rattle.board.specs.Rows.{IsOutRow, new_outbox_of}
@@ -452,9 +452,9 @@ counted_self T outs n was = by_test (λ b. AreCounted (cond b (after_acked T n T
 
 -- the counts after each call
 module _ (c : Config) (ks : List Order) (T : TicketTable) (outs : List (Option OutboxState)) where
-  pub counted_posted : (n to room : ℕ) (message : Message) → IsTrue (names T n to) → is_posted T n to ≡ false → to ≢ T.hart → AreTied c ks T → AreCounted T outs
-      → AreCounted (after_posted T n to) (slice_set outs to (outbox_with message room (element outs to)))
-  counted_posted n to room message named new apart tied was =
+  pub counted_posted : (n to room : ℕ) (request : Request) → IsTrue (names T n to) → is_posted T n to ≡ false → to ≢ T.hart → AreTied c ks T → AreCounted T outs
+      → AreCounted (after_posted T n to) (slice_set outs to (outbox_with request room (element outs to)))
+  counted_posted n to room request named new apart tied was =
       let x = changed (with_posted to) (ticket_at T n) in
       let there = some-by (λ t. t.named) (ticket_at T n) to named in
       let e = count-set to T.tickets n x there in
@@ -462,13 +462,13 @@ module _ (c : Config) (ks : List Order) (T : TicketTable) (outs : List (Option O
       let after : one_if (awaits to x) ≡ 1 = ap one_if (posted-now c T.hart to (ticket_at T n) (open_order n ks) apart named new (tied.each n)) in
       let more : count_awaiting to (slice_set T.tickets n x) ≡ count_awaiting to T.tickets + 1 = omega (arith, e, before, after) in
       record {
-        each = each-set (λ m o. m ≢ T.hart → HasOutstanding (count_awaiting m (slice_set T.tickets n x)) o) outs to (outbox_with message room (element outs to))
+        each = each-set (λ m o. m ≢ T.hart → HasOutstanding (count_awaiting m (slice_set T.tickets n x)) o) outs to (outbox_with request room (element outs to))
             (λ m other. tt)
             (λ other. by (element outs to) (count_awaiting to T.tickets) (count_awaiting to (slice_set T.tickets n x)) more (was.each to other))
             (λ m differ other. subst (λ k. HasOutstanding k (element outs m)) (sym (count-same m T.tickets n x (posted-others c T.hart to m (ticket_at T n) differ))) (was.each m other));
       }
     where
-      by : (o : Option OutboxState) (old new : ℕ) → new ≡ old + 1 → HasOutstanding old o → HasOutstanding new (outbox_with message room o)
+      by : (o : Option OutboxState) (old new : ℕ) → new ≡ old + 1 → HasOutstanding old o → HasOutstanding new (outbox_with request room o)
       by None old new more is = tt
       by (Some o) old new more is = ap (λ k. k + 1) is ∙ sym more
 

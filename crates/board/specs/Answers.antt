@@ -5,7 +5,7 @@ use Rattle.pte.specs.declared.address.What.{What}
 use Rattle.pte.specs.declared.address.What.TheVariants.{All}
 use Rattle.tlb.specs.Entries.{TlbState}
 use Rattle.tlb.specs.Service.{served}
-use Rattle.shoot.specs.Request.{Message}
+use Rattle.shoot.specs.Request.{Request}
 use Rattle.shoot.specs.declared.mailbox.PostFault.{PostFault}
 use Rattle.shoot.specs.declared.mailbox.PostFault.TheVariants as fault
 use Rattle.shoot.specs.declared.tickets.TicketFault.{TicketFault}
@@ -89,7 +89,7 @@ abbrev pub known_room : Option OutboxState → ℕ
 known_room None = 0
 known_room (Some outbox) = outbox.room
 
-abbrev pub known_waiting : Option InboxState → List Message
+abbrev pub known_waiting : Option InboxState → List Request
 known_waiting None = []
 known_waiting (Some inbox) = inbox.known
 
@@ -98,15 +98,15 @@ abbrev pub what_of : Option What → What
 what_of None = All
 what_of (Some what) = what
 
-abbrev pub request_of : TicketTable → ℕ → Message
+abbrev pub request_of : TicketTable → ℕ → Request
 request_of tickets ticket = record { ticket = ticket; what = what_of (what_at tickets ticket) }
 
 -- an end once it accepted a request, and one once it took one
-abbrev pub outbox_with : Message → ℕ → Option OutboxState → Option OutboxState
-outbox_with message room outbox = option_map (λ o. with_accepted o message room) outbox
+abbrev pub outbox_with : Request → ℕ → Option OutboxState → Option OutboxState
+outbox_with request room outbox = option_map (λ o. with_accepted o request room) outbox
 
-abbrev pub inbox_with : Message → List Message → Option InboxState → Option InboxState
-inbox_with message known inbox = option_map (λ i. with_taken i message known) inbox
+abbrev pub inbox_with : Request → List Request → Option InboxState → Option InboxState
+inbox_with request known inbox = option_map (λ i. with_taken i request known) inbox
 
 -- a port once the request of a ticket was accepted: the cell was armed, and the end then knows of so many free places
 abbrev pub after_post : PortState → ℕ → ℕ → ℕ → PortState
@@ -126,11 +126,11 @@ tlb_served tlb what = record tlb { entries = served tlb.entries what }
 
 -- Serve: a port once it took a request, dropped what it names from its TLB and its view, and stored its word to the sender's cell;
 -- the end then knows these to wait
-abbrev pub after_serve : PortState → ℕ → Message → List Message → PortState
-after_serve port from message known = record port {
-  view = acknowledged from message.ticket message.what port.view;
-  tlb = tlb_served port.tlb message.what;
-  inboxes = slice_set port.inboxes from (inbox_with message known (inbox_from port from));
+abbrev pub after_serve : PortState → ℕ → Request → List Request → PortState
+after_serve port from request known = record port {
+  view = acknowledged from request.ticket request.what port.view;
+  tlb = tlb_served port.tlb request.what;
+  inboxes = slice_set port.inboxes from (inbox_with request known (inbox_from port from));
 }
 
 -- AckSelf: the hart acknowledges its own ticket, if that names it, and is collected in the view too

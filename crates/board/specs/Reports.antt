@@ -1,24 +1,24 @@
 -- What is told at the end of each mailbox.
 use Rattle.std.specs.Prelude.{ℕ, zero, suc, ◌≡◌, ◌==◌, List, [], ◌∷◌, ◌++◌, map, Option, Some, None, All, if◌then◌else◌}
-use Rattle.shoot.specs.Request.{Message}
+use Rattle.shoot.specs.Request.{Request}
 use Rattle.rings.specs.Ends.{OutboxState, InboxState, count_of}
 use Rattle.board.specs.Ports.{PortState, cell}
 use Rattle.board.specs.declared.report.PairReport.{PairReport}
 
 -- what an end accepted, and what an end took
-abbrev pub accepted_by : Option OutboxState → List Message
+abbrev pub accepted_by : Option OutboxState → List Request
 accepted_by None = []
 accepted_by (Some outbox) = outbox.accepted
 
-abbrev pub taken_by : Option InboxState → List Message
+abbrev pub taken_by : Option InboxState → List Request
 taken_by None = []
 taken_by (Some inbox) = inbox.taken
 
 -- what one of the ports accepted to another hart, and what that hart's port took of it
-abbrev pub accepted : List PortState → ℕ → ℕ → List Message
+abbrev pub accepted : List PortState → ℕ → ℕ → List Request
 accepted ports sender receiver = accepted_by (cell (map (λ port. port.outboxes) ports) sender receiver)
 
-abbrev pub taken : List PortState → ℕ → ℕ → List Message
+abbrev pub taken : List PortState → ℕ → ℕ → List Request
 taken ports sender receiver = taken_by (cell (map (λ port. port.inboxes) ports) receiver sender)
 
 -- the ordered pairs of different harts, by sender and then by receiver

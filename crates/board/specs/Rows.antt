@@ -3,7 +3,7 @@ use Rattle.std.specs.Prelude.{ℕ, ◌≡◌, ◌≢◌, ◌<◌, ◌==◌, ◌+
 use Rattle.std.specs.Global.{Vec}
 use Rattle.std.specs.Option.{option_map}
 use Rattle.std.specs.List.{range_with_len}
-use Rattle.shoot.specs.Request.{Message}
+use Rattle.shoot.specs.Request.{Request}
 use Rattle.rings.specs.Ends.{OutboxState, InboxState, count_of, new_outbox, new_inbox}
 use Rattle.board.specs.Ports.{End, end_of_outbox, end_of_inbox, element}
 use Rattle.board.specs.Reports.{accepted_by, taken_by}
@@ -64,10 +64,10 @@ pub record AreEnds (harts : ℕ) (outs : List (Vec (Option OutboxState))) (ins :
   pub linked : (sender receiver : ℕ) → AreLinked outs ins sender receiver
 
 -- what the end from one hart to another accepted, and what the end by which that takes from it took
-abbrev pub accepted_in : List (Vec (Option OutboxState)) → ℕ → ℕ → List Message
+abbrev pub accepted_in : List (Vec (Option OutboxState)) → ℕ → ℕ → List Request
 accepted_in outs sender receiver = accepted_by (element (items_at outs sender) receiver)
 
-abbrev pub taken_in : List (Vec (Option InboxState)) → ℕ → ℕ → List Message
+abbrev pub taken_in : List (Vec (Option InboxState)) → ℕ → ℕ → List Request
 taken_in ins sender receiver = taken_by (element (items_at ins receiver) sender)
 
 -- the report of a pair of these ends

@@ -3,7 +3,7 @@ use Rattle.std.specs.Prelude.{ℕ, ◌+◌, ◌-◌, Bool, true, false, List, []
 use Rattle.std.specs.Global.{Global}
 use denote.RawPtr.{Ptr}
 use Rattle.rtrb.specs.Shared.{Names}
-use Rattle.shoot.specs.Request.{Message}
+use Rattle.shoot.specs.Request.{Request}
 use Rattle.shoot.specs.declared.mailbox.PostFault.{PostFault}
 use Rattle.shoot.specs.declared.mailbox.PostFault.TheVariants.{Closed, Full}
 
@@ -16,7 +16,7 @@ Ring = Ptr × Ptr × Names × Global
 -- outstanding ones.
 pub record OutboxState : Type 0 where
   pub ring : Ring
-  pub accepted : List Message
+  pub accepted : List Request
   pub room : ℕ
   pub outstanding : ℕ
   pub closed : Bool
@@ -25,13 +25,13 @@ pub record OutboxState : Type 0 where
 -- The receiver's end: its ring; the requests that were taken, oldest first; those that it knows to wait; and how many can wait.
 pub record InboxState : Type 0 where
   pub ring : Ring
-  pub taken : List Message
-  pub known : List Message
+  pub taken : List Request
+  pub known : List Request
   pub capacity : ℕ
 
 -- how many they are, as far as 64 bits count
-abbrev pub count_of : List Message → ℕ
-count_of messages = min (length messages) (2 ^ 64 - 1)
+abbrev pub count_of : List Request → ℕ
+count_of requests = min (length requests) (2 ^ 64 - 1)
 
 abbrev pub new_outbox : Ring → ℕ → OutboxState
 new_outbox ring capacity = record { ring = ring; accepted = []; room = capacity; outstanding = 0; closed = false; capacity = capacity }
@@ -47,8 +47,8 @@ post_fault outbox =
     else None
 
 -- the sender's end with one more request, which is outstanding, and which knows of so many free places
-abbrev pub with_accepted : OutboxState → Message → ℕ → OutboxState
-with_accepted outbox message room = record outbox { accepted = outbox.accepted ++ message ∷ []; outstanding = outbox.outstanding + 1; room = room }
+abbrev pub with_accepted : OutboxState → Request → ℕ → OutboxState
+with_accepted outbox request room = record outbox { accepted = outbox.accepted ++ request ∷ []; outstanding = outbox.outstanding + 1; room = room }
 
 -- the acknowledgement of an outstanding request was collected
 abbrev pub after_release : OutboxState → OutboxState
@@ -58,5 +58,5 @@ abbrev pub after_close : OutboxState → OutboxState
 after_close outbox = record outbox { closed = true }
 
 -- the receiver's end with one more request taken, and which knows these to wait
-abbrev pub with_taken : InboxState → Message → List Message → InboxState
-with_taken inbox message known = record inbox { taken = inbox.taken ++ message ∷ []; known = known }
+abbrev pub with_taken : InboxState → Request → List Request → InboxState
+with_taken inbox request known = record inbox { taken = inbox.taken ++ request ∷ []; known = known }

@@ -12,9 +12,6 @@ pub by_test : (P : Bool → Type 0) (test : Bool) → (test ≡ true → P true)
 by_test P true f g = f refl
 by_test P false f g = g refl
 
-pub eqb_same : (n : ℕ) → eqb n n ≡ true
-eqb_same n = eq-eqb n n refl
-
 eqb_apart : (a b : ℕ) → a < b → eqb b a ≡ false
 eqb_apart a b h = grind (arith, nat_tests)
 

@@ -4,58 +4,58 @@ use Rattle.std.proofs.lemmas.List.{append-nil}
 use Rattle.std.proofs.lemmas.Bool.{ltb-true}
 use Rattle.std.proofs.lemmas.Bool.Decides.{nat_tests}
 use Rattle.std.specs.Option.{is_none}
-use Rattle.shoot.specs.Request.{Message}
-use Rattle.shoot.specs.Mailbox.{MailboxState, empty_mailbox, post_fault, post_answer, answer_with, with_message}
+use Rattle.shoot.specs.Request.{Request}
+use Rattle.shoot.specs.Mailbox.{MailboxState, empty_mailbox, post_fault, post_answer, answer_with, with_request}
 use Rattle.shoot.specs.MailboxHistory.{Turn, Post, Take, Release, Close, accepted, accepted_by, taken, taken_by, released, is_closed, after_turn, mailbox_after, IsDue, IsLawful, Stands}
 use Rattle.shoot.specs.declared.mailbox.PostFault.{PostFault}
 use Rattle.shoot.specs.declared.mailbox.PostFault.TheVariants.{Closed, Full}
 
 abbrev Answer : Type 0
-Answer = Result (Unit {0}) (PostFault × Message)
+Answer = Result (Unit {0}) (PostFault × Request)
 
-order_post : (fault : Option PostFault) (answer : Answer) (mailbox : MailboxState) (message : Message) (front back : List Message)
-    → answer ≡ answer_with fault message → front ≡ back ++ mailbox.waiting
-    → front ++ accepted_by (Post message answer) ≡ back ++ (cond (is_none fault) (with_message mailbox message) mailbox).waiting
-order_post None (Ok done) mailbox message front back e h = rw h (append_assoc back mailbox.waiting (message ∷ []))
-order_post None (Err fault) mailbox message front back e h = absurd cc
-order_post (Some fault) (Ok done) mailbox message front back e h = absurd cc
-order_post (Some fault) (Err pair) mailbox message front back e h = append-nil front ∙ h
+order_post : (fault : Option PostFault) (answer : Answer) (mailbox : MailboxState) (request : Request) (front back : List Request)
+    → answer ≡ answer_with fault request → front ≡ back ++ mailbox.waiting
+    → front ++ accepted_by (Post request answer) ≡ back ++ (cond (is_none fault) (with_request mailbox request) mailbox).waiting
+order_post None (Ok done) mailbox request front back e h = rw h (append_assoc back mailbox.waiting (request ∷ []))
+order_post None (Err fault) mailbox request front back e h = absurd cc
+order_post (Some fault) (Ok done) mailbox request front back e h = absurd cc
+order_post (Some fault) (Err pair) mailbox request front back e h = append-nil front ∙ h
 
-order_take : (waiting : List Message) (answer : Option Message) (front back : List Message)
+order_take : (waiting : List Request) (answer : Option Request) (front back : List Request)
     → answer ≡ slice_get waiting 0 → front ≡ back ++ waiting
     → front ++ [] ≡ (back ++ taken_by (Take answer)) ++ drop 1 waiting
 order_take [] None front back e h = append-nil front ∙ (h ∙ sym (append-nil (back ++ [])))
-order_take [] (Some message) front back e h = absurd cc
+order_take [] (Some request) front back e h = absurd cc
 order_take (first ∷ rest) None front back e h = absurd cc
-order_take (first ∷ rest) (Some message) front back e h =
-    let same : message ≡ first = cc in
-    append-nil front ∙ (h ∙ (ap (λ (m : Message). back ++ m ∷ rest) (sym same) ∙ sym (append_assoc back (message ∷ []) rest)))
+order_take (first ∷ rest) (Some request) front back e h =
+    let same : request ≡ first = cc in
+    append-nil front ∙ (h ∙ (ap (λ (m : Request). back ++ m ∷ rest) (sym same) ∙ sym (append_assoc back (request ∷ []) rest)))
 
 pub order : (capacity : ℕ) (history : List Turn) → IsLawful capacity history
     → accepted history ≡ taken history ++ (mailbox_after capacity history).waiting
 order capacity [] lawful = refl
-order capacity (Post message answer ∷ earlier) lawful =
+order capacity (Post request answer ∷ earlier) lawful =
     let mailbox = mailbox_after capacity earlier in
-    rw (append-nil (taken earlier)) (order_post (post_fault mailbox) answer mailbox message (accepted earlier) (taken earlier) lawful.1 (order capacity earlier lawful.0))
+    rw (append-nil (taken earlier)) (order_post (post_fault mailbox) answer mailbox request (accepted earlier) (taken earlier) lawful.1 (order capacity earlier lawful.0))
 order capacity (Take answer ∷ earlier) lawful =
     order_take (mailbox_after capacity earlier).waiting answer (accepted earlier) (taken earlier) lawful.1 (order capacity earlier lawful.0)
 order capacity (Release ∷ earlier) lawful = rw (append-nil (accepted earlier), append-nil (taken earlier)) (order capacity earlier lawful.0)
 order capacity (Close ∷ earlier) lawful = rw (append-nil (accepted earlier), append-nil (taken earlier)) (order capacity earlier lawful.0)
 
-room_post : (fault : Option PostFault) (answer : Answer) (mailbox : MailboxState) (message : Message) (front : List Message) (collected : ℕ)
-    → answer ≡ answer_with fault message → length front ≡ mailbox.outstanding + collected
-    → length (front ++ accepted_by (Post message answer)) ≡ (cond (is_none fault) (with_message mailbox message) mailbox).outstanding + collected
-room_post None (Ok done) mailbox message front collected e h = omega (arith, length-append front (message ∷ []))
-room_post None (Err fault) mailbox message front collected e h = absurd cc
-room_post (Some fault) (Ok done) mailbox message front collected e h = absurd cc
-room_post (Some fault) (Err pair) mailbox message front collected e h = rw (append-nil front) h
+room_post : (fault : Option PostFault) (answer : Answer) (mailbox : MailboxState) (request : Request) (front : List Request) (collected : ℕ)
+    → answer ≡ answer_with fault request → length front ≡ mailbox.outstanding + collected
+    → length (front ++ accepted_by (Post request answer)) ≡ (cond (is_none fault) (with_request mailbox request) mailbox).outstanding + collected
+room_post None (Ok done) mailbox request front collected e h = omega (arith, length-append front (request ∷ []))
+room_post None (Err fault) mailbox request front collected e h = absurd cc
+room_post (Some fault) (Ok done) mailbox request front collected e h = absurd cc
+room_post (Some fault) (Err pair) mailbox request front collected e h = rw (append-nil front) h
 
 pub room : (capacity : ℕ) (history : List Turn) → IsLawful capacity history
     → length (accepted history) ≡ (mailbox_after capacity history).outstanding + released history
 room capacity [] lawful = refl
-room capacity (Post message answer ∷ earlier) lawful =
+room capacity (Post request answer ∷ earlier) lawful =
     let mailbox = mailbox_after capacity earlier in
-    room_post (post_fault mailbox) answer mailbox message (accepted earlier) (released earlier) lawful.1 (room capacity earlier lawful.0)
+    room_post (post_fault mailbox) answer mailbox request (accepted earlier) (released earlier) lawful.1 (room capacity earlier lawful.0)
 room capacity (Take answer ∷ earlier) lawful = rw (append-nil (accepted earlier)) (room capacity earlier lawful.0)
 room capacity (Release ∷ earlier) lawful =
     let some : length (mailbox_after capacity earlier).waiting < (mailbox_after capacity earlier).outstanding = ltb-true _ _ lawful.1 in
@@ -63,26 +63,26 @@ room capacity (Release ∷ earlier) lawful =
     rw (append-nil (accepted earlier)) (omega arith)
 room capacity (Close ∷ earlier) lawful = rw (append-nil (accepted earlier)) (room capacity earlier lawful.0)
 
-kept_by_post : {A : Type 0} (part : MailboxState → A) (fault : Option PostFault) (mailbox : MailboxState) (message : Message)
-    → part (with_message mailbox message) ≡ part mailbox
-    → part (cond (is_none fault) (with_message mailbox message) mailbox) ≡ part mailbox
-kept_by_post part None mailbox message e = e
-kept_by_post part (Some fault) mailbox message e = refl
+kept_by_post : {A : Type 0} (part : MailboxState → A) (fault : Option PostFault) (mailbox : MailboxState) (request : Request)
+    → part (with_request mailbox request) ≡ part mailbox
+    → part (cond (is_none fault) (with_request mailbox request) mailbox) ≡ part mailbox
+kept_by_post part None mailbox request e = e
+kept_by_post part (Some fault) mailbox request e = refl
 
 pub closed : (capacity : ℕ) (history : List Turn) → (mailbox_after capacity history).closed ≡ is_closed history
 closed capacity [] = refl
-closed capacity (Post message answer ∷ earlier) =
+closed capacity (Post request answer ∷ earlier) =
     let mailbox = mailbox_after capacity earlier in
-    kept_by_post (λ m. m.closed) (post_fault mailbox) mailbox message refl ∙ closed capacity earlier
+    kept_by_post (λ m. m.closed) (post_fault mailbox) mailbox request refl ∙ closed capacity earlier
 closed capacity (Take answer ∷ earlier) = closed capacity earlier
 closed capacity (Release ∷ earlier) = closed capacity earlier
 closed capacity (Close ∷ earlier) = refl
 
 pub capacity_kept : (capacity : ℕ) (history : List Turn) → (mailbox_after capacity history).capacity ≡ capacity
 capacity_kept capacity [] = refl
-capacity_kept capacity (Post message answer ∷ earlier) =
+capacity_kept capacity (Post request answer ∷ earlier) =
     let mailbox = mailbox_after capacity earlier in
-    kept_by_post (λ m. m.capacity) (post_fault mailbox) mailbox message refl ∙ capacity_kept capacity earlier
+    kept_by_post (λ m. m.capacity) (post_fault mailbox) mailbox request refl ∙ capacity_kept capacity earlier
 capacity_kept capacity (Take answer ∷ earlier) = capacity_kept capacity earlier
 capacity_kept capacity (Release ∷ earlier) = capacity_kept capacity earlier
 capacity_kept capacity (Close ∷ earlier) = capacity_kept capacity earlier
@@ -98,25 +98,25 @@ fault capacity history lawful =
 
 closed_before : (later earlier : List Turn) → is_closed (later ++ Close ∷ earlier) ≡ true
 closed_before [] earlier = refl
-closed_before (Post message answer ∷ later) earlier = closed_before later earlier
+closed_before (Post request answer ∷ later) earlier = closed_before later earlier
 closed_before (Take answer ∷ later) earlier = closed_before later earlier
 closed_before (Release ∷ later) earlier = closed_before later earlier
 closed_before (Close ∷ later) earlier = refl
 
-apart : (answer : Answer) (done : Unit {0}) (pair : PostFault × Message) → answer ≡ Ok done → answer ≡ Err pair → ⊥
+apart : (answer : Answer) (done : Unit {0}) (pair : PostFault × Request) → answer ≡ Ok done → answer ≡ Err pair → ⊥
 apart answer done pair is_ok is_err = cc
 
-refused : (mailbox : MailboxState) (message : Message) (answer : Answer) → mailbox.closed ≡ true → answer ≡ post_answer mailbox message → accepted_by (Post message answer) ≡ []
-refused mailbox message (Err pair) h e = refl
-refused mailbox message (Ok done) h e =
-    absurd (apart (Ok done) done (Closed, message) refl (e ∙ ap (λ (test : Bool). answer_with (cond test (Some Closed) (cond (leb mailbox.capacity mailbox.outstanding) (Some Full) None)) message) h))
+refused : (mailbox : MailboxState) (request : Request) (answer : Answer) → mailbox.closed ≡ true → answer ≡ post_answer mailbox request → accepted_by (Post request answer) ≡ []
+refused mailbox request (Err pair) h e = refl
+refused mailbox request (Ok done) h e =
+    absurd (apart (Ok done) done (Closed, request) refl (e ∙ ap (λ (test : Bool). answer_with (cond test (Some Closed) (cond (leb mailbox.capacity mailbox.outstanding) (Some Full) None)) request) h))
 
 pub none_after_close : (capacity : ℕ) (later earlier : List Turn) → IsLawful capacity (later ++ Close ∷ earlier) → accepted (later ++ Close ∷ earlier) ≡ accepted earlier
 none_after_close capacity [] earlier lawful = append-nil (accepted earlier)
-none_after_close capacity (Post message answer ∷ later) earlier lawful =
+none_after_close capacity (Post request answer ∷ later) earlier lawful =
     let before = later ++ Close ∷ earlier in
     let mailbox = mailbox_after capacity before in
-    rw (refused mailbox message answer (closed capacity before ∙ closed_before later earlier) lawful.1, append-nil (accepted before)) (none_after_close capacity later earlier lawful.0)
+    rw (refused mailbox request answer (closed capacity before ∙ closed_before later earlier) lawful.1, append-nil (accepted before)) (none_after_close capacity later earlier lawful.0)
 none_after_close capacity (Take answer ∷ later) earlier lawful =
     rw (append-nil (accepted (later ++ Close ∷ earlier))) (none_after_close capacity later earlier lawful.0)
 none_after_close capacity (Release ∷ later) earlier lawful =
@@ -130,7 +130,7 @@ pub stands_new : (capacity : ℕ) → Stands (empty_mailbox capacity) []
 stands_new capacity = record { lawful = tt; left = refl }
 
 capacity_after : (mailbox : MailboxState) (turn : Turn) → (after_turn mailbox turn).capacity ≡ mailbox.capacity
-capacity_after mailbox (Post message answer) = kept_by_post (λ m. m.capacity) (post_fault mailbox) mailbox message refl
+capacity_after mailbox (Post request answer) = kept_by_post (λ m. m.capacity) (post_fault mailbox) mailbox request refl
 capacity_after mailbox (Take answer) = refl
 capacity_after mailbox Release = refl
 capacity_after mailbox Close = refl

@@ -1,70 +1,71 @@
 -- The worked rows, computed.
 use Rattle.std.proofs.Common.{refl}
 use Rattle.shoot.specs.HartSet.{byte_of, difference}
-use Rattle.shoot.specs.Request.{Message}
-use Rattle.shoot.specs.WorkedRows.{two_open, marks, ticket_0_used_again, opened}
+use Rattle.shoot.specs.Request.{Request}
+use Rattle.shoot.specs.WorkedRows.{own_acked, one_collected, first_opened, posted_to_7, acked_by_2, acked_by_7, two_open, marks, alone, ticket_0_used_again, opened}
 use Rattle.shoot.specs.WorkedRows as rows
 
-pub mailbox_row : (a b c d : Message) → rows.mailbox_row a b c d
+pub mailbox_row : (a b c d : Request) → rows.mailbox_row a b c d
 mailbox_row a b c d = ((((((((((((tt, refl), refl), refl), refl), refl), refl), refl), tt), refl), refl), refl), refl)
 
 pub ticket_row : rows.ticket_row
-unfolding byte_of difference
-ticket_row = (((((((((tt, refl), refl), refl), (refl, refl)), (refl, refl)), (refl, refl)), refl), (refl, refl)), (refl, refl))
+unfolding own_acked one_collected byte_of difference
+ticket_row = (refl, refl, refl, refl, refl, refl, refl)
 
 pub own_row : rows.own_row
-unfolding byte_of difference
-own_row = ((((((tt, refl), refl), (refl, refl)), refl), (refl, refl)), (refl, refl))
+unfolding own_acked byte_of difference
+own_row = (refl, refl, refl)
 
-pub nothing_to_collect : (a b : Message) → rows.nothing_to_collect a b
+pub nothing_to_collect : (a b : Request) → rows.nothing_to_collect a b
 nothing_to_collect a b = refl
 
-pub one_to_collect : (a b : Message) → rows.one_to_collect a b
+pub one_to_collect : (a b : Request) → rows.one_to_collect a b
 one_to_collect a b = refl
 
-pub collected_once : (a b : Message) → rows.collected_once a b
+pub collected_once : (a b : Request) → rows.collected_once a b
 collected_once a b = refl
 
-pub one_left_to_collect : (a b : Message) → rows.one_left_to_collect a b
+pub one_left_to_collect : (a b : Request) → rows.one_left_to_collect a b
 one_left_to_collect a b = refl
 
 pub two_tickets_row : rows.two_tickets_row
-unfolding byte_of difference
-two_tickets_row = ((((((((((((tt, refl), refl), refl), refl), (refl, refl)), refl), (refl, refl)), refl), (refl, refl)), (refl, refl)), (refl, refl)), (refl, refl))
+unfolding first_opened posted_to_7 acked_by_2 acked_by_7 byte_of difference
+two_tickets_row = (refl, refl, refl, refl, refl, refl, refl, refl, refl)
 
 pub open_numbers : rows.open_numbers
-unfolding two_open
+unfolding first_opened two_open
 open_numbers = refl
 
 pub who_is_named : rows.who_is_named
-unfolding two_open marks
+unfolding first_opened two_open marks
 who_is_named = refl
 
 pub who_was_posted_to : rows.who_was_posted_to
-unfolding two_open marks
+unfolding first_opened two_open marks
 who_was_posted_to = refl
 
 pub who_acknowledged : rows.who_acknowledged
-unfolding two_open marks
+unfolding first_opened two_open marks
 who_acknowledged = refl
 
 pub who_is_collected : rows.who_is_collected
-unfolding two_open marks
+unfolding first_opened two_open marks
 who_is_collected = refl
 
 pub one_is_done : rows.one_is_done
-unfolding two_open difference
+unfolding first_opened two_open difference
 one_is_done = refl
 
 pub what_is_asked : rows.what_is_asked
+unfolding alone
 what_is_asked = refl
 
 pub not_acked_again : rows.not_acked_again
-unfolding ticket_0_used_again byte_of difference
+unfolding alone ticket_0_used_again byte_of difference
 not_acked_again = refl
 
 pub not_collected_again : rows.not_collected_again
-unfolding ticket_0_used_again byte_of difference
+unfolding alone ticket_0_used_again byte_of difference
 not_collected_again = refl
 
 pub only_who_was_posted_to : rows.only_who_was_posted_to

@@ -5,6 +5,5 @@ pub mod Mailbox
 pub mod MailboxHistory
 pub mod Request
 pub mod Ring
-pub mod TicketHistory
 pub mod Tickets
 pub mod WorkedRows

@@ -1,6 +1,6 @@
 -- What a mailbox holds, what it answers to a post, and what each call leaves of it.
 use Rattle.std.specs.Prelude.{ℕ, ◌+◌, ◌-◌, Bool, true, false, List, [], ◌∷◌, ◌++◌, drop, Option, Some, None, is_none, Result, Ok, Err, nat_le, nat_lt, length, slice_get, ◌≤◌, if◌then◌else◌}
-use Rattle.shoot.specs.Request.{Message}
+use Rattle.shoot.specs.Request.{Request}
 use Rattle.shoot.specs.declared.TheConstants.{MAX_CAPACITY}
 use Rattle.shoot.specs.declared.mailbox.PostFault.{PostFault}
 use Rattle.shoot.specs.declared.mailbox.PostFault.TheVariants.{Closed, Full}
@@ -8,7 +8,7 @@ use Rattle.shoot.specs.declared.mailbox.PostFault.TheVariants.{Closed, Full}
 -- The requests that wait, oldest first; how many were accepted whose acknowledgement
 -- is not collected yet; whether later posts are refused; and the bound on the second.
 pub record MailboxState : Type 0 where
-  pub waiting : List Message
+  pub waiting : List Request
   pub outstanding : ℕ
   pub closed : Bool
   pub capacity : ℕ
@@ -31,29 +31,33 @@ post_fault mailbox =
     else None
 
 -- a refused request comes back
-abbrev pub answer_with : Option PostFault → Message → Result (Unit {0}) (PostFault × Message)
-answer_with None message = Ok tt
-answer_with (Some fault) message = Err (fault, message)
+abbrev pub answer_with : Option PostFault → Request → Result (Unit {0}) (PostFault × Request)
+answer_with None request = Ok tt
+answer_with (Some fault) request = Err (fault, request)
 
-abbrev pub post_answer : MailboxState → Message → Result (Unit {0}) (PostFault × Message)
-post_answer mailbox message = answer_with (post_fault mailbox) message
+abbrev pub post_answer : MailboxState → Request → Result (Unit {0}) (PostFault × Request)
+post_answer mailbox request = answer_with (post_fault mailbox) request
 
 -- the oldest request
-abbrev pub first_waiting : MailboxState → Option Message
+abbrev pub first_waiting : MailboxState → Option Request
 first_waiting mailbox = slice_get mailbox.waiting 0
 
 -- the mailbox with one more request, which is outstanding
-abbrev pub with_message : MailboxState → Message → MailboxState
-with_message mailbox message = record {
-  waiting = mailbox.waiting ++ message ∷ [];
+abbrev pub with_request : MailboxState → Request → MailboxState
+with_request mailbox request = record {
+  waiting = mailbox.waiting ++ request ∷ [];
   outstanding = mailbox.outstanding + 1;
   closed = mailbox.closed;
   capacity = mailbox.capacity;
 }
 
+-- the same under the name that crates above still use
+abbrev pub with_message : MailboxState → Request → MailboxState
+with_message = with_request
+
 -- a refused post changes nothing
-abbrev pub after_post : MailboxState → Message → MailboxState
-after_post mailbox message = if is_none (post_fault mailbox) then with_message mailbox message else mailbox
+abbrev pub after_post : MailboxState → Request → MailboxState
+after_post mailbox request = if is_none (post_fault mailbox) then with_request mailbox request else mailbox
 
 -- the oldest request is out, and stays outstanding
 abbrev pub after_take : MailboxState → MailboxState

@@ -2,32 +2,32 @@
 -- read out of them.
 use Rattle.std.specs.Prelude.{◌≡◌, ℕ, ◌+◌, Bool, true, false, List, [], ◌∷◌, ◌++◌, Option, Some, Result, Ok, IsTrue}
 use Rattle.std.specs.List.{list_any}
-use Rattle.shoot.specs.Request.{Message}
+use Rattle.shoot.specs.Request.{Request}
 use Rattle.shoot.specs.Mailbox.{MailboxState, empty_mailbox, post_answer, first_waiting, can_release, after_post, after_take, after_release, after_close}
 use Rattle.shoot.specs.declared.mailbox.PostFault.{PostFault}
 
 -- a call, with its answer where it has one
 pub data Turn : Type 0 where
-  Post : Message → Result (Unit {0}) (PostFault × Message) → Turn
-  Take : Option Message → Turn
+  Post : Request → Result (Unit {0}) (PostFault × Request) → Turn
+  Take : Option Request → Turn
   Release : Turn
   Close : Turn
 
 -- the requests that were accepted, in the order of their posts
-abbrev pub accepted_by : Turn → List Message
-accepted_by (Post message (Ok done)) = message ∷ []
+abbrev pub accepted_by : Turn → List Request
+accepted_by (Post request (Ok done)) = request ∷ []
 accepted_by turn = []
 
-abbrev pub accepted : List Turn → List Message
+abbrev pub accepted : List Turn → List Request
 accepted [] = []
 accepted (turn ∷ earlier) = accepted earlier ++ accepted_by turn
 
 -- the requests that were taken, in that order
-abbrev pub taken_by : Turn → List Message
-taken_by (Take (Some message)) = message ∷ []
+abbrev pub taken_by : Turn → List Request
+taken_by (Take (Some request)) = request ∷ []
 taken_by turn = []
 
-abbrev pub taken : List Turn → List Message
+abbrev pub taken : List Turn → List Request
 taken [] = []
 taken (turn ∷ earlier) = taken earlier ++ taken_by turn
 
@@ -47,7 +47,7 @@ is_closed history = list_any is_close history
 
 -- what a call leaves, and what a history leaves of a new mailbox
 abbrev pub after_turn : MailboxState → Turn → MailboxState
-after_turn mailbox (Post message answer) = after_post mailbox message
+after_turn mailbox (Post request answer) = after_post mailbox request
 after_turn mailbox (Take answer) = after_take mailbox
 after_turn mailbox Release = after_release mailbox
 after_turn mailbox Close = after_close mailbox
@@ -58,7 +58,7 @@ mailbox_after capacity (turn ∷ earlier) = after_turn (mailbox_after capacity e
 
 -- the call may be made and is answered so
 abbrev pub IsDue : MailboxState → Turn → Type 0
-IsDue mailbox (Post message answer) = answer ≡ post_answer mailbox message
+IsDue mailbox (Post request answer) = answer ≡ post_answer mailbox request
 IsDue mailbox (Take answer) = answer ≡ first_waiting mailbox
 IsDue mailbox Release = IsTrue (can_release mailbox)
 IsDue mailbox Close = Unit {0}

@@ -3,6 +3,10 @@ use Rattle.std.specs.Prelude.{ℕ}
 use Rattle.pte.specs.declared.address.What.{What}
 
 -- what is asked, and the number of the ticket that counts the answers
-pub record Message : Type 0 where
+pub record Request : Type 0 where
   pub ticket : ℕ
   pub what : What
+
+-- the same under the name that crates above still use
+abbrev pub Message : Type 0
+Message = Request

@@ -1,8 +1,8 @@
 -- The tickets of a hart: what each tells, what an opening answers, and what each call leaves.
-use Rattle.std.specs.Prelude.{ℕ, Bool, true, false, List, Option, Some, None, is_some, is_none, Result, Ok, Err, ◌==◌, slice_get, slice_set, position, replicate, if◌then◌else◌}
+use Rattle.std.specs.Prelude.{◌≡◌, ◌<◌, ℕ, Bool, true, false, List, Option, Some, None, is_some, is_none, Result, Ok, Err, IfSome, IsTrue, ◌==◌, slice_get, slice_set, length, position, replicate, if◌then◌else◌}
 use Rattle.pte.specs.declared.address.What.{What}
 use Rattle.shoot.specs.HartSet.{contains, difference, is_empty, byte_of, harts_in, no_harts}
-use Rattle.shoot.specs.declared.TheConstants.{MAX_TICKETS}
+use Rattle.shoot.specs.declared.TheConstants.{MAX_HARTS, MAX_TICKETS}
 use Rattle.shoot.specs.declared.tickets.Ticket.{Ticket}
 use Rattle.shoot.specs.declared.tickets.Collected.{Collected}
 use Rattle.shoot.specs.declared.tickets.Collected.TheVariants.{Done, Waiting}
@@ -63,9 +63,18 @@ is_done ticket = is_empty (uncollected ticket)
 abbrev pub progress : Ticket → Collected
 progress ticket = if is_done ticket then Done else Waiting (byte_of (uncollected ticket))
 
--- a ticket that was just opened
+-- a ticket that was just opened for a set of harts, or for those of a byte
+abbrev pub ticket_for : What → List Bool → Ticket
+ticket_for what named = record {
+  what = what;
+  named = named;
+  posted = no_harts;
+  acked = no_harts;
+  collected = no_harts;
+}
+
 abbrev pub new_ticket : What → ℕ → Ticket
-new_ticket what named = record { what = what; named = harts_in named; posted = no_harts; acked = no_harts; collected = no_harts }
+new_ticket what named = ticket_for what (harts_in named)
 
 -- a ticket once it was posted to a hart
 abbrev pub with_posted : ℕ → Ticket → Ticket
@@ -99,20 +108,28 @@ with_change table number change = with_ticket table number (changed change (tick
 abbrev pub lowest_free : TicketTable → Option ℕ
 lowest_free table = position is_none table.tickets
 
--- what an opening answers, the first fault that applies, and what it leaves
+-- what an opening for a set of harts, or for those of a byte, answers, the first fault that
+-- applies, and what it leaves
 abbrev pub opened : Option ℕ → Result ℕ TicketFault
 opened None = Err NoTicket
 opened (Some number) = Ok number
 
+abbrev pub answer_for : TicketTable → List Bool → Result ℕ TicketFault
+answer_for table named =
+    if contains named table.hart then opened (lowest_free table) else Err HomeNotNamed
+
 abbrev pub open_answer : TicketTable → ℕ → Result ℕ TicketFault
-open_answer table named = if contains (harts_in named) table.hart then opened (lowest_free table) else Err HomeNotNamed
+open_answer table named = answer_for table (harts_in named)
 
 abbrev pub with_opened : TicketTable → Result ℕ TicketFault → Ticket → TicketTable
 with_opened table (Ok number) ticket = with_ticket table number (Some ticket)
 with_opened table (Err fault) ticket = table
 
+abbrev pub after_open_for : TicketTable → What → List Bool → TicketTable
+after_open_for table what named = with_opened table (answer_for table named) (ticket_for what named)
+
 abbrev pub after_open : TicketTable → What → ℕ → TicketTable
-after_open table what named = with_opened table (open_answer table named) (new_ticket what named)
+after_open table what named = after_open_for table what (harts_in named)
 
 -- how far the ticket of a number is
 abbrev pub progress_with : Option Ticket → Collected
@@ -144,3 +161,13 @@ finish_answer table number = if is_done_at table number then Ok tt else Err (rec
 
 abbrev pub after_finish : TicketTable → ℕ → TicketTable
 after_finish table number = if is_done_at table number then with_ticket table number None else table
+
+-- the harts that are collected have acknowledged the ticket, and so it is of each ticket of a hart
+abbrev pub IsSound : Ticket → Type 0
+IsSound ticket = (length ticket.acked ≡ MAX_HARTS)
+    × ((hart : ℕ) → hart < MAX_HARTS → IsTrue (contains ticket.collected hart)
+    → IsTrue (contains ticket.acked hart))
+
+pub record AreSound (table : TicketTable) : Type 0 where
+  pub count : length table.tickets ≡ MAX_TICKETS
+  pub each : (number : ℕ) → IfSome (ticket_at table number) IsSound

@@ -1,64 +1,95 @@
--- Worked rows: lists of calls on a mailbox and on tickets, newest first, with the answers that are due by hand; and the words
--- of some requests, worked out bit by bit.
-use Rattle.std.specs.Prelude.{◌≡◌, ℕ, zero, suc, Bool, true, false, List, [], ◌∷◌, Some, None, Ok, Err}
+-- Worked rows: lists of calls on a mailbox, newest first, with the answers that are due by hand; what
+-- tickets answer after some calls; and the words of some requests, worked out bit by bit.
+use Rattle.std.specs.Prelude.{◌≡◌, ℕ, zero, suc, Bool, true, false, List, [], ◌∷◌, map, Some, None, Ok, Err}
 use Rattle.pte.specs.declared.address.PageSize.TheVariants.{Kib4, Mib2, Gib512}
 use Rattle.pte.specs.declared.address.What.TheVariants.{PageOf, SpaceOf, All}
 use Rattle.shoot.specs.Acknowledgement.{acknowledgement}
 use Rattle.shoot.specs.HartSet.{byte_of, harts_in}
-use Rattle.shoot.specs.Request.{Message}
+use Rattle.shoot.specs.Request.{Request}
 use Rattle.shoot.specs.Mailbox.{can_release}
 use Rattle.shoot.specs.MailboxHistory.{Post, Take, Release, Close, IsLawful, mailbox_after}
-use Rattle.shoot.specs.Tickets.{TicketTable, is_open, names, open_answer, what_at, is_acked, is_posted, is_collected, is_done_at, after_acked}
-use Rattle.shoot.specs.TicketHistory.{Turn, Open, Posted, Acked, Collect, Finish, IsLawful as IsLawfulTickets, tickets_after}
+use Rattle.shoot.specs.Tickets.{TicketTable, no_tickets, is_open, names, open_answer, progress_at, finish_answer, what_at, is_acked, is_posted, is_collected, is_done_at, after_open, after_posted, after_acked, after_collect, after_finish}
 use Rattle.shoot.specs.declared.mailbox.PostFault.TheVariants.{Closed, Full}
 use Rattle.shoot.specs.declared.tickets.Collected.TheVariants.{Done, Waiting}
 use Rattle.shoot.specs.declared.tickets.TicketFault.TheVariants.{HomeNotNamed, NoTicket}
 
 -- capacity 2: full by what is outstanding, room by a release, closed before full, and what waits stays
-abbrev pub mailbox_row : Message → Message → Message → Message → Type 0
+abbrev pub mailbox_row : Request → Request → Request → Request → Type 0
 mailbox_row a b c d = IsLawful 2
     (Take None ∷ Take (Some c) ∷ Take (Some b) ∷ Post d (Err (Closed, d)) ∷ Close ∷ Post c (Ok tt) ∷ Release ∷ Post c (Err (Full, c)) ∷ Take (Some a)
     ∷ Post c (Err (Full, c)) ∷ Post b (Ok tt) ∷ Post a (Ok tt) ∷ [])
 
--- hart 0 names itself and hart 1: its own acknowledgement is collected at once, that of hart 1 once it is there
+-- hart 0 names itself and hart 1: its own acknowledgement is collected at once, that of hart 1 once
+-- it is there
+unfoldable pub own_acked : TicketTable
+own_acked = after_acked (after_open (no_tickets 0) All 0x3) 0 0
+
+unfoldable pub one_collected : TicketTable
+one_collected = after_collect (after_collect own_acked 0 0) 0 1
+
 abbrev pub ticket_row : Type 0
-ticket_row = IsLawfulTickets 0
-    (Finish 0 (Ok tt) ∷ Collect 0 1 Done ∷ Acked 0 1 ∷ Finish 0 (Err (record {})) ∷ Collect 0 1 (Waiting 0x2) ∷ Collect 0 0 (Waiting 0x2) ∷ Acked 0 0
-    ∷ Open All 0x3 (Ok 0) ∷ Open All 0x2 (Err HomeNotNamed) ∷ [])
+ticket_row = (open_answer (no_tickets 0) 0x2 ≡ Err HomeNotNamed)
+    × (open_answer (no_tickets 0) 0x3 ≡ Ok 0)
+    × (progress_at (after_collect own_acked 0 0) 0 ≡ Waiting 0x2)
+    × (progress_at one_collected 0 ≡ Waiting 0x2)
+    × (finish_answer one_collected 0 ≡ Err (record {}))
+    × (progress_at (after_collect (after_acked one_collected 0 1) 0 1) 0 ≡ Done)
+    × (finish_answer (after_collect (after_acked one_collected 0 1) 0 1) 0 ≡ Ok tt)
 
 -- the same without the collection from hart 0
 abbrev pub own_row : Type 0
-own_row = IsLawfulTickets 0
-    (Finish 0 (Ok tt) ∷ Collect 0 1 Done ∷ Acked 0 1 ∷ Collect 0 1 (Waiting 0x2) ∷ Acked 0 0 ∷ Open All 0x3 (Ok 0) ∷ [])
+own_row = (progress_at (after_collect own_acked 0 1) 0 ≡ Waiting 0x2)
+    × (progress_at (after_collect (after_acked own_acked 0 1) 0 1) 0 ≡ Done)
+    × (finish_answer (after_collect (after_acked own_acked 0 1) 0 1) 0 ≡ Ok tt)
 
 -- no acknowledgement can be collected of what still waits; once one request is taken, one can
-abbrev pub nothing_to_collect : Message → Message → Type 0
+abbrev pub nothing_to_collect : Request → Request → Type 0
 nothing_to_collect a b = can_release (mailbox_after 2 (Post b (Ok tt) ∷ Post a (Ok tt) ∷ [])) ≡ false
 
-abbrev pub one_to_collect : Message → Message → Type 0
+abbrev pub one_to_collect : Request → Request → Type 0
 one_to_collect a b = can_release (mailbox_after 2 (Take (Some a) ∷ Post b (Ok tt) ∷ Post a (Ok tt) ∷ [])) ≡ true
 
-abbrev pub collected_once : Message → Message → Type 0
+abbrev pub collected_once : Request → Request → Type 0
 collected_once a b = can_release (mailbox_after 2 (Release ∷ Take (Some a) ∷ Post b (Ok tt) ∷ Post a (Ok tt) ∷ [])) ≡ false
 
-abbrev pub one_left_to_collect : Message → Message → Type 0
+abbrev pub one_left_to_collect : Request → Request → Type 0
 one_left_to_collect a b = can_release (mailbox_after 2 (Release ∷ Take (Some b) ∷ Take (Some a) ∷ Post b (Ok tt) ∷ Post a (Ok tt) ∷ [])) ≡ true
 
--- hart 2 names itself and hart 7: a post is no acknowledgement and an acknowledgement no collection, and two tickets are told apart
-abbrev pub two_tickets_row : Type 0
-two_tickets_row = IsLawfulTickets 2
-    (Finish 0 (Ok tt) ∷ Collect 0 7 Done ∷ Collect 1 7 (Waiting 0x84) ∷ Finish 0 (Err (record {})) ∷ Acked 0 7 ∷ Collect 0 7 (Waiting 0x80) ∷ Acked 0 2
-    ∷ Collect 0 7 (Waiting 0x84) ∷ Posted 0 7 ∷ Open All 0x84 (Ok 1) ∷ Open (SpaceOf 1) 0x84 (Ok 0) ∷ Open All 0x3 (Err HomeNotNamed) ∷ [])
+-- hart 2 names itself and hart 7: a post is no acknowledgement and an acknowledgement no collection,
+-- and two tickets are told apart
+unfoldable pub first_opened : TicketTable
+first_opened = after_open (no_tickets 2) (SpaceOf 1) 0x84
 
--- what is told of two open tickets of hart 2, and of two harts, is told apart: each of these tests gives both answers
+unfoldable pub posted_to_7 : TicketTable
+posted_to_7 = after_collect (after_posted (after_open first_opened All 0x84) 0 7) 0 7
+
+unfoldable pub acked_by_2 : TicketTable
+acked_by_2 = after_collect (after_acked posted_to_7 0 2) 0 7
+
+unfoldable pub acked_by_7 : TicketTable
+acked_by_7 = after_collect (after_acked acked_by_2 0 7) 1 7
+
+abbrev pub two_tickets_row : Type 0
+two_tickets_row = (open_answer (no_tickets 2) 0x3 ≡ Err HomeNotNamed)
+    × (open_answer (no_tickets 2) 0x84 ≡ Ok 0)
+    × (open_answer first_opened 0x84 ≡ Ok 1)
+    × (progress_at posted_to_7 0 ≡ Waiting 0x84)
+    × (progress_at acked_by_2 0 ≡ Waiting 0x80)
+    × (finish_answer (after_acked acked_by_2 0 7) 0 ≡ Err (record {}))
+    × (progress_at acked_by_7 1 ≡ Waiting 0x84)
+    × (progress_at (after_collect acked_by_7 0 7) 0 ≡ Done)
+    × (finish_answer (after_collect acked_by_7 0 7) 0 ≡ Ok tt)
+
+-- what is told of two open tickets of hart 2, and of two harts, is told apart: each of these tests
+-- gives both answers
 unfoldable pub two_open : TicketTable
-two_open = tickets_after 2 (Acked 0 2 ∷ Posted 0 7 ∷ Open All 0x4 (Ok 1) ∷ Open (SpaceOf 1) 0x84 (Ok 0) ∷ [])
+two_open = after_acked (after_posted (after_open first_opened All 0x4) 0 7) 0 2
 
 unfoldable pub marks : (TicketTable → ℕ → ℕ → Bool) → List Bool
 marks tells = tells two_open 0 2 ∷ tells two_open 0 7 ∷ tells two_open 1 2 ∷ tells two_open 1 7 ∷ []
 
 abbrev pub open_numbers : Type 0
-open_numbers = is_open two_open 0 ∷ is_open two_open 1 ∷ is_open two_open 2 ∷ is_open two_open 64 ∷ [] ≡ true ∷ true ∷ false ∷ false ∷ []
+open_numbers = map (is_open two_open) (0 ∷ 1 ∷ 2 ∷ 64 ∷ []) ≡ true ∷ true ∷ false ∷ false ∷ []
 
 abbrev pub who_is_named : Type 0
 who_is_named = marks names ≡ true ∷ true ∷ true ∷ false ∷ []
@@ -73,40 +104,48 @@ abbrev pub who_is_collected : Type 0
 who_is_collected = marks is_collected ≡ true ∷ false ∷ false ∷ false ∷ []
 
 abbrev pub one_is_done : Type 0
-one_is_done = is_done_at (after_acked two_open 1 2) 0 ∷ is_done_at (after_acked two_open 1 2) 1 ∷ [] ≡ false ∷ true ∷ []
+one_is_done = map (is_done_at (after_acked two_open 1 2)) (0 ∷ 1 ∷ []) ≡ false ∷ true ∷ []
 
 -- what is asked is told by its number, and what was said of a number is not said of a later ticket
-unfoldable pub ticket_0_used_again : ℕ → List Turn
-ticket_0_used_again named = Open All named (Ok 0) ∷ Finish 0 (Ok tt) ∷ Acked 0 0 ∷ Open (SpaceOf 1) 0x1 (Ok 0) ∷ []
+unfoldable pub alone : TicketTable
+alone = after_open (no_tickets 0) (SpaceOf 1) 0x1
+
+unfoldable pub ticket_0_used_again : TicketTable
+ticket_0_used_again = after_open (after_finish (after_acked alone 0 0) 0) All 0x1
 
 abbrev pub what_is_asked : Type 0
-what_is_asked = what_at (tickets_after 0 (Open (SpaceOf 1) 0x1 (Ok 0) ∷ [])) 0 ≡ Some (SpaceOf 1)
+what_is_asked = what_at alone 0 ≡ Some (SpaceOf 1)
 
 abbrev pub not_acked_again : Type 0
-not_acked_again = is_acked (tickets_after 0 (ticket_0_used_again 0x1)) 0 0 ≡ false
+not_acked_again = is_acked ticket_0_used_again 0 0 ≡ false
 
 abbrev pub not_collected_again : Type 0
-not_collected_again = is_collected (tickets_after 0 (ticket_0_used_again 0x1)) 0 0 ≡ false
+not_collected_again = is_collected ticket_0_used_again 0 0 ≡ false
 
 abbrev pub only_who_was_posted_to : Type 0
-only_who_was_posted_to = is_posted (tickets_after 0 (Posted 0 3 ∷ Open All 0xF (Ok 0) ∷ [])) 0 2 ≡ false
+only_who_was_posted_to =
+    is_posted (after_posted (after_open (no_tickets 0) All 0xF) 0 3) 0 2 ≡ false
 
 -- the tickets of hart 0 once so many were opened, of which each names it alone
-unfoldable pub opened : ℕ → List Turn
-opened zero = []
-opened (suc n) = Open All 0x1 (Ok n) ∷ opened n
+unfoldable pub opened : ℕ → TicketTable
+opened zero = no_tickets 0
+opened (suc n) = after_open (opened n) All 0x1
 
 abbrev pub last_ticket : Type 0
-last_ticket = open_answer (tickets_after 0 (opened 63)) 0x1 ≡ Ok 63
+last_ticket = open_answer (opened 63) 0x1 ≡ Ok 63
 
 abbrev pub no_ticket : Type 0
-no_ticket = open_answer (tickets_after 0 (opened 64)) 0x1 ≡ Err NoTicket
+no_ticket = open_answer (opened 64) 0x1 ≡ Err NoTicket
 
 abbrev pub home_before_number : Type 0
-home_before_number = open_answer (tickets_after 0 (opened 64)) 0x2 ≡ Err HomeNotNamed
+home_before_number = open_answer (opened 64) 0x2 ≡ Err HomeNotNamed
+
+-- the ticket is acknowledged by the hart itself and freed
+abbrev pub freed : ℕ → TicketTable → TicketTable
+freed number table = after_finish (after_acked table number 0) number
 
 abbrev pub lowest_is_opened : Type 0
-lowest_is_opened = open_answer (tickets_after 0 (Finish 7 (Ok tt) ∷ Acked 7 0 ∷ Finish 40 (Ok tt) ∷ Acked 40 0 ∷ opened 64)) 0x1 ≡ Ok 7
+lowest_is_opened = open_answer (freed 7 (freed 40 (opened 64))) 0x1 ≡ Ok 7
 
 -- bit h stands for hart h
 abbrev pub harts_of_a_byte : Type 0

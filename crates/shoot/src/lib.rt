@@ -28,7 +28,7 @@ pub use mailbox_laws::{
 pub use request::Request;
 pub use ticket_laws::{
     done_tickets_were_acknowledged, lowest_free_number_is_opened, one_ticket_changes,
-    ticket_is_done_once_all_are_collected, tickets_stand_at_their_calls, tickets_tell_their_calls,
+    ticket_is_done_once_all_are_collected, tickets_stay_sound,
 };
 pub use tickets::{Collected, NotDone, Ticket, TicketFault, Tickets};
 pub use worked_rows::{

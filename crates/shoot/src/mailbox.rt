@@ -6,13 +6,16 @@ use crate::MAX_CAPACITY;
 use crate::request::Request;
 use crate::ring::Ring;
 use std::marker::Model;
+use thiserror::Error;
 
 /// Why a post is refused.
-#[derive(Clone, Copy, PartialEq, Eq, Debug)]
+#[derive(Clone, Copy, PartialEq, Eq, Debug, Error)]
 pub enum PostFault {
     /// The mailbox was closed.
+    #[error("the mailbox is closed")]
     Closed,
     /// As many requests as the capacity were accepted and not collected yet.
+    #[error("the mailbox is full")]
     Full,
 }
 

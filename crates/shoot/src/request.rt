@@ -15,10 +15,10 @@ pub struct Request {
 
 impl Model for Request {
     ghost use Rattle.std.specs.Prelude.{◌<◌};
-    ghost use Rattle.shoot.specs.Request.{Message};
+    ghost use Rattle.shoot.specs.Request.{Request};
     ghost use Rattle.shoot.specs.declared.TheConstants.{MAX_TICKETS};
 
-    ghost Value = { Message };
+    ghost Value = { Request };
 
     ghost view = { λ r. record { ticket = r.ticket; what = r.what } };
 
@@ -29,7 +29,7 @@ impl Model for Request {
 
 impl Default for Request {
     ghost use Rattle.std.specs.Prelude.{◌≡◌};
-    ghost use Rattle.shoot.specs.Request.{Message};
+    ghost use Rattle.shoot.specs.Request.{Request};
     ghost use Rattle.pte.specs.declared.address.What.TheVariants.{All};
 
     ghost is_default = { λ r. r ≡ record { ticket = 0; what = All } };

@@ -17,11 +17,11 @@ pub(crate) struct Ring {
 
 impl Model for Ring {
     ghost use Rattle.std.specs.Prelude.{◌≡◌, ◌<◌, ◌≤◌, List, length};
-    ghost use Rattle.shoot.specs.Request.{Message};
+    ghost use Rattle.shoot.specs.Request.{Request};
     ghost use Rattle.shoot.specs.Ring.{around};
     ghost use Rattle.shoot.specs.declared.TheConstants.{MAX_CAPACITY};
 
-    ghost Value = { List Message };
+    ghost Value = { List Request };
 
     ghost view = { λ r. around r.start r.len r.places };
 

@@ -1,35 +1,27 @@
-//! Laws of every list of calls on the tickets of one hart. Each function does
-//! nothing: its contract is the law.
+//! Laws of the tickets of one hart. Each function does nothing: its contract is the law.
 
-ghost use Rattle.std.specs.Prelude.{◌≡◌, ◌≢◌, ◌↔◌, ◌<◌, ℕ, false, List, [], ◌∷◌, Option, None, Ok, Err, IsTrue, length};
+ghost use Rattle.std.specs.Prelude.{◌≡◌, ◌≢◌, ◌↔◌, ◌<◌, ℕ, Bool, false, List, Option, None, Ok, Err, IsTrue, length};
+ghost use Rattle.pte.specs.declared.address.What.{What};
 ghost use Rattle.shoot.specs.HartSet.{contains, harts_in};
-ghost use Rattle.shoot.specs.TicketHistory.{Turn, IsDue, Stands, after_turn, told};
-ghost use Rattle.shoot.specs.Tickets.{TicketTable, is_acked, is_done, is_done_at, is_open, names, no_tickets, open_answer, ticket_at, with_ticket};
+ghost use Rattle.shoot.specs.Tickets.{AreSound, TicketTable, after_acked, after_collect, after_finish, after_open_for, after_posted, is_acked, is_done, is_done_at, is_open, names, no_tickets, open_answer, ticket_at, with_ticket};
 
+use crate::MAX_HARTS;
 use crate::tickets::{Ticket, TicketFault};
-use crate::{MAX_HARTS, MAX_TICKETS};
 
-/// The new tickets of a hart stand at no calls. Each call that may be made and
-/// is answered as its contract says is one more at which the tickets stand.
-pub fn tickets_stand_at_their_calls()
-    ensures new { (home : ℕ) → Stands (no_tickets home) [] }
-    ensures call { (table : TicketTable) (turn : Turn) (history : List Turn) → Stands table history → IsDue table turn → Stands (after_turn table turn) (turn ∷ history) }
+/// There are 64 numbers, and each hart that is collected has acknowledged: it is so of new tickets,
+/// and stays so at each call.
+pub fn tickets_stay_sound()
+    ensures new { (home : ℕ) → AreSound (no_tickets home) }
+    ensures open { (table : TicketTable) (what : What) (named : List Bool) → AreSound table → AreSound (after_open_for table what named) }
+    ensures posted { (table : TicketTable) (number to : ℕ) → AreSound table → AreSound (after_posted table number to) }
+    ensures acked { (table : TicketTable) (number from : ℕ) → AreSound table → AreSound (after_acked table number from) }
+    ensures collect { (table : TicketTable) (number from : ℕ) → AreSound table → AreSound (after_collect table number from) }
+    ensures finish { (table : TicketTable) (number : ℕ) → AreSound table → AreSound (after_finish table number) }
 {}
 
-/// Each ticket is what the calls since its opening tell. A hart is named if the
-/// opening named it, posted to and acknowledged if some call says so, and
-/// collected if some call collected its acknowledgement, or if it acknowledged
-/// its own ticket.
-#[tactic(auto, using(crate::proofs::TicketLaws::stands_told))]
-pub fn tickets_tell_their_calls()
-    ensures { (table : TicketTable) (history : List Turn) (number : ℕ) → Stands table history → ticket_at table number ≡ told table.hart history number }
-{}
-
-/// There are 64 numbers. An opening has to name the hart whose tickets they
-/// are. It is then refused exactly if all are open, and else opens the lowest
-/// that is free.
+/// An opening has to name the hart whose tickets they are. It is then refused exactly if all are
+/// open, and else opens the lowest that is free.
 pub fn lowest_free_number_is_opened()
-    ensures count { (table : TicketTable) (history : List Turn) → Stands table history → length table.tickets ≡ MAX_TICKETS }
     ensures home { (table : TicketTable) (named : ℕ) → open_answer table named ≡ Err TicketFault.HomeNotNamed ↔ (contains (harts_in named) table.hart ≡ false) }
     ensures full { (table : TicketTable) (named : ℕ) → open_answer table named ≡ Err TicketFault.NoTicket
         ↔ IsTrue (contains (harts_in named) table.hart) × ((number : ℕ) → number < length table.tickets → IsTrue (is_open table number)) }
@@ -37,11 +29,10 @@ pub fn lowest_free_number_is_opened()
         ↔ IsTrue (contains (harts_in named) table.hart) × (number < length table.tickets) × (ticket_at table number ≡ None) × ((lower : ℕ) → lower < number → IsTrue (is_open table lower)) }
 {}
 
-/// Each hart that a ticket names has acknowledged it by the time that it is
-/// done.
-#[tactic(auto, using(crate::proofs::TicketLaws::stands_acked))]
+/// Each hart that a ticket names has acknowledged it by the time that it is done.
+#[tactic(auto, using(crate::proofs::TicketLaws::done_acked))]
 pub fn done_tickets_were_acknowledged()
-    ensures { (table : TicketTable) (history : List Turn) (number hart : ℕ) → Stands table history → hart < MAX_HARTS
+    ensures { (table : TicketTable) (number hart : ℕ) → AreSound table → hart < MAX_HARTS
         → IsTrue (is_done_at table number) → IsTrue (names table number hart) → IsTrue (is_acked table number hart) }
 {}
 

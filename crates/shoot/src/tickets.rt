@@ -8,18 +8,22 @@ use crate::hart_set::HartSet;
 use crate::{MAX_HARTS, MAX_TICKETS};
 use pte::What;
 use std::marker::Model;
+use thiserror::Error;
 
 /// Why no ticket is opened.
-#[derive(Clone, Copy, PartialEq, Eq, Debug)]
+#[derive(Clone, Copy, PartialEq, Eq, Debug, Error)]
 pub enum TicketFault {
     /// The hart that opens is not among those that it names.
+    #[error("the hart that opens the ticket is not named")]
     HomeNotNamed,
     /// All tickets are open.
+    #[error("all tickets are open")]
     NoTicket,
 }
 
 /// Some named hart is not collected yet.
-#[derive(Clone, Copy, PartialEq, Eq, Debug)]
+#[derive(Clone, Copy, PartialEq, Eq, Debug, Error)]
+#[error("a named hart is not collected yet")]
 pub struct NotDone;
 
 /// How far a ticket is.
@@ -73,15 +77,15 @@ impl Model for Tickets {
 }
 
 impl Ticket {
-    ghost use Rattle.shoot.specs.Tickets.{is_done, progress, new_ticket, with_posted, with_acked, with_collected};
+    ghost use Rattle.shoot.specs.Tickets.{is_done, progress, ticket_for, with_posted, with_acked, with_collected};
 
-    /// A ticket that names the harts whose bits are set.
-    fn new(what: What, named: u8) -> Ticket
-        ensures { result ≡ new_ticket what named }
+    /// A ticket that names these harts.
+    fn new(what: What, named: &HartSet) -> Ticket
+        ensures { result ≡ ticket_for what named.now }
     {
         Ticket {
             what,
-            named: HartSet::from(named),
+            named: *named,
             posted: HartSet::new(),
             acked: HartSet::new(),
             collected: HartSet::new(),
@@ -132,7 +136,7 @@ impl Ticket {
 }
 
 impl Tickets {
-    ghost use Rattle.shoot.specs.Tickets.{no_tickets, ticket_at, is_open, names, is_posted, is_acked, is_collected, open_answer, after_open, progress_at, after_posted, after_acked, after_collect, is_done, finish_answer, after_finish, lowest_free, what_at};
+    ghost use Rattle.shoot.specs.Tickets.{no_tickets, ticket_at, is_open, names, is_posted, is_acked, is_collected, open_answer, answer_for, after_open, after_open_for, progress_at, after_posted, after_acked, after_collect, is_done, finish_answer, after_finish, lowest_free, what_at};
 
     /// The tickets of a hart whose number is below 8, all of them free.
     pub fn new(hart: u8) -> Tickets
@@ -162,11 +166,11 @@ impl Tickets {
     }
 
     /// What opening a ticket for these harts would be answered now.
-    pub fn would_open(&self, named: u8) -> Result<u32, TicketFault>
-        ensures answer { result ≡ open_answer self.now named }
+    pub fn would_open(&self, named: &HartSet) -> Result<u32, TicketFault>
+        ensures answer { result ≡ answer_for self.now named.now }
         ensures below { IfOk result (λ number. number < MAX_TICKETS) }
     {
-        if !HartSet::from(named).contains(self.hart) {
+        if !named.contains(self.hart) {
             return Err(TicketFault::HomeNotNamed);
         }
         match self.lowest_free() {
@@ -175,13 +179,23 @@ impl Tickets {
         }
     }
 
-    /// Opens the lowest free ticket. Bit h of `named` stands for hart h. Refused
-    /// with `HomeNotNamed`, else with `NoTicket`, nothing changes.
-    #[tactic(auto, using(crate::proofs::FreeTickets::ticket_opened))]
+    /// Opens the lowest free ticket for the harts of a byte, in which bit h stands for hart h.
+    /// Refused with `HomeNotNamed`, else with `NoTicket`, nothing changes.
     pub fn open(&mut self, what: What, named: u8) -> Result<u32, TicketFault>
         ensures answer { result ≡ open_answer self.old named }
         ensures below { IfOk result (λ number. number < MAX_TICKETS) }
         ensures after { self.new ≡ after_open self.old what named }
+    {
+        self.open_for(what, &HartSet::from(named))
+    }
+
+    /// Opens the lowest free ticket for these harts. Refused with `HomeNotNamed`, else with
+    /// `NoTicket`, nothing changes.
+    #[tactic(auto, using(crate::proofs::FreeTickets::ticket_opened))]
+    pub fn open_for(&mut self, what: What, named: &HartSet) -> Result<u32, TicketFault>
+        ensures answer { result ≡ answer_for self.old named.now }
+        ensures below { IfOk result (λ number. number < MAX_TICKETS) }
+        ensures after { self.new ≡ after_open_for self.old what named.now }
     {
         let number = self.would_open(named)?;
         self.tickets[number as usize] = Some(Ticket::new(what, named));

@@ -1,17 +1,17 @@
 //! Worked rows: the definitions give what was worked out by hand. Each function
 //! does nothing, and each of its clauses is a row.
 
-ghost use Rattle.shoot.specs.Request.{Message};
+ghost use Rattle.shoot.specs.Request.{Request};
 ghost use Rattle.shoot.specs.WorkedRows as rows;
 
 /// What a mailbox answers to a list of calls.
 #[tactic(auto, using(crate::proofs::WorkedRows::mailbox_row, crate::proofs::WorkedRows::nothing_to_collect, crate::proofs::WorkedRows::one_to_collect, crate::proofs::WorkedRows::collected_once, crate::proofs::WorkedRows::one_left_to_collect))]
 pub fn worked_mailboxes()
-    ensures mailbox_row { (a b c d : Message) → rows.mailbox_row a b c d }
-    ensures nothing_to_collect { (a b : Message) → rows.nothing_to_collect a b }
-    ensures one_to_collect { (a b : Message) → rows.one_to_collect a b }
-    ensures collected_once { (a b : Message) → rows.collected_once a b }
-    ensures one_left_to_collect { (a b : Message) → rows.one_left_to_collect a b }
+    ensures mailbox_row { (a b c d : Request) → rows.mailbox_row a b c d }
+    ensures nothing_to_collect { (a b : Request) → rows.nothing_to_collect a b }
+    ensures one_to_collect { (a b : Request) → rows.one_to_collect a b }
+    ensures collected_once { (a b : Request) → rows.collected_once a b }
+    ensures one_left_to_collect { (a b : Request) → rows.one_left_to_collect a b }
 {}
 
 /// What the tickets of a hart answer to a list of calls.

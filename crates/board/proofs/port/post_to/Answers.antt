@@ -1,6 +1,6 @@
 use Rattle.std.proofs.Common.{◌≡◌, Option, Some, None, Ok, Err, ap, sym, refl, ◌∙◌}
 use Rattle.std.specs.Prelude.{Result}
-use Rattle.shoot.specs.Request.{Message}
+use Rattle.shoot.specs.Request.{Request}
 use Rattle.shoot.specs.declared.mailbox.PostFault.{PostFault}
 use Rattle.shoot.specs.declared.mailbox.PostFault.TheVariants as fault
 use Rattle.refusals.specs.declared.refusal.Refusal.{Refusal}
@@ -10,12 +10,12 @@ use Rattle.board.specs.Answers.{box_refusal, outbox_refusal}
 use Rattle.board.proofs.port.post_to.Goals as goal
 
 -- the fault of an error
-abbrev fault_of : {X : Type 0} → PostFault → Result X (PostFault × Message) → PostFault
+abbrev fault_of : {X : Type 0} → PostFault → Result X (PostFault × Request) → PostFault
 fault_of none (Ok x) = none
 fault_of none (Err e) = e.0
 
 -- two errors of one answer have the same fault
-same : {X : Type 0} (f g : PostFault) (q r : Message) (answer : Result X (PostFault × Message)) → answer ≡ Err (f, q) → answer ≡ Err (g, r) → f ≡ g
+same : {X : Type 0} (f g : PostFault) (q r : Request) (answer : Result X (PostFault × Request)) → answer ≡ Err (f, q) → answer ≡ Err (g, r) → f ≡ g
 same f g q r answer a b = ap (fault_of f) (sym a ∙ b)
 
 closed : (of : Option PostFault) (refusal : Refusal) → ((f : PostFault) → of ≡ Some f → f ≡ fault.Closed) → box_refusal of ≡ Some refusal → Closed ≡ refusal

@@ -1,9 +1,5 @@
-use Rattle.shoot.proofs.TicketLaws.{stands_length}
 use Rattle.shoot.proofs.TicketOpenings.{home_not_named, no_ticket, lowest}
 use Rattle.shoot.proofs.ticket_laws.lowest_free_number_is_opened.Goals as goal
-
-pub returns-clause-count : goal.returns-clause-count
-returns-clause-count c = stands_length
 
 pub returns-clause-home : goal.returns-clause-home
 returns-clause-home c = home_not_named

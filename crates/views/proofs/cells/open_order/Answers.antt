@@ -1,5 +1,5 @@
 use Rattle.std.proofs.Common.{ap, sym, subst}
-use Rattle.shoot.specs.Request.{Message}
+use Rattle.shoot.specs.Request.{Request}
 use Rattle.views.specs.declared.view.View.{View}
 use Rattle.views.specs.OrderTurns.{IsAsking}
 use Rattle.views.proofs.Asking.{ordered-asks}
@@ -12,6 +12,6 @@ open_as-word-requires-clause-steps c =
 
 pub returns-clause-asks : goal.returns-clause-asks
 returns-clause-asks c =
-    subst (λ (m : Message). IsAsking c.args.config.now c.open_as-word.new.seat.me.0 m.ticket m.what) c.request.view_is
+    subst (λ (m : Request). IsAsking c.args.config.now c.open_as-word.new.seat.me.0 m.ticket m.what) c.request.view_is
     (subst (λ (v : View). IsAsking c.args.config.now v c.request.inside.ticket c.request.inside.what) (sym (ap (λ m. m.0) c.open_as-word.ensures.view))
     (ordered-asks c.args.config.now c.args.seat.now.me.0 c.request.inside.ticket c.request.inside.what))
