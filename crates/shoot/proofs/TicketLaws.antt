@@ -74,22 +74,22 @@ acked : (home from : ℕ) (ticket : Ticket) → IsSound ticket → IsSound (with
 acked home from ticket was = (
   length-set ticket.acked from true ∙ was.0,
   λ hart below. by_test (λ own. contains (cond own (set ticket.collected from true) ticket.collected) hart ≡ true → contains (set ticket.acked from true) hart ≡ true) (eqb from home)
-    (λ _ has. elim (put_or_had ticket.collected from hart has) [
-      | inl same ↦ subst (λ n. contains (set ticket.acked from true) n ≡ true) same (has_put ticket.acked from (omega (arith, was.0, same, below)))
-      | inr had ↦ still_has ticket.acked from hart (was.1 hart below had)
-    ])
-    (λ _ had. still_has ticket.acked from hart (was.1 hart below had)),
+      (λ _ has. elim (put_or_had ticket.collected from hart has) [
+        | inl same ↦ subst (λ n. contains (set ticket.acked from true) n ≡ true) same (has_put ticket.acked from (omega (arith, was.0, same, below)))
+        | inr had ↦ still_has ticket.acked from hart (was.1 hart below had)
+      ])
+      (λ _ had. still_has ticket.acked from hart (was.1 hart below had)),
 )
 
 collected : (from : ℕ) (ticket : Ticket) → IsSound ticket → IsSound (with_collected from ticket)
 collected from ticket was = (
   was.0,
   λ hart below. by_test (λ there. contains (cond there (set ticket.collected from true) ticket.collected) hart ≡ true → contains ticket.acked hart ≡ true) (contains ticket.acked from)
-    (λ there has. elim (put_or_had ticket.collected from hart has) [
-      | inl same ↦ subst (λ n. contains ticket.acked n ≡ true) same there
-      | inr had ↦ was.1 hart below had
-    ])
-    (λ _ had. was.1 hart below had),
+      (λ there has. elim (put_or_had ticket.collected from hart has) [
+        | inl same ↦ subst (λ n. contains ticket.acked n ≡ true) same there
+        | inr had ↦ was.1 hart below had
+      ])
+      (λ _ had. was.1 hart below had),
 )
 
 -- ---- each call

@@ -1,6 +1,7 @@
--- The word by which a hart acknowledges a request. It says what was asked, and not under which ticket: bit 63 is 1, bits 55
--- and 54 are the kind, 53 and 52 the size of the page by its level, 51 to 36 the ASID, and 35 to 0 are bits 47 to 12 of the
--- page's address. A field that a kind does not have is 0, as are bits 62 to 56.
+-- The word by which a hart acknowledges a request. It says what was asked, and not under which
+-- ticket: bit 63 is 1, bits 55 and 54 are the kind, 53 and 52 the size of the page by its level, 51
+-- to 36 the ASID, and 35 to 0 are bits 47 to 12 of the page's address. A field that a kind does not
+-- have is 0, as are bits 62 to 56.
 use Rattle.std.specs.Prelude.{⊤, ℕ, ◌+◌, ◌*◌, ◌/◌, ◌%◌, ◌^◌, ◌<◌, Some, None}
 use Rattle.pte.specs.declared.address.PageSize.TheVariants.{Kib4}
 use Rattle.pte.specs.declared.address.What.{What}

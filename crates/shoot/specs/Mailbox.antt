@@ -21,7 +21,8 @@ pub record IsMailbox (mailbox : MailboxState) : Type 0 where
 
 -- a new mailbox
 abbrev pub empty_mailbox : ℕ → MailboxState
-empty_mailbox capacity = record { waiting = []; outstanding = 0; closed = false; capacity = capacity }
+empty_mailbox capacity =
+    record { waiting = []; outstanding = 0; closed = false; capacity = capacity }
 
 -- why a post is refused: the first that applies
 abbrev pub post_fault : MailboxState → Option PostFault
@@ -57,7 +58,8 @@ with_message = with_request
 
 -- a refused post changes nothing
 abbrev pub after_post : MailboxState → Request → MailboxState
-after_post mailbox request = if is_none (post_fault mailbox) then with_request mailbox request else mailbox
+after_post mailbox request =
+    if is_none (post_fault mailbox) then with_request mailbox request else mailbox
 
 -- the oldest request is out, and stays outstanding
 abbrev pub after_take : MailboxState → MailboxState

@@ -65,7 +65,8 @@ IsDue mailbox Close = Unit {0}
 
 abbrev pub IsLawful : ℕ → List Turn → Type 0
 IsLawful capacity [] = Unit {0}
-IsLawful capacity (turn ∷ earlier) = IsLawful capacity earlier × IsDue (mailbox_after capacity earlier) turn
+IsLawful capacity (turn ∷ earlier) =
+    IsLawful capacity earlier × IsDue (mailbox_after capacity earlier) turn
 
 -- the mailbox is what the history leaves of a new one of its capacity
 pub record Stands (mailbox : MailboxState) (history : List Turn) : Type 0 where

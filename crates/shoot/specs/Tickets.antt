@@ -90,12 +90,14 @@ with_acked home from ticket = record ticket {
 -- a ticket once the acknowledgement of a hart is collected, if it is there
 abbrev pub with_collected : ℕ → Ticket → Ticket
 with_collected from ticket = record ticket {
-  collected = if contains ticket.acked from then slice_set ticket.collected from true else ticket.collected;
+  collected = if contains ticket.acked from then slice_set ticket.collected from true
+      else ticket.collected;
 }
 
 -- the table with one number's ticket replaced, or changed if it is open
 abbrev pub with_ticket : TicketTable → ℕ → Option Ticket → TicketTable
-with_ticket table number ticket = record { hart = table.hart; tickets = slice_set table.tickets number ticket }
+with_ticket table number ticket =
+    record { hart = table.hart; tickets = slice_set table.tickets number ticket }
 
 abbrev pub changed : (Ticket → Ticket) → Option Ticket → Option Ticket
 changed change None = None

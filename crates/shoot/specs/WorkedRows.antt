@@ -1,5 +1,5 @@
--- Worked rows: lists of calls on a mailbox, newest first, with the answers that are due by hand; what
--- tickets answer after some calls; and the words of some requests, worked out bit by bit.
+-- Worked rows: lists of calls on a mailbox, newest first, with the answers that are due by hand;
+-- what tickets answer after some calls; and the words of some requests, worked out bit by bit.
 use Rattle.std.specs.Prelude.{◌≡◌, ℕ, zero, suc, Bool, true, false, List, [], ◌∷◌, map, Some, None, Ok, Err}
 use Rattle.pte.specs.declared.address.PageSize.TheVariants.{Kib4, Mib2, Gib512}
 use Rattle.pte.specs.declared.address.What.TheVariants.{PageOf, SpaceOf, All}
@@ -13,10 +13,12 @@ use Rattle.shoot.specs.declared.mailbox.PostFault.TheVariants.{Closed, Full}
 use Rattle.shoot.specs.declared.tickets.Collected.TheVariants.{Done, Waiting}
 use Rattle.shoot.specs.declared.tickets.TicketFault.TheVariants.{HomeNotNamed, NoTicket}
 
--- capacity 2: full by what is outstanding, room by a release, closed before full, and what waits stays
+-- capacity 2: full by what is outstanding, room by a release, closed before full, and what waits
+-- stays
 abbrev pub mailbox_row : Request → Request → Request → Request → Type 0
 mailbox_row a b c d = IsLawful 2
-    (Take None ∷ Take (Some c) ∷ Take (Some b) ∷ Post d (Err (Closed, d)) ∷ Close ∷ Post c (Ok tt) ∷ Release ∷ Post c (Err (Full, c)) ∷ Take (Some a)
+    (Take None ∷ Take (Some c) ∷ Take (Some b) ∷ Post d (Err (Closed, d)) ∷ Close ∷ Post c (Ok tt)
+    ∷ Release ∷ Post c (Err (Full, c)) ∷ Take (Some a)
     ∷ Post c (Err (Full, c)) ∷ Post b (Ok tt) ∷ Post a (Ok tt) ∷ [])
 
 -- hart 0 names itself and hart 1: its own acknowledgement is collected at once, that of hart 1 once
@@ -44,19 +46,25 @@ own_row = (progress_at (after_collect own_acked 0 1) 0 ≡ Waiting 0x2)
 
 -- no acknowledgement can be collected of what still waits; once one request is taken, one can
 abbrev pub nothing_to_collect : Request → Request → Type 0
-nothing_to_collect a b = can_release (mailbox_after 2 (Post b (Ok tt) ∷ Post a (Ok tt) ∷ [])) ≡ false
+nothing_to_collect a b =
+    can_release (mailbox_after 2 (Post b (Ok tt) ∷ Post a (Ok tt) ∷ [])) ≡ false
 
 abbrev pub one_to_collect : Request → Request → Type 0
-one_to_collect a b = can_release (mailbox_after 2 (Take (Some a) ∷ Post b (Ok tt) ∷ Post a (Ok tt) ∷ [])) ≡ true
+one_to_collect a b =
+    can_release (mailbox_after 2 (Take (Some a) ∷ Post b (Ok tt) ∷ Post a (Ok tt) ∷ [])) ≡ true
 
 abbrev pub collected_once : Request → Request → Type 0
-collected_once a b = can_release (mailbox_after 2 (Release ∷ Take (Some a) ∷ Post b (Ok tt) ∷ Post a (Ok tt) ∷ [])) ≡ false
+collected_once a b =
+    can_release (mailbox_after 2 (Release ∷ Take (Some a) ∷ Post b (Ok tt) ∷ Post a (Ok tt) ∷ []))
+    ≡ false
 
 abbrev pub one_left_to_collect : Request → Request → Type 0
-one_left_to_collect a b = can_release (mailbox_after 2 (Release ∷ Take (Some b) ∷ Take (Some a) ∷ Post b (Ok tt) ∷ Post a (Ok tt) ∷ [])) ≡ true
+one_left_to_collect a b =
+    can_release (mailbox_after 2 (Release ∷ Take (Some b) ∷ Take (Some a) ∷ Post b (Ok tt)
+    ∷ Post a (Ok tt) ∷ [])) ≡ true
 
--- hart 2 names itself and hart 7: a post is no acknowledgement and an acknowledgement no collection,
--- and two tickets are told apart
+-- hart 2 names itself and hart 7: a post is no acknowledgement and an acknowledgement no
+-- collection, and two tickets are told apart
 unfoldable pub first_opened : TicketTable
 first_opened = after_open (no_tickets 2) (SpaceOf 1) 0x84
 
@@ -156,11 +164,14 @@ byte_of_harts = byte_of (false ∷ false ∷ true ∷ false ∷ false ∷ false 
 
 -- the page 2M:0x400000 of ASID 1: bit 63, size 1 at bit 52, the ASID at bit 36, and page 0x400
 abbrev pub large_page_of_asid_1 : Type 0
-large_page_of_asid_1 = acknowledgement (PageOf (record { base = 0x400000; size = Mib2 }) (Some 1)) ≡ 0x8010001000000400
+large_page_of_asid_1 =
+    acknowledgement (PageOf (record { base = 0x400000; size = Mib2 }) (Some 1)) ≡ 0x8010001000000400
 
 -- the global page 4K:0xffffffffc0000000: kind 1 at bit 54, and bits 47 to 12 of the address
 abbrev pub global_page_in_the_high_half : Type 0
-global_page_in_the_high_half = acknowledgement (PageOf (record { base = 0xFFFFFFFFC0000000; size = Kib4 }) None) ≡ 0x8040000FFFFC0000
+global_page_in_the_high_half =
+    acknowledgement (PageOf (record { base = 0xFFFFFFFFC0000000; size = Kib4 }) None)
+    ≡ 0x8040000FFFFC0000
 
 -- kind 3
 abbrev pub all : Type 0
@@ -168,4 +179,6 @@ all = acknowledgement All ≡ 0x80C0000000000000
 
 -- the page 512G:0x8000000000 of ASID 1: size 3
 abbrev pub page_of_512_gib : Type 0
-page_of_512_gib = acknowledgement (PageOf (record { base = 0x8000000000; size = Gib512 }) (Some 1)) ≡ 0x8030001008000000
+page_of_512_gib =
+    acknowledgement (PageOf (record { base = 0x8000000000; size = Gib512 }) (Some 1))
+    ≡ 0x8030001008000000

@@ -10,8 +10,9 @@ use pte::{PAGE_BYTES, Page, What};
 /// How many bits of a page's address tell the page: bits 47 to 12.
 const NUMBER_BITS: u32 = 36;
 
-/// An acknowledgement by its word: bit 63 is 1, bits 55 and 54 are the kind, 53 and 52 the size of the page by its level, 51 to
-/// 36 the ASID, and 35 to 0 bits 47 to 12 of the page's address; all else is 0.
+/// An acknowledgement by its word: bit 63 is 1, bits 55 and 54 are the kind, 53 and 52 the size of
+/// the page by its level, 51 to 36 the ASID, and 35 to 0 bits 47 to 12 of the page's address; all
+/// else is 0.
 #[derive(Clone, Copy)]
 struct AcknowledgementWord(u64);
 
@@ -37,7 +38,8 @@ impl AcknowledgementWord {
     /// The word of a kind that speaks of a page.
     fn of_page(kind: u64, page: &Page, asid: u16) -> AcknowledgementWord
         requires { kind < 2 }
-        ensures word { result.0 ≡ word_with kind (level_of page.now.size) asid (number_in page.now) }
+        ensures word { result.0
+            ≡ word_with kind (level_of page.now.size) asid (number_in page.now) }
         ensures page { IsPage page.now }
     {
         let size = u64::from(page.size().level());
@@ -58,8 +60,8 @@ impl AcknowledgementWord {
     }
 }
 
-/// The word that acknowledges a request. It is never 0, and two requests have the same word exactly if they ask for the same,
-/// under whatever tickets (law `equal_words_ask_for_the_same`).
+/// The word that acknowledges a request. It is never 0, and two requests have the same word exactly
+/// if they ask for the same, under whatever tickets (law `equal_words_ask_for_the_same`).
 pub fn encode(request: &Request) -> u64
     ensures word { result ≡ acknowledgement request.now.what }
     ensures not_zero { result ≢ 0 }

@@ -37,9 +37,19 @@ impl Model for Mailbox {
 
     ghost Value = { MailboxState };
 
-    ghost view = { λ m. record { waiting = m.waiting; outstanding = m.outstanding; closed = m.closed; capacity = m.capacity } };
+    ghost view = { λ m. record {
+      waiting = m.waiting;
+      outstanding = m.outstanding;
+      closed = m.closed;
+      capacity = m.capacity;
+    } };
 
-    ghost invariant = { λ m. IsMailbox (record { waiting = m.waiting; outstanding = m.outstanding; closed = m.closed; capacity = m.capacity }) };
+    ghost invariant = { λ m. IsMailbox (record {
+      waiting = m.waiting;
+      outstanding = m.outstanding;
+      closed = m.closed;
+      capacity = m.capacity;
+    }) };
 }
 
 impl Mailbox {

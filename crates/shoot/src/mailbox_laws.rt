@@ -12,27 +12,33 @@ use crate::mailbox::PostFault;
 #[tactic(auto, using(crate::proofs::MailboxLaws::stands_new, crate::proofs::MailboxLaws::stands_after))]
 pub fn mailbox_stands_at_its_calls()
     ensures new { (capacity : ℕ) → Stands (empty_mailbox capacity) [] }
-    ensures call { (mailbox : MailboxState) (turn : Turn) (history : List Turn) → Stands mailbox history → IsDue mailbox turn → Stands (after_turn mailbox turn) (turn ∷ history) }
+    ensures call { (mailbox : MailboxState) (turn : Turn) (history : List Turn)
+        → Stands mailbox history → IsDue mailbox turn
+        → Stands (after_turn mailbox turn) (turn ∷ history) }
 {}
 
 /// What a mailbox accepted is what was taken from it, followed by what waits, in
 /// the order of the posts.
 #[tactic(auto, using(crate::proofs::MailboxLaws::stands_order))]
 pub fn mailbox_keeps_order()
-    ensures { (mailbox : MailboxState) (history : List Turn) → Stands mailbox history → accepted history ≡ taken history ++ mailbox.waiting }
+    ensures { (mailbox : MailboxState) (history : List Turn) → Stands mailbox history
+        → accepted history ≡ taken history ++ mailbox.waiting }
 {}
 
 /// What is outstanding is what was accepted, but for the acknowledgements that
 /// were collected.
 #[tactic(auto, using(crate::proofs::MailboxLaws::stands_room))]
 pub fn mailbox_counts_what_is_not_collected()
-    ensures { (mailbox : MailboxState) (history : List Turn) → Stands mailbox history → length (accepted history) ≡ mailbox.outstanding + released history }
+    ensures { (mailbox : MailboxState) (history : List Turn) → Stands mailbox history
+        → length (accepted history) ≡ mailbox.outstanding + released history }
 {}
 
 /// Nothing is accepted after a close.
 #[tactic(auto, using(crate::proofs::MailboxLaws::none_after_close))]
 pub fn mailbox_accepts_nothing_after_close()
-    ensures { (capacity : ℕ) (later earlier : List Turn) → IsLawful capacity (later ++ Close ∷ earlier) → accepted (later ++ Close ∷ earlier) ≡ accepted earlier }
+    ensures { (capacity : ℕ) (later earlier : List Turn)
+        → IsLawful capacity (later ++ Close ∷ earlier)
+        → accepted (later ++ Close ∷ earlier) ≡ accepted earlier }
 {}
 
 /// A post is refused as closed exactly if there was a close, and else as full
@@ -40,5 +46,8 @@ pub fn mailbox_accepts_nothing_after_close()
 #[tactic(auto, using(crate::proofs::MailboxLaws::fault))]
 pub fn mailbox_refuses_when_closed_or_full()
     ensures { (capacity : ℕ) (history : List Turn) → IsLawful capacity history
-        → post_fault (mailbox_after capacity history) ≡ (if is_closed history then Some PostFault.Closed else if nat_le (capacity + released history) (length (accepted history)) then Some PostFault.Full else None) }
+        → post_fault (mailbox_after capacity history)
+        ≡ (if is_closed history then Some PostFault.Closed
+        else if nat_le (capacity + released history) (length (accepted history))
+        then Some PostFault.Full else None) }
 {}

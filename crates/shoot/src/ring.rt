@@ -25,7 +25,8 @@ impl Model for Ring {
 
     ghost view = { λ r. around r.start r.len r.places };
 
-    ghost invariant = { λ r. (r.start < MAX_CAPACITY) × (r.len ≤ MAX_CAPACITY) × (length r.places ≡ MAX_CAPACITY) };
+    ghost invariant = { λ r. (r.start < MAX_CAPACITY) × (r.len ≤ MAX_CAPACITY)
+        × (length r.places ≡ MAX_CAPACITY) };
 }
 
 impl Ring {

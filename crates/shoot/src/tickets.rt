@@ -255,7 +255,8 @@ impl Tickets {
         }
     }
 
-    /// Whether each hart that an open ticket names is collected, or `None` exactly if the ticket is not open.
+    /// Whether each hart that an open ticket names is collected, or `None` exactly if the ticket is
+    /// not open.
     pub fn is_done(&self, ticket: u32) -> Option<bool>
         ensures { result ≡ option_map is_done (ticket_at self.now ticket) }
     {

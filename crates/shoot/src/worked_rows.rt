@@ -35,7 +35,8 @@ pub fn worked_marks()
     ensures only_who_was_posted_to { rows.only_who_was_posted_to }
 {}
 
-/// Which number is opened, and that nothing is told of a later ticket that was said of an earlier one with its number.
+/// Which number is opened, and that nothing is told of a later ticket that was said of an earlier
+/// one with its number.
 #[tactic(auto, using(crate::proofs::WorkedRows::not_acked_again, crate::proofs::WorkedRows::not_collected_again, crate::proofs::WorkedRows::last_ticket, crate::proofs::WorkedRows::no_ticket, crate::proofs::WorkedRows::home_before_number, crate::proofs::WorkedRows::lowest_is_opened))]
 pub fn worked_numbers()
     ensures not_acked_again { rows.not_acked_again }
