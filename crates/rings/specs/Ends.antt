@@ -1,4 +1,5 @@
--- What contracts see of the two ends of a ring: the sender's, which posts requests, and the receiver's, which takes them.
+-- What contracts see of the two ends of a ring: the sender's, which posts requests, and the
+-- receiver's, which takes them.
 use Rattle.std.specs.Prelude.{ℕ, ◌+◌, ◌-◌, Bool, true, false, List, [], ◌∷◌, ◌++◌, length, min, ◌^◌, Option, Some, None, nat_le, if◌then◌else◌}
 use Rattle.std.specs.Global.{Global}
 use denote.RawPtr.{Ptr}
@@ -7,13 +8,14 @@ use Rattle.shoot.specs.Request.{Request}
 use Rattle.shoot.specs.declared.mailbox.PostFault.{PostFault}
 use Rattle.shoot.specs.declared.mailbox.PostFault.TheVariants.{Closed, Full}
 
--- which ring an end is of: where its words and its places lie, their names in proofs, and where their memory is from
+-- which ring an end is of: where its words and its places lie, their names in proofs, and where
+-- their memory is from
 abbrev pub Ring : Type 0
 Ring = Ptr × Ptr × Names × Global
 
--- The sender's end: its ring; the requests that were accepted, oldest first; how many free places of the ring it knows of; how
--- many requests were accepted whose acknowledgement is not collected yet; whether later posts are refused; and the bound on the
--- outstanding ones.
+-- The sender's end: its ring; the requests that were accepted, oldest first; how many free places
+-- of the ring it knows of; how many requests were accepted whose acknowledgement is not collected
+-- yet; whether later posts are refused; and the bound on the outstanding ones.
 pub record OutboxState : Type 0 where
   pub ring : Ring
   pub accepted : List Request
@@ -22,7 +24,8 @@ pub record OutboxState : Type 0 where
   pub closed : Bool
   pub capacity : ℕ
 
--- The receiver's end: its ring; the requests that were taken, oldest first; those that it knows to wait; and how many can wait.
+-- The receiver's end: its ring; the requests that were taken, oldest first; those that it knows to
+-- wait; and how many can wait.
 pub record InboxState : Type 0 where
   pub ring : Ring
   pub taken : List Request
@@ -34,7 +37,15 @@ abbrev pub count_of : List Request → ℕ
 count_of requests = min (length requests) (2 ^ 64 - 1)
 
 abbrev pub new_outbox : Ring → ℕ → OutboxState
-new_outbox ring capacity = record { ring = ring; accepted = []; room = capacity; outstanding = 0; closed = false; capacity = capacity }
+new_outbox ring capacity =
+    record {
+      ring = ring;
+      accepted = [];
+      room = capacity;
+      outstanding = 0;
+      closed = false;
+      capacity = capacity;
+    }
 
 abbrev pub new_inbox : Ring → ℕ → InboxState
 new_inbox ring capacity = record { ring = ring; taken = []; known = []; capacity = capacity }
@@ -46,9 +57,15 @@ post_fault outbox =
     else if nat_le outbox.capacity outbox.outstanding then Some Full
     else None
 
--- the sender's end with one more request, which is outstanding, and which knows of so many free places
+-- the sender's end with one more request, which is outstanding, and which knows of so many free
+-- places
 abbrev pub with_accepted : OutboxState → Request → ℕ → OutboxState
-with_accepted outbox request room = record outbox { accepted = outbox.accepted ++ request ∷ []; outstanding = outbox.outstanding + 1; room = room }
+with_accepted outbox request room =
+    record outbox {
+      accepted = outbox.accepted ++ request ∷ [];
+      outstanding = outbox.outstanding + 1;
+      room = room;
+    }
 
 -- the acknowledgement of an outstanding request was collected
 abbrev pub after_release : OutboxState → OutboxState

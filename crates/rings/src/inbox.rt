@@ -8,7 +8,8 @@ use shoot::Request;
 use std::alloc::Global;
 use std::marker::Model;
 
-/// The end by which one hart takes the requests of another. No call waits for the other end, or takes memory.
+/// The end by which one hart takes the requests of another. No call waits for the other end, or
+/// takes memory.
 #[derive(Drop)]
 pub struct Inbox {
     pub(crate) consumer: Consumer<Request, Global>,
@@ -23,7 +24,17 @@ impl Model for Inbox {
 
     ghost Value = { InboxState };
 
-    ghost view = { λ i. record { ring = (i.consumer.end.words, i.consumer.end.slots, i.consumer.end.names, i.consumer.end.heap); taken = received i.consumer; known = known_items i.consumer; capacity = consumer_capacity i.consumer } };
+    ghost view = { λ i. record {
+      ring = (
+        i.consumer.end.words,
+        i.consumer.end.slots,
+        i.consumer.end.names,
+        i.consumer.end.heap,
+      );
+      taken = received i.consumer;
+      known = known_items i.consumer;
+      capacity = consumer_capacity i.consumer;
+    } };
 
     ghost invariant = { λ i. i.taken ≡ count_of (received i.consumer) };
 }
@@ -31,11 +42,13 @@ impl Model for Inbox {
 impl Inbox {
     ghost use Rattle.rings.specs.Ends.{count_of, with_taken};
 
-    /// Takes the oldest request that came through. `None` only if this end knew of no request that waits, and then nothing
-    /// changes.
+    /// Takes the oldest request that came through. `None` only if this end knew of no request that
+    /// waits, and then nothing changes.
     pub fn take(&mut self) -> Option<Request>
-        ensures some { IfSome result (λ request. self.new ≡ with_taken self.old request self.new.known) }
-        ensures oldest { IfSome result (λ request. IsPrefix self.old.known (request ∷ self.new.known)) }
+        ensures some { IfSome result (λ request.
+            self.new ≡ with_taken self.old request self.new.known) }
+        ensures oldest { IfSome result (λ request.
+            IsPrefix self.old.known (request ∷ self.new.known)) }
         ensures none { IfNone result ((self.old.known ≡ []) × (self.new ≡ self.old)) }
     {
         match self.consumer.pop() {

@@ -1,4 +1,5 @@
-//! The mailbox from one hart to another for harts that are threads: its two ends, each of which may go to a thread of its own.
+//! The mailbox from one hart to another for harts that are threads: its two ends, each of which may
+//! go to a thread of its own.
 #![tactic(auto)]
 
 mod inbox;

@@ -9,8 +9,8 @@ use std::marker::Model;
 
 /// The end by which one hart posts requests to another.
 ///
-/// The capacity bounds the requests that were accepted and whose acknowledgement was not collected yet: these are outstanding.
-/// No call waits for the other end, or takes memory.
+/// The capacity bounds the requests that were accepted and whose acknowledgement was not collected
+/// yet: these are outstanding. No call waits for the other end, or takes memory.
 #[derive(Drop)]
 pub struct Outbox {
     pub(crate) producer: Producer<Request, Global>,
@@ -28,9 +28,22 @@ impl Model for Outbox {
 
     ghost Value = { OutboxState };
 
-    ghost view = { λ o. record { ring = (o.producer.end.words, o.producer.end.slots, o.producer.end.names, o.producer.end.heap); accepted = sent o.producer; room = known_free o.producer; outstanding = o.outstanding; closed = o.closed; capacity = o.capacity } };
+    ghost view = { λ o. record {
+      ring = (
+        o.producer.end.words,
+        o.producer.end.slots,
+        o.producer.end.names,
+        o.producer.end.heap,
+      );
+      accepted = sent o.producer;
+      room = known_free o.producer;
+      outstanding = o.outstanding;
+      closed = o.closed;
+      capacity = o.capacity;
+    } };
 
-    ghost invariant = { λ o. (producer_capacity o.producer ≡ o.capacity) × (o.outstanding ≤ o.capacity) × (o.accepted ≡ count_of (sent o.producer)) };
+    ghost invariant = { λ o. (producer_capacity o.producer ≡ o.capacity)
+        × (o.outstanding ≤ o.capacity) × (o.accepted ≡ count_of (sent o.producer)) };
 }
 
 impl Outbox {
@@ -49,12 +62,16 @@ impl Outbox {
         }
     }
 
-    /// Posts a request. Refused with `Closed`, else with `Full`, it comes back, and nothing changes. `Full` is also the answer
-    /// where the ring gives the request back, which it does only if this end knew of no free place.
+    /// Posts a request. Refused with `Closed`, else with `Full`, it comes back, and nothing
+    /// changes. `Full` is also the answer where the ring gives the request back, which it does only
+    /// if this end knew of no free place.
     pub fn post(&mut self, request: Request) -> Result<(), (PostFault, Request)>
-        ensures refused { (fault : PostFault) → post_fault self.old ≡ Some fault → result ≡ Err (fault, request) }
-        ensures full { post_fault self.old ≡ None → IfErr result (λ e. (e ≡ (PostFault.Full, request)) × (self.old.room ≡ 0)) }
-        ensures accepted { OnOk result ((self.new ≡ with_accepted self.old request self.new.room) × (self.old.room ≤ self.new.room + 1)) }
+        ensures refused { (fault : PostFault) → post_fault self.old ≡ Some fault
+            → result ≡ Err (fault, request) }
+        ensures full { post_fault self.old ≡ None
+            → IfErr result (λ e. (e ≡ (PostFault.Full, request)) × (self.old.room ≡ 0)) }
+        ensures accepted { OnOk result ((self.new ≡ with_accepted self.old request self.new.room)
+            × (self.old.room ≤ self.new.room + 1)) }
         ensures unchanged { OnErr result (self.new ≡ self.old) }
     {
         if let Some(fault) = self.post_fault() {
@@ -85,7 +102,8 @@ impl Outbox {
         self.closed = true;
     }
 
-    /// How many requests were accepted whose acknowledgement was not collected yet. Those that wait are among them.
+    /// How many requests were accepted whose acknowledgement was not collected yet. Those that wait
+    /// are among them.
     pub fn outstanding(&self) -> usize
         ensures count { result ≡ self.now.outstanding }
         ensures bounded { result ≤ self.now.capacity }

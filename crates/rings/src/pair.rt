@@ -29,8 +29,8 @@ pub fn ends(alloc: Global, capacity: usize) -> Result<(Outbox, Inbox), AllocErro
     Ok((outbox, Inbox { consumer, taken: 0 }))
 }
 
-/// With both ends in one thread: how many requests wait. What was accepted is then what was taken, followed by these, and so
-/// many takes in a row answer `Some`.
+/// With both ends in one thread: how many requests wait. What was accepted is then what was taken,
+/// followed by these, and so many takes in a row answer `Some`.
 pub fn settle(outbox: &mut Outbox, inbox: &mut Inbox) -> usize
     requires { outbox.old.ring ≡ inbox.old.ring }
     ensures waiting { result ≡ length inbox.new.known }
@@ -44,19 +44,23 @@ pub fn settle(outbox: &mut Outbox, inbox: &mut Inbox) -> usize
     inbox.consumer.slots_beside(&mut outbox.producer)
 }
 
-/// With both ends in one thread: takes all requests that wait, in order, into an empty list that has room for them.
+/// With both ends in one thread: takes all requests that wait, in order, into an empty list that
+/// has room for them.
 pub fn take_waiting(outbox: &mut Outbox, inbox: &mut Inbox, list: &mut Vec<Request>)
     requires ends { outbox.old.ring ≡ inbox.old.ring }
     requires empty { list.old.items ≡ [] }
     requires room { inbox.old.capacity ≤ vec_capacity list.old }
     ensures order { outbox.old.accepted ≡ inbox.old.taken ++ list.new.items }
     ensures outbox { outbox.new ≡ record outbox.old { room = outbox.new.room } }
-    ensures inbox { inbox.new ≡ record inbox.old { taken = outbox.old.accepted; known = inbox.new.known } }
+    ensures inbox { inbox.new ≡ record inbox.old {
+      taken = outbox.old.accepted;
+      known = inbox.new.known;
+    } }
 {
     let count = settle(outbox, inbox);
     for _ in 0..count {
         let Some(request) = inbox.take() else {
-            unreachable!()
+            break;
         };
         list.push_reserved(request);
     }
