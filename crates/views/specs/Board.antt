@@ -30,15 +30,24 @@ pub record Board (c : Config) (s : State ℕ View) : Type 0 where
   pub tables : Tabled c s
   pub orders : Ordered c s
 
--- whatever the board is when the word i becomes f of what it was, the seat's view after keeps the rule, and the step tells this
+-- whatever the board is when the word i becomes f of what it was, the seat's view after keeps the
+-- rule, and the step tells this
 abbrev pub Steps : Config → ℕ → View → ℕ → (ℕ → ℕ) → (ℕ → View) → (ℕ → Type 0) → Type 0
-Steps c id v i f after tells = (s : State ℕ View) → Board c s → get_elem? s.views id ≡ some v → slice_index s.words i < 2 ^ 64
-    → Board c record { words = slice_set s.words i (f (slice_index s.words i)); homes = s.homes; views = slice_set s.views id (after (slice_index s.words i)) } × tells (slice_index s.words i)
+Steps c id v i f after tells =
+    (s : State ℕ View) → Board c s → get_elem? s.views id ≡ some v → slice_index s.words i < 2 ^ 64
+    → Board c record {
+      words = slice_set s.words i (f (slice_index s.words i));
+      homes = s.homes;
+      views = slice_set s.views id (after (slice_index s.words i));
+    } × tells (slice_index s.words i)
 
 -- while an unmapping in a view is not marked anew, nothing that these words map lies in its page
 abbrev pub UnmappedStaysUnmapped : (Config → State ℕ View → View → Tables) → Type 0
-UnmappedStaysUnmapped words_at = (c : Config) (s : State ℕ View) → Board c s → (i : ℕ) (v : View) → get_elem? s.views i ≡ some v → (n : ℕ) (k : Order)
-    → get_elem? v.orders n ≡ some k → (place : Place) (page : Span) → IsLive k place page → IsUnmapped (layout_of c) (words_at c s v) place page
+UnmappedStaysUnmapped words_at =
+    (c : Config) (s : State ℕ View) → Board c s → (i : ℕ) (v : View) → get_elem? s.views i ≡ some v
+    → (n : ℕ) (k : Order)
+    → get_elem? v.orders n ≡ some k → (place : Place) (page : Span) → IsLive k place page
+    → IsUnmapped (layout_of c) (words_at c s v) place page
 
 -- the words as the home's view has them, and the shared words
 abbrev pub own_words : Config → State ℕ View → View → Tables
@@ -47,48 +56,74 @@ own_words c s v = words_of (memory_of (layout_of c) v)
 abbrev pub shared_words : Config → State ℕ View → View → Tables
 shared_words c s v = tables_in (layout_of c) s.words
 
--- an aligned leaf leads at no address of the page, from the root of a space that the place's tables hang below
+-- an aligned leaf leads at no address of the page, from the root of a space that the place's tables
+-- hang below
 abbrev pub NoLeafLeads : Layout → Tables → Place → Span → Type 0
-NoLeafLeads l words place page = (s va level table entry leaf : ℕ) (flags : PteFlags) → s < length l.homes → HangsBelow place s → Holds page va → IsCanonical l.scheme va
-    → Leads l.scheme words (root_ppn l s) va level table (Some entry) → kind_of entry ≡ Leaf leaf flags → leaf % level_pages level ≡ 0 → ⊥
+NoLeafLeads l words place page =
+    (s va level table entry leaf : ℕ) (flags : PteFlags) → s < length l.homes → HangsBelow place s
+    → Holds page va → IsCanonical l.scheme va
+    → Leads l.scheme words (root_ppn l s) va level table (Some entry)
+    → kind_of entry ≡ Leaf leaf flags → leaf % level_pages level ≡ 0 → ⊥
 
 -- which is what it means that nothing in the page is mapped
 abbrev pub UnmappedIsWhereNoLeafLeads : Type 0
-UnmappedIsWhereNoLeafLeads = (l : Layout) (words : Tables) (place : Place) (page : Span) → IsPage page → IsUnmapped l words place page ↔ NoLeafLeads l words place page
+UnmappedIsWhereNoLeafLeads =
+    (l : Layout) (words : Tables) (place : Place) (page : Span) → IsPage page
+    → IsUnmapped l words place page ↔ NoLeafLeads l words place page
 
 -- the entries of the hart translate no address of the page of a place
 abbrev pub TranslatesNone : Config → List View → ℕ → Place → Span → Type 0
-TranslatesNone c views h place page = (j : ℕ) (w : View) → get_elem? views j ≡ some w → w.hart ≡ h → (asid va : ℕ) → IsAsidFor c place asid → Holds page va → ¬ Translates (IsMappedBy w.entries) asid va
+TranslatesNone c views h place page =
+    (j : ℕ) (w : View) → get_elem? views j ≡ some w → w.hart ≡ h → (asid va : ℕ)
+    → IsAsidFor c place asid → Holds page va → ¬ Translates (IsMappedBy w.entries) asid va
 
--- once a cell that was armed for an unmapping has the word of what it asks, the receiver translates no address of the page,
--- until it is mapped anew
+-- once a cell that was armed for an unmapping has the word of what it asks, the receiver translates
+-- no address of the page, until it is mapped anew
 abbrev pub AcknowledgedIsClean : Type 0
-AcknowledgedIsClean = (c : Config) (s : State ℕ View) → Board c s → (i : ℕ) (v : View) → get_elem? s.views i ≡ some v → (n : ℕ) (k : Order) → get_elem? v.orders n ≡ some k
-    → (place : Place) (page : Span) → IsLive k place page → (h : ℕ) → h < length (layout_of c).spares → is_in h k.armed ≡ true
-    → slice_index s.words (cell (layout_of c) v.hart k.ticket h) ≡ acknowledgement (dropping c place page) → TranslatesNone c s.views h place page
+AcknowledgedIsClean =
+    (c : Config) (s : State ℕ View) → Board c s → (i : ℕ) (v : View) → get_elem? s.views i ≡ some v
+    → (n : ℕ) (k : Order) → get_elem? v.orders n ≡ some k
+    → (place : Place) (page : Span) → IsLive k place page → (h : ℕ)
+    → h < length (layout_of c).spares → is_in h k.armed ≡ true
+    → slice_index s.words (cell (layout_of c) v.hart k.ticket h)
+    ≡ acknowledgement (dropping c place page) → TranslatesNone c s.views h place page
 
 -- so it is once the hart was collected, also when the ticket is used again
 abbrev pub CollectedIsClean : Type 0
-CollectedIsClean = (c : Config) (s : State ℕ View) → Board c s → (i : ℕ) (v : View) → get_elem? s.views i ≡ some v → (n : ℕ) (k : Order) → get_elem? v.orders n ≡ some k
-    → (place : Place) (page : Span) → IsLive k place page → (h : ℕ) → h < length (layout_of c).spares → is_in h k.collected ≡ true → TranslatesNone c s.views h place page
+CollectedIsClean =
+    (c : Config) (s : State ℕ View) → Board c s → (i : ℕ) (v : View) → get_elem? s.views i ≡ some v
+    → (n : ℕ) (k : Order) → get_elem? v.orders n ≡ some k
+    → (place : Place) (page : Span) → IsLive k place page → (h : ℕ)
+    → h < length (layout_of c).spares → is_in h k.collected ≡ true
+    → TranslatesNone c s.views h place page
 
 -- what the shared words map from a root is global exactly in the window
 abbrev pub LeavesAreGlobalInWindow : Type 0
-LeavesAreGlobalInWindow = (c : Config) (s : State ℕ View) → Board c s → (space number ppn : ℕ) (flags : PteFlags) (global : Bool) → space < length (layout_of c).homes
-    → Maps c.scheme (tables_in (layout_of c) s.words) (root_ppn (layout_of c) space) number ppn flags global
-    → IsTrue global ↔ (first_window_slot (layout_of c) ≤ vpn_of (number * bytes_of Kib4) (top_level c.scheme))
+LeavesAreGlobalInWindow =
+    (c : Config) (s : State ℕ View) → Board c s
+    → (space number ppn : ℕ) (flags : PteFlags) (global : Bool) → space < length (layout_of c).homes
+    → Maps c.scheme (tables_in (layout_of c) s.words)
+    (root_ppn (layout_of c) space) number ppn flags global
+    → IsTrue global ↔ (first_window_slot (layout_of c) ≤ vpn_of (number * bytes_of Kib4)
+    (top_level c.scheme))
 
 -- and so is what a hart filled: it is for every address space exactly in the window
 abbrev pub MappingsAreGlobalInWindow : Type 0
-MappingsAreGlobalInWindow = (c : Config) (s : State ℕ View) → Board c s → (j : ℕ) (v : View) → get_elem? s.views j ≡ some v → (m : Mapping) → IsMappedBy v.entries m
-    → (m.asid ≡ None) ↔ (first_window_slot (layout_of c) ≤ vpn_of (m.page * bytes_of Kib4) (top_level c.scheme))
+MappingsAreGlobalInWindow =
+    (c : Config) (s : State ℕ View) → Board c s → (j : ℕ) (v : View) → get_elem? s.views j ≡ some v
+    → (m : Mapping) → IsMappedBy v.entries m
+    → (m.asid ≡ None) ↔ (first_window_slot (layout_of c) ≤ vpn_of (m.page * bytes_of Kib4)
+    (top_level c.scheme))
 
 -- requests with one word ask for one service
 abbrev pub EqualWordsAskForEqualService : Type 0
-EqualWordsAskForEqualService = (a d : What) → IsAskable a → IsAskable d → acknowledgement a ≡ acknowledgement d → (entries : List Entry) → served entries a ≡ served entries d
+EqualWordsAskForEqualService =
+    (a d : What) → IsAskable a → IsAskable d → acknowledgement a ≡ acknowledgement d
+    → (entries : List Entry) → served entries a ≡ served entries d
 
 -- a word of a frame is as the view of this hart says, or as at the opening
 abbrev pub IsAsSaid : Config → State ℕ View → ℕ → ℕ → ℕ → Type 0
 IsAsSaid c s h f i =
-    ((j : ℕ) × (v : View) × (get_elem? s.views j ≡ some v) × (v.hart ≡ h) × (tables_in (layout_of c) s.words f i ≡ words_of (memory_of (layout_of c) v) f i))
+    ((j : ℕ) × (v : View) × (get_elem? s.views j ≡ some v) × (v.hart ≡ h)
+    × (tables_in (layout_of c) s.words f i ≡ words_of (memory_of (layout_of c) v) f i))
     ⊎ (tables_in (layout_of c) s.words f i ≡ opening (layout_of c) f i)

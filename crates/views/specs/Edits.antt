@@ -10,4 +10,5 @@ use Rattle.views.specs.Rule.{memory_of}
 
 -- what the edit calls answer over table memory as the hart knows it
 abbrev pub edit_over : Layout → View → Wish → Result Store MapFault
-edit_over l v wish = edit_of l (words_of (memory_of l v)) (spare_of (memory_of l v) v.hart) v.hart wish
+edit_over l v wish =
+    edit_of l (words_of (memory_of l v)) (spare_of (memory_of l v) v.hart) v.hart wish

@@ -43,57 +43,88 @@ use Rattle.views.specs.Board.{TranslatesNone}
 abbrev pub causes : View → List (ℕ × Cause × Bool)
 causes v = map (λ k. (k.ticket, k.cause, k.anew)) v.orders
 
--- an unmapping begins an order that is live, with no cell armed and no hart collected; those before stay
+-- an unmapping begins an order that is live, with no cell armed and no hart collected; those before
+-- stay
 abbrev pub UnmappingBeginsLive : Type 0
-UnmappingBeginsLive = (c : Config) (place : Place) (page : Span) (ticket : ℕ) (v : View) (store : Store) → (k : Order)
-    × (open_order ticket (noted c (Unmap place page) ticket v store).orders ≡ Some k) × IsLive k place page × (k.armed ≡ []) × (k.collected ≡ [])
+UnmappingBeginsLive =
+    (c : Config) (place : Place) (page : Span) (ticket : ℕ) (v : View) (store : Store) → (k : Order)
+    × (open_order ticket (noted c (Unmap place page) ticket v store).orders ≡ Some k)
+    × IsLive k place page × (k.armed ≡ []) × (k.collected ≡ [])
     × ((noted c (Unmap place page) ticket v store).orders ≡ k ∷ v.orders)
 
--- arming, serving, looking for an acknowledgement, acknowledging oneself and walking change of no order what it follows, and mark none
+-- arming, serving, looking for an acknowledgement, acknowledging oneself and walking change of no
+-- order what it follows, and mark none
 abbrev pub StepsMarkNothing : Type 0
-StepsMarkNothing = (v : View) (ticket hart word : ℕ) (what : What) (is_found : Bool) (root : ℕ) (st : Stage) (reads : List Read) →
-    (causes (with_armed ticket hart v) ≡ causes v) × (causes (acknowledged hart ticket what v) ≡ causes v) × (causes (looked ticket hart is_found word v) ≡ causes v)
-    × (causes (self_acked ticket what v) ≡ causes v) × (causes (walked v root st reads word) ≡ causes v)
+StepsMarkNothing =
+    (v : View) (ticket hart word : ℕ) (what : What) (is_found : Bool) (root : ℕ) (st : Stage)
+    (reads : List Read) →
+    (causes (with_armed ticket hart v) ≡ causes v)
+    × (causes (acknowledged hart ticket what v) ≡ causes v)
+    × (causes (looked ticket hart is_found word v) ≡ causes v)
+    × (causes (self_acked ticket what v) ≡ causes v)
+    × (causes (walked v root st reads word) ≡ causes v)
 
--- nor does the store of an edit that maps no leaf, or an order that follows no store: they add their own
+-- nor does the store of an edit that maps no leaf, or an order that follows no store: they add
+-- their own
 abbrev pub EditsMarkNothing : Type 0
-EditsMarkNothing = (c : Config) (v : View) (ticket : ℕ) (store : Store) (place : Place) (page : Span) (ppn : ℕ) (flags : PteFlags) (what : What) →
+EditsMarkNothing =
+    (c : Config) (v : View) (ticket : ℕ) (store : Store) (place : Place) (page : Span) (ppn : ℕ)
+    (flags : PteFlags) (what : What) →
     (causes (ordered ticket what v) ≡ (ticket, Other what, false) ∷ causes v)
-    × (causes (noted c (Unmap place page) ticket v store) ≡ (ticket, Unmapped place page, false) ∷ causes v)
-    × (causes (noted c (Protect place page flags) ticket v store) ≡ (ticket, Other (PageOf page (asid_for c place)), false) ∷ causes v)
-    × (is_some (pointed (Some store.word)) ≡ true → causes (noted c (Map place page ppn flags) ticket v store) ≡ causes v)
+    × (causes (noted c (Unmap place page) ticket v store)
+    ≡ (ticket, Unmapped place page, false) ∷ causes v)
+    × (causes (noted c (Protect place page flags) ticket v store)
+    ≡ (ticket, Other (PageOf page (asid_for c place)), false) ∷ causes v)
+    × (is_some (pointed (Some store.word)) ≡ true
+    → causes (noted c (Map place page ppn flags) ticket v store) ≡ causes v)
 
 -- an order but for its mark
 abbrev pub unmarked : Order → Order
 unmarked k = record k { anew = false }
 
--- A map opens no order and drops none: each stands where it stood, and all of it but its mark stays. It marks only what follows an
--- unmapping in the same place of a page that it overlaps, and by a leaf.
+-- A map opens no order and drops none: each stands where it stood, and all of it but its mark
+-- stays. It marks only what follows an unmapping in the same place of a page that it overlaps, and
+-- by a leaf.
 abbrev pub MarkedByALeafOver : Type 0
-MarkedByALeafOver = (c : Config) (v : View) (ticket : ℕ) (store : Store) (place : Place) (page : Span) (ppn : ℕ) (flags : PteFlags)
-    → (map unmarked (noted c (Map place page ppn flags) ticket v store).orders ≡ map unmarked v.orders)
-    × ((n : ℕ) (k k' : Order) → get_elem? v.orders n ≡ some k → get_elem? (noted c (Map place page ppn flags) ticket v store).orders n ≡ some k' → k.anew ≡ false → k'.anew ≡ true
+MarkedByALeafOver =
+    (c : Config) (v : View) (ticket : ℕ) (store : Store) (place : Place) (page : Span) (ppn : ℕ)
+    (flags : PteFlags)
+    → (map unmarked (noted c (Map place page ppn flags) ticket v store).orders
+    ≡ map unmarked v.orders)
+    × ((n : ℕ) (k k' : Order) → get_elem? v.orders n ≡ some k
+    → get_elem? (noted c (Map place page ppn flags) ticket v store).orders n ≡ some k'
+    → k.anew ≡ false → k'.anew ≡ true
     → (over : Span) × (k.cause ≡ Unmapped place over) × Overlap over page)
 
 -- the kernel is in the address spaces of all ASIDs, and a space in that of its own alone
 abbrev pub KernelIsInEverySpace : Type 0
-KernelIsInEverySpace = (c : Config) (asid : ℕ) → IsAsidFor c Kernel asid × ((s : ℕ) → IsAsidFor c (Space s) asid ↔ (asid ≡ asid_in c s))
+KernelIsInEverySpace =
+    (c : Config) (asid : ℕ) → IsAsidFor c Kernel asid
+    × ((s : ℕ) → IsAsidFor c (Space s) asid ↔ (asid ≡ asid_in c s))
 
--- an entry that is for some address space of the place: a global one, one of the space's own ASID, or for the kernel any
+-- an entry that is for some address space of the place: a global one, one of the space's own ASID,
+-- or for the kernel any
 abbrev pub IsFor : Config → Place → Entry → Type 0
 IsFor c (Space s) e = (e.global ≡ true) ⊎ (e.asid ≡ asid_in c s)
 IsFor c Kernel e = Unit {0}
 
--- where a hart's entries translate no address of a page of a place, none of them overlaps the page that is for the place
+-- where a hart's entries translate no address of a page of a place, none of them overlaps the page
+-- that is for the place
 abbrev pub TranslatesNoneHoldsNone : Type 0
-TranslatesNoneHoldsNone = (c : Config) (views : List View) (h : ℕ) (place : Place) (page : Span) → TranslatesNone c views h place page
-    → (j : ℕ) (w : View) → get_elem? views j ≡ some w → w.hart ≡ h → (e : Entry) → Contains w.entries e → IsPage e.page → IsFor c place e → ¬ Overlap page e.page
+TranslatesNoneHoldsNone =
+    (c : Config) (views : List View) (h : ℕ) (place : Place) (page : Span)
+    → TranslatesNone c views h place page
+    → (j : ℕ) (w : View) → get_elem? views j ≡ some w → w.hart ≡ h → (e : Entry)
+    → Contains w.entries e → IsPage e.page → IsFor c place e → ¬ Overlap page e.page
 
 -- the cells lie behind the words of the tables, and no two senders, tickets or receivers share one
 abbrev pub CellsAreApart : Type 0
-CellsAreApart = (l : Layout) (sender ticket receiver : ℕ) → sender < length l.spares → ticket < tickets → receiver < length l.spares
+CellsAreApart =
+    (l : Layout) (sender ticket receiver : ℕ) → sender < length l.spares → ticket < tickets
+    → receiver < length l.spares
     → (size l ≤ cell l sender ticket receiver) × (cell l sender ticket receiver < board_size l)
-    × ((other number to : ℕ) → other < length l.spares → number < tickets → to < length l.spares → cell l sender ticket receiver ≡ cell l other number to
+    × ((other number to : ℕ) → other < length l.spares → number < tickets → to < length l.spares
+    → cell l sender ticket receiver ≡ cell l other number to
     → (sender ≡ other) × (ticket ≡ number) × (receiver ≡ to))
 
 -- the cell of the last step on one
@@ -102,29 +133,46 @@ last_cell [] = None
 last_cell (Found at word ∷ steps) = Some at
 last_cell (Stored at word ∷ steps) = Some at
 
--- the cell that a sender arms for a receiver, that to which the receiver stores, and that at which the sender looks, are one; what the
--- receiver stores is the word of what it dropped, which is not the armed one
+-- the cell that a sender arms for a receiver, that to which the receiver stores, and that at which
+-- the sender looks, are one; what the receiver stores is the word of what it dropped, which is not
+-- the armed one
 abbrev pub CellsMeet : Type 0
-CellsMeet = (sender receiver : View) (ticket word : ℕ) (what : What) (is_found : Bool) → receiver.config ≡ sender.config →
-    (last_cell (with_armed ticket receiver.hart sender).cell_steps ≡ last_cell (looked ticket receiver.hart is_found word sender).cell_steps)
-    × (last_cell (acknowledged sender.hart ticket what receiver).cell_steps ≡ last_cell (looked ticket receiver.hart is_found word sender).cell_steps)
+CellsMeet =
+    (sender receiver : View) (ticket word : ℕ) (what : What) (is_found : Bool)
+    → receiver.config ≡ sender.config →
+    (last_cell (with_armed ticket receiver.hart sender).cell_steps
+    ≡ last_cell (looked ticket receiver.hart is_found word sender).cell_steps)
+    × (last_cell (acknowledged sender.hart ticket what receiver).cell_steps
+    ≡ last_cell (looked ticket receiver.hart is_found word sender).cell_steps)
     × (last_word (with_armed ticket receiver.hart sender).cell_steps ≡ 0)
-    × (last_word (acknowledged sender.hart ticket what receiver).cell_steps ≡ acknowledgement what) × (acknowledgement what ≢ 0)
+    × (last_word (acknowledged sender.hart ticket what receiver).cell_steps ≡ acknowledgement what)
+    × (acknowledgement what ≢ 0)
     × (last_word (looked ticket receiver.hart is_found word sender).cell_steps ≡ word)
 
 -- A walk of an address that is not canonical answers a page fault, and leaves the view as it was.
 abbrev pub WrongAddressChangesNothing : Type 0
-WrongAddressChangesNothing = (l : Layout) (v w : View) (root va : ℕ) (access : Access) (ctx : Ctx) (answer : Result FoundOf Trap) → ¬ IsCanonical l.scheme va
-    → Walked l v root va access ctx answer w → (answer ≡ Err (page_trap access NotCanonical)) × (w ≡ v)
+WrongAddressChangesNothing =
+    (l : Layout) (v w : View) (root va : ℕ) (access : Access) (ctx : Ctx)
+    (answer : Result FoundOf Trap) → ¬ IsCanonical l.scheme va
+    → Walked l v root va access ctx answer w
+    → (answer ≡ Err (page_trap access NotCanonical)) × (w ≡ v)
 
--- In each memory that has the words that a walk's loads found, and there is one, the walk's answer is the one that is computed by
--- one load a level. It took at most as many loads as there are levels, and left the orders, the words and the holders.
+-- In each memory that has the words that a walk's loads found, and there is one, the walk's answer
+-- is the one that is computed by one load a level. It took at most as many loads as there are
+-- levels, and left the orders, the words and the holders.
 abbrev pub WalkAnswersAsComputed : Type 0
-WalkAnswersAsComputed = (l : Layout) (v w : View) (root va : ℕ) (access : Access) (ctx : Ctx) (answer : Result FoundOf Trap) → IsCanonical l.scheme va
+WalkAnswersAsComputed =
+    (l : Layout) (v w : View) (root va : ℕ) (access : Access) (ctx : Ctx)
+    (answer : Result FoundOf Trap) → IsCanonical l.scheme va
     → AnswersByLoads l v root va access ctx answer w
-    → ((words : Tables) × Has words w.reads) × ((words : Tables) → Has words w.reads → answer ≡ answer_after (level_count l.scheme) words (start_of l.scheme root va access ctx))
-    × (w.loads ≤ v.loads + level_count l.scheme) × (w.orders ≡ v.orders) × (w.words ≡ v.words) × (w.holders ≡ v.holders)
+    → ((words : Tables) × Has words w.reads)
+    × ((words : Tables) → Has words w.reads
+    → answer ≡ answer_after (level_count l.scheme) words (start_of l.scheme root va access ctx))
+    × (w.loads ≤ v.loads + level_count l.scheme) × (w.orders ≡ v.orders) × (w.words ≡ v.words)
+    × (w.holders ≡ v.holders)
 
 -- the store of an edit is counted
 abbrev pub EachEditIsOneStore : Type 0
-EachEditIsOneStore = (c : Config) (wish : Wish) (ticket : ℕ) (v : View) (store : Store) → (noted c wish ticket v store).stores ≡ v.stores + 1
+EachEditIsOneStore =
+    (c : Config) (wish : Wish) (ticket : ℕ) (v : View) (store : Store)
+    → (noted c wish ticket v store).stores ≡ v.stores + 1

@@ -27,7 +27,8 @@ marked place page k = record k { anew = is_over k.cause place page || k.anew }
 
 -- an order that begins
 abbrev pub fresh : ℕ → Cause → Order
-fresh ticket cause = record { ticket = ticket; cause = cause; anew = false; armed = []; collected = [] }
+fresh ticket cause =
+    record { ticket = ticket; cause = cause; anew = false; armed = []; collected = [] }
 
 -- an order that follows no store
 abbrev pub ordered : ℕ → What → View → View
@@ -35,13 +36,16 @@ ordered ticket what v = record v { orders = fresh ticket (Other what) ∷ v.orde
 
 -- the orders after an edit, which opens one under this ticket unless it maps
 abbrev pub orders_after : Config → Wish → ℕ → Store → List Order → List Order
-orders_after c (Map place page ppn flags) ticket store ks = if is_some (pointed (Some store.word)) then ks else map (marked place page) ks
+orders_after c (Map place page ppn flags) ticket store ks =
+    if is_some (pointed (Some store.word)) then ks else map (marked place page) ks
 orders_after c (Unmap place page) ticket store ks = fresh ticket (Unmapped place page) ∷ ks
-orders_after c (Protect place page flags) ticket store ks = fresh ticket (Other (dropping c place page)) ∷ ks
+orders_after c (Protect place page flags) ticket store ks =
+    fresh ticket (Other (dropping c place page)) ∷ ks
 
 -- the store of an edit by the home
 abbrev pub noted : Config → Wish → ℕ → View → Store → View
-noted c wish ticket v store = edited (layout_of c) v store (orders_after c wish ticket store v.orders)
+noted c wish ticket v store =
+    edited (layout_of c) v store (orders_after c wish ticket store v.orders)
 
 -- the page is one, and what an unmapping asks for can be asked
 abbrev pub IsAsked : Config → Wish → Type 0
@@ -63,11 +67,19 @@ abbrev pub armed : ℕ → Order → Order
 armed to k = record k { armed = to ∷ k.armed }
 
 abbrev pub with_armed : ℕ → ℕ → View → View
-with_armed ticket to v = record v { orders = for_ticket ticket (armed to) v.orders; cell_steps = Stored (cell_by v v.hart ticket to) 0 ∷ v.cell_steps }
+with_armed ticket to v =
+    record v {
+      orders = for_ticket ticket (armed to) v.orders;
+      cell_steps = Stored (cell_by v v.hart ticket to) 0 ∷ v.cell_steps;
+    }
 
 -- the receiver drops what a request of another hart asks, and stores its word to that hart's cell
 abbrev pub acknowledged : ℕ → ℕ → What → View → View
-acknowledged from ticket what v = record v { entries = served v.entries what; cell_steps = Stored (cell_by v from ticket v.hart) (acknowledgement what) ∷ v.cell_steps }
+acknowledged from ticket what v =
+    record v {
+      entries = served v.entries what;
+      cell_steps = Stored (cell_by v from ticket v.hart) (acknowledgement what) ∷ v.cell_steps;
+    }
 
 -- a hart is collected
 abbrev pub collected : ℕ → Order → Order
@@ -80,9 +92,12 @@ with_collected ticket from v = record v { orders = for_ticket ticket (collected 
 abbrev pub with_look : ℕ → ℕ → View → View
 with_look at word v = record v { cell_steps = Found at word ∷ v.cell_steps }
 
--- the sender looked at the cell of a hart and found this word; the hart is collected if it is the one of what was asked
+-- the sender looked at the cell of a hart and found this word; the hart is collected if it is the
+-- one of what was asked
 abbrev pub looked : ℕ → ℕ → Bool → ℕ → View → View
-looked ticket from is_found word v = with_look (cell_by v v.hart ticket from) word (if is_found then with_collected ticket from v else v)
+looked ticket from is_found word v =
+    with_look (cell_by v v.hart ticket from) word (if is_found then with_collected ticket from v
+    else v)
 
 -- the word that the last step on a cell found or stored
 abbrev pub last_word : List CellStep → ℕ

@@ -1,4 +1,5 @@
--- What the board keeps of orders: what an unmapping's home still doesn't map, and which harts hold nothing of it.
+-- What the board keeps of orders: what an unmapping's home still doesn't map, and which harts hold
+-- nothing of it.
 use Rattle.std.specs.Prelude.{◌≡◌, ℕ, ◌<◌, ◌≤◌, ◌==◌, ◌&&◌, ◌↔◌, Bool, true, false, not, IsTrue, List, All, length, map, slice_index, Option, Some, None}
 use Rattle.std.specs.List.{AllPass, list_any}
 use mathlib.Core.Option.{some}
@@ -68,15 +69,19 @@ Misses page space entries = AllPass (λ e. not (maps_into page space e)) entries
 
 -- the hart h has no mapping in the page
 abbrev pub IsClean : List View → ℕ → Span → Option ℕ → Type 0
-IsClean views h page space = (j : ℕ) (w : View) → get_elem? views j ≡ some w → w.hart ≡ h → Misses page space w.entries
+IsClean views h page space =
+    (j : ℕ) (w : View) → get_elem? views j ≡ some w → w.hart ≡ h → Misses page space w.entries
 
 -- nothing that the words map from a root of the place lies in the page
 abbrev pub IsUnmapped : Layout → Tables → Place → Span → Type 0
-IsUnmapped l words place page = (s number ppn : ℕ) (flags : PteFlags) (global : Bool) → s < length l.homes → IsAbout place page s number
+IsUnmapped l words place page =
+    (s number ppn : ℕ) (flags : PteFlags) (global : Bool) → s < length l.homes
+    → IsAbout place page s number
     → ¬ Maps l.scheme words (root_ppn l s) number ppn flags global
 
 -- What stands of an unmapping that is not marked anew, of the hart with this table memory.
-pub record Kept (c : Config) (words : List ℕ) (views : List View) (hart : ℕ) (own : Held) (k : Order) (place : Place) (page : Span) : Type 0 where
+pub record Kept (c : Config) (words : List ℕ) (views : List View) (hart : ℕ) (own : Held)
+    (k : Order) (place : Place) (page : Span) : Type 0 where
   pub has : HasPlace (layout_of c) place
   pub at_home : home_of (layout_of c) place ≡ hart
   pub right_half : is_wrong_half (layout_of c) place page ≡ false
@@ -86,16 +91,22 @@ pub record Kept (c : Config) (words : List ℕ) (views : List View) (hart : ℕ)
   pub numbered : (h : ℕ) → is_in h k.armed ≡ true → k.ticket < tickets
   -- once a cell that was armed for it has its word, the receiver has no mapping of it
   pub acked : (h : ℕ) → h < length (layout_of c).spares → is_in h k.armed ≡ true
-      → slice_index words (cell (layout_of c) hart k.ticket h) ≡ acknowledgement (dropping c place page) → IsClean views h page (asid_for c place)
+      → slice_index words (cell (layout_of c) hart k.ticket h)
+      ≡ acknowledgement (dropping c place page) → IsClean views h page (asid_for c place)
   -- nor has a hart that was collected, from then on
-  pub gone : (h : ℕ) → h < length (layout_of c).spares → is_in h k.collected ≡ true → IsClean views h page (asid_for c place)
+  pub gone : (h : ℕ) → h < length (layout_of c).spares → is_in h k.collected ≡ true
+      → IsClean views h page (asid_for c place)
 
 -- an entry is global exactly in the window: so is each address of its page
 abbrev pub IsGlobalInWindow : Layout → Entry → Type 0
-IsGlobalInWindow l e = (va : ℕ) → Holds e.page va → (IsTrue e.global ↔ (first_window_slot l ≤ vpn_of va (top_level l.scheme)))
+IsGlobalInWindow l e =
+    (va : ℕ) → Holds e.page va → (IsTrue e.global
+    ↔ (first_window_slot l ≤ vpn_of va (top_level l.scheme)))
 
 -- What is kept of orders and of the entries that harts hold.
 pub record Ordered (c : Config) (s : State ℕ View) : Type 0 where
-  pub window : (j : ℕ) (v : View) → get_elem? s.views j ≡ some v → All (IsGlobalInWindow (layout_of c)) v.entries
-  pub kept : (j : ℕ) (v : View) → get_elem? s.views j ≡ some v → (n : ℕ) (k : Order) → get_elem? v.orders n ≡ some k → (place : Place) (page : Span) → IsLive k place page
+  pub window : (j : ℕ) (v : View) → get_elem? s.views j ≡ some v
+      → All (IsGlobalInWindow (layout_of c)) v.entries
+  pub kept : (j : ℕ) (v : View) → get_elem? s.views j ≡ some v → (n : ℕ) (k : Order)
+      → get_elem? v.orders n ≡ some k → (place : Place) (page : Span) → IsLive k place page
       → Kept c s.words s.views v.hart (memory_of (layout_of c) v) k place page

@@ -29,8 +29,9 @@ size l = frame_count l * table_length
 abbrev pub tickets : ℕ
 tickets = 64
 
--- The cells follow the words of the tables, one for each sender, ticket and receiver. Those of a sender and a receiver stand side
--- by side, by ticket, so that they share a cache line with others at most at their ends.
+-- The cells follow the words of the tables, one for each sender, ticket and receiver. Those of a
+-- sender and a receiver stand side by side, by ticket, so that they share a cache line with others
+-- at most at their ends.
 abbrev pub cell : Layout → ℕ → ℕ → ℕ → ℕ
 cell l sender ticket receiver = size l + ((sender * length l.spares + receiver) * tickets + ticket)
 
@@ -54,14 +55,16 @@ memory_of l v = record { layout = l; words = v.words; holders = v.holders }
 pub record UsesLowest (l : Layout) (holders : Holders) (hart used : ℕ) : Type 0 where
   pub room : used ≤ slice_index l.spares hart
   pub taken : (n : ℕ) → n < used → holders (spare_ppn l hart + n) ≢ None
-  pub unused : (n : ℕ) → used ≤ n → n < slice_index l.spares hart → holders (spare_ppn l hart + n) ≡ None
+  pub unused : (n : ℕ) → used ≤ n → n < slice_index l.spares hart
+      → holders (spare_ppn l hart + n) ≡ None
 
--- What a view says by itself: its words and holders are a table memory, so pointers, the window, unused frames and G are as in
--- any, and only places at home on this hart have frames in use.
+-- What a view says by itself: its words and holders are a table memory, so pointers, the window,
+-- unused frames and G are as in any, and only places at home on this hart have frames in use.
 pub record Local (l : Layout) (v : View) : Type 0 where
   pub hart : v.hart < length l.spares
   pub memory : IsMemory (memory_of l v)
-  pub alone : (f : ℕ) (place : Place) → holders_of (memory_of l v) f ≡ Some place → home_of l place ≡ v.hart
+  pub alone : (f : ℕ) (place : Place) → holders_of (memory_of l v) f ≡ Some place
+      → home_of l place ≡ v.hart
   pub lowest : UsesLowest l (holders_of (memory_of l v)) v.hart v.used
 
 -- the memory has the words that were read
@@ -73,17 +76,21 @@ abbrev pub ArePointers : List Read → Type 0
 ArePointers [] = Unit {0}
 ArePointers (r ∷ rs) = (is_some (pointed (Some r.word)) ≡ true) × ArePointers rs
 
--- a walk in flight: its table is the one that the words lead to, and the pointers that it read stand there still
-pub record IsWalk (scheme : Scheme) (words : Tables) (root : ℕ) (reads : List Read) (st : Stage) : Type 0 where
+-- a walk in flight: its table is the one that the words lead to, and the pointers that it read
+-- stand there still
+pub record IsWalk (scheme : Scheme) (words : Tables) (root : ℕ) (reads : List Read)
+    (st : Stage) : Type 0 where
   pub on : OnPath scheme words root st
   pub pointers : ArePointers reads
   pub has : Has words reads
 
--- What a view says of the shared words: those at home are as it says, and a walk in flight leads now.
+-- What a view says of the shared words: those at home are as it says, and a walk in flight leads
+-- now.
 pub record Seated (c : Config) (words : Tables) (v : View) : Type 0 where
   pub config : v.config ≡ c
   pub local : Local (layout_of c) v
-  pub own : (f i : ℕ) → IsAtHome (layout_of c) v.hart f → words f i ≡ words_of (memory_of (layout_of c) v) f i
+  pub own : (f i : ℕ) → IsAtHome (layout_of c) v.hart f
+      → words f i ≡ words_of (memory_of (layout_of c) v) f i
   pub walk : IfSome v.walk (IsWalk c.scheme words v.root v.reads)
 
 -- a hart has a seat, or waits for one
@@ -91,27 +98,35 @@ pub data Sits (views : List View) (h : ℕ) : Type 0 where
   seated : (j : ℕ) (v : View) → get_elem? views j ≡ some v → v.hart ≡ h → Sits views h
   waits : (j : ℕ) (v : View) → get_elem? views j ≡ some v → 0 < v.next → v.next ≤ h → Sits views h
 
--- What is kept of table words: each is as its home's view says, and each walk in flight stands where the words lead.
+-- What is kept of table words: each is as its home's view says, and each walk in flight stands
+-- where the words lead.
 pub record Tabled (c : Config) (s : State ℕ View) : Type 0 where
   pub limits : MeetsLimits max_live_frames c
   -- the words of the frames come first, then the cells
   pub wide : board_size (layout_of c) ≤ length s.words
   -- a pointer leads to a frame
-  pub inside : (f i g : ℕ) → pointed (tables_in (layout_of c) s.words f i) ≡ Some g → is_frame (layout_of c) g ≡ true
+  pub inside : (f i g : ℕ) → pointed (tables_in (layout_of c) s.words f i) ≡ Some g
+      → is_frame (layout_of c) g ≡ true
   -- each hart has one seat
-  pub one : (i j : ℕ) (v w : View) → get_elem? s.views i ≡ some v → get_elem? s.views j ≡ some w → v.hart ≡ w.hart → i ≡ j
+  pub one : (i j : ℕ) (v w : View) → get_elem? s.views i ≡ some v → get_elem? s.views j ≡ some w
+      → v.hart ≡ w.hart → i ≡ j
   pub every : (h : ℕ) → Sits s.views h
-  -- one seat deals the others: its next hart, and those after it, have none yet, and their words are as at the opening
-  pub deals : (i j : ℕ) (v w : View) → get_elem? s.views i ≡ some v → get_elem? s.views j ≡ some w → 0 < v.next → (w.hart < v.next) × (0 < w.next → i ≡ j)
-  pub undealt : (j : ℕ) (v : View) → get_elem? s.views j ≡ some v → 0 < v.next → (h f i : ℕ) → v.next ≤ h → IsAtHome (layout_of c) h f
+  -- one seat deals the others: its next hart, and those after it, have none yet, and their words
+  -- are as at the opening
+  pub deals : (i j : ℕ) (v w : View) → get_elem? s.views i ≡ some v → get_elem? s.views j ≡ some w
+      → 0 < v.next → (w.hart < v.next) × (0 < w.next → i ≡ j)
+  pub undealt : (j : ℕ) (v : View) → get_elem? s.views j ≡ some v → 0 < v.next → (h f i : ℕ)
+      → v.next ≤ h → IsAtHome (layout_of c) h f
       → tables_in (layout_of c) s.words f i ≡ opening (layout_of c) f i
-  pub each : (j : ℕ) (v : View) → get_elem? s.views j ≡ some v → Seated c (tables_in (layout_of c) s.words) v
+  pub each : (j : ℕ) (v : View) → get_elem? s.views j ≡ some v
+      → Seated c (tables_in (layout_of c) s.words) v
 
 -- the words at the opening: those of all frames, and the cells
 abbrev pub board_words : Layout → List ℕ
 board_words l = first_words l (size l) ++ replicate (length l.spares * length l.spares * tickets) 0
 
--- the view of a hart that has done nothing; next is the hart that gets the next seat from this one, or 0
+-- the view of a hart that has done nothing; next is the hart that gets the next seat from this one,
+-- or 0
 abbrev pub starting : Config → ℕ → ℕ → View
 starting c hart next = record {
   hart = hart;

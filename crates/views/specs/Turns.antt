@@ -50,15 +50,17 @@ walked v root st reads word = record v {
   entries = with_fill (asid_at v.config root) v.entries (load_of st (Some word));
 }
 
--- what a load of a walk tells: the next table is a frame; some memory, that of this moment, has all that the walk read; and a
--- word at home is as the view says
+-- what a load of a walk tells: the next table is a frame; some memory, that of this moment, has all
+-- that the walk read; and a word at home is as the view says
 abbrev pub TellsFrame : Layout → Stage → ℕ → Type 0
-TellsFrame l st n = (next : Stage) → load_of st (Some n) ≡ progress.More next → is_frame l next.table ≡ true
+TellsFrame l st n =
+    (next : Stage) → load_of st (Some n) ≡ progress.More next → is_frame l next.table ≡ true
 
 pub record TellsLoad (l : Layout) (v : View) (st : Stage) (reads : List Read) (n : ℕ) : Type 0 where
   pub frame : TellsFrame l st n
   pub some_memory : (words : Tables) × Has words (reads ++ read_of st n ∷ [])
-  pub at_home : IsAtHome l v.hart st.table → words_of (memory_of l v) st.table (vpn_of st.va st.level) ≡ Some n
+  pub at_home : IsAtHome l v.hart st.table
+      → words_of (memory_of l v) st.table (vpn_of st.va st.level) ≡ Some n
 
 -- a walk that waits for a word of its root
 pub record IsStart (scheme : Scheme) (root : ℕ) (st : Stage) : Type 0 where

@@ -41,13 +41,16 @@ abbrev pub with_found : ℕ → List Entry → Result Found Trap → List Entry
 with_found asid entries (Ok found) = entries ++ entry_of asid found ∷ []
 with_found asid entries (Err trap) = entries
 
--- The answer follows from the words that the walk's own loads found, which the view holds: some memory has them all, and in
--- each memory that has them this is the answer. The loads are counted, at most one a level, and what is found is filled in. A
--- home reads back its own stores.
-pub record AnswersByLoads (l : Layout) (v : View) (root va : ℕ) (access : Access) (ctx : Ctx) (answer : Result Found Trap) (w : View) : Type 0 where
+-- The answer follows from the words that the walk's own loads found, which the view holds: some
+-- memory has them all, and in each memory that has them this is the answer. The loads are counted,
+-- at most one a level, and what is found is filled in. A home reads back its own stores.
+pub record AnswersByLoads (l : Layout) (v : View) (root va : ℕ) (access : Access) (ctx : Ctx)
+    (answer : Result Found Trap) (w : View) : Type 0 where
   pub some_memory : (words : Tables) × Has words w.reads
-  pub each_memory : (words : Tables) → Has words w.reads → Outcome l.scheme words root va access ctx answer
-  pub read_back : (s : ℕ) → IsHomePath l v root va s → Outcome l.scheme (words_of (memory_of l v)) root va access ctx answer
+  pub each_memory : (words : Tables) → Has words w.reads
+      → Outcome l.scheme words root va access ctx answer
+  pub read_back : (s : ℕ) → IsHomePath l v root va s
+      → Outcome l.scheme (words_of (memory_of l v)) root va access ctx answer
   pub count : w.loads ≡ v.loads + length w.reads
   pub few : length w.reads ≤ level_count l.scheme
   pub entries : w.entries ≡ with_found (asid_at v.config root) v.entries answer

@@ -11,8 +11,8 @@ use std::process::Abort;
 use std::test::Fail;
 use tlb::{Entry, Tlb};
 
-/// Hart 0 asks hart 1, which holds an entry, to drop all that is of ASID 1. The acknowledgement is found once it was stored, and
-/// not before.
+/// Hart 0 asks hart 1, which holds an entry, to drop all that is of ASID 1. The acknowledgement is
+/// found once it was stored, and not before.
 fn ask_and_serve(
     rt: &impl Abort,
     words: &Words,

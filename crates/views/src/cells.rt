@@ -1,5 +1,5 @@
-//! The atomic steps on acknowledgement cells, each with what its seat knows after it. A cell holds 0 when it is armed, and then
-//! the word of the request that its receiver served.
+//! The atomic steps on acknowledgement cells, each with what its seat knows after it. A cell holds
+//! 0 when it is armed, and then the word of the request that its receiver served.
 
 ghost use Rattle.std.specs.Prelude.{◌≡◌, ℕ, ◌<◌, ◌==◌, [], ◌∷◌, length, not};
 ghost use Rattle.std.specs.List.{AllPass};
@@ -20,8 +20,9 @@ use spaces::Config;
 use std::marker::Brand;
 use tlb::Tlb;
 
-/// Where a cell stands among all words: after those of the tables, by sender, receiver and ticket. The cells of a sender and a
-/// receiver are 64 words side by side, so that they share a cache line with others at most at their ends.
+/// Where a cell stands among all words: after those of the tables, by sender, receiver and ticket.
+/// The cells of a sender and a receiver are 64 words side by side, so that they share a cache line
+/// with others at most at their ends.
 fn cell(config: &Config, sender: u8, ticket: u32, receiver: u8) -> usize
     requires limits { MeetsLimits max_live_frames config.now }
     requires sender { sender < length (layout_of config.now).spares }
@@ -47,8 +48,8 @@ fn open_as<T: Turn>(words: &Words, seat: &mut Place, word: usize, _ticket: u32, 
     load::<T>(words, seat, word)
 }
 
-/// Opens an order that follows no store, as that of a flush, under a ticket: a load of the hart's own cell, whose word counts
-/// for nothing. (What a seat knows changes by a step alone.)
+/// Opens an order that follows no store, as that of a flush, under a ticket: a load of the hart's
+/// own cell, whose word counts for nothing. (What a seat knows changes by a step alone.)
 pub fn open_order(words: &Words, seat: &mut Place, config: &Config, hart: u8, request: &Request)
     requires fit { IsFit words.now.table_id words.now.key config.now seat.old }
     requires hart { seat.old.me.0.hart ≡ hart }
@@ -64,7 +65,8 @@ fn arm_as<T: Turn>(words: &Words, seat: &mut Place, word: usize, _ticket: u32, _
     requires same { seat.old.table_id ≡ words.now.table_id }
     requires inside { word < words.now.table_id.words }
     requires bare { seat.old.me.1 ≡ [] }
-    requires steps { Steps words.now.key seat.old.id seat.old.me.0 word (λ _. 0) (λ _. T.after 0) (λ _. T.tells 0) }
+    requires steps { Steps words.now.key seat.old.id seat.old.me.0 word (λ _. 0) (λ _. T.after 0)
+        (λ _. T.tells 0) }
     requires told { (T.after 0).cell_steps ≡ Stored word 0 ∷ seat.old.me.0.cell_steps }
     ensures same { seat.new.table_id ≡ seat.old.table_id }
     ensures id { seat.new.id ≡ seat.old.id }
@@ -81,7 +83,8 @@ pub fn arm(words: &Words, seat: &mut Place, config: &Config, hart: u8, ticket: u
     requires to { to < length (layout_of config.now).spares }
     ensures fit { IsFit words.now.table_id words.now.key config.now seat.new }
     ensures view { seat.new.me.0 ≡ with_armed ticket to seat.old.me.0 }
-    ensures awaits { (what : Asked) → IsAsking config.now seat.old.me.0 ticket what → IsAwaiting config.now seat.new.me.0 ticket to what }
+    ensures awaits { (what : Asked) → IsAsking config.now seat.old.me.0 ticket what
+        → IsAwaiting config.now seat.new.me.0 ticket to what }
 {
     let at = cell(config, hart, ticket, to);
     arm_as::<Brand>(words, seat, at, ticket, to)
@@ -99,7 +102,8 @@ fn acknowledge_as<T: Turn>(
     requires same { seat.old.table_id ≡ words.now.table_id }
     requires inside { word < words.now.table_id.words }
     requires bare { seat.old.me.1 ≡ [] }
-    requires steps { Steps words.now.key seat.old.id seat.old.me.0 word (λ _. new) (λ _. T.after new) (λ _. T.tells new) }
+    requires steps { Steps words.now.key seat.old.id seat.old.me.0 word (λ _. new)
+        (λ _. T.after new) (λ _. T.tells new) }
     requires told { (T.after new).cell_steps ≡ Stored word new ∷ seat.old.me.0.cell_steps }
     ensures same { seat.new.table_id ≡ seat.old.table_id }
     ensures id { seat.new.id ≡ seat.old.id }
@@ -108,7 +112,8 @@ fn acknowledge_as<T: Turn>(
     store::<T>(words, seat, word, new)
 }
 
-/// The store of a request's word to the sender's cell, by its receiver, whose TLB has nothing left that the request drops.
+/// The store of a request's word to the sender's cell, by its receiver, whose TLB has nothing left
+/// that the request drops.
 pub fn acknowledge(
     words: &Words,
     seat: &mut Place,
@@ -123,7 +128,8 @@ pub fn acknowledge(
     requires from { from < length (layout_of config.now).spares }
     requires served { AllPass (λ e. not (is_served request.now.what e)) tlb.now.entries }
     ensures fit { IsFit words.now.table_id words.now.key config.now seat.new }
-    ensures view { seat.new.me.0 ≡ acknowledged from request.now.ticket request.now.what seat.old.me.0 }
+    ensures view { seat.new.me.0
+        ≡ acknowledged from request.now.ticket request.now.what seat.old.me.0 }
 {
     let _tlb = tlb;
     let word = encode(request);
@@ -142,7 +148,8 @@ fn acknowledge_self_as<T: Turn>(
     requires same { seat.old.table_id ≡ words.now.table_id }
     requires inside { word < words.now.table_id.words }
     requires bare { seat.old.me.1 ≡ [] }
-    requires steps { Steps words.now.key seat.old.id seat.old.me.0 word (λ _. new) (λ _. T.after new) (λ _. T.tells new) }
+    requires steps { Steps words.now.key seat.old.id seat.old.me.0 word (λ _. new)
+        (λ _. T.after new) (λ _. T.tells new) }
     requires told { (T.after new).cell_steps ≡ Stored word new ∷ seat.old.me.0.cell_steps }
     ensures same { seat.new.table_id ≡ seat.old.table_id }
     ensures id { seat.new.id ≡ seat.old.id }
@@ -192,8 +199,8 @@ fn collect_as<T: Turn>(
     load::<T>(words, seat, word)
 }
 
-/// The load of a receiver's cell by the sender, for the open order of the request's ticket, for which the cell was armed. Whether
-/// the request's word is there: then the receiver is collected.
+/// The load of a receiver's cell by the sender, for the open order of the request's ticket, for
+/// which the cell was armed. Whether the request's word is there: then the receiver is collected.
 pub fn collect(
     words: &Words,
     seat: &mut Place,
@@ -207,8 +214,10 @@ pub fn collect(
     requires from { from < length (layout_of config.now).spares }
     requires awaits { IsAwaiting config.now seat.old.me.0 request.now.ticket from request.now.what }
     ensures fit { IsFit words.now.table_id words.now.key config.now seat.new }
-    ensures found { result ≡ (last_word seat.new.me.0.cell_steps == acknowledgement request.now.what) }
-    ensures view { seat.new.me.0 ≡ looked request.now.ticket from result (last_word seat.new.me.0.cell_steps) seat.old.me.0 }
+    ensures found { result
+        ≡ (last_word seat.new.me.0.cell_steps == acknowledgement request.now.what) }
+    ensures view { seat.new.me.0
+        ≡ looked request.now.ticket from result (last_word seat.new.me.0.cell_steps) seat.old.me.0 }
     ensures awaits { IsAwaiting config.now seat.new.me.0 request.now.ticket from request.now.what }
 {
     let at = cell(config, hart, request.ticket, from);

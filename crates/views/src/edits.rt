@@ -15,8 +15,9 @@ use crate::steps::{read_home, store_edit};
 use pte::{Kind, Pte};
 use spaces::{Config, Edit, EditWalk, MapFault, Next, Place as Home, Wish};
 
-/// The store that a wish takes, or why none is due, over the home's view. It is not made: `store_edit` makes it, and the view
-/// stays until then. `used` is how many of the hart's spare frames are in use.
+/// The store that a wish takes, or why none is due, over the home's view. It is not made:
+/// `store_edit` makes it, and the view stays until then. `used` is how many of the hart's spare
+/// frames are in use.
 pub fn decide(
     words: &Words,
     seat: &mut Place,
@@ -92,9 +93,9 @@ fn is_pointer(word: u64) -> bool
     }
 }
 
-/// Makes the one store that was decided, and counts the spare frame that a new table takes; an unmap or a protect opens an
-/// order under the ticket. No other hart's step changes what is due here, so what was decided is due until the hart's own next
-/// store.
+/// Makes the one store that was decided, and counts the spare frame that a new table takes; an
+/// unmap or a protect opens an order under the ticket. No other hart's step changes what is due
+/// here, so what was decided is due until the hart's own next store.
 pub fn store(
     words: &Words,
     seat: &mut Place,
@@ -119,8 +120,8 @@ pub fn store(
     }
 }
 
-/// Makes the one store that a wish takes, or tells why none is due, over the home's view. The ticket is for the order that an
-/// unmap or a protect opens; a map takes none.
+/// Makes the one store that a wish takes, or tells why none is due, over the home's view. The
+/// ticket is for the order that an unmap or a protect opens; a map takes none.
 pub fn edit(
     words: &Words,
     seat: &mut Place,
@@ -136,7 +137,9 @@ pub fn edit(
     requires place { HasPlace (layout_of config.now) (place_of wish.now) }
     ensures fit { IsFit words.now.table_id words.now.key config.now seat.new }
     ensures answer { result ≡ edit_over (layout_of config.now) seat.old.me.0 wish.now }
-    ensures view { MatchResult result (λ edit. seat.new.me.0 ≡ noted config.now wish.now ticket seat.old.me.0 edit) (λ _. seat.new.me.0 ≡ seat.old.me.0) }
+    ensures view { MatchResult result (λ edit. seat.new.me.0
+        ≡ noted config.now wish.now ticket seat.old.me.0 edit)
+        (λ _. seat.new.me.0 ≡ seat.old.me.0) }
     ensures used { seat.new.me.0.used ≡ used.new }
 {
     let edit = match decide(words, seat, config, hart, *used, wish) {

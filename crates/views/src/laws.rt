@@ -14,14 +14,14 @@ ghost use Rattle.views.specs.Rule.{Has, tables_in};
 ghost use Rattle.views.specs.Board.{AcknowledgedIsClean, Board, CollectedIsClean, EqualWordsAskForEqualService, IsAsSaid, LeavesAreGlobalInWindow, MappingsAreGlobalInWindow, UnmappedIsWhereNoLeafLeads, UnmappedStaysUnmapped, own_words, shared_words};
 ghost use Rattle.views.specs.Lasting.{CellsAreApart, CellsMeet, EachEditIsOneStore, EditsMarkNothing, KernelIsInEverySpace, MarkedByALeafOver, StepsMarkNothing, TranslatesNoneHoldsNone, UnmappingBeginsLive, WalkAnswersAsComputed, WrongAddressChangesNothing};
 
-/// Once a hart was collected for an unmapping whose page is not mapped anew, what it filled translates no address of the page in
-/// any address space of the place.
+/// Once a hart was collected for an unmapping whose page is not mapped anew, what it filled
+/// translates no address of the page in any address space of the place.
 pub fn collected_is_clean()
     ensures { CollectedIsClean }
 {}
 
-/// While an unmapping in a home's view is not marked anew, nothing that the home's words map from a root of its place, or the
-/// shared words, lies in its page.
+/// While an unmapping in a home's view is not marked anew, nothing that the home's words map from a
+/// root of its place, or the shared words, lies in its page.
 pub fn unmapped_page_stays_unmapped()
     ensures own { UnmappedStaysUnmapped own_words }
     ensures shared { UnmappedStaysUnmapped shared_words }
@@ -38,85 +38,97 @@ pub fn unmapped_is_where_no_leaf_leads()
     ensures { UnmappedIsWhereNoLeafLeads }
 {}
 
-/// Once a cell that was armed for an unmapping has the word of what it asks, the receiver's entries translate no address of the
-/// page, until it is mapped anew.
+/// Once a cell that was armed for an unmapping has the word of what it asks, the receiver's entries
+/// translate no address of the page, until it is mapped anew.
 pub fn acknowledged_is_clean()
     ensures { AcknowledgedIsClean }
 {}
 
-/// Requests whose acknowledgement words are equal ask for equal service: an acknowledgement that was meant for another request
-/// says as much.
+/// Requests whose acknowledgement words are equal ask for equal service: an acknowledgement that
+/// was meant for another request says as much.
 pub fn equal_words_ask_for_equal_service()
     ensures { EqualWordsAskForEqualService }
 {}
 
 /// Each table word is as its home's view says, or as at the opening while its home has no seat yet.
 pub fn each_table_word_is_as_its_home_says()
-    ensures { (c : Config) (s : State ℕ View) → Board c s → (h f i : ℕ) → IsAtHome (layout_of c) h f → IsAsSaid c s h f i }
+    ensures { (c : Config) (s : State ℕ View) → Board c s → (h f i : ℕ) → IsAtHome (layout_of c) h f
+        → IsAsSaid c s h f i }
 {}
 
-/// The table words are a tree, as those of any table memory: pointers lead down level by level, to each table one; the window's
-/// slots of each root are as at the opening, and its other upper slots are 0; unused spare frames are 0, and nothing points to
-/// them; leaves are global exactly in the window.
+/// The table words are a tree, as those of any table memory: pointers lead down level by level, to
+/// each table one; the window's slots of each root are as at the opening, and its other upper slots
+/// are 0; unused spare frames are 0, and nothing points to them; leaves are global exactly in the
+/// window.
 pub fn table_words_are_a_tree()
-    ensures { (c : Config) (s : State ℕ View) → Board c s → (holders : Holders) × IsTree (layout_of c) (tables_in (layout_of c) s.words) holders }
+    ensures { (c : Config) (s : State ℕ View) → Board c s
+        → (holders : Holders) × IsTree (layout_of c) (tables_in (layout_of c) s.words) holders }
 {}
 
-/// A walk in flight stands on the path that the table words lead to now, and each word that it read stands there still.
+/// A walk in flight stands on the path that the table words lead to now, and each word that it read
+/// stands there still.
 pub fn walk_in_flight_leads()
-    ensures path { (c : Config) (s : State ℕ View) → Board c s → (j : ℕ) (v : View) (st : Stage) → get_elem? s.views j ≡ some v → v.walk ≡ Some st
+    ensures path { (c : Config) (s : State ℕ View) → Board c s → (j : ℕ) (v : View) (st : Stage)
+        → get_elem? s.views j ≡ some v → v.walk ≡ Some st
         → OnPath c.scheme (tables_in (layout_of c) s.words) v.root st }
-    ensures reads { (c : Config) (s : State ℕ View) → Board c s → (j : ℕ) (v : View) (st : Stage) → get_elem? s.views j ≡ some v → v.walk ≡ Some st
+    ensures reads { (c : Config) (s : State ℕ View) → Board c s → (j : ℕ) (v : View) (st : Stage)
+        → get_elem? s.views j ≡ some v → v.walk ≡ Some st
         → Has (tables_in (layout_of c) s.words) v.reads }
 {}
 
-/// An unmapping begins an order under its ticket that is live: it speaks of that page of that place, is not marked anew, and has
-/// no armed cell and no collected hart. The orders before it stay as they are.
+/// An unmapping begins an order under its ticket that is live: it speaks of that page of that
+/// place, is not marked anew, and has no armed cell and no collected hart. The orders before it
+/// stay as they are.
 pub fn unmapping_begins_live()
     ensures { UnmappingBeginsLive }
 {}
 
-/// No step marks an order anew but the store of a leaf, and that only where the order follows an unmapping in the same place of
-/// a page that the leaf's overlaps. So until then the laws of live orders hold. No step drops an order, and none changes its
-/// ticket or what it follows.
+/// No step marks an order anew but the store of a leaf, and that only where the order follows an
+/// unmapping in the same place of a page that the leaf's overlaps. So until then the laws of live
+/// orders hold. No step drops an order, and none changes its ticket or what it follows.
 pub fn only_a_leaf_over_the_page_marks_anew()
     ensures steps { StepsMarkNothing }
     ensures edits { EditsMarkNothing }
     ensures leaf { MarkedByALeafOver }
 {}
 
-/// A page of the kernel is in the address space of every ASID, and one of a space in that of its own alone.
+/// A page of the kernel is in the address space of every ASID, and one of a space in that of its
+/// own alone.
 pub fn kernel_is_in_every_space()
     ensures { KernelIsInEverySpace }
 {}
 
-/// The cell that a sender arms, that to which its receiver stores, and that at which the sender looks, are one; and the word that
-/// the receiver stores is the one that `collect` counts, which is never the armed one.
+/// The cell that a sender arms, that to which its receiver stores, and that at which the sender
+/// looks, are one; and the word that the receiver stores is the one that `collect` counts, which is
+/// never the armed one.
 pub fn cells_meet()
     ensures { CellsMeet }
 {}
 
-/// No two senders, tickets or receivers share a cell, and none is a word of a table: an acknowledgement that was stored stays
-/// until the same sender arms the same cell for its next order under the ticket.
+/// No two senders, tickets or receivers share a cell, and none is a word of a table: an
+/// acknowledgement that was stored stays until the same sender arms the same cell for its next
+/// order under the ticket.
 pub fn cells_are_apart()
     ensures { CellsAreApart }
 {}
 
-/// A hart that translates no address of a page of a place, as the laws of what is acknowledged and collected say, holds no entry
-/// for the place that overlaps the page: none of that page, of a part of it or of a larger page over it, and no global one.
+/// A hart that translates no address of a page of a place, as the laws of what is acknowledged and
+/// collected say, holds no entry for the place that overlaps the page: none of that page, of a part
+/// of it or of a larger page over it, and no global one.
 pub fn translates_none_holds_none()
     ensures { TranslatesNoneHoldsNone }
 {}
 
-/// What `Walked` says of a canonical address, in other words: in each memory that has the words that the walk's own loads found,
-/// and there is one, its answer is the one that is computed with one load a level. It makes at most as many loads as there are
-/// levels, and changes no order and nothing of what its hart edits.
+/// What `Walked` says of a canonical address, in other words: in each memory that has the words
+/// that the walk's own loads found, and there is one, its answer is the one that is computed with
+/// one load a level. It makes at most as many loads as there are levels, and changes no order and
+/// nothing of what its hart edits.
 pub fn walk_answers_as_computed()
     ensures { WalkAnswersAsComputed }
 {}
 
-/// A walk of an address that is not canonical, which `Walked` tells from the others, answers a page fault and leaves the view as
-/// it was: it counts no load and fills nothing.
+/// A walk of an address that is not canonical, which `Walked` tells from the others, answers a page
+/// fault and leaves the view as it was: it counts no load and fills nothing.
 pub fn walk_of_a_wrong_address_changes_nothing()
     ensures { WrongAddressChangesNothing }
 {}

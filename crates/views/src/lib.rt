@@ -1,5 +1,5 @@
-//! The rule that the shared words, those of all table frames and the cells of acknowledgements, keep between any two atomic
-//! steps of running harts, and each kind of step.
+//! The rule that the shared words, those of all table frames and the cells of acknowledgements,
+//! keep between any two atomic steps of running harts, and each kind of step.
 #![tactic(auto)]
 
 mod cells;

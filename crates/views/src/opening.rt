@@ -40,7 +40,8 @@ pub fn open(alloc: Global, config: &Config) -> Result<(Memory, Place), AllocErro
 pub fn deal(words: &Words, first: &mut Place, config: &Config) -> Place
     requires fit { IsFit words.now.table_id words.now.key config.now first.old }
     requires next { (0 < first.old.me.0.next) × (first.old.me.0.next < config.now.harts) }
-    ensures fit { IsFit words.now.table_id words.now.key config.now first.new × IsFit words.now.table_id words.now.key config.now result }
+    ensures fit { IsFit words.now.table_id words.now.key config.now first.new
+        × IsFit words.now.table_id words.now.key config.now result }
     ensures first { first.new.me.0 ≡ dealer first.old.me.0 }
     ensures next { result.me.0 ≡ dealt first.old.me.0 }
 {

@@ -45,7 +45,15 @@ impl Turn for Brand {
     ghost use Rattle.pte.specs.declared.scheme.Scheme.TheVariants.{Sv39};
     ghost use Rattle.views.specs.Rule.{starting};
 
-    ghost after = { λ _. starting (record { scheme = Sv39; harts = 0; spaces = record { items = [] }; window = 0; base = 0; spares = record { items = [] }; capacity = 0 }) 0 0 };
+    ghost after = { λ _. starting (record {
+      scheme = Sv39;
+      harts = 0;
+      spaces = record { items = [] };
+      window = 0;
+      base = 0;
+      spares = record { items = [] };
+      capacity = 0;
+    }) 0 0 };
 
     ghost tells = { λ _. Unit {0} };
 }
@@ -87,7 +95,8 @@ pub(crate) fn store<T: Turn>(words: &Words, seat: &mut Place, word: usize, new: 
     requires same { seat.old.table_id ≡ words.now.table_id }
     requires inside { word < words.now.table_id.words }
     requires bare { seat.old.me.1 ≡ [] }
-    requires steps { Steps words.now.key seat.old.id seat.old.me.0 word (λ _. new) (λ _. T.after new) (λ _. T.tells new) }
+    requires steps { Steps words.now.key seat.old.id seat.old.me.0 word (λ _. new)
+        (λ _. T.after new) (λ _. T.tells new) }
     ensures same { seat.new.table_id ≡ seat.old.table_id }
     ensures id { seat.new.id ≡ seat.old.id }
     ensures view { seat.new.me ≡ (T.after new, []) }

@@ -27,7 +27,8 @@ pub fn serve(
     requires hart { seat.old.me.0.hart ≡ hart }
     requires from { from < length (layout_of config.now).spares }
     ensures fit { IsFit words.now.table_id words.now.key config.now seat.new }
-    ensures view { seat.new.me.0 ≡ acknowledged from request.now.ticket request.now.what seat.old.me.0 }
+    ensures view { seat.new.me.0
+        ≡ acknowledged from request.now.ticket request.now.what seat.old.me.0 }
     ensures tlb { tlb.new ≡ record tlb.old { entries = served tlb.old.entries request.now.what } }
 {
     tlb.serve(&request.what);

@@ -92,7 +92,8 @@ pub fn read_home(words: &Words, seat: &mut Place, config: &Config, table: u64, i
     requires index { index < table_length }
     ensures fit { IsFit words.now.table_id words.now.key config.now seat.new }
     ensures view { seat.new.me.0 ≡ seat.old.me.0 }
-    ensures word { words_of (memory_of (layout_of config.now) seat.old.me.0) table index ≡ Some result }
+    ensures word { words_of (memory_of (layout_of config.now) seat.old.me.0) table index
+        ≡ Some result }
 {
     let at = word_index(config, table, index);
     read_as::<Brand>(words, seat, at, table, index)
@@ -110,7 +111,8 @@ fn store_as<T: Turn>(
     requires same { seat.old.table_id ≡ words.now.table_id }
     requires inside { word < words.now.table_id.words }
     requires bare { seat.old.me.1 ≡ [] }
-    requires steps { Steps words.now.key seat.old.id seat.old.me.0 word (λ _. new) (λ _. T.after new) (λ _. T.tells new) }
+    requires steps { Steps words.now.key seat.old.id seat.old.me.0 word (λ _. new)
+        (λ _. T.after new) (λ _. T.tells new) }
     ensures same { seat.new.table_id ≡ seat.old.table_id }
     ensures id { seat.new.id ≡ seat.old.id }
     ensures view { seat.new.me ≡ (T.after new, []) }
@@ -119,8 +121,9 @@ fn store_as<T: Turn>(
     store::<T>(words, seat, word, new)
 }
 
-/// The one store of an edit that is due over the home's view. An unmap or a protect opens an order under the ticket; a leaf that
-/// is mapped marks anew each unmapping of its place whose page it overlaps.
+/// The one store of an edit that is due over the home's view. An unmap or a protect opens an order
+/// under the ticket; a leaf that is mapped marks anew each unmapping of its place whose page it
+/// overlaps.
 pub fn store_edit(
     words: &Words,
     seat: &mut Place,

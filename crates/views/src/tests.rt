@@ -110,7 +110,8 @@ const INVALID: Result<u64, Trap> = Err(Trap {
     why: Why::Invalid,
 });
 
-/// Maps a page of a space at home, which makes these stores. It is not found before the last of them.
+/// Maps a page of a space at home, which makes these stores. It is not found before the last of
+/// them.
 fn map_by(
     rt: &impl Abort,
     words: &Words,
@@ -138,7 +139,8 @@ fn map_by(
     }
 }
 
-// A hart maps a page of its space, table by table, and reads it back; it unmaps the page, and maps it to another PPN.
+// A hart maps a page of its space, table by table, and reads it back; it unmaps the page, and maps
+// it to another PPN.
 #[test]
 fn home_reads_back(rt: HostRuntime) -> Result<(), Fail> {
     let config = two_harts(Scheme::Sv39);
@@ -203,7 +205,8 @@ fn home_reads_back_under_sv48(rt: HostRuntime) -> Result<(), Fail> {
     Ok(())
 }
 
-// A hart finds what the other stored; each takes spare frames of its own, and edits its own space alone.
+// A hart finds what the other stored; each takes spare frames of its own, and edits its own space
+// alone.
 #[test]
 fn two_homes(rt: HostRuntime) -> Result<(), Fail> {
     let config = two_harts(Scheme::Sv39);

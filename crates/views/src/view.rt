@@ -54,7 +54,8 @@ pub struct View {
     pub config: Config,
     /// The next hart that gets a seat from this one, or 0.
     pub next: u64,
-    /// The words of all frames, frame by frame: those at home as this hart left them, the others as at the opening.
+    /// The words of all frames, frame by frame: those at home as this hart left them, the others as
+    /// at the opening.
     pub words: LinkedList<u64>,
     /// For which place each frame is in use as a spare one, frame by frame. Only this hart's are.
     pub holders: LinkedList<Option<Place>>,
@@ -74,6 +75,7 @@ pub struct View {
     pub entries: LinkedList<Entry>,
     /// All orders of the hart, open or past, the last one first.
     pub orders: LinkedList<Order>,
-    /// All steps that armed a cell, acknowledged or looked for an acknowledgement, the last one first.
+    /// All steps that armed a cell, acknowledged or looked for an acknowledgement, the last one
+    /// first.
     pub cell_steps: LinkedList<CellStep>,
 }
