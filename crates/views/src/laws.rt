@@ -46,6 +46,7 @@ pub fn acknowledged_is_clean()
 
 /// Requests whose acknowledgement words are equal ask for equal service: an acknowledgement that
 /// was meant for another request says as much.
+#[tactic(auto, using(crate::proofs::Collected::equal_service))]
 pub fn equal_words_ask_for_equal_service()
     ensures { EqualWordsAskForEqualService }
 {}
@@ -94,6 +95,7 @@ pub fn only_a_leaf_over_the_page_marks_anew()
 
 /// A page of the kernel is in the address space of every ASID, and one of a space in that of its
 /// own alone.
+#[tactic(auto, using(crate::proofs::Lasting::kernel_is_in_every_space))]
 pub fn kernel_is_in_every_space()
     ensures { KernelIsInEverySpace }
 {}
@@ -101,6 +103,7 @@ pub fn kernel_is_in_every_space()
 /// The cell that a sender arms, that to which its receiver stores, and that at which the sender
 /// looks, are one; and the word that the receiver stores is the one that `collect` counts, which is
 /// never the armed one.
+#[tactic(auto, using(crate::proofs::Lasting::cells_meet))]
 pub fn cells_meet()
     ensures { CellsMeet }
 {}
@@ -129,6 +132,7 @@ pub fn walk_answers_as_computed()
 
 /// A walk of an address that is not canonical, which `Walked` tells from the others, answers a page
 /// fault and leaves the view as it was: it counts no load and fills nothing.
+#[tactic(auto, using(crate::proofs::Lasting::wrong_address_changes_nothing))]
 pub fn walk_of_a_wrong_address_changes_nothing()
     ensures { WrongAddressChangesNothing }
 {}
