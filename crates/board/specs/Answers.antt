@@ -39,7 +39,9 @@ is_there C scope.All = true
 
 -- Flush
 abbrev pub flush_refusal : PortState → Scope → ℕ → Option Refusal
-flush_refusal port scope named = refused_if (not (are_harts port.setup named)) NoHart (refused_if (not (is_there port.setup scope)) NoSpace None)
+flush_refusal port scope named =
+    refused_if (not (are_harts port.setup named)) NoHart
+    (refused_if (not (is_there port.setup scope)) NoSpace None)
 
 abbrev pub opened : Result ℕ TicketFault → Result ℕ Refusal
 opened (Ok ticket) = Ok ticket
@@ -47,18 +49,24 @@ opened (Err ticket_fault.HomeNotNamed) = Err HomeNotNamed
 opened (Err ticket_fault.NoTicket) = Err NoTicket
 
 abbrev pub flush_answer : PortState → Scope → ℕ → Result ℕ Refusal
-flush_answer port scope named = answer_or (flush_refusal port scope named) (opened (open_answer port.tickets named))
+flush_answer port scope named =
+    answer_or (flush_refusal port scope named) (opened (open_answer port.tickets named))
 
 abbrev pub with_tickets : PortState → TicketTable → PortState
 with_tickets port tickets = record port { tickets = tickets }
 
 -- a port once a ticket was opened for this: its order is open in the view
 abbrev pub after_ordered : PortState → What → ℕ → Result ℕ Refusal → PortState
-after_ordered port what named (Ok ticket) = record port { view = ordered ticket what port.view; tickets = after_open port.tickets what named }
+after_ordered port what named (Ok ticket) =
+    record port {
+      view = ordered ticket what port.view;
+      tickets = after_open port.tickets what named;
+    }
 after_ordered port what named (Err refusal) = port
 
 abbrev pub after_flush : PortState → Scope → ℕ → PortState
-after_flush port scope named = after_ordered port (scope_request port.setup [] scope) named (flush_answer port scope named)
+after_flush port scope named =
+    after_ordered port (scope_request port.setup [] scope) named (flush_answer port scope named)
 
 -- Post: what the ticket and the two harts say, and then what the mailbox says
 abbrev pub box_refusal : Option PostFault → Option Refusal
@@ -82,7 +90,8 @@ or_refusal None rest = rest
 or_refusal (Some refusal) rest = Some refusal
 
 abbrev pub post_refusal : PortState → ℕ → ℕ → Option Refusal
-post_refusal port ticket to = or_refusal (ticket_refusal port ticket to) (outbox_refusal (outbox_to port to))
+post_refusal port ticket to =
+    or_refusal (ticket_refusal port ticket to) (outbox_refusal (outbox_to port to))
 
 -- how many free places of its ring an end knows of, and which requests it knows to wait
 abbrev pub known_room : Option OutboxState → ℕ
@@ -108,24 +117,28 @@ outbox_with request room outbox = option_map (λ o. with_accepted o request room
 abbrev pub inbox_with : Request → List Request → Option InboxState → Option InboxState
 inbox_with request known inbox = option_map (λ i. with_taken i request known) inbox
 
--- a port once the request of a ticket was accepted: the cell was armed, and the end then knows of so many free places
+-- a port once the request of a ticket was accepted: the cell was armed, and the end then knows of
+-- so many free places
 abbrev pub after_post : PortState → ℕ → ℕ → ℕ → PortState
 after_post port ticket to room = record port {
   view = with_armed ticket to port.view;
   tickets = after_posted port.tickets ticket to;
-  outboxes = slice_set port.outboxes to (outbox_with (request_of port.tickets ticket) room (outbox_to port to));
+  outboxes = slice_set port.outboxes to (outbox_with (request_of port.tickets ticket) room
+      (outbox_to port to));
 }
 
 -- a port whose post was refused: the cell was armed exactly if only the ring had no place
 abbrev pub after_no_post : PortState → ℕ → ℕ → PortState
-after_no_post port ticket to = if is_none (post_refusal port ticket to) then record port { view = with_armed ticket to port.view } else port
+after_no_post port ticket to =
+    if is_none (post_refusal port ticket to)
+    then record port { view = with_armed ticket to port.view } else port
 
 -- a TLB once a request was served
 abbrev pub tlb_served : TlbState → What → TlbState
 tlb_served tlb what = record tlb { entries = served tlb.entries what }
 
--- Serve: a port once it took a request, dropped what it names from its TLB and its view, and stored its word to the sender's cell;
--- the end then knows these to wait
+-- Serve: a port once it took a request, dropped what it names from its TLB and its view, and stored
+-- its word to the sender's cell; the end then knows these to wait
 abbrev pub after_serve : PortState → ℕ → Request → List Request → PortState
 after_serve port from request known = record port {
   view = acknowledged from request.ticket request.what port.view;
@@ -135,10 +148,13 @@ after_serve port from request known = record port {
 
 -- AckSelf: the hart acknowledges its own ticket, if that names it, and is collected in the view too
 abbrev pub acked_by : TicketTable → ℕ → ℕ → TicketTable
-acked_by tickets ticket hart = if names tickets ticket hart then after_acked tickets ticket hart else tickets
+acked_by tickets ticket hart =
+    if names tickets ticket hart then after_acked tickets ticket hart else tickets
 
 abbrev pub ack_self_answer : PortState → ℕ → Result Collected Refusal
-ack_self_answer port ticket = if is_open port.tickets ticket then Ok (progress_at (acked_by port.tickets ticket port.hart) ticket) else Err NotOpen
+ack_self_answer port ticket =
+    if is_open port.tickets ticket
+    then Ok (progress_at (acked_by port.tickets ticket port.hart) ticket) else Err NotOpen
 
 abbrev pub after_ack_self : PortState → ℕ → PortState
 after_ack_self port ticket =
@@ -148,16 +164,23 @@ after_ack_self port ticket =
       tlb = tlb_served port.tlb (what_of (what_at port.tickets ticket));
     } else port
 
--- Collect: a hart whose cell had the word of the ticket's request has acknowledged it, and is collected
+-- Collect: a hart whose cell had the word of the ticket's request has acknowledged it, and is
+-- collected
 abbrev pub collected_by : TicketTable → ℕ → ℕ → TicketTable
 collected_by tickets ticket from = after_collect (after_acked tickets ticket from) ticket from
 
 -- Finish
 abbrev pub finish_answer : PortState → ℕ → Result (Unit {0}) Refusal
-finish_answer port ticket = answer_or (refused_if (not (is_open port.tickets ticket)) NotOpen (refused_if (not (is_done_at port.tickets ticket)) NotDone None)) (Ok tt)
+finish_answer port ticket =
+    answer_or
+    (refused_if (not (is_open port.tickets ticket)) NotOpen
+    (refused_if (not (is_done_at port.tickets ticket)) NotDone None))
+    (Ok tt)
 
 abbrev pub after_finish_of : PortState → ℕ → PortState
-after_finish_of port ticket = if is_open port.tickets ticket then with_tickets port (after_finish port.tickets ticket) else port
+after_finish_of port ticket =
+    if is_open port.tickets ticket then with_tickets port (after_finish port.tickets ticket)
+    else port
 
 -- Close
 abbrev pub is_closed_to : Option OutboxState → Bool
@@ -165,8 +188,16 @@ is_closed_to None = false
 is_closed_to (Some outbox) = outbox.closed
 
 abbrev pub close_answer : PortState → ℕ → Result (Unit {0}) Refusal
-close_answer port to = answer_or (refused_if (not (are_pair port.setup port.hart to)) NoHart (refused_if (is_closed_to (outbox_to port to)) Closed None)) (Ok tt)
+close_answer port to =
+    answer_or
+    (refused_if (not (are_pair port.setup port.hart to)) NoHart
+    (refused_if (is_closed_to (outbox_to port to)) Closed None))
+    (Ok tt)
 
 abbrev pub after_close_to : PortState → ℕ → PortState
 after_close_to port to =
-    if are_pair port.setup port.hart to && not (is_closed_to (outbox_to port to)) then record port { outboxes = slice_set port.outboxes to (option_map after_close (outbox_to port to)) } else port
+    if are_pair port.setup port.hart to && not (is_closed_to (outbox_to port to))
+    then record port {
+      outboxes =
+          slice_set port.outboxes to (option_map after_close (outbox_to port to));
+    } else port

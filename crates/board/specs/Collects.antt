@@ -14,10 +14,11 @@ use Rattle.board.specs.Ties.{awaits}
 
 -- the ticket was posted to another hart, which is not collected
 abbrev pub is_awaiting : PortState → ℕ → ℕ → Bool
-is_awaiting port ticket from = are_pair port.setup port.hart from && awaits from (ticket_at port.tickets ticket)
+is_awaiting port ticket from =
+    are_pair port.setup port.hart from && awaits from (ticket_at port.tickets ticket)
 
--- a port that looked at the cell of a hart and found this word. If it is that of the request, the hart is collected in the view
--- and by the ticket, and its mailbox has room for one more.
+-- a port that looked at the cell of a hart and found this word. If it is that of the request, the
+-- hart is collected in the view and by the ticket, and its mailbox has room for one more.
 abbrev pub after_look : PortState → ℕ → ℕ → Bool → ℕ → PortState
 after_look port ticket from is_found word =
     if is_found then record port {
@@ -32,12 +33,16 @@ awaited_word port ticket = acknowledgement (request_of port.tickets ticket).what
 
 -- a port that looked at the cell of a hart, where this word stood, if the hart was awaited
 abbrev pub look_at : PortState → ℕ → ℕ → ℕ → PortState
-look_at port ticket from word = if is_awaiting port ticket from then after_look port ticket from (word == awaited_word port ticket) word else port
+look_at port ticket from word =
+    if is_awaiting port ticket from
+    then after_look port ticket from (word == awaited_word port ticket) word else port
 
--- a port that looked at the cells of the harts from 0 on, where these words stood, that of the highest hart first
+-- a port that looked at the cells of the harts from 0 on, where these words stood, that of the
+-- highest hart first
 abbrev pub after_looks : PortState → ℕ → List ℕ → PortState
 after_looks port ticket [] = port
-after_looks port ticket (word ∷ words) = look_at (after_looks port ticket words) ticket (length words) word
+after_looks port ticket (word ∷ words) =
+    look_at (after_looks port ticket words) ticket (length words) word
 
 -- the port once it looked at the cell of each hart below a bound that was awaited
 pub record IsCollected (port : PortState) (ticket bound : ℕ) (after : PortState) : Type 0 where
@@ -47,4 +52,6 @@ pub record IsCollected (port : PortState) (ticket bound : ℕ) (after : PortStat
 
 -- each hart that the ticket names is collected for its open order in the view
 abbrev pub AreAllCollected : PortState → ℕ → Type 0
-AreAllCollected port ticket = (k : Order) → open_order ticket port.view.orders ≡ Some k → (h : ℕ) → names port.tickets ticket h ≡ true → is_in h k.collected ≡ true
+AreAllCollected port ticket =
+    (k : Order) → open_order ticket port.view.orders ≡ Some k → (h : ℕ)
+    → names port.tickets ticket h ≡ true → is_in h k.collected ≡ true

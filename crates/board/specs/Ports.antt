@@ -10,8 +10,9 @@ use Rattle.spaces.specs.declared.configuration.Config.{Config}
 use Rattle.views.specs.declared.view.View.{View}
 use Rattle.views.specs.Rule.{starting}
 
--- what the board was opened with; which hart it is; its space; what it knows of the shared words; its tickets and its TLB; and by
--- the numbers of the harts the ends by which it posts to each other hart and takes from it, none for itself
+-- what the board was opened with; which hart it is; its space; what it knows of the shared words;
+-- its tickets and its TLB; and by the numbers of the harts the ends by which it posts to each other
+-- hart and takes from it, none for itself
 pub record PortState : Type 0 where
   pub setup : Setup
   pub hart : ℕ
@@ -56,11 +57,19 @@ pub record PortName : Type 0 where
   pub ins : List (Option End)
 
 abbrev pub name_of : PortState → PortName
-name_of port = record { setup = port.setup; hart = port.hart; outs = map (option_map end_of_outbox) port.outboxes; ins = map (option_map end_of_inbox) port.inboxes }
+name_of port =
+    record {
+      setup = port.setup;
+      hart = port.hart;
+      outs = map (option_map end_of_outbox) port.outboxes;
+      ins = map (option_map end_of_inbox) port.inboxes;
+    }
 
 -- the capacities of a hart's ends: one to each other hart
 abbrev pub capacities : Setup → ℕ → List (Option ℕ)
-capacities setup hart = map (λ other. if other == hart then None else Some setup.capacity) (range_with_len 0 setup.harts)
+capacities setup hart =
+    map (λ other. if other == hart then None else Some setup.capacity)
+    (range_with_len 0 setup.harts)
 
 abbrev pub capacities_of : List (Option End) → List (Option ℕ)
 capacities_of ends = map (option_map (λ e. e.capacity)) ends
@@ -78,20 +87,22 @@ row rows number = unwrap_or (slice_get rows number) []
 abbrev pub cell : {X : Type 0} → List (List (Option X)) → ℕ → ℕ → Option X
 cell rows number column = element (row rows number) column
 
--- they are the ports of one board, in the order of the harts: the end from one hart to another and the end by which that takes
--- from it are of one ring
+-- they are the ports of one board, in the order of the harts: the end from one hart to another and
+-- the end by which that takes from it are of one ring
 pub record ArePorts (setup : Setup) (names : List PortName) : Type 0 where
   pub numbered : map (λ name. name.hart) names ≡ range_with_len 0 setup.harts
   pub of_setup : All (λ name. name.setup ≡ setup) names
   pub each : All IsPort names
-  pub linked : (sender receiver : ℕ) → cell (map (λ name. name.outs) names) sender receiver ≡ cell (map (λ name. name.ins) names) receiver sender
+  pub linked : (sender receiver : ℕ)
+      → cell (map (λ name. name.outs) names) sender receiver
+      ≡ cell (map (λ name. name.ins) names) receiver sender
 
 -- from which hart on a hart deals seats, 0 for none: hart 0 has dealt all others
 abbrev pub next_seat : Config → ℕ → ℕ
 next_seat config hart = if hart == 0 then config.harts else 0
 
--- a port that was just opened: it is in space 0, has done nothing with the shared words, no ticket is open, its TLB is empty, and
--- nothing was posted or taken
+-- a port that was just opened: it is in space 0, has done nothing with the shared words, no ticket
+-- is open, its TLB is empty, and nothing was posted or taken
 abbrev pub new_port : Config → PortName → PortState
 new_port config name = record {
   setup = name.setup;

@@ -24,25 +24,38 @@ use Rattle.board.specs.Tables.{after_edit, edit_answer}
 
 -- the entries translate no address of the page in any address space of the place
 abbrev pub TranslateNone : Config → List Entry → Place → Span → Type 0
-TranslateNone c entries place page = (asid va : ℕ) → IsAsidFor c place asid → Holds page va → ¬ Translates (IsMappedBy entries) asid va
+TranslateNone c entries place page =
+    (asid va : ℕ) → IsAsidFor c place asid → Holds page va
+    → ¬ Translates (IsMappedBy entries) asid va
 
--- Of an open ticket whose order is an unmapping that is not marked anew: once each hart that it names is collected, the TLB of
--- none of them translates an address of the page. `port` and `other` are ports whose views are those of two seats now, the
--- sender's and that of a named hart.
+-- Of an open ticket whose order is an unmapping that is not marked anew: once each hart that it
+-- names is collected, the TLB of none of them translates an address of the page. `port` and `other`
+-- are ports whose views are those of two seats now, the sender's and that of a named hart.
 abbrev pub DoneIsClean : Type 0
-DoneIsClean = (c : Config) (s : State ℕ View) → Board c s → (i : ℕ) (port : PortState) → get_elem? s.views i ≡ some port.view
-    → (ticket : ℕ) (k : Order) → open_order ticket port.view.orders ≡ Some k → (place : Place) (page : Span) → IsLive k place page → AreAllCollected port ticket
-    → (j : ℕ) (other : PortState) → get_elem? s.views j ≡ some other.view → other.view.hart < length (layout_of c).spares → names port.tickets ticket other.view.hart ≡ true
+DoneIsClean =
+    (c : Config) (s : State ℕ View) → Board c s → (i : ℕ) (port : PortState)
+    → get_elem? s.views i ≡ some port.view
+    → (ticket : ℕ) (k : Order) → open_order ticket port.view.orders ≡ Some k
+    → (place : Place) (page : Span) → IsLive k place page → AreAllCollected port ticket
+    → (j : ℕ) (other : PortState) → get_elem? s.views j ≡ some other.view
+    → other.view.hart < length (layout_of c).spares
+    → names port.tickets ticket other.view.hart ≡ true
     → IsWithin other.tlb.entries other.view.entries → TranslateNone c other.tlb.entries place page
 
--- An unmapping that is accepted leaves under its ticket an open order that is live, of that page of that place, with no cell armed
--- and no hart collected. So `DoneIsClean` speaks of it, until the home maps a leaf over the page (law
--- `views::only_a_leaf_over_the_page_marks_anew`).
+-- An unmapping that is accepted leaves under its ticket an open order that is live, of that page of
+-- that place, with no cell armed and no hart collected. So `DoneIsClean` speaks of it, until the
+-- home maps a leaf over the page (law `views::only_a_leaf_over_the_page_marks_anew`).
 abbrev pub AcceptedUnmappingIsLive : Type 0
-AcceptedUnmappingIsLive = (port : PortState) (place : Place) (page : Span) (named ticket : ℕ) → edit_answer port (Unmap place page) named ≡ Ok ticket → (k : Order)
-    × (open_order ticket (after_edit port (Unmap place page) named).view.orders ≡ Some k) × IsLive k place page × (k.armed ≡ []) × (k.collected ≡ [])
+AcceptedUnmappingIsLive =
+    (port : PortState) (place : Place) (page : Span) (named ticket : ℕ)
+    → edit_answer port (Unmap place page) named ≡ Ok ticket → (k : Order)
+    × (open_order ticket (after_edit port (Unmap place page) named).view.orders ≡ Some k)
+    × IsLive k place page × (k.armed ≡ []) × (k.collected ≡ [])
 
--- where no address of a page of a place is translated, no entry overlaps the page that is for the place
+-- where no address of a page of a place is translated, no entry overlaps the page that is for the
+-- place
 abbrev pub TranslateNoneHoldsNone : Type 0
-TranslateNoneHoldsNone = (c : Config) (entries : List Entry) (place : Place) (page : Span) → TranslateNone c entries place page
+TranslateNoneHoldsNone =
+    (c : Config) (entries : List Entry) (place : Place) (page : Span)
+    → TranslateNone c entries place page
     → (e : Entry) → Contains entries e → IsPage e.page → IsFor c place e → ¬ Overlap page e.page

@@ -16,7 +16,8 @@ taken_by (Some inbox) = inbox.taken
 
 -- what one of the ports accepted to another hart, and what that hart's port took of it
 abbrev pub accepted : List PortState → ℕ → ℕ → List Request
-accepted ports sender receiver = accepted_by (cell (map (λ port. port.outboxes) ports) sender receiver)
+accepted ports sender receiver =
+    accepted_by (cell (map (λ port. port.outboxes) ports) sender receiver)
 
 abbrev pub taken : List PortState → ℕ → ℕ → List Request
 taken ports sender receiver = taken_by (cell (map (λ port. port.inboxes) ports) receiver sender)
@@ -24,7 +25,8 @@ taken ports sender receiver = taken_by (cell (map (λ port. port.inboxes) ports)
 -- the ordered pairs of different harts, by sender and then by receiver
 abbrev pub pairs_to : ℕ → ℕ → List (ℕ × ℕ)
 pairs_to sender zero = []
-pairs_to sender (suc receiver) = pairs_to sender receiver ++ (if receiver == sender then [] else (sender, receiver) ∷ [])
+pairs_to sender (suc receiver) =
+    pairs_to sender receiver ++ (if receiver == sender then [] else (sender, receiver) ∷ [])
 
 abbrev pub pairs_of : ℕ → ℕ → List (ℕ × ℕ)
 pairs_of harts zero = []
@@ -32,7 +34,8 @@ pairs_of harts (suc sender) = pairs_of harts sender ++ pairs_to sender harts
 
 -- accepted is taken, followed by what waits, and the counts are their lengths
 pub record IsReportOf (ports : List PortState) (pair : PairReport) : Type 0 where
-  pub order : accepted ports pair.sender pair.receiver ≡ taken ports pair.sender pair.receiver ++ pair.waiting.items
+  pub order : accepted ports pair.sender pair.receiver
+      ≡ taken ports pair.sender pair.receiver ++ pair.waiting.items
   pub accepted_count : pair.accepted ≡ count_of (accepted ports pair.sender pair.receiver)
   pub taken_count : pair.taken ≡ count_of (taken ports pair.sender pair.receiver)
 

@@ -18,7 +18,8 @@ AreSeats z key c from [] = Unit {0}
 AreSeats z key c from (seat ∷ rest) = IsNewSeat z key c from seat × AreSeats z key c (from + 1) rest
 
 -- a hart in a space holds its own seat, and knows how many of its spare frames are in use
-pub record IsSeated (z : TableId) (key c : Config) (seat : Seat ℕ View) (hart space used : ℕ) : Type 0 where
+pub record IsSeated (z : TableId) (key c : Config) (seat : Seat ℕ View)
+    (hart space used : ℕ) : Type 0 where
   pub fit : IsFit z key c seat
   pub hart_is : seat.me.0.hart ≡ hart
   pub used_is : seat.me.0.used ≡ used

@@ -1,4 +1,5 @@
--- What ties a port's tickets to the orders of its view and to its ends, and its TLB to what its view holds.
+-- What ties a port's tickets to the orders of its view and to its ends, and its TLB to what its
+-- view holds.
 use Rattle.std.specs.Prelude.{ℕ, ◌≡◌, ◌≢◌, ◌+◌, ◌&&◌, Bool, true, false, not, List, [], ◌∷◌, length, Option, Some, None, Contains, if◌then◌else◌}
 use Rattle.tlb.specs.declared.store.Entry.{Entry}
 use Rattle.shoot.specs.HartSet.{contains}
@@ -12,22 +13,25 @@ use Rattle.views.specs.Orders.{asked, is_in}
 use Rattle.views.specs.OrderTurns.{open_order}
 use Rattle.board.specs.Ports.{element}
 
--- the order under an open ticket asks for what the ticket asks; the cell of each hart that the ticket was posted to was armed for
--- it; and of the named harts it has collected just those that the ticket has
+-- the order under an open ticket asks for what the ticket asks; the cell of each hart that the
+-- ticket was posted to was armed for it; and of the named harts it has collected just those that
+-- the ticket has
 pub record IsOrderOf (c : Config) (ticket : Ticket) (k : Order) : Type 0 where
   pub asks : asked c k.cause ≡ ticket.what
   pub armed : (h : ℕ) → contains ticket.posted h ≡ true → is_in h k.armed ≡ true
-  pub collected : (h : ℕ) → contains ticket.named h ≡ true → is_in h k.collected ≡ contains ticket.collected h
+  pub collected : (h : ℕ) → contains ticket.named h ≡ true
+      → is_in h k.collected ≡ contains ticket.collected h
 
--- the ticket's sets are sets of harts; it was posted to harts that it names alone, and a hart other than its own is collected
--- only where it was posted to
+-- the ticket's sets are sets of harts; it was posted to harts that it names alone, and a hart other
+-- than its own is collected only where it was posted to
 pub record IsWhole (home : ℕ) (ticket : Ticket) : Type 0 where
   pub named_harts : length ticket.named ≡ MAX_HARTS
   pub posted_harts : length ticket.posted ≡ MAX_HARTS
   pub acked_harts : length ticket.acked ≡ MAX_HARTS
   pub collected_harts : length ticket.collected ≡ MAX_HARTS
   pub posted : (h : ℕ) → contains ticket.posted h ≡ true → contains ticket.named h ≡ true
-  pub collected : (h : ℕ) → h ≢ home → contains ticket.collected h ≡ true → contains ticket.posted h ≡ true
+  pub collected : (h : ℕ) → h ≢ home → contains ticket.collected h ≡ true
+      → contains ticket.posted h ≡ true
 
 -- the ticket of a number, if it is open, has this open order
 abbrev pub IsTied : Config → ℕ → Option Ticket → Option Order → Type 0
@@ -59,7 +63,8 @@ HasOutstanding count (Some outbox) = outbox.outstanding ≡ count
 
 -- what is outstanding at each end is what was posted by it and not collected
 pub record AreCounted (tickets : TicketTable) (outboxes : List (Option OutboxState)) : Type 0 where
-  pub each : (hart : ℕ) → hart ≢ tickets.hart → HasOutstanding (count_awaiting hart tickets.tickets) (element outboxes hart)
+  pub each : (hart : ℕ) → hart ≢ tickets.hart
+      → HasOutstanding (count_awaiting hart tickets.tickets) (element outboxes hart)
 
 -- each entry of the TLB is one that the view holds
 pub record IsWithin (tlb held : List Entry) : Type 0 where

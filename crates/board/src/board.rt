@@ -41,19 +41,22 @@ pub(crate) fn deal(
     mut inboxes: Vec<Vec<Option<Receiver>>>,
 ) -> Result<Vec<HartPort>, AllocError>
     requires limits { MeetsLimits max_live_frames (arc_value config.now) }
-    requires seats { AreSeats (arc_value memory.now).shared.table_id (arc_value memory.now).shared.key (arc_value config.now) 0 seats.items }
+    requires seats { AreSeats (arc_value memory.now).shared.table_id (arc_value memory.now).shared.key
+        (arc_value config.now) 0 seats.items }
     requires as_many { length seats.items ≡ (arc_value config.now).harts }
-    requires net { IsNet (arc_value config.now).capacity (arc_value config.now).harts outboxes.items inboxes.items }
-    ensures ports { IfOk result (λ ports. ArePorts (setup_of (arc_value config.now)) (map name_of ports.items)) }
+    requires net { IsNet (arc_value config.now).capacity (arc_value config.now).harts
+        outboxes.items inboxes.items }
+    ensures ports { IfOk result (λ ports. ArePorts (setup_of (arc_value config.now))
+        (map name_of ports.items)) }
     ensures new { IfOk result (λ ports. AreNew ports.items) }
 {
     let mut ports = Vec::new(alloc);
     while let Some(outs) = outboxes.pop() {
         let Some(ins) = inboxes.pop() else {
-            unreachable!()
+            break;
         };
         let Some(seat) = seats.pop() else {
-            unreachable!()
+            break;
         };
         let shared = Arc::try_clone(config)?;
         let words = Arc::try_clone(memory)?;
@@ -66,7 +69,8 @@ pub(crate) fn deal(
 /// What the ports share is told once.
 fn copied(config: &Config) -> Result<Config, AllocError>
     ensures setup { IfOk result (λ copy. setup_of copy ≡ setup_of config.now) }
-    ensures limits { IfOk result (λ copy. MeetsLimits max_live_frames config.now → MeetsLimits max_live_frames copy) }
+    ensures limits { IfOk result (λ copy. MeetsLimits max_live_frames config.now
+        → MeetsLimits max_live_frames copy) }
 {
     let spaces = config.spaces.clone()?;
     let spares = config.spares.clone()?;
@@ -83,7 +87,8 @@ fn copied(config: &Config) -> Result<Config, AllocError>
 
 fn share(alloc: Global, config: &Config) -> Result<Arc<Config, Global>, AllocError>
     ensures setup { IfOk result (λ shared. setup_of (arc_value shared) ≡ setup_of config.now) }
-    ensures limits { IfOk result (λ shared. MeetsLimits max_live_frames config.now → MeetsLimits max_live_frames (arc_value shared)) }
+    ensures limits { IfOk result (λ shared. MeetsLimits max_live_frames config.now
+        → MeetsLimits max_live_frames (arc_value shared)) }
 {
     let copy = copied(config)?;
     let shared = Arc::new(alloc, copy)?;
@@ -134,10 +139,11 @@ fn with_room(alloc: Global, config: Arc<Config, Global>) -> Result<Board, AllocE
 }
 
 impl Board {
-    /// A port for each hart, in order, and the board that they belong to. `BadLayout` exactly if `Config::check_live` says no,
-    /// `NoMemory` if there is not enough memory.
+    /// A port for each hart, in order, and the board that they belong to. `BadLayout` exactly if
+    /// `Config::check_live` says no, `NoMemory` if there is not enough memory.
     pub fn open(alloc: Global, config: &Config) -> Result<(Board, Vec<HartPort>), OpenFault>
-        ensures bad_layout { (result ≡ Err OpenFault.BadLayout) ↔ (¬ MeetsLimits max_live_frames config.now) }
+        ensures bad_layout { (result ≡ Err OpenFault.BadLayout)
+            ↔ (¬ MeetsLimits max_live_frames config.now) }
         ensures board { IfOk result (λ r. r.0 ≡ setup_of config.now) }
         ensures ports { IfOk result (λ r. ArePorts (setup_of config.now) (map name_of r.1.items)) }
         ensures new { IfOk result (λ r. AreNew r.1.items) }
@@ -154,7 +160,8 @@ impl Board {
         Ok((board, ports))
     }
 
-    /// What became of the requests, once all ports have come back, in the order of the harts. Takes no memory.
+    /// What became of the requests, once all ports have come back, in the order of the harts. Takes
+    /// no memory.
     pub fn close(self, ports: Vec<HartPort>) -> Report
         requires ports { ArePorts self (map name_of ports.items) }
         ensures report { IsReport self.harts ports.items result.pairs.items }

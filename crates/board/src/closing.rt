@@ -1,6 +1,6 @@
 //! What the two ends of each ring carried, once the ports have come back.
 
-ghost use Rattle.std.specs.Prelude.{◌≡◌, ◌≤◌, ◌<◌, ◌*◌, [], ℕ, All, IsTrue, None, is_some, length, map, slice_set, vec_capacity};
+ghost use Rattle.std.specs.Prelude.{◌≡◌, ◌≤◌, ◌<◌, ◌*◌, [], ℕ, All, IfSome, IsSome, IsTrue, None, is_some, length, map, slice_set, vec_capacity};
 ghost use Rattle.board.specs.Ports.{element};
 ghost use Rattle.board.specs.Reports.{pairs_of};
 ghost use Rattle.board.specs.Rows.{AreEnds, AreLinked, IsPairOf, items_at};
@@ -24,42 +24,47 @@ fn take_out<T>(rows: &mut Vec<Vec<Option<T>>>, number: u8, column: u8) -> Option
     requires row { number < length rows.old.items }
     requires column { column < length (items_at rows.old.items number) }
     ensures taken { result ≡ element (items_at rows.old.items number) column }
-    ensures others { (r c : ℕ) → (r ≡ number → c ≡ column → ⊥) → element (items_at rows.new.items r) c ≡ element (items_at rows.old.items r) c }
+    ensures others { (r c : ℕ) → (r ≡ number → c ≡ column → ⊥)
+        → element (items_at rows.new.items r) c ≡ element (items_at rows.old.items r) c }
     ensures count { length rows.new.items ≡ length rows.old.items }
-    ensures counts { (r : ℕ) → length (items_at rows.new.items r) ≡ length (items_at rows.old.items r) }
+    ensures counts { (r : ℕ) → length (items_at rows.new.items r)
+        ≡ length (items_at rows.old.items r) }
 {
     let row = &mut rows[usize::from(number)];
     take_of(row, column)
 }
 
-/// What became of the requests of one hart to another, whose ends are taken out of the rows. All other ends stay.
+/// What became of the requests of one hart to another, whose ends are taken out of the rows. All
+/// other ends stay.
 fn close_pair(
     outboxes: &mut Vec<Vec<Option<Outbox>>>,
     inboxes: &mut Vec<Vec<Option<Receiver>>>,
     sender: u8,
     receiver: u8,
-) -> PairReport
+) -> Option<PairReport>
     requires out_row { sender < length outboxes.old.items }
     requires out_column { receiver < length (items_at outboxes.old.items sender) }
     requires in_row { receiver < length inboxes.old.items }
     requires in_column { sender < length (items_at inboxes.old.items receiver) }
     requires there { IsTrue (is_some (element (items_at outboxes.old.items sender) receiver)) }
     requires linked { AreLinked outboxes.old.items inboxes.old.items sender receiver }
-    ensures pair { (result.sender ≡ sender) × (result.receiver ≡ receiver) }
-    ensures report { IsPairOf outboxes.old.items inboxes.old.items result }
-    ensures outs_kept { (r c : ℕ) → (r ≡ sender → c ≡ receiver → ⊥) → element (items_at outboxes.new.items r) c ≡ element (items_at outboxes.old.items r) c }
-    ensures ins_kept { (r c : ℕ) → (r ≡ receiver → c ≡ sender → ⊥) → element (items_at inboxes.new.items r) c ≡ element (items_at inboxes.old.items r) c }
-    ensures count { (length outboxes.new.items ≡ length outboxes.old.items) × (length inboxes.new.items ≡ length inboxes.old.items) }
-    ensures out_counts { (r : ℕ) → length (items_at outboxes.new.items r) ≡ length (items_at outboxes.old.items r) }
-    ensures in_counts { (r : ℕ) → length (items_at inboxes.new.items r) ≡ length (items_at inboxes.old.items r) }
+    ensures some { IsSome result }
+    ensures pair { IfSome result (λ pair. (pair.sender ≡ sender) × (pair.receiver ≡ receiver)) }
+    ensures report { IfSome result (λ pair. IsPairOf outboxes.old.items inboxes.old.items pair) }
+    ensures outs_kept { (r c : ℕ) → (r ≡ sender → c ≡ receiver → ⊥)
+        → element (items_at outboxes.new.items r) c ≡ element (items_at outboxes.old.items r) c }
+    ensures ins_kept { (r c : ℕ) → (r ≡ receiver → c ≡ sender → ⊥)
+        → element (items_at inboxes.new.items r) c ≡ element (items_at inboxes.old.items r) c }
+    ensures count { (length outboxes.new.items ≡ length outboxes.old.items)
+        × (length inboxes.new.items ≡ length inboxes.old.items) }
+    ensures out_counts { (r : ℕ) → length (items_at outboxes.new.items r)
+        ≡ length (items_at outboxes.old.items r) }
+    ensures in_counts { (r : ℕ) → length (items_at inboxes.new.items r)
+        ≡ length (items_at inboxes.old.items r) }
 {
-    let Some(outbox) = take_out(outboxes, sender, receiver) else {
-        unreachable!()
-    };
-    let Some(inbox) = take_out(inboxes, receiver, sender) else {
-        unreachable!()
-    };
-    inbox.into_report(outbox, sender, receiver)
+    let outbox = take_out(outboxes, sender, receiver)?;
+    let inbox = take_out(inboxes, receiver, sender)?;
+    Some(inbox.into_report(outbox, sender, receiver))
 }
 
 /// What became of the requests of each hart to each other one, by sender and then by receiver.
@@ -80,7 +85,9 @@ pub(crate) fn pair_reports(
             if receiver == sender {
                 continue;
             }
-            let pair = close_pair(&mut outboxes, &mut inboxes, sender, receiver);
+            let Some(pair) = close_pair(&mut outboxes, &mut inboxes, sender, receiver) else {
+                continue;
+            };
             pairs.push_reserved(pair);
         }
     }
@@ -94,9 +101,12 @@ pub(crate) fn gather(
     mut inboxes: Vec<Vec<Option<Receiver>>>,
 ) -> (Vec<Vec<Option<Outbox>>>, Vec<Vec<Option<Receiver>>>)
     requires empty { (outboxes.items ≡ []) × (inboxes.items ≡ []) }
-    requires room { (length ports.items ≤ vec_capacity outboxes) × (length ports.items ≤ vec_capacity inboxes) }
-    ensures outboxes { map (λ row. row.items) result.0.items ≡ map (λ port. port.outboxes) ports.items }
-    ensures inboxes { map (λ row. row.items) result.1.items ≡ map (λ port. port.inboxes) ports.items }
+    requires room { (length ports.items ≤ vec_capacity outboxes)
+        × (length ports.items ≤ vec_capacity inboxes) }
+    ensures outboxes { map (λ row. row.items) result.0.items
+        ≡ map (λ port. port.outboxes) ports.items }
+    ensures inboxes { map (λ row. row.items) result.1.items
+        ≡ map (λ port. port.inboxes) ports.items }
 {
     for port in ports {
         let (outs, ins) = port.into_ends();

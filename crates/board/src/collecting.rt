@@ -33,9 +33,12 @@ fn release_end(outbox: &mut Option<Outbox>)
 #[tactic(auto, using(crate::proofs::Counts::outboxes_kept, crate::proofs::Counts::there_set, crate::proofs::Counts::put_back))]
 fn release_at(outboxes: &mut Vec<Option<Outbox>>, to: u8)
     requires there { to < length outboxes.old.items }
-    requires some { (end : OutboxState) → element outboxes.old.items to ≡ Some end → 0 < end.outstanding }
-    ensures released { outboxes.new.items ≡ slice_set outboxes.old.items to (option_map after_release (element outboxes.old.items to)) }
-    ensures same { map (option_map end_of_outbox) outboxes.new.items ≡ map (option_map end_of_outbox) outboxes.old.items }
+    requires some { (end : OutboxState) → element outboxes.old.items to ≡ Some end
+        → 0 < end.outstanding }
+    ensures released { outboxes.new.items
+        ≡ slice_set outboxes.old.items to (option_map after_release (element outboxes.old.items to)) }
+    ensures same { map (option_map end_of_outbox) outboxes.new.items
+        ≡ map (option_map end_of_outbox) outboxes.old.items }
 {
     let outbox = &mut outboxes[usize::from(to)];
     release_end(outbox);
@@ -45,9 +48,11 @@ impl HartPort {
     /// The request of an open ticket that was posted to another hart, which is not collected.
     fn awaited(&self, ticket: u32, from: u8) -> Option<Request>
         ensures request { IfSome result (λ request. request ≡ request_of self.now.tickets ticket) }
-        ensures what { IfSome result (λ request. what_at self.now.tickets ticket ≡ Some request.what) }
+        ensures what { IfSome result (λ request. what_at self.now.tickets ticket
+            ≡ Some request.what) }
         ensures awaited { IfSome result (λ _. IsTrue (is_awaiting self.now ticket from)) }
-        ensures awaits { IfSome result (λ _. IsTrue (awaits from (ticket_at self.now.tickets ticket))) }
+        ensures awaits { IfSome result (λ _.
+            IsTrue (awaits from (ticket_at self.now.tickets ticket))) }
         ensures other { IfSome result (λ _. from ≢ self.now.hart) }
         ensures there { IfSome result (λ _. from < length self.now.outboxes) }
         ensures spare { IfSome result (λ _. from < length self.now.setup.layout.spares) }
@@ -68,12 +73,16 @@ impl HartPort {
         })
     }
 
-    /// Loads the cell of a hart, if the ticket awaits it. Whether the word of the request is there: then the hart is collected.
+    /// Loads the cell of a hart, if the ticket awaits it. Whether the word of the request is there:
+    /// then the hart is collected.
     fn look(&mut self, ticket: u32, from: u8) -> bool
-        ensures open { IsTrue (is_open self.old.tickets ticket) → IsTrue (is_open self.new.tickets ticket) }
+        ensures open { IsTrue (is_open self.old.tickets ticket)
+            → IsTrue (is_open self.new.tickets ticket) }
         ensures idle { is_awaiting self.old ticket from ≡ false → self.new ≡ self.old }
-        ensures found { is_awaiting self.old ticket from ≡ true → result ≡ (last_word self.new.view.cell_steps == awaited_word self.old ticket) }
-        ensures after { is_awaiting self.old ticket from ≡ true → self.new ≡ after_look self.old ticket from result (last_word self.new.view.cell_steps) }
+        ensures found { is_awaiting self.old ticket from ≡ true
+            → result ≡ (last_word self.new.view.cell_steps == awaited_word self.old ticket) }
+        ensures after { is_awaiting self.old ticket from ≡ true
+            → self.new ≡ after_look self.old ticket from result (last_word self.new.view.cell_steps) }
         ensures same { name_of self.new ≡ name_of self.old }
     {
         let Some(request) = self.awaited(ticket, from) else {
@@ -97,7 +106,8 @@ impl HartPort {
         true
     }
 
-    /// How far an open ticket is. It is done exactly if each hart that it names is collected in the view.
+    /// How far an open ticket is. It is done exactly if each hart that it names is collected in the
+    /// view.
     pub(crate) fn progress(&self, ticket: u32) -> Collected
         requires { IsTrue (is_open self.now.tickets ticket) }
         ensures progress { result ≡ progress_at self.now.tickets ticket }
@@ -106,21 +116,27 @@ impl HartPort {
         self.tickets.progress(ticket)
     }
 
-    /// Each entry of the TLB is one that the hart's view holds. Nothing is done: the clause is the fact.
+    /// Each entry of the TLB is one that the hart's view holds. Nothing is done: the clause is the
+    /// fact.
     pub fn held(&self)
         ensures { IsWithin self.now.tlb.entries self.now.view.entries }
     {
         let _ = &self.tlb;
     }
 
-    /// Looks at the cell of each other hart that an open ticket was posted to and that is not collected, the lowest first, with
-    /// one load each. A hart is collected exactly if the word of the request is found, and then its mailbox has room for one
-    /// more. How far the ticket is then: it is done exactly if each named hart is collected in the view.
+    /// Looks at the cell of each other hart that an open ticket was posted to and that is not
+    /// collected, the lowest first, with one load each. A hart is collected exactly if the word of
+    /// the request is found, and then its mailbox has room for one more. How far the ticket is
+    /// then: it is done exactly if each named hart is collected in the view.
     pub fn collect(&mut self, ticket: u32) -> Result<Collected, Refusal>
-        ensures not_open { is_open self.old.tickets ticket ≡ false → (result ≡ Err Refusal.NotOpen) × (self.new ≡ self.old) }
-        ensures answer { is_open self.old.tickets ticket ≡ true → result ≡ Ok (progress_at self.new.tickets ticket) }
-        ensures after { is_open self.old.tickets ticket ≡ true → IsCollected self.old ticket self.old.setup.harts self.new }
-        ensures done { is_open self.old.tickets ticket ≡ true → (result ≡ Ok collected.Done) ↔ AreAllCollected self.new ticket }
+        ensures not_open { is_open self.old.tickets ticket ≡ false
+            → (result ≡ Err Refusal.NotOpen) × (self.new ≡ self.old) }
+        ensures answer { is_open self.old.tickets ticket ≡ true
+            → result ≡ Ok (progress_at self.new.tickets ticket) }
+        ensures after { is_open self.old.tickets ticket ≡ true
+            → IsCollected self.old ticket self.old.setup.harts self.new }
+        ensures done { is_open self.old.tickets ticket ≡ true
+            → (result ≡ Ok collected.Done) ↔ AreAllCollected self.new ticket }
         ensures same { name_of self.new ≡ name_of self.old }
     {
         if !self.tickets.is_open(ticket) {

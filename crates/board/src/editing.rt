@@ -109,8 +109,9 @@ impl HartPort {
         store(&memory.shared, seat, config, used, edit, wish, 0);
     }
 
-    /// Makes the one store that is due next to map a page to a PPN: a pointer to a new table, after which the same step is due
-    /// again, or the leaf. Refused with `NoSpace`, else as `spaces::next_map_edit`, nothing is stored.
+    /// Makes the one store that is due next to map a page to a PPN: a pointer to a new table, after
+    /// which the same step is due again, or the leaf. Refused with `NoSpace`, else as
+    /// `spaces::next_map_edit`, nothing is stored.
     pub fn map_step(
         &mut self,
         place: Place,
@@ -148,9 +149,9 @@ impl HartPort {
         ensures after { self.new ≡ after_edit self.old wish.now named }
         ensures same { name_of self.new ≡ name_of self.old }
     {
-        if !self.are_harts(named) {
+        let Some(harts) = self.named_harts(named) else {
             return Err(Refusal::NoHart);
-        }
+        };
         if !self.has(place) {
             return Err(Refusal::NoSpace);
         }
@@ -167,7 +168,7 @@ impl HartPort {
             tickets,
             ..
         } = self;
-        let ticket = match tickets.open(what, named) {
+        let ticket = match tickets.open_for(what, &harts) {
             Ok(ticket) => ticket,
             Err(TicketFault::HomeNotNamed) => return Err(Refusal::HomeNotNamed),
             Err(TicketFault::NoTicket) => return Err(Refusal::NoTicket),
@@ -176,8 +177,9 @@ impl HartPort {
         Ok(ticket)
     }
 
-    /// Stores 0 on the leaf of a page, and opens a ticket for the page. Bit h of `named` stands for hart h. Refused with
-    /// `NoHart` or `NoSpace`, else as `spaces::unmap_edit`, else with `HomeNotNamed` or `NoTicket`, nothing is stored.
+    /// Stores 0 on the leaf of a page, and opens a ticket for the page. Bit h of `named` stands for
+    /// hart h. Refused with `NoHart` or `NoSpace`, else as `spaces::unmap_edit`, else with
+    /// `HomeNotNamed` or `NoTicket`, nothing is stored.
     pub fn unmap(&mut self, place: Place, page: Page, named: u8) -> Result<u32, Refusal>
         ensures answer { result ≡ edit_answer self.old (wish.Unmap place page) named }
         ensures after { self.new ≡ after_edit self.old (wish.Unmap place page) named }
@@ -187,8 +189,9 @@ impl HartPort {
         self.edit(&wish, place, page, named)
     }
 
-    /// Stores other flags on the leaf of a page, and opens a ticket for the page. Bit h of `named` stands for hart h. Refused
-    /// with `NoHart` or `NoSpace`, else as `spaces::protect_edit`, else with `HomeNotNamed` or `NoTicket`, nothing is stored.
+    /// Stores other flags on the leaf of a page, and opens a ticket for the page. Bit h of `named`
+    /// stands for hart h. Refused with `NoHart` or `NoSpace`, else as `spaces::protect_edit`, else
+    /// with `HomeNotNamed` or `NoTicket`, nothing is stored.
     pub fn protect(
         &mut self,
         place: Place,

@@ -1,5 +1,6 @@
-//! Harts that are threads and share no lock: a port for each hart, with which it edits and walks shared
-//! tables, posts requests to other harts, serves theirs, and collects what they acknowledged.
+//! Harts that are threads and share no lock: a port for each hart, with which it edits and walks
+//! shared tables, posts requests to other harts, serves theirs, and collects what they
+//! acknowledged.
 #![tactic(auto)]
 
 mod board;

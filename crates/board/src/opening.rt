@@ -20,8 +20,12 @@ fn ends_between(
     requires some { 1 ≤ capacity }
     requires bounded { capacity ≤ MAX_CAPACITY }
     ensures linked { IfOk result (λ e. option_map end_of_outbox e.0 ≡ option_map end_of_inbox e.1) }
-    ensures outbox { IfOk result (λ e. (capacity_of (option_map end_of_outbox e.0) ≡ capacity_between capacity sender receiver) × (e.0 ≡ option_map new_outbox_of (option_map end_of_outbox e.0))) }
-    ensures inbox { IfOk result (λ e. (capacity_of (option_map end_of_inbox e.1) ≡ capacity_between capacity receiver sender) × (e.1 ≡ option_map new_inbox_of (option_map end_of_inbox e.1))) }
+    ensures outbox { IfOk result (λ e.
+        (capacity_of (option_map end_of_outbox e.0) ≡ capacity_between capacity sender receiver)
+        × (e.0 ≡ option_map new_outbox_of (option_map end_of_outbox e.0))) }
+    ensures inbox { IfOk result (λ e.
+        (capacity_of (option_map end_of_inbox e.1) ≡ capacity_between capacity receiver sender)
+        × (e.1 ≡ option_map new_inbox_of (option_map end_of_inbox e.1))) }
 {
     if receiver == sender {
         return Ok((None, None));
@@ -38,8 +42,10 @@ fn push_at(
     end: Option<Receiver>,
 ) -> Result<(), AllocError>
     requires { number < length rows.old.items }
-    ensures own { OnOk result (items_at rows.new.items number ≡ items_at rows.old.items number ++ end ∷ []) }
-    ensures others { OnOk result ((other : ℕ) → other ≢ number → items_at rows.new.items other ≡ items_at rows.old.items other) }
+    ensures own { OnOk result (items_at rows.new.items number
+        ≡ items_at rows.old.items number ++ end ∷ []) }
+    ensures others { OnOk result ((other : ℕ) → other ≢ number
+        → items_at rows.new.items other ≡ items_at rows.old.items other) }
     ensures count { OnOk result (length rows.new.items ≡ length rows.old.items) }
 {
     let row = &mut rows[number];
@@ -58,12 +64,18 @@ fn open_row(
     requires harts { length inboxes.old.items ≡ harts }
     requires some { 1 ≤ capacity }
     requires bounded { capacity ≤ MAX_CAPACITY }
-    requires rows { (hart : ℕ) → hart < harts → IsInRow capacity hart sender (items_at inboxes.old.items hart) }
+    requires rows { (hart : ℕ) → hart < harts
+        → IsInRow capacity hart sender (items_at inboxes.old.items hart) }
     ensures count { OnOk result (length inboxes.new.items ≡ harts) }
     ensures own { IfOk result (λ row. IsOutRow capacity sender harts row.items) }
-    ensures rows { OnOk result ((hart : ℕ) → hart < harts → IsInRow capacity hart (sender + 1) (items_at inboxes.new.items hart)) }
-    ensures kept { OnOk result ((hart number : ℕ) → hart < harts → number < sender → element (items_at inboxes.new.items hart) number ≡ element (items_at inboxes.old.items hart) number) }
-    ensures linked { IfOk result (λ row. (hart : ℕ) → hart < harts → option_map end_of_outbox (element row.items hart) ≡ option_map end_of_inbox (element (items_at inboxes.new.items hart) sender)) }
+    ensures rows { OnOk result ((hart : ℕ) → hart < harts
+        → IsInRow capacity hart (sender + 1) (items_at inboxes.new.items hart)) }
+    ensures kept { OnOk result ((hart number : ℕ) → hart < harts → number < sender
+        → element (items_at inboxes.new.items hart) number
+        ≡ element (items_at inboxes.old.items hart) number) }
+    ensures linked { IfOk result (λ row. (hart : ℕ) → hart < harts
+        → option_map end_of_outbox (element row.items hart)
+        ≡ option_map end_of_inbox (element (items_at inboxes.new.items hart) sender)) }
 {
     let mut row = Vec::new(alloc);
     for receiver in 0..harts {
@@ -86,7 +98,8 @@ fn empty_rows(alloc: Global, harts: usize) -> Result<Vec<Vec<Option<Receiver>>>,
     Ok(rows)
 }
 
-/// A ring from each hart to each other one: by sender the ends that post, and by receiver the ends that take.
+/// A ring from each hart to each other one: by sender the ends that post, and by receiver the ends
+/// that take.
 pub(crate) fn open_rows(
     alloc: Global,
     capacity: usize,

@@ -14,7 +14,7 @@ use arrayvec::ArrayVec;
 use history::{Refusal, Scope};
 use pte::What;
 use rings::Outbox;
-use shoot::{Collected, NotDone, PostFault, Request, TicketFault, Tickets};
+use shoot::{Collected, HartSet, NotDone, PostFault, Request, TicketFault, Tickets};
 use spaces::Config;
 use std::alloc::Global;
 use std::marker::Model;
@@ -49,12 +49,29 @@ impl Model for HartPort {
 
     ghost Value = { PortState };
 
-    ghost view = { λ p. record { setup = setup_of (arc_value p.config); hart = p.hart; space = p.space; view = p.seat.me.0; tickets = p.tickets; tlb = p.tlb; outboxes = p.outboxes.items; inboxes = p.inboxes.items } };
+    ghost view = { λ p. record {
+      setup = setup_of (arc_value p.config);
+      hart = p.hart;
+      space = p.space;
+      view = p.seat.me.0;
+      tickets = p.tickets;
+      tlb = p.tlb;
+      outboxes = p.outboxes.items;
+      inboxes = p.inboxes.items;
+    } };
 
-    ghost invariant = { λ p. MeetsLimits max_live_frames (arc_value p.config) × (p.tickets.hart ≡ p.hart)
-        × IsPort (record { setup = setup_of (arc_value p.config); hart = p.hart; outs = map (option_map end_of_outbox) p.outboxes.items; ins = map (option_map end_of_inbox) p.inboxes.items })
-        × IsSeated (arc_value p.memory).shared.table_id (arc_value p.memory).shared.key (arc_value p.config) p.seat p.hart p.space p.used
-        × AreTied (arc_value p.config) p.seat.me.0.orders p.tickets × AreCounted p.tickets p.outboxes.items × IsWithin p.tlb.entries p.seat.me.0.entries };
+    ghost invariant = { λ p. MeetsLimits max_live_frames (arc_value p.config)
+        × (p.tickets.hart ≡ p.hart)
+        × IsPort (record {
+          setup = setup_of (arc_value p.config);
+          hart = p.hart;
+          outs = map (option_map end_of_outbox) p.outboxes.items;
+          ins = map (option_map end_of_inbox) p.inboxes.items;
+        })
+        × IsSeated (arc_value p.memory).shared.table_id (arc_value p.memory).shared.key
+        (arc_value p.config) p.seat p.hart p.space p.used
+        × AreTied (arc_value p.config) p.seat.me.0.orders p.tickets
+        × AreCounted p.tickets p.outboxes.items × IsWithin p.tlb.entries p.seat.me.0.entries };
 }
 
 /// The request of a ticket whose number is below 64.
@@ -70,9 +87,12 @@ fn request(ticket: u32, what: &What) -> Request
 
 /// Posts to an end, if it is there.
 fn post_to(outbox: &mut Option<Outbox>, request: Request) -> Result<(), Refusal>
-    ensures refused { (refusal : Refusal) → outbox_refusal outbox.old ≡ Some refusal → result ≡ Err refusal }
-    ensures full { outbox_refusal outbox.old ≡ None → IfErr result (λ refusal. (refusal ≡ Refusal.Full) × (known_room outbox.old ≡ 0)) }
-    ensures accepted { OnOk result (outbox.new ≡ outbox_with request (known_room outbox.new) outbox.old) }
+    ensures refused { (refusal : Refusal) → outbox_refusal outbox.old ≡ Some refusal
+        → result ≡ Err refusal }
+    ensures full { outbox_refusal outbox.old ≡ None
+        → IfErr result (λ refusal. (refusal ≡ Refusal.Full) × (known_room outbox.old ≡ 0)) }
+    ensures accepted { OnOk result (outbox.new
+        ≡ outbox_with request (known_room outbox.new) outbox.old) }
     ensures unchanged { OnErr result (outbox.new ≡ outbox.old) }
     ensures same { option_map end_of_outbox outbox.new ≡ option_map end_of_outbox outbox.old }
 {
@@ -88,8 +108,10 @@ fn post_to(outbox: &mut Option<Outbox>, request: Request) -> Result<(), Refusal>
 
 /// Takes from an end, if it is there.
 fn take_from(inbox: &mut Option<Receiver>) -> Option<Request>
-    ensures taken { IfSome result (λ request. inbox.new ≡ inbox_with request (known_waiting inbox.new) inbox.old) }
-    ensures oldest { IfSome result (λ request. IsPrefix (known_waiting inbox.old) (request ∷ known_waiting inbox.new)) }
+    ensures taken { IfSome result (λ request. inbox.new
+        ≡ inbox_with request (known_waiting inbox.new) inbox.old) }
+    ensures oldest { IfSome result (λ request. IsPrefix (known_waiting inbox.old)
+        (request ∷ known_waiting inbox.new)) }
     ensures none { IfNone result ((known_waiting inbox.old ≡ []) × (inbox.new ≡ inbox.old)) }
     ensures same { option_map end_of_inbox inbox.new ≡ option_map end_of_inbox inbox.old }
 {
@@ -123,11 +145,18 @@ fn is_closed(outbox: &Option<Outbox>) -> bool
 #[tactic(auto, using(crate::proofs::Counts::outboxes_kept, crate::proofs::Counts::there_set, crate::proofs::Counts::put_back))]
 fn post_at(outboxes: &mut Vec<Option<Outbox>>, to: u8, request: Request) -> Result<(), Refusal>
     requires { to < length outboxes.old.items }
-    ensures refused { (refusal : Refusal) → outbox_refusal (element outboxes.old.items to) ≡ Some refusal → result ≡ Err refusal }
-    ensures full { outbox_refusal (element outboxes.old.items to) ≡ None → IfErr result (λ refusal. (refusal ≡ Refusal.Full) × (known_room (element outboxes.old.items to) ≡ 0)) }
-    ensures accepted { OnOk result (outboxes.new.items ≡ slice_set outboxes.old.items to (outbox_with request (known_room (element outboxes.new.items to)) (element outboxes.old.items to))) }
+    ensures refused { (refusal : Refusal)
+        → outbox_refusal (element outboxes.old.items to) ≡ Some refusal → result ≡ Err refusal }
+    ensures full { outbox_refusal (element outboxes.old.items to) ≡ None
+        → IfErr result (λ refusal. (refusal ≡ Refusal.Full)
+        × (known_room (element outboxes.old.items to) ≡ 0)) }
+    ensures accepted { OnOk result (outboxes.new.items
+        ≡ slice_set outboxes.old.items to
+        (outbox_with request (known_room (element outboxes.new.items to))
+        (element outboxes.old.items to))) }
     ensures unchanged { OnErr result (outboxes.new.items ≡ outboxes.old.items) }
-    ensures same { map (option_map end_of_outbox) outboxes.new.items ≡ map (option_map end_of_outbox) outboxes.old.items }
+    ensures same { map (option_map end_of_outbox) outboxes.new.items
+        ≡ map (option_map end_of_outbox) outboxes.old.items }
 {
     let outbox = &mut outboxes[usize::from(to)];
     post_to(outbox, request)
@@ -160,11 +189,17 @@ fn refusal_at(outboxes: &Vec<Option<Outbox>>, to: u8) -> Option<Refusal>
 #[tactic(auto, using(crate::proofs::Counts::inboxes_kept, crate::proofs::Counts::there_set, crate::proofs::Counts::put_back))]
 fn take_at(inboxes: &mut Vec<Option<Receiver>>, from: u8) -> Option<Request>
     requires { from < length inboxes.old.items }
-    ensures taken { IfSome result (λ request. inboxes.new.items ≡ slice_set inboxes.old.items from (inbox_with request (known_waiting (element inboxes.new.items from)) (element inboxes.old.items from))) }
-    ensures oldest { IfSome result (λ request. IsPrefix (known_waiting (element inboxes.old.items from)) (request ∷ known_waiting (element inboxes.new.items from))) }
+    ensures taken { IfSome result (λ request. inboxes.new.items
+        ≡ slice_set inboxes.old.items from
+        (inbox_with request (known_waiting (element inboxes.new.items from))
+        (element inboxes.old.items from))) }
+    ensures oldest { IfSome result (λ request.
+        IsPrefix (known_waiting (element inboxes.old.items from))
+        (request ∷ known_waiting (element inboxes.new.items from))) }
     ensures none { IfNone result (known_waiting (element inboxes.old.items from) ≡ []) }
     ensures unchanged { IfNone result (inboxes.new.items ≡ inboxes.old.items) }
-    ensures same { map (option_map end_of_inbox) inboxes.new.items ≡ map (option_map end_of_inbox) inboxes.old.items }
+    ensures same { map (option_map end_of_inbox) inboxes.new.items
+        ≡ map (option_map end_of_inbox) inboxes.old.items }
 {
     let inbox = &mut inboxes[usize::from(from)];
     take_from(inbox)
@@ -174,8 +209,10 @@ fn take_at(inboxes: &mut Vec<Option<Receiver>>, from: u8) -> Option<Request>
 #[tactic(auto, using(crate::proofs::Counts::outboxes_kept, crate::proofs::Counts::there_set, crate::proofs::Counts::put_back))]
 fn close_at(outboxes: &mut Vec<Option<Outbox>>, to: u8)
     requires { to < length outboxes.old.items }
-    ensures closed { outboxes.new.items ≡ slice_set outboxes.old.items to (option_map after_close (element outboxes.old.items to)) }
-    ensures same { map (option_map end_of_outbox) outboxes.new.items ≡ map (option_map end_of_outbox) outboxes.old.items }
+    ensures closed { outboxes.new.items
+        ≡ slice_set outboxes.old.items to (option_map after_close (element outboxes.old.items to)) }
+    ensures same { map (option_map end_of_outbox) outboxes.new.items
+        ≡ map (option_map end_of_outbox) outboxes.old.items }
 {
     let outbox = &mut outboxes[usize::from(to)];
     close_end(outbox);
@@ -205,6 +242,7 @@ fn acknowledge_own(tickets: &mut Tickets, ticket: u32, hart: u8)
 impl HartPort {
     ghost use Rattle.history.specs.Due.{are_harts, are_pair};
     ghost use Rattle.history.specs.Orders.{scope_request};
+    ghost use Rattle.shoot.specs.HartSet.{harts_in};
     ghost use Rattle.shoot.specs.Tickets.{is_posted, names};
     ghost use Rattle.std.specs.Arc.{arc_value};
     ghost use Rattle.spaces.specs.Limits.{max_live_frames, MeetsLimits};
@@ -227,9 +265,12 @@ impl HartPort {
     ) -> HartPort
         requires limits { MeetsLimits max_live_frames (arc_value config) }
         requires hart { hart < (arc_value config).harts }
-        requires seat { IsNewSeat (arc_value memory).shared.table_id (arc_value memory).shared.key (arc_value config) hart seat }
-        requires outboxes { IsOutRow (arc_value config).capacity hart (arc_value config).harts outboxes.items }
-        requires inboxes { IsInRow (arc_value config).capacity hart (arc_value config).harts inboxes.items }
+        requires seat { IsNewSeat (arc_value memory).shared.table_id (arc_value memory).shared.key
+            (arc_value config) hart seat }
+        requires outboxes { IsOutRow (arc_value config).capacity hart (arc_value config).harts
+            outboxes.items }
+        requires inboxes { IsInRow (arc_value config).capacity hart (arc_value config).harts
+            inboxes.items }
         ensures setup { result.setup ≡ setup_of (arc_value config) }
         ensures hart { result.hart ≡ hart }
         ensures ends { (result.outboxes ≡ outboxes.items) × (result.inboxes ≡ inboxes.items) }
@@ -288,7 +329,8 @@ impl HartPort {
 
     /// What a flush of a scope asks harts to drop.
     fn what(&self, scope: Scope) -> Option<What>
-        ensures some { IfSome result (λ what. IsTrue (is_there self.now.setup scope) × (what ≡ scope_request self.now.setup [] scope)) }
+        ensures some { IfSome result (λ what. IsTrue (is_there self.now.setup scope)
+            × (what ≡ scope_request self.now.setup [] scope)) }
         ensures none { IfNone result (is_there self.now.setup scope ≡ false) }
     {
         match scope {
@@ -300,11 +342,17 @@ impl HartPort {
         }
     }
 
-    /// Whether each member of the set is a hart that is there: bit h stands for hart h.
-    pub(crate) fn are_harts(&self, named: u8) -> bool
-        ensures { result ≡ are_harts self.now.setup named }
+    /// The harts of a byte, in which bit h stands for hart h, if all of them are there.
+    pub(crate) fn named_harts(&self, named: u8) -> Option<HartSet>
+        ensures some { IfSome result (λ set.
+            IsTrue (are_harts self.now.setup named) × (set ≡ harts_in named)) }
+        ensures none { IfNone result (are_harts self.now.setup named ≡ false) }
     {
-        u16::from(named) < 1 << self.config.harts
+        if u16::from(named) < 1 << self.config.harts {
+            Some(HartSet::from(named))
+        } else {
+            None
+        }
     }
 
     /// Opens a ticket for a space or for everything. Bit h of `named` stands for hart h.
@@ -313,9 +361,9 @@ impl HartPort {
         ensures after { self.new ≡ after_flush self.old scope named }
         ensures same { name_of self.new ≡ name_of self.old }
     {
-        if !self.are_harts(named) {
+        let Some(harts) = self.named_harts(named) else {
             return Err(Refusal::NoHart);
-        }
+        };
         let Some(what) = self.what(scope) else {
             return Err(Refusal::NoSpace);
         };
@@ -327,7 +375,7 @@ impl HartPort {
             tickets,
             ..
         } = self;
-        let ticket = match tickets.open(what, named) {
+        let ticket = match tickets.open_for(what, &harts) {
             Ok(ticket) => ticket,
             Err(TicketFault::HomeNotNamed) => return Err(Refusal::HomeNotNamed),
             Err(TicketFault::NoTicket) => return Err(Refusal::NoTicket),
@@ -352,12 +400,13 @@ impl HartPort {
         }
     }
 
-    /// Serves an own ticket's request on the own TLB, and counts as collected. How far the ticket is then: it is done exactly if
-    /// each named hart is collected in the view.
+    /// Serves an own ticket's request on the own TLB, and counts as collected. How far the ticket
+    /// is then: it is done exactly if each named hart is collected in the view.
     pub fn ack_self(&mut self, ticket: u32) -> Result<Collected, Refusal>
         ensures answer { result ≡ ack_self_answer self.old ticket }
         ensures after { self.new ≡ after_ack_self self.old ticket }
-        ensures done { is_open self.old.tickets ticket ≡ true → (result ≡ Ok collected.Done) ↔ AreAllCollected self.new ticket }
+        ensures done { is_open self.old.tickets ticket ≡ true
+            → (result ≡ Ok collected.Done) ↔ AreAllCollected self.new ticket }
         ensures same { name_of self.new ≡ name_of self.old }
     {
         if !self.tickets.is_open(ticket) {
@@ -383,8 +432,10 @@ impl HartPort {
 
     /// The request of an open ticket for another hart, to whom it was not posted yet.
     fn request_to(&self, ticket: u32, to: u8) -> Result<Request, Refusal>
-        ensures refused { IfErr result (λ refusal. ticket_refusal self.now ticket to ≡ Some refusal) }
-        ensures request { ticket_refusal self.now ticket to ≡ None → result ≡ Ok (request_of self.now.tickets ticket) }
+        ensures refused { IfErr result (λ refusal. ticket_refusal self.now ticket to
+            ≡ Some refusal) }
+        ensures request { ticket_refusal self.now ticket to ≡ None
+            → result ≡ Ok (request_of self.now.tickets ticket) }
         ensures allowed { OnOk result (ticket_refusal self.now ticket to ≡ None) }
         ensures names { OnOk result (IsTrue (names self.now.tickets ticket to)) }
         ensures there { OnOk result (to < length self.now.outboxes) }
@@ -410,13 +461,18 @@ impl HartPort {
         })
     }
 
-    /// Arms the cell of another hart that an open ticket names, and then posts the ticket's request to it. `Full` also where the
-    /// ring between the harts has no place that this end knows to be free; then the cell is armed nonetheless.
+    /// Arms the cell of another hart that an open ticket names, and then posts the ticket's request
+    /// to it. `Full` also where the ring between the harts has no place that this end knows to be
+    /// free; then the cell is armed nonetheless.
     #[tactic(auto, using(crate::proofs::Counts::outboxes_kept))]
     pub fn post(&mut self, ticket: u32, to: u8) -> Result<(), Refusal>
-        ensures refused { (refusal : Refusal) → post_refusal self.old ticket to ≡ Some refusal → result ≡ Err refusal }
-        ensures full { post_refusal self.old ticket to ≡ None → IfErr result (λ refusal. (refusal ≡ Refusal.Full) × (known_room (outbox_to self.old to) ≡ 0)) }
-        ensures accepted { OnOk result (self.new ≡ after_post self.old ticket to (known_room (outbox_to self.new to))) }
+        ensures refused { (refusal : Refusal) → post_refusal self.old ticket to ≡ Some refusal
+            → result ≡ Err refusal }
+        ensures full { post_refusal self.old ticket to ≡ None
+            → IfErr result (λ refusal. (refusal ≡ Refusal.Full)
+            × (known_room (outbox_to self.old to) ≡ 0)) }
+        ensures accepted { OnOk result (self.new
+            ≡ after_post self.old ticket to (known_room (outbox_to self.new to))) }
         ensures unchanged { OnErr result (self.new ≡ after_no_post self.old ticket to) }
         ensures same { name_of self.new ≡ name_of self.old }
     {
@@ -439,14 +495,20 @@ impl HartPort {
         Ok(())
     }
 
-    /// Takes the oldest request of another hart that came through, drops what it names from the own TLB, and then stores the
-    /// acknowledgement. `Empty` only where this end knew of no request that waits.
+    /// Takes the oldest request of another hart that came through, drops what it names from the own
+    /// TLB, and then stores the acknowledgement. `Empty` only where this end knew of no request
+    /// that waits.
     #[tactic(auto, using(crate::proofs::Counts::inboxes_kept))]
     pub fn serve(&mut self, from: u8) -> Result<Request, Refusal>
-        ensures no_hart { are_pair self.old.setup self.old.hart from ≡ false → result ≡ Err Refusal.NoHart }
-        ensures empty { are_pair self.old.setup self.old.hart from ≡ true → IfErr result (λ refusal. (refusal ≡ Refusal.Empty) × (known_waiting (inbox_from self.old from) ≡ [])) }
-        ensures taken { IfOk result (λ request. self.new ≡ after_serve self.old from request (known_waiting (inbox_from self.new from))) }
-        ensures oldest { IfOk result (λ request. IsPrefix (known_waiting (inbox_from self.old from)) (request ∷ known_waiting (inbox_from self.new from))) }
+        ensures no_hart { are_pair self.old.setup self.old.hart from ≡ false
+            → result ≡ Err Refusal.NoHart }
+        ensures empty { are_pair self.old.setup self.old.hart from ≡ true
+            → IfErr result (λ refusal. (refusal ≡ Refusal.Empty)
+            × (known_waiting (inbox_from self.old from) ≡ [])) }
+        ensures taken { IfOk result (λ request. self.new
+            ≡ after_serve self.old from request (known_waiting (inbox_from self.new from))) }
+        ensures oldest { IfOk result (λ request. IsPrefix (known_waiting (inbox_from self.old from))
+            (request ∷ known_waiting (inbox_from self.new from))) }
         ensures unchanged { OnErr result (self.new ≡ self.old) }
         ensures same { name_of self.new ≡ name_of self.old }
     {

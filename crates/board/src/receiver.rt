@@ -43,8 +43,10 @@ impl Receiver {
 
     /// Takes the oldest request that came through.
     pub(crate) fn take(&mut self) -> Option<Request>
-        ensures some { IfSome result (λ request. self.new ≡ with_taken self.old request self.new.known) }
-        ensures oldest { IfSome result (λ request. IsPrefix self.old.known (request ∷ self.new.known)) }
+        ensures some { IfSome result (λ request. self.new
+            ≡ with_taken self.old request self.new.known) }
+        ensures oldest { IfSome result (λ request.
+            IsPrefix self.old.known (request ∷ self.new.known)) }
         ensures none { IfNone result ((self.old.known ≡ []) × (self.new ≡ self.old)) }
     {
         self.inbox.take()
@@ -55,7 +57,8 @@ impl Receiver {
         requires { outbox.ring ≡ self.ring }
         ensures pair { (result.sender ≡ sender) × (result.receiver ≡ receiver) }
         ensures order { outbox.accepted ≡ self.taken ++ result.waiting.items }
-        ensures counts { (result.accepted ≡ count_of outbox.accepted) × (result.taken ≡ count_of self.taken) }
+        ensures counts { (result.accepted ≡ count_of outbox.accepted)
+            × (result.taken ≡ count_of self.taken) }
     {
         let Receiver {
             mut inbox,

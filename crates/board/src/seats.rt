@@ -22,7 +22,8 @@ fn deal_seats(
     requires fit { IsFit words.now.table_id words.now.key config.now first }
     requires first { first.me.0 ≡ first_view config.now }
     ensures count { IfOk result (λ seats. length seats.items ≡ config.now.harts) }
-    ensures seats { IfOk result (λ seats. AreSeats words.now.table_id words.now.key config.now 0 seats.items) }
+    ensures seats { IfOk result (λ seats.
+        AreSeats words.now.table_id words.now.key config.now 0 seats.items) }
 {
     let mut seats = Vec::new(alloc);
     for _hart in 1..config.harts {
@@ -40,7 +41,8 @@ pub(crate) fn open_seats(
 ) -> Result<(Arc<Memory, Global>, Vec<Seat>), AllocError>
     requires { MeetsLimits max_live_frames config.now }
     ensures count { IfOk result (λ t. length t.1.items ≡ config.now.harts) }
-    ensures seats { IfOk result (λ t. AreSeats (arc_value t.0).shared.table_id (arc_value t.0).shared.key config.now 0 t.1.items) }
+    ensures seats { IfOk result (λ t.
+        AreSeats (arc_value t.0).shared.table_id (arc_value t.0).shared.key config.now 0 t.1.items) }
 {
     let (memory, first) = open(alloc, config)?;
     let seats = deal_seats(alloc, &memory.shared, first, config)?;

@@ -36,18 +36,20 @@ fn walk_words(
     requires root { IsRoot (layout_of config.now) root }
     requires canonical { IsCanonical config.now.scheme va }
     ensures fit { IsFit words.now.table_id words.now.key config.now seat.new }
-    ensures loads { AnswersByLoads (layout_of config.now) seat.old.me.0 root va access ctx result seat.new.me.0 }
+    ensures loads { AnswersByLoads (layout_of config.now) seat.old.me.0 root va access ctx result
+        seat.new.me.0 }
     ensures hart { seat.new.me.0.hart ≡ seat.old.me.0.hart }
     ensures used { seat.new.me.0.used ≡ seat.old.me.0.used }
     ensures orders { seat.new.me.0.orders ≡ seat.old.me.0.orders }
-    ensures entries { seat.new.me.0.entries ≡ with_found (asid_at seat.old.me.0.config root) seat.old.me.0.entries result }
+    ensures entries { seat.new.me.0.entries
+        ≡ with_found (asid_at seat.old.me.0.config root) seat.old.me.0.entries result }
 {
     walk(words, seat, config, root, va, access, ctx)
 }
 
 impl HartPort {
-    /// Goes to another space, as a write of satp does (privileged manual 4.1.11). The TLB stays. Refused with `NoSpace` if the
-    /// space is not there.
+    /// Goes to another space, as a write of satp does (privileged manual 4.1.11). The TLB stays.
+    /// Refused with `NoSpace` if the space is not there.
     pub fn switch(&mut self, space: u8) -> Result<(), Refusal>
         ensures answer { result ≡ switch_answer self.old space }
         ensures after { self.new ≡ after_switch self.old space }
@@ -93,14 +95,20 @@ impl HartPort {
         Ok(found.pa)
     }
 
-    /// The physical address of a virtual one in the hart's space, or the exception that the access raises. The oldest entry of
-    /// the TLB that matches answers by its flags alone; without one a walk does, by the words that its own loads find in the
-    /// shared tables, and what it finds is filled in. Other harts may store between the loads.
+    /// The physical address of a virtual one in the hart's space, or the exception that the access
+    /// raises. The oldest entry of the TLB that matches answers by its flags alone; without one a
+    /// walk does, by the words that its own loads find in the shared tables, and what it finds is
+    /// filled in. Other harts may store between the loads.
     #[inline(always)]
     pub fn translate(&mut self, va: u64, access: Access, ctx: Ctx) -> Result<u64, Trap>
-        ensures not_canonical { (¬ IsCanonical self.old.setup.layout.scheme va) → (result ≡ Err (page_trap access Why.NotCanonical)) × (self.new ≡ self.old) }
-        ensures hit { (entry : EntryOf) → IsCanonical self.old.setup.layout.scheme va → first_match self.old.tlb.entries (own_asid self.old) va ≡ Some entry → (result ≡ answer_of entry va access ctx) × (self.new ≡ self.old) }
-        ensures miss { IsCanonical self.old.setup.layout.scheme va → first_match self.old.tlb.entries (own_asid self.old) va ≡ None → IsMissed self.old va access ctx result self.new }
+        ensures not_canonical { (¬ IsCanonical self.old.setup.layout.scheme va)
+            → (result ≡ Err (page_trap access Why.NotCanonical)) × (self.new ≡ self.old) }
+        ensures hit { (entry : EntryOf) → IsCanonical self.old.setup.layout.scheme va
+            → first_match self.old.tlb.entries (own_asid self.old) va ≡ Some entry
+            → (result ≡ answer_of entry va access ctx) × (self.new ≡ self.old) }
+        ensures miss { IsCanonical self.old.setup.layout.scheme va
+            → first_match self.old.tlb.entries (own_asid self.old) va ≡ None
+            → IsMissed self.old va access ctx result self.new }
         ensures same { name_of self.new ≡ name_of self.old }
     {
         let asid = self.config.spaces[usize::from(self.space)].asid;

@@ -16,10 +16,11 @@ loop-receiver-preserved-then-receiver-sender c = record {
 
 pub loop-receiver-preserved : goal.loop-receiver-preserved
 loop-receiver-preserved c =
-    let e = c.close_pair-pair.ensures in
+    let e = c.close_pair.ensures in
+    let made = c.in-Some.ensures in
     record {
       closed = rw c.push_reserved.ensures.items (
-          closed_pair _ _ _ _ _ _ _ _ _ _ _ c.if-receiver-sender.false c.loop-receiver.invariant.closed e.pair e.report e.outs_kept e.ins_kept e.count e.out_counts e.in_counts);
+          closed_pair _ _ _ _ _ _ _ _ _ _ _ c.if-receiver-sender.false c.loop-receiver.invariant.closed made.pair made.report e.outs_kept e.ins_kept e.count e.out_counts e.in_counts);
       room = rw c.push_reserved.ensures.capacity c.loop-receiver.invariant.room;
     }
 
