@@ -12,12 +12,12 @@ use Rattle.history.specs.declared.reply.Reply.TheVariants.{Ok, Taken}
 use Rattle.history.specs.Turns.{Turn, History, is_ok, taken_request, are_same}
 use Rattle.history.specs.Orders.{open_order}
 use Rattle.history.specs.Mailboxes.{Sent, sent_of, posts, posts_after, accepted, taken, taken_after, waiting, is_closed, NoneAfterClose, Mailboxes}
-use Rattle.history.specs.Due.{next_reply, post_reply, due, Lawful}
+use Rattle.history.specs.Due.{next_reply, due, Lawful}
 use Rattle.history.specs.Occurrences.{Sometime, IsPostAfterClose}
 use Rattle.history.proofs.Splits.{not_sometime-empty, sometime_cases}
 use Rattle.history.proofs.Occurred.{ok_is, closed}
 use Rattle.shoot.proofs.HartSets.{by_test}
-use Rattle.history.proofs.Passing.{passed}
+use Rattle.history.proofs.Passing.{passed, post_reply}
 
 abbrev IsFront : {A : Type 0} → List A → List A → Type 0
 IsFront ts xs = ts ++ drop (length ts) xs ≡ xs

@@ -18,10 +18,10 @@ use Rattle.pte.specs.declared.address.What.TheVariants.{SpaceOf}
 use Rattle.history.specs.Orders.{Order, Flushed, order_at, opened_order}
 use Rattle.history.specs.Acknowledgements.{is_collected}
 use Rattle.history.specs.Harts.{space_of}
-use Rattle.history.specs.Due.{due, refuse, is_number, is_space, is_in_use, is_asid_of, is_done, names, least_free, opened_reply, reclaim_reply}
+use Rattle.history.specs.Due.{due, is_number, is_space, is_in_use, is_asid_of, is_done, names, least_free, opened_reply, reclaim_reply}
 use Rattle.history.specs.Occurrences.{IsRetire}
 use Rattle.history.specs.Retirements.{IsAtHome, CanRetire, IsCollected, CanReclaim, CanCreate}
-use Rattle.history.proofs.Passing.{is_accepted, passed}
+use Rattle.history.proofs.Passing.{is_accepted, passed, refuse}
 use Rattle.history.proofs.LeastFree.{least_is}
 use Rattle.history.proofs.NoHarts.{none_where, where_none}
 use Rattle.history.proofs.OpenOrders.{placed}

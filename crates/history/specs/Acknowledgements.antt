@@ -11,33 +11,33 @@ use Rattle.history.specs.Service.{served, is_served}
 
 -- a Post of the order's ticket to h was accepted while the order was open
 abbrev pub posted_after : Event → Reply → History → ℕ → ℕ → Bool → Bool
-posted_after (Post hart ticket to) reply H k h old = (is_ok reply && ((to == h) && is_order (open_order H hart ticket) k)) || old
-posted_after _ reply H k h old = old
+posted_after (Post sender ticket to) reply history order hart old = (is_ok reply && ((to == hart) && is_order (open_order history sender ticket) order)) || old
+posted_after _ reply history order hart old = old
 
 abbrev pub is_posted : History → ℕ → ℕ → Bool
-is_posted [] k h = false
-is_posted (turn ∷ H) k h = posted_after turn.event turn.reply H k h (is_posted H k h)
+is_posted [] order hart = false
+is_posted (turn ∷ history) order hart = posted_after turn.event turn.reply history order hart (is_posted history order hart)
 
 -- an Ack by h was accepted while h served the order, or an AckSelf of the order's ticket by its sender h while it was open
 abbrev pub acked_after : Setup → Event → Reply → History → ℕ → ℕ → Bool → Bool
-acked_after C (Ack hart) reply H k h old = (is_ok reply && ((hart == h) && is_served (served C H hart) k)) || old
-acked_after C (AckSelf hart ticket) reply H k h old = (is_progress reply && ((hart == h) && is_order (open_order H hart ticket) k)) || old
-acked_after C _ reply H k h old = old
+acked_after setup (Ack by) reply history order hart old = (is_ok reply && ((by == hart) && is_served (served setup history by) order)) || old
+acked_after setup (AckSelf by ticket) reply history order hart old = (is_progress reply && ((by == hart) && is_order (open_order history by ticket) order)) || old
+acked_after setup _ reply history order hart old = old
 
 abbrev pub is_acked : Setup → History → ℕ → ℕ → Bool
-is_acked C [] k h = false
-is_acked C (turn ∷ H) k h = acked_after C turn.event turn.reply H k h (is_acked C H k h)
+is_acked setup [] order hart = false
+is_acked setup (turn ∷ history) order hart = acked_after setup turn.event turn.reply history order hart (is_acked setup history order hart)
 
 -- a Collect from h was accepted once h had acknowledged the open order; its sender's own acknowledgement counts at once
 abbrev pub collected_after : Setup → Event → Reply → History → ℕ → ℕ → Bool → Bool
-collected_after C (AckSelf hart ticket) reply H k h old = (is_progress reply && ((hart == h) && is_order (open_order H hart ticket) k)) || old
-collected_after C (Collect hart ticket from) reply H k h old =
-    (is_progress reply && ((from == h) && (is_order (open_order H hart ticket) k && is_acked C H k h))) || old
-collected_after C _ reply H k h old = old
+collected_after setup (AckSelf by ticket) reply history order hart old = (is_progress reply && ((by == hart) && is_order (open_order history by ticket) order)) || old
+collected_after setup (Collect sender ticket from) reply history order hart old =
+    (is_progress reply && ((from == hart) && (is_order (open_order history sender ticket) order && is_acked setup history order hart))) || old
+collected_after setup _ reply history order hart old = old
 
 abbrev pub is_collected : Setup → History → ℕ → ℕ → Bool
-is_collected C [] k h = false
-is_collected C (turn ∷ H) k h = collected_after C turn.event turn.reply H k h (is_collected C H k h)
+is_collected setup [] order hart = false
+is_collected setup (turn ∷ history) order hart = collected_after setup turn.event turn.reply history order hart (is_collected setup history order hart)
 
 -- how many members of a list pass a test
 abbrev pub count_where : {A : Type 0} → (A → Bool) → List A → ℕ
@@ -46,4 +46,4 @@ count_where test (x ∷ xs) = (if test x then 1 else 0) + count_where test xs
 
 -- how many orders are posted from s to h and not collected from h
 abbrev pub outstanding : Setup → History → ℕ → ℕ → ℕ
-outstanding C H s h = count_where (λ (sent : Sent). not (is_collected C H sent.order h)) (posts C H s h)
+outstanding setup history sender receiver = count_where (λ (sent : Sent). not (is_collected setup history sent.order receiver)) (posts setup history sender receiver)

@@ -27,12 +27,12 @@ use Rattle.history.specs.Tables.{words_of}
 
 -- the space of the last accepted Switch, else space 0
 abbrev pub space_after : Event → Reply → ℕ → ℕ → ℕ
-space_after (Switch hart space) reply h old = if is_ok reply && (hart == h) then space else old
-space_after _ reply h old = old
+space_after (Switch by space) reply hart old = if is_ok reply && (by == hart) then space else old
+space_after _ reply hart old = old
 
 abbrev pub space_of : History → ℕ → ℕ
-space_of [] h = 0
-space_of (turn ∷ H) h = space_after turn.event turn.reply h (space_of H h)
+space_of [] hart = 0
+space_of (turn ∷ history) hart = space_after turn.event turn.reply hart (space_of history hart)
 
 -- a walk in flight: the access, and how many loads it has made. It holds no pointer and no leaf.
 pub record Walking : Type 0 where
@@ -56,18 +56,18 @@ loaded (reply.Trap trap) old = None
 loaded _ old = old
 
 abbrev pub walk_after : Event → Reply → ℕ → Option Walking → Option Walking
-walk_after (Begin hart va access ctx) reply h old = if hart == h then begun reply va access ctx old else old
-walk_after (Load hart) reply h old = if hart == h then loaded reply old else old
-walk_after _ reply h old = old
+walk_after (Begin by va access ctx) reply hart old = if by == hart then begun reply va access ctx old else old
+walk_after (Load by) reply hart old = if by == hart then loaded reply old else old
+walk_after _ reply hart old = old
 
 abbrev pub walk_of : History → ℕ → Option Walking
-walk_of [] h = None
-walk_of (turn ∷ H) h = walk_after turn.event turn.reply h (walk_of H h)
+walk_of [] hart = None
+walk_of (turn ∷ history) hart = walk_after turn.event turn.reply hart (walk_of history hart)
 
 -- what the walk of a hart finds in the words of now
 abbrev pub outcome_of : Setup → History → ℕ → Walking → Result Found Trap
-outcome_of C H space walk =
-    answer_after (level_count C.layout.scheme) (words_of C H) (start_of C.layout.scheme (root_ppn C.layout space) walk.va walk.access walk.ctx)
+outcome_of setup history space walk =
+    answer_after (level_count setup.layout.scheme) (words_of setup history) (start_of setup.layout.scheme (root_ppn setup.layout space) walk.va walk.access walk.ctx)
 
 -- a fill: the entry of what was found, with the ASID of the space
 abbrev pub with_found : ℕ → Result Found Trap → List Entry → List Entry
@@ -75,17 +75,17 @@ with_found asid (Ok found) old = filled old (entry_of asid found)
 with_found asid (Err trap) old = old
 
 abbrev pub with_fill : Setup → History → ℕ → Option Walking → List Entry → List Entry
-with_fill C H space None old = old
-with_fill C H space (Some walk) old = with_found (asid_of C H space) (outcome_of C H space walk) old
+with_fill setup history space None old = old
+with_fill setup history space (Some walk) old = with_found (asid_of setup history space) (outcome_of setup history space walk) old
 
 abbrev pub entries_after : Setup → Event → Reply → History → ℕ → List Entry → List Entry
-entries_after C (Load hart) reply H h old = if is_filled reply && (hart == h) then with_fill C H (space_of H h) (walk_of H h) old else old
-entries_after C (Fence hart rs1 rs2) reply H h old = if is_ok reply && (hart == h) then fenced C.layout.scheme old rs1 rs2 else old
-entries_after C (ServeFence hart) reply H h old = if is_ok reply && (hart == h) then with_service old (what_served (served C H h)) else old
-entries_after C (AckSelf hart ticket) reply H h old =
-    if is_progress reply && (hart == h) then with_service old (what_of C H (open_order H hart ticket)) else old
-entries_after C _ reply H h old = old
+entries_after setup (Load by) reply history hart old = if is_filled reply && (by == hart) then with_fill setup history (space_of history hart) (walk_of history hart) old else old
+entries_after setup (Fence by rs1 rs2) reply history hart old = if is_ok reply && (by == hart) then fenced setup.layout.scheme old rs1 rs2 else old
+entries_after setup (ServeFence by) reply history hart old = if is_ok reply && (by == hart) then with_service old (what_served (served setup history hart)) else old
+entries_after setup (AckSelf by ticket) reply history hart old =
+    if is_progress reply && (by == hart) then with_service old (what_of setup history (open_order history by ticket)) else old
+entries_after setup _ reply history hart old = old
 
 abbrev pub entries_of : Setup → History → ℕ → List Entry
-entries_of C [] h = []
-entries_of C (turn ∷ H) h = entries_after C turn.event turn.reply H h (entries_of C H h)
+entries_of setup [] hart = []
+entries_of setup (turn ∷ history) hart = entries_after setup turn.event turn.reply history hart (entries_of setup history hart)

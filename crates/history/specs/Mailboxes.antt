@@ -16,22 +16,22 @@ pub record Sent : Type 0 where
   pub request : Message
 
 abbrev pub sent_of : Setup → History → ℕ → ℕ → Option ℕ → List Sent
-sent_of C H sender ticket None = []
-sent_of C H sender ticket (Some k) = record { sender = sender; order = k; request = record { ticket = ticket; what = what_of C H (Some k) } } ∷ []
+sent_of setup history sender ticket None = []
+sent_of setup history sender ticket (Some number) = record { sender = sender; order = number; request = record { ticket = ticket; what = what_of setup history (Some number) } } ∷ []
 
 -- the accepted posts of a pair, the oldest first
 abbrev pub posts_after : Setup → Event → Reply → History → ℕ → ℕ → List Sent → List Sent
-posts_after C (Post hart ticket to) reply H sender receiver old =
-    if is_ok reply && are_same hart to sender receiver then old ++ sent_of C H hart ticket (open_order H hart ticket) else old
-posts_after C _ reply H sender receiver old = old
+posts_after setup (Post hart ticket to) reply history sender receiver old =
+    if is_ok reply && are_same hart to sender receiver then old ++ sent_of setup history hart ticket (open_order history hart ticket) else old
+posts_after setup _ reply history sender receiver old = old
 
 abbrev pub posts : Setup → History → ℕ → ℕ → List Sent
-posts C [] sender receiver = []
-posts C (turn ∷ H) sender receiver = posts_after C turn.event turn.reply H sender receiver (posts C H sender receiver)
+posts setup [] sender receiver = []
+posts setup (turn ∷ history) sender receiver = posts_after setup turn.event turn.reply history sender receiver (posts setup history sender receiver)
 
 -- the accepted requests of a pair, and those that its receiver took, the oldest first
 abbrev pub accepted : Setup → History → ℕ → ℕ → List Message
-accepted C H sender receiver = map (λ (sent : Sent). sent.request) (posts C H sender receiver)
+accepted setup history sender receiver = map (λ (sent : Sent). sent.request) (posts setup history sender receiver)
 
 abbrev pub taken_after : Event → Reply → ℕ → ℕ → List Message → List Message
 taken_after (Take hart from) reply sender receiver old = if are_same from hart sender receiver then old ++ taken_request reply else old
@@ -39,11 +39,11 @@ taken_after _ reply sender receiver old = old
 
 abbrev pub taken : History → ℕ → ℕ → List Message
 taken [] sender receiver = []
-taken (turn ∷ H) sender receiver = taken_after turn.event turn.reply sender receiver (taken H sender receiver)
+taken (turn ∷ history) sender receiver = taken_after turn.event turn.reply sender receiver (taken history sender receiver)
 
 -- what waits: the accepted requests but for the first, as many as were taken
 abbrev pub waiting : Setup → History → ℕ → ℕ → List Message
-waiting C H sender receiver = drop (length (taken H sender receiver)) (accepted C H sender receiver)
+waiting setup history sender receiver = drop (length (taken history sender receiver)) (accepted setup history sender receiver)
 
 -- a Close of the pair was accepted
 abbrev pub closed_after : Event → Reply → ℕ → ℕ → Bool → Bool
@@ -52,19 +52,19 @@ closed_after _ reply sender receiver old = old
 
 abbrev pub is_closed : History → ℕ → ℕ → Bool
 is_closed [] sender receiver = false
-is_closed (turn ∷ H) sender receiver = closed_after turn.event turn.reply sender receiver (is_closed H sender receiver)
+is_closed (turn ∷ history) sender receiver = closed_after turn.event turn.reply sender receiver (is_closed history sender receiver)
 
 -- a mailbox in which these requests wait keeps its order: what was accepted is what was taken, followed by what waits
 abbrev pub KeepsOrder : Setup → History → ℕ → ℕ → List Message → Type 0
-KeepsOrder C H sender receiver requests = accepted C H sender receiver ≡ taken H sender receiver ++ requests
+KeepsOrder setup history sender receiver requests = accepted setup history sender receiver ≡ taken history sender receiver ++ requests
 
 -- each mailbox does
 abbrev pub Mailboxes : Setup → History → Type 0
-Mailboxes C H = (sender receiver : ℕ) → KeepsOrder C H sender receiver (waiting C H sender receiver)
+Mailboxes setup history = (sender receiver : ℕ) → KeepsOrder setup history sender receiver (waiting setup history sender receiver)
 
 -- no turn after the pair's close adds to what was accepted
 abbrev pub NoneAfterClose : Setup → History → ℕ → ℕ → Type 0
-NoneAfterClose C [] sender receiver = Unit {0}
-NoneAfterClose C (turn ∷ H) sender receiver =
-    (is_closed H sender receiver ≡ true → accepted C (turn ∷ H) sender receiver ≡ accepted C H sender receiver)
-    × NoneAfterClose C H sender receiver
+NoneAfterClose setup [] sender receiver = Unit {0}
+NoneAfterClose setup (turn ∷ history) sender receiver =
+    (is_closed history sender receiver ≡ true → accepted setup (turn ∷ history) sender receiver ≡ accepted setup history sender receiver)
+    × NoneAfterClose setup history sender receiver

@@ -31,75 +31,75 @@ use Rattle.history.specs.Acknowledgements.{is_acked, count_where}
 use Rattle.history.specs.Due.{due}
 use Rattle.history.specs.Staleness.{IsChange}
 
--- at some turn of the history P held, of that turn and the turns before it
-pub record Sometime (P : Turn → History → Type 0) (H : History) : Type 0 where
+-- at some turn of the history it happened, as the turn and the turns before it say
+pub record Sometime (Happens : Turn → History → Type 0) (history : History) : Type 0 where
   pub later : History
   pub turn : Turn
   pub earlier : History
-  pub split : H ≡ later ++ turn ∷ earlier
-  pub so : P turn earlier
+  pub split : history ≡ later ++ turn ∷ earlier
+  pub so : Happens turn earlier
 
--- at some turn P held, and at no later one Q
-pub record Since (P Q : Turn → History → Type 0) (H : History) : Type 0 where
+-- at some turn it happened, and at no later turn it ended
+pub record Since (Happens Ends : Turn → History → Type 0) (history : History) : Type 0 where
   pub later : History
   pub turn : Turn
   pub earlier : History
-  pub split : H ≡ later ++ turn ∷ earlier
-  pub so : P turn earlier
-  pub none_since : (newer : History) (next : Turn) (between : History) → later ≡ newer ++ next ∷ between → ¬ Q next (between ++ turn ∷ earlier)
+  pub split : history ≡ later ++ turn ∷ earlier
+  pub so : Happens turn earlier
+  pub none_since : (newer : History) (next : Turn) (between : History) → later ≡ newer ++ next ∷ between → ¬ Ends next (between ++ turn ∷ earlier)
 
 -- a Post to h was accepted of the ticket under which order k was open
-pub record IsPost (k h : ℕ) (turn : Turn) (before : History) : Type 0 where
+pub record IsPost (number hart : ℕ) (turn : Turn) (before : History) : Type 0 where
   pub sender : ℕ
   pub ticket : ℕ
-  pub event : turn.event ≡ Post sender ticket h
+  pub event : turn.event ≡ Post sender ticket hart
   pub accepted : turn.reply ≡ reply.Ok
-  pub order : open_order before sender ticket ≡ Some k
+  pub order : open_order before sender ticket ≡ Some number
 
 -- a reply that tells a ticket's progress: the event was accepted
 abbrev pub IsProgress : Reply → Type 0
 IsProgress answer = (answer ≡ reply.Done) ⊎ ((left : ℕ) × (answer ≡ reply.Waiting left))
 
 -- an Ack by h was accepted while h served order k
-pub record IsAck (C : Setup) (k h : ℕ) (turn : Turn) (before : History) : Type 0 where
+pub record IsAck (setup : Setup) (number hart : ℕ) (turn : Turn) (before : History) : Type 0 where
   pub sent : Sent
-  pub event : turn.event ≡ Ack h
+  pub event : turn.event ≡ Ack hart
   pub accepted : turn.reply ≡ reply.Ok
-  pub serving : served C before h ≡ Some sent
-  pub order : sent.order ≡ k
+  pub serving : served setup before hart ≡ Some sent
+  pub order : sent.order ≡ number
 
 -- an AckSelf by h was accepted of the own ticket under which order k was open
-pub record IsAckSelf (k h : ℕ) (turn : Turn) (before : History) : Type 0 where
+pub record IsAckSelf (number hart : ℕ) (turn : Turn) (before : History) : Type 0 where
   pub ticket : ℕ
-  pub event : turn.event ≡ AckSelf h ticket
+  pub event : turn.event ≡ AckSelf hart ticket
   pub accepted : IsProgress turn.reply
-  pub order : open_order before h ticket ≡ Some k
+  pub order : open_order before hart ticket ≡ Some number
 
 abbrev pub Acknowledges : Setup → ℕ → ℕ → Turn → History → Type 0
-Acknowledges C k h turn before = IsAck C k h turn before ⊎ IsAckSelf k h turn before
+Acknowledges setup order hart turn before = IsAck setup order hart turn before ⊎ IsAckSelf order hart turn before
 
 -- a Collect from h was accepted of the ticket under which order k was open, once h had acknowledged k
-pub record IsCollect (C : Setup) (k h : ℕ) (turn : Turn) (before : History) : Type 0 where
+pub record IsCollect (setup : Setup) (number hart : ℕ) (turn : Turn) (before : History) : Type 0 where
   pub sender : ℕ
   pub ticket : ℕ
-  pub event : turn.event ≡ Collect sender ticket h
+  pub event : turn.event ≡ Collect sender ticket hart
   pub accepted : IsProgress turn.reply
-  pub order : open_order before sender ticket ≡ Some k
-  pub acked : is_acked C before k h ≡ true
+  pub order : open_order before sender ticket ≡ Some number
+  pub acked : is_acked setup before number hart ≡ true
 
 abbrev pub Collects : Setup → ℕ → ℕ → Turn → History → Type 0
-Collects C k h turn before = IsCollect C k h turn before ⊎ IsAckSelf k h turn before
+Collects setup order hart turn before = IsCollect setup order hart turn before ⊎ IsAckSelf order hart turn before
 
 -- the turns before have an order k, and it followed an Unmap or a Protect of a page of the ASID that overlaps this page
-pub record IsOfPage (C : Setup) (k : ℕ) (of : Option ℕ) (page : Span) (before : History) : Type 0 where
+pub record IsOfPage (setup : Setup) (number : ℕ) (of : Option ℕ) (page : Span) (before : History) : Type 0 where
   pub order : Order
   pub changed : Span
-  pub is : order_at C before k ≡ Some order
+  pub is : order_at setup before number ≡ Some order
   pub cause : IsChange order.cause of changed
   pub over : overlaps changed page ≡ true
 
 -- after order k a Map over its page stored its leaf
-pub record IsMapOver (C : Setup) (k : ℕ) (turn : Turn) (before : History) : Type 0 where
+pub record IsMapOver (setup : Setup) (order : ℕ) (turn : Turn) (before : History) : Type 0 where
   pub hart : ℕ
   pub place : Place
   pub page : Span
@@ -107,10 +107,10 @@ pub record IsMapOver (C : Setup) (k : ℕ) (turn : Turn) (before : History) : Ty
   pub flags : PteFlags
   pub event : turn.event ≡ Map hart place page ppn flags
   pub stored : turn.reply ≡ reply.Leaf
-  pub of_page : IsOfPage C k (asid_in C before place) page before
+  pub of_page : IsOfPage setup order (asid_in setup before place) page before
 
 -- after order k an Unmap over its page was accepted
-pub record IsUnmapOver (C : Setup) (k : ℕ) (turn : Turn) (before : History) : Type 0 where
+pub record IsUnmapOver (setup : Setup) (order : ℕ) (turn : Turn) (before : History) : Type 0 where
   pub hart : ℕ
   pub place : Place
   pub page : Span
@@ -118,10 +118,10 @@ pub record IsUnmapOver (C : Setup) (k : ℕ) (turn : Turn) (before : History) : 
   pub ticket : ℕ
   pub event : turn.event ≡ Unmap hart place page named
   pub accepted : turn.reply ≡ reply.Opened ticket
-  pub of_page : IsOfPage C k (asid_in C before place) page before
+  pub of_page : IsOfPage setup order (asid_in setup before place) page before
 
 -- after order k a Protect over its page was accepted
-pub record IsProtectOver (C : Setup) (k : ℕ) (turn : Turn) (before : History) : Type 0 where
+pub record IsProtectOver (setup : Setup) (order : ℕ) (turn : Turn) (before : History) : Type 0 where
   pub hart : ℕ
   pub place : Place
   pub page : Span
@@ -130,10 +130,10 @@ pub record IsProtectOver (C : Setup) (k : ℕ) (turn : Turn) (before : History) 
   pub ticket : ℕ
   pub event : turn.event ≡ Protect hart place page flags named
   pub accepted : turn.reply ≡ reply.Opened ticket
-  pub of_page : IsOfPage C k (asid_in C before place) page before
+  pub of_page : IsOfPage setup order (asid_in setup before place) page before
 
 abbrev pub Supersedes : Setup → ℕ → Turn → History → Type 0
-Supersedes C k turn before = IsUnmapOver C k turn before ⊎ IsProtectOver C k turn before
+Supersedes setup order turn before = IsUnmapOver setup order turn before ⊎ IsProtectOver setup order turn before
 
 -- a Close of the pair was accepted
 pub record IsClose (sender receiver : ℕ) (turn : Turn) (before : History) : Type 0 where
@@ -148,9 +148,9 @@ pub record IsPostAfterClose (sender receiver : ℕ) (turn : Turn) (before : Hist
   pub closed : Sometime (IsClose sender receiver) before
 
 -- the turn with k turns before it opened this order
-pub record OpensAt (C : Setup) (k : ℕ) (order : Order) (turn : Turn) (before : History) : Type 0 where
-  pub place : length before ≡ k
-  pub opened : opened_order C turn.event turn.reply before ≡ Some order
+pub record OpensAt (setup : Setup) (number : ℕ) (order : Order) (turn : Turn) (before : History) : Type 0 where
+  pub place : length before ≡ number
+  pub opened : opened_order setup turn.event turn.reply before ≡ Some order
 
 -- an Unmap, a Protect, a Flush or a Retire by the hart
 abbrev pub IsOrderBy : ℕ → Event → Type 0
@@ -172,20 +172,20 @@ pub record IsFinish (sender ticket : ℕ) (turn : Turn) (before : History) : Typ
 
 -- the turn with k turns before it opened the sender's ticket
 abbrev pub OpensOrder : ℕ → ℕ → ℕ → Turn → History → Type 0
-OpensOrder sender ticket k turn before = Opens sender ticket turn before × (length before ≡ k)
+OpensOrder sender ticket order turn before = Opens sender ticket turn before × (length before ≡ order)
 
 abbrev pub OpensOrFinishes : ℕ → ℕ → Turn → History → Type 0
 OpensOrFinishes sender ticket turn before = Opens sender ticket turn before ⊎ IsFinish sender ticket turn before
 
 -- a Post of the pair was accepted as the one after n others, of this order and with this request
-pub record IsNthPost (C : Setup) (sender receiver n : ℕ) (sent : Sent) (turn : Turn) (before : History) : Type 0 where
+pub record IsNthPost (setup : Setup) (sender receiver n : ℕ) (sent : Sent) (turn : Turn) (before : History) : Type 0 where
   pub ticket : ℕ
   pub order : ℕ
   pub event : turn.event ≡ Post sender ticket receiver
   pub accepted : turn.reply ≡ reply.Ok
   pub is_open : open_order before sender ticket ≡ Some order
-  pub count : length (posts C before sender receiver) ≡ n
-  pub is : sent ≡ record { sender = sender; order = order; request = record { ticket = ticket; what = what_of C before (Some order) } }
+  pub count : length (posts setup before sender receiver) ≡ n
+  pub is : sent ≡ record { sender = sender; order = order; request = record { ticket = ticket; what = what_of setup before (Some order) } }
 
 -- a Take of the pair answered this request, after n others
 pub record IsNthTake (sender receiver n : ℕ) (request : Message) (turn : Turn) (before : History) : Type 0 where
@@ -200,9 +200,9 @@ LeadsOn scheme words root walk =
     (walk.loads < top_level scheme)
     × ((table : ℕ) × Leads scheme words root walk.va (top_level scheme - suc walk.loads) table (word_at words walk.va (top_level scheme - suc walk.loads) table))
 
--- at some turn P held, and at no later one Q; or Q never held, and this is so at the opening
+-- it happened, and at no later turn it ended; or it never ended, and this is so at the opening
 abbrev pub SinceOr : (Turn → History → Type 0) → (Turn → History → Type 0) → Type 0 → History → Type 0
-SinceOr P Q opening H = Since P Q H ⊎ ((¬ Sometime Q H) × opening)
+SinceOr Happens Ends opening history = Since Happens Ends history ⊎ ((¬ Sometime Ends history) × opening)
 
 -- a Switch of the hart to the space was accepted
 pub record IsSwitch (hart space : ℕ) (turn : Turn) (before : History) : Type 0 where
@@ -220,12 +220,12 @@ pub record IsTake (hart : ℕ) (turn : Turn) (before : History) : Type 0 where
   pub answer : turn.reply ≡ reply.Taken request
 
 -- the hart took a request, and this is the mailbox's accepted post of that place: the n-th, if n were taken before
-pub record TakesPost (C : Setup) (hart : ℕ) (sent : Sent) (turn : Turn) (before : History) : Type 0 where
+pub record TakesPost (setup : Setup) (hart : ℕ) (sent : Sent) (turn : Turn) (before : History) : Type 0 where
   pub from : ℕ
   pub request : Message
   pub event : turn.event ≡ Take hart from
   pub answer : turn.reply ≡ reply.Taken request
-  pub is : slice_get (posts C before from hart) (length (taken before from hart)) ≡ Some sent
+  pub is : slice_get (posts setup before from hart) (length (taken before from hart)) ≡ Some sent
 
 -- an Ack by the hart was accepted
 pub record IsAckBy (hart : ℕ) (turn : Turn) (before : History) : Type 0 where
@@ -242,39 +242,39 @@ pub record IsServeFence (hart : ℕ) (turn : Turn) (before : History) : Type 0 w
 
 -- the event asked for this edit by the hart, and it was accepted
 abbrev pub IsEdit : ℕ → Wish → Event → Reply → Type 0
-IsEdit h w (Map hart place page ppn flags) answer =
-    (hart ≡ h) × (w ≡ wish.Map place page ppn flags) × ((answer ≡ reply.Leaf) ⊎ ((table : ℕ) × (answer ≡ reply.Table table)))
-IsEdit h w (Unmap hart place page named) answer = (hart ≡ h) × (w ≡ wish.Unmap place page) × ((ticket : ℕ) × (answer ≡ reply.Opened ticket))
-IsEdit h w (Protect hart place page flags named) answer =
-    (hart ≡ h) × (w ≡ wish.Protect place page flags) × ((ticket : ℕ) × (answer ≡ reply.Opened ticket))
-IsEdit h w _ answer = ⊥
+IsEdit hart w (Map by place page ppn flags) answer =
+    (by ≡ hart) × (w ≡ wish.Map place page ppn flags) × ((answer ≡ reply.Leaf) ⊎ ((table : ℕ) × (answer ≡ reply.Table table)))
+IsEdit hart w (Unmap by place page named) answer = (by ≡ hart) × (w ≡ wish.Unmap place page) × ((ticket : ℕ) × (answer ≡ reply.Opened ticket))
+IsEdit hart w (Protect by place page flags named) answer =
+    (by ≡ hart) × (w ≡ wish.Protect place page flags) × ((ticket : ℕ) × (answer ≡ reply.Opened ticket))
+IsEdit hart w _ answer = ⊥
 
 -- an accepted edit stored the word at this index of the table at this PPN
-pub record IsStore (C : Setup) (ppn index word : ℕ) (turn : Turn) (before : History) : Type 0 where
+pub record IsStore (setup : Setup) (ppn index word : ℕ) (turn : Turn) (before : History) : Type 0 where
   pub hart : ℕ
   pub wanted : Wish
   pub store : Store
   pub edit : IsEdit hart wanted turn.event turn.reply
-  pub due : edit_due C (words_of C before) (holder_of before) hart wanted ≡ Ok store
+  pub due : edit_due setup (words_of setup before) (holder_of before) hart wanted ≡ Ok store
   pub same_table : store.ppn ≡ ppn
   pub same_index : store.index ≡ index
   pub same_word : store.word ≡ word
 
 -- an accepted Reclaim emptied the word, which was there and its space's own
-pub record Empties (C : Setup) (ppn index : ℕ) (turn : Turn) (before : History) : Type 0 where
+pub record Empties (setup : Setup) (ppn index : ℕ) (turn : Turn) (before : History) : Type 0 where
   pub hart : ℕ
   pub space : ℕ
   pub event : turn.event ≡ Reclaim hart space
   pub accepted : turn.reply ≡ reply.Ok
-  pub own : is_word_of C.layout (holder_of before) space ppn index ≡ true
+  pub own : is_word_of setup.layout (holder_of before) space ppn index ≡ true
 
 -- a turn put the word there
 abbrev pub Puts : Setup → ℕ → ℕ → ℕ → Turn → History → Type 0
-Puts C ppn index word turn before =
-    IsStore C ppn index word turn before ⊎ (Empties C ppn index turn before × (zero_word (words_of C before ppn index) ≡ Some word))
+Puts setup ppn index word turn before =
+    IsStore setup ppn index word turn before ⊎ (Empties setup ppn index turn before × (zero_word (words_of setup before ppn index) ≡ Some word))
 
 abbrev pub Stores : Setup → ℕ → ℕ → Turn → History → Type 0
-Stores C ppn index turn before = ((word : ℕ) × IsStore C ppn index word turn before) ⊎ Empties C ppn index turn before
+Stores setup ppn index turn before = ((word : ℕ) × IsStore setup ppn index word turn before) ⊎ Empties setup ppn index turn before
 
 -- a walk for this access began
 pub record IsBegin (hart : ℕ) (walk : Walking) (turn : Turn) (before : History) : Type 0 where
@@ -291,15 +291,15 @@ BeginsOrEnds hart turn before = ((walk : Walking) × IsBegin hart walk turn befo
 
 -- a Load of the hart after which its walk goes on
 abbrev pub is_load_by : ℕ → Event → Bool
-is_load_by h (Load hart) = hart == h
-is_load_by h _ = false
+is_load_by hart (Load by) = by == hart
+is_load_by hart _ = false
 
 abbrev pub is_further_load : ℕ → Turn → Bool
 is_further_load hart turn = is_more turn.reply && is_load_by hart turn.event
 
 -- the walk began, and since then none began or ended; its loads are those since then after which it went on
-pub record IsInWalk (hart : ℕ) (walk : Walking) (H : History) : Type 0 where
-  pub since : Since (IsBegin hart walk) (BeginsOrEnds hart) H
+pub record IsInWalk (hart : ℕ) (walk : Walking) (history : History) : Type 0 where
+  pub since : Since (IsBegin hart walk) (BeginsOrEnds hart) history
   pub loads : walk.loads ≡ count_where (is_further_load hart) since.later
 
 -- a Map for the place stored a pointer to a new table at this PPN
@@ -323,22 +323,22 @@ abbrev pub TakesOrGivesBack : ℕ → Turn → History → Type 0
 TakesOrGivesBack ppn turn before = ((place : Place) × IsNewTable ppn place turn before) ⊎ IsGivenBack ppn turn before
 
 -- the number is the least of the hart's tickets that is not open
-pub record IsLeastFree (H : History) (hart ticket : ℕ) : Type 0 where
+pub record IsLeastFree (history : History) (hart ticket : ℕ) : Type 0 where
   pub below : ticket < MAX_TICKETS
-  pub free : open_order H hart ticket ≡ None
-  pub least : (n : ℕ) → n < ticket → ¬ (open_order H hart n ≡ None)
+  pub free : open_order history hart ticket ≡ None
+  pub least : (n : ℕ) → n < ticket → ¬ (open_order history hart n ≡ None)
 
 -- the reply of each turn was due after the turns before it
 abbrev pub EachIsDue : Setup → History → Type 0
-EachIsDue C H = (later : History) (turn : Turn) (earlier : History) → H ≡ later ++ turn ∷ earlier → turn.reply ≡ due C earlier turn.event
+EachIsDue setup history = (later : History) (turn : Turn) (earlier : History) → history ≡ later ++ turn ∷ earlier → turn.reply ≡ due setup earlier turn.event
 
 -- a Retire of the space was accepted, with k turns before it
-pub record IsRetire (space k : ℕ) (turn : Turn) (before : History) : Type 0 where
+pub record IsRetire (space order : ℕ) (turn : Turn) (before : History) : Type 0 where
   pub hart : ℕ
   pub ticket : ℕ
   pub event : turn.event ≡ Retire hart space
   pub accepted : turn.reply ≡ reply.Opened ticket
-  pub place : length before ≡ k
+  pub place : length before ≡ order
 
 -- a Reclaim of the space was accepted
 pub record IsReclaim (space : ℕ) (turn : Turn) (before : History) : Type 0 where
@@ -357,4 +357,4 @@ Creates space turn before = (asid : ℕ) × IsCreate space asid turn before
 
 -- a turn that decides whether the space is live, retiring or free
 abbrev pub Decides : ℕ → Turn → History → Type 0
-Decides space turn before = ((k : ℕ) × IsRetire space k turn before) ⊎ (IsReclaim space turn before ⊎ Creates space turn before)
+Decides space turn before = ((order : ℕ) × IsRetire space order turn before) ⊎ (IsReclaim space turn before ⊎ Creates space turn before)

@@ -22,36 +22,36 @@ use Rattle.history.specs.Staleness.{HasAsid}
 use Rattle.history.specs.Occurrences.{IsLeastFree}
 
 -- the hart is there and the home of the space, which is there
-pub record IsAtHome (C : Setup) (hart space : ℕ) : Type 0 where
-  pub hart_there : hart < C.harts
-  pub space_there : space < length C.asids
-  pub home : hart ≡ home_of C.layout (Space space)
+pub record IsAtHome (setup : Setup) (hart space : ℕ) : Type 0 where
+  pub hart_there : hart < setup.harts
+  pub space_there : space < length setup.asids
+  pub home : hart ≡ home_of setup.layout (Space space)
 
 -- a Retire is due this ticket: the space is live, no hart is in it, and the ticket is the least that is not open
-pub record CanRetire (C : Setup) (H : History) (hart space ticket : ℕ) : Type 0 where
-  pub at_home : IsAtHome C hart space
-  pub live : status_of H space ≡ Live
-  pub left : (h : ℕ) → h < C.harts → space_of H h ≢ space
-  pub least : IsLeastFree H hart ticket
+pub record CanRetire (setup : Setup) (history : History) (hart space ticket : ℕ) : Type 0 where
+  pub at_home : IsAtHome setup hart space
+  pub live : status_of history space ≡ Live
+  pub left : (other : ℕ) → other < setup.harts → space_of history other ≢ space
+  pub least : IsLeastFree history hart ticket
 
 -- each hart that the order names is collected
 abbrev pub IsCollected : Setup → History → Order → ℕ → Type 0
-IsCollected C H order k = (h : ℕ) → h < MAX_HARTS → contains order.named h ≡ true → is_collected C H k h ≡ true
+IsCollected setup history order number = (hart : ℕ) → hart < MAX_HARTS → contains order.named hart ≡ true → is_collected setup history number hart ≡ true
 
 -- a Reclaim is due Ok: the space is retiring, and each hart is collected for its retirement
-pub record CanReclaim (C : Setup) (H : History) (hart space : ℕ) : Type 0 where
-  pub at_home : IsAtHome C hart space
+pub record CanReclaim (setup : Setup) (history : History) (hart space : ℕ) : Type 0 where
+  pub at_home : IsAtHome setup hart space
   pub place : ℕ
   pub order : Order
-  pub retiring : status_of H space ≡ Retires place
-  pub is : order_at C H place ≡ Some order
-  pub collected : IsCollected C H order place
+  pub retiring : status_of history space ≡ Retires place
+  pub is : order_at setup history place ≡ Some order
+  pub collected : IsCollected setup history order place
 
 -- a Create is due Ok: the space is free, and no live or retiring space has the ASID
-pub record CanCreate (C : Setup) (H : History) (hart space asid : ℕ) : Type 0 where
-  pub at_home : IsAtHome C hart space
-  pub free : status_of H space ≡ Free
-  pub unused : (s : ℕ) → ¬ HasAsid C H s asid
+pub record CanCreate (setup : Setup) (history : History) (hart space asid : ℕ) : Type 0 where
+  pub at_home : IsAtHome setup hart space
+  pub free : status_of history space ≡ Free
+  pub unused : (s : ℕ) → ¬ HasAsid setup history s asid
 
 -- the three turns, accepted
 abbrev pub retire : ℕ → ℕ → ℕ → Turn
@@ -64,77 +64,77 @@ abbrev pub create : ℕ → ℕ → ℕ → Turn
 create hart space asid = record { event = Create hart space asid; reply = reply.Ok }
 
 -- no word and no frame changes
-pub record KeepsTables (C : Setup) (turn : Turn) (H : History) : Type 0 where
-  pub words : (ppn i : ℕ) → words_of C (turn ∷ H) ppn i ≡ words_of C H ppn i
-  pub holders : (ppn : ℕ) → holder_of (turn ∷ H) ppn ≡ holder_of H ppn
+pub record KeepsTables (setup : Setup) (turn : Turn) (history : History) : Type 0 where
+  pub words : (ppn i : ℕ) → words_of setup (turn ∷ history) ppn i ≡ words_of setup history ppn i
+  pub holders : (ppn : ℕ) → holder_of (turn ∷ history) ppn ≡ holder_of history ppn
 
 -- of no hart the space, the walk, the TLB or the service changes
-pub record KeepsHarts (C : Setup) (turn : Turn) (H : History) : Type 0 where
-  pub spaces : (h : ℕ) → space_of (turn ∷ H) h ≡ space_of H h
-  pub walks : (h : ℕ) → walk_of (turn ∷ H) h ≡ walk_of H h
-  pub entries : (h : ℕ) → entries_of C (turn ∷ H) h ≡ entries_of C H h
-  pub services : (h : ℕ) → served C (turn ∷ H) h ≡ served C H h
-  pub fences : (h : ℕ) → has_fenced (turn ∷ H) h ≡ has_fenced H h
+pub record KeepsHarts (setup : Setup) (turn : Turn) (history : History) : Type 0 where
+  pub spaces : (hart : ℕ) → space_of (turn ∷ history) hart ≡ space_of history hart
+  pub walks : (hart : ℕ) → walk_of (turn ∷ history) hart ≡ walk_of history hart
+  pub entries : (hart : ℕ) → entries_of setup (turn ∷ history) hart ≡ entries_of setup history hart
+  pub services : (hart : ℕ) → served setup (turn ∷ history) hart ≡ served setup history hart
+  pub fences : (hart : ℕ) → has_fenced (turn ∷ history) hart ≡ has_fenced history hart
 
 -- no mailbox changes, nor how far any order is
-pub record KeepsMailboxes (C : Setup) (turn : Turn) (H : History) : Type 0 where
-  pub posts : (s h : ℕ) → posts C (turn ∷ H) s h ≡ posts C H s h
-  pub taken : (s h : ℕ) → taken (turn ∷ H) s h ≡ taken H s h
-  pub closed : (s h : ℕ) → is_closed (turn ∷ H) s h ≡ is_closed H s h
-  pub posted : (k h : ℕ) → is_posted (turn ∷ H) k h ≡ is_posted H k h
-  pub acked : (k h : ℕ) → is_acked C (turn ∷ H) k h ≡ is_acked C H k h
-  pub collected : (k h : ℕ) → is_collected C (turn ∷ H) k h ≡ is_collected C H k h
+pub record KeepsMailboxes (setup : Setup) (turn : Turn) (history : History) : Type 0 where
+  pub posts : (sender receiver : ℕ) → posts setup (turn ∷ history) sender receiver ≡ posts setup history sender receiver
+  pub taken : (sender receiver : ℕ) → taken (turn ∷ history) sender receiver ≡ taken history sender receiver
+  pub closed : (sender receiver : ℕ) → is_closed (turn ∷ history) sender receiver ≡ is_closed history sender receiver
+  pub posted : (order hart : ℕ) → is_posted (turn ∷ history) order hart ≡ is_posted history order hart
+  pub acked : (order hart : ℕ) → is_acked setup (turn ∷ history) order hart ≡ is_acked setup history order hart
+  pub collected : (order hart : ℕ) → is_collected setup (turn ∷ history) order hart ≡ is_collected setup history order hart
 
 -- no order comes, and none is opened or finished
-pub record KeepsOrders (C : Setup) (turn : Turn) (H : History) : Type 0 where
-  pub orders : (k : ℕ) → order_at C (turn ∷ H) k ≡ order_at C H k
-  pub tickets : (s t : ℕ) → open_order (turn ∷ H) s t ≡ open_order H s t
+pub record KeepsOrders (setup : Setup) (turn : Turn) (history : History) : Type 0 where
+  pub orders : (order : ℕ) → order_at setup (turn ∷ history) order ≡ order_at setup history order
+  pub tickets : (s t : ℕ) → open_order (turn ∷ history) s t ≡ open_order history s t
 
 -- of no other space the status or the ASID changes
-pub record KeepsOtherSpaces (C : Setup) (turn : Turn) (H : History) (space : ℕ) : Type 0 where
-  pub statuses : (s : ℕ) → s ≢ space → status_of (turn ∷ H) s ≡ status_of H s
-  pub asids : (s : ℕ) → s ≢ space → asid_of C (turn ∷ H) s ≡ asid_of C H s
+pub record KeepsOtherSpaces (setup : Setup) (turn : Turn) (history : History) (space : ℕ) : Type 0 where
+  pub statuses : (s : ℕ) → s ≢ space → status_of (turn ∷ history) s ≡ status_of history s
+  pub asids : (s : ℕ) → s ≢ space → asid_of setup (turn ∷ history) s ≡ asid_of setup history s
 
 -- the order of a retirement asks each hart to drop the ASID that the space has
-pub record IsOrderToDrop (C : Setup) (H : History) (hart space ticket : ℕ) (order : Order) : Type 0 where
+pub record IsOrderToDrop (setup : Setup) (history : History) (hart space ticket : ℕ) (order : Order) : Type 0 where
   pub sender : order.sender ≡ hart
   pub number : order.ticket ≡ ticket
-  pub asked : order.what ≡ SpaceOf (asid_of C H space)
+  pub asked : order.what ≡ SpaceOf (asid_of setup history space)
   pub cause : order.cause ≡ Flushed
-  pub named : (h : ℕ) → h < MAX_HARTS → (contains order.named h ≡ true → h < C.harts) × (h < C.harts → contains order.named h ≡ true)
+  pub named : (other : ℕ) → other < MAX_HARTS → (contains order.named other ≡ true → other < setup.harts) × (other < setup.harts → contains order.named other ≡ true)
 
 -- after a Retire the space is retiring since the order that the turn opened under the ticket
-pub record AfterRetire (C : Setup) (H : History) (hart space ticket : ℕ) : Type 0 where
-  pub status : status_of (retire hart space ticket ∷ H) space ≡ Retires (length H)
-  pub same_asid : asid_of C (retire hart space ticket ∷ H) space ≡ asid_of C H space
+pub record AfterRetire (setup : Setup) (history : History) (hart space ticket : ℕ) : Type 0 where
+  pub status : status_of (retire hart space ticket ∷ history) space ≡ Retires (length history)
+  pub same_asid : asid_of setup (retire hart space ticket ∷ history) space ≡ asid_of setup history space
   pub order : Order
-  pub is : order_at C (retire hart space ticket ∷ H) (length H) ≡ Some order
-  pub to_drop : IsOrderToDrop C H hart space ticket order
-  pub opened : open_order (retire hart space ticket ∷ H) hart ticket ≡ Some (length H)
-  pub other_orders : (k : ℕ) → k ≢ length H → order_at C (retire hart space ticket ∷ H) k ≡ order_at C H k
-  pub other_tickets : (s t : ℕ) → (s ≡ hart → t ≢ ticket) → open_order (retire hart space ticket ∷ H) s t ≡ open_order H s t
-  pub other_spaces : KeepsOtherSpaces C (retire hart space ticket) H space
-  pub tables : KeepsTables C (retire hart space ticket) H
-  pub harts : KeepsHarts C (retire hart space ticket) H
-  pub mailboxes : KeepsMailboxes C (retire hart space ticket) H
+  pub is : order_at setup (retire hart space ticket ∷ history) (length history) ≡ Some order
+  pub to_drop : IsOrderToDrop setup history hart space ticket order
+  pub opened : open_order (retire hart space ticket ∷ history) hart ticket ≡ Some (length history)
+  pub other_orders : (number : ℕ) → number ≢ length history → order_at setup (retire hart space ticket ∷ history) number ≡ order_at setup history number
+  pub other_tickets : (s t : ℕ) → (s ≡ hart → t ≢ ticket) → open_order (retire hart space ticket ∷ history) s t ≡ open_order history s t
+  pub other_spaces : KeepsOtherSpaces setup (retire hart space ticket) history space
+  pub tables : KeepsTables setup (retire hart space ticket) history
+  pub harts : KeepsHarts setup (retire hart space ticket) history
+  pub mailboxes : KeepsMailboxes setup (retire hart space ticket) history
 
 -- after a Reclaim the space is free, its words are 0 and its frames unused
-pub record AfterReclaim (C : Setup) (H : History) (hart space : ℕ) : Type 0 where
-  pub status : status_of (reclaim hart space ∷ H) space ≡ Free
-  pub same_asid : asid_of C (reclaim hart space ∷ H) space ≡ asid_of C H space
-  pub words : EmptiesWords C.layout space (holder_of H) (words_of C H) (words_of C (reclaim hart space ∷ H))
-  pub holders : GivesBack space (holder_of H) (holder_of (reclaim hart space ∷ H))
-  pub other_spaces : KeepsOtherSpaces C (reclaim hart space) H space
-  pub orders : KeepsOrders C (reclaim hart space) H
-  pub harts : KeepsHarts C (reclaim hart space) H
-  pub mailboxes : KeepsMailboxes C (reclaim hart space) H
+pub record AfterReclaim (setup : Setup) (history : History) (hart space : ℕ) : Type 0 where
+  pub status : status_of (reclaim hart space ∷ history) space ≡ Free
+  pub same_asid : asid_of setup (reclaim hart space ∷ history) space ≡ asid_of setup history space
+  pub words : EmptiesWords setup.layout space (holder_of history) (words_of setup history) (words_of setup (reclaim hart space ∷ history))
+  pub holders : GivesBack space (holder_of history) (holder_of (reclaim hart space ∷ history))
+  pub other_spaces : KeepsOtherSpaces setup (reclaim hart space) history space
+  pub orders : KeepsOrders setup (reclaim hart space) history
+  pub harts : KeepsHarts setup (reclaim hart space) history
+  pub mailboxes : KeepsMailboxes setup (reclaim hart space) history
 
 -- after a Create the space is live and has the ASID
-pub record AfterCreate (C : Setup) (H : History) (hart space asid : ℕ) : Type 0 where
-  pub status : status_of (create hart space asid ∷ H) space ≡ Live
-  pub given : asid_of C (create hart space asid ∷ H) space ≡ asid
-  pub other_spaces : KeepsOtherSpaces C (create hart space asid) H space
-  pub tables : KeepsTables C (create hart space asid) H
-  pub orders : KeepsOrders C (create hart space asid) H
-  pub harts : KeepsHarts C (create hart space asid) H
-  pub mailboxes : KeepsMailboxes C (create hart space asid) H
+pub record AfterCreate (setup : Setup) (history : History) (hart space asid : ℕ) : Type 0 where
+  pub status : status_of (create hart space asid ∷ history) space ≡ Live
+  pub given : asid_of setup (create hart space asid ∷ history) space ≡ asid
+  pub other_spaces : KeepsOtherSpaces setup (create hart space asid) history space
+  pub tables : KeepsTables setup (create hart space asid) history
+  pub orders : KeepsOrders setup (create hart space asid) history
+  pub harts : KeepsHarts setup (create hart space asid) history
+  pub mailboxes : KeepsMailboxes setup (create hart space asid) history

@@ -11,27 +11,27 @@ use Rattle.history.specs.Mailboxes.{Sent, posts, taken}
 
 -- the n-th accepted Take of a pair takes its n-th accepted post
 abbrev pub served_after : Setup → Event → Reply → History → ℕ → Option Sent → Option Sent
-served_after C (Take hart from) reply H h old = if is_taken reply && (hart == h) then slice_get (posts C H from hart) (length (taken H from hart)) else old
-served_after C (Ack hart) reply H h old = if is_ok reply && (hart == h) then None else old
-served_after C _ reply H h old = old
+served_after setup (Take by from) reply history hart old = if is_taken reply && (by == hart) then slice_get (posts setup history from by) (length (taken history from by)) else old
+served_after setup (Ack by) reply history hart old = if is_ok reply && (by == hart) then None else old
+served_after setup _ reply history hart old = old
 
 abbrev pub served : Setup → History → ℕ → Option Sent
-served C [] h = None
-served C (turn ∷ H) h = served_after C turn.event turn.reply H h (served C H h)
+served setup [] hart = None
+served setup (turn ∷ history) hart = served_after setup turn.event turn.reply history hart (served setup history hart)
 
 -- a ServeFence was accepted since the hart took what it serves
 abbrev pub fenced_after : Event → Reply → ℕ → Bool → Bool
-fenced_after (Take hart from) reply h old = if is_taken reply && (hart == h) then false else old
-fenced_after (ServeFence hart) reply h old = if is_ok reply && (hart == h) then true else old
-fenced_after _ reply h old = old
+fenced_after (Take by from) reply hart old = if is_taken reply && (by == hart) then false else old
+fenced_after (ServeFence by) reply hart old = if is_ok reply && (by == hart) then true else old
+fenced_after _ reply hart old = old
 
 abbrev pub has_fenced : History → ℕ → Bool
-has_fenced [] h = false
-has_fenced (turn ∷ H) h = fenced_after turn.event turn.reply h (has_fenced H h)
+has_fenced [] hart = false
+has_fenced (turn ∷ history) hart = fenced_after turn.event turn.reply hart (has_fenced history hart)
 
 abbrev pub is_served : Option Sent → ℕ → Bool
-is_served None k = false
-is_served (Some sent) k = sent.order == k
+is_served None order = false
+is_served (Some sent) order = sent.order == order
 
 abbrev pub what_served : Option Sent → What
 what_served None = All

@@ -16,4 +16,4 @@ setup_of config = record { harts = config.harts; capacity = config.capacity; asi
 
 -- the hart is there
 abbrev pub is_hart : Setup → ℕ → Bool
-is_hart C h = nat_lt h C.harts
+is_hart setup hart = nat_lt hart setup.harts

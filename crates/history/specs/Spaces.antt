@@ -23,14 +23,14 @@ status_after _ reply place s old = old
 
 abbrev pub status_of : History → ℕ → Status
 status_of [] s = Live
-status_of (turn ∷ H) s = status_after turn.event turn.reply (length H) s (status_of H s)
+status_of (turn ∷ history) s = status_after turn.event turn.reply (length history) s (status_of history s)
 
 abbrev pub is_free : Status → Bool
 is_free Free = true
 is_free _ = false
 
 abbrev pub is_retiring : Status → Bool
-is_retiring (Retires k) = true
+is_retiring (Retires order) = true
 is_retiring _ = false
 
 -- the ASID of the last accepted Create, else that of the opening
@@ -39,13 +39,13 @@ asid_after (Create hart space asid) reply s old = if is_ok reply && (space == s)
 asid_after _ reply s old = old
 
 abbrev pub asid_of : Setup → History → ℕ → ℕ
-asid_of C [] s = slice_index C.asids s
-asid_of C (turn ∷ H) s = asid_after turn.event turn.reply s (asid_of C H s)
+asid_of setup [] s = slice_index setup.asids s
+asid_of setup (turn ∷ history) s = asid_after turn.event turn.reply s (asid_of setup history s)
 
 -- the ASID of a page of a place; one of the kernel is for every ASID
 abbrev pub asid_in : Setup → History → Place → Option ℕ
-asid_in C H (Space s) = Some (asid_of C H s)
-asid_in C H Kernel = None
+asid_in setup history (Space s) = Some (asid_of setup history s)
+asid_in setup history Kernel = None
 
 -- the place that a spare frame is in use for: that of the Map which was answered with it, until the space is reclaimed
 abbrev pub holder_after : Event → Reply → ℕ → Option Place → Option Place
@@ -55,4 +55,4 @@ holder_after _ reply frame old = old
 
 abbrev pub holder_of : History → ℕ → Option Place
 holder_of [] frame = None
-holder_of (turn ∷ H) frame = holder_after turn.event turn.reply frame (holder_of H frame)
+holder_of (turn ∷ history) frame = holder_after turn.event turn.reply frame (holder_of history frame)

@@ -39,22 +39,22 @@ is_over_order (Some order) other span = is_over order.cause other span
 
 -- after the order a leaf was mapped over its page, in a place that then had its ASID
 abbrev pub anew_after : Setup → Event → Reply → History → ℕ → Bool → Bool
-anew_after C (Map hart place page ppn flags) reply H k old = (is_leaf reply && is_over_order (order_at C H k) (asid_in C H place) page) || old
-anew_after C _ reply H k old = old
+anew_after setup (Map hart place page ppn flags) reply history order old = (is_leaf reply && is_over_order (order_at setup history order) (asid_in setup history place) page) || old
+anew_after setup _ reply history order old = old
 
 abbrev pub is_mapped_anew : Setup → History → ℕ → Bool
-is_mapped_anew C [] k = false
-is_mapped_anew C (turn ∷ H) k = anew_after C turn.event turn.reply H k (is_mapped_anew C H k)
+is_mapped_anew setup [] order = false
+is_mapped_anew setup (turn ∷ history) order = anew_after setup turn.event turn.reply history order (is_mapped_anew setup history order)
 
 -- after the order a page over its page was unmapped or got other flags, in a place that then had its ASID
 abbrev pub superseded_after : Setup → Event → Reply → History → ℕ → Bool → Bool
-superseded_after C (Unmap hart place page named) reply H k old = (is_opened reply && is_over_order (order_at C H k) (asid_in C H place) page) || old
-superseded_after C (Protect hart place page flags named) reply H k old = (is_opened reply && is_over_order (order_at C H k) (asid_in C H place) page) || old
-superseded_after C _ reply H k old = old
+superseded_after setup (Unmap hart place page named) reply history order old = (is_opened reply && is_over_order (order_at setup history order) (asid_in setup history place) page) || old
+superseded_after setup (Protect hart place page flags named) reply history order old = (is_opened reply && is_over_order (order_at setup history order) (asid_in setup history place) page) || old
+superseded_after setup _ reply history order old = old
 
 abbrev pub is_superseded : Setup → History → ℕ → Bool
-is_superseded C [] k = false
-is_superseded C (turn ∷ H) k = superseded_after C turn.event turn.reply H k (is_superseded C H k)
+is_superseded setup [] order = false
+is_superseded setup (turn ∷ history) order = superseded_after setup turn.event turn.reply history order (is_superseded setup history order)
 
 -- the address space of a page: that of its ASID, or, of the kernel, every one
 abbrev pub IsAsidOf : Option ℕ → ℕ → Type 0
@@ -62,33 +62,33 @@ IsAsidOf (Some a) asid = asid ≡ a
 IsAsidOf None asid = Unit {0}
 
 -- h is named by the order k, and has acknowledged it
-pub record HasAnswered (C : Setup) (H : History) (k h : ℕ) (cause : Cause) : Type 0 where
+pub record HasAnswered (setup : Setup) (history : History) (number hart : ℕ) (cause : Cause) : Type 0 where
   pub order : Order
-  pub is : order_at C H k ≡ Some order
+  pub is : order_at setup history number ≡ Some order
   pub same_cause : order.cause ≡ cause
-  pub named : contains order.named h ≡ true
-  pub acked : is_acked C H k h ≡ true
+  pub named : contains order.named hart ≡ true
+  pub acked : is_acked setup history number hart ≡ true
 
 -- Clear: once h has acknowledged the unmapping k, these entries of its TLB translate no address of the page in its address
 -- space, until the page is mapped anew
 abbrev pub Clear : Setup → History → List Entry → ℕ → ℕ → Type 0
-Clear C H entries k h =
-    (of : Option ℕ) (page : Span) → HasAnswered C H k h (Unmapped of page) → is_mapped_anew C H k ≡ false
+Clear setup history entries order hart =
+    (of : Option ℕ) (page : Span) → HasAnswered setup history order hart (Unmapped of page) → is_mapped_anew setup history order ≡ false
     → (asid va : ℕ) → IsAsidOf of asid → Holds page va → ¬ Translates (IsMappedBy entries) asid va
 
 -- the space is there and not free, and has this ASID
-pub record HasAsid (C : Setup) (H : History) (s asid : ℕ) : Type 0 where
-  pub there : s < length C.asids
-  pub kept : is_free (status_of H s) ≡ false
-  pub same : asid_of C H s ≡ asid
+pub record HasAsid (setup : Setup) (history : History) (s asid : ℕ) : Type 0 where
+  pub there : s < length setup.asids
+  pub kept : is_free (status_of history s) ≡ false
+  pub same : asid_of setup history s ≡ asid
 
 -- a page of an ASID is reached through the live or retiring space that has the ASID, one of the kernel through any
 abbrev pub Reaches : Setup → History → Option ℕ → ℕ → Type 0
-Reaches C H (Some asid) s = HasAsid C H s asid
-Reaches C H None s = s < length C.asids
+Reaches setup history (Some asid) s = HasAsid setup history s asid
+Reaches setup history None s = s < length setup.asids
 
 abbrev pub IsRootOf : Setup → History → Option ℕ → ℕ → Type 0
-IsRootOf C H of root = (s : ℕ) × Reaches C H of s × (root ≡ root_ppn C.layout s)
+IsRootOf setup history of root = (s : ℕ) × Reaches setup history of s × (root ≡ root_ppn setup.layout s)
 
 -- the mapping is for an address space of the page
 abbrev pub IsForAsid : Option ℕ → Mapping → Type 0
@@ -96,12 +96,12 @@ IsForAsid of m = (m.asid ≡ None) ⊎ ((asid : ℕ) × (m.asid ≡ Some asid) �
 
 -- the tables of the root map the page to the mapping's PPN with its flags, as global exactly if the mapping is for every ASID
 abbrev pub IsMapped : Setup → History → ℕ → Mapping → Type 0
-IsMapped C H root m = Maps C.layout.scheme (words_of C H) root m.page m.ppn m.flags (is_none m.asid)
+IsMapped setup history root m = Maps setup.layout.scheme (words_of setup history) root m.page m.ppn m.flags (is_none m.asid)
 
 -- there is a root through which the page is reached, and each such root maps it so
-pub record IsMappedNow (C : Setup) (H : History) (of : Option ℕ) (m : Mapping) : Type 0 where
-  pub some : (root : ℕ) × IsRootOf C H of root
-  pub each : (root : ℕ) → IsRootOf C H of root → IsMapped C H root m
+pub record IsMappedNow (setup : Setup) (history : History) (of : Option ℕ) (m : Mapping) : Type 0 where
+  pub some : (root : ℕ) × IsRootOf setup history of root
+  pub each : (root : ℕ) → IsRootOf setup history of root → IsMapped setup history root m
 
 -- Coherent: once h has acknowledged the unmapping or the change k, each mapping of the page that these entries of its TLB
 -- hold for its address space is mapped now, until the page is unmapped or changed once more
@@ -109,21 +109,21 @@ abbrev pub IsChange : Cause → Option ℕ → Span → Type 0
 IsChange cause of page = (cause ≡ Unmapped of page) ⊎ (cause ≡ Protected of page)
 
 abbrev pub Coherent : Setup → History → List Entry → ℕ → ℕ → Type 0
-Coherent C H entries k h =
-    (cause : Cause) (of : Option ℕ) (page : Span) → IsChange cause of page → HasAnswered C H k h cause → is_superseded C H k ≡ false
-    → (m : Mapping) → IsMappedBy entries m → IsForAsid of m → LiesIn page m.page → IsMappedNow C H of m
+Coherent setup history entries order hart =
+    (cause : Cause) (of : Option ℕ) (page : Span) → IsChange cause of page → HasAnswered setup history order hart cause → is_superseded setup history order ≡ false
+    → (m : Mapping) → IsMappedBy entries m → IsForAsid of m → LiesIn page m.page → IsMappedNow setup history of m
 
 -- what a hart may hold of ASIDs: no entry but a global one is of an ASID that no live or retiring space has
 abbrev pub IsOfUsedAsid : Setup → History → Entry → Type 0
-IsOfUsedAsid C H e = e.global ≡ false → (s : ℕ) × HasAsid C H s e.asid
+IsOfUsedAsid setup history e = e.global ≡ false → (s : ℕ) × HasAsid setup history s e.asid
 
 abbrev pub HoldsUsedAsids : Setup → History → List Entry → Type 0
-HoldsUsedAsids C H entries = All (IsOfUsedAsid C H) entries
+HoldsUsedAsids setup history entries = All (IsOfUsedAsid setup history) entries
 
 -- a walk in flight is of a live space, and the table that it has come to is no unused spare frame
 abbrev pub WalksUsedFrames : Setup → History → ℕ → Type 0
-WalksUsedFrames C H h =
-    (walk : Walking) → walk_of H h ≡ Some walk
-    → (status_of H (space_of H h) ≡ Live)
-    × ((hart n frame : ℕ) → n < slice_index C.layout.spares hart → frame ≡ spare_ppn C.layout hart + n → holder_of H frame ≡ None
-    → ¬ (table_after C.layout.scheme (words_of C H) (root_ppn C.layout (space_of H h)) walk.va walk.loads ≡ Some frame))
+WalksUsedFrames setup history hart =
+    (walk : Walking) → walk_of history hart ≡ Some walk
+    → (status_of history (space_of history hart) ≡ Live)
+    × ((owner n frame : ℕ) → n < slice_index setup.layout.spares owner → frame ≡ spare_ppn setup.layout owner + n → holder_of history frame ≡ None
+    → ¬ (table_after setup.layout.scheme (words_of setup history) (root_ppn setup.layout (space_of history hart)) walk.va walk.loads ≡ Some frame))

@@ -18,7 +18,7 @@ use Rattle.history.specs.Spaces.{holder_of}
 
 -- the store that is due for a wish of a hart, or why it is refused, by the words and by which spare frames are in use
 abbrev pub edit_due : Setup → Tables → Holders → ℕ → Wish → Result Store MapFault
-edit_due C words holders hart w = edit_of C.layout words (unused_spare C.layout holders hart) hart w
+edit_due setup words holders hart w = edit_of setup.layout words (unused_spare setup.layout holders hart) hart w
 
 -- the words once a store was made
 abbrev pub with_store : Tables → Result Store MapFault → Tables
@@ -26,15 +26,15 @@ with_store words (Ok store) = stored words store.ppn store.index store.word
 with_store words (Err fault) = words
 
 abbrev pub words_after : Setup → Event → Reply → Tables → Holders → Tables
-words_after C (Map hart place page ppn flags) reply words holders =
-    if is_table reply || is_leaf reply then with_store words (edit_due C words holders hart (wish.Map place page ppn flags)) else words
-words_after C (Unmap hart place page named) reply words holders =
-    if is_opened reply then with_store words (edit_due C words holders hart (wish.Unmap place page)) else words
-words_after C (Protect hart place page flags named) reply words holders =
-    if is_opened reply then with_store words (edit_due C words holders hart (wish.Protect place page flags)) else words
-words_after C (Reclaim hart space) reply words holders = if is_ok reply then emptied C.layout holders space words else words
-words_after C _ reply words holders = words
+words_after setup (Map hart place page ppn flags) reply words holders =
+    if is_table reply || is_leaf reply then with_store words (edit_due setup words holders hart (wish.Map place page ppn flags)) else words
+words_after setup (Unmap hart place page named) reply words holders =
+    if is_opened reply then with_store words (edit_due setup words holders hart (wish.Unmap place page)) else words
+words_after setup (Protect hart place page flags named) reply words holders =
+    if is_opened reply then with_store words (edit_due setup words holders hart (wish.Protect place page flags)) else words
+words_after setup (Reclaim hart space) reply words holders = if is_ok reply then emptied setup.layout holders space words else words
+words_after setup _ reply words holders = words
 
 abbrev pub words_of : Setup → History → Tables
-words_of C [] = opening C.layout
-words_of C (turn ∷ H) = words_after C turn.event turn.reply (words_of C H) (holder_of H)
+words_of setup [] = opening setup.layout
+words_of setup (turn ∷ history) = words_after setup turn.event turn.reply (words_of setup history) (holder_of history)

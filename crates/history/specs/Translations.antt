@@ -16,10 +16,10 @@ use Rattle.history.specs.Harts.{Walking, walk_of, space_of}
 use Rattle.history.specs.Occurrences.{LeadsOn, IsProgress}
 
 -- the hart is there, in no walk, and serves no request
-pub record MayBegin (C : Setup) (H : History) (hart : ℕ) : Type 0 where
-  pub there : hart < C.harts
-  pub still : walk_of H hart ≡ None
-  pub free : served C H hart ≡ None
+pub record MayBegin (setup : Setup) (history : History) (hart : ℕ) : Type 0 where
+  pub there : hart < setup.harts
+  pub still : walk_of history hart ≡ None
+  pub free : served setup history hart ≡ None
 
 -- the entry's page has the address, and the entry is global or of the ASID
 abbrev pub Matches : ℕ → ℕ → Entry → Type 0
@@ -38,11 +38,11 @@ abbrev pub NoneMatches : List Entry → ℕ → ℕ → Type 0
 NoneMatches entries asid va = (other : Entry) (front back : List Entry) → entries ≡ front ++ other ∷ back → ¬ Matches asid va other
 
 -- the hart is in this walk, the address leads to no further pointer, and this is the outcome of its access in the words of now
-pub record WalkEnds (C : Setup) (H : History) (hart : ℕ) (walk : Walking) (answer : Result Found Trap) : Type 0 where
-  pub there : hart < C.harts
-  pub walking : walk_of H hart ≡ Some walk
-  pub last : ¬ LeadsOn C.layout.scheme (words_of C H) (root_ppn C.layout (space_of H hart)) walk
-  pub outcome : Outcome C.layout.scheme (words_of C H) (root_ppn C.layout (space_of H hart)) walk.va walk.access walk.ctx answer
+pub record WalkEnds (setup : Setup) (history : History) (hart : ℕ) (walk : Walking) (answer : Result Found Trap) : Type 0 where
+  pub there : hart < setup.harts
+  pub walking : walk_of history hart ≡ Some walk
+  pub last : ¬ LeadsOn setup.layout.scheme (words_of setup history) (root_ppn setup.layout (space_of history hart)) walk
+  pub outcome : Outcome setup.layout.scheme (words_of setup history) (root_ppn setup.layout (space_of history hart)) walk.va walk.access walk.ctx answer
 
 -- an accepted turn of the hart that touches its TLB: a Load that fills, a Fence, a ServeFence, an AckSelf
 abbrev pub Fills : ℕ → Turn → Type 0

@@ -12,6 +12,9 @@ pub record Turn : Type 0 where
 abbrev pub History : Type 0
 History = List Turn
 
+abbrev pub with_turn : Event → Reply → History → History
+with_turn event reply history = record { event = event; reply = reply } ∷ history
+
 -- what a reply tells
 abbrev pub is_ok : Reply → Bool
 is_ok reply.Ok = true

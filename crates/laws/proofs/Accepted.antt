@@ -31,7 +31,8 @@ use Rattle.history.specs.Mailboxes.{waiting, is_closed}
 use Rattle.history.specs.Service.{served, has_fenced}
 use Rattle.history.specs.Acknowledgements.{is_posted, is_collected, outstanding}
 use Rattle.history.specs.Harts.{walk_of}
-use Rattle.history.specs.Due.{refuse, are_pair, is_number, is_space, is_place, retires, is_in_use, reclaim_reply, is_asid_of, edit_at, due, least_free, open_reply, opened_reply, edit_reply, post_reply, names, next_reply, collect_reply, finish_reply, is_done}
+use Rattle.history.specs.Due.{are_pair, is_number, is_space, is_place, retires, is_in_use, reclaim_reply, is_asid_of, edit_at, due, least_free, open_reply, opened_reply, edit_reply, names, next_reply, is_done}
+use Rattle.history.proofs.Passing.{refuse, post_reply, collect_reply, finish_reply}
 pub use Rattle.history.proofs.Occurred.{turn_of}
 pub use Rattle.history.proofs.Passing.{is_accepted, passed}
 use Rattle.laws.proofs.Tools.{none_since, none_by, by_test, and3, none_where, contains_below}

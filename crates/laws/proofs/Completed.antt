@@ -13,7 +13,8 @@ use Rattle.history.specs.Turns.{Turn, History}
 use Rattle.history.specs.Orders.{open_order, order_at}
 use Rattle.history.specs.Harts.{entries_of, walk_of}
 use Rattle.history.specs.Acknowledgements.{is_acked, is_collected, collected_after}
-use Rattle.history.specs.Due.{ack_self_reply, collect_reply, due, Lawful, left_after, left_reply, names}
+use Rattle.history.specs.Due.{due, Lawful, left_after, left_reply, names}
+use Rattle.history.proofs.Passing.{ack_self_reply, collect_reply}
 use Rattle.history.specs.Completion.{ClearOnceDone, IsDoneAt}
 use Rattle.history.specs.Occurrences.{Sometime}
 use Rattle.history.specs.Staleness.{Clear}

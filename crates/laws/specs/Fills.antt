@@ -11,15 +11,15 @@ use Rattle.history.specs.Harts.{Walking, walk_of, space_of, outcome_of}
 use Rattle.history.specs.Acknowledgements.{is_acked}
 
 -- the turn is a Load of h that finds a leaf in the words of now, and the entry is what it fills
-pub record Fills (C : Setup) (h : ℕ) (e : Entry) (turn : Turn) (before : History) : Type 0 where
+pub record Fills (setup : Setup) (hart : ℕ) (e : Entry) (turn : Turn) (before : History) : Type 0 where
   pub walk : Walking
   pub found : Found
-  pub event : turn.event ≡ Load h
+  pub event : turn.event ≡ Load hart
   pub accepted : is_filled turn.reply ≡ true
-  pub walking : walk_of before h ≡ Some walk
-  pub finds : outcome_of C before (space_of before h) walk ≡ Ok found
-  pub is : e ≡ entry_of (asid_of C before (space_of before h)) found
+  pub walking : walk_of before hart ≡ Some walk
+  pub finds : outcome_of setup before (space_of before hart) walk ≡ Ok found
+  pub is : e ≡ entry_of (asid_of setup before (space_of before hart)) found
 
 -- the same, once h had acknowledged the order k
 abbrev pub FillsAcked : Setup → ℕ → ℕ → Entry → Turn → History → Type 0
-FillsAcked C k h e turn before = (is_acked C before k h ≡ true) × Fills C h e turn before
+FillsAcked setup order hart e turn before = (is_acked setup before order hart ≡ true) × Fills setup hart e turn before

@@ -29,55 +29,55 @@ HasPage _ = Unit {0}
 
 abbrev pub HavePages : History → Type 0
 HavePages [] = Unit {0}
-HavePages (turn ∷ H) = HavePages H × HasPage turn.event
+HavePages (turn ∷ history) = HavePages history × HasPage turn.event
 
 -- there is a space, and each has an ASID of its own at the opening
-pub record HasAsids (C : Setup) : Type 0 where
-  pub some_space : 0 < length C.asids
-  pub bound : (s : ℕ) → s < length C.asids → asid_of C [] s < 2 ^ asid_bits
-  pub distinct : (s t : ℕ) → s < length C.asids → t < length C.asids → asid_of C [] s ≡ asid_of C [] t → s ≡ t
+pub record HasAsids (setup : Setup) : Type 0 where
+  pub some_space : 0 < length setup.asids
+  pub bound : (s : ℕ) → s < length setup.asids → asid_of setup [] s < 2 ^ asid_bits
+  pub distinct : (s t : ℕ) → s < length setup.asids → t < length setup.asids → asid_of setup [] s ≡ asid_of setup [] t → s ≡ t
 
 -- what the laws ask of a setup: a layout and harts within the limits, and an ASID of its own for each of its spaces
-pub record IsSetup (C : Setup) : Type 0 where
-  pub harts : C.harts ≤ MAX_HARTS
-  pub layout : IsLayout C.layout
-  pub homes : length C.asids ≡ length C.layout.homes
-  pub asids : HasAsids C
+pub record IsSetup (setup : Setup) : Type 0 where
+  pub harts : setup.harts ≤ MAX_HARTS
+  pub layout : IsLayout setup.layout
+  pub homes : length setup.asids ≡ length setup.layout.homes
+  pub asids : HasAsids setup
 
 -- nothing is mapped in the page of an unmapping, from any root through which it is reached, until it is mapped anew
 abbrev pub StaysUnmapped : Setup → History → Type 0
-StaysUnmapped C H =
-    (k : ℕ) (order : Order) (of : Option ℕ) (page : Span) → order_at C H k ≡ Some order → order.cause ≡ Unmapped of page → is_mapped_anew C H k ≡ false
-    → (root n ppn : ℕ) (flags : PteFlags) (global : Bool) → IsRootOf C H of root → LiesIn page n → ¬ Maps C.layout.scheme (words_of C H) root n ppn flags global
+StaysUnmapped setup history =
+    (number : ℕ) (order : Order) (of : Option ℕ) (page : Span) → order_at setup history number ≡ Some order → order.cause ≡ Unmapped of page → is_mapped_anew setup history number ≡ false
+    → (root n ppn : ℕ) (flags : PteFlags) (global : Bool) → IsRootOf setup history of root → LiesIn page n → ¬ Maps setup.layout.scheme (words_of setup history) root n ppn flags global
 
 -- no page of the user's half is mapped global, from the root of any space
 abbrev pub UserPagesAreNotGlobal : Setup → History → Type 0
-UserPagesAreNotGlobal C H =
-    (s space : ℕ) (page : Span) (n ppn : ℕ) (flags : PteFlags) → IsPage page → is_wrong_half C.layout (Space s) page ≡ false → space < length C.asids → LiesIn page n
-    → ¬ Maps C.layout.scheme (words_of C H) (root_ppn C.layout space) n ppn flags true
+UserPagesAreNotGlobal setup history =
+    (s space : ℕ) (page : Span) (n ppn : ℕ) (flags : PteFlags) → IsPage page → is_wrong_half setup.layout (Space s) page ≡ false → space < length setup.asids → LiesIn page n
+    → ¬ Maps setup.layout.scheme (words_of setup history) (root_ppn setup.layout space) n ppn flags true
 
 -- what is mapped in the page of an unmapping or a change of flags stays mapped, over one more turn, until the page is unmapped
 -- or changed once more, from a root through which the page is reached after the turn too
 abbrev pub StaysMapped : Setup → Turn → History → Type 0
-StaysMapped C turn H =
-    (k : ℕ) (order : Order) (of : Option ℕ) (page : Span) → order_at C H k ≡ Some order → IsChange order.cause of page → is_superseded C (turn ∷ H) k ≡ false
-    → (root n ppn : ℕ) (flags : PteFlags) (global : Bool) → IsRootOf C H of root → IsRootOf C (turn ∷ H) of root → LiesIn page n
-    → Maps C.layout.scheme (words_of C H) root n ppn flags global → Maps C.layout.scheme (words_of C (turn ∷ H)) root n ppn flags global
+StaysMapped setup turn history =
+    (number : ℕ) (order : Order) (of : Option ℕ) (page : Span) → order_at setup history number ≡ Some order → IsChange order.cause of page → is_superseded setup (turn ∷ history) number ≡ false
+    → (root n ppn : ℕ) (flags : PteFlags) (global : Bool) → IsRootOf setup history of root → IsRootOf setup (turn ∷ history) of root → LiesIn page n
+    → Maps setup.layout.scheme (words_of setup history) root n ppn flags global → Maps setup.layout.scheme (words_of setup (turn ∷ history)) root n ppn flags global
 
 -- what is mapped in the window from one root is mapped from each
 abbrev pub WindowIsShared : Setup → History → Type 0
-WindowIsShared C H =
-    (page : Span) (s t n ppn : ℕ) (flags : PteFlags) (global : Bool) → IsPage page → is_wrong_half C.layout Kernel page ≡ false → s < length C.asids → t < length C.asids
-    → LiesIn page n → Maps C.layout.scheme (words_of C H) (root_ppn C.layout s) n ppn flags global → Maps C.layout.scheme (words_of C H) (root_ppn C.layout t) n ppn flags global
+WindowIsShared setup history =
+    (page : Span) (s t n ppn : ℕ) (flags : PteFlags) (global : Bool) → IsPage page → is_wrong_half setup.layout Kernel page ≡ false → s < length setup.asids → t < length setup.asids
+    → LiesIn page n → Maps setup.layout.scheme (words_of setup history) (root_ppn setup.layout s) n ppn flags global → Maps setup.layout.scheme (words_of setup history) (root_ppn setup.layout t) n ppn flags global
 
 -- no two live or retiring spaces have one ASID
 abbrev pub AsidsDiffer : Setup → History → Type 0
-AsidsDiffer C H =
-    (s t : ℕ) → s < length C.asids → t < length C.asids → is_free (status_of H s) ≡ false → is_free (status_of H t) ≡ false
-    → asid_of C H s ≡ asid_of C H t → s ≡ t
+AsidsDiffer setup history =
+    (s t : ℕ) → s < length setup.asids → t < length setup.asids → is_free (status_of history s) ≡ false → is_free (status_of history t) ≡ false
+    → asid_of setup history s ≡ asid_of setup history t → s ≡ t
 
 -- a free space maps nothing in the user's half
 abbrev pub FreeMapsNothing : Setup → History → Type 0
-FreeMapsNothing C H =
-    (s : ℕ) (page : Span) (n ppn : ℕ) (flags : PteFlags) (global : Bool) → s < length C.asids → is_free (status_of H s) ≡ true
-    → IsPage page → is_wrong_half C.layout (Space s) page ≡ false → LiesIn page n → ¬ Maps C.layout.scheme (words_of C H) (root_ppn C.layout s) n ppn flags global
+FreeMapsNothing setup history =
+    (s : ℕ) (page : Span) (n ppn : ℕ) (flags : PteFlags) (global : Bool) → s < length setup.asids → is_free (status_of history s) ≡ true
+    → IsPage page → is_wrong_half setup.layout (Space s) page ≡ false → LiesIn page n → ¬ Maps setup.layout.scheme (words_of setup history) (root_ppn setup.layout s) n ppn flags global

@@ -9,16 +9,16 @@ use Rattle.history.specs.Orders.{Order, order_at}
 
 -- what is known of the order at a place of a history: the place is that of a turn, its ticket is below 64, and it names its own
 -- sender and only harts that can be there
-pub record IsOrder (H : History) (k : ℕ) (order : Order) : Type 0 where
-  pub below : k < length H
+pub record IsOrder (history : History) (number : ℕ) (order : Order) : Type 0 where
+  pub below : number < length history
   pub ticket_bound : order.ticket < MAX_TICKETS
   pub names_sender : order.sender < MAX_HARTS → contains order.named order.sender ≡ true
-  pub names_harts : (h : ℕ) → contains order.named h ≡ true → h < MAX_HARTS
+  pub names_harts : (hart : ℕ) → contains order.named hart ≡ true → hart < MAX_HARTS
 
 -- the order k was opened by this sender under this ticket
-pub record IsOpenedBy (C : Setup) (H : History) (s t k : ℕ) : Type 0 where
+pub record IsOpenedBy (setup : Setup) (history : History) (s t number : ℕ) : Type 0 where
   pub order : Order
-  pub is : order_at C H k ≡ Some order
+  pub is : order_at setup history number ≡ Some order
   pub sender : order.sender ≡ s
   pub ticket : order.ticket ≡ t
 

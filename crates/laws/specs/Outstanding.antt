@@ -10,12 +10,12 @@ use Rattle.history.specs.Acknowledgements.{is_acked, is_collected}
 
 -- the acknowledgement by h of an open order is there, and not collected yet
 abbrev pub is_collectable : Setup → History → Option ℕ → ℕ → Bool
-is_collectable C H None h = false
-is_collectable C H (Some k) h = is_acked C H k h && not (is_collected C H k h)
+is_collectable setup history None hart = false
+is_collectable setup history (Some order) hart = is_acked setup history order hart && not (is_collected setup history order hart)
 
 -- a Post adds one, and a Collect that finds an acknowledgement to collect takes one away
 abbrev pub outstanding_after : Setup → Event → Reply → History → ℕ → ℕ → ℕ → ℕ
-outstanding_after C (Post hart ticket to) reply H s h old = if is_ok reply && are_same hart to s h then old + 1 else old
-outstanding_after C (Collect hart ticket from) reply H s h old =
-    if is_progress reply && (are_same hart from s h && is_collectable C H (open_order H hart ticket) from) then old - 1 else old
-outstanding_after C _ reply H s h old = old
+outstanding_after setup (Post hart ticket to) reply history sender receiver old = if is_ok reply && are_same hart to sender receiver then old + 1 else old
+outstanding_after setup (Collect hart ticket from) reply history sender receiver old =
+    if is_progress reply && (are_same hart from sender receiver && is_collectable setup history (open_order history hart ticket) from) then old - 1 else old
+outstanding_after setup _ reply history sender receiver old = old

@@ -9,39 +9,39 @@ use Rattle.history.specs.Due.{names}
 use Rattle.laws.specs.Orders.{IsOpenedBy}
 
 -- a post from s to h: it is of an order of s, under its ticket, that asks what the request asks, names h, and is posted to it
-pub record IsAcceptedPost (C : Setup) (H : History) (s h : ℕ) (post : Sent) : Type 0 where
+pub record IsAcceptedPost (setup : Setup) (history : History) (s hart : ℕ) (post : Sent) : Type 0 where
   pub sender : post.sender ≡ s
-  pub apart : s ≢ h
-  pub opened : IsOpenedBy C H s post.request.ticket post.order
-  pub what : post.request.what ≡ what_asked (order_at C H post.order)
-  pub named : names (order_at C H post.order) h ≡ true
-  pub posted : is_posted H post.order h ≡ true
+  pub apart : s ≢ hart
+  pub opened : IsOpenedBy setup history s post.request.ticket post.order
+  pub what : post.request.what ≡ what_asked (order_at setup history post.order)
+  pub named : names (order_at setup history post.order) hart ≡ true
+  pub posted : is_posted history post.order hart ≡ true
 
 -- the order of the post is open under its ticket, and h has not acknowledged it
-pub record IsLive (C : Setup) (H : History) (h : ℕ) (post : Sent) : Type 0 where
-  pub is_open : open_order H post.sender post.request.ticket ≡ Some post.order
-  pub unacked : is_acked C H post.order h ≡ false
+pub record IsLive (setup : Setup) (history : History) (hart : ℕ) (post : Sent) : Type 0 where
+  pub is_open : open_order history post.sender post.request.ticket ≡ Some post.order
+  pub unacked : is_acked setup history post.order hart ≡ false
 
 -- the accepted posts that wait
 abbrev pub waiting_posts : Setup → History → ℕ → ℕ → List Sent
-waiting_posts C H s h = drop (length (taken H s h)) (posts C H s h)
+waiting_posts setup history sender receiver = drop (length (taken history sender receiver)) (posts setup history sender receiver)
 
 -- the post is of another order
 abbrev pub IsOfOther : ℕ → Sent → Type 0
-IsOfOther k post = k ≢ post.order
+IsOfOther order post = order ≢ post.order
 
 -- two posts are of different orders
 abbrev pub AreOfDifferent : Sent → Sent → Type 0
 AreOfDifferent a b = IsOfOther a.order b
 
 -- h opened the order k
-pub record IsOwn (C : Setup) (H : History) (k h : ℕ) : Type 0 where
+pub record IsOwn (setup : Setup) (history : History) (number hart : ℕ) : Type 0 where
   pub order : Order
-  pub is : order_at C H k ≡ Some order
-  pub sender : order.sender ≡ h
+  pub is : order_at setup history number ≡ Some order
+  pub sender : order.sender ≡ hart
 
 -- a post of the order k stands in the list
-pub record StandsIn (posts : List Sent) (k : ℕ) : Type 0 where
+pub record StandsIn (posts : List Sent) (order : ℕ) : Type 0 where
   pub post : Sent
   pub member : Contains posts post
-  pub is : post.order ≡ k
+  pub is : post.order ≡ order

@@ -20,7 +20,8 @@ use Rattle.history.specs.Mailboxes.{waiting, is_closed}
 use Rattle.history.specs.Service.{served, has_fenced}
 use Rattle.history.specs.Acknowledgements.{is_posted, outstanding}
 use Rattle.history.specs.Harts.{walk_of}
-use Rattle.history.specs.Due.{due, refuse, post_reply, next_reply}
+use Rattle.history.specs.Due.{due, next_reply}
+use Rattle.history.proofs.Passing.{refuse, post_reply}
 use Rattle.laws.proofs.Orders.{open_known}
 use Rattle.stepcore.specs.declared.serving.Serving.{Serving as Service}
 use Rattle.stepcore.specs.State.{State, IsMachine, hart_at, mailbox_at}

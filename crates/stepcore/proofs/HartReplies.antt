@@ -35,7 +35,8 @@ use Rattle.history.specs.Mailboxes.{Sent}
 use Rattle.history.specs.Service.{served, has_fenced}
 use Rattle.history.specs.Tables.{words_of, edit_due}
 use Rattle.history.specs.Harts.{Walking, walk_of, space_of, entries_of, outcome_of}
-use Rattle.history.specs.Due.{refuse, match_reply, begin_reply, load_reply, end_reply, edit_at, edit_reply, map_reply, open_reply, due}
+use Rattle.history.specs.Due.{match_reply, begin_reply, load_reply, end_reply, edit_at, edit_reply, map_reply, open_reply, due}
+use Rattle.history.proofs.Passing.{refuse}
 use Rattle.laws.proofs.Tools.{by_test}
 use Rattle.stepcore.specs.State.{State, words_in, holders_in, hart_at, space_at}
 use Rattle.stepcore.specs.Answers.{asid_in, begin_answer, next_of, progress_answer, load_answer, edit_in, open_in, ack_answer, reply_to}

@@ -18,7 +18,8 @@ use Rattle.history.specs.Setup.{Setup}
 use Rattle.history.specs.Turns.{History}
 use Rattle.history.specs.declared.event.Event.TheVariants.{Retire, Reclaim, Create}
 use Rattle.history.specs.Orders.{Order, open_order, is_order}
-use Rattle.history.specs.Due.{refuse, reclaim_reply, is_done, least_free, opened_reply, due}
+use Rattle.history.specs.Due.{reclaim_reply, is_done, least_free, opened_reply, due}
+use Rattle.history.proofs.Passing.{refuse}
 use Rattle.history.specs.Due as due_tests
 use Rattle.history.specs.Spaces as spaces
 use Rattle.shoot.specs.declared.TheConstants.{MAX_TICKETS}

@@ -11,7 +11,7 @@ use Rattle.history.specs.Spaces.{Status, Live, Retires, Free, status_of, asid_of
 use Rattle.history.specs.Spaces as spaces
 use Rattle.history.specs.Turns.{History}
 use Rattle.history.specs.Orders as orders
-use Rattle.history.specs.Due.{refuse}
+use Rattle.history.proofs.Passing.{refuse}
 use Rattle.history.specs.Due as due_tests
 use Rattle.history.specs.declared.event.Scope.{Scope}
 use Rattle.history.specs.declared.event.Scope.TheVariants as scopes

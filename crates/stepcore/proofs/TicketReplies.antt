@@ -17,7 +17,8 @@ use Rattle.history.specs.Setup.{Setup}
 use Rattle.history.specs.Turns.{History}
 use Rattle.history.specs.Orders.{open_order, order_at}
 use Rattle.history.specs.Harts.{walk_of}
-use Rattle.history.specs.Due.{refuse, least_free, opened_reply, open_reply, left_after, left_reply, ack_self_reply, collect_reply, finish_reply, due, Lawful}
+use Rattle.history.specs.Due.{least_free, opened_reply, open_reply, left_after, left_reply, due, Lawful}
+use Rattle.history.proofs.Passing.{refuse, ack_self_reply, collect_reply, finish_reply}
 use Rattle.history.specs.Due as due_tests
 use Rattle.history.specs.Runs.{with_turn}
 use Rattle.stepcore.specs.State.{State, HartState, hart_at}

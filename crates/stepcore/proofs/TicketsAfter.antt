@@ -34,7 +34,8 @@ use Rattle.stepcore.proofs.SpaceReplies.{page_asked, scope_asked, space_below}
 use Rattle.history.specs.Mailboxes.{Sent}
 use Rattle.history.specs.Service.{served, is_served, has_fenced}
 use Rattle.history.specs.Acknowledgements.{is_posted, is_acked, is_collected}
-use Rattle.history.specs.Due.{refuse, least_free, opened_reply, is_place, is_scope, is_space, open_reply, ack_self_reply, edit_reply, finish_reply, is_done, due, Lawful}
+use Rattle.history.specs.Due.{least_free, opened_reply, is_place, is_scope, is_space, open_reply, edit_reply, is_done, due, Lawful}
+use Rattle.history.proofs.Passing.{refuse, ack_self_reply, finish_reply}
 use Rattle.history.specs.Runs.{with_turn}
 use Rattle.laws.proofs.Accepted.{passed, ok_accepted, progress_accepted, post_found, collect_found}
 use Rattle.laws.proofs.Acknowledged.{acked_below, collected_acked, served_is}

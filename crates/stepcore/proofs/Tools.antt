@@ -11,7 +11,8 @@ use Rattle.refusals.specs.declared.refusal.Refusal.TheVariants.{NoHart}
 use Rattle.history.specs.declared.reply.Reply.{Reply}
 use Rattle.history.specs.Mailboxes.{Sent}
 use Rattle.history.specs.Harts.{Walking}
-use Rattle.history.specs.Due.{refuse, are_pair, are_harts}
+use Rattle.history.specs.Due.{are_pair, are_harts}
+use Rattle.history.proofs.Passing.{refuse}
 use Rattle.laws.proofs.Tools.{by_test, and3}
 use Rattle.stepcore.specs.State.{State, setup_in}
 use Rattle.stepcore.specs.Stands.{AreSameWalk, bare, service_with}

@@ -1,6 +1,6 @@
 -- What a machine answers to an event: the first refusal that applies, else what the event does.
 use Rattle.std.specs.List.{list_any}
-use Rattle.std.specs.Prelude.{ℕ, Bool, true, false, ◌-◌, ◌^◌, ◌==◌, nat_lt, length, ◌&&◌, not, Option, Some, None, is_some, is_none, Result, Ok, Err, if◌then◌else◌}
+use Rattle.std.specs.Prelude.{ℕ, Bool, true, false, ◌-◌, ◌^◌, ◌==◌, nat_lt, length, ◌&&◌, not, [], ◌∷◌, Option, Some, None, is_some, is_none, Result, Ok, Err, if◌then◌else◌}
 use Rattle.pte.specs.declared.permission.Access.{Access}
 use Rattle.pte.specs.declared.permission.Ctx.{Ctx}
 use Rattle.walk.specs.declared.found_or_trap.Why.TheVariants.{NotCanonical}
@@ -32,7 +32,7 @@ use Rattle.history.specs.declared.reply.Reply.{Reply}
 use Rattle.history.specs.declared.reply.Reply.TheVariants as reply
 use Rattle.history.specs.Tables.{edit_due}
 use Rattle.history.specs.Setup.{is_hart}
-use Rattle.history.specs.Due.{refuse, are_pair, are_harts, match_reply, map_reply, edit_reply}
+use Rattle.history.specs.Due.{when, first_of, are_pair, are_harts, match_reply, map_reply, edit_reply}
 use Rattle.history.specs.declared.event.Scope.{Scope}
 use Rattle.history.specs.declared.event.Scope.TheVariants as scope
 use Rattle.pte.specs.Address.{Span}
@@ -108,10 +108,11 @@ reply_at_once (at_once.Refused why) = reply.Refused why
 
 abbrev pub begin_answer : State → HartState → ℕ → Access → Ctx → Reply
 begin_answer m hart va access ctx =
-    refuse (is_some hart.walk) Walking
-    (refuse (is_some hart.serving) Serving
+    first_of (
+    when (is_some hart.walk) Walking
+    ∷ when (is_some hart.serving) Serving ∷ [])
     (if is_canonical m.memory.layout.scheme va then match_reply va access ctx (first_match hart.entries (asid_in m hart) va)
-    else reply.Trap (page_trap access NotCanonical)))
+    else reply.Trap (page_trap access NotCanonical))
 
 -- Load: what the word of now makes of the walk
 abbrev pub next_of : Tables → Stage → Progress
@@ -147,10 +148,11 @@ box_answer (Some fault.Full) = reply.Refused Full
 
 abbrev pub post_answer : TicketTable → MailboxState → ℕ → ℕ → Reply
 post_answer tickets mailbox ticket to =
-    refuse (not (is_open tickets ticket)) NotOpen
-    (refuse (not (names tickets ticket to)) NotNamed
-    (refuse (is_posted tickets ticket to) AlreadyPosted
-    (box_answer (post_fault mailbox))))
+    first_of (
+    when (not (is_open tickets ticket)) NotOpen
+    ∷ when (not (names tickets ticket to)) NotNamed
+    ∷ when (is_posted tickets ticket to) AlreadyPosted ∷ [])
+    (box_answer (post_fault mailbox))
 
 -- Take: the first request that waits
 abbrev pub next_answer : Option Message → Reply
@@ -159,15 +161,22 @@ next_answer (Some request) = reply.Taken request
 
 abbrev pub take_answer : HartState → MailboxState → Reply
 take_answer hart mailbox =
-    refuse (is_some hart.walk) Walking (refuse (is_some hart.serving) Serving (next_answer (first_waiting mailbox)))
+    first_of (
+    when (is_some hart.walk) Walking
+    ∷ when (is_some hart.serving) Serving ∷ [])
+    (next_answer (first_waiting mailbox))
 
 -- ServeFence and Ack
 abbrev pub serve_fence_answer : HartState → Reply
-serve_fence_answer hart = refuse (is_some hart.walk) Walking (refuse (is_none hart.serving) NotServing reply.Ok)
+serve_fence_answer hart =
+    first_of (
+    when (is_some hart.walk) Walking
+    ∷ when (is_none hart.serving) NotServing ∷ [])
+    reply.Ok
 
 abbrev pub ack_answer : Option Service → Reply
 ack_answer None = reply.Refused NotServing
-ack_answer (Some serving) = refuse (not serving.fenced) NotFenced reply.Ok
+ack_answer (Some serving) = first_of (when (not serving.fenced) NotFenced ∷ []) reply.Ok
 
 -- AckSelf and Collect: how far the ticket is once the event is done
 abbrev pub progress_reply : Collected → Reply
@@ -180,19 +189,25 @@ acked_by tickets ticket hart = if names tickets ticket hart then after_acked tic
 
 abbrev pub ack_self_answer : HartState → TicketTable → ℕ → ℕ → Reply
 ack_self_answer hart tickets ticket number =
-    refuse (not (is_open tickets ticket)) NotOpen
-    (refuse (is_some hart.walk) Walking
-    (progress_reply (progress_at (acked_by tickets ticket number) ticket)))
+    first_of (
+    when (not (is_open tickets ticket)) NotOpen
+    ∷ when (is_some hart.walk) Walking ∷ [])
+    (progress_reply (progress_at (acked_by tickets ticket number) ticket))
 
 abbrev pub collect_answer : TicketTable → ℕ → ℕ → Reply
 collect_answer tickets ticket from =
-    refuse (not (is_open tickets ticket)) NotOpen
-    (refuse (not (names tickets ticket from)) NotNamed
-    (progress_reply (progress_at (after_collect tickets ticket from) ticket)))
+    first_of (
+    when (not (is_open tickets ticket)) NotOpen
+    ∷ when (not (names tickets ticket from)) NotNamed ∷ [])
+    (progress_reply (progress_at (after_collect tickets ticket from) ticket))
 
 -- Finish: each named hart is collected
 abbrev pub finish_answer : TicketTable → ℕ → Reply
-finish_answer tickets ticket = refuse (not (is_open tickets ticket)) NotOpen (refuse (not (is_done_at tickets ticket)) NotDone reply.Ok)
+finish_answer tickets ticket =
+    first_of (
+    when (not (is_open tickets ticket)) NotOpen
+    ∷ when (not (is_done_at tickets ticket)) NotDone ∷ [])
+    reply.Ok
 
 -- Retire: the byte of all harts; and whether some hart is in the space
 abbrev pub every_hart : State → ℕ
@@ -205,7 +220,7 @@ is_in_use m space = list_any (λ hart. hart.space == space) m.harts
 abbrev pub reclaim_answer : TicketTable → Phase → Reply
 reclaim_answer tickets phase.Live = reply.Refused NotRetiring
 reclaim_answer tickets (phase.Retiring None) = reply.Ok
-reclaim_answer tickets (phase.Retiring (Some ticket)) = refuse (not (is_done_at tickets ticket)) NotAcked reply.Ok
+reclaim_answer tickets (phase.Retiring (Some ticket)) = first_of (when (not (is_done_at tickets ticket)) NotAcked ∷ []) reply.Ok
 reclaim_answer tickets phase.Free = reply.Refused NoSpace
 
 -- Create: a space that is not free has the ASID
@@ -218,71 +233,83 @@ is_asid_used m asid = list_any (λ space. has_asid space asid) m.spaces
 -- what an event is answered: NoHart first, then the refusals of the event in order
 abbrev pub reply_to : State → Event → Reply
 reply_to m (Begin hart va access ctx) =
-    refuse (not (is_hart (setup_in m) hart)) NoHart (begin_answer m (hart_at m hart) va access ctx)
+    first_of (when (not (is_hart (setup_in m) hart)) NoHart ∷ []) (begin_answer m (hart_at m hart) va access ctx)
 reply_to m (Load hart) =
-    refuse (not (is_hart (setup_in m) hart)) NoHart (load_answer (words_in m) (hart_at m hart).walk)
+    first_of (when (not (is_hart (setup_in m) hart)) NoHart ∷ []) (load_answer (words_in m) (hart_at m hart).walk)
 reply_to m (Map hart place page ppn flags) =
-    refuse (not (is_hart (setup_in m) hart)) NoHart
-    (refuse (not (is_place m place)) NoSpace
-    (refuse (retires m place) Retiring
-    (map_reply (edit_in m hart (wish.Map place page ppn flags)))))
+    first_of (
+    when (not (is_hart (setup_in m) hart)) NoHart
+    ∷ when (not (is_place m place)) NoSpace
+    ∷ when (retires m place) Retiring ∷ [])
+    (map_reply (edit_in m hart (wish.Map place page ppn flags)))
 reply_to m (Unmap hart place page named) =
-    refuse (not (is_hart (setup_in m) hart && are_harts (setup_in m) named)) NoHart
-    (refuse (not (is_place m place)) NoSpace
-    (refuse (retires m place) Retiring
-    (edit_reply (edit_in m hart (wish.Unmap place page)) (open_in m hart named))))
+    first_of (
+    when (not (is_hart (setup_in m) hart && are_harts (setup_in m) named)) NoHart
+    ∷ when (not (is_place m place)) NoSpace
+    ∷ when (retires m place) Retiring ∷ [])
+    (edit_reply (edit_in m hart (wish.Unmap place page)) (open_in m hart named))
 reply_to m (Protect hart place page flags named) =
-    refuse (not (is_hart (setup_in m) hart && are_harts (setup_in m) named)) NoHart
-    (refuse (not (is_place m place)) NoSpace
-    (refuse (retires m place) Retiring
-    (edit_reply (edit_in m hart (wish.Protect place page flags)) (open_in m hart named))))
+    first_of (
+    when (not (is_hart (setup_in m) hart && are_harts (setup_in m) named)) NoHart
+    ∷ when (not (is_place m place)) NoSpace
+    ∷ when (retires m place) Retiring ∷ [])
+    (edit_reply (edit_in m hart (wish.Protect place page flags)) (open_in m hart named))
 reply_to m (Flush hart scope named) =
-    refuse (not (is_hart (setup_in m) hart && are_harts (setup_in m) named)) NoHart
-    (refuse (not (is_scope m scope)) NoSpace
-    (refuse (scope_retires m scope) Retiring
-    (open_in m hart named)))
+    first_of (
+    when (not (is_hart (setup_in m) hart && are_harts (setup_in m) named)) NoHart
+    ∷ when (not (is_scope m scope)) NoSpace
+    ∷ when (scope_retires m scope) Retiring ∷ [])
+    (open_in m hart named)
 reply_to m (Switch hart space) =
-    refuse (not (is_hart (setup_in m) hart)) NoHart
-    (refuse (not (is_space m space)) NoSpace
-    (refuse (is_retiring (space_at m space).phase) Retiring
-    (refuse (is_some (hart_at m hart).walk) Walking
-    reply.Ok)))
+    first_of (
+    when (not (is_hart (setup_in m) hart)) NoHart
+    ∷ when (not (is_space m space)) NoSpace
+    ∷ when (is_retiring (space_at m space).phase) Retiring
+    ∷ when (is_some (hart_at m hart).walk) Walking ∷ [])
+    reply.Ok
 reply_to m (Fence hart rs1 rs2) =
-    refuse (not (is_hart (setup_in m) hart)) NoHart
-    (refuse (is_some (hart_at m hart).walk) Walking
-    reply.Ok)
+    first_of (
+    when (not (is_hart (setup_in m) hart)) NoHart
+    ∷ when (is_some (hart_at m hart).walk) Walking ∷ [])
+    reply.Ok
 reply_to m (Post hart ticket to) =
-    refuse (not (are_pair (setup_in m) hart to)) NoHart (post_answer (tickets_at m hart) (mailbox_at m hart to) ticket to)
+    first_of (when (not (are_pair (setup_in m) hart to)) NoHart ∷ []) (post_answer (tickets_at m hart) (mailbox_at m hart to) ticket to)
 reply_to m (Take hart from) =
-    refuse (not (are_pair (setup_in m) hart from)) NoHart (take_answer (hart_at m hart) (mailbox_at m from hart))
+    first_of (when (not (are_pair (setup_in m) hart from)) NoHart ∷ []) (take_answer (hart_at m hart) (mailbox_at m from hart))
 reply_to m (ServeFence hart) =
-    refuse (not (is_hart (setup_in m) hart)) NoHart (serve_fence_answer (hart_at m hart))
+    first_of (when (not (is_hart (setup_in m) hart)) NoHart ∷ []) (serve_fence_answer (hart_at m hart))
 reply_to m (Ack hart) =
-    refuse (not (is_hart (setup_in m) hart)) NoHart (ack_answer (hart_at m hart).serving)
+    first_of (when (not (is_hart (setup_in m) hart)) NoHart ∷ []) (ack_answer (hart_at m hart).serving)
 reply_to m (AckSelf hart ticket) =
-    refuse (not (is_hart (setup_in m) hart)) NoHart (ack_self_answer (hart_at m hart) (tickets_at m hart) ticket hart)
+    first_of (when (not (is_hart (setup_in m) hart)) NoHart ∷ []) (ack_self_answer (hart_at m hart) (tickets_at m hart) ticket hart)
 reply_to m (Collect hart ticket from) =
-    refuse (not (are_pair (setup_in m) hart from)) NoHart (collect_answer (tickets_at m hart) ticket from)
+    first_of (when (not (are_pair (setup_in m) hart from)) NoHart ∷ []) (collect_answer (tickets_at m hart) ticket from)
 reply_to m (Finish hart ticket) =
-    refuse (not (is_hart (setup_in m) hart)) NoHart (finish_answer (tickets_at m hart) ticket)
+    first_of (when (not (is_hart (setup_in m) hart)) NoHart ∷ []) (finish_answer (tickets_at m hart) ticket)
 reply_to m (Close hart to) =
-    refuse (not (are_pair (setup_in m) hart to)) NoHart (refuse (mailbox_at m hart to).closed Closed reply.Ok)
+    first_of (
+    when (not (are_pair (setup_in m) hart to)) NoHart
+    ∷ when ((mailbox_at m hart to).closed) Closed ∷ [])
+    reply.Ok
 reply_to m (Retire hart space) =
-    refuse (not (is_hart (setup_in m) hart)) NoHart
-    (refuse (not (is_space m space)) NoSpace
-    (refuse (not (hart == home_of m.memory.layout (Space space))) NotHome
-    (refuse (is_retiring (space_at m space).phase) Retiring
-    (refuse (is_in_use m space) InUse
-    (open_in m hart (every_hart m))))))
+    first_of (
+    when (not (is_hart (setup_in m) hart)) NoHart
+    ∷ when (not (is_space m space)) NoSpace
+    ∷ when (not (hart == home_of m.memory.layout (Space space))) NotHome
+    ∷ when (is_retiring (space_at m space).phase) Retiring
+    ∷ when (is_in_use m space) InUse ∷ [])
+    (open_in m hart (every_hart m))
 reply_to m (Reclaim hart space) =
-    refuse (not (is_hart (setup_in m) hart)) NoHart
-    (refuse (not (is_space m space)) NoSpace
-    (refuse (not (hart == home_of m.memory.layout (Space space))) NotHome
-    (reclaim_answer (tickets_at m hart) (space_at m space).phase)))
+    first_of (
+    when (not (is_hart (setup_in m) hart)) NoHart
+    ∷ when (not (is_space m space)) NoSpace
+    ∷ when (not (hart == home_of m.memory.layout (Space space))) NotHome ∷ [])
+    (reclaim_answer (tickets_at m hart) (space_at m space).phase)
 reply_to m (Create hart space asid) =
-    refuse (not (is_hart (setup_in m) hart)) NoHart
-    (refuse (not (is_number m space)) NoSpace
-    (refuse (not (hart == home_of m.memory.layout (Space space))) NotHome
-    (refuse (not (is_free (space_at m space).phase)) NotFree
-    (refuse (is_asid_used m asid) AsidInUse
-    reply.Ok))))
+    first_of (
+    when (not (is_hart (setup_in m) hart)) NoHart
+    ∷ when (not (is_number m space)) NoSpace
+    ∷ when (not (hart == home_of m.memory.layout (Space space))) NotHome
+    ∷ when (not (is_free (space_at m space).phase)) NotFree
+    ∷ when (is_asid_used m asid) AsidInUse ∷ [])
+    reply.Ok

@@ -50,71 +50,72 @@ service_with fenced None = None
 service_with fenced (Some sent) = Some (record { from = sent.sender; request = sent.request; fenced = fenced })
 
 abbrev pub service_of : Setup → History → ℕ → Option Serving
-service_of C H h = service_with (has_fenced H h) (served C H h)
+service_of setup history hart = service_with (has_fenced history hart) (served setup history hart)
 
 -- the hart is what the history leaves of hart h
-pub record HartStands (C : Setup) (H : History) (h : ℕ) (hart : HartState) : Type 0 where
-  pub space : hart.space ≡ space_of H h
-  pub walk : AreSameWalk C.layout.scheme (words_of C H) (root_ppn C.layout (space_of H h)) hart.walk (walk_of H h)
-  pub serving : hart.serving ≡ service_of C H h
-  pub scheme : hart.scheme ≡ C.layout.scheme
-  pub entries : hart.entries ≡ entries_of C H h
+pub record HartStands (setup : Setup) (history : History) (number : ℕ) (hart : HartState) : Type 0 where
+  pub space : hart.space ≡ space_of history number
+  pub walk : AreSameWalk setup.layout.scheme (words_of setup history) (root_ppn setup.layout (space_of history number)) hart.walk (walk_of history number)
+  pub serving : hart.serving ≡ service_of setup history number
+  pub scheme : hart.scheme ≡ setup.layout.scheme
+  pub entries : hart.entries ≡ entries_of setup history number
 
 -- the ticket of an order, the open ticket of a number, and all tickets of a hart
 abbrev pub ticket_with : Setup → History → ℕ → Option Order → Option Ticket
-ticket_with C H k None = None
-ticket_with C H k (Some order) = Some (record {
+ticket_with setup history number None = None
+ticket_with setup history number (Some order) = Some (record {
   what = order.what;
   named = order.named;
-  posted = harts_where (is_posted H k);
-  acked = harts_where (is_acked C H k);
-  collected = harts_where (is_collected C H k);
+  posted = harts_where (is_posted history number);
+  acked = harts_where (is_acked setup history number);
+  collected = harts_where (is_collected setup history number);
 })
 
 abbrev pub ticket_held : Setup → History → Option ℕ → Option Ticket
-ticket_held C H None = None
-ticket_held C H (Some k) = ticket_with C H k (order_at C H k)
+ticket_held setup history None = None
+ticket_held setup history (Some order) = ticket_with setup history order (order_at setup history order)
 
 abbrev pub ticket_of : Setup → History → ℕ → ℕ → Option Ticket
-ticket_of C H s t = ticket_held C H (open_order H s t)
+ticket_of setup history s t = ticket_held setup history (open_order history s t)
 
 abbrev pub tickets_of : Setup → History → ℕ → TicketTable
-tickets_of C H s = record { hart = s; tickets = map (ticket_of C H s) (range_with_len 0 MAX_TICKETS) }
+tickets_of setup history s = record { hart = s; tickets = map (ticket_of setup history s) (range_with_len 0 MAX_TICKETS) }
 
 -- the mailbox from one hart to another
 abbrev pub mailbox_of : Setup → History → ℕ → ℕ → MailboxState
-mailbox_of C H s h = record { waiting = waiting C H s h; outstanding = outstanding C H s h; closed = is_closed H s h; capacity = C.capacity }
+mailbox_of setup history sender receiver = record { waiting = waiting setup history sender receiver; outstanding = outstanding setup history sender receiver; closed = is_closed history sender receiver; capacity = setup.capacity }
 
 -- the phase of a space: a retiring one has the ticket of its order while that is open
 abbrev pub ticket_now : History → ℕ → Option Order → Option ℕ
-ticket_now H k None = None
-ticket_now H k (Some order) = if is_order (open_order H order.sender order.ticket) k then Some order.ticket else None
+ticket_now history number None = None
+ticket_now history number (Some order) = if is_order (open_order history order.sender order.ticket) number then Some order.ticket else None
 
 abbrev pub phase_with : Setup → History → Status → Phase
-phase_with C H Live = phase.Live
-phase_with C H (Retires k) = phase.Retiring (ticket_now H k (order_at C H k))
-phase_with C H Free = phase.Free
+phase_with setup history Live = phase.Live
+phase_with setup history (Retires order) = phase.Retiring (ticket_now history order (order_at setup history order))
+phase_with setup history Free = phase.Free
 
 -- the space is what the history leaves of space s
-pub record SpaceStands (C : Setup) (H : History) (s : ℕ) (space : SpaceState) : Type 0 where
-  pub asid : space.asid ≡ asid_of C H s
-  pub phase_is : space.phase ≡ phase_with C H (status_of H s)
+pub record SpaceStands (setup : Setup) (history : History) (s : ℕ) (space : SpaceState) : Type 0 where
+  pub asid : space.asid ≡ asid_of setup history s
+  pub phase_is : space.phase ≡ phase_with setup history (status_of history s)
 
 -- a setup but for its first ASIDs
 abbrev pub bare : Setup → Setup
-bare C = record { harts = C.harts; capacity = C.capacity; asids = []; layout = C.layout }
+bare setup = record { harts = setup.harts; capacity = setup.capacity; asids = []; layout = setup.layout }
 
 -- the machine stands at the history: that is lawful and speaks of pages, the setup is within the limits and the machine's, and
 -- each part of the machine is what the history leaves
-pub record Stands (C : Setup) (m : State) (H : History) : Type 0 where
-  pub lawful : Lawful C H
-  pub pages : HavePages H
-  pub within : IsSetup C
-  pub setup : setup_in m ≡ bare C
-  pub count : length m.spaces ≡ length C.asids
-  pub words : (ppn i : ℕ) → words_in m ppn i ≡ words_of C H ppn i
-  pub holders : (ppn : ℕ) → holders_in m ppn ≡ holder_of H ppn
-  pub spaces : (s : ℕ) → s < length C.asids → SpaceStands C H s (space_at m s)
-  pub harts : (h : ℕ) → h < C.harts → HartStands C H h (hart_at m h)
-  pub tickets : (h : ℕ) → h < C.harts → tickets_at m h ≡ tickets_of C H h
-  pub mailboxes : (s h : ℕ) → s < C.harts → h < C.harts → mailbox_at m s h ≡ mailbox_of C H s h
+pub record Stands (opened : Setup) (m : State) (history : History) : Type 0 where
+  pub lawful : Lawful opened history
+  pub pages : HavePages history
+  pub within : IsSetup opened
+  pub setup : setup_in m ≡ bare opened
+  pub count : length m.spaces ≡ length opened.asids
+  pub words : (ppn i : ℕ) → words_in m ppn i ≡ words_of opened history ppn i
+  pub holders : (ppn : ℕ) → holders_in m ppn ≡ holder_of history ppn
+  pub spaces : (s : ℕ) → s < length opened.asids → SpaceStands opened history s (space_at m s)
+  pub harts : (hart : ℕ) → hart < opened.harts → HartStands opened history hart (hart_at m hart)
+  pub tickets : (hart : ℕ) → hart < opened.harts → tickets_at m hart ≡ tickets_of opened history hart
+  pub mailboxes : (sender receiver : ℕ) → sender < opened.harts → receiver < opened.harts
+      → mailbox_at m sender receiver ≡ mailbox_of opened history sender receiver
