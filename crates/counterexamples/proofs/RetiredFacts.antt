@@ -157,6 +157,6 @@ walk_of_a_retiring_space walks = let bad : Retires 2 ≡ Live = (walks _ refl).0
 pub walk_of_a_free_space : ¬ WalksUsedFrames spaces_of_one_home (history_of unlawful.given_back_in_mid_walk) 1
 walk_of_a_free_space walks = let bad : Free ≡ Live = (walks _ refl).0 in cc (bad)
 
-pub walk_to_an_unused_frame : ¬ WalksUsedFrames spaces_of_one_home (history_of unlawful.another_frame_answered) 1
+pub walk_to_an_unused_frame : ¬ WalksUsedFrames spaces_of_one_home (history_of unlawful.one_frame_for_two_spaces) 1
 unfolding kind_of wish_fault path_end edit_of
 walk_to_an_unused_frame walks = (walks _ refl).1 0 0 0x80003 (omega arith) refl refl refl

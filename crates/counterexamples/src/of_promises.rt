@@ -186,7 +186,7 @@ pub fn used_asids_are_those_of_live_and_retiring_spaces()
 pub fn walks_use_frames_of_live_spaces()
     ensures retiring { ¬ WalksUsedFrames shootdowns.spaces_of_one_home (history_of unlawful.retired_in_mid_walk) 1 }
     ensures free { ¬ WalksUsedFrames shootdowns.spaces_of_one_home (history_of unlawful.given_back_in_mid_walk) 1 }
-    ensures unused_frame { ¬ WalksUsedFrames shootdowns.spaces_of_one_home (history_of unlawful.another_frame_answered) 1 }
+    ensures unused_frame { ¬ WalksUsedFrames shootdowns.spaces_of_one_home (history_of unlawful.one_frame_for_two_spaces) 1 }
 {}
 
 /// Of three accepted requests the first was taken. A mailbox in which the other two wait in the order of the posts keeps its

@@ -2,10 +2,6 @@
 use Rattle.std.proofs.Common.{◌≡◌, ℕ, Bool, true, false, cond, ◌&&◌, ◌||◌, ◌⊎◌, inl, inr, [], ◌∷◌, length, Option, Some, None, Ok as Good, Err, slice_get, refl, ap, sym, ◌∙◌, eqb}
 use Rattle.std.proofs.lemmas.Bool.{and_parts, eqb-true, eq-eqb, false≢true}
 use Rattle.std.specs.Prelude.{◌↔◌, Result}
-use Rattle.spaces.specs.declared.wishes.Wish.{Wish}
-use Rattle.spaces.specs.declared.wishes.Wish.TheVariants as wish
-use Rattle.spaces.specs.declared.faults.MapFault.{MapFault}
-use Rattle.spaces.specs.Edits.{Store}
 use Rattle.spaces.specs.Opening.{opening}
 use Rattle.spaces.specs.declared.places.Place.{Place}
 use Rattle.spaces.specs.declared.places.Place.TheVariants.{Space, Kernel}
@@ -21,9 +17,9 @@ use Rattle.history.specs.Turns.{Turn, History, is_ok, is_taken, is_leaf, is_tabl
 use Rattle.history.specs.Mailboxes.{Sent, posts, taken}
 use Rattle.history.specs.Service.{served, served_after, has_fenced, fenced_after}
 use Rattle.history.specs.Harts.{space_of, space_after}
-use Rattle.history.specs.Tables.{words_of, words_after, with_store, edit_due}
+use Rattle.history.specs.Tables.{Written, path_index, path_table, words_of, words_after, with_written, written}
 use Rattle.history.specs.Spaces.{holder_of, holder_after}
-use Rattle.history.specs.Occurrences.{Since, SinceOr, IsSwitch, Switches, IsTake, TakesPost, TakesOrAcks, IsServeFence, IsEdit, Empties, Puts, Stores, IsNewTable, TakesOrGivesBack}
+use Rattle.history.specs.Occurrences.{Since, SinceOr, IsSwitch, Switches, IsTake, TakesPost, TakesOrAcks, IsServeFence, Empties, Puts, Stores, IsNewTable, TakesOrGivesBack}
 use Rattle.history.proofs.Splits.{not_sometime-empty, not_since-empty, sometime-here, sometime-later, sometime_cases, since-here, since-later, since_cases, read_since}
 use Rattle.history.proofs.Occurred.{turn_of, ok_is, opened_is}
 use Rattle.history.proofs.OpenOrders.{same_parts, same_with}
@@ -196,74 +192,49 @@ abbrev is_reclaim : Event → Bool
 is_reclaim (Reclaim hart space) = true
 is_reclaim _ = false
 
-stored_or : (words : Tables) (o : Result Store MapFault) (ppn index word : ℕ) (P Q : Type 0)
-    → ((store : Store) → o ≡ Good store → store.ppn ≡ ppn → store.index ≡ index → store.word ≡ word → P)
-    → (P → (store : Store) × (o ≡ Good store) × (store.ppn ≡ ppn) × (store.index ≡ index) × (store.word ≡ word))
-    → ((store : Store) → o ≡ Good store → store.ppn ≡ ppn → store.index ≡ index → Q)
-    → (Q → (store : Store) × (o ≡ Good store) × (store.ppn ≡ ppn) × (store.index ≡ index))
-    → (with_store words o ppn index ≡ Some word) ↔ (P ⊎ ((Q → ⊥) × (words ppn index ≡ Some word)))
-stored_or words (Err fault) ppn index word P Q new back is must = by_old (words ppn index) (Some word) P Q (λ p. let b = (back p).1 in cc (b)) (λ q. let b = (must q).1 in cc (b))
-stored_or words (Good store) ppn index word P Q new back is must =
-    by_cond (are_same ppn index store.ppn store.index) (Some store.word) (words ppn index) (Some word) P Q
-    (λ t e. let p = same_parts ppn index store.ppn store.index t in
-    let w : store.word ≡ word = cc in
-    new store refl (sym p.0) (sym p.1) w)
-    (λ p. let b = back p in
-    let same : store ≡ b.0 = let e = b.1 in cc in
-    (same_with ppn index store.ppn store.index (sym (ap (λ (x : Store). x.ppn) same ∙ b.2)) (sym (ap (λ (x : Store). x.index) same ∙ b.3)), ap (λ (x : Store). Some x.word) same ∙ ap Some b.4))
-    (λ t. let p = same_parts ppn index store.ppn store.index t in inr (is store refl (sym p.0) (sym p.1)))
-    (λ q. let b = must q in
-    let same : store ≡ b.0 = let e = b.1 in cc in
-    same_with ppn index store.ppn store.index (sym (ap (λ (x : Store). x.ppn) same ∙ b.2)) (sym (ap (λ (x : Store). x.index) same ∙ b.3)))
+abbrev At : Setup → Tables → Option Written → ℕ → ℕ → Written → Type 0
+At C words o ppn index new =
+    (o ≡ Some new) × (path_table C words new.place new.page ≡ ppn) × (path_index C words new.place new.page ≡ index)
+
+written_or : (C : Setup) (words : Tables) (o : Option Written) (ppn index word : ℕ) (P Q : Type 0)
+    → ((new : Written) → At C words o ppn index new → new.word ≡ word → P) → (P → (new : Written) × At C words o ppn index new × (new.word ≡ word))
+    → ((new : Written) → At C words o ppn index new → Q) → (Q → (new : Written) × At C words o ppn index new)
+    → (with_written C words o ppn index ≡ Some word) ↔ (P ⊎ ((Q → ⊥) × (words ppn index ≡ Some word)))
+written_or C words None ppn index word P Q new back is must =
+    by_old (words ppn index) (Some word) P Q (λ p. let b = (back p).1.0 in cc (b)) (λ q. let b = (must q).1.0 in cc (b))
+written_or C words (Some w) ppn index word P Q new back is must =
+    by_cond (are_same ppn index (path_table C words w.place w.page) (path_index C words w.place w.page)) (Some w.word) (words ppn index) (Some word) P Q
+    (λ t e. let p = same_parts ppn index (path_table C words w.place w.page) (path_index C words w.place w.page) t in let q : w.word ≡ word = cc in new w (refl, sym p.0, sym p.1) q)
+    (λ p. let b = back p in (at b.0 b.1, let same : b.0 ≡ w = is_w b.0 b.1.0 in ap (λ (x : Written). Some x.word) (sym same) ∙ ap Some b.2))
+    (λ t. let p = same_parts ppn index (path_table C words w.place w.page) (path_index C words w.place w.page) t in inr (is w (refl, sym p.0, sym p.1)))
+    (λ q. let b = must q in at b.0 b.1)
+  where
+    is_w : (x : Written) → Some w ≡ Some x → x ≡ w
+    is_w x e = cc
+
+    at : (x : Written) → At C words (Some w) ppn index x → are_same ppn index (path_table C words w.place w.page) (path_index C words w.place w.page) ≡ true
+    at x a =
+        let same = is_w x a.0 in
+        same_with ppn index (path_table C words w.place w.page) (path_index C words w.place w.page) (sym a.1 ∙ ap (λ (y : Written). path_table C words y.place y.page) same)
+        (sym a.2 ∙ ap (λ (y : Written). path_index C words y.place y.page) same)
 
 module _ (C : Setup) (ppn index word : ℕ) where
   abbrev Stays : Event → Reply → History → Type 0 → Type 0
   Stays e r H now = now ↔ (Puts C ppn index word (turn_of e r) H ⊎ ((Stores C ppn index (turn_of e r) H → ⊥) × (words_of C H ppn index ≡ Some word)))
 
-  same_edit : (H : History) (hart : ℕ) (w : Wish) (h : ℕ) (v : Wish) (o : Result Store MapFault) → hart ≡ h → v ≡ w → edit_due C (words_of C H) (holder_of H) h v ≡ o
-      → edit_due C (words_of C H) (holder_of H) hart w ≡ o
-  same_edit H hart w h v o a b d = ap (λ x. edit_due C (words_of C H) (holder_of H) x w) a ∙ ap (edit_due C (words_of C H) (holder_of H) h) (sym b) ∙ d
-
-  edit_step : (e : Event) (r : Reply) (H : History) (hart : ℕ) (w : Wish) (t : Bool) → is_reclaim e ≡ false → (t ≡ true → IsEdit hart w e r)
-      → ((h : ℕ) (v : Wish) → IsEdit h v e r → (hart ≡ h) × (v ≡ w) × (t ≡ true))
-      → Stays e r H (cond t (with_store (words_of C H) (edit_due C (words_of C H) (holder_of H) hart w)) (words_of C H) ppn index ≡ Some word)
-  edit_step e r H hart w true other edit back =
-      stored_or (words_of C H) (edit_due C (words_of C H) (holder_of H) hart w) ppn index word (Puts C ppn index word (turn_of e r) H) (Stores C ppn index (turn_of e r) H)
-      (λ store due a b c. inl (record {
-        hart = hart;
-        wanted = w;
-        store = store;
-        edit = edit refl;
-        due = due;
-        same_table = a;
-        same_index = b;
-        same_word = c;
-      }))
+  edit_step : (e : Event) (r : Reply) (H : History) → is_reclaim e ≡ false → Stays e r H (with_written C (words_of C H) (written C e r (words_of C H)) ppn index ≡ Some word)
+  edit_step e r H other =
+      written_or C (words_of C H) (written C e r (words_of C H)) ppn index word (Puts C ppn index word (turn_of e r) H) (Stores C ppn index (turn_of e r) H)
+      (λ new a b. inl (record { new = new; is = a.0; same_table = a.1; same_index = a.2; same_word = b }))
       (λ q. elim q [
-        | inl p ↦ let b = back p.hart p.wanted p.edit in (p.store, same_edit H hart w p.hart p.wanted _ b.0 b.1 p.due, p.same_table, p.same_index, p.same_word)
+        | inl p ↦ (p.new, (p.is, p.same_table, p.same_index), p.same_word)
         | inr p ↦ absurd (false≢true (sym other ∙ ap is_reclaim p.0.event))
       ])
-      (λ store due a b. inl (
-        store.word,
-        record {
-          hart = hart;
-          wanted = w;
-          store = store;
-          edit = edit refl;
-          due = due;
-          same_table = a;
-          same_index = b;
-          same_word = refl;
-        },
-      ))
+      (λ new a. inl (new.word, record { new = new; is = a.0; same_table = a.1; same_index = a.2; same_word = refl }))
       (λ q. elim q [
-        | inl x ↦ let p = x.1 in let b = back p.hart p.wanted p.edit in (p.store, same_edit H hart w p.hart p.wanted _ b.0 b.1 p.due, p.same_table, p.same_index)
+        | inl x ↦ (x.1.new, (x.1.is, x.1.same_table, x.1.same_index))
         | inr p ↦ absurd (false≢true (sym other ∙ ap is_reclaim p.event))
       ])
-  edit_step e r H hart w false other edit back =
-      by_old (words_of C H ppn index) (Some word) (Puts C ppn index word (turn_of e r) H) (Stores C ppn index (turn_of e r) H)
-      (λ q. elim q [ inl p ↦ false≢true (back p.hart p.wanted p.edit).2 | inr p ↦ false≢true (sym other ∙ ap is_reclaim p.0.event) ])
-      (λ q. elim q [ inl x ↦ false≢true (back x.1.hart x.1.wanted x.1.edit).2 | inr p ↦ false≢true (sym other ∙ ap is_reclaim p.event) ])
 
   empty_step : (hart s : ℕ) (r : Reply) (H : History) (t : Bool) → is_ok r ≡ t
       → Stays (Reclaim hart s) r H (cond t (emptied C.layout (holder_of H) s (words_of C H)) (words_of C H) ppn index ≡ Some word)
@@ -272,11 +243,11 @@ module _ (C : Setup) (ppn index word : ℕ) where
       (Puts C ppn index word (turn_of (Reclaim hart s) r) H) (Stores C ppn index (turn_of (Reclaim hart s) r) H)
       (λ t e. inr (record { hart = hart; space = s; event = refl; accepted = ok_is r o; own = t }, e))
       (λ q. elim q [
-        | inl p ↦ absurd p.edit
+        | inl p ↦ absurd (let bad = p.is in cc (bad))
         | inr p ↦ (own_of p.0, p.1)
       ])
       (λ t. inr (inr (record { hart = hart; space = s; event = refl; accepted = ok_is r o; own = t })))
-      (λ q. elim q [ inl x ↦ absurd x.1.edit | inr p ↦ own_of p ])
+      (λ q. elim q [ inl x ↦ absurd (let bad = x.1.is in cc (bad)) | inr p ↦ own_of p ])
     where
       own_of : Empties C ppn index (turn_of (Reclaim hart s) r) H → is_word_of C.layout (holder_of H) s ppn index ≡ true
       own_of p = let same : Reclaim hart s ≡ Reclaim p.hart p.space = p.event in
@@ -284,29 +255,12 @@ module _ (C : Setup) (ppn index word : ℕ) where
           ap (λ x. is_word_of C.layout (holder_of H) x ppn index) at ∙ p.own
   empty_step hart s r H false o =
       by_old (words_of C H ppn index) (Some word) (Puts C ppn index word (turn_of (Reclaim hart s) r) H) (Stores C ppn index (turn_of (Reclaim hart s) r) H)
-      (λ q. elim q [ inl p ↦ p.edit | inr p ↦ false≢true (sym o ∙ ap is_ok p.0.accepted) ])
-      (λ q. elim q [ inl x ↦ x.1.edit | inr p ↦ false≢true (sym o ∙ ap is_ok p.accepted) ])
-
-  mapped_is : (r : Reply) → (is_table r || is_leaf r) ≡ true → (r ≡ Leaf) ⊎ ((table : ℕ) × (r ≡ Table table))
-  mapped_is Leaf e = inl refl
-  mapped_is (Table table) e = inr (table, refl)
-  mapped_is _ e = absurd (false≢true e)
-
-  mapped_from : (r : Reply) → (r ≡ Leaf) ⊎ ((table : ℕ) × (r ≡ Table table)) → (is_table r || is_leaf r) ≡ true
-  mapped_from r m = elim m [ inl l ↦ ap (λ r. is_table r || is_leaf r) l | inr t ↦ ap (λ r. is_table r || is_leaf r) t.1 ]
+      (λ q. elim q [ inl p ↦ (let bad = p.is in cc (bad)) | inr p ↦ false≢true (sym o ∙ ap is_ok p.0.accepted) ])
+      (λ q. elim q [ inl x ↦ (let bad = x.1.is in cc (bad)) | inr p ↦ false≢true (sym o ∙ ap is_ok p.accepted) ])
 
   word_step : (e : Event) (r : Reply) (H : History) → Stays e r H (words_after C e r (words_of C H) (holder_of H) ppn index ≡ Some word)
-  word_step (Map hart place page ppn' flags) r H =
-      edit_step (Map hart place page ppn' flags) r H hart (wish.Map place page ppn' flags) (is_table r || is_leaf r) refl (λ t. (refl, refl, mapped_is r t)) (λ h v p. (p.0, p.1, mapped_from r p.2))
-  word_step (Unmap hart place page named) r H =
-      edit_step (Unmap hart place page named) r H hart (wish.Unmap place page) (is_opened r) refl (λ t. (refl, refl, opened_is r t)) (λ h v p. (p.0, p.1, ap is_opened p.2.1))
-  word_step (Protect hart place page flags named) r H =
-      edit_step (Protect hart place page flags named) r H hart (wish.Protect place page flags) (is_opened r) refl (λ t. (refl, refl, opened_is r t)) (λ h v p. (p.0, p.1, ap is_opened p.2.1))
   word_step (Reclaim hart s) r H = empty_step hart s r H (is_ok r) refl
-  word_step e r H =
-      by_old (words_of C H ppn index) (Some word) (Puts C ppn index word (turn_of e r) H) (Stores C ppn index (turn_of e r) H)
-      (λ q. elim q [ inl p ↦ p.edit | inr p ↦ false≢true (ap is_reclaim p.0.event) ])
-      (λ q. elim q [ inl x ↦ x.1.edit | inr p ↦ false≢true (ap is_reclaim p.event) ])
+  word_step e r H = edit_step e r H refl
 
   pub word_of : (H : History) → (words_of C H ppn index ≡ Some word) ↔ SinceOr (Puts C ppn index word) (Stores C ppn index) (opening C.layout ppn index ≡ Some word) H
   word_of H = read_since_or (Puts C ppn index word) (Stores C ppn index) (λ H. words_of C H ppn index ≡ Some word) (opening C.layout ppn index ≡ Some word)

@@ -11,7 +11,6 @@ use Rattle.spaces.specs.declared.places.Place.TheVariants.{Space}
 use Rattle.spaces.specs.Holders.{is_word_of, zero_word}
 use Rattle.spaces.specs.declared.wishes.Wish.{Wish}
 use Rattle.spaces.specs.declared.wishes.Wish.TheVariants as wish
-use Rattle.spaces.specs.Edits.{Store}
 use Rattle.shoot.specs.Request.{Message}
 use Rattle.shoot.specs.declared.TheConstants.{MAX_TICKETS}
 use Rattle.tlb.specs.Service.{overlaps}
@@ -25,7 +24,7 @@ use Rattle.history.specs.Spaces.{asid_in, holder_of}
 use Rattle.history.specs.Orders.{Order, open_order, opened_order, order_at, what_of}
 use Rattle.history.specs.Mailboxes.{Sent, posts, taken}
 use Rattle.history.specs.Service.{served}
-use Rattle.history.specs.Tables.{words_of, edit_due}
+use Rattle.history.specs.Tables.{Written, path_index, path_table, words_of, written}
 use Rattle.history.specs.Harts.{Walking}
 use Rattle.history.specs.Acknowledgements.{is_acked, count_where}
 use Rattle.history.specs.Due.{due}
@@ -249,16 +248,13 @@ IsEdit hart w (Protect by place page flags named) answer =
     (by ≡ hart) × (w ≡ wish.Protect place page flags) × ((ticket : ℕ) × (answer ≡ reply.Opened ticket))
 IsEdit hart w _ answer = ⊥
 
--- an accepted edit stored the word at this index of the table at this PPN
+-- an accepted edit stored the word at this index of the table at this PPN, where the path of its page ended
 pub record IsStore (setup : Setup) (ppn index word : ℕ) (turn : Turn) (before : History) : Type 0 where
-  pub hart : ℕ
-  pub wanted : Wish
-  pub store : Store
-  pub edit : IsEdit hart wanted turn.event turn.reply
-  pub due : edit_due setup (words_of setup before) (holder_of before) hart wanted ≡ Ok store
-  pub same_table : store.ppn ≡ ppn
-  pub same_index : store.index ≡ index
-  pub same_word : store.word ≡ word
+  pub new : Written
+  pub is : written setup turn.event turn.reply (words_of setup before) ≡ Some new
+  pub same_table : path_table setup (words_of setup before) new.place new.page ≡ ppn
+  pub same_index : path_index setup (words_of setup before) new.place new.page ≡ index
+  pub same_word : new.word ≡ word
 
 -- an accepted Reclaim emptied the word, which was there and its space's own
 pub record Empties (setup : Setup) (ppn index : ℕ) (turn : Turn) (before : History) : Type 0 where

@@ -30,7 +30,8 @@ use Rattle.history.specs.declared.event.Event.TheVariants.{Map, Unmap, Protect, 
 use Rattle.history.specs.declared.reply.Reply.{Reply}
 use Rattle.history.specs.Turns.{History, is_ok, is_table, is_leaf, is_opened}
 use Rattle.history.specs.Spaces.{holder_of}
-use Rattle.history.specs.Tables.{words_of, with_store}
+use Rattle.history.specs.Tables.{words_of}
+use Rattle.laws.proofs.StoredWords.{with_store, edited_after, as_edited}
 use Rattle.history.specs.Due.{is_place, retires, edit_at, due, Lawful}
 use Rattle.laws.specs.Kept.{HasPage, HavePages, IsSetup}
 use Rattle.laws.proofs.Tools.{by_test}
@@ -126,22 +127,27 @@ module _ (C : Setup) (setup : IsSetup C) (H : History) (l : Lawful C H) (pages :
       (λ _ _. empties-space C.layout setup.layout (words_of C H) (holder_of H) (tree C setup.layout setup.homes H l pages) space (subst (λ n. space < n) setup.homes f.there))
       (λ _ no_. absurd (false≢true (sym no_ ∙ z))) refl
 
-  pub changes : (event : Event) (r : Reply) → r ≡ due C H event → HasPage event → Changes C H r (words_of C H) (words_of C (turn_of event r ∷ H)) event
-  changes (Map hart place page ppn flags) r d has =
+  edited_changes : (event : Event) (r : Reply) → r ≡ due C H event → HasPage event → Changes C H r (words_of C H) (edited_after C event r (words_of C H) (holder_of H)) event
+  edited_changes (Map hart place page ppn flags) r d has =
       by_test (λ v. Changes C H r (words_of C H) (cond v (with_store (words_of C H) (edit_at C H hart (wish.Map place page ppn flags))) (words_of C H)) (Map hart place page ppn flags)) (is_table r || is_leaf r)
       (map_changes hart place page ppn flags r d has)
       (λ _. keeps (Map hart place page ppn flags) (same_maps C.layout (words_of C H)))
-  changes (Unmap hart place page named) r d has =
+  edited_changes (Unmap hart place page named) r d has =
       by_test (λ v. Changes C H r (words_of C H) (cond v (with_store (words_of C H) (edit_at C H hart (wish.Unmap place page))) (words_of C H)) (Unmap hart place page named)) (is_opened r)
       (λ z. let u = unmap_removes hart place page named r d has z in removes hart place page named z u.0 u.1)
       (λ _. keeps (Unmap hart place page named) (same_maps C.layout (words_of C H)))
-  changes (Protect hart place page flags named) r d has =
+  edited_changes (Protect hart place page flags named) r d has =
       by_test (λ v. Changes C H r (words_of C H) (cond v (with_store (words_of C H) (edit_at C H hart (wish.Protect place page flags))) (words_of C H)) (Protect hart place page flags named)) (is_opened r)
       (λ z. let u = protect_changes hart place page flags named r d has z in changes_flags hart place page flags named z u.0 u.1)
       (λ _. keeps (Protect hart place page flags named) (same_maps C.layout (words_of C H)))
-  changes (Reclaim hart space) r d has =
+  edited_changes (Reclaim hart space) r d has =
       by_test (λ v. Changes C H r (words_of C H) (cond v (emptied C.layout (holder_of H) space (words_of C H)) (words_of C H)) (Reclaim hart space)) (is_ok r)
       (λ z. let f = reclaim_found C H hart space r d z in
       empties hart space z f (empties-space C.layout setup.layout (words_of C H) (holder_of H) (tree C setup.layout setup.homes H l pages) space (subst (λ n. space < n) setup.homes f.there)))
       (λ _. keeps (Reclaim hart space) (same_maps C.layout (words_of C H)))
-  changes event r d has = keeps event (same_maps C.layout (words_of C H))
+  edited_changes event r d has = keeps event (same_maps C.layout (words_of C H))
+
+  pub changes : (event : Event) (r : Reply) → r ≡ due C H event → HasPage event → Changes C H r (words_of C H) (words_of C (turn_of event r ∷ H)) event
+  changes event r d has =
+      subst (λ (words : Tables). Changes C H r (words_of C H) words event)
+      (sym (as_edited C setup.layout setup.homes H (tree C setup.layout setup.homes H l pages) event r d)) (edited_changes event r d has)

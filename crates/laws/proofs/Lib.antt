@@ -14,6 +14,7 @@ pub mod Causes
 pub mod Holding
 pub mod Clearing
 pub mod Cohering
+pub mod StoredWords
 pub mod TreeKept
 pub mod Halves
 pub mod Changing

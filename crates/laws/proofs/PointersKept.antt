@@ -17,7 +17,8 @@ use Rattle.history.specs.Setup.{Setup}
 use Rattle.history.specs.declared.event.Event.{Event}
 use Rattle.history.specs.declared.event.Event.TheVariants.{Map, Unmap, Protect, Reclaim}
 use Rattle.history.specs.declared.reply.Reply.{Reply}
-use Rattle.history.specs.Tables.{words_of, with_store}
+use Rattle.history.specs.Tables.{words_of}
+use Rattle.laws.proofs.StoredWords.{with_store, edited_after, as_edited}
 use Rattle.history.specs.Spaces.{holder_of}
 use Rattle.history.specs.Due.{edit_at, due, Lawful}
 use Rattle.history.specs.Runs.{with_turn}
@@ -58,21 +59,28 @@ module _ (C : Setup) (within : IsSetup C) where
       keeps
 
   -- and each event with its reply, but for a Reclaim
-  pub pointers_kept : (event : Event) (r : Reply) (H : History) → is_reclaim event ≡ false → Lawful C H → HavePages H → r ≡ due C H event → KeepsPointers (words_of C H) (words_of C (with_turn event r H))
-  pointers_kept (Map hart place page ppn flags) r H other l has d =
+  edited_kept : (event : Event) (r : Reply) (H : History) → is_reclaim event ≡ false → Lawful C H → HavePages H → r ≡ due C H event
+      → KeepsPointers (words_of C H) (edited_after C event r (words_of C H) (holder_of H))
+  edited_kept (Map hart place page ppn flags) r H other l has d =
       by_test (λ v. KeepsPointers (words_of C H) (cond v (with_store (words_of C H) (edit_at C H hart (wish.Map place page ppn flags))) (words_of C H))) (is_table r || is_leaf r)
       (λ z. edit_keeps H hart (wish.Map place page ppn flags) (map_edit C H hart place page ppn flags r d z).edit l has)
       (λ _. pointers_stay (words_of C H))
-  pointers_kept (Unmap hart place page named) r H other l has d =
+  edited_kept (Unmap hart place page named) r H other l has d =
       by_test (λ v. KeepsPointers (words_of C H) (cond v (with_store (words_of C H) (edit_at C H hart (wish.Unmap place page))) (words_of C H))) (is_opened r)
       (λ z. let t = opened_some r z in edit_keeps H hart (wish.Unmap place page) (unmap_edit C H hart place page named t.0 r d t.1) l has)
       (λ _. pointers_stay (words_of C H))
-  pointers_kept (Protect hart place page flags named) r H other l has d =
+  edited_kept (Protect hart place page flags named) r H other l has d =
       by_test (λ v. KeepsPointers (words_of C H) (cond v (with_store (words_of C H) (edit_at C H hart (wish.Protect place page flags))) (words_of C H))) (is_opened r)
       (λ z. let t = opened_some r z in edit_keeps H hart (wish.Protect place page flags) (protect_edit C H hart place page flags named t.0 r d t.1) l has)
       (λ _. pointers_stay (words_of C H))
-  pointers_kept (Reclaim hart space) r H other l has d = absurd (cc (other))
-  pointers_kept event r H other l has d = pointers_stay (words_of C H)
+  edited_kept (Reclaim hart space) r H other l has d = absurd (cc (other))
+  edited_kept event r H other l has d = pointers_stay (words_of C H)
+
+  pub pointers_kept : (event : Event) (r : Reply) (H : History) → is_reclaim event ≡ false → Lawful C H → HavePages H → r ≡ due C H event
+      → KeepsPointers (words_of C H) (words_of C (with_turn event r H))
+  pointers_kept event r H other l has d =
+      subst (λ (words : Tables). KeepsPointers (words_of C H) words)
+      (sym (as_edited C within.layout within.homes H (tree C within.layout within.homes H l has) event r d)) (edited_kept event r H other l has d)
 
 -- a pointer stays, or its space is reclaimed
 pointer_step : (C : Setup) → IsSetup C → (event : Event) (r : Reply) (H : History) → Lawful C (turn_of event r ∷ H) → HavePages H → (ppn i next : ℕ) → PointsTo (words_of C H ppn i) next

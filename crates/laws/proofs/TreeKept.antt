@@ -10,6 +10,7 @@ use Rattle.spaces.specs.Holders.{Holders, unused_spare, emptied, given_back}
 use Rattle.spaces.proofs.Emptying.{tree-emptied}
 use Rattle.std.proofs.Math.Path.{fun_ext}
 use Rattle.spaces.specs.Edits.{Store, place_of, page_of}
+use Rattle.walk.specs.Leads.{Tables}
 use Rattle.walk.specs.Pointers.{pointed, pointed_kind}
 use Rattle.walk.proofs.FoundMembers.{leaf-ppn}
 use Rattle.spaces.specs.Tree.{IsTree}
@@ -37,7 +38,8 @@ use Rattle.laws.proofs.Tools.{by_test, none_since}
 use Rattle.laws.proofs.Causes.{has_place}
 use Rattle.history.specs.Turns.{History, is_ok, is_table, is_table_at, is_leaf, is_opened, opened_ticket}
 use Rattle.history.specs.Spaces.{holder_of}
-use Rattle.history.specs.Tables.{words_of, with_store}
+use Rattle.history.specs.Tables.{words_of}
+use Rattle.laws.proofs.StoredWords.{with_store, edited_after, as_edited}
 use Rattle.history.specs.Due.{is_place, retires, edit_at, map_reply, stored_reply, due, Lawful}
 use Rattle.laws.proofs.Accepted.{is_accepted, turn_of, passed, reclaim_found, EditFound, unmap_edit, protect_edit}
 
@@ -126,9 +128,9 @@ module _ (C : Setup) (layout : IsLayout C.layout) (same : length C.asids ≡ len
   unpointed H place store none frame =
       ap (λ (o : Option ℕ). cond (points_at o frame) (Some place) (holder_of H frame)) (sym (none_since (pointed (Some store.word)) none))
 
-  tree_step : (event : Event) (r : Reply) (H : History) → r ≡ due C H event → HasPage event → IsTree C.layout (words_of C H) (holder_of H)
-      → IsTree C.layout (words_of C (turn_of event r ∷ H)) (holder_of (turn_of event r ∷ H))
-  tree_step (Map hart place page ppn flags) r H d has tree =
+  edited_step : (event : Event) (r : Reply) (H : History) → r ≡ due C H event → HasPage event → IsTree C.layout (words_of C H) (holder_of H)
+      → IsTree C.layout (edited_after C event r (words_of C H) (holder_of H)) (holder_of (turn_of event r ∷ H))
+  edited_step (Map hart place page ppn flags) r H d has tree =
       by_test (λ v. IsTree C.layout (cond v (with_store (words_of C H) (edit_at C H hart (wish.Map place page ppn flags))) (words_of C H)) (holder_of (turn_of (Map hart place page ppn flags) r ∷ H))) (is_table r || is_leaf r)
       (λ z. let m = map_edit C H hart place page ppn flags r d z in
       stored_tree H hart (wish.Map place page ppn flags) m.edit (holder_of (turn_of (Map hart place page ppn flags) r ∷ H)) tree has
@@ -139,24 +141,29 @@ module _ (C : Setup) (layout : IsLayout C.layout) (same : length C.asids ≡ len
       no_table : (r : Reply) (frame : ℕ) → is_table r ≡ false → is_table_at r frame ≡ false
       no_table (reply.Table q) frame e = absurd (false≢true (sym e))
       no_table _ frame e = refl
-  tree_step (Unmap hart place page named) r H d has tree =
+  edited_step (Unmap hart place page named) r H d has tree =
       by_test (λ v. IsTree C.layout (cond v (with_store (words_of C H) (edit_at C H hart (wish.Unmap place page))) (words_of C H)) (holder_of H)) (is_opened r)
       (λ z. let t = opened_some r z in
       let e = unmap_edit C H hart place page named t.0 r d t.1 in
       stored_tree H hart (wish.Unmap place page) e (holder_of H) tree has (λ acc. unpointed H place e.store (removed_unpointed _ _ _ _ place page acc.writes)))
       (λ _. tree)
-  tree_step (Protect hart place page flags named) r H d has tree =
+  edited_step (Protect hart place page flags named) r H d has tree =
       by_test (λ v. IsTree C.layout (cond v (with_store (words_of C H) (edit_at C H hart (wish.Protect place page flags))) (words_of C H)) (holder_of H)) (is_opened r)
       (λ z. let t = opened_some r z in
       let e = protect_edit C H hart place page flags named t.0 r d t.1 in
       stored_tree H hart (wish.Protect place page flags) e (holder_of H) tree has (λ acc. unpointed H place e.store (changed_unpointed _ _ _ place page flags _ acc.writes)))
       (λ _. tree)
-  tree_step (Reclaim hart space) r H d has tree =
+  edited_step (Reclaim hart space) r H d has tree =
       by_test (λ v. IsTree C.layout (cond v (emptied C.layout (holder_of H) space (words_of C H)) (words_of C H)) (λ frame. cond v (given_back (holder_of H frame) space) (holder_of H frame))) (is_ok r)
       (λ z. let f = reclaim_found C H hart space r d z in
       tree-emptied C.layout layout (words_of C H) (holder_of H) tree space (subst (λ n. space < n) same f.there))
       (λ _. tree)
-  tree_step _ r H d has tree = tree
+  edited_step _ r H d has tree = tree
+
+  tree_step : (event : Event) (r : Reply) (H : History) → r ≡ due C H event → HasPage event → IsTree C.layout (words_of C H) (holder_of H)
+      → IsTree C.layout (words_of C (turn_of event r ∷ H)) (holder_of (turn_of event r ∷ H))
+  tree_step event r H d has tree =
+      subst (λ (words : Tables). IsTree C.layout words (holder_of (turn_of event r ∷ H))) (sym (as_edited C layout same H tree event r d)) (edited_step event r H d has tree)
 
   pub tree : (H : History) → Lawful C H → HavePages H → IsTree C.layout (words_of C H) (holder_of H)
   tree [] l has = opening-tree C.layout layout

@@ -1,11 +1,9 @@
 -- The store of an edit leaves the words and the used frames that its event asks for.
-use Rattle.std.proofs.Common.{◌≡◌, ℕ, true, false, cond, ◌||◌, Option, Some, None, length, Ok, refl, ap, sym, ◌∙◌}
+use Rattle.std.proofs.Common.{◌≡◌, ℕ, false, cond, Option, Some, None, length, Ok, refl, ap, sym, ◌∙◌}
 use Rattle.std.specs.Prelude.{is_some, slice_set}
 use Rattle.pte.specs.Address.{Span, IsPage}
 use Rattle.pte.specs.declared.address.What.{What}
 use Rattle.pte.specs.Entry.{kind_of}
-use Rattle.pte.specs.declared.entry.Kind.{Kind}
-use Rattle.pte.specs.declared.entry.Kind.TheVariants as kinds
 use Rattle.pte.specs.declared.flags.PteFlags.{PteFlags}
 use Rattle.spaces.specs.declared.places.Place.{Place}
 use Rattle.spaces.specs.declared.wishes.Wish.{Wish}
@@ -15,25 +13,20 @@ use Rattle.spaces.specs.Held.{Held, IsMemory, words_of, holders_of, spare_of}
 use Rattle.spaces.specs.Edits.{Store, place_of, page_of}
 use Rattle.spaces.specs.Accepted.{Accepted}
 use Rattle.spaces.specs.Applied.{points_at, holders_after, words_after}
+use Rattle.walk.specs.Leads.{Tables}
 use Rattle.walk.specs.Pointers.{pointed}
+use Rattle.walk.specs.Stores.{stored as stored_words}
 use Rattle.spaces.proofs.EditLaws.{edit-accepted}
 use Rattle.history.specs.declared.event.Event.TheVariants.{Map, Unmap, Protect}
 use Rattle.history.specs.declared.reply.Reply.TheVariants as reply
-use Rattle.history.specs.Turns.{is_table, is_leaf, is_table_at}
+use Rattle.history.specs.Turns.{is_table_at}
 use Rattle.shoot.specs.Tickets.{after_open}
-use Rattle.history.specs.Tables.{with_store}
 use Rattle.history.specs.Due.{stored_reply}
+use Rattle.laws.proofs.StoredWords.{map_stored, unmap_stored, protect_stored}
 use Rattle.laws.proofs.TreeKept.{stored-at, removed_unpointed, changed_unpointed}
-use Rattle.stepcore.specs.State.{State, space_at, tickets_at, words_in, holders_in}
+use Rattle.stepcore.specs.State.{State, setup_in, space_at, tickets_at, words_in, holders_in}
 use Rattle.stepcore.specs.Answers.{edit_in, page_request}
 use Rattle.stepcore.specs.Changes.{Follows}
-
--- the reply of a store
-stored : (k : Kind) → (is_table (stored_reply k) || is_leaf (stored_reply k)) ≡ true
-stored (kinds.Table ppn global) = refl
-stored kinds.Invalid = refl
-stored kinds.Reserved = refl
-stored (kinds.Leaf ppn flags) = refl
 
 -- the memory after a store that is due
 pub record IsStored (m : State) (now : Held) (hart : ℕ) (w : Wish) (store : Store) : Type 0 where
@@ -51,9 +44,9 @@ module _ (m : State) (now : Held) (hart : ℕ) where
       edit-accepted m.memory.layout (words_of m.memory) (holders_in m) hart w store
       (record { layout = is.memory.layout; tree = is.memory.tree; has = is.has; page = is.page; is = is.is })
 
-  -- the words after it, as its event has them
-  words : (w : Wish) (store : Store) → IsStored m now hart w store → (ppn i : ℕ) → words_of now ppn i ≡ with_store (words_in m) (edit_in m hart w) ppn i
-  words w store is ppn i = rw is.is (is.words ppn i)
+  -- the words after it are those of its event
+  words : (w : Wish) (store : Store) → IsStored m now hart w store → (new : Tables) → new ≡ stored_words (words_in m) store.ppn store.index store.word → (ppn i : ℕ) → words_of now ppn i ≡ new ppn i
+  words w store is new same ppn i = is.words ppn i ∙ ap (λ (x : Tables). x ppn i) (sym same)
 
 -- a word that is no pointer leaves the holders
 unpointed : (o : Option ℕ) → is_some o ≡ false → (ppn : ℕ) → points_at o ppn ≡ false
@@ -67,7 +60,8 @@ module _ (m new : State) (hart : ℕ) (others : new ≡ record m { memory = new.
     layout = is.layout;
     count = ap (λ (s : State). length s.spaces) others;
     spaces = λ k below. ap (λ (s : State). space_at s k) others;
-    words = λ p i. rw (stored (kind_of store.word)) (words m new.memory hart (wish.Map place page ppn flags) store is p i);
+    words = λ p i. words m new.memory hart (wish.Map place page ppn flags) store is _
+        (map_stored (setup_in m) (words_in m) (holders_in m) hart store place page ppn flags _ _ is.memory.layout is.is (accepted m new.memory hart (wish.Map place page ppn flags) store is).writes) p i;
     holders = λ p. is.holders p
         ∙ ap (λ v. cond v (Some store.place) (holders_in m p)) (sym (stored-at (kind_of store.word) p))
         ∙ ap (λ x. cond (is_table_at (stored_reply (kind_of store.word)) p) (Some x) (holders_in m p)) (accepted m new.memory hart (wish.Map place page ppn flags) store is).by;
@@ -94,7 +88,8 @@ module _ (m mid new : State) (hart named t : ℕ) (place : Place) (page : Span) 
         layout = is.layout;
         count = ap (λ (s : State). length s.spaces) others ∙ ap (λ (s : State). length s.spaces) opens;
         spaces = λ k below. ap (λ (s : State). space_at s k) others ∙ ap (λ (s : State). space_at s k) opens;
-        words = λ p i. words m new.memory hart (wish.Unmap place page) store is p i;
+        words = λ p i. words m new.memory hart (wish.Unmap place page) store is _
+            (unmap_stored (setup_in m) (words_in m) (holders_in m) hart store place page is.is) p i;
         holders = λ p. is.holders p
             ∙ ap (λ v. cond v (Some store.place) (holders_in m p)) (unpointed (pointed (Some store.word)) (removed_unpointed _ _ _ _ place page edit.writes) p);
         harts = ap (λ (s : State). s.harts) others ∙ ap (λ (s : State). s.harts) opens;
@@ -110,7 +105,8 @@ module _ (m mid new : State) (hart named t : ℕ) (place : Place) (page : Span) 
         layout = is.layout;
         count = ap (λ (s : State). length s.spaces) others ∙ ap (λ (s : State). length s.spaces) opens;
         spaces = λ k below. ap (λ (s : State). space_at s k) others ∙ ap (λ (s : State). space_at s k) opens;
-        words = λ p i. words m new.memory hart (wish.Protect place page flags) store is p i;
+        words = λ p i. words m new.memory hart (wish.Protect place page flags) store is _
+            (protect_stored (setup_in m) (words_in m) (holders_in m) hart store place page flags is.is) p i;
         holders = λ p. is.holders p
             ∙ ap (λ v. cond v (Some store.place) (holders_in m p)) (unpointed (pointed (Some store.word)) (changed_unpointed _ _ _ place page flags _ edit.writes) p);
         harts = ap (λ (s : State). s.harts) others ∙ ap (λ (s : State). s.harts) opens;

@@ -47,10 +47,13 @@ retired_in_mid_walk = (Switch 1 1, Ok) ∷ (Begin 1 0x1000 access.Load user, Mor
 abbrev pub given_back_in_mid_walk : List Step
 given_back_in_mid_walk = retired_in_mid_walk ++ (Reclaim 0 1, Ok) ∷ []
 
--- a new table takes the frame 0x80003, and another one is answered; hart 1 walks to it
-abbrev pub another_frame_answered : List Step
-another_frame_answered =
-    (Map 0 (Space 0) (small_page 0x1000) 0x100 (flags (R + U + A + D)), Table 0x80009)
+-- a new table of each of two spaces is the frame 0x80003, which is given back with space 1; hart 1 walks to it in space 0
+abbrev pub one_frame_for_two_spaces : List Step
+one_frame_for_two_spaces =
+    (Map 0 (Space 0) (small_page 0x1000) 0x100 (flags (R + U + A + D)), Table 0x80003)
+    ∷ (Map 0 (Space 1) (small_page 0x1000) 0x100 (flags (R + U + A + D)), Table 0x80003)
+    ∷ (Retire 0 1, Opened 0)
+    ∷ (Reclaim 0 1, Ok)
     ∷ (Begin 1 0x1000 access.Load user, More)
     ∷ (Load 1, More)
     ∷ []
