@@ -1,7 +1,7 @@
 -- What lasts from a turn on: the space, the service, the fence, and each word.
-use Rattle.std.proofs.Common.{◌≡◌, ℕ, Bool, true, false, cond, ◌&&◌, ◌||◌, ◌⊎◌, inl, inr, [], ◌∷◌, length, Option, Some, None, Ok as Good, Err, slice_get, refl, ap, sym, ◌∙◌, eqb}
+use Rattle.std.proofs.Common.{◌≡◌, ℕ, Bool, true, false, cond, ◌&&◌, ◌⊎◌, inl, inr, [], ◌∷◌, length, Option, Some, None, slice_get, refl, ap, sym, ◌∙◌, eqb}
 use Rattle.std.proofs.lemmas.Bool.{and_parts, eqb-true, eq-eqb, false≢true}
-use Rattle.std.specs.Prelude.{◌↔◌, Result}
+use Rattle.std.specs.Prelude.{◌↔◌}
 use Rattle.spaces.specs.Opening.{opening}
 use Rattle.spaces.specs.declared.places.Place.{Place}
 use Rattle.spaces.specs.declared.places.Place.TheVariants.{Space, Kernel}
@@ -10,10 +10,10 @@ use Rattle.walk.specs.Leads.{Tables}
 use Rattle.shoot.specs.Request.{Message}
 use Rattle.history.specs.Setup.{Setup}
 use Rattle.history.specs.declared.event.Event.{Event}
-use Rattle.history.specs.declared.event.Event.TheVariants.{Map, Unmap, Protect, Switch, Take, ServeFence, Ack, Reclaim}
+use Rattle.history.specs.declared.event.Event.TheVariants.{Map, Switch, Take, ServeFence, Ack, Reclaim}
 use Rattle.history.specs.declared.reply.Reply.{Reply}
-use Rattle.history.specs.declared.reply.Reply.TheVariants.{Leaf, Table, Ok, Taken}
-use Rattle.history.specs.Turns.{Turn, History, is_ok, is_taken, is_leaf, is_table, is_table_at, is_opened, are_same}
+use Rattle.history.specs.declared.reply.Reply.TheVariants.{Table, Ok, Taken}
+use Rattle.history.specs.Turns.{Turn, History, is_ok, is_taken, is_table_at, are_same}
 use Rattle.history.specs.Mailboxes.{Sent, posts, taken}
 use Rattle.history.specs.Service.{served, served_after, has_fenced, fenced_after}
 use Rattle.history.specs.Harts.{space_of, space_after}
@@ -21,7 +21,7 @@ use Rattle.history.specs.Tables.{Written, path_index, path_table, words_of, word
 use Rattle.history.specs.Spaces.{holder_of, holder_after}
 use Rattle.history.specs.Occurrences.{Since, SinceOr, IsSwitch, Switches, IsTake, TakesPost, TakesOrAcks, IsServeFence, Empties, Puts, Stores, IsNewTable, TakesOrGivesBack}
 use Rattle.history.proofs.Splits.{not_sometime-empty, not_since-empty, sometime-here, sometime-later, sometime_cases, since-here, since-later, since_cases, read_since}
-use Rattle.history.proofs.Occurred.{turn_of, ok_is, opened_is}
+use Rattle.history.proofs.Occurred.{turn_of, ok_is}
 use Rattle.history.proofs.OpenOrders.{same_parts, same_with}
 
 -- what is so at the opening, and then as the last turn that matters made it

@@ -1,7 +1,7 @@
 -- When something happened: facts about one turn of a history and the turns before it, in plain words. The laws of
 -- src/occurrences.rt say that what a history leaves is read off such turns.
 use Rattle.pte.specs.declared.scheme.Scheme.{Scheme}
-use Rattle.std.specs.Prelude.{ℕ, suc, ◌-◌, ◌<◌, ◌≡◌, ◌⊎◌, Bool, true, false, ◌==◌, ◌&&◌, ◌∷◌, ◌++◌, length, slice_get, Option, Some, None, Ok}
+use Rattle.std.specs.Prelude.{ℕ, suc, ◌-◌, ◌<◌, ◌≡◌, ◌⊎◌, Bool, true, false, ◌==◌, ◌&&◌, ◌∷◌, ◌++◌, length, slice_get, Option, Some, None}
 use Rattle.pte.specs.Address.{Span, top_level}
 use Rattle.pte.specs.declared.flags.PteFlags.{PteFlags}
 use Rattle.walk.specs.declared.found_or_trap.Trap.{Trap}

@@ -35,65 +35,65 @@ ghost use Rattle.history.specs.Translations.{IsFirstMatch, MayBegin, NoneMatches
 /// A Begin of a hart that is in no walk and serves nothing is answered as the oldest entry that matches answers the access: its
 /// physical address, or the trap that its flags raise. If none matches a walk begins. An address that is not canonical traps.
 pub fn begin_answers_as_the_first_match()
-    ensures hit { (C : Setup) (H : History) (hart va : ℕ) (access : Access) (ctx : Ctx) (e : Entry) (pa : ℕ) → MayBegin C H hart → IsCanonical C.layout.scheme va
-        → IsFirstMatch (entries_of C H hart) (asid_of C H (space_of H hart)) va e → answer_of e va access ctx ≡ Ok pa
-        → due C H (Begin hart va access ctx) ≡ reply.Hit pa }
-    ensures trap { (C : Setup) (H : History) (hart va : ℕ) (access : Access) (ctx : Ctx) (e : Entry) (trap : Fault) → MayBegin C H hart → IsCanonical C.layout.scheme va
-        → IsFirstMatch (entries_of C H hart) (asid_of C H (space_of H hart)) va e → answer_of e va access ctx ≡ Err trap
-        → due C H (Begin hart va access ctx) ≡ reply.Trap trap }
-    ensures more { (C : Setup) (H : History) (hart va : ℕ) (access : Access) (ctx : Ctx) → MayBegin C H hart → IsCanonical C.layout.scheme va
-        → NoneMatches (entries_of C H hart) (asid_of C H (space_of H hart)) va → due C H (Begin hart va access ctx) ≡ reply.More }
-    ensures not_canonical { (C : Setup) (H : History) (hart va : ℕ) (access : Access) (ctx : Ctx) → MayBegin C H hart → (¬ IsCanonical C.layout.scheme va)
-        → due C H (Begin hart va access ctx) ≡ reply.Trap (page_trap access NotCanonical) }
+    ensures hit { (setup : Setup) (history : History) (hart va : ℕ) (access : Access) (ctx : Ctx) (e : Entry) (pa : ℕ) → MayBegin setup history hart → IsCanonical setup.layout.scheme va
+        → IsFirstMatch (entries_of setup history hart) (asid_of setup history (space_of history hart)) va e → answer_of e va access ctx ≡ Ok pa
+        → due setup history (Begin hart va access ctx) ≡ reply.Hit pa }
+    ensures trap { (setup : Setup) (history : History) (hart va : ℕ) (access : Access) (ctx : Ctx) (e : Entry) (trap : Fault) → MayBegin setup history hart → IsCanonical setup.layout.scheme va
+        → IsFirstMatch (entries_of setup history hart) (asid_of setup history (space_of history hart)) va e → answer_of e va access ctx ≡ Err trap
+        → due setup history (Begin hart va access ctx) ≡ reply.Trap trap }
+    ensures more { (setup : Setup) (history : History) (hart va : ℕ) (access : Access) (ctx : Ctx) → MayBegin setup history hart → IsCanonical setup.layout.scheme va
+        → NoneMatches (entries_of setup history hart) (asid_of setup history (space_of history hart)) va → due setup history (Begin hart va access ctx) ≡ reply.More }
+    ensures not_canonical { (setup : Setup) (history : History) (hart va : ℕ) (access : Access) (ctx : Ctx) → MayBegin setup history hart → (¬ IsCanonical setup.layout.scheme va)
+        → due setup history (Begin hart va access ctx) ≡ reply.Trap (page_trap access NotCanonical) }
 {}
 
 /// A Load goes on where one more pointer leads on; else it is answered with the outcome of the access in the words of now, of
 /// every access and every size of a leaf.
 pub fn load_answers_the_outcome()
-    ensures more { (C : Setup) (H : History) (hart : ℕ) (walk : Walking) → hart < C.harts → walk_of H hart ≡ Some walk
-        → LeadsOn C.layout.scheme (words_of C H) (root_ppn C.layout (space_of H hart)) walk → due C H (Load hart) ≡ reply.More }
-    ensures found { (C : Setup) (H : History) (hart : ℕ) (walk : Walking) (found : Found) → Lawful C H → WalkEnds C H hart walk (Ok found)
-        → due C H (Load hart) ≡ reply.Filled found.pa }
-    ensures trap { (C : Setup) (H : History) (hart : ℕ) (walk : Walking) (trap : Fault) → Lawful C H → WalkEnds C H hart walk (Err trap)
-        → due C H (Load hart) ≡ reply.Trap trap }
-    ensures no_walk { (C : Setup) (H : History) (hart : ℕ) → hart < C.harts → walk_of H hart ≡ None → due C H (Load hart) ≡ reply.Refused NotWalking }
+    ensures more { (setup : Setup) (history : History) (hart : ℕ) (walk : Walking) → hart < setup.harts → walk_of history hart ≡ Some walk
+        → LeadsOn setup.layout.scheme (words_of setup history) (root_ppn setup.layout (space_of history hart)) walk → due setup history (Load hart) ≡ reply.More }
+    ensures found { (setup : Setup) (history : History) (hart : ℕ) (walk : Walking) (found : Found) → Lawful setup history → WalkEnds setup history hart walk (Ok found)
+        → due setup history (Load hart) ≡ reply.Filled found.pa }
+    ensures trap { (setup : Setup) (history : History) (hart : ℕ) (walk : Walking) (trap : Fault) → Lawful setup history → WalkEnds setup history hart walk (Err trap)
+        → due setup history (Load hart) ≡ reply.Trap trap }
+    ensures no_walk { (setup : Setup) (history : History) (hart : ℕ) → hart < setup.harts → walk_of history hart ≡ None → due setup history (Load hart) ≡ reply.Refused NotWalking }
 {}
 
 /// Each Load that is answered Filled ended a walk that found a leaf.
 pub fn filled_is_of_what_was_found()
-    ensures { (C : Setup) (H : History) (hart pa : ℕ) → Lawful C (with_turn (Load hart) (reply.Filled pa) H)
-        → (walk : Walking) × (found : Found) × WalkEnds C H hart walk (Ok found) × (pa ≡ found.pa) }
+    ensures { (setup : Setup) (history : History) (hart pa : ℕ) → Lawful setup (with_turn (Load hart) (reply.Filled pa) history)
+        → (walk : Walking) × (found : Found) × WalkEnds setup history hart walk (Ok found) × (pa ≡ found.pa) }
 {}
 
 /// A Load that is answered Filled leaves exactly the TLB filled with the entry of what its walk found, for the ASID of the hart's
 /// space: of every access and every size of a leaf.
 pub fn load_fills_what_was_found()
-    ensures { (C : Setup) (H : History) (hart pa : ℕ) (walk : Walking) (found : Found) → Lawful C H → WalkEnds C H hart walk (Ok found)
-        → entries_of C (with_turn (Load hart) (reply.Filled pa) H) hart ≡ filled (entries_of C H hart) (entry_of (asid_of C H (space_of H hart)) found) }
+    ensures { (setup : Setup) (history : History) (hart pa : ℕ) (walk : Walking) (found : Found) → Lawful setup history → WalkEnds setup history hart walk (Ok found)
+        → entries_of setup (with_turn (Load hart) (reply.Filled pa) history) hart ≡ filled (entries_of setup history hart) (entry_of (asid_of setup history (space_of history hart)) found) }
 {}
 
 /// A fence leaves exactly the entries that SFENCE.VMA with its registers does not take out.
 pub fn fence_leaves_what_it_does_not_name()
-    ensures { (C : Setup) (H : History) (hart : ℕ) (rs1 rs2 : Option ℕ)
-        → entries_of C (with_turn (Fence hart rs1 rs2) reply.Ok H) hart ≡ fenced C.layout.scheme (entries_of C H hart) rs1 rs2 }
+    ensures { (setup : Setup) (history : History) (hart : ℕ) (rs1 rs2 : Option ℕ)
+        → entries_of setup (with_turn (Fence hart rs1 rs2) reply.Ok history) hart ≡ fenced setup.layout.scheme (entries_of setup history hart) rs1 rs2 }
 {}
 
 /// The service of a request, of a page of the scheme, leaves exactly the entries that stay under each fence that the request
 /// stands for, in the same order.
 pub fn service_leaves_what_stays()
-    ensures { (C : Setup) (H : History) (hart : ℕ) (post : Sent) → served C H hart ≡ Some post → IsRequest C.layout.scheme post.request.what
-        → Served C.layout.scheme (entries_of C H hart) post.request.what (entries_of C (with_turn (ServeFence hart) reply.Ok H) hart) }
+    ensures { (setup : Setup) (history : History) (hart : ℕ) (post : Sent) → served setup history hart ≡ Some post → IsRequest setup.layout.scheme post.request.what
+        → Served setup.layout.scheme (entries_of setup history hart) post.request.what (entries_of setup (with_turn (ServeFence hart) reply.Ok history) hart) }
 {}
 
 /// A hart's acknowledgement of its own order, of a page of the scheme, leaves exactly the entries that stay under each fence that
 /// the order stands for, in the same order.
 pub fn own_acknowledgement_leaves_what_stays()
-    ensures { (C : Setup) (H : History) (hart ticket k : ℕ) (order : Order) (answer : Reply) → open_order H hart ticket ≡ Some k → order_at C H k ≡ Some order
-        → IsRequest C.layout.scheme order.what → IsProgress answer
-        → Served C.layout.scheme (entries_of C H hart) order.what (entries_of C (with_turn (AckSelf hart ticket) answer H) hart) }
+    ensures { (setup : Setup) (history : History) (hart ticket number : ℕ) (order : Order) (answer : Reply) → open_order history hart ticket ≡ Some number → order_at setup history number ≡ Some order
+        → IsRequest setup.layout.scheme order.what → IsProgress answer
+        → Served setup.layout.scheme (entries_of setup history hart) order.what (entries_of setup (with_turn (AckSelf hart ticket) answer history) hart) }
 {}
 
 /// No other turn changes an entry of the hart's TLB: no other event, nothing that is refused, and no event of another hart.
 pub fn nothing_else_touches_a_tlb()
-    ensures { (C : Setup) (H : History) (hart : ℕ) (turn : Turn) → (¬ TouchesTlb hart turn) → entries_of C (turn ∷ H) hart ≡ entries_of C H hart }
+    ensures { (setup : Setup) (history : History) (hart : ℕ) (turn : Turn) → (¬ TouchesTlb hart turn) → entries_of setup (turn ∷ history) hart ≡ entries_of setup history hart }
 {}

@@ -104,9 +104,9 @@ module _ (C : Setup) (setup : IsSetup C) (H : History) (l : Lawful C H) (pages :
       (λ t. keeps (Map hart place page ppn flags) (does.0 (sym m.table ∙ t)))
       (λ t. adds hart place page ppn flags (sym (ap (λ v. v || is_leaf r) t) ∙ z) (edited hart (wish.Map place page ppn flags) m.edit is_page) (does.1 (sym m.table ∙ t)))
 
-  pub unmap_removes : (hart : ℕ) (place : Place) (page : Span) (named : ℕ) (r : Reply) → r ≡ due C H (Unmap hart place page named) → IsPage page → is_opened r ≡ true
+  edited_removes : (hart : ℕ) (place : Place) (page : Span) (named : ℕ) (r : Reply) → r ≡ due C H (Unmap hart place page named) → IsPage page → is_opened r ≡ true
       → IsEdited C H place page × RemovesPage C.layout place page (words_of C H) (with_store (words_of C H) (edit_at C H hart (wish.Unmap place page)))
-  unmap_removes hart place page named r d is_page z =
+  edited_removes hart place page named r d is_page z =
       let t = opened_some r z in
       let e = unmap_edit C H hart place page named t.0 r d t.1 in
       (edited hart (wish.Unmap place page) e is_page, effect hart (wish.Unmap place page) e is_page)
@@ -134,7 +134,7 @@ module _ (C : Setup) (setup : IsSetup C) (H : History) (l : Lawful C H) (pages :
       (λ _. keeps (Map hart place page ppn flags) (same_maps C.layout (words_of C H)))
   edited_changes (Unmap hart place page named) r d has =
       by_test (λ v. Changes C H r (words_of C H) (cond v (with_store (words_of C H) (edit_at C H hart (wish.Unmap place page))) (words_of C H)) (Unmap hart place page named)) (is_opened r)
-      (λ z. let u = unmap_removes hart place page named r d has z in removes hart place page named z u.0 u.1)
+      (λ z. let u = edited_removes hart place page named r d has z in removes hart place page named z u.0 u.1)
       (λ _. keeps (Unmap hart place page named) (same_maps C.layout (words_of C H)))
   edited_changes (Protect hart place page flags named) r d has =
       by_test (λ v. Changes C H r (words_of C H) (cond v (with_store (words_of C H) (edit_at C H hart (wish.Protect place page flags))) (words_of C H)) (Protect hart place page flags named)) (is_opened r)
@@ -151,3 +151,13 @@ module _ (C : Setup) (setup : IsSetup C) (H : History) (l : Lawful C H) (pages :
   changes event r d has =
       subst (λ (words : Tables). Changes C H r (words_of C H) words event)
       (sym (as_edited C setup.layout setup.homes H (tree C setup.layout setup.homes H l pages) event r d)) (edited_changes event r d has)
+
+  -- the turn that unmaps a page takes it away
+  pub unmap_removes : (hart : ℕ) (place : Place) (page : Span) (named : ℕ) (r : Reply) → r ≡ due C H (Unmap hart place page named) → IsPage page → is_opened r ≡ true
+      → IsEdited C H place page × RemovesPage C.layout place page (words_of C H) (words_of C (turn_of (Unmap hart place page named) r ∷ H))
+  unmap_removes hart place page named r d is_page z =
+      let u = edited_removes hart place page named r d is_page z in
+      let same : words_of C (turn_of (Unmap hart place page named) r ∷ H) ≡ with_store (words_of C H) (edit_at C H hart (wish.Unmap place page)) =
+      as_edited C setup.layout setup.homes H (tree C setup.layout setup.homes H l pages) (Unmap hart place page named) r d
+      ∙ ap (λ b. cond b (with_store (words_of C H) (edit_at C H hart (wish.Unmap place page))) (words_of C H)) z
+      in (u.0, subst (λ (words : Tables). RemovesPage C.layout place page (words_of C H) words) (sym same) u.1)

@@ -16,6 +16,7 @@ pub mod Clearing
 pub mod Cohering
 pub mod StoredWords
 pub mod TreeKept
+mod DueStores
 pub mod Halves
 pub mod Changing
 pub mod MapsKept

@@ -9,7 +9,6 @@ use Rattle.walk.specs.Leads.{Tables}
 use Rattle.walk.specs.Maps.{Maps}
 use Rattle.spaces.specs.declared.places.Place.{Place}
 use Rattle.spaces.specs.declared.places.Place.TheVariants.{Space, Kernel}
-use Rattle.spaces.specs.declared.wishes.Wish.TheVariants as wish
 use Rattle.spaces.specs.Layout.{first_window_slot, root_ppn, user_slots}
 use Rattle.spaces.specs.Effects.{IsPart, IsAbout, RemovesPage, EmptiesSpace, IsOfUser}
 use Rattle.spaces.specs.Edits.{is_wrong_half}
@@ -25,9 +24,8 @@ use Rattle.history.specs.declared.reply.Reply.TheVariants as reply
 use Rattle.history.specs.Turns.{Turn, History, is_ok, is_leaf, is_opened, opened_ticket}
 use Rattle.history.specs.Orders.{Order, Cause, Unmapped, Protected, Flushed, scope_request, order_with, opened_order, order_at}
 use Rattle.history.specs.Tables.{words_of}
-use Rattle.laws.proofs.StoredWords.{with_store, as_edited}
 use Rattle.history.specs.Spaces.{Live, Retires, Free, status_of, is_free, asid_of, asid_in, holder_of}
-use Rattle.history.specs.Due.{is_place, edit_at, due, Lawful}
+use Rattle.history.specs.Due.{is_place, due, Lawful}
 use Rattle.history.specs.Staleness.{is_over, is_over_order, is_same_asid, HasAsid, Reaches, anew_after, is_mapped_anew, superseded_after, is_superseded, IsChange}
 use Rattle.laws.specs.Kept.{FreeMapsNothing, HasPage, HavePages, IsSetup, StaysMapped, StaysUnmapped, UserPagesAreNotGlobal, WindowIsShared}
 use Rattle.laws.proofs.Tools.{by_test}
@@ -250,11 +248,7 @@ module _ (C : Setup) (setup : IsSetup C) where
       let same_page : span ≡ page = cc in
       let part_of : IsPart span n = subst (λ (p : Span). IsPart p n) (sym same_page) at in
       let reached : Reaches C H (asid_in C H other) s = subst (λ (o : Option ℕ). Reaches C H o s) same_of (unmap_reach of reach) in
-      subst (λ (words : Tables). Maps C.layout.scheme words (root_ppn C.layout s) n ppn flags global → ⊥)
-      (sym (as_edited C setup.layout setup.homes H (tree C setup.layout setup.homes H l pages) (Unmap hart other span named) r d))
-      (by_test (λ v. Maps C.layout.scheme (cond v (with_store (words_of C H) (edit_at C H hart (wish.Unmap other span))) (words_of C H)) (root_ppn C.layout s) n ppn flags global → ⊥) (is_opened r)
-      (λ _. removed other span H (words_of C H) (with_store (words_of C H) (edit_at C H hart (wish.Unmap other span))) s l u.0.1 u.1 reached n ppn flags global part_of)
-      (λ f. absurd (false≢true (sym f ∙ z))))
+      removed other span H (words_of C H) (words_of C (turn_of (Unmap hart other span named) r ∷ H)) s l u.0.1 u.1 reached n ppn flags global part_of
     where
       unmap_reach : (of : Option ℕ) → Reaches C (turn_of (Unmap hart other span named) r ∷ H) of s → Reaches C H of s
       unmap_reach (Some asid) reach = record { there = reach.there; kept = reach.kept; same = reach.same }

@@ -1,13 +1,13 @@
 -- The word that an accepted edit stores is that of the store that is due.
-use Rattle.std.proofs.Common.{◌≡◌, ℕ, ◌<◌, ◌^◌, Bool, true, false, cond, ◌||◌, not, Option, Some, None, refl, ap, sym, ◌∙◌, ◌∷◌, subst, length, arith}
+use Rattle.std.proofs.Common.{◌≡◌, ℕ, true, false, cond, ◌||◌, not, Option, refl, ap, sym, ◌∙◌, ◌∷◌, subst, length, arith}
 use Rattle.std.proofs.lemmas.Bool.{false≢true, not-false}
 use Rattle.std.proofs.lemmas.Bool.Decides.{nat_tests}
 use Rattle.std.specs.Prelude.{Result, Ok, Err, ◌==◌}
-use Rattle.pte.specs.Address.{Span, level_of, vpn_of}
+use Rattle.pte.specs.Address.{Span, level_of}
 use Rattle.pte.specs.declared.entry.Kind.{Kind}
 use Rattle.pte.specs.declared.entry.Kind.TheVariants as kinds
 use Rattle.pte.specs.declared.flags.PteFlags.{PteFlags}
-use Rattle.pte.specs.Entry.{kind_of, leaf_word, table_word, ppn_of}
+use Rattle.pte.specs.Entry.{kind_of, leaf_word, ppn_of}
 use Rattle.pte.proofs.EntryKinds.{kind-table}
 use Rattle.walk.specs.Leads.{Tables}
 use Rattle.walk.specs.Stores.{stored}
@@ -29,13 +29,13 @@ use Rattle.history.specs.declared.event.Event.TheVariants.{Map, Unmap, Protect, 
 use Rattle.refusals.specs.declared.refusal.Refusal.TheVariants.{NoHart, NoSpace, Retiring}
 use Rattle.history.specs.declared.reply.Reply.{Reply}
 use Rattle.history.specs.declared.reply.Reply.TheVariants as reply
-use Rattle.history.specs.Turns.{History, is_ok, is_table, is_leaf, is_opened, opened_ticket}
+use Rattle.history.specs.Turns.{History, is_ok, is_table, is_leaf, is_opened}
 use Rattle.history.specs.Tables.{words_of, written, with_written, path_table, path_index, path_word, edit_due}
 use Rattle.history.specs.Spaces.{holder_of}
 use Rattle.history.specs.Due.{is_place, retires, edit_at, map_reply, stored_reply, due}
 use Rattle.laws.proofs.Tools.{by_test}
 use Rattle.laws.proofs.Causes.{has_place}
-use Rattle.laws.proofs.Accepted.{EditFound, is_accepted, passed, turn_of, unmap_edit, protect_edit}
+use Rattle.laws.proofs.Accepted.{is_accepted, passed, turn_of, unmap_edit, protect_edit}
 
 -- the words once a store was made
 abbrev pub with_store : Tables → Result Store MapFault → Tables

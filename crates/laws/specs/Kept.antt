@@ -1,22 +1,24 @@
 -- What Clear rests on besides tickets and fences: events speak of pages, ASIDs are distinct, and what the tables keep.
-use Rattle.std.specs.Prelude.{ℕ, ◌≡◌, ◌<◌, ◌≤◌, ◌^◌, Bool, true, false, [], ◌∷◌, length, Option, Some}
+use Rattle.std.specs.Prelude.{ℕ, ◌≡◌, ◌<◌, ◌≤◌, ◌^◌, Bool, true, false, [], ◌∷◌, length, Option, Some, Ok}
 use Rattle.pte.specs.Address.{Span, IsPage}
 use Rattle.pte.specs.declared.flags.PteFlags.{PteFlags}
 use Rattle.walk.specs.Maps.{Maps}
+use Rattle.walk.specs.Stores.{stored}
+use Rattle.spaces.specs.declared.wishes.Wish.{Wish}
 use Rattle.spaces.specs.declared.places.Place.TheVariants.{Space, Kernel}
 use Rattle.spaces.specs.Layout.{root_ppn}
 use Rattle.spaces.specs.Held.{IsLayout}
-use Rattle.spaces.specs.Edits.{is_wrong_half}
+use Rattle.spaces.specs.Edits.{Store, is_wrong_half}
 use Rattle.tlb.specs.Fence.{asid_bits}
 use Rattle.tlb.specs.Mappings.{LiesIn}
 use Rattle.history.specs.Setup.{Setup}
-use Rattle.history.specs.Spaces.{status_of, is_free, asid_of}
+use Rattle.history.specs.Spaces.{status_of, is_free, asid_of, holder_of}
 use Rattle.shoot.specs.declared.TheConstants.{MAX_HARTS}
 use Rattle.history.specs.declared.event.Event.{Event}
 use Rattle.history.specs.declared.event.Event.TheVariants.{Map, Unmap, Protect, Create}
 use Rattle.history.specs.Turns.{Turn, History}
 use Rattle.history.specs.Orders.{Order, Unmapped, order_at}
-use Rattle.history.specs.Tables.{words_of}
+use Rattle.history.specs.Tables.{edit_due, words_of}
 use Rattle.history.specs.Staleness.{is_mapped_anew, is_superseded, IsChange, IsRootOf}
 
 -- the page of an event is one: its base is canonical and a multiple of its size; and an ASID has 16 bits
@@ -81,3 +83,9 @@ abbrev pub FreeMapsNothing : Setup → History → Type 0
 FreeMapsNothing setup history =
     (s : ℕ) (page : Span) (n ppn : ℕ) (flags : PteFlags) (global : Bool) → s < length setup.asids → is_free (status_of history s) ≡ true
     → IsPage page → is_wrong_half setup.layout (Space s) page ≡ false → LiesIn page n → ¬ Maps setup.layout.scheme (words_of setup history) (root_ppn setup.layout s) n ppn flags global
+
+-- the store that was due to an edit by the hart is made, and no other word changes
+pub record MakesDueStore (setup : Setup) (hart : ℕ) (wanted : Wish) (turn : Turn) (history : History) : Type 0 where
+  pub store : Store
+  pub due : edit_due setup (words_of setup history) (holder_of history) hart wanted ≡ Ok store
+  pub words : words_of setup (turn ∷ history) ≡ stored (words_of setup history) store.ppn store.index store.word

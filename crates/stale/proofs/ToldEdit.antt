@@ -21,7 +21,9 @@ use Rattle.history.specs.declared.event.Event.TheVariants.{Unmap, Protect}
 use Rattle.history.specs.declared.reply.Reply.{Reply}
 use Rattle.history.specs.declared.reply.Reply.TheVariants as reply
 use Rattle.history.specs.Turns.{History, is_opened, opened_ticket}
-use Rattle.history.specs.Tables.{words_of, with_store}
+use Rattle.history.specs.Tables.{words_of}
+use Rattle.laws.proofs.StoredWords.{with_store, as_edited}
+use Rattle.laws.proofs.TreeKept.{tree}
 use Rattle.history.specs.Spaces.{asid_in, holder_of}
 use Rattle.history.specs.Harts.{entries_of}
 use Rattle.history.specs.Due.{due, edit_at, is_place}
@@ -159,7 +161,8 @@ module _ (C : Setup) (m : State) (H : History) (st : Stands C m H) where
       let found = unmap_edit C H hart place page named t r refl opened in
       let found_leaf = leaf C st.within H st.lawful st.pages hart w found is_page tt in
       let new : words_of C (due_turn C H (Unmap hart place page named) ∷ H) ≡ words_after (words_of C H) found.store =
-      ap (λ b. cond b (with_store (words_of C H) (edit_at C H hart w)) (words_of C H)) (opened_is r t opened) ∙ ap (with_store (words_of C H)) found.is
+      as_edited C st.within.layout st.within.homes H (tree C st.within.layout st.within.homes H st.lawful st.pages) (Unmap hart place page named) r refl
+      ∙ ap (λ b. cond b (with_store (words_of C H) (edit_at C H hart w)) (words_of C H)) (opened_is r t opened) ∙ ap (with_store (words_of C H)) found.is
       in
       let effect : RemovesPage C.layout place page (words_of C H) (words_after (words_of C H) found.store) =
       edit-effect C.layout (words_of C H) (holder_of H) hart w found.store (edit C st.within H st.lawful st.pages hart w found is_page tt)
@@ -177,7 +180,8 @@ module _ (C : Setup) (m : State) (H : History) (st : Stands C m H) where
       let found = protect_edit C H hart place page flags named t r refl opened in
       let found_leaf = leaf C st.within H st.lawful st.pages hart w found is_page tt in
       let new : words_of C (due_turn C H (Protect hart place page flags named) ∷ H) ≡ words_after (words_of C H) found.store =
-      ap (λ b. cond b (with_store (words_of C H) (edit_at C H hart w)) (words_of C H)) (opened_is r t opened) ∙ ap (with_store (words_of C H)) found.is
+      as_edited C st.within.layout st.within.homes H (tree C st.within.layout st.within.homes H st.lawful st.pages) (Protect hart place page flags named) r refl
+      ∙ ap (λ b. cond b (with_store (words_of C H) (edit_at C H hart w)) (words_of C H)) (opened_is r t opened) ∙ ap (with_store (words_of C H)) found.is
       in
       let effect : ChangesFlags C.layout place page flags (words_of C H) (words_after (words_of C H) found.store) =
       edit-effect C.layout (words_of C H) (holder_of H) hart w found.store (edit C st.within H st.lawful st.pages hart w found is_page tt)
