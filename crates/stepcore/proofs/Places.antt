@@ -1,5 +1,5 @@
 -- The places of the mailboxes: each pair of numbers has its own, and those of the first n harts take the first n * n.
-use Rattle.std.proofs.Common.{◌≡◌, ℕ, zero, suc, ◌+◌, ◌*◌, ◌<◌, ◌≤◌, cond, length, subst, refl, ap, inl, inr, ◌⊎◌, arith, le_trans, mul-le-mul_left, mul-le-mul_right, ⊎_elim}
+use Rattle.std.proofs.Common.{◌≡◌, ℕ, zero, suc, ◌+◌, ◌*◌, ◌<◌, ◌≤◌, cond, length, refl, ap, inl, inr, ◌⊎◌, arith, le_trans, mul-le-mul_left, mul-le-mul_right, ⊎_elim}
 use Rattle.std.specs.Prelude.{nat_lt}
 use Rattle.std.proofs.lemmas.Bool.{ltb-true, ltb-false}
 use Rattle.laws.proofs.Tools.{by_test}
@@ -56,7 +56,5 @@ same_place a b s h =
     (m, omega (arith, ap (λ (n : ℕ). n * n) m, m))))
 
 -- each pair of harts has a mailbox
-pub place_in : (m n : State) → m ≡ n → IsMachine m → (s h : ℕ) → s < length n.harts → h < length n.harts → mailbox_index s h < length n.mailboxes
-place_in m n same is s h =
-    subst (λ (k : State). s < length k.harts → h < length k.harts → mailbox_index s h < length k.mailboxes) same
-    (λ ls lh. rw is.mailboxes (place_below (length m.harts) s h ls lh))
+pub place_in : (m : State) → IsMachine m → (s h : ℕ) → s < length m.harts → h < length m.harts → mailbox_index s h < length m.mailboxes
+place_in m is s h ls lh = rw is.mailboxes (place_below (length m.harts) s h ls lh)

@@ -7,9 +7,7 @@ use Rattle.std.specs.Prelude.{nat_lt}
 use Rattle.spaces.specs.declared.places.Place.TheVariants.{Space}
 use Rattle.spaces.specs.Layout.{home_of}
 use Rattle.shoot.specs.Tickets.{after_open}
-use Rattle.spaces.specs.Held.{Held, words_of, holders_of}
-use Rattle.spaces.specs.Holders.{emptied, given_back}
-use Rattle.history.specs.declared.event.Event.TheVariants.{Retire, Reclaim, Finish}
+use Rattle.history.specs.declared.event.Event.TheVariants.{Retire, Finish}
 use Rattle.history.specs.declared.reply.Reply.TheVariants as reply
 use Rattle.stepcore.specs.declared.space_state.SpaceState.{SpaceState}
 use Rattle.stepcore.specs.declared.space_state.Phase.TheVariants as phase
@@ -56,32 +54,6 @@ module _ (m : State) (space t : ℕ) where
         ∙ (ap (λ (x : SpaceState). slice_set m.tickets hart (after_open (tickets_at m hart) (SpaceOf x.asid) named)) e
         ∙ ap (λ (n : ℕ). slice_set m.tickets hart (after_open (tickets_at m hart) (SpaceOf (space_at m space).asid) n)) f));
     mailboxes = ap (λ (s : State). s.mailboxes) puts ∙ ap (λ (s : State). s.mailboxes) opens;
-  }
-
--- a Reclaim gives back the space's frames, and frees it
-module _ (m new : State) (memory : Held) (hart space : ℕ) where
-  abbrev freed : ℕ → SpaceState
-  freed asid = record { asid = asid; phase = phase.Free }
-
-  freed_asid : (s : ℕ) (b : Bool) → eqb space s ≡ b → cond b (freed (space_at m space).asid) (space_at m s) ≡ cond b (freed (space_at m s).asid) (space_at m s)
-  freed_asid s true e = ap (λ k. freed (space_at m k).asid) (eqb-true space s e)
-  freed_asid s false e = refl
-
-  pub reclaim_follows : (state : SpaceState) → state ≡ space_at m space → new ≡ record m { memory = memory; spaces = slice_set m.spaces space (freed state.asid) } → length new.spaces ≡ length m.spaces
-      → memory.layout ≡ m.memory.layout → ((p i : ℕ) → words_of memory p i ≡ emptied m.memory.layout (holders_in m) space (words_in m) p i)
-      → ((p : ℕ) → holders_of memory p ≡ given_back (holders_in m p) space) → Follows m (Reclaim hart space) reply.Ok new
-  reclaim_follows state e puts count layout words holders = record {
-    layout = ap (λ (s : State). s.memory.layout) puts ∙ layout;
-    count = count;
-    spaces = λ s below.
-        ap (λ (x : State). space_at x s) puts
-        ∙ (space_put m.spaces space s (freed state.asid) below
-        ∙ (ap (λ (x : SpaceState). cond (eqb space s) (freed x.asid) (space_at m s)) e ∙ freed_asid s (eqb space s) refl));
-    words = λ p i. ap (λ (s : State). words_in s p i) puts ∙ words p i;
-    holders = λ p. ap (λ (s : State). holders_in s p) puts ∙ holders p;
-    harts = ap (λ (s : State). s.harts) puts;
-    tickets = ap (λ (s : State). s.tickets) puts;
-    mailboxes = ap (λ (s : State). s.mailboxes) puts;
   }
 
 later : (n at : ℕ) → (at ≡ n → ⊥) → nat_lt n at ≡ nat_lt n (at + 1)

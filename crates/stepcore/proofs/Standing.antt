@@ -1,5 +1,5 @@
 -- A machine that stands at a history answers what is due, and stands at the history with one more turn.
-use Rattle.std.proofs.Common.{◌≡◌, ◌<◌, List, [], ◌∷◌, ◌++◌, unwrap_or, slice_get, ap, sym, subst, ◌∙◌}
+use Rattle.std.proofs.Common.{◌≡◌, ◌<◌, List, [], ◌∷◌, ◌++◌, Result, unwrap_or, slice_get, ap, sym, subst, ◌∙◌}
 use Rattle.shoot.specs.Mailbox.{MailboxState, empty_mailbox}
 use Rattle.shoot.specs.Tickets.{TicketTable, no_tickets}
 use Rattle.history.specs.Setup.{Setup}
@@ -7,12 +7,12 @@ use Rattle.history.specs.Turns.{History}
 use Rattle.history.specs.declared.event.Event.{Event}
 use Rattle.history.specs.declared.event.Event.TheVariants.{Begin, Load, Map, Unmap, Protect, Flush, Switch, Fence, Post, Take, ServeFence, Ack, AckSelf, Collect, Finish, Close, Retire, Reclaim, Create}
 use Rattle.history.specs.declared.reply.Reply.{Reply}
+use Rattle.refusals.specs.declared.refusal.Refusal.{Refusal}
 use Rattle.history.specs.Runs.{with_turn}
 use Rattle.history.specs.Due.{due}
-use Rattle.laws.specs.Kept.{HasPage}
 use Rattle.stepcore.specs.State.{State, IsMachine, mailbox_index}
 use Rattle.stepcore.specs.Answers.{reply_to}
-use Rattle.stepcore.specs.Changes.{Follows}
+use Rattle.stepcore.specs.Changes.{Answers, reply_of}
 use Rattle.stepcore.specs.Stands.{SpaceStands, Stands}
 use Rattle.stepcore.proofs.HartReplies as harts
 use Rattle.stepcore.proofs.TicketReplies as tickets
@@ -47,12 +47,14 @@ module _ (C : Setup) (m : State) (H : History) (st : Stands C m H) (is : IsMachi
   answers_due (Reclaim hart space) = reclaim_due C m H st hart space
   answers_due (Create hart space asid) = create_due C m H st hart space asid
 
-  pub stands_after : (event : Event) (r : Reply) (new : State) → HasPage event → r ≡ reply_to m event → Follows m event r new → Stands C new (with_turn event r H)
-  stands_after event r new page told follows =
-      let d : r ≡ due C H event = told ∙ answers_due event in
+  pub stands_after : (event : Event) (result : Result Reply Refusal) (new : State) → Answers m event result new → Stands C new (with_turn event (reply_of result) H)
+  stands_after event result new is_done =
+      let r : Reply = reply_of result in
+      let follows = is_done.follows in
+      let d : r ≡ due C H event = is_done.reply ∙ answers_due event in
       record {
         lawful = (st.lawful, d);
-        pages = (st.pages, page);
+        pages = (st.pages, is_done.page);
         within = st.within;
         setup = setup_stays m new event r follows ∙ st.setup;
         words = words_stand C m new H st event r follows;
@@ -68,8 +70,6 @@ module _ (C : Setup) (m : State) (H : History) (st : Stands C m H) (is : IsMachi
 
 -- a turn of a run: an event was answered, and its reply put behind those before
 pub record Turn (old : State) (event : Event) (new : State) (before after : List Reply) : Type 0 where
-  pub reply : Reply
-  pub pushed : after ≡ before ++ reply ∷ []
-  pub answers : reply ≡ reply_to old event
-  pub follows : Follows old event reply new
-  pub page : HasPage event
+  pub result : Result Reply Refusal
+  pub pushed : after ≡ before ++ reply_of result ∷ []
+  pub answers : Answers old event result new

@@ -13,7 +13,7 @@ use Rattle.walk.specs.Step.{load_of}
 use Rattle.spaces.specs.declared.wishes.Wish.{Wish}
 use Rattle.spaces.specs.declared.wishes.Wish.TheVariants as wish
 use Rattle.spaces.specs.declared.faults.MapFault.{MapFault}
-use Rattle.spaces.specs.Edits.{Store}
+use Rattle.spaces.specs.Edits.{Store, place_of}
 use Rattle.tlb.specs.Entries.{first_match}
 use Rattle.pte.specs.Address.{is_canonical}
 use Rattle.shoot.specs.Request.{Message}
@@ -104,15 +104,19 @@ asid_in m hart = (space_at m hart.space).asid
 abbrev pub reply_at_once : AtOnce → Reply
 reply_at_once (at_once.Hit pa) = reply.Hit pa
 reply_at_once (at_once.Trap trap) = reply.Trap trap
-reply_at_once (at_once.Refused why) = reply.Refused why
+
+abbrev pub access_answer : State → HartState → ℕ → Access → Ctx → Reply
+access_answer m hart va access ctx =
+    if is_canonical m.memory.layout.scheme va
+    then match_reply va access ctx (first_match hart.entries (asid_in m hart) va)
+    else reply.Trap (page_trap access NotCanonical)
 
 abbrev pub begin_answer : State → HartState → ℕ → Access → Ctx → Reply
 begin_answer m hart va access ctx =
     first_of (
     when (is_some hart.walk) Walking
     ∷ when (is_some hart.serving) Serving ∷ [])
-    (if is_canonical m.memory.layout.scheme va then match_reply va access ctx (first_match hart.entries (asid_in m hart) va)
-    else reply.Trap (page_trap access NotCanonical))
+    (access_answer m hart va access ctx)
 
 -- Load: what the word of now makes of the walk
 abbrev pub next_of : Tables → Stage → Progress
@@ -139,6 +143,23 @@ opening_answer (Err ticket_fault.NoTicket) = reply.Refused NoTicket
 
 abbrev pub open_in : State → ℕ → ℕ → Reply
 open_in m hart named = opening_answer (open_answer (tickets_at m hart) named)
+
+-- an edit of a place: that is there and does not retire, then the rest
+abbrev pub at_place : State → Place → Reply → Reply
+at_place m place rest =
+    first_of (
+    when (not (is_place m place)) NoSpace
+    ∷ when (retires m place) Retiring ∷ [])
+    rest
+
+-- Unmap and Protect: the store, and a ticket
+abbrev pub change_answer : State → ℕ → Wish → ℕ → Reply
+change_answer m hart w named =
+    first_of (
+    when (not (is_hart (setup_in m) hart && are_harts (setup_in m) named)) NoHart
+    ∷ when (not (is_place m (place_of w))) NoSpace
+    ∷ when (retires m (place_of w)) Retiring ∷ [])
+    (edit_reply (edit_in m hart w) (open_in m hart named))
 
 -- Post
 abbrev pub box_answer : Option PostFault → Reply

@@ -1,5 +1,5 @@
 -- What an event and its reply leave of a machine, part by part.
-use Rattle.std.specs.Prelude.{ℕ, ◌≡◌, ◌<◌, ◌==◌, length, Bool, true, false, ◌&&◌, not, List, Option, Some, None, unwrap_or, slice_set, if◌then◌else◌}
+use Rattle.std.specs.Prelude.{ℕ, ◌≡◌, ◌<◌, ◌==◌, length, Bool, true, false, ◌&&◌, not, List, Option, Some, None, Result, Ok, Err, unwrap_or, slice_set, if◌then◌else◌}
 use Rattle.pte.specs.declared.address.What.{What}
 use Rattle.pte.specs.declared.address.What.TheVariants.{SpaceOf, All}
 use Rattle.walk.specs.declared.walking.Progress.{Progress}
@@ -16,6 +16,10 @@ use Rattle.shoot.specs.Tickets.{TicketTable, is_acked, is_collected, what_at, af
 use Rattle.history.specs.declared.event.Event.{Event}
 use Rattle.history.specs.declared.event.Event.TheVariants.{Begin, Load, Map, Unmap, Protect, Flush, Switch, Fence, Post, Take, ServeFence, Ack, AckSelf, Collect, Finish, Close, Retire, Reclaim, Create}
 use Rattle.history.specs.declared.reply.Reply.{Reply}
+use Rattle.refusals.specs.declared.refusal.Refusal.{Refusal}
+use Rattle.laws.specs.Kept.{HasPage}
+use Rattle.spaces.specs.declared.wishes.Wish.{Wish}
+use Rattle.spaces.specs.declared.wishes.Wish.TheVariants as wish
 use Rattle.history.specs.declared.reply.Reply.TheVariants as reply
 use Rattle.history.specs.Turns.{is_ok, is_more, is_opened, opened_ticket, is_taken, is_progress}
 use Rattle.history.specs.Tables.{words_after}
@@ -27,7 +31,7 @@ use Rattle.stepcore.specs.declared.space_state.Phase.{Phase}
 use Rattle.stepcore.specs.declared.space_state.Phase.TheVariants as phase
 use Rattle.stepcore.specs.declared.serving.Serving.{Serving as Service}
 use Rattle.stepcore.specs.State.{State, HartState, setup_in, words_in, holders_in, hart_at, space_at, tickets_at, mailbox_at, mailbox_index}
-use Rattle.stepcore.specs.Answers.{asid_in, next_of, acked_by, page_request, scope_request, every_hart}
+use Rattle.stepcore.specs.Answers.{reply_to, asid_in, next_of, acked_by, page_request, scope_request, every_hart}
 
 -- what a ticket asks
 abbrev pub what_in : TicketTable → ℕ → What
@@ -52,19 +56,6 @@ abbrev pub with_served : Option Service → HartState → HartState
 with_served None hart = hart
 with_served (Some serving) hart =
     record hart { serving = Some (record { from = serving.from; request = serving.request; fenced = true }); entries = served hart.entries serving.request.what }
-
--- the event is an access, or a load of its walk
-abbrev pub is_access : Event → Bool
-is_access (Begin hart va access ctx) = true
-is_access (Load hart) = true
-is_access _ = false
-
--- the event asks for a store to the tables
-abbrev pub is_edit : Event → Bool
-is_edit (Map hart place page ppn flags) = true
-is_edit (Unmap hart place page named) = true
-is_edit (Protect hart place page flags named) = true
-is_edit _ = false
 
 -- the reply is no refusal
 abbrev pub is_accepted : Reply → Bool
@@ -158,3 +149,28 @@ pub record Follows (old : State) (event : Event) (reply : Reply) (new : State) :
   pub harts : new.harts ≡ harts_after old event reply
   pub tickets : new.tickets ≡ tickets_after old event reply
   pub mailboxes : new.mailboxes ≡ mailboxes_after old event reply
+
+-- what an event is answered, as a reply
+abbrev pub reply_of : Result Reply Refusal → Reply
+reply_of (Ok reply) = reply
+reply_of (Err refusal) = reply.Refused refusal
+
+-- a machine answers an event: by the reply that it is to give, as what follows from the machine
+-- before; a refusal changes nothing, and the event speaks of a page
+pub record Answers (old : State) (event : Event) (result : Result Reply Refusal) (new : State)
+    : Type 0 where
+  pub reply : reply_of result ≡ reply_to old event
+  pub follows : Follows old event (reply_of result) new
+  pub refused : is_accepted (reply_of result) ≡ false → new ≡ old
+  pub page : HasPage event
+
+-- a wish that changes a mapped page, and its event
+abbrev pub is_change : Wish → Bool
+is_change (wish.Map place page ppn flags) = false
+is_change (wish.Unmap place page) = true
+is_change (wish.Protect place page flags) = true
+
+abbrev pub event_of : ℕ → Wish → ℕ → Event
+event_of hart (wish.Map place page ppn flags) named = Map hart place page ppn flags
+event_of hart (wish.Unmap place page) named = Unmap hart place page named
+event_of hart (wish.Protect place page flags) named = Protect hart place page flags named

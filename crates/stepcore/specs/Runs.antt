@@ -25,7 +25,8 @@ with_turns (event ∷ events) (reply ∷ replies) history = with_turns events re
 abbrev pub appended : {A : Type 0} → List A → List A → List A
 appended old new = drop (length old) new
 
--- the requests that wait in the mailbox from one hart to another, and the entries of the TLB of a hart
+-- the requests that wait in the mailbox from one hart to another, and the entries of the TLB of a
+-- hart
 abbrev pub waiting_in : State → ℕ → ℕ → List Message
 waiting_in m sender receiver = (mailbox_at m sender receiver).waiting
 
@@ -40,7 +41,8 @@ after_run events old new history = with_turns events (appended old new) history
 abbrev pub AreDue : Setup → History → List Event → List Reply → Type 0
 AreDue setup history events replies = replies ≡ take (length replies) (due_replies setup history events)
 
--- each mailbox keeps its order: what was accepted is what was taken, followed by what waits in this machine
+-- each mailbox keeps its order: what was accepted is what was taken, followed by what waits in this
+-- machine
 abbrev pub MailboxesKeepOrder : Setup → History → State → Type 0
 MailboxesKeepOrder setup history m = (sender receiver : ℕ) → sender < setup.harts → receiver < setup.harts → KeepsOrder setup history sender receiver (waiting_in m sender receiver)
 
@@ -48,16 +50,18 @@ MailboxesKeepOrder setup history m = (sender receiver : ℕ) → sender < setup.
 abbrev pub NothingAfterCloses : Setup → History → Type 0
 NothingAfterCloses setup history = (sender receiver : ℕ) → NoneAfterClose setup history sender receiver
 
--- no TLB of a hart that acknowledged an unmapping translates an address of its page, until the page is mapped anew
+-- no TLB of a hart that acknowledged an unmapping translates an address of its page, until the page
+-- is mapped anew
 abbrev pub IsClear : Setup → History → State → Type 0
 IsClear setup history m = (order hart : ℕ) → hart < setup.harts → Clear setup history (entries_in m hart) order hart
 
--- no TLB of a hart that an unmapping names translates an address of its page once its sender was told that it is done, until the
--- page is mapped anew
+-- no TLB of a hart that an unmapping names translates an address of its page once its sender was
+-- told that it is done, until the page is mapped anew
 abbrev pub IsClearOnceDone : Setup → History → State → Type 0
 IsClearOnceDone setup history m = (order hart : ℕ) → hart < setup.harts → ClearOnceDone setup history (entries_in m hart) order hart
 
--- and what such a hart holds of a page that was unmapped or protected is mapped, until the page is unmapped or protected once more
+-- and what such a hart holds of a page that was unmapped or protected is mapped, until the page is
+-- unmapped or protected once more
 abbrev pub IsCoherent : Setup → History → State → Type 0
 IsCoherent setup history m = (order hart : ℕ) → hart < setup.harts → Coherent setup history (entries_in m hart) order hart
 

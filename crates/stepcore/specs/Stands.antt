@@ -1,5 +1,5 @@
--- When a machine stands at a history: the history is lawful under what the machine was opened with, and its table words, harts,
--- tickets and mailboxes are those that the history leaves.
+-- When a machine stands at a history: the history is lawful under what the machine was opened with,
+-- and its table words, harts, tickets and mailboxes are those that the history leaves.
 use Rattle.pte.specs.declared.scheme.Scheme.{Scheme}
 use Rattle.std.specs.Prelude.{ℕ, ◌≡◌, ◌+◌, ◌<◌, Bool, [], length, map, Option, Some, None, if◌then◌else◌}
 use Rattle.std.specs.List.{range_with_len}
@@ -104,8 +104,8 @@ pub record SpaceStands (setup : Setup) (history : History) (s : ℕ) (space : Sp
 abbrev pub bare : Setup → Setup
 bare setup = record { harts = setup.harts; capacity = setup.capacity; asids = []; layout = setup.layout }
 
--- the machine stands at the history: that is lawful and speaks of pages, the setup is within the limits and the machine's, and
--- each part of the machine is what the history leaves
+-- the machine stands at the history: that is lawful and speaks of pages, the setup is within the
+-- limits and the machine's, and each part of the machine is what the history leaves
 pub record Stands (opened : Setup) (m : State) (history : History) : Type 0 where
   pub lawful : Lawful opened history
   pub pages : HavePages history

@@ -1,5 +1,5 @@
--- What contracts see of a machine: its table memory, its spaces by their numbers, and its harts, tickets and mailboxes by the
--- numbers of the harts.
+-- What contracts see of a machine: its table memory, its spaces by their numbers, and its harts,
+-- tickets and mailboxes by the numbers of the harts.
 use Rattle.std.specs.Prelude.{ℕ, ◌≡◌, ◌+◌, ◌*◌, ◌<◌, ◌≤◌, List, [], length, Option, None, slice_get, unwrap_or, All, nat_lt, if◌then◌else◌}
 use Rattle.pte.specs.declared.scheme.Scheme.{Scheme}
 use Rattle.pte.specs.declared.scheme.Scheme.TheVariants.{Sv39}
@@ -16,7 +16,8 @@ use Rattle.stepcore.specs.declared.serving.Serving.{Serving}
 use Rattle.stepcore.specs.declared.space_state.SpaceState.{SpaceState}
 use Rattle.stepcore.specs.declared.space_state.Phase.TheVariants as phase
 
--- a hart: its space, the walk in flight, the request that it serves, and the scheme and the entries of its TLB
+-- a hart: its space, the walk in flight, the request that it serves, and the scheme and the entries
+-- of its TLB
 pub record HartState : Type 0 where
   pub scheme : Scheme
   pub space : ℕ
@@ -65,19 +66,21 @@ hart_at m hart = unwrap_or (slice_get m.harts hart) idle_hart
 abbrev pub tickets_at : State → ℕ → TicketTable
 tickets_at m hart = unwrap_or (slice_get m.tickets hart) (no_tickets hart)
 
--- where the mailbox from one hart to another stands: those between the first n harts take the first n * n places
+-- where the mailbox from one hart to another stands: those between the first n harts take the first
+-- n * n places
 abbrev pub mailbox_index : ℕ → ℕ → ℕ
 mailbox_index sender receiver = if nat_lt sender receiver then receiver * receiver + sender else sender * sender + sender + receiver
 
 abbrev pub mailbox_at : State → ℕ → ℕ → MailboxState
 mailbox_at m sender receiver = unwrap_or (slice_get m.mailboxes (mailbox_index sender receiver)) (empty_mailbox 0)
 
--- what the machine was opened with, as numbers; the mailboxes are all of one capacity, and the first ASIDs are forgotten
+-- what the machine was opened with, as numbers; the mailboxes are all of one capacity, and the
+-- first ASIDs are forgotten
 abbrev pub setup_in : State → Setup
 setup_in m = record { harts = length m.harts; capacity = (mailbox_at m 0 0).capacity; asids = []; layout = m.memory.layout }
 
--- what every machine keeps: as many tables of tickets as harts, a mailbox for each pair of harts, as many spaces as roots,
--- and each hart in a space that is there
+-- what every machine keeps: as many tables of tickets as harts, a mailbox for each pair of harts,
+-- as many spaces as roots, and each hart in a space that is there
 pub record IsMachine (m : State) : Type 0 where
   pub few : length m.harts ≤ MAX_HARTS
   pub tickets : length m.tickets ≡ length m.harts

@@ -1,24 +1,28 @@
 //! Edits of the tables, and the tickets that they open.
 
-ghost use Rattle.std.specs.Prelude.{◌≡◌, ◌<◌, false, true, length, IsTrue, IfOk, IfErr, OnOk, OnErr, slice_set, ℕ};
-ghost use Rattle.pte.specs.Address.{IsPage};
+ghost use Rattle.std.specs.Prelude.{◌≡◌, ◌<◌, false, true, length, IsTrue, IfOk, IfErr, Ok, OnOk, OnErr, slice_set, ℕ};
 ghost use Rattle.pte.specs.Entry.{kind_of};
 ghost use Rattle.spaces.specs.Applied.{holders_after, words_after};
-ghost use Rattle.spaces.specs.Held.{IsDue};
+ghost use Rattle.spaces.specs.Edits.{edit_of, page_of, place_of};
+ghost use Rattle.spaces.specs.Held.{IsDue, IsMemory, spare_of, words_of};
+ghost use Rattle.spaces.specs.Layout.{HasPlace};
 ghost use Rattle.shoot.specs.Tickets.{after_open};
-ghost use Rattle.history.specs.Due.{stored_reply};
+ghost use Rattle.history.specs.Due.{edit_reply, map_reply, stored_reply};
 ghost use Rattle.history.specs.Refusal.{refusal_of};
-ghost use Rattle.history.specs.declared.event.Event.TheVariants.{Map, Unmap, Protect, Flush};
+ghost use Rattle.history.specs.declared.event.Event.TheVariants.{Map, Flush};
+ghost use Rattle.history.specs.declared.reply.Reply.{Reply as ReplyOf};
 ghost use Rattle.history.specs.declared.reply.Reply.TheVariants as reply;
 ghost use Rattle.stepcore.specs.State.{holders_in, tickets_at, words_in};
-ghost use Rattle.stepcore.specs.Answers.{reply_to, is_place, is_scope, open_in, page_request, scope_request};
-ghost use Rattle.stepcore.specs.Changes.{Follows, is_accepted};
+ghost use Rattle.stepcore.specs.Answers.{at_place, edit_in, is_place, is_scope, open_in, page_request, retires, scope_request};
+ghost use Rattle.stepcore.specs.Changes.{Answers, event_of, is_accepted, is_change};
 
+use crate::conditions::refuse;
 use crate::machine::Machine;
+use crate::prover::recall_page;
 use history::{Refusal, Reply, Scope};
 use pte::{Kind, Page, Pte, PteFlags, What};
 use shoot::TicketFault;
-use spaces::{Edit, MapFault, Place, apply, next_map_edit, protect_edit, unmap_edit};
+use spaces::{Edit, MapFault, Memory, Place, Wish, apply, next_map_edit, protect_edit, unmap_edit};
 
 /// An edit's fault as a refusal.
 fn refusal(fault: MapFault) -> Refusal
@@ -50,16 +54,71 @@ fn stored_reply(word: u64) -> Reply
     }
 }
 
+/// The place and the page of a wish.
+fn target(wish: &Wish) -> (Place, Page)
+    ensures place { result.0 ≡ place_of wish.now }
+    ensures page { result.1 ≡ page_of wish.now }
+{
+    match *wish {
+        Wish::Map { place, page, .. }
+        | Wish::Unmap { place, page }
+        | Wish::Protect { place, page, .. } => (place, page),
+    }
+}
+
+/// The store that is due for a wish, or why none is.
+fn next_edit(memory: &Memory, hart: u8, wish: &Wish) -> Result<Edit, MapFault>
+    requires { HasPlace memory.now.layout (place_of wish.now) }
+    ensures outcome { result ≡ edit_of memory.now.layout (words_of memory.now)
+        (spare_of memory.now hart) hart wish.now }
+    ensures due { IfOk result (IsDue memory.now) }
+{
+    match *wish {
+        Wish::Map {
+            place,
+            page,
+            ppn,
+            flags,
+        } => next_map_edit(memory, hart, place, page, ppn, flags),
+        Wish::Unmap { place, page } => unmap_edit(memory, hart, place, page),
+        Wish::Protect { place, page, flags } => protect_edit(memory, hart, place, page, flags),
+    }
+}
+
 impl Machine {
     /// Makes a store that is due.
     fn store(&mut self, edit: Edit)
         requires { IsDue self.old.memory edit }
         ensures layout { self.new.memory.layout ≡ self.old.memory.layout }
-        ensures words { (ppn i : ℕ) → words_in self.new ppn i ≡ words_after (words_in self.old) edit ppn i }
-        ensures holders { (ppn : ℕ) → holders_in self.new ppn ≡ holders_after (holders_in self.old) edit.place edit ppn }
+        ensures words { (ppn i : ℕ)
+            → words_in self.new ppn i ≡ words_after (words_in self.old) edit ppn i }
+        ensures holders { (ppn : ℕ)
+            → holders_in self.new ppn ≡ holders_after (holders_in self.old) edit.place edit ppn }
         ensures others { self.new ≡ record self.old { memory = self.new.memory } }
     {
         apply(&mut self.memory, edit);
+    }
+
+    /// The store that is due for a wish about a place that is there and does not retire.
+    fn due_edit(&self, hart: u8, wish: &Wish) -> Result<Edit, Refusal>
+        ensures memory { IsMemory self.now.memory }
+        ensures there { OnOk result (IsTrue (is_place self.now (place_of wish.now))) }
+        ensures has { OnOk result (HasPlace self.now.memory.layout (place_of wish.now)) }
+        ensures stays { OnOk result (retires self.now (place_of wish.now) ≡ false) }
+        ensures due { IfOk result (IsDue self.now.memory) }
+        ensures is { IfOk result (λ edit. edit_in self.now hart wish.now ≡ Ok edit) }
+        ensures refuses { IfErr result (λ why. (opening : ReplyOf)
+            → at_place self.now (place_of wish.now) (edit_reply
+            (edit_in self.now hart wish.now) opening)
+            ≡ reply.Refused why) }
+        ensures no_map { IfErr result (λ why.
+            at_place self.now (place_of wish.now) (map_reply (edit_in self.now hart wish.now))
+            ≡ reply.Refused why) }
+    {
+        let (place, _page) = target(wish);
+        refuse(!self.is_place(place), Refusal::NoSpace)?;
+        refuse(self.retires(place), Refusal::Retiring)?;
+        next_edit(&self.memory, hart, wish).map_err(refusal)
     }
 
     /// Makes the one store that is due next to map a page.
@@ -70,29 +129,20 @@ impl Machine {
         page: Page,
         ppn: u64,
         flags: PteFlags,
-    ) -> Reply
-        ensures reply { result ≡ reply_to self.old (Map hart place page ppn flags) }
-        ensures follows { Follows self.old (Map hart place page ppn flags) result self.new }
-        ensures refused { is_accepted result ≡ false → self.new ≡ self.old }
-        ensures page { IsPage page }
+    ) -> Result<Reply, Refusal>
+        ensures { Answers self.old (Map hart place page ppn flags) result self.new }
     {
-        let _base = page.base();
-        if !self.is_hart(hart) {
-            return Reply::Refused(Refusal::NoHart);
-        }
-        if !self.is_place(place) {
-            return Reply::Refused(Refusal::NoSpace);
-        }
-        if self.retires(place) {
-            return Reply::Refused(Refusal::Retiring);
-        }
-        match next_map_edit(&self.memory, hart, place, page, ppn, flags) {
-            Err(fault) => Reply::Refused(refusal(fault)),
-            Ok(edit) => {
-                self.store(edit);
-                stored_reply(edit.word())
-            }
-        }
+        recall_page(page);
+        self.needs_hart(hart)?;
+        let wish = Wish::Map {
+            place,
+            page,
+            ppn,
+            flags,
+        };
+        let edit = self.due_edit(hart, &wish)?;
+        self.store(edit);
+        Ok(stored_reply(edit.word()))
     }
 
     /// What the harts are asked to drop for a page.
@@ -110,8 +160,12 @@ impl Machine {
     pub(crate) fn open_ticket(&mut self, hart: u8, what: What, named: u8) -> Result<u32, Refusal>
         requires { hart < length self.old.harts }
         ensures opens { IfOk result (λ ticket. reply.Opened ticket ≡ open_in self.old hart named) }
-        ensures refuses { IfErr result (λ refusal. reply.Refused refusal ≡ open_in self.old hart named) }
-        ensures after { OnOk result (self.new ≡ record self.old { tickets = slice_set self.old.tickets hart (after_open (tickets_at self.old hart) what named) }) }
+        ensures refuses { IfErr result (λ refusal. reply.Refused refusal
+            ≡ open_in self.old hart named) }
+        ensures after { OnOk result (self.new ≡ record self.old {
+          tickets =
+              slice_set self.old.tickets hart (after_open (tickets_at self.old hart) what named);
+        }) }
         ensures unchanged { OnErr result (self.new ≡ self.old) }
     {
         let tickets = &mut self.tickets[usize::from(hart)];
@@ -122,73 +176,20 @@ impl Machine {
         }
     }
 
-    /// Stores 0 on the leaf of a page, and opens a ticket for the page.
-    pub(crate) fn unmap(&mut self, hart: u8, place: Place, page: Page, named: u8) -> Reply
-        ensures reply { result ≡ reply_to self.old (Unmap hart place page named) }
-        ensures follows { Follows self.old (Unmap hart place page named) result self.new }
-        ensures refused { is_accepted result ≡ false → self.new ≡ self.old }
-        ensures page { IsPage page }
+    /// Stores what a wish asks on the leaf of its page, 0 or other flags, and opens a ticket for
+    /// the page.
+    pub(crate) fn change(&mut self, hart: u8, wish: &Wish, named: u8) -> Result<Reply, Refusal>
+        requires { is_change wish.now ≡ true }
+        ensures { Answers self.old (event_of hart wish.now named) result self.new }
     {
-        let _base = page.base();
-        if !(self.is_hart(hart) && self.are_harts(named)) {
-            return Reply::Refused(Refusal::NoHart);
-        }
-        if !self.is_place(place) {
-            return Reply::Refused(Refusal::NoSpace);
-        }
-        if self.retires(place) {
-            return Reply::Refused(Refusal::Retiring);
-        }
-        let edit = match unmap_edit(&self.memory, hart, place, page) {
-            Ok(edit) => edit,
-            Err(fault) => return Reply::Refused(refusal(fault)),
-        };
+        let (place, page) = target(wish);
+        recall_page(page);
+        self.needs_harts(hart, named)?;
+        let edit = self.due_edit(hart, wish)?;
         let what = self.page_request(place, page);
-        match self.open_ticket(hart, what, named) {
-            Ok(ticket) => {
-                self.store(edit);
-                Reply::Opened(ticket)
-            }
-            Err(refusal) => Reply::Refused(refusal),
-        }
-    }
-
-    /// Stores other flags on the leaf of a page, and opens a ticket for the page.
-    pub(crate) fn protect(
-        &mut self,
-        hart: u8,
-        place: Place,
-        page: Page,
-        flags: PteFlags,
-        named: u8,
-    ) -> Reply
-        ensures reply { result ≡ reply_to self.old (Protect hart place page flags named) }
-        ensures follows { Follows self.old (Protect hart place page flags named) result self.new }
-        ensures refused { is_accepted result ≡ false → self.new ≡ self.old }
-        ensures page { IsPage page }
-    {
-        let _base = page.base();
-        if !(self.is_hart(hart) && self.are_harts(named)) {
-            return Reply::Refused(Refusal::NoHart);
-        }
-        if !self.is_place(place) {
-            return Reply::Refused(Refusal::NoSpace);
-        }
-        if self.retires(place) {
-            return Reply::Refused(Refusal::Retiring);
-        }
-        let edit = match protect_edit(&self.memory, hart, place, page, flags) {
-            Ok(edit) => edit,
-            Err(fault) => return Reply::Refused(refusal(fault)),
-        };
-        let what = self.page_request(place, page);
-        match self.open_ticket(hart, what, named) {
-            Ok(ticket) => {
-                self.store(edit);
-                Reply::Opened(ticket)
-            }
-            Err(refusal) => Reply::Refused(refusal),
-        }
+        let ticket = self.open_ticket(hart, what, named)?;
+        self.store(edit);
+        Ok(Reply::Opened(ticket))
     }
 
     /// What the harts are asked to drop for a scope.
@@ -203,24 +204,14 @@ impl Machine {
     }
 
     /// Opens a ticket for a scope, with no store.
-    pub(crate) fn flush(&mut self, hart: u8, scope: Scope, named: u8) -> Reply
-        ensures reply { result ≡ reply_to self.old (Flush hart scope named) }
-        ensures follows { Follows self.old (Flush hart scope named) result self.new }
-        ensures refused { is_accepted result ≡ false → self.new ≡ self.old }
+    pub(crate) fn flush(&mut self, hart: u8, scope: Scope, named: u8) -> Result<Reply, Refusal>
+        ensures { Answers self.old (Flush hart scope named) result self.new }
     {
-        if !(self.is_hart(hart) && self.are_harts(named)) {
-            return Reply::Refused(Refusal::NoHart);
-        }
-        if !self.is_scope(scope) {
-            return Reply::Refused(Refusal::NoSpace);
-        }
-        if self.scope_retires(scope) {
-            return Reply::Refused(Refusal::Retiring);
-        }
+        self.needs_harts(hart, named)?;
+        refuse(!self.is_scope(scope), Refusal::NoSpace)?;
+        refuse(self.scope_retires(scope), Refusal::Retiring)?;
         let what = self.scope_request(scope);
-        match self.open_ticket(hart, what, named) {
-            Ok(ticket) => Reply::Opened(ticket),
-            Err(refusal) => Reply::Refused(refusal),
-        }
+        let ticket = self.open_ticket(hart, what, named)?;
+        Ok(Reply::Opened(ticket))
     }
 }

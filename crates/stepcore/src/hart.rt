@@ -13,19 +13,17 @@ ghost use Rattle.stepcore.specs.Answers.{reply_at_once};
 ghost use Rattle.stepcore.specs.Changes.{with_progress, with_served};
 
 use crate::serving::Serving;
-use history::Refusal;
 use pte::{Access, Ctx, Scheme, VirtAddr, What};
 use shoot::Request;
 use std::marker::Model;
 use tlb::{Entry, Tlb};
 use walk::{Progress, Trap, Walk};
 
-/// What an access is answered at once, with no walk: less than a reply can be.
+/// What an access is answered at once, with no walk.
 #[derive(Clone, Copy, PartialEq, Eq, Debug)]
 pub(crate) enum AtOnce {
     Hit(u64),
     Trap(Trap),
-    Refused(Refusal),
 }
 
 /// A hart: the space that it runs in, the walk in flight, the request that it serves, and its TLB.
@@ -42,7 +40,13 @@ impl Model for Hart {
 
     ghost Value = { HartState };
 
-    ghost view = { λ h. record { space = h.space; walk = h.walk; serving = h.serving; scheme = h.tlb.scheme; entries = h.tlb.entries } };
+    ghost view = { λ h. record {
+      space = h.space;
+      walk = h.walk;
+      serving = h.serving;
+      scheme = h.tlb.scheme;
+      entries = h.tlb.entries;
+    } };
 }
 
 impl Hart {
@@ -108,9 +112,11 @@ impl Hart {
 
     /// What the TLB answers to an access of an address, if an entry matches.
     pub(crate) fn access(&self, asid: u16, va: VirtAddr, access: Access, ctx: Ctx) -> Option<AtOnce>
-        ensures answers { IfSome result (λ answer. match_reply va access ctx (first_match self.now.entries asid va) ≡ reply_at_once answer) }
+        ensures answers { IfSome result (λ answer. reply_at_once answer
+            ≡ match_reply va access ctx (first_match self.now.entries asid va)) }
         ensures ends { IfSome result (λ answer. is_more (reply_at_once answer) ≡ false) }
-        ensures misses { IfNone result (match_reply va access ctx (first_match self.now.entries asid va) ≡ More) }
+        ensures misses { IfNone result
+            (match_reply va access ctx (first_match self.now.entries asid va) ≡ More) }
     {
         let entry = self.lookup(asid, va)?;
         match entry.translate(va, access, ctx) {
@@ -147,14 +153,18 @@ impl Hart {
 
     /// SFENCE.VMA (privileged manual 4.2.1).
     pub(crate) fn fence(&mut self, rs1: Option<u64>, rs2: Option<u64>)
-        ensures { self.new ≡ record self.old { entries = fenced self.old.scheme self.old.entries rs1 rs2 } }
+        ensures { self.new ≡ record self.old {
+          entries = fenced self.old.scheme self.old.entries rs1 rs2;
+        } }
     {
         self.tlb.fence(rs1, rs2);
     }
 
     /// Begins to serve a request.
     pub(crate) fn take(&mut self, from: u8, request: Request)
-        ensures { self.new ≡ record self.old { serving = Some (record { from = from; request = request; fenced = false }) } }
+        ensures { self.new ≡ record self.old {
+          serving = Some (record { from = from; request = request; fenced = false });
+        } }
     {
         self.serving = Some(Serving {
             from,

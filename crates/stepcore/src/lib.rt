@@ -1,12 +1,15 @@
-//! The machine: table memory, spaces, and harts with their TLBs, walks, tickets and mailboxes, moved by one event at a time.
+//! The machine: table memory, spaces, and harts with their TLBs, walks, tickets and mailboxes,
+//! moved by one event at a time.
 #![tactic(auto)]
 
 mod accesses;
+mod conditions;
 mod editing;
 mod events;
 mod hart;
 mod machine;
 mod opening;
+mod prover;
 mod runs;
 mod serving;
 mod shootdown;

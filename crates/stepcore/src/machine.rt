@@ -13,8 +13,8 @@ use shoot::{Mailbox, Tickets};
 use spaces::{MAX_SPACES, Memory, Place};
 use std::marker::Model;
 
-/// Table memory, the spaces with their ASIDs and whether they are live, retiring or free, and harts with their TLBs, walks,
-/// tickets and mailboxes. It moves by one event of one hart at a time.
+/// Table memory, the spaces with their ASIDs and whether they are live, retiring or free, and harts
+/// with their TLBs, walks, tickets and mailboxes. It moves by one event of one hart at a time.
 #[derive(Drop)]
 pub struct Machine {
     pub(crate) memory: Memory,
@@ -71,8 +71,7 @@ impl Machine {
         ensures value { result ≡ asid_of_space self.now space }
         ensures there { IsSome result → space < length self.now.memory.layout.homes }
     {
-        // A machine tells here that it has as many spaces as roots.
-        let _memory = &self.memory;
+        self.recall();
         if self.is_space(space) {
             Some(self.space(space).asid)
         } else {
@@ -205,13 +204,14 @@ impl Machine {
     }
 
     /// The place of the mailbox from one hart to another.
+    #[tactic(auto, using(crate::proofs::Places::place_in))]
     pub(crate) fn mailbox_place(&self, sender: u8, receiver: u8) -> usize
         requires sender { sender < length self.now.harts }
         requires receiver { receiver < length self.now.harts }
         ensures place { result ≡ mailbox_index sender receiver }
         ensures inside { result < length self.now.mailboxes }
     {
-        let _harts = &self.harts;
+        self.recall();
         mailbox_index(sender, receiver)
     }
 
@@ -225,7 +225,8 @@ impl Machine {
     }
 }
 
-/// Where the mailbox from one hart to another stands: those between the first n harts take the first n * n places.
+/// Where the mailbox from one hart to another stands: those between the first n harts take the
+/// first n * n places.
 fn mailbox_index(sender: u8, receiver: u8) -> usize
     ensures { result ≡ mailbox_index sender receiver }
 {

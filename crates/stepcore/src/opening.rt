@@ -74,7 +74,8 @@ fn empty_mailboxes(alloc: Global, harts: u8, capacity: usize) -> Result<Vec<Mail
     requires harts { harts ≤ MAX_HARTS }
     requires some { 1 ≤ capacity }
     requires bounded { capacity ≤ MAX_CAPACITY }
-    ensures { IfOk result (λ mailboxes. mailboxes.items ≡ replicate (harts * harts) (empty_mailbox capacity)) }
+    ensures { IfOk result (λ mailboxes. mailboxes.items
+        ≡ replicate (harts * harts) (empty_mailbox capacity)) }
 {
     let pairs = usize::from(harts) * usize::from(harts);
     let mut mailboxes = Vec::with_capacity(alloc, pairs)?;
@@ -85,11 +86,12 @@ fn empty_mailboxes(alloc: Global, harts: u8, capacity: usize) -> Result<Vec<Mail
 }
 
 impl Machine {
-    /// The machine of a configuration, with all the room that it ever takes: harts in space 0 that neither walk nor serve,
-    /// empty TLBs and mailboxes, no open ticket, and nothing mapped. `BadLayout` exactly if `Config::check` says no,
-    /// `NoMemory` if the room cannot be allocated.
+    /// The machine of a configuration, with all the room that it ever takes: harts in space 0 that
+    /// neither walk nor serve, empty TLBs and mailboxes, no open ticket, and nothing mapped.
+    /// `BadLayout` exactly if `Config::check` says no, `NoMemory` if the room cannot be allocated.
     pub fn open(alloc: Global, config: &Config) -> Result<Machine, OpenFault>
-        ensures bad_layout { (result ≡ Err fault.BadLayout) ↔ (¬ MeetsLimits max_frames config.now) }
+        ensures bad_layout { (result ≡ Err fault.BadLayout)
+            ↔ (¬ MeetsLimits max_frames config.now) }
         ensures limits { OnOk result (MeetsLimits max_frames config.now) }
         ensures ok { IfOk result (λ machine. Stands (setup_of config.now) machine []) }
     {

@@ -8,8 +8,9 @@ ghost use Rattle.spaces.specs.Layout.{home_of};
 ghost use Rattle.spaces.specs.declared.places.Place.TheVariants as place;
 ghost use Rattle.stepcore.specs.State.{space_at, tickets_at};
 ghost use Rattle.stepcore.specs.Answers.{every_hart, has_asid, open_in, reclaim_answer, reply_to};
-ghost use Rattle.stepcore.specs.Changes.{Follows, is_accepted, is_under, space_after};
+ghost use Rattle.stepcore.specs.Changes.{Answers, is_under, space_after};
 
+use crate::conditions::refuse;
 use crate::hart::Hart;
 use crate::machine::Machine;
 use crate::space_state::{Phase, SpaceState};
@@ -76,23 +77,17 @@ impl Machine {
 
     /// Whether a hart may retire a space, if it has a ticket for it.
     fn may_retire(&self, hart: u8, space: u8) -> Result<(), Refusal>
-        ensures reply { OnOk result (reply_to self.now (Retire hart space) ≡ open_in self.now hart (every_hart self.now)) }
+        ensures reply { OnOk result (reply_to self.now (Retire hart space)
+            ≡ open_in self.now hart (every_hart self.now)) }
         ensures hart { OnOk result (hart < length self.now.harts) }
         ensures space { OnOk result (space < length self.now.spaces) }
-        ensures refused { IfErr result (λ refusal. reply_to self.now (Retire hart space) ≡ reply.Refused refusal) }
+        ensures refused { IfErr result (λ refusal.
+            reply_to self.now (Retire hart space) ≡ reply.Refused refusal) }
     {
-        if !self.is_hart(hart) {
-            return Err(Refusal::NoHart);
-        }
-        if !self.is_space(space) {
-            return Err(Refusal::NoSpace);
-        }
-        if !self.is_home(hart, space) {
-            return Err(Refusal::NotHome);
-        }
-        if self.space(space).phase.is_retiring() {
-            return Err(Refusal::Retiring);
-        }
+        self.needs_hart(hart)?;
+        self.needs_space(space)?;
+        refuse(!self.is_home(hart, space), Refusal::NotHome)?;
+        refuse(self.space(space).phase.is_retiring(), Refusal::Retiring)?;
         if is_in_use(&self.harts, space) {
             return Err(Refusal::InUse);
         }
@@ -100,103 +95,72 @@ impl Machine {
     }
 
     /// Retires a space that no hart is in, and opens a ticket that names every hart.
-    pub(crate) fn retire(&mut self, hart: u8, space: u8) -> Reply
-        ensures reply { result ≡ reply_to self.old (Retire hart space) }
-        ensures follows { Follows self.old (Retire hart space) result self.new }
-        ensures refused { is_accepted result ≡ false → self.new ≡ self.old }
+    pub(crate) fn retire(&mut self, hart: u8, space: u8) -> Result<Reply, Refusal>
+        ensures { Answers self.old (Retire hart space) result self.new }
     {
-        if let Err(refusal) = self.may_retire(hart, space) {
-            return Reply::Refused(refusal);
-        }
+        self.may_retire(hart, space)?;
         let state = self.space(space);
         let named = self.every_hart();
-        match self.open_ticket(hart, What::SpaceOf(state.asid), named) {
-            Ok(ticket) => {
-                let phase = Phase::Retiring(Some(ticket));
-                self.put_space(space, SpaceState { phase, ..state });
-                Reply::Opened(ticket)
-            }
-            Err(refusal) => Reply::Refused(refusal),
-        }
+        let ticket = self.open_ticket(hart, What::SpaceOf(state.asid), named)?;
+        let phase = Phase::Retiring(Some(ticket));
+        self.put_space(space, SpaceState { phase, ..state });
+        Ok(Reply::Opened(ticket))
     }
 
     /// Whether each hart is collected for the retirement of a space, or why not.
-    fn may_reclaim(&self, hart: u8, phase: Phase) -> Reply
+    fn may_reclaim(&self, hart: u8, phase: Phase) -> Result<(), Refusal>
         requires { hart < length self.now.harts }
-        ensures { result ≡ reclaim_answer (tickets_at self.now hart) phase }
+        ensures reply { OnOk result (reclaim_answer (tickets_at self.now hart) phase ≡ reply.Ok) }
+        ensures refused { IfErr result (λ refusal.
+            reclaim_answer (tickets_at self.now hart) phase ≡ reply.Refused refusal) }
     {
         match phase {
-            Phase::Live => Reply::Refused(Refusal::NotRetiring),
-            Phase::Retiring(None) => Reply::Ok,
+            Phase::Live => Err(Refusal::NotRetiring),
+            Phase::Retiring(None) => Ok(()),
             Phase::Retiring(Some(ticket)) => {
                 let tickets = self.tickets(hart);
-                if tickets.is_done(ticket) == Some(true) {
-                    Reply::Ok
-                } else {
-                    Reply::Refused(Refusal::NotAcked)
-                }
+                refuse(tickets.is_done(ticket) != Some(true), Refusal::NotAcked)
             }
-            Phase::Free => Reply::Refused(Refusal::NoSpace),
+            Phase::Free => Err(Refusal::NoSpace),
         }
     }
 
-    /// Stores 0 on every word of a retired space whose ticket every hart has answered, and leaves it free.
-    pub(crate) fn reclaim(&mut self, hart: u8, space: u8) -> Reply
-        ensures reply { result ≡ reply_to self.old (Reclaim hart space) }
-        ensures follows { Follows self.old (Reclaim hart space) result self.new }
-        ensures refused { is_accepted result ≡ false → self.new ≡ self.old }
+    /// Stores 0 on every word of a retired space whose ticket every hart has answered, and leaves
+    /// it free.
+    pub(crate) fn reclaim(&mut self, hart: u8, space: u8) -> Result<Reply, Refusal>
+        ensures { Answers self.old (Reclaim hart space) result self.new }
     {
-        if !self.is_hart(hart) {
-            return Reply::Refused(Refusal::NoHart);
-        }
-        if !self.is_space(space) {
-            return Reply::Refused(Refusal::NoSpace);
-        }
-        if !self.is_home(hart, space) {
-            return Reply::Refused(Refusal::NotHome);
-        }
+        self.needs_hart(hart)?;
+        self.needs_space(space)?;
+        refuse(!self.is_home(hart, space), Refusal::NotHome)?;
         let state = self.space(space);
-        let reply = self.may_reclaim(hart, state.phase);
-        if reply != Reply::Ok {
-            return reply;
-        }
+        self.may_reclaim(hart, state.phase)?;
         self.memory.give_back(space);
         let phase = Phase::Free;
         self.put_space(space, SpaceState { phase, ..state });
-        Reply::Ok
+        Ok(Reply::Ok)
     }
 
     /// Makes a free space live under an ASID.
-    pub(crate) fn create(&mut self, hart: u8, space: u8, asid: u16) -> Reply
-        ensures reply { result ≡ reply_to self.old (Create hart space asid) }
-        ensures follows { Follows self.old (Create hart space asid) result self.new }
-        ensures refused { is_accepted result ≡ false → self.new ≡ self.old }
+    pub(crate) fn create(&mut self, hart: u8, space: u8, asid: u16) -> Result<Reply, Refusal>
+        ensures { Answers self.old (Create hart space asid) result self.new }
     {
-        if !self.is_hart(hart) {
-            return Reply::Refused(Refusal::NoHart);
-        }
-        if !self.is_number(space) {
-            return Reply::Refused(Refusal::NoSpace);
-        }
-        if !self.is_home(hart, space) {
-            return Reply::Refused(Refusal::NotHome);
-        }
-        if !self.space(space).phase.is_free() {
-            return Reply::Refused(Refusal::NotFree);
-        }
-        if is_asid_used(&self.spaces, asid) {
-            return Reply::Refused(Refusal::AsidInUse);
-        }
+        self.needs_hart(hart)?;
+        refuse(!self.is_number(space), Refusal::NoSpace)?;
+        refuse(!self.is_home(hart, space), Refusal::NotHome)?;
+        refuse(!self.space(space).phase.is_free(), Refusal::NotFree)?;
+        refuse(is_asid_used(&self.spaces, asid), Refusal::AsidInUse)?;
         let phase = Phase::Live;
         self.put_space(space, SpaceState { asid, phase });
-        Reply::Ok
+        Ok(Reply::Ok)
     }
 
     /// A ticket of a hart was finished: a space that retires under it has none from now on.
     pub(crate) fn end_retirement(&mut self, hart: u8, ticket: u32)
         ensures others { self.new ≡ record self.old { spaces = self.new.spaces } }
         ensures count { length self.new.spaces ≡ length self.old.spaces }
-        ensures spaces { (s : ℕ) → s < length self.old.spaces → space_at self.new s ≡ space_after self.old (Finish hart ticket) reply.Ok s (space_at self.old s) }
+        ensures spaces { (s : ℕ) → s < length self.old.spaces → space_at self.new s
+            ≡ space_after self.old (Finish hart ticket) reply.Ok s (space_at self.old s) }
     {
         for space in 0..self.spaces.len() as u8 {
             let state = self.space(space);

@@ -7,13 +7,13 @@ use Rattle.std.specs.Vec.{vec_capacity}
 use Rattle.history.specs.Setup.{Setup}
 use Rattle.history.specs.Turns.{History}
 use Rattle.history.specs.declared.reply.Reply.{Reply}
-use Rattle.stepcore.specs.State.{IsMachine}
 use Rattle.stepcore.specs.Stands.{Stands}
+use Rattle.stepcore.specs.Changes.{reply_of}
 use Rattle.stepcore.proofs.Standing.{answers_due, stands_after, Turn}
 use Rattle.stepcore.specs.Runs.{after_run, appended, with_turns, AreDue}
 use Rattle.stepcore.proofs.Running.{appended_none, no_turns, run_more, appended_more, due_more, all_due, mailbox_order, none_after_close, entries_clear, entries_coherent, entries_done, used_asids, live_spaces, used_frames}
 use Rattle.stepcore.proofs.machine.Machine.run.Goals as goal
-use Rattle.stepcore.proofs.machine.Machine.run.Goals.{then-is_access, else-is_access}
+use Rattle.stepcore.proofs.machine.Machine.run.Goals.{in-Begin, in-Load, in_default}
 
 pub loop-event-init : goal.loop-event-init
 loop-event-init c =
@@ -34,35 +34,36 @@ loop-event-preserved c =
     let old = c.args.replies.now.items in
     let now = c.loop-event.replies.items in
     let room : vec_len c.reserve.new.self + 1 ≤ vec_capacity c.reserve.new.self = c.in_ok-reserve.ensures.ok in
-    let machine : IsMachine c.loop-event.self = subst IsMachine c.self.view_is c.self.invariant in
-    let turn : Turn c.loop-event.self event c.if-is_access.self now c.if-is_access.replies.items = elim c.if-is_access.branch [
-      | then-is_access w ↦ rw (w.self-is, w.replies-is) (record {
-        reply = w.do_access.result;
-        pushed = w.push.ensures.items ∙ (cond-true _ _ _ (w.push.ensures.succeeds (omega arith)) ∙ rw c.in_ok-reserve.ensures.items refl);
-        answers = w.do_access.ensures.reply;
-        follows = w.do_access.ensures.follows;
-        page = w.do_access.ensures.pages;
+    let turn : Turn c.loop-event.self event c.match-event.self now c.match-event.replies.items = elim c.match-event.branch [
+      | in-Begin w ↦ rw (w.self-is, w.replies-is) (record {
+        result = w.begin.result;
+        pushed = w.push.ensures.items ∙ (cond-true _ _ _ (w.push.ensures.succeeds (omega arith)) ∙ rw (c.in_ok-reserve.ensures.items, w.reply_of.ensures) refl);
+        answers = rw w.in-Begin.is w.begin.ensures;
       })
-      | else-is_access w ↦ rw (w.self-is, w.replies-is) (record {
-        reply = w.do_other.result;
-        pushed = w.push-else-is_access.ensures.items ∙ (cond-true _ _ _ (w.push-else-is_access.ensures.succeeds (omega arith)) ∙ rw c.in_ok-reserve.ensures.items refl);
-        answers = w.do_other.ensures.reply;
-        follows = w.do_other.ensures.follows;
-        page = w.do_other.ensures.pages;
+      | in-Load w ↦ rw (w.self-is, w.replies-is) (record {
+        result = w.load.result;
+        pushed = w.push-in-Load.ensures.items ∙ (cond-true _ _ _ (w.push-in-Load.ensures.succeeds (omega arith)) ∙ rw (c.in_ok-reserve.ensures.items, w.reply_of-in-Load.ensures) refl);
+        answers = rw w.in-Load.is w.load.ensures;
+      })
+      | in_default w ↦ rw (w.self-is, w.replies-is) (record {
+        result = w.do_event.result;
+        pushed = w.push-in_default.ensures.items ∙ (cond-true _ _ _ (w.push-in_default.ensures.succeeds (omega arith)) ∙ rw (c.in_ok-reserve.ensures.items, w.reply_of-in_default.ensures) refl);
+        answers = w.do_event.ensures;
       })
     ] in
+    let r : Reply = reply_of turn.result in
     let at : slice_get events (length (appended old now)) ≡ Some event =
     rw i.count (slice_get-get_or events c.loop-event.event-index event c.loop-event-test.true ∙ ap Some (sym c.event-item.is)) in
     record {
-      more = rw turn.pushed (omega (arith, i.more, length-append now (turn.reply ∷ [])));
-      kept = rw turn.pushed (take-append-le (length old) now (turn.reply ∷ []) i.more ∙ i.kept);
-      count = rw (turn.pushed, appended_more old now turn.reply i.more) (omega (arith, i.count, length-append (appended old now) (turn.reply ∷ [])));
+      more = rw turn.pushed (omega (arith, i.more, length-append now (r ∷ [])));
+      kept = rw turn.pushed (take-append-le (length old) now (r ∷ []) i.more ∙ i.kept);
+      count = rw (turn.pushed, appended_more old now r i.more) (omega (arith, i.count, length-append (appended old now) (r ∷ [])));
       due = λ C H st.
-          rw (turn.pushed, appended_more old now turn.reply i.more)
-          (due_more C H events (appended old now) event turn.reply at (turn.answers ∙ answers_due C _ _ (i.stands C H st) machine event) (i.due C H st));
+          rw (turn.pushed, appended_more old now r i.more)
+          (due_more C H events (appended old now) event r at (turn.answers.reply ∙ answers_due C _ _ (i.stands C H st) c.recall.ensures event) (i.due C H st));
       stands = λ C H st.
-          rw (turn.pushed, run_more events old now event turn.reply H i.more at)
-          (stands_after C _ _ (i.stands C H st) machine event turn.reply c.if-is_access.self turn.page turn.answers turn.follows);
+          rw (turn.pushed, run_more events old now event r H i.more at)
+          (stands_after C _ _ (i.stands C H st) c.recall.ensures event turn.result c.match-event.self turn.answers);
     }
 
 stays : (c : goal.After-from_residual) (C : Setup) (H : History) → Stands C c.args.self.now H
