@@ -1,6 +1,6 @@
 #!/bin/bash
-# The C interface: builds the static library, builds the C programs of examples/c over it with all warnings as errors, runs
-# them, and compares what they print with what they must print: examples/c/NAME.out.
+# The C interface: builds the static library, builds the C programs of crates/melissaledge_c/examples over it with all warnings as errors, runs
+# them, and compares what they print with what they must print: NAME.out there.
 #
 #     scripts/c_examples.sh
 #
@@ -22,9 +22,9 @@ failed=0
 
 # Whether a program builds, with these flags too, ends with status 0 and prints what it must.
 judge() {
-    local name=$1 wanted=$top/examples/c/$1.out
+    local name=$1 wanted=$crate/examples/$1.out
     shift
-    if ! ${CC:-cc} -Wall -Wextra -Werror -std=c11 -O2 -I "$crate/include" "$top/examples/c/$name.c" \
+    if ! ${CC:-cc} -Wall -Wextra -Werror -std=c11 -O2 -I "$crate/include" "$crate/examples/$name.c" \
         "$crate/out/libmelissaledge_c.a" "$heap" "$@" -o "$own/$name"; then
         echo "FAILED $name: it does not build"
         failed=$((failed + 1))

@@ -44,7 +44,8 @@ abbrev pub or_fault : {A B : Type 0} → Option A → Fault → (A → Result B 
 or_fault None why next = Err why
 or_fault (Some x) why next = next x
 
--- the page of a base and a number of bytes, if the base is canonical and a multiple of a size of pages
+-- the page of a base and a number of bytes, if the base is canonical and a multiple of a size of
+-- pages
 abbrev pub page_of : ℕ → ℕ → Result Span Fault
 page_of base bytes =
     or_fault (size_of bytes) fault.Page (λ size.

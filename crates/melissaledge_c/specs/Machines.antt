@@ -33,7 +33,8 @@ pub record IsOpened (config : Config) (result : ℤ) (new : Held) : Type 0 where
   pub limits : MeetsLimits max_frames config
   pub stands : Stands (setup_of config) machine []
 
--- a configuration outside the limits is refused with Layout, and no other; or there is no memory; or the machine is opened
+-- a configuration outside the limits is refused with Layout, and no other; or there is no memory;
+-- or the machine is opened
 pub record OpensAnew (config : Config) (result : ℤ) (new : Held) : Type 0 where
   pub layout : (result ≡ code_of fault.Layout) ↔ (¬ MeetsLimits max_frames config)
   pub refused : ¬ (result ≡ pos 0) → new ≡ None

@@ -16,7 +16,8 @@ use Rattle.melissaledge_c.specs.Codes.{code_of, number_of, or_fault, scheme_of, 
 use Rattle.melissaledge_c.specs.Flat.{flat_words}
 use Rattle.melissaledge_c.specs.Requests.{and_then, asked_of}
 
--- there is a frame, and each has a PPN of the bits of a PPN; there are the words of the frames; the root is one of the frames
+-- there is a frame, and each has a PPN of the bits of a PPN; there are the words of the frames; the
+-- root is one of the frames
 abbrev pub memory_fault : Tables → ℕ → Option Fault
 memory_fault tables words =
     if tables.frames == 0 || not (nat_le (tables.base_ppn + tables.frames) (2 ^ ppn_bits)) then Some fault.Memory
@@ -76,7 +77,8 @@ abbrev pub status_of : Result Found Trap → ℤ
 status_of (Ok found) = pos 0
 status_of (Err trap) = pos 1
 
--- what is in order is answered by the outcome of the access; and what is not, by its first fault, with nothing changed
+-- what is in order is answered by the outcome of the access; and what is not, by its first fault,
+-- with nothing changed
 abbrev pub Translates : Tables → List ℕ → AccessAsked → Result Request Fault → ℤ → Answer → Answer → Type 0
 Translates tables words asked (Err why) result old new = (result ≡ code_of why) × (new ≡ old)
 Translates tables words asked (Ok request) result old new =

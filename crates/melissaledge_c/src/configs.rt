@@ -21,7 +21,8 @@ pub struct SpaceAsked {
     pub home: u8,
 }
 
-/// What a machine is opened with: `struct mle_config` of C. Its limits are those of `stepcore::Config`.
+/// What a machine is opened with: `struct mle_config` of C. Its limits are those of
+/// `stepcore::Config`.
 #[repr(C)]
 #[derive(Clone, Copy, PartialEq, Eq)]
 pub struct ConfigAsked {
@@ -52,7 +53,8 @@ fn spaces_of(asked: &[SpaceAsked]) -> ArrayVec<Space, MAX_SPACES>
     spaces
 }
 
-/// The configuration of numbers, refused with `Scheme`, or with `Layout` if there are too many spaces or spares.
+/// The configuration of numbers, refused with `Scheme`, or with `Layout` if there are too many
+/// spaces or spares.
 pub(crate) fn config_of(
     asked: &ConfigAsked,
     spaces: &[SpaceAsked],

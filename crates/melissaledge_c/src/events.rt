@@ -38,7 +38,8 @@ pub struct EventAsked {
     pub other: u8,
     /// The space, for kinds 2 to 6 and 16 to 18.
     pub space: u8,
-    /// For kinds 2 to 4: not 0 if the page is the kernel's, in all spaces. For kind 5: not 0 if everything is to be flushed.
+    /// For kinds 2 to 4: not 0 if the page is the kernel's, in all spaces. For kind 5: not 0 if
+    /// everything is to be flushed.
     pub all: u8,
     /// The leaf's flags, for kinds 2 and 4.
     pub flags: u8,
@@ -191,9 +192,8 @@ fn protect_event(asked: &EventAsked) -> Result<Event, Fault>
 fn event_with(kind: Kind, asked: &EventAsked) -> Result<Event, Fault>
     ensures { result ≡ event_with kind asked.now }
 {
-    let hart = asked.hart;
-    let ticket = asked.ticket;
-    let space = asked.space;
+    let (hart, ticket, space, asid) = (asked.hart, asked.ticket, asked.space, asked.asid);
+    let (to, from) = (asked.other, asked.other);
     match kind {
         Kind::Begin => begin_event(asked),
         Kind::Map => map_event(asked),
@@ -211,39 +211,22 @@ fn event_with(kind: Kind, asked: &EventAsked) -> Result<Event, Fault>
             rs1: optional_word(asked.has_rs1, asked.rs1),
             rs2: optional_word(asked.has_rs2, asked.rs2),
         }),
-        Kind::Post => Ok(Event::Post {
-            hart,
-            ticket,
-            to: asked.other,
-        }),
-        Kind::Take => Ok(Event::Take {
-            hart,
-            from: asked.other,
-        }),
+        Kind::Post => Ok(Event::Post { hart, ticket, to }),
+        Kind::Take => Ok(Event::Take { hart, from }),
         Kind::ServeFence => Ok(Event::ServeFence { hart }),
         Kind::Ack => Ok(Event::Ack { hart }),
         Kind::AckSelf => Ok(Event::AckSelf { hart, ticket }),
-        Kind::Collect => Ok(Event::Collect {
-            hart,
-            ticket,
-            from: asked.other,
-        }),
+        Kind::Collect => Ok(Event::Collect { hart, ticket, from }),
         Kind::Finish => Ok(Event::Finish { hart, ticket }),
-        Kind::Close => Ok(Event::Close {
-            hart,
-            to: asked.other,
-        }),
+        Kind::Close => Ok(Event::Close { hart, to }),
         Kind::Retire => Ok(Event::Retire { hart, space }),
         Kind::Reclaim => Ok(Event::Reclaim { hart, space }),
-        Kind::Create => Ok(Event::Create {
-            hart,
-            space,
-            asid: asked.asid,
-        }),
+        Kind::Create => Ok(Event::Create { hart, space, asid }),
     }
 }
 
-/// The event that numbers ask for, refused with `Kind`, or with `Access`, `Mode` or `Page` of what it names.
+/// The event that numbers ask for, refused with `Kind`, or with `Access`, `Mode` or `Page` of what
+/// it names.
 pub(crate) fn event_of(asked: &EventAsked) -> Result<Event, Fault>
     ensures { result ≡ event_of asked.now }
 {

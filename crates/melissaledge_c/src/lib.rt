@@ -1,5 +1,5 @@
-//! The C interface: a static library whose exports each call one public call of the crates below. `include/melissaledge.h`
-//! declares them for C, and says what C has to keep.
+//! The C interface: a static library whose exports each call one public call of the crates below.
+//! `include/melissaledge.h` declares them for C, and says what C has to keep.
 #![tactic(auto)]
 
 mod codes;

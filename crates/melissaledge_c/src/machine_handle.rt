@@ -11,7 +11,8 @@ use std::mem::replace;
 use std::ptr::null_mut;
 use stepcore::Machine;
 
-/// What C holds of a machine: null, or the pointer of a box. `struct mle_machine` of C, which only keeps it and passes it on.
+/// What C holds of a machine: null, or the pointer of a box. `struct mle_machine` of C, which only
+/// keeps it and passes it on.
 #[repr(C)]
 #[derive(Drop)]
 pub struct MachineHandle {

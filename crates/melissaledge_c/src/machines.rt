@@ -15,8 +15,8 @@ use pte::{Scheme, VirtAddr, tests_are_facts};
 use std::alloc::Global;
 use stepcore::{Event, Machine, OpenFault};
 
-/// Opens a machine, as `Machine::open` has it: `spares` has a number for each hart. Refused with `Scheme`, `Layout`,
-/// `AlreadyOpen` or `NoMemory`, and then nothing has changed.
+/// Opens a machine, as `Machine::open` has it: `spares` has a number for each hart. Refused with
+/// `Scheme`, `Layout`, `AlreadyOpen` or `NoMemory`, and then nothing has changed.
 #[unsafe(no_mangle)]
 pub extern "C" fn melissaledge_machine_open(
     alloc: Global,
@@ -68,9 +68,9 @@ fn stepped(machine: &mut Machine, event: Event) -> ReplyGiven
     ReplyGiven::of(&reply)
 }
 
-/// Does one event, or refuses it, as `Machine::step` has it: 0 with the reply, which tells also a refusal by the machine. The call
-/// itself is refused with `Kind`, `Access`, `Mode` or `Page` of what the kind names, or with `NotOpen`, and then nothing has
-/// changed.
+/// Does one event, or refuses it, as `Machine::step` has it: 0 with the reply, which tells also a
+/// refusal by the machine. The call itself is refused with `Kind`, `Access`, `Mode` or `Page` of
+/// what the kind names, or with `NotOpen`, and then nothing has changed.
 #[unsafe(no_mangle)]
 pub extern "C" fn melissaledge_machine_step(
     alloc: Global,
@@ -107,8 +107,9 @@ fn answer_of(machine: &Machine, hart: u8, asid: u16, va: u64) -> i32
     }
 }
 
-/// Whether the TLB of a hart translates an address for an ASID, as `Machine::translates` has it: 1 if so, 0 if not, which is also
-/// so if the address is not canonical. Refused with `NotOpen` or `Hart`.
+/// Whether the TLB of a hart translates an address for an ASID, as `Machine::translates` has it: 1
+/// if so, 0 if not, which is also so if the address is not canonical. Refused with `NotOpen` or
+/// `Hart`.
 #[unsafe(no_mangle)]
 pub extern "C" fn melissaledge_machine_translates(
     alloc: Global,

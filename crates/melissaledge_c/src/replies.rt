@@ -12,7 +12,8 @@ use stepcore::Reply;
 #[repr(C)]
 #[derive(Clone, Copy, PartialEq, Eq, Default)]
 pub struct ReplyGiven {
-    /// The physical address of kinds 0 and 3, the PPN of kind 4, the ticket of kinds 6 and 8, the harts of kind 10.
+    /// The physical address of kinds 0 and 3, the PPN of kind 4, the ticket of kinds 6 and 8, the
+    /// harts of kind 10.
     pub value: u64,
     /// What was taken, for kind 8.
     pub what: WhatAsked,

@@ -1,5 +1,5 @@
-//! Bad arguments of the exports: an error, and nothing changed; and each export once on its way. A null pointer is none here:
-//! `examples/c/bad_arguments.c` passes it.
+//! Bad arguments of the exports: an error, and nothing changed; and each export once on its way. A
+//! null pointer is none here: `examples/bad_arguments.c` passes it.
 
 use crate::configs::{ConfigAsked, SpaceAsked};
 use crate::events::EventAsked;
@@ -110,7 +110,8 @@ fn translation_from_a_root_outside_memory_is_refused(rt: HostRuntime) {
     assert!(rt; is_refused(&tables, &words, &load_from(0), -8));
 }
 
-/// A page of 1 GiB at 0x4000_0000, which the root's word 1 maps to itself: V, R, W, X, U, G, A and D.
+/// A page of 1 GiB at 0x4000_0000, which the root's word 1 maps to itself: V, R, W, X, U, G, A and
+/// D.
 #[test]
 fn translation_is_answered(rt: HostRuntime) {
     let mut words = [0_u64; 1024];
@@ -367,7 +368,8 @@ fn bad_event_is_refused(rt: HostRuntime) {
     assert!(rt; melissaledge_machine_close(rt.alloc(), &mut machine) == 0);
 }
 
-/// Three stores map a page of 4 KiB at 0, a walk of three loads fills it in, and an unmapping is opened.
+/// Three stores map a page of 4 KiB at 0, a walk of three loads fills it in, and an unmapping is
+/// opened.
 #[test]
 fn machine_steps(rt: HostRuntime) {
     let mut machine = MachineHandle::empty();

@@ -11,7 +11,8 @@ use std::mem::replace;
 use std::ptr::null_mut;
 use tlb::Tlb;
 
-/// What C holds of a TLB: null, or the pointer of a box. `struct mle_tlb` of C, which only keeps it and passes it on.
+/// What C holds of a TLB: null, or the pointer of a box. `struct mle_tlb` of C, which only keeps it
+/// and passes it on.
 #[repr(C)]
 #[derive(Drop)]
 pub struct TlbHandle {

@@ -15,8 +15,8 @@ use pte::{Scheme, VirtAddr, tests_are_facts};
 use std::alloc::Global;
 use tlb::Tlb;
 
-/// Opens an empty TLB of a scheme, as `Tlb::new_in` has it. Refused with `Scheme`, `AlreadyOpen` or `NoMemory`, in this
-/// order, and then nothing has changed.
+/// Opens an empty TLB of a scheme, as `Tlb::new_in` has it. Refused with `Scheme`, `AlreadyOpen` or
+/// `NoMemory`, in this order, and then nothing has changed.
 #[unsafe(no_mangle)]
 pub extern "C" fn melissaledge_tlb_open(alloc: Global, scheme: u32, tlb: &mut TlbHandle) -> i32
     ensures { Opens (scheme_of scheme) tlb.old.held result tlb.new.held }
@@ -48,8 +48,8 @@ pub extern "C" fn melissaledge_tlb_close(alloc: Global, tlb: &mut TlbHandle) -> 
     }
 }
 
-/// The oldest entry that matches an address for an ASID, as `Tlb::lookup` has it: 0 with the entry, or 2 if there is none, which
-/// is also so if the address is not canonical. Refused with `NotOpen`.
+/// The oldest entry that matches an address for an ASID, as `Tlb::lookup` has it: 0 with the entry,
+/// or 2 if there is none, which is also so if the address is not canonical. Refused with `NotOpen`.
 #[unsafe(no_mangle)]
 pub extern "C" fn melissaledge_tlb_lookup(
     alloc: Global,
@@ -141,8 +141,9 @@ pub extern "C" fn melissaledge_tlb_serve(
     0
 }
 
-/// What an entry answers to an access, as `Entry::translate` has it: 0 with the physical address, or 1 with the page fault.
-/// Refused with `Page`, `Access`, `Mode` or `Address`, in this order, and then nothing has changed.
+/// What an entry answers to an access, as `Entry::translate` has it: 0 with the physical address,
+/// or 1 with the page fault. Refused with `Page`, `Access`, `Mode` or `Address`, in this order, and
+/// then nothing has changed.
 #[unsafe(no_mangle)]
 pub extern "C" fn melissaledge_entry_translate(
     entry: &EntryGiven,

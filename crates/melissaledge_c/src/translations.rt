@@ -135,9 +135,9 @@ impl Answer {
     }
 }
 
-/// Where an access leads over tables in a flat memory, as `walk::translate_in` has it: 0 with the translation, or 1 with the
-/// exception. Refused with `Scheme`, `Access`, `Mode`, `Memory`, `Length` or `Root`, the first that applies in this order, and
-/// then nothing has changed.
+/// Where an access leads over tables in a flat memory, as `walk::translate_in` has it: 0 with the
+/// translation, or 1 with the exception. Refused with `Scheme`, `Access`, `Mode`, `Memory`,
+/// `Length` or `Root`, the first that applies in this order, and then nothing has changed.
 #[unsafe(no_mangle)]
 pub extern "C" fn melissaledge_translate(
     tables: &Tables,
