@@ -1,11 +1,9 @@
-//! Tests of `svsim live`: files through `live_command`, and the words of the command line. The expected lines were worked out by
-//! hand from docs/FORMAT.md.
+//! Tests of `svsim live`: files through `live_command`, and the words of the command line. The
+//! expected lines were worked out by hand from docs/FORMAT.md.
 #![tactic(auto)]
 
 #[cfg(test)]
 mod commands;
-#[cfg(test)]
-mod examples;
 #[cfg(test)]
 mod faults;
 #[cfg(test)]

@@ -1,0 +1,155 @@
+//! The files of the folder `examples`, in which it is run, each by the whole program over memory.
+//! It prints a line for each `NAME.toml`, in the order of their names: `as expected` if its command
+//! prints what stands in `NAME.out`, `draw` of a file for `run` what stands in `NAME.svg`, and
+//! `check` that it is ok; else what is amiss. The status is 1 unless each is as expected.
+#![tactic(auto)]
+
+use harts::OpenGate;
+use scenario::answer_words;
+use std::process::ExitCode;
+use std::sync::Wait;
+use std::thread::Threads;
+use std::{fs, io};
+
+/// How often a file for `live` is run: its threads run otherwise each time.
+const LIVE_RUNS: u32 = 20;
+
+/// A line that `live-frame-used-too-early.out` has, and the line that may be printed in its place.
+const TOO_EARLY: (&str, &str) = ("\n1 2 pa 0x100008\n", "\n1 2 trap 13 Invalid\n");
+
+/// The names of the files for the program, in order and without `.toml`.
+fn names(rt: &HostRuntime) -> io::Result<Vec<String>> {
+    let mut names = Vec::new(rt.alloc());
+    for entry in fs::read_dir(rt, ".")? {
+        let entry = entry?;
+        if let Some(name) = entry.file_name().strip_suffix(".toml") {
+            names.push(String::from_str(rt.alloc(), name)?)?;
+        }
+    }
+    names.sort_unstable();
+    Ok(names)
+}
+
+/// The command that a file is for.
+fn command_of(name: &str) -> &'static str {
+    if name == "first" {
+        "walk"
+    } else if name.starts_with("live-") {
+        "live"
+    } else {
+        "run"
+    }
+}
+
+/// What the program prints for a command on `NAME.toml`. `None` unless it answers 0 and complains
+/// of nothing.
+fn printed<T: Threads + Wait + Sync>(
+    rt: &HostRuntime,
+    threads: &T,
+    command: &str,
+    name: &str,
+) -> io::Result<Option<Vec<u8>>> {
+    let alloc = rt.alloc();
+    let mut words = Vec::new(alloc);
+    words.push(String::from_str(alloc, "svsim")?)?;
+    words.push(String::from_str(alloc, command)?)?;
+    words.push(format!(in alloc; "{name}.toml")?)?;
+    let mut out: Vec<u8> = Vec::new(alloc);
+    let mut err: Vec<u8> = Vec::new(alloc);
+    let status = answer_words(
+        threads,
+        alloc,
+        Ok(words),
+        |file| fs::open(rt, file).ok(),
+        &mut out,
+        &mut err,
+        &OpenGate,
+    );
+    let is_done = status == 0 && err.is_empty();
+    Ok(if is_done { Some(out) } else { None })
+}
+
+/// Whether a command on `NAME.toml` prints this text and nothing else.
+fn prints<T: Threads + Wait + Sync>(
+    rt: &HostRuntime,
+    threads: &T,
+    command: &str,
+    name: &str,
+    text: &str,
+) -> io::Result<bool> {
+    let printed = printed(rt, threads, command, name)?;
+    Ok(printed.is_some_and(|out| out.as_slice() == text.as_bytes()))
+}
+
+/// Whether `live` prints this text in each run, or the text with its line that may be another.
+fn prints_live<T: Threads + Wait + Sync>(
+    rt: &HostRuntime,
+    threads: &T,
+    name: &str,
+    text: &str,
+) -> io::Result<bool> {
+    let other = match text.split_once(TOO_EARLY.0) {
+        Some((before, behind)) if name == "live-frame-used-too-early" => {
+            format!(in rt.alloc(); "{before}{}{behind}", TOO_EARLY.1)?
+        }
+        _ => String::from_str(rt.alloc(), text)?,
+    };
+    for _ in 0..LIVE_RUNS {
+        let Some(out) = printed(rt, threads, "live", name)? else {
+            return Ok(false);
+        };
+        if out.as_slice() != text.as_bytes() && out.as_slice() != other.as_bytes() {
+            return Ok(false);
+        }
+    }
+    Ok(true)
+}
+
+/// What is amiss with a file, if anything.
+fn amiss<T: Threads + Wait + Sync>(
+    rt: &HostRuntime,
+    threads: &T,
+    name: &str,
+) -> io::Result<Option<&'static str>> {
+    let alloc = rt.alloc();
+    let command = command_of(name);
+    let lines = fs::read_to_string(rt, format!(in alloc; "{name}.out")?.as_str())?;
+    let printed = if command == "live" {
+        prints_live(rt, threads, name, lines.as_str())?
+    } else {
+        prints(rt, threads, command, name, lines.as_str())?
+    };
+    if !printed {
+        return Ok(Some("other lines"));
+    }
+    if command == "run" {
+        let picture = fs::read_to_string(rt, format!(in alloc; "{name}.svg")?.as_str())?;
+        if !prints(rt, threads, "draw", name, picture.as_str())? {
+            return Ok(Some("another picture"));
+        }
+    }
+    let ok = format!(in alloc; "file for {command}\nok\n")?;
+    if !prints(rt, threads, "check", name, ok.as_str())? {
+        return Ok(Some("a fault"));
+    }
+    Ok(None)
+}
+
+fn main(rt: HostRuntime) -> ExitCode {
+    let mut status = 0;
+    let Ok(names) = names(&rt) else {
+        return ExitCode::from(1);
+    };
+    for name in names.iter() {
+        let told = match amiss(&rt, &rt, name.as_str()) {
+            Ok(None) => "as expected",
+            Ok(Some(amiss)) => amiss,
+            Err(_) => "not read",
+        };
+        if told != "as expected" {
+            status = 1;
+        }
+        let _ = println!(rt; "{name}: {told}");
+    }
+    ExitCode::from(status)
+}
