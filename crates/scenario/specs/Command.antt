@@ -133,16 +133,21 @@ IsTold ending status line = (status_of ending ≡ status) × (error_line (codes 
 -- when a file of these bytes may end so; any may be unreadable or find no memory, and a faultless
 -- one for `live` no thread
 abbrev pub Suits : Job → List ℕ → Ending → Type 0
-Suits job bytes done = (length bytes ≤ most_bytes) × (file_fault job bytes ≡ None) × ¬ FindsUses job bytes
-Suits job bytes stale_used = (length bytes ≤ most_bytes) × (file_fault job bytes ≡ None) × FindsUses job bytes
-Suits job bytes (explained failure) = Explains job × (length bytes ≤ most_bytes) × (file_fault job bytes ≡ Some failure)
+Suits job bytes done = (length bytes ≤ most_bytes) × (file_fault job bytes ≡ None)
+    × ¬ FindsUses job bytes
+Suits job bytes stale_used = (length bytes ≤ most_bytes) × (file_fault job bytes ≡ None)
+    × FindsUses job bytes
+Suits job bytes (explained failure) = Explains job × (length bytes ≤ most_bytes)
+    × (file_fault job bytes ≡ Some failure)
 Suits job bytes misused = ⊥
 Suits job bytes unreadable = Unit {0}
 Suits job bytes too_large = most_bytes < length bytes
-Suits job bytes (refused failure) = (length bytes ≤ most_bytes) × (file_fault job bytes ≡ Some failure)
+Suits job bytes (refused failure) = (length bytes ≤ most_bytes)
+    × (file_fault job bytes ≡ Some failure)
 Suits job bytes output_failed = (length bytes ≤ most_bytes) × IsPrinted job bytes
 Suits job bytes no_memory = Unit {0}
-Suits job bytes no_thread = StartsThreads job × (length bytes ≤ most_bytes) × (file_fault job bytes ≡ None)
+Suits job bytes no_thread = StartsThreads job × (length bytes ≤ most_bytes)
+    × (file_fault job bytes ≡ None)
 
 -- what was written of the lines: all, a beginning, or nothing
 abbrev pub Leaves : (List ℕ → Type 0) → Ending → Option (List ℕ) → Option (List ℕ) → Type 0
@@ -153,7 +158,8 @@ Leaves Lines output_failed old new = WritesFront Lines old new
 Leaves Lines _ old new = Keeps old new
 
 -- the file may end so, and this is what it leaves
-pub record EndsAs (job : Job) (bytes : List ℕ) (ending : Ending) (old new : Option (List ℕ)) : Type 0 where
+pub record EndsAs (job : Job) (bytes : List ℕ) (ending : Ending)
+    (old new : Option (List ℕ)) : Type 0 where
   pub suits : Suits job bytes ending
   pub leaves : Leaves (FileLines job bytes) ending old new
 
@@ -164,23 +170,30 @@ IsToldAs stale_used told = told ≡ stale_used
 IsToldAs ending told = (told ≡ ending) ⊎ (told ≡ no_memory)
 
 -- the status is that of what is told, and its line was written as far as standard error took it
-pub record Reports (file : List ℕ) (ending : Ending) (status : ℕ) (old new : Option (List ℕ)) : Type 0 where
+pub record Reports (file : List ℕ) (ending : Ending) (status : ℕ)
+    (old new : Option (List ℕ)) : Type 0 where
   pub told : Ending
   pub is_told : IsToldAs ending told
   pub status_is : status ≡ status_of told
   pub tells : AppendsFront old new (error_line file told)
 
--- how a command ends on a file of these bytes: one ending gives the output, the status and the line on standard error
-pub record Ends (job : Job) (file bytes : List ℕ) (status : ℕ) (out_old out_new err_old err_new : Option (List ℕ)) : Type 0 where
+-- how a command ends on a file of these bytes: one ending gives the output, the status and the line
+-- on standard error
+pub record Ends (job : Job) (file bytes : List ℕ) (status : ℕ)
+    (out_old out_new err_old err_new : Option (List ℕ)) : Type 0 where
   pub ending : Ending
   pub ends_as : EndsAs job bytes ending out_old out_new
   pub reports : Reports file ending status err_old err_new
 
--- how a command ends on a reader that was opened; without one the file is unreadable, and nothing is written of it
-abbrev pub EndsOn : {R : Type 0} → (R → Option (List ℕ)) → Job → List ℕ → Option R → ℕ → Option (List ℕ) → Option (List ℕ) → Option (List ℕ) → Option (List ℕ) → Type 0
-EndsOn remaining job file None status out_old out_new err_old err_new = Reports file unreadable status err_old err_new × Keeps out_old out_new
+-- how a command ends on a reader that was opened; without one the file is unreadable, and nothing
+-- is written of it
+abbrev pub EndsOn : {R : Type 0} → (R → Option (List ℕ)) → Job → List ℕ → Option R → ℕ
+    → Option (List ℕ) → Option (List ℕ) → Option (List ℕ) → Option (List ℕ) → Type 0
+EndsOn remaining job file None status out_old out_new err_old err_new =
+    Reports file unreadable status err_old err_new × Keeps out_old out_new
 EndsOn remaining job file (Some reader) status out_old out_new err_old err_new =
-    (bytes : List ℕ) × AreLeft (remaining reader) bytes × Ends job file bytes status out_old out_new err_old err_new
+    (bytes : List ℕ) × AreLeft (remaining reader) bytes
+    × Ends job file bytes status out_old out_new err_old err_new
 
 -- ---- how the code's troubles stand for endings
 

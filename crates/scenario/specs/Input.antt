@@ -14,10 +14,12 @@ AreLeft left bytes = IfSome left (λ all. bytes ≡ all)
 abbrev pub ReadsUpTo : ℕ → Option (List ℕ) → Option (List ℕ) → Type 0
 ReadsUpTo n left rest = (bytes : List ℕ) × Consumes left rest bytes × (length bytes ≤ n)
 
--- the bytes grew by a piece of this length that the reader had in front; an empty piece comes at the end alone
+-- the bytes grew by a piece of this length that the reader had in front; an empty piece comes at
+-- the end alone
 abbrev pub ReadsPiece : Option (List ℕ) → Option (List ℕ) → ℕ → List ℕ → List ℕ → ℕ → Type 0
 ReadsPiece left rest room old new count =
-    (piece : List ℕ) × (length piece ≡ count) × (count ≤ room) × (new ≡ old ++ piece) × Consumes left rest piece × (count ≡ 0 → 0 < room → IsAtEnd rest)
+    (piece : List ℕ) × (length piece ≡ count) × (count ≤ room) × (new ≡ old ++ piece)
+    × Consumes left rest piece × (count ≡ 0 → 0 < room → IsAtEnd rest)
 
 -- the reader failed, or memory ran out
 abbrev pub IsPieceTrouble : Trouble → Type 0

@@ -17,8 +17,10 @@ use Rattle.scenario.specs.Command.{done, Ending, ending_of, ending_of_fault, exp
 
 -- the lines of a scenario without fault, and whether stale mappings were used
 abbrev pub IsStaleFound : Result RunPlan Failure → List ℕ → Finding → Type 0
-IsStaleFound read lines Nothing = (fault_in read ≡ None) × LinesOf PrintsStale read lines × ¬ UsesOf read
-IsStaleFound read lines StaleUsed = (fault_in read ≡ None) × LinesOf PrintsStale read lines × UsesOf read
+IsStaleFound read lines Nothing = (fault_in read ≡ None) × LinesOf PrintsStale read lines
+    × ¬ UsesOf read
+IsStaleFound read lines StaleUsed = (fault_in read ≡ None) × LinesOf PrintsStale read lines
+    × UsesOf read
 IsStaleFound read lines (Faulty fault) = ⊥
 
 -- the state after a scenario without fault
@@ -44,7 +46,8 @@ finding_of (Some fault) = Faulty fault
 abbrev pub IsChecked : List ℕ → Option Failure → List ℕ → Finding → Type 0
 IsChecked text first lines Nothing = (first ≡ None) × TellsFaults text first lines
 IsChecked text first lines StaleUsed = ⊥
-IsChecked text first lines (Faulty fault) = (failure : Failure) × (failure_of fault ≡ Some failure) × (first ≡ Some failure) × TellsFaults text first lines
+IsChecked text first lines (Faulty fault) = (failure : Failure) × (failure_of fault ≡ Some failure)
+    × (first ≡ Some failure) × TellsFaults text first lines
 
 -- of a text
 abbrev pub IsFoundIn : Inspection → List ℕ → List ℕ → Finding → Type 0
@@ -73,7 +76,8 @@ IsUntold faults.NoMemory first = Unit {0}
 IsUntold fault first = first ≡ failure_of fault
 
 abbrev pub IsUninspected : Trouble → Inspection → List ℕ → Type 0
-IsUninspected (troubles.Refused fault) inspection bytes = IsUntold fault (inspected_fault inspection bytes)
+IsUninspected (troubles.Refused fault) inspection bytes =
+    IsUntold fault (inspected_fault inspection bytes)
 IsUninspected _ inspection bytes = ⊥
 
 -- how an inspection ends

@@ -17,9 +17,11 @@ WritesAll Lines old new = (lines : List ℕ) × Lines lines × Appends old new l
 abbrev pub WritesFront : (List ℕ → Type 0) → Option (List ℕ) → Option (List ℕ) → Type 0
 WritesFront Lines old new = (lines : List ℕ) × Lines lines × AppendsFront old new lines
 
--- what a call leaves that ended by this fault, where the text has this first fault and these lines: at Output a
--- beginning of the lines was written, at NoMemory nothing; any other fault is the text's first, and nothing was written
-abbrev pub EndsBy : Fault → Option Failure → (List ℕ → Type 0) → Option (List ℕ) → Option (List ℕ) → Type 0
+-- what a call leaves that ended by this fault, where the text has this first fault and these lines:
+-- at Output a beginning of the lines was written, at NoMemory nothing; any other fault is the
+-- text's first, and nothing was written
+abbrev pub EndsBy : Fault → Option Failure → (List ℕ → Type 0) → Option (List ℕ) → Option (List ℕ)
+    → Type 0
 EndsBy faults.Output first Lines old new = (first ≡ None) × WritesFront Lines old new
 EndsBy faults.NoMemory first Lines old new = Keeps old new
 EndsBy fault first Lines old new = (first ≡ failure_of fault) × Keeps old new

@@ -23,7 +23,8 @@ use Rattle.show.specs.Sheet.{Shows}
 use Rattle.checks.specs.Told.{name_by, whole_text}
 use Rattle.toml.specs.Parse.{parse_document}
 
--- what `walk` prints: the lines of the answers of its steps, over the memory that the file describes
+-- what `walk` prints: the lines of the answers of its steps, over the memory that the file
+-- describes
 abbrev pub Prints : WalkPlan → List ℕ → Type 0
 Prints plan lines = WritesLines plan.scheme plan.tables plan.root 1 plan.steps lines
 
@@ -31,16 +32,20 @@ Prints plan lines = WritesLines plan.scheme plan.tables plan.root 1 plan.steps l
 abbrev pub PrintsReplies : RunPlan → List ℕ → Type 0
 PrintsReplies plan lines = lines ≡ reply_lines (due_replies (setup_of plan.config) [] plan.events)
 
--- a run of the plan may answer so: each step of the setup was made and has its reply, each hart has answered its script, up to its
--- end or to the step before which it was halted, and each mailbox is told of once, by sender and then by receiver
-pub record AreAnswers (plan : LivePlan) (setup : List LiveReply) (scripts : List (List LiveReply)) (pairs : List PairReport) : Type 0 where
+-- a run of the plan may answer so: each step of the setup was made and has its reply, each hart has
+-- answered its script, up to its end or to the step before which it was halted, and each mailbox is
+-- told of once, by sender and then by receiver
+pub record AreAnswers (plan : LivePlan) (setup : List LiveReply) (scripts : List (List LiveReply))
+    (pairs : List PairReport) : Type 0 where
   pub setup_count : length setup ≡ length plan.setup
   pub setup_made : are_made (map (λ step. step.1) plan.setup) setup ≡ true
   pub script_count : length scripts ≡ plan.config.harts
   pub answered : AreAnswered plan.scripts scripts
-  pub pairs_are : map (λ pair. (pair.sender, pair.receiver)) pairs ≡ pairs_of plan.config.harts plan.config.harts
+  pub pairs_are : map (λ pair. (pair.sender, pair.receiver)) pairs
+      ≡ pairs_of plan.config.harts plan.config.harts
 
--- what `live` prints: the lines of the answers of some run; what the threads do when, no clause says
+-- what `live` prints: the lines of the answers of some run; what the threads do when, no clause
+-- says
 pub record PrintsLive (plan : LivePlan) (lines : List ℕ) : Type 0 where
   pub setup : List LiveReply
   pub scripts : List (List LiveReply)
@@ -61,7 +66,8 @@ IsUnstarted TooLarge = ⊥
 IsUnstarted NoThread = Unit {0}
 IsUnstarted (Refused fault) = fault ≡ NoMemory
 
--- why a file for `live` that was read as this prints nothing: its first fault, no memory, or no thread
+-- why a file for `live` that was read as this prints nothing: its first fault, no memory, or no
+-- thread
 abbrev pub IsUnprinted : {P : Type 0} → Trouble → Result P Failure → Type 0
 IsUnprinted Usage read = ⊥
 IsUnprinted Unreadable read = ⊥
@@ -69,7 +75,8 @@ IsUnprinted TooLarge read = ⊥
 IsUnprinted NoThread read = fault_in read ≡ None
 IsUnprinted (Refused fault) read = Fails fault read
 
--- what `stale` prints: a line for each step that makes mappings stale and each access that one answers, in the order of the steps
+-- what `stale` prints: a line for each step that makes mappings stale and each access that one
+-- answers, in the order of the steps
 abbrev pub PrintsStale : RunPlan → List ℕ → Type 0
 PrintsStale plan lines = (used : Bool) × PrintsItems (setup_of plan.config) plan.events lines used
 
@@ -77,11 +84,14 @@ PrintsStale plan lines = (used : Bool) × PrintsItems (setup_of plan.config) pla
 abbrev pub PrintsState : RunPlan → List ℕ → Type 0
 PrintsState plan lines = Shows plan.config plan.events lines
 
--- what `check` prints of a text with this first fault: the command that it is for, and lines that explain, none if there is no fault
+-- what `check` prints of a text with this first fault: the command that it is for, and lines that
+-- explain, none if there is no fault
 abbrev pub TellsFaults : List ℕ → Option Failure → List ℕ → Type 0
-TellsFaults text first lines = (told : List (List ℕ)) × (lines ≡ whole_text (name_by (parse_document text)) told) × ((first ≡ None) ↔ (told ≡ []))
+TellsFaults text first lines = (told : List (List ℕ))
+    × (lines ≡ whole_text (name_by (parse_document text)) told) × ((first ≡ None) ↔ (told ≡ []))
 
 -- a stale mapping answers some access of the scenario
 abbrev pub UsesOf : Result RunPlan Failure → Type 0
-UsesOf (Ok plan) = (number h : ℕ) × (m : Mapping) × UsedBy (setup_of plan.config) [] plan.events number h m
+UsesOf (Ok plan) = (number h : ℕ) × (m : Mapping)
+    × UsedBy (setup_of plan.config) [] plan.events number h m
 UsesOf (Err e) = ⊥

@@ -140,8 +140,8 @@ fn asked_of_three<'a>(a: &'a str, b: &'a str, c: &'a str) -> Option<Ask<'a>>
     asked_by(a, b)
 }
 
-/// What the words ask for, of which the first is the program's name: a command that is known and a FILE, neither of them an
-/// option. `--` ends the options.
+/// What the words ask for, of which the first is the program's name: a command that is known and a
+/// FILE, neither of them an option. `--` ends the options.
 pub fn ask_of(words: &[String]) -> Option<Ask<'_>>
     ensures { option_map ask_view result ≡ asked (map string_bytes words.now) }
 {
@@ -154,7 +154,8 @@ pub fn ask_of(words: &[String]) -> Option<Ask<'_>>
     None
 }
 
-/// Does what was asked for on the file that `input` reads; without one the file could not be opened.
+/// Does what was asked for on the file that `input` reads; without one the file could not be
+/// opened.
 fn on_file<T: Threads + Wait + Sync, R: Read + Drop, W: Write, E: Write, G: Gate + Sync>(
     rt: &T,
     alloc: Global,
@@ -164,7 +165,8 @@ fn on_file<T: Threads + Wait + Sync, R: Read + Drop, W: Write, E: Write, G: Gate
     err: &mut E,
     gate: &G,
 ) -> u8
-    ensures { EndsOn R.remaining ask.entry.job ask.entry.file.now input result (W.contents out.old) (W.contents out.new) (E.contents err.old) (E.contents err.new) }
+    ensures { EndsOn R.remaining ask.entry.job ask.entry.file.now input result (W.contents out.old)
+        (W.contents out.new) (E.contents err.old) (E.contents err.new) }
 {
     let Some(mut reader) = input else {
         return report(alloc, ask.file, &Trouble::Unreadable, err);
@@ -178,10 +180,11 @@ fn on_file<T: Threads + Wait + Sync, R: Read + Drop, W: Write, E: Write, G: Gate
     }
 }
 
-/// The whole of the program: does what the words ask for on the file that `reader_of` opens, and answers the status. It is
-/// called with the name of the file, once the words are known to ask for one. Words that ask for nothing are told by the line
-/// `svsim: usage: svsim COMMAND FILE` and status 2, a file that is not opened as one that can't be read. Threads are started,
-/// and `gate` is asked, by `live` alone.
+/// The whole of the program: does what the words ask for on the file that `reader_of` opens, and
+/// answers the status. It is called with the name of the file, once the words are known to ask for
+/// one. Words that ask for nothing are told by the line `svsim: usage: svsim COMMAND FILE` and
+/// status 2, a file that is not opened as one that can't be read. Threads are started, and `gate`
+/// is asked, by `live` alone.
 pub fn answer_words<
     T: Threads + Wait + Sync,
     R: Read + Drop,
@@ -199,9 +202,13 @@ pub fn answer_words<
     gate: &G,
 ) -> u8
     requires { O.IsAlwaysCallable reader_of }
-    ensures asked { IfOk (asked_in words) (λ ask. (input : Option R) × FnOnceReturnsAt O.FnOnce reader_of ask.file input
-        × EndsOn R.remaining ask.job ask.file input result (W.contents out.old) (W.contents out.new) (E.contents err.old) (E.contents err.new)) }
-    ensures unasked { IfErr (asked_in words) (λ ending. Reports [] ending result (E.contents err.old) (E.contents err.new) × Keeps (W.contents out.old) (W.contents out.new)) }
+    ensures asked { IfOk (asked_in words) (λ ask. (input : Option R)
+        × FnOnceReturnsAt O.FnOnce reader_of ask.file input
+        × EndsOn R.remaining ask.job ask.file input result (W.contents out.old) (W.contents out.new)
+        (E.contents err.old) (E.contents err.new)) }
+    ensures unasked { IfErr (asked_in words) (λ ending.
+        Reports [] ending result (E.contents err.old) (E.contents err.new)
+        × Keeps (W.contents out.old) (W.contents out.new)) }
 {
     let words = match words {
         Ok(words) => words,

@@ -14,8 +14,10 @@ pub fn worked_endings()
     ensures wrong_key { IsTold (refused (wrong_key (codes "k"))) 3 (codes "svsim: key k: wrong\n") }
     ensures bad_layout { IsTold (refused bad_layout) 3 (codes "svsim: layout refused\n") }
     ensures too_many { IsTold (refused too_many) 3 (codes "svsim: too many steps\n") }
-    ensures wrong_step { IsTold (refused (wrong_step 12 NotStep)) 3 (codes "svsim: step 12: not a step\n") }
-    ensures wrong_script { IsTold (refused (wrong_script 3 12 NotStep)) 3 (codes "svsim: script 3 step 12: not a step\n") }
+    ensures wrong_step { IsTold (refused (wrong_step 12 NotStep)) 3
+        (codes "svsim: step 12: not a step\n") }
+    ensures wrong_script { IsTold (refused (wrong_script 3 12 NotStep)) 3
+        (codes "svsim: script 3 step 12: not a step\n") }
     ensures output_failed { IsTold output_failed 4 (codes "svsim: output failed\n") }
     ensures no_memory { IsTold no_memory 5 (codes "svsim: no memory\n") }
     ensures no_thread { IsTold no_thread 5 (codes "svsim: no thread\n") }

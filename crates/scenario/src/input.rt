@@ -18,7 +18,8 @@ fn read_piece<R: Read>(
     bytes: &mut Vec<u8>,
 ) -> Result<usize, Trouble>
     ensures err { IfErr result IsPieceTrouble }
-    ensures ok { IfOk result (λ count. ReadsPiece (R.remaining input.old) (R.remaining input.new) (length buffer.old) bytes.old.items bytes.new.items count) }
+    ensures ok { IfOk result (λ count. ReadsPiece (R.remaining input.old) (R.remaining input.new)
+        (length buffer.old) bytes.old.items bytes.new.items count) }
     ensures up_to { ReadsUpTo (length buffer.old) (R.remaining input.old) (R.remaining input.new) }
 {
     let Ok(count) = input.read(buffer) else {
@@ -28,7 +29,8 @@ fn read_piece<R: Read>(
     Ok(count)
 }
 
-/// All that the reader has, if it is not too long. It is read no further than one byte past the limit.
+/// All that the reader has, if it is not too long. It is read no further than one byte past the
+/// limit.
 pub fn read_file<R: Read>(alloc: Global, input: &mut R) -> Result<Vec<u8>, Trouble>
     ensures whole { IfOk result (λ bytes. AreLeft (R.remaining input.old) bytes.items) }
     ensures short { IfOk result (λ bytes. vec_len bytes ≤ most_bytes) }

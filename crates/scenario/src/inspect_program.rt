@@ -56,7 +56,8 @@ fn finding_by_use(used: bool) -> Finding
 
 /// Which mappings become stale in a scenario of `run`, and which accesses they answer.
 fn stale_of(alloc: Global, text: &str) -> Result<Inspected, Fault>
-    ensures ok { IfOk result (λ found. IsStaleFound (run_scenario_of text.now) (string_bytes found.text) found.finding) }
+    ensures ok { IfOk result (λ found. IsStaleFound (run_scenario_of text.now)
+        (string_bytes found.text) found.finding) }
     ensures err { IfErr result (λ fault. IsUntold fault (fault_in (run_scenario_of text.now))) }
 {
     let scenario = read_run(alloc, text)?;
@@ -69,7 +70,8 @@ fn stale_of(alloc: Global, text: &str) -> Result<Inspected, Fault>
 
 /// The state after the last step of a scenario of `run`.
 fn state_of(alloc: Global, text: &str) -> Result<Inspected, Fault>
-    ensures ok { IfOk result (λ found. IsStateFound (run_scenario_of text.now) (string_bytes found.text) found.finding) }
+    ensures ok { IfOk result (λ found. IsStateFound (run_scenario_of text.now)
+        (string_bytes found.text) found.finding) }
     ensures err { IfErr result (λ fault. IsUntold fault (fault_in (run_scenario_of text.now))) }
 {
     let scenario = read_run(alloc, text)?;
@@ -105,7 +107,8 @@ fn finding_of(fault: Option<Fault>) -> Finding
 
 /// What is wrong with a file.
 fn checked(alloc: Global, text: &str) -> Result<Inspected, Fault>
-    ensures ok { IfOk result (λ found. IsChecked text.now (fault_of text.now) (string_bytes found.text) found.finding) }
+    ensures ok { IfOk result (λ found. IsChecked text.now (fault_of text.now)
+        (string_bytes found.text) found.finding) }
     ensures err { IfErr result (λ fault. fault ≡ NoMemory) }
 {
     let checked = check_text(alloc, text)?;
@@ -117,7 +120,8 @@ fn checked(alloc: Global, text: &str) -> Result<Inspected, Fault>
 
 /// Inspects a text.
 fn inspection_of_text(alloc: Global, inspection: Inspection, text: &str) -> Result<Inspected, Fault>
-    ensures ok { IfOk result (λ found. IsFoundIn inspection text.now (string_bytes found.text) found.finding) }
+    ensures ok { IfOk result (λ found. IsFoundIn inspection text.now (string_bytes found.text)
+        found.finding) }
     ensures err { IfErr result (λ fault. IsUntold fault (text_fault_of inspection text.now)) }
 {
     match inspection {
@@ -134,7 +138,8 @@ fn inspection_of_bytes(
     inspection: Inspection,
     bytes: &[u8],
 ) -> Result<Inspected, Trouble>
-    ensures ok { IfOk result (λ found. IsFound inspection bytes.now (string_bytes found.text) found.finding) }
+    ensures ok { IfOk result (λ found. IsFound inspection bytes.now (string_bytes found.text)
+        found.finding) }
     ensures err { IfErr result (λ trouble. IsUninspected trouble inspection bytes.now) }
 {
     let Ok(text) = str::from_utf8(bytes) else {
@@ -154,7 +159,8 @@ fn run<R: Read, W: Write>(
     out: &mut W,
 ) -> Result<Finding, Trouble>
     ensures ends { (bytes : List ℕ) × AreLeft (R.remaining input.old) bytes
-        × EndsAs (Inspect inspection) bytes (ending_by result) (W.contents out.old) (W.contents out.new) }
+        × EndsAs (Inspect inspection) bytes (ending_by result) (W.contents out.old)
+        (W.contents out.new) }
     ensures read { ReadsUpTo (most_bytes + 1) (R.remaining input.old) (R.remaining input.new) }
 {
     let bytes = read_file(alloc, input)?;
@@ -165,11 +171,13 @@ fn run<R: Read, W: Write>(
     }
 }
 
-/// Does an inspection of the file that `input` reads, and answers the status of the program: 0 done, and for `stale` no access was
-/// answered by a stale mapping, 1 for `stale` one was, 2 not read, too large, or not TOML, 3 a refused scenario, 4 the output
-/// failed, 5 out of memory. At 2 to 5 one line goes to `err`, as far as it takes it; its own faults count for nothing. `check`
-/// writes what is wrong with a faulty file to `out`, at 2 and 3 too, if the file is UTF-8; the others write nothing then. `file` is
-/// the file's name in the line. No more than 1,048,577 bytes are read, and any error of the reader is `cannot read`.
+/// Does an inspection of the file that `input` reads, and answers the status of the program: 0
+/// done, and for `stale` no access was answered by a stale mapping, 1 for `stale` one was, 2 not
+/// read, too large, or not TOML, 3 a refused scenario, 4 the output failed, 5 out of memory. At 2
+/// to 5 one line goes to `err`, as far as it takes it; its own faults count for nothing. `check`
+/// writes what is wrong with a faulty file to `out`, at 2 and 3 too, if the file is UTF-8; the
+/// others write nothing then. `file` is the file's name in the line. No more than 1,048,577 bytes
+/// are read, and any error of the reader is `cannot read`.
 pub fn inspect_command<R: Read, W: Write, E: Write>(
     alloc: Global,
     inspection: Inspection,
@@ -179,7 +187,8 @@ pub fn inspect_command<R: Read, W: Write, E: Write>(
     err: &mut E,
 ) -> u8
     ensures ends { (bytes : List ℕ) × AreLeft (R.remaining input.old) bytes
-        × Ends (Inspect inspection) file.now bytes result (W.contents out.old) (W.contents out.new) (E.contents err.old) (E.contents err.new) }
+        × Ends (Inspect inspection) file.now bytes result (W.contents out.old) (W.contents out.new)
+        (E.contents err.old) (E.contents err.new) }
     ensures read { ReadsUpTo (most_bytes + 1) (R.remaining input.old) (R.remaining input.new) }
 {
     match run(alloc, inspection, input, out) {

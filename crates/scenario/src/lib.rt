@@ -1,8 +1,9 @@
 //! Scenario files: from a file's bytes to the lines that `svsim` prints.
 //!
-//! `walk_text` and `run_text` answer a text, `command` does the whole of a command over any reader and writers, `live_command`
-//! the whole of `live`, whose harts are threads, `inspect_command` that of `stale`, `show`, `draw` and `check`, and `answer_words` is the whole program over the words of the command line. A
-//! text is read and checked whole before its first line is written.
+//! `walk_text` and `run_text` answer a text, `command` does the whole of a command over any reader
+//! and writers, `live_command` the whole of `live`, whose harts are threads, `inspect_command` that
+//! of `stale`, `show`, `draw` and `check`, and `answer_words` is the whole program over the words
+//! of the command line. A text is read and checked whole before its first line is written.
 #![tactic(auto)]
 
 mod command_line;

@@ -29,7 +29,8 @@ fn run_harts<T: Threads + Wait + Sync, G: Gate + Sync>(
     scenario: &LiveScenario,
     gate: &G,
 ) -> Result<LiveReport, Trouble>
-    ensures answers { IfOk result (λ report. AreAnswers (live_view scenario.now) report.setup.items (map (λ replies. replies.items) report.scripts.items) report.report.pairs.items) }
+    ensures answers { IfOk result (λ report. AreAnswers (live_view scenario.now) report.setup.items
+        (map (λ replies. replies.items) report.scripts.items) report.report.pairs.items) }
     ensures err { IfErr result IsUnstarted }
 {
     let answered = run_live(
@@ -57,7 +58,8 @@ fn text_lines<T: Threads + Wait + Sync, G: Gate + Sync>(
     gate: &G,
 ) -> Result<String, Trouble>
     ensures faultless { IfOk result (λ _. fault_in (live_scenario_of text.now) ≡ None) }
-    ensures lines { IfOk result (λ lines. LinesOf PrintsLive (live_scenario_of text.now) (string_bytes lines)) }
+    ensures lines { IfOk result (λ lines. LinesOf PrintsLive (live_scenario_of text.now)
+        (string_bytes lines)) }
     ensures err { IfErr result (λ trouble. IsUnprinted trouble (live_scenario_of text.now)) }
 {
     let scenario = match read_live(alloc, text) {
@@ -81,7 +83,8 @@ fn file_lines<T: Threads + Wait + Sync, G: Gate + Sync>(
     gate: &G,
 ) -> Result<String, Trouble>
     ensures faultless { IfOk result (λ _. fault_in (live_file bytes.now) ≡ None) }
-    ensures lines { IfOk result (λ lines. LinesOf PrintsLive (live_file bytes.now) (string_bytes lines)) }
+    ensures lines { IfOk result (λ lines. LinesOf PrintsLive (live_file bytes.now)
+        (string_bytes lines)) }
     ensures err { IfErr result (λ trouble. IsUnprinted trouble (live_file bytes.now)) }
 {
     match str::from_utf8(bytes) {
@@ -98,7 +101,8 @@ fn run<T: Threads + Wait + Sync, R: Read, W: Write, G: Gate + Sync>(
     out: &mut W,
     gate: &G,
 ) -> Result<(), Trouble>
-    ensures ends { (bytes : List ℕ) × AreLeft (R.remaining input.old) bytes × EndsAs Live bytes (ending_in result) (W.contents out.old) (W.contents out.new) }
+    ensures ends { (bytes : List ℕ) × AreLeft (R.remaining input.old) bytes
+        × EndsAs Live bytes (ending_in result) (W.contents out.old) (W.contents out.new) }
     ensures read { ReadsUpTo (most_bytes + 1) (R.remaining input.old) (R.remaining input.new) }
 {
     let bytes = read_file(alloc, input)?;
@@ -109,13 +113,15 @@ fn run<T: Threads + Wait + Sync, R: Read, W: Write, G: Gate + Sync>(
     }
 }
 
-/// Does `live` on the file that `input` reads, and answers the status of the program: the harts make the steps of the setup one
-/// after the other, then each hart is a thread and makes the steps of its script, and after their end what each step answered
-/// and what each mailbox did goes to `out`. `gate` is asked before each step of a script, and told after it.
+/// Does `live` on the file that `input` reads, and answers the status of the program: the harts
+/// make the steps of the setup one after the other, then each hart is a thread and makes the steps
+/// of its script, and after their end what each step answered and what each mailbox did goes to
+/// `out`. `gate` is asked before each step of a script, and told after it.
 ///
-/// 0 done, 2 not read, too large, or not TOML, 3 a refused scenario, 4 the output failed, 5 no memory or no thread. At
-/// all but 0 one line goes to `err`, as far as it takes it; its own faults count for nothing. `file` is the file's name in the
-/// line. No more than 1,048,577 bytes are read, and any error of the reader is `cannot read`.
+/// 0 done, 2 not read, too large, or not TOML, 3 a refused scenario, 4 the output failed, 5 no
+/// memory or no thread. At all but 0 one line goes to `err`, as far as it takes it; its own faults
+/// count for nothing. `file` is the file's name in the line. No more than 1,048,577 bytes are read,
+/// and any error of the reader is `cannot read`.
 pub fn live_command<T: Threads + Wait + Sync, R: Read, W: Write, E: Write, G: Gate + Sync>(
     rt: &T,
     alloc: Global,
@@ -126,7 +132,8 @@ pub fn live_command<T: Threads + Wait + Sync, R: Read, W: Write, E: Write, G: Ga
     gate: &G,
 ) -> u8
     ensures ends { (bytes : List ℕ) × AreLeft (R.remaining input.old) bytes
-        × Ends Live file.now bytes result (W.contents out.old) (W.contents out.new) (E.contents err.old) (E.contents err.new) }
+        × Ends Live file.now bytes result (W.contents out.old) (W.contents out.new)
+        (E.contents err.old) (E.contents err.new) }
     ensures silent { (result ≡ 2) ⊎ (result ≡ 3) → Keeps (W.contents out.old) (W.contents out.new) }
     ensures read { ReadsUpTo (most_bytes + 1) (R.remaining input.old) (R.remaining input.new) }
 {

@@ -75,7 +75,8 @@ fn status(trouble: &Trouble) -> u8
 
 /// The line on standard error.
 fn error_text(alloc: Global, file: &str, trouble: &Trouble) -> Result<String, AllocError>
-    ensures { IfOk result (λ text. string_bytes text ≡ error_line file.now (ending_of trouble.now)) }
+    ensures { IfOk result (λ text. string_bytes text
+        ≡ error_line file.now (ending_of trouble.now)) }
 {
     let mut text = String::new(alloc);
     match trouble {
@@ -91,8 +92,10 @@ fn error_text(alloc: Global, file: &str, trouble: &Trouble) -> Result<String, Al
 /// Does a command on the bytes of a file.
 fn run_file<W: Write>(alloc: Global, which: Which, bytes: &[u8], out: &mut W) -> Result<(), Fault>
     ensures faultless { OnOk result (file_fault (Plain which) bytes.now ≡ None) }
-    ensures written { OnOk result (WritesAll (FileLines (Plain which) bytes.now) (W.contents out.old) (W.contents out.new)) }
-    ensures err { IfErr result (λ fault. EndsBy fault (file_fault (Plain which) bytes.now) (FileLines (Plain which) bytes.now) (W.contents out.old) (W.contents out.new)) }
+    ensures written { OnOk result (WritesAll (FileLines (Plain which) bytes.now)
+        (W.contents out.old) (W.contents out.new)) }
+    ensures err { IfErr result (λ fault. EndsBy fault (file_fault (Plain which) bytes.now)
+        (FileLines (Plain which) bytes.now) (W.contents out.old) (W.contents out.new)) }
 {
     let Ok(text) = str::from_utf8(bytes) else {
         return Err(Fault::NotToml);
@@ -110,7 +113,8 @@ fn run<R: Read, W: Write>(
     input: &mut R,
     out: &mut W,
 ) -> Result<(), Trouble>
-    ensures ends { (bytes : List ℕ) × AreLeft (R.remaining input.old) bytes × EndsAs (Plain which) bytes (ending_in result) (W.contents out.old) (W.contents out.new) }
+    ensures ends { (bytes : List ℕ) × AreLeft (R.remaining input.old) bytes
+        × EndsAs (Plain which) bytes (ending_in result) (W.contents out.old) (W.contents out.new) }
     ensures read { ReadsUpTo (most_bytes + 1) (R.remaining input.old) (R.remaining input.new) }
 {
     let bytes = read_file(alloc, input)?;
@@ -122,7 +126,8 @@ fn run<R: Read, W: Write>(
 
 /// Writes the line of a trouble, as far as it goes, and answers the status.
 pub(crate) fn report<E: Write>(alloc: Global, file: &str, trouble: &Trouble, err: &mut E) -> u8
-    ensures { Reports file.now (ending_of trouble.now) result (E.contents err.old) (E.contents err.new) }
+    ensures { Reports file.now (ending_of trouble.now) result (E.contents err.old)
+        (E.contents err.new) }
 {
     match error_text(alloc, file, trouble) {
         Ok(text) => {
@@ -136,10 +141,11 @@ pub(crate) fn report<E: Write>(alloc: Global, file: &str, trouble: &Trouble, err
     }
 }
 
-/// Does a command on the file that `input` reads, and answers the status of the program: 0 done, 2 not read, too large, or
-/// not TOML, 3 a refused scenario, 4 the output failed, 5 out of memory. At all but 0 one line goes to `err`, as far as
-/// it takes it; its own faults count for nothing. `file` is the file's name in the line. No more than 1,048,577 bytes are
-/// read, and any error of the reader is `cannot read`.
+/// Does a command on the file that `input` reads, and answers the status of the program: 0 done, 2
+/// not read, too large, or not TOML, 3 a refused scenario, 4 the output failed, 5 out of memory. At
+/// all but 0 one line goes to `err`, as far as it takes it; its own faults count for nothing.
+/// `file` is the file's name in the line. No more than 1,048,577 bytes are read, and any error of
+/// the reader is `cannot read`.
 pub fn command<R: Read, W: Write, E: Write>(
     alloc: Global,
     which: Which,
@@ -149,7 +155,8 @@ pub fn command<R: Read, W: Write, E: Write>(
     err: &mut E,
 ) -> u8
     ensures ends { (bytes : List ℕ) × AreLeft (R.remaining input.old) bytes
-        × Ends (Plain which) file.now bytes result (W.contents out.old) (W.contents out.new) (E.contents err.old) (E.contents err.new) }
+        × Ends (Plain which) file.now bytes result (W.contents out.old) (W.contents out.new)
+        (E.contents err.old) (E.contents err.new) }
     ensures silent { (result ≡ 2) ⊎ (result ≡ 3) → Keeps (W.contents out.old) (W.contents out.new) }
     ensures read { ReadsUpTo (most_bytes + 1) (R.remaining input.old) (R.remaining input.new) }
 {

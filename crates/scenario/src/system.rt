@@ -12,9 +12,9 @@ fn given_words<R: Env + AllocGlobal>(rt: &R) -> Result<Vec<String>, NoWords> {
     Ok(words.collect(rt.alloc())?)
 }
 
-/// Does what the words that the program was started with ask for, over its files, standard output and standard error, and
-/// answers its exit status. `threads` starts the threads of `live`. No contract knows what a system gives: what is done of it is
-/// the contract of `answer_words`.
+/// Does what the words that the program was started with ask for, over its files, standard output
+/// and standard error, and answers its exit status. `threads` starts the threads of `live`. No
+/// contract knows what a system gives: what is done of it is the contract of `answer_words`.
 pub fn start<T: Threads + Wait + Sync>(rt: &HostRuntime, threads: &T) -> u8 {
     let mut out = rt.stdout();
     let mut err = rt.stderr();

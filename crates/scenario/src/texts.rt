@@ -19,13 +19,16 @@ use std::alloc::Global;
 use std::io::Write;
 use stepcore::Machine;
 
-/// Writes what each step of a `walk` scenario answers, a line a step. The whole text is read and checked before the first
-/// byte is written; any fault of it, the first in the order of checking, leaves the writer as it was. `Output`: a beginning
-/// of the lines was written. `NoMemory`: nothing was.
+/// Writes what each step of a `walk` scenario answers, a line a step. The whole text is read and
+/// checked before the first byte is written; any fault of it, the first in the order of checking,
+/// leaves the writer as it was. `Output`: a beginning of the lines was written. `NoMemory`: nothing
+/// was.
 pub fn walk_text<W: Write>(alloc: Global, text: &str, out: &mut W) -> Result<(), Fault>
     ensures faultless { OnOk result (fault_in (walk_scenario_of text.now) ≡ None) }
-    ensures written { OnOk result (WritesAll (LinesOf Prints (walk_scenario_of text.now)) (W.contents out.old) (W.contents out.new)) }
-    ensures err { IfErr result (λ fault. EndsBy fault (fault_in (walk_scenario_of text.now)) (LinesOf Prints (walk_scenario_of text.now))
+    ensures written { OnOk result (WritesAll (LinesOf Prints (walk_scenario_of text.now))
+        (W.contents out.old) (W.contents out.new)) }
+    ensures err { IfErr result (λ fault. EndsBy fault (fault_in (walk_scenario_of text.now))
+        (LinesOf Prints (walk_scenario_of text.now))
         (W.contents out.old) (W.contents out.new)) }
 {
     let scenario = read_walk(alloc, text)?;
@@ -41,7 +44,8 @@ pub fn walk_text<W: Write>(alloc: Global, text: &str, out: &mut W) -> Result<(),
 
 /// The replies to the steps of a scenario.
 fn replies(alloc: Global, scenario: &RunScenario) -> Result<Vec<Reply>, Fault>
-    ensures due { IfOk result (λ replies. replies.items ≡ due_replies (setup_of scenario.now.config) [] scenario.now.events.items) }
+    ensures due { IfOk result (λ replies. replies.items ≡ due_replies (setup_of scenario.now.config)
+        [] scenario.now.events.items) }
     ensures fault { IfErr result (λ fault. fault ≡ NoMemory) }
 {
     let mut machine = match Machine::open(alloc, &scenario.config) {
@@ -54,13 +58,16 @@ fn replies(alloc: Global, scenario: &RunScenario) -> Result<Vec<Reply>, Fault>
     Ok(replies)
 }
 
-/// Writes what each step of a `run` scenario answers, a line a step. The whole text is read and checked before the first
-/// byte is written; any fault of it, the first in the order of checking, leaves the writer as it was. `Output`: a beginning
-/// of the lines was written. `NoMemory`: nothing was.
+/// Writes what each step of a `run` scenario answers, a line a step. The whole text is read and
+/// checked before the first byte is written; any fault of it, the first in the order of checking,
+/// leaves the writer as it was. `Output`: a beginning of the lines was written. `NoMemory`: nothing
+/// was.
 pub fn run_text<W: Write>(alloc: Global, text: &str, out: &mut W) -> Result<(), Fault>
     ensures faultless { OnOk result (fault_in (run_scenario_of text.now) ≡ None) }
-    ensures written { OnOk result (WritesAll (LinesOf PrintsReplies (run_scenario_of text.now)) (W.contents out.old) (W.contents out.new)) }
-    ensures err { IfErr result (λ fault. EndsBy fault (fault_in (run_scenario_of text.now)) (LinesOf PrintsReplies (run_scenario_of text.now))
+    ensures written { OnOk result (WritesAll (LinesOf PrintsReplies (run_scenario_of text.now))
+        (W.contents out.old) (W.contents out.new)) }
+    ensures err { IfErr result (λ fault. EndsBy fault (fault_in (run_scenario_of text.now))
+        (LinesOf PrintsReplies (run_scenario_of text.now))
         (W.contents out.old) (W.contents out.new)) }
 {
     let scenario = read_run(alloc, text)?;

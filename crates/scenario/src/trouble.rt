@@ -1,4 +1,5 @@
-//! Why a command was not done: the words ask for none, its file was not read, or its scenario was refused or not answered.
+//! Why a command was not done: the words ask for none, its file was not read, or its scenario was
+//! refused or not answered.
 ghost use Rattle.std.specs.Prelude.{◌≡◌};
 ghost use Rattle.scenario.specs.declared.trouble.Trouble.TheVariants.{Refused};
 ghost use Rattle.keys.specs.declared.fault.Fault.TheVariants.{NoMemory};
