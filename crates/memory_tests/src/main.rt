@@ -1,9 +1,10 @@
-//! `memory_tests`: makes each call of the libraries that takes memory, and prints a line for each: whether
-//! it answered as usual, found no memory, or answered anything else. The status is 5 if one of them found
-//! no memory, else 0. `scripts/refuse_memory.sh` runs it once for each of its requests for memory, which is
-//! then refused.
+//! `memory_tests`: makes each call of the libraries that takes memory, and prints a line for each:
+//! whether it answered as usual, found no memory, or answered anything else. The status is 5 if one
+//! of them found no memory, else 0. `scripts/refuse_memory.sh` runs it once for each of its
+//! requests for memory, which is then refused.
 #![tactic(auto)]
 
+mod inspections;
 mod live;
 mod locked;
 mod machines;
@@ -23,6 +24,10 @@ fn main(rt: HostRuntime) -> ExitCode {
         ("ends", live::two_ends(alloc)),
         ("Board::open", live::board(alloc)),
         ("run_live", live::run(&rt, alloc)),
+        ("inspect_command Stale", inspections::stale(alloc)),
+        ("inspect_command Show", inspections::show(alloc)),
+        ("inspect_command Draw", inspections::draw(alloc)),
+        ("inspect_command Check", inspections::check(alloc)),
     ] {
         if verdict == Verdict::NoMemory {
             status = 5;

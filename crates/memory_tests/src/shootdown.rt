@@ -1,5 +1,5 @@
-//! A shootdown of a page of 2 MiB between two harts, event by event, with the reply to each; and a space that is retired and
-//! created anew.
+//! A shootdown of a page of 2 MiB between two harts, event by event, with the reply to each; and a
+//! space that is retired and created anew.
 
 use arrayvec::ArrayVec;
 use history::{Event, Refusal, Reply};
@@ -100,7 +100,8 @@ const CREATE: Event = Event::Create {
 /// How many events there are.
 pub const COUNT: usize = 27;
 
-/// The page is mapped, used by hart 1, unmapped and shot down; then space 1 is retired, given back and created anew.
+/// The page is mapped, used by hart 1, unmapped and shot down; then space 1 is retired, given back
+/// and created anew.
 pub fn events(page: Page) -> [Event; COUNT] {
     [
         map(page),
@@ -137,7 +138,8 @@ fn taken(what: What) -> Reply {
     Reply::Taken(Request { ticket: 0, what })
 }
 
-/// The replies to the events, by Sv39: the root's word leads to a table of level 1, where the page's leaf is.
+/// The replies to the events, by Sv39: the root's word leads to a table of level 1, where the
+/// page's leaf is.
 pub fn replies(page: Page) -> [Reply; COUNT] {
     [
         Reply::Table(0x8_0003),
