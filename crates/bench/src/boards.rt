@@ -1,4 +1,5 @@
-//! Harts with ports of one board, each in a thread of its own: hart 0 makes one shootdown after another, and 1 to 3 others serve.
+//! Harts with ports of one board, each in a thread of its own: hart 0 makes one shootdown after
+//! another, and 1 to 3 others serve.
 //!
 //! | part | hart 0, each time | the others, meanwhile |
 //! |---|---|---|
@@ -6,17 +7,18 @@
 //! | `shootdown1` to `shootdown3` | the same with a page, which it unmaps, and maps again in the end | serve, and use the page after each service |
 //! | `ports1` to `ports3` | the same with the next of 24 pages | translate addresses of these pages, and serve after each 32 |
 //!
-//! So what is timed of the second is a whole shootdown of a page that each of the others has in its TLB. Of the addresses of the third
-//! seven of eight are of the first 12 pages, and those not mapped right now are not found.
+//! So what is timed of the second is a whole shootdown of a page that each of the others has in its
+//! TLB. Of the addresses of the third seven of eight are of the first 12 pages, and those not
+//! mapped right now are not found.
 //!
-//! The others begin to count once hart 0 has made one shootdown, so that each of them is there, and the clock runs from then on.
+//! The others begin to count once hart 0 has made one shootdown, so that each of them is there, and
+//! the clock runs from then on.
 
 ghost use Rattle.std.specs.Prelude.{◌≤◌};
 
 use crate::Failure;
 use crate::pause::pause;
 use arrayvec::ArrayVec;
-use bitflags::Flags;
 use board::{Board, HartPort, Mapped};
 use history::Scope;
 use pte::{Access, Ctx, Mode, PAGE_BYTES, Page, PageSize, PteFlags, Scheme, VirtAddr};
@@ -39,9 +41,6 @@ const BETWEEN: u64 = 32;
 /// How often hart 0 looks for acknowledgements before it gives up.
 const TRIES: u64 = 1 << 32;
 
-/// R, W, U, A and D.
-const FLAGS: u8 = 0xD6;
-
 const CTX: Ctx = Ctx {
     mode: Mode::User,
     sum: false,
@@ -49,6 +48,11 @@ const CTX: Ctx = Ctx {
 };
 
 const PLACE: Place = Place::Space(0);
+
+/// Of each page.
+fn flags() -> PteFlags {
+    PteFlags::R | PteFlags::W | PteFlags::U | PteFlags::A | PteFlags::D
+}
 
 /// What hart 0 does again and again.
 #[derive(Clone, Copy, PartialEq, Eq, Debug)]
@@ -167,7 +171,7 @@ fn address(number: u64) -> u64 {
 /// Maps one of the pages to itself, with the tables that are missing.
 fn map(port: &mut HartPort, va: u64) -> Option<()> {
     let page = Page::around(VirtAddr::new(va)?, PageSize::Kib4);
-    let flags = PteFlags::from_bits_retain(FLAGS);
+    let flags = flags();
     for _ in 0..3_u8 {
         match port.map_step(PLACE, page, va / PAGE_BYTES, flags) {
             Ok(Mapped::Leaf) => return Some(()),
@@ -233,8 +237,8 @@ fn shoots(port: &mut HartPort, round: Round, others: u8, count: u64) -> u64
     count
 }
 
-/// Hart 0 maps the pages and makes a first shootdown, for which each other hart has to be there, and then so many more. How many
-/// it made, and how long these took.
+/// Hart 0 maps the pages and makes a first shootdown, for which each other hart has to be there,
+/// and then so many more. How many it made, and how long these took.
 fn leads<C: Clock>(
     clock: &C,
     mut port: HartPort,
@@ -294,7 +298,8 @@ fn translates(port: &mut HartPort, progress: &Progress, seed: u64) -> (u64, u64)
     (made, found)
 }
 
-/// Serves until hart 0 is done, or until it has begun if translations follow. After each service the hart uses the page.
+/// Serves until hart 0 is done, or until it has begun if translations follow. After each service
+/// the hart uses the page.
 fn serves(port: &mut HartPort, progress: &Progress, round: Round) {
     let mut tries: u64 = 0;
     for _ in 0..u64::MAX {

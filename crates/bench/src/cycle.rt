@@ -1,7 +1,7 @@
 //! A cycle of events that leaves the tables, tickets and mailboxes as it found them.
 //!
-//! There are eight harts, and eight spaces, of which each hart is the home of one. In a space four pages stay mapped. In
-//! a cycle each space has its turn, of 779 events:
+//! There are eight harts, and eight spaces, of which each hart is the home of one. In a space four
+//! pages stay mapped. In a cycle each space has its turn, of 779 events:
 //!
 //! | events | of whom | replies |
 //! |---|---|---|
@@ -16,19 +16,20 @@
 //! | collect each ticket from each other hart | the home | 24 waiting, 4 done |
 //! | finish the four tickets | the home | 4 ok |
 //!
-//! So a turn is answered by 392 hit, 168 more, 56 filled, 4 leaf, 4 opened, 95 ok, 28 taken, 4 done and 28 waiting. A TLB
-//! keeps what it holds of the pages that stay: it is full from its third turn on, and of a space's pages it holds nothing when the
-//! space has its next turn, since each turn fills eight entries of sixteen and drops four.
+//! So a turn is answered by 392 hit, 168 more, 56 filled, 4 leaf, 4 opened, 95 ok, 28 taken, 4 done
+//! and 28 waiting. A TLB keeps what it holds of the pages that stay: it is full from its third turn
+//! on, and of a space's pages it holds nothing when the space has its next turn, since each turn
+//! fills eight entries of sixteen and drops four.
 //!
-//! The file `stdout` is what 100,000 asks for: 100,000 / (8 * 779) = 16 cycles, which are 128 turns, after an opening
-//! answered by 16 table and 32 leaf. So 128 * 392 = 50,176 hit, 128 * 168 = 21,504 more, 128 * 56 = 7,168 filled,
-//! 128 * 4 + 32 = 544 leaf, 128 * 4 = 512 opened, 128 * 95 = 12,160 ok, 128 * 28 = 3,584 taken, 512 done and 3,584
-//! waiting. Of 100,000 translations each 16th finds nothing, and 100,000 - 6,250 = 93,750 are found.
+//! The file `stdout` is what 100,000 asks for: 100,000 / (8 * 779) = 16 cycles, which are 128
+//! turns, after an opening answered by 16 table and 32 leaf. So 128 * 392 = 50,176 hit, 128 * 168 =
+//! 21,504 more, 128 * 56 = 7,168 filled, 128 * 4 + 32 = 544 leaf, 128 * 4 = 512 opened, 128 * 95 =
+//! 12,160 ok, 128 * 28 = 3,584 taken, 512 done and 3,584 waiting. Of 100,000 translations each 16th
+//! finds nothing, and 100,000 - 6,250 = 93,750 are found.
 
 use crate::Failure;
 use crate::tally::Tally;
 use arrayvec::ArrayVec;
-use bitflags::Flags;
 use history::Event;
 use pte::{Access, Ctx, Mode, Page, PageSize, PteFlags, VirtAddr};
 use spaces::{Config, MAX_HARTS, OpenFault, Place, Space};
@@ -46,14 +47,16 @@ const CHANGING: u8 = 4;
 /// How often a hart comes back to each page.
 const RETURNS: u8 = 7;
 
-/// R, W, X, U, A and D.
-const FLAGS: u8 = 0xDE;
-
 const CTX: Ctx = Ctx {
     mode: Mode::User,
     sum: false,
     mxr: false,
 };
+
+/// Of each page.
+fn flags() -> PteFlags {
+    PteFlags::R | PteFlags::W | PteFlags::X | PteFlags::U | PteFlags::A | PteFlags::D
+}
 
 /// Eight harts, each the home of one space, with the spare frames for its two tables.
 fn config() -> Config {
@@ -93,7 +96,7 @@ fn map(space: u8, number: u8) -> Event {
         place: Place::Space(space),
         page: page(space, number),
         ppn: 0x10_0000 | u64::from(space) << 8 | u64::from(number),
-        flags: PteFlags::from_bits_retain(FLAGS),
+        flags: flags(),
     }
 }
 
@@ -207,7 +210,8 @@ fn cycle(alloc: Global) -> Result<Vec<Event>, AllocError> {
     Ok(events)
 }
 
-/// Runs the opening, and as many whole cycles as have at most `count` events. Tells how many cycles, and the replies.
+/// Runs the opening, and as many whole cycles as have at most `count` events. Tells how many
+/// cycles, and the replies.
 pub fn run(alloc: Global, count: u64) -> Result<(u64, Tally), Failure> {
     let mut machine = match Machine::open(alloc, &config()) {
         Ok(machine) => machine,

@@ -1,5 +1,5 @@
-//! Edits of a table memory, each with its store, in an Sv39 tree of all pages of the module `tree`: 253,440 pages of 4 KiB, whose
-//! tables are all there.
+//! Edits of a table memory, each with its store, in an Sv39 tree of all pages of the module `tree`:
+//! 253,440 pages of 4 KiB, whose tables are all there.
 //!
 //! | part | each time |
 //! |---|---|
@@ -7,21 +7,15 @@
 //! | `unmap` | unmaps the next page |
 //! | `protect` | takes W from the next page, or gives it back |
 //!
-//! After each pass over all pages, and before the clock runs again, `map` unmaps all of them, and `unmap` maps them again.
+//! After each pass over all pages, and before the clock runs again, `map` unmaps all of them, and
+//! `unmap` maps them again.
 
 use crate::Failure;
 use crate::tree::{self, PLACE};
-use bitflags::Flags;
 use pte::{PAGE_BYTES, Page, PageSize, PteFlags, Scheme, VirtAddr};
 use spaces::{Memory, apply, next_map_edit, protect_edit, unmap_edit};
 use std::alloc::{AllocError, Global};
 use std::time::{Clock, Duration, Instant};
-
-/// R, X, U, A and D.
-const FLAGS: u8 = 0xDA;
-
-/// W beside them.
-const WRITABLE: u8 = 0xDE;
 
 /// What is done to each page.
 #[derive(Clone, Copy, PartialEq, Eq, Debug)]
@@ -38,6 +32,14 @@ pub fn changes() -> [(Change, &'static str); 3] {
         (Change::Unmap, "unmap"),
         (Change::Protect, "protect"),
     ]
+}
+
+fn read_only() -> PteFlags {
+    PteFlags::R | PteFlags::X | PteFlags::U | PteFlags::A | PteFlags::D
+}
+
+fn writable() -> PteFlags {
+    PteFlags::R | PteFlags::W | PteFlags::X | PteFlags::U | PteFlags::A | PteFlags::D
 }
 
 /// Maps a page to itself.
@@ -70,7 +72,7 @@ fn protect(memory: &mut Memory, page: Page, flags: PteFlags) -> Option<()> {
 }
 
 fn map_all(memory: &mut Memory, pages: &[Page]) -> Option<()> {
-    let flags = PteFlags::from_bits_retain(WRITABLE);
+    let flags = writable();
     for page in pages {
         map(memory, *page, flags)?;
     }
@@ -91,13 +93,18 @@ fn protect_all(memory: &mut Memory, pages: &[Page], flags: PteFlags) -> Option<(
     Some(())
 }
 
-/// Makes the change of each page. Of two passes of `Protect`, one takes W and the other gives it back.
+/// Makes the change of each page. Of two passes of `Protect`, one takes W and the other gives it
+/// back.
 fn change_all(memory: &mut Memory, pages: &[Page], change: Change, pass: u64) -> Option<()> {
-    let flags = if pass % 2 == 0 { FLAGS } else { WRITABLE };
+    let flags = if pass % 2 == 0 {
+        read_only()
+    } else {
+        writable()
+    };
     match change {
         Change::Map => map_all(memory, pages),
         Change::Unmap => unmap_all(memory, pages),
-        Change::Protect => protect_all(memory, pages, PteFlags::from_bits_retain(flags)),
+        Change::Protect => protect_all(memory, pages, flags),
     }
 }
 

@@ -1,8 +1,8 @@
 //! The TLB of one hart alone: each kind of call on it, so many times.
 //!
-//! It begins with 16 entries of the address space 1, filled in the order of their numbers 0 to 15, the one of number 5 global.
-//! Entry k begins at k + 1 times the size of its page: 1 GiB where k is 7 or 15, 2 MiB where k is 3 or 11, else 4 KiB. No two
-//! overlap.
+//! It begins with 16 entries of the address space 1, filled in the order of their numbers 0 to 15,
+//! the one of number 5 global. Entry k begins at k + 1 times the size of its page: 1 GiB where k is
+//! 7 or 15, 2 MiB where k is 3 or 11, else 4 KiB. No two overlap.
 //!
 //! | kind | each time | what is counted |
 //! |---|---|---|
@@ -14,13 +14,15 @@
 //! | fence_space | such a fill, and a fence of the ASID 1 | the one of the global entry |
 //! | fence_all | such a fill, and a fence of all | none |
 //!
-//! These are the counts of 64 times or more. The 64 pages are those from the address 0 on. While nothing is dropped, which is
-//! during the first 8 fills, each fill takes out the oldest entry, so the entries 0 to 7 go; those of 8 to 15 that have 4 KiB
-//! lie in the 64 pages, and go when these are served or fenced. The fence of the ASID 1 leaves entry 5 from the first time on,
-//! whose page at 0x6000 is one of the 64.
+//! These are the counts of 64 times or more. The 64 pages are those from the address 0 on. While
+//! nothing is dropped, which is during the first 8 fills, each fill takes out the oldest entry, so
+//! the entries 0 to 7 go; those of 8 to 15 that have 4 KiB lie in the 64 pages, and go when these
+//! are served or fenced. The fence of the ASID 1 leaves entry 5 from the first time on, whose page
+//! at 0x6000 is one of the 64.
 //!
-//! So the file `stdout`, of 100,000 times, has 100,000 for each of the three look-ups that find, 0 for the miss, 16 for the
-//! fill, 8 for the service and the two fences of a page, 1 for the fence of an address space, and 0 for that of all.
+//! So the file `stdout`, of 100,000 times, has 100,000 for each of the three look-ups that find, 0
+//! for the miss, 16 for the fill, 8 for the service and the two fences of a page, 1 for the fence
+//! of an address space, and 0 for that of all.
 
 use pte::{Page, PageSize, PteFlags, VirtAddr, What};
 use tlb::{Entry, Tlb};
@@ -107,7 +109,8 @@ fn is_found(tlb: &Tlb, va: u64) -> bool {
         .is_some()
 }
 
-/// How many of so many look-ups find an entry. The addresses are read from a table, so that each look-up is made anew.
+/// How many of so many look-ups find an entry. The addresses are read from a table, so that each
+/// look-up is made anew.
 fn count_found(tlb: &Tlb, addresses: &[u64], count: u64) -> u64 {
     let mut found: u64 = 0;
     for number in 0..count {

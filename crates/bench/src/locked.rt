@@ -14,7 +14,8 @@ use std::sync::Wait;
 use std::thread::{Threads, join};
 use stepcore::{Event, Reply, Scope};
 
-/// How many shootdowns one machine makes. The lock keeps each event, and each try, so another machine takes over then.
+/// How many shootdowns one machine makes. The lock keeps each event, and each try, so another
+/// machine takes over then.
 const ROUND: u64 = 1000;
 
 /// How often a thread waits a moment between two tries, so that the lock is free in between.

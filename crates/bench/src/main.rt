@@ -1,11 +1,14 @@
-//! `bench [all|events|sv39|sv48|tlb|KIND|rings|lock|words] [N]`: makes about N events on a machine of 8 harts, N translations over
-//! the tables of a scheme, N calls of each kind or of one on a TLB alone, N shootdowns between two threads, over rings or under
-//! one lock, N numbers that go there and back between two threads, or all of these (then a tenth of N between the threads), and
-//! prints what they came to, by counts. N is 10,000,000 where no number is given. The clock is the caller's.
+//! `bench [all|events|sv39|sv48|tlb|KIND|rings|lock|words] [N]`: makes about N events on a machine
+//! of 8 harts, N translations over the tables of a scheme, N calls of each kind or of one on a TLB
+//! alone, N shootdowns between two threads, over rings or under one lock, N numbers that go there
+//! and back between two threads, or all of these (then a tenth of N between the threads), and
+//! prints what they came to, by counts. N is 10,000,000 where no number is given. The clock is the
+//! caller's.
 //!
-//! `bench map|unmap|protect [N]` makes N edits of a table memory, `bench flush1|..|shootdown1|..|ports1|.. [N]` makes N shootdowns by
-//! the ports of a board, with 1 to 3 other harts in threads of their own. These parts read the clock themselves, so `all` has none
-//! of them.
+//! `bench map|unmap|protect [N]` makes N edits of a table memory,
+//! `bench flush1|..|shootdown1|..|ports1|.. [N]` makes N shootdowns by the ports of a board, with 1
+//! to 3 other harts in threads of their own. These parts read the clock themselves, so `all` has
+//! none of them.
 #![tactic(auto)]
 
 mod boards;

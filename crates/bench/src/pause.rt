@@ -3,7 +3,8 @@
 use std::hint::spin_loop;
 use std::thread;
 
-/// How many tries there are before the processor is given away, for a machine with fewer processors than threads.
+/// How many tries there are before the processor is given away, for a machine with fewer processors
+/// than threads.
 const TRIES: u64 = 256;
 
 /// Waits a moment after a try that was in vain.

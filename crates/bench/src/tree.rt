@@ -1,14 +1,14 @@
 //! Translations in a memory of at most 512 table frames.
 //!
-//! In Sv39 stand 15 tables below the root, and below each of these 33 tables full of leaves, which map each page to itself:
-//! with the table of the kernel window these are 1 + 1 + 15 + 15 * 33 = 512 frames, and 15 * 33 * 512 = 253,440 pages. In
-//! Sv48 one table more stands between, and 14 below it: 1 + 1 + 1 + 14 + 14 * 33 = 479 frames, and 236,544 pages.
+//! In Sv39 stand 15 tables below the root, and below each of these 33 tables full of leaves, which
+//! map each page to itself: with the table of the kernel window these are 1 + 1 + 15 + 15 * 33 =
+//! 512 frames, and 15 * 33 * 512 = 253,440 pages. In Sv48 one table more stands between, and 14
+//! below it: 1 + 1 + 1 + 14 + 14 * 33 = 479 frames, and 236,544 pages.
 
 ghost use Rattle.std.specs.Prelude.{◌≢◌, ◌≤◌};
 
 use crate::Failure;
 use arrayvec::ArrayVec;
-use bitflags::Flags;
 use pte::{Access, Ctx, Kind, Mode, PAGE_BYTES, Page, PageSize, Pte, PteFlags, Scheme, VirtAddr};
 use spaces::{Config, Memory, OpenFault, Place, Space, apply, next_map_edit};
 use std::alloc::{AllocError, Global};
@@ -31,11 +31,9 @@ const LOWS: u64 = 33;
 /// How many leaves each of these has.
 const LEAVES: u64 = 512;
 
-/// How many addresses are picked. They are translated again and again, at other offsets of their pages.
+/// How many addresses are picked. They are translated again and again, at other offsets of their
+/// pages.
 const ADDRESSES: u64 = 1 << 16;
-
-/// R, W, X, U, A and D.
-const FLAGS: u8 = 0xDE;
 
 const CTX: Ctx = Ctx {
     mode: Mode::User,
@@ -44,6 +42,11 @@ const CTX: Ctx = Ctx {
 };
 
 pub const PLACE: Place = Place::Space(0);
+
+/// Of each page.
+fn flags() -> PteFlags {
+    PteFlags::R | PteFlags::W | PteFlags::X | PteFlags::U | PteFlags::A | PteFlags::D
+}
 
 /// One hart, the home of one space, with 510 spare frames.
 fn config(scheme: Scheme) -> Config {
@@ -79,13 +82,14 @@ pub fn address_of(scheme: Scheme, number: u64) -> u64 {
     address(table % middles, table / middles, number % LEAVES)
 }
 
-/// Makes the next store that maps a page to itself. `Some(true)` if that is the leaf, `Some(false)` if a table.
+/// Makes the next store that maps a page to itself. `Some(true)` if that is the leaf, `Some(false)`
+/// if a table.
 fn store_next(memory: &mut Memory, scheme: Scheme, va: u64) -> Option<bool> {
     if !memory.has(PLACE) {
         return None;
     }
     let page = Page::around(VirtAddr::new_in(scheme, va)?, PageSize::Kib4);
-    let flags = PteFlags::from_bits_retain(FLAGS);
+    let flags = flags();
     let edit = next_map_edit(memory, 0, PLACE, page, va >> 12, flags).ok()?;
     apply(memory, edit);
     Some(matches!(Pte(edit.word()).kind(), Kind::Leaf { .. }))

@@ -9,7 +9,8 @@ use std::thread;
 /// The turns for which a hart waits for the other.
 const MOST_TURNS: u32 = 1_000_000_000;
 
-/// Harts 0 and 1 meet before their first steps: each sets its own flag, and waits until the other's is set.
+/// Harts 0 and 1 meet before their first steps: each sets its own flag, and waits until the other's
+/// is set.
 #[derive(Drop)]
 struct Meeting {
     here: [AtomicBool; 2],

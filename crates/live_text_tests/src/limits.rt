@@ -42,7 +42,8 @@ fn push_texts(text: &mut String, count: usize) -> Result<(), AllocError> {
     text.push_str("]")
 }
 
-/// A file for two harts with so many steps in the setup and in the two scripts, none of which can be read.
+/// A file for two harts with so many steps in the setup and in the two scripts, none of which can
+/// be read.
 fn file_of(alloc: Global, setup: usize, first: usize, second: usize) -> Result<String, AllocError> {
     let mut text = String::new(alloc);
     text.push_str("harts = 2\nsetup = ")?;

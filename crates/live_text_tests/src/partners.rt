@@ -1,5 +1,5 @@
-//! Files with the last page of memory, with a mailbox that is closed in the middle of a shootdown, and with a hart that never
-//! serves, in both schemes.
+//! Files with the last page of memory, with a mailbox that is closed in the middle of a shootdown,
+//! and with a hart that never serves, in both schemes.
 use crate::commands::{end_of, prints};
 use harts::OpenGate;
 use std::alloc::{AllocError, Global};

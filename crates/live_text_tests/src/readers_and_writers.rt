@@ -69,7 +69,8 @@ pair 0 1 accepted 0 taken 0 waiting 0
 pair 1 0 accepted 0 taken 0 waiting 0
 ";
 
-/// A page of 512 GiB that is unmapped while hart 1 holds it; hart 1 serves once its script has ended.
+/// A page of 512 GiB that is unmapped while hart 1 holds it; hart 1 serves once its script has
+/// ended.
 const DEEP: &str = r#"harts = 2
 mode = "sv48"
 setup = ["0 map 0 512G:0x8000000000 0x10000000 rwuad", "1 translate u load 0x8080403abc"]
@@ -111,7 +112,8 @@ fn each_beginning_of_a_file(rt: HostRuntime) -> Result<(), Fail> {
     Ok(())
 }
 
-/// A reader may fail at any read, the one at the end of the file too. One that gives one byte a read changes nothing.
+/// A reader may fail at any read, the one at the end of the file too. One that gives one byte a
+/// read changes nothing.
 #[test]
 fn readers_that_fail(rt: HostRuntime) -> Result<(), Fail> {
     let unreadable = b"svsim: cannot read a file\n".as_slice();
@@ -136,7 +138,8 @@ fn readers_that_fail(rt: HostRuntime) -> Result<(), Fail> {
     Ok(())
 }
 
-/// What a writer took is a beginning of the lines, as long as its room. With room for all, one byte a write is enough.
+/// What a writer took is a beginning of the lines, as long as its room. With room for all, one byte
+/// a write is enough.
 #[test]
 fn writers_that_are_full(rt: HostRuntime) -> Result<(), Fail> {
     let alloc = rt.alloc();

@@ -2,8 +2,8 @@
 use crate::commands::prints;
 use std::test::Fail;
 
-/// Two harts unmap a page of their own space at once. Each waits for the other to serve, so no order in which one script goes
-/// before the other gives these lines.
+/// Two harts unmap a page of their own space at once. Each waits for the other to serve, so no
+/// order in which one script goes before the other gives these lines.
 pub const BOTH_UNMAP: &str = r#"harts = 2
 spaces = ["0 1", "1 2"]
 setup = [
@@ -121,7 +121,8 @@ const ALONE_LINES: &str = "0 1 table 0x80002
 0 17 refused NotOpen
 ";
 
-/// The mailboxes of three harts, by sender and then by receiver. Hart 0 has an empty script, and hart 2 none.
+/// The mailboxes of three harts, by sender and then by receiver. Hart 0 has an empty script, and
+/// hart 2 none.
 const THREE_HARTS: &str = "harts = 3\nscripts = [[], [\"close 0\"]]";
 
 const THREE_HARTS_LINES: &str = "1 1 ok

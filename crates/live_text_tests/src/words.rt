@@ -21,7 +21,8 @@ fn file_of<'a>(name: &str) -> Option<&'a [u8]> {
     }
 }
 
-/// Whether a line of words, of which the first is the program's name, ends so: the status, the output and standard error.
+/// Whether a line of words, of which the first is the program's name, ends so: the status, the
+/// output and standard error.
 fn ends<T: Threads + Wait + Sync>(
     rt: &T,
     alloc: Global,

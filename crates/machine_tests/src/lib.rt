@@ -1,5 +1,5 @@
-//! Tests of the machine and of what shares it behind a lock, by calls that anybody can make. The three modules whose names
-//! begin with `first` are shown whole in README.md and docs/LIBRARY.md.
+//! Tests of the machine and of what shares it behind a lock, by calls that anybody can make. The
+//! three modules whose names begin with `first` are shown whole in README.md and docs/LIBRARY.md.
 #![tactic(auto)]
 
 #[cfg(test)]

@@ -31,7 +31,8 @@ fn load_of(hart: u8, va: u64) -> Event {
     }
 }
 
-/// Whether each event, called by one thread in this order, is answered so, and the lock keeps all of them.
+/// Whether each event, called by one thread in this order, is answered so, and the lock keeps all
+/// of them.
 fn answers<C: Named, R: Wait>(
     rt: &R,
     alloc: Global,
@@ -121,7 +122,8 @@ fn mapped_used_unmapped(page: &Page) -> [(Event, Reply); 8] {
     ]
 }
 
-/// Hart 1 takes the request and serves it, and finds the page gone; hart 0 collects, acknowledges and finishes.
+/// Hart 1 takes the request and serves it, and finds the page gone; hart 0 collects, acknowledges
+/// and finishes.
 fn served_and_finished(page: &Page) -> [(Event, Reply); 11] {
     let request = Request {
         ticket: 0,
@@ -193,8 +195,8 @@ fn fence_of(hart: u8, rs1: Option<u64>, rs2: Option<u64>) -> Event {
     Event::Fence { hart, rs1, rs2 }
 }
 
-/// A hart walks to the page of 2 MiB, and finds it until a fence names its address or its address space. A fence of the page
-/// behind it, and one of another address space, leave it.
+/// A hart walks to the page of 2 MiB, and finds it until a fence names its address or its address
+/// space. A fence of the page behind it, and one of another address space, leave it.
 fn found_until_fenced(hart: u8) -> [(Event, Reply); 15] {
     [
         (load_of(hart, 0x5f_ffff), Reply::More),

@@ -1,5 +1,5 @@
-//! Shootdowns from their first event to their last, what fills a mailbox, spaces that are retired, given back and created anew,
-//! and the machines that are opened.
+//! Shootdowns from their first event to their last, what fills a mailbox, spaces that are retired,
+//! given back and created anew, and the machines that are opened.
 
 ghost use Rattle.std.specs.Prelude.{◌<◌};
 ghost use Rattle.shoot.specs.declared.TheConstants.{MAX_TICKETS};
@@ -7,7 +7,6 @@ ghost use Rattle.shoot.specs.declared.TheConstants.{MAX_TICKETS};
 use crate::first_machine::two_harts;
 use crate::first_steps::{Root, load_from, replies_to};
 use arrayvec::ArrayVec;
-use bitflags::Flags;
 use pte::{Access, Ctx, Mode, Page, PageSize, PteFlags, Scheme, VirtAddr, What};
 use std::alloc::Global;
 use std::process::Abort;
@@ -15,17 +14,13 @@ use std::test::*;
 use stepcore::{Config, Event, Machine, OpenFault, Place, Refusal, Reply, Request, Scope, Space};
 use walk::{Trap, Why};
 
-const R: u8 = 0x02;
+fn readable() -> PteFlags {
+    PteFlags::R | PteFlags::U | PteFlags::A | PteFlags::D
+}
 
-const W: u8 = 0x04;
-
-const U: u8 = 0x10;
-
-const G: u8 = 0x20;
-
-const A: u8 = 0x40;
-
-const D: u8 = 0x80;
+fn writable() -> PteFlags {
+    PteFlags::R | PteFlags::W | PteFlags::U | PteFlags::A | PteFlags::D
+}
 
 /// Harts 0 and 1.
 const BOTH: u8 = 0b11;
@@ -83,7 +78,7 @@ fn large(rt: &impl Abort) -> Page {
 }
 
 fn map_large(rt: &impl Abort) -> Event {
-    map(0, large(rt), 0x200, R | W | U | A | D)
+    map(0, large(rt), 0x200, writable())
 }
 
 fn unmap_large(rt: &impl Abort) -> Event {
@@ -106,16 +101,16 @@ fn large_of_space(rt: &impl Abort) -> What {
 
 /// Maps the page of 4 KiB at 0x1000.
 fn map_small(rt: &impl Abort, space: u8, ppn: u64) -> Event {
-    map(space, page(rt, 0x1000, PageSize::Kib4), ppn, R | U | A | D)
+    map(space, page(rt, 0x1000, PageSize::Kib4), ppn, readable())
 }
 
-fn map(space: u8, page: Page, ppn: u64, bits: u8) -> Event {
+fn map(space: u8, page: Page, ppn: u64, flags: PteFlags) -> Event {
     Event::Map {
         hart: 0,
         place: Place::Space(space),
         page,
         ppn,
-        flags: PteFlags::from_bits_retain(bits),
+        flags,
     }
 }
 
@@ -125,7 +120,7 @@ fn map_kernel(page: Page, ppn: u64) -> Event {
         place: Place::Kernel,
         page,
         ppn,
-        flags: PteFlags::from_bits_retain(R | G | A | D),
+        flags: PteFlags::R | PteFlags::G | PteFlags::A | PteFlags::D,
     }
 }
 
@@ -231,8 +226,8 @@ fn translated(rt: &impl Abort, machine: &Machine) -> usize {
     count
 }
 
-/// A page of 2 MiB is unmapped while hart 1 holds it. Once hart 1 has acknowledged, it translates no address of the page, and
-/// the number of the finished ticket is given out again.
+/// A page of 2 MiB is unmapped while hart 1 holds it. Once hart 1 has acknowledged, it translates
+/// no address of the page, and the number of the finished ticket is given out again.
 #[test]
 fn superpage_is_shot_down(rt: HostRuntime) {
     let mut machine = opened(&rt, rt.alloc(), &two_harts());
@@ -282,8 +277,8 @@ fn columns(alloc: Global, rows: &[(Event, Reply)]) -> Result<(Vec<Event>, Vec<Re
     Ok((events, replies))
 }
 
-/// A mailbox of capacity 2 takes a third request once the acknowledgement of the first is collected. What waits at its close
-/// is still taken, in the order of the posts.
+/// A mailbox of capacity 2 takes a third request once the acknowledgement of the first is
+/// collected. What waits at its close is still taken, in the order of the posts.
 #[test]
 fn mailbox_is_bounded_and_closed(rt: HostRuntime) -> Result<(), Fail> {
     let config = Config {
@@ -361,11 +356,11 @@ fn largest(rt: &impl Abort) -> Page {
 }
 
 fn map_largest(rt: &impl Abort) -> Event {
-    map(0, largest(rt), 0x1000_0000, R | W | U | A | D)
+    map(0, largest(rt), 0x1000_0000, writable())
 }
 
-/// With Sv48 a page of 4 KiB has three tables between the root and its leaf, one of 512 GiB is a leaf of the root, and the
-/// window's slots lead to tables of level 2.
+/// With Sv48 a page of 4 KiB has three tables between the root and its leaf, one of 512 GiB is a
+/// leaf of the root, and the window's slots lead to tables of level 2.
 #[test]
 fn pages_of_sv48(rt: HostRuntime) {
     let mut machine = opened(&rt, rt.alloc(), &two_harts_in_sv48());
@@ -401,10 +396,11 @@ fn pages_of_sv48(rt: HostRuntime) {
 /// Maps the last page of 4 KiB of the page of 512 GiB.
 fn map_last(rt: &impl Abort) -> Event {
     let last = page(rt, 0xFF_FFFF_F000, PageSize::Kib4);
-    map(0, last, 0x100, R | U | A | D)
+    map(0, last, 0x100, readable())
 }
 
-/// How many of the pages of 1 GiB in the page of 512 GiB at 0x80_0000_0000 hart 1 translates at their first address.
+/// How many of the pages of 1 GiB in the page of 512 GiB at 0x80_0000_0000 hart 1 translates at
+/// their first address.
 fn translated_of_largest(rt: &impl Abort, machine: &Machine) -> usize {
     let mut count = 0_usize;
     for k in 0..512_u64 {
@@ -415,8 +411,8 @@ fn translated_of_largest(rt: &impl Abort, machine: &Machine) -> usize {
     count
 }
 
-/// A page of 512 GiB is unmapped while hart 1 holds it, and a page of 4 KiB in it mapped anew, which hart 1 does not see until it
-/// has served the request.
+/// A page of 512 GiB is unmapped while hart 1 holds it, and a page of 4 KiB in it mapped anew,
+/// which hart 1 does not see until it has served the request.
 #[test]
 fn largest_page_is_shot_down(rt: HostRuntime) {
     let mut machine = opened(&rt, rt.alloc(), &two_harts_in_sv48());
@@ -459,12 +455,13 @@ fn protect_first(rt: &impl Abort) -> Event {
         hart: 0,
         place: Place::Space(0),
         page: page(rt, 0, PageSize::Gib512),
-        flags: PteFlags::from_bits_retain(R | U | A | D),
+        flags: readable(),
         named: BOTH,
     }
 }
 
-/// A page that does not fit Sv39, by its size or by its address, is in neither half of the address space.
+/// A page that does not fit Sv39, by its size or by its address, is in neither half of the address
+/// space.
 #[test]
 fn pages_that_do_not_fit_sv39(rt: HostRuntime) {
     let far = page(&rt, 0x40_0000_0000, PageSize::Kib4);
@@ -475,7 +472,7 @@ fn pages_that_do_not_fit_sv39(rt: HostRuntime) {
         unmap(largest(&rt)),
         protect_first(&rt),
         map_kernel(window, 0x1000_0000),
-        map(0, far, 0x100, R | U | A | D),
+        map(0, far, 0x100, readable()),
         unmap(far),
     ] {
         steps(&rt, &mut machine, &[(event, refused(Refusal::WrongHalf))]);
@@ -490,7 +487,7 @@ fn pages_that_fit_sv48(rt: HostRuntime) {
     let far = page(&rt, 0x40_0000_0000, PageSize::Kib4);
     let mut machine = opened(&rt, rt.alloc(), &two_harts_in_sv48());
     let rows = [
-        (map(0, far, 0x100, R | U | A | D), Reply::Table(0x8_0002)),
+        (map(0, far, 0x100, readable()), Reply::Table(0x8_0002)),
         (unmap(far), refused(Refusal::NotMapped)),
         (protect_first(&rt), refused(Refusal::WrongSize)),
         (begin(0, 0x8000_0000_0000), page_fault(Why::NotCanonical)),
@@ -522,7 +519,8 @@ fn ack_self(ticket: u32) -> Event {
     Event::AckSelf { hart: 0, ticket }
 }
 
-/// Hart 0 maps the page at 0x1000 of space 1, with the first two spare frames for its tables. Hart 1 goes there and holds it.
+/// Hart 0 maps the page at 0x1000 of space 1, with the first two spare frames for its tables. Hart
+/// 1 goes there and holds it.
 fn map_and_hold(rt: &impl Abort, machine: &mut Machine, ppn: u64) {
     let rows = [
         (map_small(rt, 1, ppn), Reply::Table(0x8_0003)),
@@ -549,8 +547,8 @@ fn answer_retirement(rt: &impl Abort, machine: &mut Machine) {
     steps(rt, machine, &rows);
 }
 
-/// A space is retired once no hart is in it, given back once each hart has answered, and created anew with its ASID and its
-/// frames. Hart 1 then reads the new page, and not the one that it held.
+/// A space is retired once no hart is in it, given back once each hart has answered, and created
+/// anew with its ASID and its frames. Hart 1 then reads the new page, and not the one that it held.
 #[test]
 fn space_is_retired_and_created_anew(rt: HostRuntime) {
     let mut machine = opened(&rt, rt.alloc(), &two_spaces());
@@ -597,7 +595,7 @@ fn events_of_space_1(rt: &impl Abort) -> [Event; 5] {
             hart: 0,
             place,
             page: small,
-            flags: PteFlags::from_bits_retain(R | U | A),
+            flags: PteFlags::R | PteFlags::U | PteFlags::A,
             named: BOTH,
         },
         flush(Scope::Space(1)),
@@ -612,8 +610,8 @@ fn each_refused(rt: &impl Abort, machine: &mut Machine, events: &[Event], refusa
     }
 }
 
-/// A retiring space is refused by each event that names it, and by a second retirement. A free space is not there, for each
-/// but Create.
+/// A retiring space is refused by each event that names it, and by a second retirement. A free
+/// space is not there, for each but Create.
 #[test]
 fn retiring_and_free_spaces_are_refused(rt: HostRuntime) {
     let mut machine = opened(&rt, rt.alloc(), &two_spaces());
@@ -634,7 +632,8 @@ fn retiring_and_free_spaces_are_refused(rt: HostRuntime) {
     each_refused(&rt, &mut machine, &events, Refusal::NoSpace);
 }
 
-/// Only the home of a space that is there retires it, gives it back and creates it; and a retirement needs a ticket.
+/// Only the home of a space that is there retires it, gives it back and creates it; and a
+/// retirement needs a ticket.
 #[test]
 fn homes_alone_retire(rt: HostRuntime) {
     let mut machine = opened(&rt, rt.alloc(), &two_spaces());
@@ -664,8 +663,9 @@ fn homes_alone_retire(rt: HostRuntime) {
     );
 }
 
-/// A ticket that is given out again after a retirement was finished is not the retirement's: the space may still be given back.
-/// And the ASID of a space is free for another one once the space is.
+/// A ticket that is given out again after a retirement was finished is not the retirement's: the
+/// space may still be given back. And the ASID of a space is free for another one once the space
+/// is.
 #[test]
 fn finished_retirement_keeps_no_ticket(rt: HostRuntime) {
     let mut machine = opened(&rt, rt.alloc(), &two_spaces());
@@ -722,7 +722,8 @@ fn machines_are_opened(rt: HostRuntime) {
     }
 }
 
-/// A root table with a page of 1 GiB at 0x8000_0000, as README.md translates over it; and a machine that it runs.
+/// A root table with a page of 1 GiB at 0x8000_0000, as README.md translates over it; and a machine
+/// that it runs.
 #[test]
 fn first_steps_are_answered(rt: HostRuntime) -> Result<(), Fail> {
     let mut words = Vec::new(rt.alloc());

@@ -1,11 +1,13 @@
-//! Files of `svsim run` with a hart whose mailbox is closed in the middle of a shootdown, or that never serves, in both schemes.
+//! Files of `svsim run` with a hart whose mailbox is closed in the middle of a shootdown, or that
+//! never serves, in both schemes.
 use crate::run_files::Script;
 use std::alloc::AllocError;
 use std::test::Fail;
 
 const MODES: [&str; 2] = ["sv39", "sv48"];
 
-/// Hart 0 closes the mailbox to hart 1, which has taken a request: that one is acknowledged, and no other comes after it.
+/// Hart 0 closes the mailbox to hart 1, which has taken a request: that one is acknowledged, and no
+/// other comes after it.
 const CLOSED_IN_SHOOTDOWN: &str = r"
 0 flush all 0,1 -> opened 0
 0 flush all 0,1 -> opened 1

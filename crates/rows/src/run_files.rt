@@ -89,8 +89,8 @@ const SUPERPAGE: &str = r"
 0 finish 0 -> ok
 ";
 
-/// Each of the 512 small pages of the page that `SUPERPAGE` unmaps: hart 1 finds it until it takes the request, and walks
-/// to a word that is 0 once it has acknowledged.
+/// Each of the 512 small pages of the page that `SUPERPAGE` unmaps: hart 1 finds it until it takes
+/// the request, and walks to a word that is 0 once it has acknowledged.
 #[test]
 fn small_pages_of_a_superpage(rt: HostRuntime) -> Result<(), Fail> {
     let alloc = rt.alloc();

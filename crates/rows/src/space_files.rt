@@ -2,7 +2,8 @@
 use crate::run_files::{Row, Script, answers, ends};
 use std::test::Fail;
 
-/// A space is retired while another hart holds a page of it, and is created anew with its ASID and its table frames.
+/// A space is retired while another hart holds a page of it, and is created anew with its ASID and
+/// its table frames.
 const RETIRED_AND_CREATED_ANEW: &str = r"
 0 map 1 4K:0x1000 0x100 ruad -> table 0x80003
 0 map 1 4K:0x1000 0x100 ruad -> table 0x80004
@@ -40,9 +41,9 @@ const RETIRED_AND_CREATED_ANEW: &str = r"
 1 load -> fill 0x101004
 ";
 
-/// Hart 1 is the home of space 2, hart 0 of the others, and both begin in space 0. What a space is tells which steps are
-/// refused: NoSpace comes before Retiring, and that before NotHome where a page is named, but not where the step is of the
-/// space itself.
+/// Hart 1 is the home of space 2, hart 0 of the others, and both begin in space 0. What a space is
+/// tells which steps are refused: NoSpace comes before Retiring, and that before NotHome where a
+/// page is named, but not where the step is of the space itself.
 const REFUSED_BY_STATUS: &str = r"
 0 retire 3 -> refused NoSpace
 0 reclaim 255 -> refused NoSpace
@@ -95,8 +96,9 @@ const REFUSED_BY_STATUS: &str = r"
 1 reclaim 2 -> refused NotAcked
 ";
 
-/// Space 1 has two of the three spare frames, and gives them back: space 0 gets the lowest first, and their old words are
-/// gone, or the walk to slot 0 of the last table would end in TooDeep. The ticket is finished only then.
+/// Space 1 has two of the three spare frames, and gives them back: space 0 gets the lowest first,
+/// and their old words are gone, or the walk to slot 0 of the last table would end in TooDeep. The
+/// ticket is finished only then.
 const FRAMES_USED_AGAIN: &str = r"
 0 map 1 4K:0x1000 0x100 ruad -> table 0x80003
 0 map 1 4K:0x1000 0x100 ruad -> table 0x80004
@@ -127,8 +129,8 @@ const FRAMES_USED_AGAIN: &str = r"
 0 load -> trap 13 Invalid
 ";
 
-/// A hart that holds a page under an ASID of 16 bits has it until it acknowledges; a global page stays. Another space may
-/// have the ASID once the first is given back, and the space another one.
+/// A hart that holds a page under an ASID of 16 bits has it until it acknowledges; a global page
+/// stays. Another space may have the ASID once the first is given back, and the space another one.
 const ASIDS_CHANGE_OWNERS: &str = r"
 0 map k 4K:0xffffffffc0000000 0x300 rwgad -> table 0x80004
 0 map k 4K:0xffffffffc0000000 0x300 rwgad -> leaf

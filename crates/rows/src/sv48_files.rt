@@ -4,7 +4,8 @@ use crate::walk_files;
 use std::alloc::Global;
 use std::test::Fail;
 
-/// The words of four tables on the path of 0x8080403abc, whose indices are 1, 2, 2 and 3: PPN, index and word.
+/// The words of four tables on the path of 0x8080403abc, whose indices are 1, 2, 2 and 3: PPN,
+/// index and word.
 const ROOT: &str = "0x80000 1 0x20000401";
 
 const TABLES: &str = "'0x80001 2 0x20000801', '0x80002 2 0x20000C01', '0x80003 3 0x48D14D7'";
@@ -94,8 +95,8 @@ fn tables_that_sv48_refuses(rt: HostRuntime) -> Result<(), Fail> {
     Ok(())
 }
 
-/// The root's word and the leaf that a walk of Sv48 meets, the steps, and the output: words that are all ones, all ones but V,
-/// the last table that there may be, and the last page.
+/// The root's word and the leaf that a walk of Sv48 meets, the steps, and the output: words that
+/// are all ones, all ones but V, the last table that there may be, and the last page.
 const ENDINGS: [(&str, &str, &str, &str); 7] = [
     (
         "0x80000 1 0xFFFFFFFFFFFFFFFF",
@@ -231,7 +232,8 @@ fn walks_in_sv39(rt: HostRuntime) -> Result<(), Fail> {
     Ok(())
 }
 
-/// A path of four tables; a page of 512 GiB that is one leaf of the root; a kernel page of 1 GiB below the window's table.
+/// A path of four tables; a page of 512 GiB that is one leaf of the root; a kernel page of 1 GiB
+/// below the window's table.
 const PAGES: &str = r"
 0 map 0 4K:0x1000 0x100 ruad -> table 0x80002
 0 map 0 4K:0x1000 0x100 ruad -> table 0x80003
@@ -312,7 +314,8 @@ const FENCES: &str = r"
 0 begin u load 0x4000000004 -> more
 ";
 
-/// The window's slots are the last of the root, of 512 GiB each; the slots between it and the user half stay 0.
+/// The window's slots are the last of the root, of 512 GiB each; the slots between it and the user
+/// half stay 0.
 const HALVES: &str = r"
 0 map k 1G:0xffffff0000000000 0x40000 rgad -> leaf
 0 map k 4K:0xfffffeffffffe000 0x100 rgad -> refused WrongHalf

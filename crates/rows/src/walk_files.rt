@@ -3,7 +3,8 @@ use scenario::{Which, command};
 use std::alloc::Global;
 use std::test::Fail;
 
-/// The words of three tables on the path of 0x80403abc, whose indices are 2, 2 and 3: PPN, index and word.
+/// The words of three tables on the path of 0x80403abc, whose indices are 2, 2 and 3: PPN, index
+/// and word.
 const ROOT: &str = "0x80000 2 0x20000401";
 
 const MIDDLE: &str = "0x80001 2 0x20000801";

@@ -1,4 +1,5 @@
-//! `svsim translate run.toml`, of which there is no such command: the program of svsim, on other words.
+//! `svsim translate run.toml`, of which there is no such command: the program of svsim, on other
+//! words.
 #![tactic(auto)]
 
 use std::process::ExitCode;

@@ -1,4 +1,5 @@
-//! What no clause says: each public call with ample memory, a standard error that fails, and the longest file.
+//! What no clause says: each public call with ample memory, a standard error that fails, and the
+//! longest file.
 use crate::readers_and_writers::{AtEnd, Narrow};
 use scenario::{Fault, StepFault, Which, command, run_text, walk_text};
 use std::alloc::Global;

@@ -1,4 +1,5 @@
-//! Inspections whose reader, output or standard error fails, the longest file, and the words that ask for them.
+//! Inspections whose reader, output or standard error fails, the longest file, and the words that
+//! ask for them.
 use crate::inspections::{ALL, LIVE, SHOOTDOWN, SHOOTDOWN_STALE, inspected};
 use crate::readers_and_writers::{AtEnd, Narrow, Pieces};
 use harts::OpenGate;
@@ -47,7 +48,8 @@ fn longest_file(rt: HostRuntime) -> Result<(), Fail> {
     Ok(())
 }
 
-/// What a writer took is a beginning of the output, as long as its room: none of it, one byte, half, and all but one.
+/// What a writer took is a beginning of the output, as long as its room: none of it, one byte,
+/// half, and all but one.
 #[test]
 fn writers_that_are_full(rt: HostRuntime) -> Result<(), Fail> {
     let alloc = rt.alloc();
@@ -158,37 +160,43 @@ fn words_of(alloc: Global, line: &str) -> Result<Vec<String>, Fail> {
     Ok(words)
 }
 
+const OK: &str = "file for run\nok\n";
+
+const FAULTY: &str = "file for run\nline 1: key `harts`: 9 is not from 1 to 8\n1 fault\n";
+
+const REFUSED: &str = "svsim: layout refused\n";
+
+/// Words, the status, the output and standard error.
+const WORDS: [(&str, u8, &str, &str); 23] = [
+    ("svsim stale run.toml", 1, SHOOTDOWN_STALE, ""),
+    ("svsim -- stale run.toml", 1, SHOOTDOWN_STALE, ""),
+    ("svsim stale -- -x", 1, SHOOTDOWN_STALE, ""),
+    ("svsim stale run.toml --", 1, SHOOTDOWN_STALE, ""),
+    ("svsim check run.toml", 0, OK, ""),
+    ("svsim check live.toml", 0, "file for live\nok\n", ""),
+    ("svsim check -- -x", 0, OK, ""),
+    ("svsim check faulty.toml", 3, FAULTY, REFUSED),
+    ("svsim stale faulty.toml", 3, "", REFUSED),
+    ("svsim show faulty.toml", 3, "", REFUSED),
+    ("svsim draw faulty.toml", 3, "", REFUSED),
+    ("svsim stale none", 2, "", "svsim: cannot read none\n"),
+    ("svsim show none", 2, "", "svsim: cannot read none\n"),
+    ("svsim draw none", 2, "", "svsim: cannot read none\n"),
+    ("svsim check none", 2, "", "svsim: cannot read none\n"),
+    ("svsim stale -x", 2, "", USAGE),
+    ("svsim stale", 2, "", USAGE),
+    ("svsim show", 2, "", USAGE),
+    ("svsim draw", 2, "", USAGE),
+    ("svsim check", 2, "", USAGE),
+    ("svsim Check run.toml", 2, "", USAGE),
+    ("svsim checks run.toml", 2, "", USAGE),
+    ("svsim draw run.toml out.svg", 2, "", USAGE),
+];
+
 #[test]
 fn words_of_inspections(rt: HostRuntime) -> Result<(), Fail> {
     let alloc = rt.alloc();
-    let faulty = "file for run\nline 1: key `harts`: 9 is not from 1 to 8\n1 fault\n";
-    let refused = "svsim: layout refused\n";
-    let ok = "file for run\nok\n";
-    for (line, status, lines, told) in [
-        ("svsim stale run.toml", 1, SHOOTDOWN_STALE, ""),
-        ("svsim -- stale run.toml", 1, SHOOTDOWN_STALE, ""),
-        ("svsim stale -- -x", 1, SHOOTDOWN_STALE, ""),
-        ("svsim stale run.toml --", 1, SHOOTDOWN_STALE, ""),
-        ("svsim check run.toml", 0, ok, ""),
-        ("svsim check live.toml", 0, "file for live\nok\n", ""),
-        ("svsim check -- -x", 0, ok, ""),
-        ("svsim check faulty.toml", 3, faulty, refused),
-        ("svsim stale faulty.toml", 3, "", refused),
-        ("svsim show faulty.toml", 3, "", refused),
-        ("svsim draw faulty.toml", 3, "", refused),
-        ("svsim stale none", 2, "", "svsim: cannot read none\n"),
-        ("svsim show none", 2, "", "svsim: cannot read none\n"),
-        ("svsim draw none", 2, "", "svsim: cannot read none\n"),
-        ("svsim check none", 2, "", "svsim: cannot read none\n"),
-        ("svsim stale -x", 2, "", USAGE),
-        ("svsim stale", 2, "", USAGE),
-        ("svsim show", 2, "", USAGE),
-        ("svsim draw", 2, "", USAGE),
-        ("svsim check", 2, "", USAGE),
-        ("svsim Check run.toml", 2, "", USAGE),
-        ("svsim checks run.toml", 2, "", USAGE),
-        ("svsim draw run.toml out.svg", 2, "", USAGE),
-    ] {
+    for (line, status, lines, told) in WORDS {
         let mut out: Vec<u8> = Vec::new(alloc);
         let mut err: Vec<u8> = Vec::new(alloc);
         let words = Ok(words_of(alloc, line)?);

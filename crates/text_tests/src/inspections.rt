@@ -1,12 +1,13 @@
-//! The commands that tell of a file what its replies don't: status, output and standard error, worked out by hand.
+//! The commands that tell of a file what its replies don't: status, output and standard error,
+//! worked out by hand.
 use crate::commands::{Ended, FILE};
 use scenario::{Inspection, inspect_command};
 use std::alloc::Global;
 use std::io::Read;
 use std::test::Fail;
 
-/// The steps of examples/shootdown.toml: hart 1 uses a page of 2 MiB in step 7, after its leaf was stored over in step 6, and
-/// before it acknowledges the order for it in step 12.
+/// The steps of examples/shootdown.toml: hart 1 uses a page of 2 MiB in step 7, after its leaf was
+/// stored over in step 6, and before it acknowledges the order for it in step 12.
 pub const SHOOTDOWN: &str = r#"harts = 2
 
 steps = [
@@ -37,7 +38,8 @@ steps = [
 ]
 "#;
 
-/// The entry's first PPN is 0x200. The address 0x5fffff is in page 0x1ff of the 512 of the entry: PPN 0x3ff.
+/// The entry's first PPN is 0x200. The address 0x5fffff is in page 0x1ff of the 512 of the entry:
+/// PPN 0x3ff.
 pub const SHOOTDOWN_STALE: &str = "6 stale 1 page 2M:0x400000 asid 1 ppn 0x200 order 0 0
 7 used 1 page 4K:0x5ff000 asid 1 ppn 0x3ff
 stale 1 used 1
@@ -80,7 +82,8 @@ pub fn inspected<R: Read>(alloc: Global, inspection: Inspection, input: &mut R) 
     Ended { status, out, err }
 }
 
-/// Whether an inspection ends so: the status, the output, and the reason on standard error, if there is one.
+/// Whether an inspection ends so: the status, the output, and the reason on standard error, if
+/// there is one.
 fn ends_with(
     alloc: Global,
     inspection: Inspection,
@@ -103,7 +106,8 @@ fn ends_with(
     )
 }
 
-/// Whether an inspection is done with this status, nothing on standard error, and an output of this beginning and end.
+/// Whether an inspection is done with this status, nothing on standard error, and an output of this
+/// beginning and end.
 fn is_framed(alloc: Global, inspection: Inspection, text: &str, first: &str, last: &str) -> bool {
     let ended = inspected(alloc, inspection, &mut text.as_bytes());
     let out = ended.out.as_slice();
@@ -130,7 +134,8 @@ fn stale_mappings_and_their_uses(rt: HostRuntime) -> Result<(), Fail> {
     Ok(())
 }
 
-/// Files of `run` that are faulty, with the reason that `run` gives, the status, and what `check` explains.
+/// Files of `run` that are faulty, with the reason that `run` gives, the status, and what `check`
+/// explains.
 const FAULTY: [(&str, u8, &str, &str); 5] = [
     (
         "harts = 9",

@@ -1,4 +1,5 @@
-//! Tests of what is read and written: steps, lines, the numbers of refusals, and the commands of `svsim`.
+//! Tests of what is read and written: steps, lines, the numbers of refusals, and the commands of
+//! `svsim`.
 #![tactic(auto)]
 
 #[cfg(test)]

@@ -1,4 +1,5 @@
-//! The text of each answer and of each reply, with ample memory. The lines are those of the tables in docs/FORMAT.md.
+//! The text of each answer and of each reply, with ample memory. The lines are those of the tables
+//! in docs/FORMAT.md.
 ghost use Rattle.std.specs.Prelude.{◌<◌};
 
 use history::{Refusal, Reply};

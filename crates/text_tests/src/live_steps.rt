@@ -1,5 +1,4 @@
 //! Lines of scripts and of the setup of `live`, and what they write.
-use bitflags::Flags;
 use history::{LiveStep, Scope};
 use pte::{Access, Ctx, Mode, Page, PageSize, PteFlags, Scheme, VirtAddr};
 use spaces::Place;
@@ -96,7 +95,7 @@ fn lines_of_fences(rt: HostRuntime) {
 fn lines_of_edits(rt: HostRuntime) -> Result<(), Fail> {
     let page = page(Scheme::Sv39, 0xffff_ffff_c020_0000, PageSize::Mib2)?;
     let (place, ppn, named) = (Place::Kernel, 0x200, 0x0a);
-    let flags = PteFlags::from_bits_retain(0xe6);
+    let flags = PteFlags::R | PteFlags::W | PteFlags::G | PteFlags::A | PteFlags::D;
     let map = LiveStep::Map {
         place,
         page,
@@ -160,58 +159,62 @@ fn assert_setup_faults(rt: &impl Abort, harts: u8, fault: StepFault, texts: &[&s
     }
 }
 
+/// No steps of a script.
+const NO_SCRIPT_STEPS: [&str; 29] = [
+    "",
+    "0",
+    "0 wait 1",
+    "wait",
+    "wait 1 2",
+    "Wait 1",
+    "wait 4294967296",
+    "wait -1",
+    "serve",
+    "serve 0 1",
+    "serve k",
+    "collect",
+    "collect 1 0",
+    "translate u load",
+    "translate u load 0 0",
+    "translate m load 0",
+    "begin u load 0",
+    "load",
+    "take 0",
+    "servefence",
+    "ack",
+    "retire 0",
+    "reclaim 0",
+    "create 0 1",
+    "map 0 4K:0 0",
+    "unmap 0 4k:0 0",
+    "flush 256 0",
+    "flush 0 9,",
+    "flush 0 18446744073709551616",
+];
+
+/// No steps of a setup.
+const NO_SETUP_STEPS: [&str; 13] = [
+    "",
+    "0",
+    "wait 1",
+    "wait 0 1",
+    "0 0 wait 1",
+    "k wait 1",
+    "0 wait",
+    "0 take 1",
+    "9 load",
+    "9 begin u load 0",
+    "9 collect 1 0",
+    "9 retire 0",
+    "9 flush all 9,x",
+];
+
 #[test]
 fn lines_of_no_form(rt: HostRuntime) {
-    let texts = [
-        "",
-        "0",
-        "0 wait 1",
-        "wait",
-        "wait 1 2",
-        "Wait 1",
-        "wait 4294967296",
-        "wait -1",
-        "serve",
-        "serve 0 1",
-        "serve k",
-        "collect",
-        "collect 1 0",
-        "translate u load",
-        "translate u load 0 0",
-        "translate m load 0",
-        "begin u load 0",
-        "load",
-        "take 0",
-        "servefence",
-        "ack",
-        "retire 0",
-        "reclaim 0",
-        "create 0 1",
-        "map 0 4K:0 0",
-        "unmap 0 4k:0 0",
-        "flush 256 0",
-        "flush 0 9,",
-        "flush 0 18446744073709551616",
-    ];
-    assert_script_faults(&rt, 8, StepFault::NotStep, &texts);
-    assert_script_faults(&rt, 0, StepFault::NotStep, &texts);
-    let texts = [
-        "",
-        "0",
-        "wait 1",
-        "wait 0 1",
-        "0 0 wait 1",
-        "k wait 1",
-        "0 wait",
-        "0 take 1",
-        "9 load",
-        "9 begin u load 0",
-        "9 collect 1 0",
-        "9 retire 0",
-        "9 flush all 9,x",
-    ];
-    assert_setup_faults(&rt, 8, StepFault::NotStep, &texts);
-    assert_setup_faults(&rt, 0, StepFault::NotStep, &texts);
+    for harts in [8, 0] {
+        assert_script_faults(&rt, harts, StepFault::NotStep, &NO_SCRIPT_STEPS);
+        assert_setup_faults(&rt, harts, StepFault::NotStep, &NO_SETUP_STEPS);
+    }
 }
 
 #[test]

@@ -1,5 +1,5 @@
-//! The whole program over files in memory: what it is asked, and the line and the status where it is asked for nothing or the
-//! file is not there.
+//! The whole program over files in memory: what it is asked, and the line and the status where it
+//! is asked for nothing or the file is not there.
 use crate::commands::{FILE, LINES};
 use harts::OpenGate;
 use scenario::{NoWords, answer_words};

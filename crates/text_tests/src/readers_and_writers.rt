@@ -1,4 +1,5 @@
-//! Readers and writers that fail, and files that end early: a walk and a run of each scheme, and a run whose spaces come and go.
+//! Readers and writers that fail, and files that end early: a walk and a run of each scheme, and a
+//! run whose spaces come and go.
 use crate::commands::{FILE, LINES, end_of};
 use crate::run_commands::{SUPERPAGE, SUPERPAGE_LINES};
 use scenario::{Which, command};
@@ -143,7 +144,8 @@ fn each_beginning_of_a_file(rt: HostRuntime) -> Result<(), Fail> {
     Ok(())
 }
 
-/// A reader may fail at any read, the one at the end of the file too. One that gives one byte a read changes nothing.
+/// A reader may fail at any read, the one at the end of the file too. One that gives one byte a
+/// read changes nothing.
 #[test]
 fn readers_that_fail(rt: HostRuntime) -> Result<(), Fail> {
     let unreadable = b"svsim: cannot read a file\n".as_slice();
@@ -166,7 +168,8 @@ fn readers_that_fail(rt: HostRuntime) -> Result<(), Fail> {
     Ok(())
 }
 
-/// What a writer took is a beginning of the lines, as long as its room. With room for all, one byte a write is enough.
+/// What a writer took is a beginning of the lines, as long as its room. With room for all, one byte
+/// a write is enough.
 #[test]
 fn writers_that_are_full(rt: HostRuntime) -> Result<(), Fail> {
     let alloc = rt.alloc();

@@ -70,7 +70,8 @@ fn answered_runs(rt: HostRuntime) -> Result<(), Fail> {
     Ok(())
 }
 
-/// Which frames the tables come from: the window's, the roots, the spare frames of hart 0 and those of hart 1.
+/// Which frames the tables come from: the window's, the roots, the spare frames of hart 0 and those
+/// of hart 1.
 const TABLE_FRAMES: [(&str, &str); 4] = [
     // the window's table and the root, and eight spare frames for hart 0
     (
@@ -222,7 +223,8 @@ fn refused_runs(rt: HostRuntime) -> Result<(), Fail> {
     Ok(())
 }
 
-/// Layouts at their limits: 512 frames, ten frames of which the last is the last below 2^44, and eight harts.
+/// Layouts at their limits: 512 frames, ten frames of which the last is the last below 2^44, and
+/// eight harts.
 #[test]
 fn layouts_at_their_limits(rt: HostRuntime) -> Result<(), Fail> {
     for text in [

@@ -167,8 +167,10 @@ fn steps_of_edits(rt: HostRuntime) -> Result<(), Fail> {
         place,
         page,
         ppn,
-        flags: PteFlags::from_bits_retain(flags),
+        flags,
     };
+    let readable = PteFlags::R | PteFlags::U | PteFlags::A | PteFlags::D;
+    let global = PteFlags::G | PteFlags::W | PteFlags::X;
     let user = page(0x1000, PageSize::Kib4)?;
     let kernel = page(0xffff_ffff_c000_0000, PageSize::Gib1)?;
     let unmap = Event::Unmap {
@@ -182,11 +184,11 @@ fn steps_of_edits(rt: HostRuntime) -> Result<(), Fail> {
         &[
             (
                 "0 map 0 4K:0x1000 0x100 ruad",
-                map(0, Place::Space(0), user, 0x100, 0xd2),
+                map(0, Place::Space(0), user, 0x100, readable),
             ),
             (
                 "2 map k 1G:18446744072635809792 0 gwx",
-                map(2, Place::Kernel, kernel, 0, 0x2c),
+                map(2, Place::Kernel, kernel, 0, global),
             ),
             ("0 unmap 255 2M:0x400000 0,1,7,1", unmap),
         ],
@@ -384,7 +386,7 @@ fn pages_of_512_gib(rt: HostRuntime) -> Result<(), Fail> {
         place: Place::Space(0),
         page: page(0x80_0000_0000, PageSize::Gib512)?,
         ppn: 0x1000_0000,
-        flags: PteFlags::from_bits_retain(0xd2),
+        flags: PteFlags::R | PteFlags::U | PteFlags::A | PteFlags::D,
     };
     let unmap = Event::Unmap {
         hart: 1,
@@ -396,7 +398,7 @@ fn pages_of_512_gib(rt: HostRuntime) -> Result<(), Fail> {
         hart: 0,
         place: Place::Kernel,
         page: page(0xffff_ff80_0000_0000, PageSize::Gib512)?,
-        flags: PteFlags::from_bits_retain(0xd2),
+        flags: PteFlags::R | PteFlags::U | PteFlags::A | PteFlags::D,
         named: 0,
     };
     assert_step_of_sv48(&rt, "0 map 0 512G:0x8000000000 0x10000000 ruad", &map);
