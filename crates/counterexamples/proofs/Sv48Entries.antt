@@ -1,18 +1,14 @@
 -- What Clear and Coherent forbid hart 1 to hold of the pages of the worked runs with Sv48.
-use Rattle.std.proofs.Common.{◌≡◌, ℕ, ◌+◌, ◌*◌, ◌<◌, ◌⊎◌, ◌||◌, ◌==◌, false, List, [], ◌∷◌, Some, IsTrue, refl, sym, subst, arith, inl, inr}
-use Rattle.std.proofs.lemmas.Bool.{and_parts, and_from}
-use Rattle.pte.specs.declared.address.PageSize.TheVariants.{Kib4, Gib512}
+use Rattle.std.proofs.Common.{◌≡◌, ℕ, ◌+◌, ◌⊎◌, ◌||◌, ◌==◌, false, [], ◌∷◌, Some, IsTrue, refl, arith, inl, inr}
+use Rattle.std.proofs.lemmas.Bool.{and_parts}
 use Rattle.pte.specs.declared.permission.Access.TheVariants as access
 use Rattle.pte.specs.declared.scheme.Scheme.TheVariants.{Sv48}
-use Rattle.pte.specs.Address.{IsPage, Holds, bytes_of, pages_of}
+use Rattle.pte.specs.Address.{IsPage, Holds}
 use Rattle.pte.specs.Entry.{kind_of}
 use Rattle.spaces.specs.Edits.{wish_fault, path_end, edit_of}
 use Rattle.tlb.specs.declared.store.Entry.{Entry}
 use Rattle.tlb.specs.Entries.{holds, is_match}
-use Rattle.tlb.specs.Mappings.{IsMappedBy, Translates}
 use Rattle.tlb.proofs.Overlapping.{holds-Holds}
-use Rattle.tlb.proofs.Translating.{match_translates, translated_match}
-use Rattle.history.specs.Harts.{entries_of}
 use Rattle.history.specs.Orders.{Unmapped}
 use Rattle.history.specs.Staleness.{HasAnswered, IsMapped, Clear}
 use Rattle.history.specs.Tables.{words_of}

@@ -5,7 +5,8 @@
 ghost use Rattle.std.specs.Prelude.{ℕ, [], ◌∷◌, ◌≡◌};
 ghost use Rattle.tlb.specs.Mappings.{IsMappedBy, Translates};
 ghost use Rattle.history.specs.Harts.{entries_of};
-ghost use Rattle.history.specs.Mailboxes.{KeepsOrder, Mailboxes, NoneAfterClose};
+ghost use Rattle.history.specs.Mailboxes.{KeepsOrder, Mailboxes};
+ghost use Rattle.history.specs.Occurrences.{NoneAfterClose};
 ghost use Rattle.history.specs.Staleness.{Clear, HoldsUsedAsids, WalksUsedFrames};
 ghost use Rattle.worked_runs.specs.WorkedRuns.{history_of, large_page, small_page, three_harts, two_harts};
 ghost use Rattle.worked_runs.specs.WorkedEntries.{entry, global_entry, global_read_only_entry, read_only_entry};
@@ -217,7 +218,7 @@ pub fn mailboxes_give_out_what_was_accepted()
 /// later. A Close of the other direction is no Close of the pair.
 #[tactic(auto, using(crate::proofs::MailboxFacts::after_close, crate::proofs::MailboxFacts::after_close_and_taken, crate::proofs::MailboxFacts::other_closed))]
 pub fn closed_mailbox_accepts_nothing()
-    ensures after { ¬ NoneAfterClose two_harts (history_of unlawful.posted_after_close) 0 1 }
-    ensures taken_later { ¬ NoneAfterClose two_harts (history_of unlawful.posted_after_close_and_taken) 0 1 }
-    ensures other_direction { NoneAfterClose two_harts (history_of unlawful.posted_after_close_of_the_other) 0 1 }
+    ensures after { ¬ NoneAfterClose (history_of unlawful.posted_after_close) 0 1 }
+    ensures taken_later { ¬ NoneAfterClose (history_of unlawful.posted_after_close_and_taken) 0 1 }
+    ensures other_direction { NoneAfterClose (history_of unlawful.posted_after_close_of_the_other) 0 1 }
 {}

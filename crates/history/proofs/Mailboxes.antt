@@ -11,7 +11,7 @@ use Rattle.history.specs.declared.reply.Reply.{Reply}
 use Rattle.history.specs.declared.reply.Reply.TheVariants.{Ok, Taken}
 use Rattle.history.specs.Turns.{Turn, History, is_ok, taken_request, are_same}
 use Rattle.history.specs.Orders.{open_order}
-use Rattle.history.specs.Mailboxes.{Sent, sent_of, posts, posts_after, accepted, taken, taken_after, waiting, is_closed, NoneAfterClose, Mailboxes}
+use Rattle.history.specs.Mailboxes.{Sent, sent_of, posts, posts_after, accepted, taken, taken_after, waiting, is_closed, Mailboxes}
 use Rattle.history.specs.Due.{next_reply, due, Lawful}
 use Rattle.history.specs.Occurrences.{Sometime, IsPostAfterClose}
 use Rattle.history.proofs.Splits.{not_sometime-empty, sometime_cases}
@@ -111,9 +111,8 @@ module _ (C : Setup) where
       (λ _. refl)
   none_at s h _ r H e c = refl
 
-  pub none_after_close : (H : History) (s h : ℕ) → Lawful C H → NoneAfterClose C H s h
-  none_after_close [] s h l = tt
-  none_after_close (turn ∷ H) s h l = (none_at s h turn.event turn.reply H l.1, none_after_close H s h l.0)
+  pub none_added : (turn : Turn) (H : History) (s h : ℕ) → Lawful C (turn ∷ H) → is_closed H s h ≡ true → accepted C (turn ∷ H) s h ≡ accepted C H s h
+  none_added turn H s h l closed = none_at s h turn.event turn.reply H l.1 closed
 
 -- no accepted Post of a lawful history follows an accepted Close of its pair
 not_after_close : (C : Setup) (s h : ℕ) (turn : Turn) (H : History) → turn.reply ≡ due C H turn.event → IsPostAfterClose s h turn H → ⊥

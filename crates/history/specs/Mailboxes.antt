@@ -1,6 +1,6 @@
 -- Mailboxes: one for each ordered pair of different harts. What was accepted into it and taken out of it, and the
--- statements that its order is kept and that nothing is accepted after its close.
-use Rattle.std.specs.Prelude.{ℕ, Bool, true, false, ◌≡◌, ◌&&◌, ◌||◌, List, [], ◌∷◌, ◌++◌, length, drop, map, Option, Some, None, if◌then◌else◌}
+-- statement that its order is kept.
+use Rattle.std.specs.Prelude.{ℕ, Bool, false, ◌≡◌, ◌&&◌, ◌||◌, List, [], ◌∷◌, ◌++◌, length, drop, map, Option, Some, None, if◌then◌else◌}
 use Rattle.history.specs.Setup.{Setup}
 use Rattle.shoot.specs.Request.{Message}
 use Rattle.history.specs.declared.event.Event.{Event}
@@ -61,10 +61,3 @@ KeepsOrder setup history sender receiver requests = accepted setup history sende
 -- each mailbox does
 abbrev pub Mailboxes : Setup → History → Type 0
 Mailboxes setup history = (sender receiver : ℕ) → KeepsOrder setup history sender receiver (waiting setup history sender receiver)
-
--- no turn after the pair's close adds to what was accepted
-abbrev pub NoneAfterClose : Setup → History → ℕ → ℕ → Type 0
-NoneAfterClose setup [] sender receiver = Unit {0}
-NoneAfterClose setup (turn ∷ history) sender receiver =
-    (is_closed history sender receiver ≡ true → accepted setup (turn ∷ history) sender receiver ≡ accepted setup history sender receiver)
-    × NoneAfterClose setup history sender receiver

@@ -146,6 +146,9 @@ pub record IsPostAfterClose (sender receiver : ℕ) (turn : Turn) (before : Hist
   pub accepted : turn.reply ≡ reply.Ok
   pub closed : Sometime (IsClose sender receiver) before
 
+abbrev pub NoneAfterClose : History → ℕ → ℕ → Type 0
+NoneAfterClose history sender receiver = ¬ Sometime (IsPostAfterClose sender receiver) history
+
 -- the turn with k turns before it opened this order
 pub record OpensAt (setup : Setup) (number : ℕ) (order : Order) (turn : Turn) (before : History) : Type 0 where
   pub place : length before ≡ number

@@ -1,7 +1,7 @@
 //! Laws of the definitions: what a history leaves is read off its turns. Each function does nothing, and its contract is
 //! the law.
 
-ghost use Rattle.std.specs.Prelude.{ℕ, true, ◌<◌, None, ◌≡◌, ◌↔◌, Result, Some, slice_get};
+ghost use Rattle.std.specs.Prelude.{ℕ, true, ◌<◌, None, ◌≡◌, ◌↔◌, ◌∷◌, Result, Some, slice_get};
 ghost use Rattle.pte.specs.Address.{IsCanonical};
 ghost use Rattle.walk.specs.declared.found_or_trap.Found.{Found};
 ghost use Rattle.walk.specs.declared.found_or_trap.Trap.{Trap};
@@ -11,18 +11,18 @@ ghost use Rattle.spaces.specs.Opening.{opening};
 ghost use Rattle.shoot.specs.Request.{Message};
 ghost use Rattle.shoot.specs.declared.TheConstants.{MAX_TICKETS};
 ghost use Rattle.history.specs.Setup.{Setup};
-ghost use Rattle.history.specs.Turns.{History};
+ghost use Rattle.history.specs.Turns.{Turn, History};
 ghost use Rattle.history.specs.Due.{Lawful, goes_on, least_free};
 ghost use Rattle.history.specs.Orders.{Order, open_order, order_at};
 ghost use Rattle.history.specs.Acknowledgements.{is_acked, is_collected, is_posted};
-ghost use Rattle.history.specs.Mailboxes.{Mailboxes, NoneAfterClose, Sent, accepted, is_closed, posts, taken};
+ghost use Rattle.history.specs.Mailboxes.{Mailboxes, Sent, accepted, is_closed, posts, taken};
 ghost use Rattle.history.specs.Service.{has_fenced, served};
 ghost use Rattle.history.specs.Staleness.{is_mapped_anew, is_superseded};
 ghost use Rattle.history.specs.Tables.{words_of};
 ghost use Rattle.history.specs.Spaces.{holder_of};
 ghost use Rattle.spaces.specs.declared.places.Place.{Place};
 ghost use Rattle.history.specs.Harts.{Walking, outcome_of, space_of, walk_of};
-ghost use Rattle.history.specs.Occurrences.{Acknowledges, Collects, EachIsDue, IsClose, IsInWalk, IsLeastFree, IsMapOver, IsNthPost, IsNthTake, IsPost, IsPostAfterClose, IsNewTable, IsServeFence, IsSwitch, IsTake, LeadsOn, OpensAt, OpensOrder, OpensOrFinishes, Puts, Since, SinceOr, Sometime, Stores, Supersedes, Switches, TakesOrAcks, TakesOrGivesBack, TakesPost};
+ghost use Rattle.history.specs.Occurrences.{Acknowledges, Collects, EachIsDue, IsClose, IsInWalk, IsLeastFree, IsMapOver, IsNthPost, IsNthTake, IsPost, IsNewTable, IsServeFence, IsSwitch, IsTake, LeadsOn, NoneAfterClose, OpensAt, OpensOrder, OpensOrFinishes, Puts, Since, SinceOr, Sometime, Stores, Supersedes, Switches, TakesOrAcks, TakesOrGivesBack, TakesPost};
 
 /// An order is posted to a hart exactly if at some turn a Post to it was accepted of the ticket under which the order was
 /// open.
@@ -100,15 +100,16 @@ pub fn nth_taken_is_the_nth_accepted()
         → slice_get (accepted setup history sender receiver) n ≡ Some request }
 {}
 
-/// In a lawful history nothing is accepted into a mailbox after its close.
-#[tactic(auto, using(crate::proofs::Mailboxes::none_after_close))]
+/// A turn of a lawful history adds nothing to what a closed mailbox accepted.
+#[tactic(auto, using(crate::proofs::Mailboxes::none_added))]
 pub fn nothing_is_accepted_after_a_close()
-    ensures { (setup : Setup) (history : History) (sender receiver : ℕ) → Lawful setup history → NoneAfterClose setup history sender receiver }
+    ensures { (setup : Setup) (turn : Turn) (history : History) (sender receiver : ℕ) → Lawful setup (turn ∷ history) → is_closed history sender receiver ≡ true
+        → accepted setup (turn ∷ history) sender receiver ≡ accepted setup history sender receiver }
 {}
 
 /// In a lawful history no Post of a pair is accepted after a Close of it was.
 pub fn no_post_is_accepted_after_a_close()
-    ensures { (setup : Setup) (history : History) (sender receiver : ℕ) → Lawful setup history → ¬ Sometime (IsPostAfterClose sender receiver) history }
+    ensures { (setup : Setup) (history : History) (sender receiver : ℕ) → Lawful setup history → NoneAfterClose history sender receiver }
 {}
 
 /// The n-th post that a mailbox accepted is the one that a Post of its pair was accepted for after n others.

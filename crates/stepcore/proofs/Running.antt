@@ -16,7 +16,8 @@ use Rattle.history.specs.Setup.{Setup}
 use Rattle.history.specs.declared.event.Event.{Event}
 use Rattle.history.specs.declared.reply.Reply.{Reply}
 use Rattle.history.specs.Turns.{History}
-use Rattle.history.specs.Mailboxes.{accepted, taken, NoneAfterClose}
+use Rattle.history.specs.Mailboxes.{accepted, taken}
+use Rattle.history.specs.Occurrences.{NoneAfterClose}
 use Rattle.history.specs.Runs.{with_turn, due_replies}
 use Rattle.history.specs.Due.{due}
 use Rattle.history.specs.Completion.{ClearOnceDone}
@@ -110,8 +111,8 @@ module _ (C : Setup) (m : State) (H : History) (st : Stands C m H) where
       mailboxes.lawful_order C H st.lawful s h
       ∙ ap (λ (mailbox : MailboxState). taken H s h ++ mailbox.waiting) (sym (st.mailboxes s h ls lh))
 
-  pub none_after_close : (s h : ℕ) → NoneAfterClose C H s h
-  none_after_close s h = mailboxes.none_after_close C H s h st.lawful
+  pub none_after_close : (s h : ℕ) → NoneAfterClose H s h
+  none_after_close s h = mailboxes.no_post_after_close C H s h st.lawful
 
   -- what the TLBs of the machine hold is clear and coherent
   pub entries_clear : (k h : ℕ) → h < C.harts → Clear C H (entries_in m h) k h

@@ -8,7 +8,8 @@ use Rattle.history.specs.declared.event.Event.{Event}
 use Rattle.history.specs.declared.reply.Reply.{Reply}
 use Rattle.history.specs.Setup.{Setup}
 use Rattle.history.specs.Turns.{History}
-use Rattle.history.specs.Mailboxes.{KeepsOrder, NoneAfterClose}
+use Rattle.history.specs.Mailboxes.{KeepsOrder}
+use Rattle.history.specs.Occurrences.{NoneAfterClose}
 use Rattle.history.specs.Spaces.{Live, status_of, holder_of}
 use Rattle.history.specs.Completion.{ClearOnceDone}
 use Rattle.history.specs.Staleness.{Clear, Coherent, HoldsUsedAsids}
@@ -48,7 +49,7 @@ MailboxesKeepOrder setup history m = (sender receiver : ℕ) → sender < setup.
 
 -- no post is accepted after the close of its mailbox
 abbrev pub NothingAfterCloses : Setup → History → Type 0
-NothingAfterCloses setup history = (sender receiver : ℕ) → NoneAfterClose setup history sender receiver
+NothingAfterCloses setup history = (sender receiver : ℕ) → NoneAfterClose history sender receiver
 
 -- no TLB of a hart that acknowledged an unmapping translates an address of its page, until the page
 -- is mapped anew
