@@ -38,8 +38,8 @@ fn first_with(requests: &[What], asked: u64) -> Option<usize> {
     requests.iter().position(|what| word(0, *what) == asked)
 }
 
-// The words of requests that differ in one thing alone: the size, the ASID, the address, and whether they speak of a global
-// page, of a space or of all.
+// The words of requests that differ in one thing alone: the size, the ASID, the address, and
+// whether they speak of a global page, of a space or of all.
 #[test]
 fn words_tell_requests_apart_and_no_tickets(rt: HostRuntime) {
     let small = page(&rt, PageSize::Kib4, 0);

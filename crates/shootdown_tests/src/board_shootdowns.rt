@@ -90,8 +90,8 @@ fn whole_shootdown(rt: HostRuntime) {
     assert!(&rt; zero.collect(64) == Err(Refusal::NotOpen));
 }
 
-// A page of the kernel is in every address space: hart 1 holds it under both ASIDs until it serves the request, and under none
-// afterwards.
+// A page of the kernel is in every address space: hart 1 holds it under both ASIDs until it serves
+// the request, and under none afterwards.
 #[test]
 fn shootdown_of_a_kernel_page(rt: HostRuntime) {
     let (Some(mut ports), Some(page)) = (ports_of(rt.alloc(), 2), page(0xFFFF_FFFF_C000_0000))
@@ -146,7 +146,8 @@ fn asked_by_hart_1(rt: HostRuntime) {
     assert!(&rt; one.finish(0) == Ok(()));
 }
 
-// Harts 0 and 2 ask hart 1 for the same under the same ticket: whose request it served, it acknowledged, and no other.
+// Harts 0 and 2 ask hart 1 for the same under the same ticket: whose request it served, it
+// acknowledged, and no other.
 #[test]
 fn two_senders_ask_one_hart(rt: HostRuntime) {
     let Some(mut ports) = ports_of(rt.alloc(), 3) else {
@@ -169,7 +170,8 @@ fn two_senders_ask_one_hart(rt: HostRuntime) {
     assert!(&rt; two.collect(0) == Ok(Collected::Waiting(0b100)));
 }
 
-// The capacity of 4 counts the requests that are not collected: each one that is makes room for one more.
+// The capacity of 4 counts the requests that are not collected: each one that is makes room for one
+// more.
 #[test]
 fn collecting_makes_room(rt: HostRuntime) {
     let Some(page) = page(0x1000) else {
@@ -266,8 +268,8 @@ fn shoot_down_often(mut port: HartPort, page: Page, rounds: u64) -> (HartPort, b
     (port, as_expected)
 }
 
-// Hart 1 translates and serves, until it has served so many requests. Once it served the request of a round, what it finds is
-// that of the next one, or nothing. Whether it was so.
+// Hart 1 translates and serves, until it has served so many requests. Once it served the request of
+// a round, what it finds is that of the next one, or nothing. Whether it was so.
 fn translate_and_serve(mut port: HartPort, rounds: u64) -> (HartPort, u64, bool)
     ensures { name_of result.0 ≡ name_of port }
 {

@@ -171,7 +171,8 @@ fn spaces_and_fences_are_told_apart(rt: HostRuntime) {
     );
 }
 
-// By turns hart 0 maps the page to 0x100 and to 0x101, and unmaps it. Whether it was answered as its own tables say.
+// By turns hart 0 maps the page to 0x100 and to 0x101, and unmaps it. Whether it was answered as
+// its own tables say.
 fn map_by_turns(mut port: HartPort, page: Page, rounds: u64) -> bool {
     let place = Place::Space(0);
     let mut as_expected = true;
@@ -223,8 +224,8 @@ fn honest_loads(rt: HostRuntime) {
     assert!(&rt; honest);
 }
 
-// A hart that goes from space to space and fences now and then. Whether each answer was possible: space 1 is not edited, and the
-// page of space 0 is one of two, or none.
+// A hart that goes from space to space and fences now and then. Whether each answer was possible:
+// space 1 is not edited, and the page of space 0 is one of two, or none.
 fn answers_possibly(mut port: HartPort, times: u64) -> bool {
     let mut possible = true;
     for time in 0..times {
@@ -244,7 +245,8 @@ fn answers_possibly(mut port: HartPort, times: u64) -> bool {
     possible
 }
 
-// One home edits, and three harts translate, each in a thread of its own, by 100,000 calls and more.
+// One home edits, and three harts translate, each in a thread of its own, by 100,000 calls and
+// more.
 fn in_four_threads<R: Threads + Sync>(
     rt: &R,
     mut ports: Vec<HartPort>,

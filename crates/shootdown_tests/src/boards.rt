@@ -104,7 +104,8 @@ fn layout_is_refused(rt: HostRuntime) {
     }
 }
 
-// The mailbox is closed while its one request waits: that one is served, and no other comes after it.
+// The mailbox is closed while its one request waits: that one is served, and no other comes after
+// it.
 #[test]
 fn closed_before_it_is_served(rt: HostRuntime) {
     for scheme in [Scheme::Sv39, Scheme::Sv48] {
@@ -152,8 +153,8 @@ fn hart_that_never_serves(rt: HostRuntime) {
     }
 }
 
-// Hart 0 opens five tickets, posts each to hart 1, and closes its mailbox twice. Whether it was answered as a mailbox of four
-// answers.
+// Hart 0 opens five tickets, posts each to hart 1, and closes its mailbox twice. Whether it was
+// answered as a mailbox of four answers.
 fn post_five(mut port: HartPort) -> (HartPort, bool)
     ensures { name_of result.0 ≡ name_of port }
 {
@@ -172,7 +173,8 @@ fn post_five(mut port: HartPort) -> (HartPort, bool)
     (port, as_expected)
 }
 
-// Hart 1 serves until it was answered `Ok` three times, in at most so many tries, and counts those that came in order.
+// Hart 1 serves until it was answered `Ok` three times, in at most so many tries, and counts those
+// that came in order.
 fn serve_three(mut port: HartPort) -> (HartPort, u32)
     ensures { name_of result.0 ≡ name_of port }
 {

@@ -1,4 +1,5 @@
-//! Tests of TLBs, mailboxes, tickets, acknowledgement words and the board, by calls that anybody can make.
+//! Tests of TLBs, mailboxes, tickets, acknowledgement words and the board, by calls that anybody
+//! can make.
 #![tactic(auto)]
 
 #[cfg(test)]

@@ -5,7 +5,8 @@ use shoot::*;
 use std::process::Abort;
 use std::test::*;
 
-/// A call of a mailbox, and its answer. A request is told by its ticket, and is for the address space 1.
+/// A call of a mailbox, and its answer. A request is told by its ticket, and is for the address
+/// space 1.
 #[derive(Clone, Copy)]
 enum Call {
     /// The ticket, and why its request is refused.
@@ -237,7 +238,7 @@ fn is_finished(tickets: &mut Tickets, ticket: u32) -> bool {
 fn is_as_told(tickets: &mut Tickets, step: &Step) -> bool {
     match *step {
         Step::Open(what, named, want) => tickets.open(what, named) == want,
-        Step::WouldOpen(named, want) => tickets.would_open(named) == want,
+        Step::WouldOpen(named, want) => tickets.would_open(&HartSet::from(named)) == want,
         Step::Posted(..) | Step::Acked(..) | Step::Collect(..) => is_marked(tickets, step),
         Step::Finish(ticket, want) => is_finished(tickets, ticket) == want,
         Step::Tell(ticket, told) => is_told(tickets, ticket, &told),
@@ -477,7 +478,7 @@ fn lowest_free_number_is_opened(rt: HostRuntime) {
     are_as_told(&rt, &mut tickets, &[none]);
     for turn in 0..64_u32 {
         finish_own(&rt, &mut tickets, (37 * turn + 11) % 64);
-        assert!(rt; tickets.would_open(0b1).ok() == lowest_free(&tickets));
+        assert!(rt; tickets.would_open(&HartSet::from(0b1)).ok() == lowest_free(&tickets));
     }
     are_as_told(&rt, &mut tickets, &[Step::WouldOpen(0b1, Ok(0))]);
 }

@@ -5,7 +5,8 @@ use std::process::Abort;
 use tlb::*;
 use walk::{Found, Trap, Why};
 
-/// An entry, with an ASID and an address at which it is the oldest match in the TLBs below where it is there at all.
+/// An entry, with an ASID and an address at which it is the oldest match in the TLBs below where it
+/// is there at all.
 #[derive(Clone, Copy)]
 struct Probe {
     entry: Entry,
@@ -249,7 +250,8 @@ fn a_page_filled_twice_is_there_twice(rt: HostRuntime) {
     assert_eq!(rt; ppn_at(&rt, &tlb, 0x1000), None);
 }
 
-/// Each with the page of a size at 0 or, of the smallest, at 0x1000: the address 0x1000 lies in all three.
+/// Each with the page of a size at 0 or, of the smallest, at 0x1000: the address 0x1000 lies in all
+/// three.
 #[test]
 fn of_three_sizes_the_oldest_answers(rt: HostRuntime) {
     let mut tlb = Tlb::new();
@@ -357,7 +359,8 @@ fn of_a_ppn_44_bits_count(rt: HostRuntime) {
     );
 }
 
-/// What is canonical is told by the TLB's scheme: an address that Sv39 does not have drops nothing there.
+/// What is canonical is told by the TLB's scheme: an address that Sv39 does not have drops nothing
+/// there.
 #[test]
 fn fences_by_the_scheme(rt: HostRuntime) {
     let beyond = page(&rt, PageSize::Kib4, 0x40_0000_0000);

@@ -46,13 +46,17 @@ impl<E> Inner<E> {
     /// Appends an element to both halves, which had the same list.
     pub fn push(&mut self, outer: &mut Outer<E>, element: &E)
         requires { self.old.name ≡ outer.old.name }
-        ensures { (self.old.list ≡ outer.old.list) × (self.new.list ≡ self.old.list ++ element.now ∷ []) × (outer.new.list ≡ outer.old.list ++ element.now ∷ []) × (self.new.name ≡ self.old.name) × (outer.new.name ≡ outer.old.name) }
+        ensures { (self.old.list ≡ outer.old.list)
+            × (self.new.list ≡ self.old.list ++ element.now ∷ [])
+            × (outer.new.list ≡ outer.old.list ++ element.now ∷ [])
+            × (self.new.name ≡ self.old.name) × (outer.new.name ≡ outer.old.name) }
     {}
 
     /// Changes nothing, and tells that both halves have the same list.
     pub fn agree(&mut self, outer: &mut Outer<E>)
         requires { self.old.name ≡ outer.old.name }
-        ensures { (self.old.list ≡ outer.old.list) × (self.new ≡ self.old) × (outer.new ≡ outer.old) }
+        ensures { (self.old.list ≡ outer.old.list) × (self.new ≡ self.old)
+            × (outer.new ≡ outer.old) }
     {}
 }
 
