@@ -40,7 +40,8 @@ what_in tickets ticket = unwrap_or (what_at tickets ticket) All
 -- a hart whose walk made a load
 abbrev pub with_progress : ℕ → Progress → HartState → HartState
 with_progress asid (progress.More next) hart = record hart { walk = Some next }
-with_progress asid (progress.Found found) hart = record hart { walk = None; entries = filled hart.entries (entry_of asid found) }
+with_progress asid (progress.Found found) hart =
+    record hart { walk = None; entries = filled hart.entries (entry_of asid found) }
 with_progress asid (progress.Trap trap) hart = record hart { walk = None }
 
 abbrev pub with_load : Tables → ℕ → Option Stage → HartState → HartState
@@ -49,13 +50,17 @@ with_load words asid (Some walk) hart = with_progress asid (next_of words walk) 
 
 -- a hart that takes a request from another, and one that fences for what it serves
 abbrev pub with_taken : ℕ → Reply → HartState → HartState
-with_taken from (reply.Taken request) hart = record hart { serving = Some (record { from = from; request = request; fenced = false }) }
+with_taken from (reply.Taken request) hart =
+    record hart { serving = Some (record { from = from; request = request; fenced = false }) }
 with_taken from _ hart = hart
 
 abbrev pub with_served : Option Service → HartState → HartState
 with_served None hart = hart
 with_served (Some serving) hart =
-    record hart { serving = Some (record { from = serving.from; request = serving.request; fenced = true }); entries = served hart.entries serving.request.what }
+    record hart {
+      serving = Some (record { from = serving.from; request = serving.request; fenced = true });
+      entries = served hart.entries serving.request.what;
+    }
 
 -- the reply is no refusal
 abbrev pub is_accepted : Reply → Bool
@@ -68,16 +73,33 @@ put_hart m number test hart = if test then slice_set m.harts number hart else m.
 
 abbrev pub harts_after : State → Event → Reply → List HartState
 harts_after m (Begin hart va access ctx) reply =
-    put_hart m hart (is_more reply) (record (hart_at m hart) { walk = Some (start_of m.memory.layout.scheme (root_ppn m.memory.layout (hart_at m hart).space) va access ctx) })
+    put_hart m hart (is_more reply)
+    (record (hart_at m hart) {
+      walk = Some
+          (start_of m.memory.layout.scheme (root_ppn m.memory.layout (hart_at m hart).space)
+          va access ctx);
+    })
 harts_after m (Load hart) reply =
-    put_hart m hart (is_accepted reply) (with_load (words_in m) (asid_in m (hart_at m hart)) (hart_at m hart).walk (hart_at m hart))
-harts_after m (Switch hart space) reply = put_hart m hart (is_ok reply) (record (hart_at m hart) { space = space })
-harts_after m (Fence hart rs1 rs2) reply = put_hart m hart (is_ok reply) (record (hart_at m hart) { entries = fenced (hart_at m hart).scheme (hart_at m hart).entries rs1 rs2 })
-harts_after m (Take hart from) reply = put_hart m hart (is_taken reply) (with_taken from reply (hart_at m hart))
-harts_after m (ServeFence hart) reply = put_hart m hart (is_ok reply) (with_served (hart_at m hart).serving (hart_at m hart))
-harts_after m (Ack hart) reply = put_hart m hart (is_ok reply) (record (hart_at m hart) { serving = None })
+    put_hart m hart (is_accepted reply)
+    (with_load (words_in m) (asid_in m (hart_at m hart)) (hart_at m hart).walk (hart_at m hart))
+harts_after m (Switch hart space) reply =
+    put_hart m hart (is_ok reply) (record (hart_at m hart) { space = space })
+harts_after m (Fence hart rs1 rs2) reply =
+    put_hart m hart (is_ok reply)
+    (record (hart_at m hart) {
+      entries = fenced (hart_at m hart).scheme (hart_at m hart).entries rs1 rs2;
+    })
+harts_after m (Take hart from) reply =
+    put_hart m hart (is_taken reply) (with_taken from reply (hart_at m hart))
+harts_after m (ServeFence hart) reply =
+    put_hart m hart (is_ok reply) (with_served (hart_at m hart).serving (hart_at m hart))
+harts_after m (Ack hart) reply =
+    put_hart m hart (is_ok reply) (record (hart_at m hart) { serving = None })
 harts_after m (AckSelf hart ticket) reply =
-    put_hart m hart (is_progress reply) (record (hart_at m hart) { entries = served (hart_at m hart).entries (what_in (tickets_at m hart) ticket) })
+    put_hart m hart (is_progress reply)
+    (record (hart_at m hart) {
+      entries = served (hart_at m hart).entries (what_in (tickets_at m hart) ticket);
+    })
 harts_after m _ reply = m.harts
 
 -- the tickets
@@ -86,22 +108,32 @@ put_tickets m hart test tickets = if test then slice_set m.tickets hart tickets 
 
 abbrev pub acked_after : State → ℕ → Bool → Option Service → List TicketTable
 acked_after m hart test None = m.tickets
-acked_after m hart test (Some serving) = put_tickets m serving.from test (acked_by (tickets_at m serving.from) serving.request.ticket hart)
+acked_after m hart test (Some serving) =
+    put_tickets m serving.from test
+    (acked_by (tickets_at m serving.from) serving.request.ticket hart)
 
 abbrev pub tickets_after : State → Event → Reply → List TicketTable
 tickets_after m (Unmap hart place page named) reply =
-    put_tickets m hart (is_opened reply) (after_open (tickets_at m hart) (page_request m place page) named)
+    put_tickets m hart (is_opened reply)
+    (after_open (tickets_at m hart) (page_request m place page) named)
 tickets_after m (Protect hart place page flags named) reply =
-    put_tickets m hart (is_opened reply) (after_open (tickets_at m hart) (page_request m place page) named)
+    put_tickets m hart (is_opened reply)
+    (after_open (tickets_at m hart) (page_request m place page) named)
 tickets_after m (Flush hart scope named) reply =
-    put_tickets m hart (is_opened reply) (after_open (tickets_at m hart) (scope_request m scope) named)
+    put_tickets m hart (is_opened reply)
+    (after_open (tickets_at m hart) (scope_request m scope) named)
 tickets_after m (Retire hart space) reply =
-    put_tickets m hart (is_opened reply) (after_open (tickets_at m hart) (SpaceOf (space_at m space).asid) (every_hart m))
-tickets_after m (Post hart ticket to) reply = put_tickets m hart (is_ok reply) (after_posted (tickets_at m hart) ticket to)
+    put_tickets m hart (is_opened reply)
+    (after_open (tickets_at m hart) (SpaceOf (space_at m space).asid) (every_hart m))
+tickets_after m (Post hart ticket to) reply =
+    put_tickets m hart (is_ok reply) (after_posted (tickets_at m hart) ticket to)
 tickets_after m (Ack hart) reply = acked_after m hart (is_ok reply) (hart_at m hart).serving
-tickets_after m (AckSelf hart ticket) reply = put_tickets m hart (is_progress reply) (acked_by (tickets_at m hart) ticket hart)
-tickets_after m (Collect hart ticket from) reply = put_tickets m hart (is_progress reply) (after_collect (tickets_at m hart) ticket from)
-tickets_after m (Finish hart ticket) reply = put_tickets m hart (is_ok reply) (after_finish (tickets_at m hart) ticket)
+tickets_after m (AckSelf hart ticket) reply =
+    put_tickets m hart (is_progress reply) (acked_by (tickets_at m hart) ticket hart)
+tickets_after m (Collect hart ticket from) reply =
+    put_tickets m hart (is_progress reply) (after_collect (tickets_at m hart) ticket from)
+tickets_after m (Finish hart ticket) reply =
+    put_tickets m hart (is_ok reply) (after_finish (tickets_at m hart) ticket)
 tickets_after m _ reply = m.tickets
 
 -- the spaces: a retired one has its ticket, which it loses where that is finished
@@ -110,41 +142,57 @@ is_under (phase.Retiring (Some own)) ticket = own == ticket
 is_under _ ticket = false
 
 abbrev pub is_retirement : State → ℕ → ℕ → ℕ → SpaceState → Bool
-is_retirement m hart ticket s old = (hart == home_of m.memory.layout (Space s)) && is_under old.phase ticket
+is_retirement m hart ticket s old =
+    (hart == home_of m.memory.layout (Space s)) && is_under old.phase ticket
 
 abbrev pub space_after : State → Event → Reply → ℕ → SpaceState → SpaceState
 space_after m (Retire hart space) reply s old =
-    if is_opened reply && (space == s) then record { asid = old.asid; phase = phase.Retiring (opened_ticket reply) } else old
-space_after m (Reclaim hart space) reply s old = if is_ok reply && (space == s) then record { asid = old.asid; phase = phase.Free } else old
-space_after m (Create hart space asid) reply s old = if is_ok reply && (space == s) then record { asid = asid; phase = phase.Live } else old
+    if is_opened reply && (space == s)
+    then record { asid = old.asid; phase = phase.Retiring (opened_ticket reply) } else old
+space_after m (Reclaim hart space) reply s old =
+    if is_ok reply && (space == s) then record { asid = old.asid; phase = phase.Free } else old
+space_after m (Create hart space asid) reply s old =
+    if is_ok reply && (space == s) then record { asid = asid; phase = phase.Live } else old
 space_after m (Finish hart ticket) reply s old =
-    if is_ok reply && is_retirement m hart ticket s old then record { asid = old.asid; phase = phase.Retiring None } else old
+    if is_ok reply && is_retirement m hart ticket s old
+    then record { asid = old.asid; phase = phase.Retiring None } else old
 space_after m _ reply s old = old
 
 -- the mailboxes
 abbrev pub put_mailbox : State → ℕ → ℕ → Bool → MailboxState → List MailboxState
-put_mailbox m sender receiver test mailbox = if test then slice_set m.mailboxes (mailbox_index sender receiver) mailbox else m.mailboxes
+put_mailbox m sender receiver test mailbox =
+    if test then slice_set m.mailboxes (mailbox_index sender receiver) mailbox else m.mailboxes
 
 -- the acknowledgement of a hart is there, and not collected yet
 abbrev pub is_collectable : TicketTable → ℕ → ℕ → Bool
-is_collectable tickets ticket from = is_acked tickets ticket from && not (is_collected tickets ticket from)
+is_collectable tickets ticket from =
+    is_acked tickets ticket from && not (is_collected tickets ticket from)
 
 abbrev pub mailboxes_after : State → Event → Reply → List MailboxState
 mailboxes_after m (Post hart ticket to) reply =
-    put_mailbox m hart to (is_ok reply) (after_post (mailbox_at m hart to) (record { ticket = ticket; what = what_in (tickets_at m hart) ticket }))
-mailboxes_after m (Take hart from) reply = put_mailbox m from hart (is_taken reply) (after_take (mailbox_at m from hart))
+    put_mailbox m hart to (is_ok reply)
+    (after_post (mailbox_at m hart to)
+    (record { ticket = ticket; what = what_in (tickets_at m hart) ticket }))
+mailboxes_after m (Take hart from) reply =
+    put_mailbox m from hart (is_taken reply) (after_take (mailbox_at m from hart))
 mailboxes_after m (Collect hart ticket from) reply =
-    put_mailbox m hart from (is_progress reply && (is_collectable (tickets_at m hart) ticket from && can_release (mailbox_at m hart from)))
+    put_mailbox m hart from
+    (is_progress reply
+    && (is_collectable (tickets_at m hart) ticket from && can_release (mailbox_at m hart from)))
     (after_release (mailbox_at m hart from))
-mailboxes_after m (Close hart to) reply = put_mailbox m hart to (is_ok reply) (after_close (mailbox_at m hart to))
+mailboxes_after m (Close hart to) reply =
+    put_mailbox m hart to (is_ok reply) (after_close (mailbox_at m hart to))
 mailboxes_after m _ reply = m.mailboxes
 
 -- the machine is what the event and its reply leave of an older one
 pub record Follows (old : State) (event : Event) (reply : Reply) (new : State) : Type 0 where
   pub layout : new.memory.layout ≡ old.memory.layout
   pub count : length new.spaces ≡ length old.spaces
-  pub spaces : (s : ℕ) → s < length old.spaces → space_at new s ≡ space_after old event reply s (space_at old s)
-  pub words : (ppn i : ℕ) → words_in new ppn i ≡ words_after (setup_in old) event reply (words_in old) (holders_in old) ppn i
+  pub spaces : (s : ℕ) → s < length old.spaces
+      → space_at new s ≡ space_after old event reply s (space_at old s)
+  pub words : (ppn i : ℕ)
+      → words_in new ppn i
+      ≡ words_after (setup_in old) event reply (words_in old) (holders_in old) ppn i
   pub holders : (ppn : ℕ) → holders_in new ppn ≡ holder_after event reply ppn (holders_in old ppn)
   pub harts : new.harts ≡ harts_after old event reply
   pub tickets : new.tickets ≡ tickets_after old event reply

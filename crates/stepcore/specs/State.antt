@@ -69,15 +69,23 @@ tickets_at m hart = unwrap_or (slice_get m.tickets hart) (no_tickets hart)
 -- where the mailbox from one hart to another stands: those between the first n harts take the first
 -- n * n places
 abbrev pub mailbox_index : ℕ → ℕ → ℕ
-mailbox_index sender receiver = if nat_lt sender receiver then receiver * receiver + sender else sender * sender + sender + receiver
+mailbox_index sender receiver =
+    if nat_lt sender receiver then receiver * receiver + sender
+    else sender * sender + sender + receiver
 
 abbrev pub mailbox_at : State → ℕ → ℕ → MailboxState
-mailbox_at m sender receiver = unwrap_or (slice_get m.mailboxes (mailbox_index sender receiver)) (empty_mailbox 0)
+mailbox_at m sender receiver =
+    unwrap_or (slice_get m.mailboxes (mailbox_index sender receiver)) (empty_mailbox 0)
 
 -- what the machine was opened with, as numbers; the mailboxes are all of one capacity, and the
 -- first ASIDs are forgotten
 abbrev pub setup_in : State → Setup
-setup_in m = record { harts = length m.harts; capacity = (mailbox_at m 0 0).capacity; asids = []; layout = m.memory.layout }
+setup_in m = record {
+  harts = length m.harts;
+  capacity = (mailbox_at m 0 0).capacity;
+  asids = [];
+  layout = m.memory.layout;
+}
 
 -- what every machine keeps: as many tables of tickets as harts, a mailbox for each pair of harts,
 -- as many spaces as roots, and each hart in a space that is there
