@@ -21,27 +21,28 @@ impl Machine {
     /// no live or retiring space has; each hart, so each walk, is in a live space; and no walk has
     /// come to an unused table frame.
     pub fn step(&mut self, event: Event) -> Reply
-        ensures stands { (C : Setup) (H : History) → Stands C self.old H
-            → Stands C self.new (with_turn event result H) }
+        ensures stands { (setup : Setup) (history : History) → Stands setup self.old history
+            → Stands setup self.new (with_turn event result history) }
         ensures follows { Follows self.old event result self.new }
-        ensures due { (C : Setup) (H : History) → Stands C self.old H → result ≡ due C H event }
+        ensures due { (setup : Setup) (history : History) → Stands setup self.old history
+            → result ≡ due setup history event }
         ensures refused { is_accepted result ≡ false → self.new ≡ self.old }
-        ensures mailboxes { (C : Setup) (H : History) → Stands C self.old H
-            → MailboxesKeepOrder C (with_turn event result H) self.new }
-        ensures closed { (C : Setup) (H : History) → Stands C self.old H
-            → NothingAfterCloses C (with_turn event result H) }
-        ensures clear { (C : Setup) (H : History) → Stands C self.old H
-            → IsClear C (with_turn event result H) self.new }
-        ensures done { (C : Setup) (H : History) → Stands C self.old H
-            → IsClearOnceDone C (with_turn event result H) self.new }
-        ensures coherent { (C : Setup) (H : History) → Stands C self.old H
-            → IsCoherent C (with_turn event result H) self.new }
-        ensures asids { (C : Setup) (H : History) → Stands C self.old H
-            → TlbsHoldUsedAsids C (with_turn event result H) self.new }
-        ensures spaces { (C : Setup) (H : History) → Stands C self.old H
-            → HartsAreInLiveSpaces C (with_turn event result H) self.new }
-        ensures frames { (C : Setup) (H : History) → Stands C self.old H
-            → WalksHoldUsedFrames C (with_turn event result H) self.new }
+        ensures mailboxes { (setup : Setup) (history : History) → Stands setup self.old history
+            → MailboxesKeepOrder setup (with_turn event result history) self.new }
+        ensures closed { (setup : Setup) (history : History) → Stands setup self.old history
+            → NothingAfterCloses setup (with_turn event result history) }
+        ensures clear { (setup : Setup) (history : History) → Stands setup self.old history
+            → IsClear setup (with_turn event result history) self.new }
+        ensures done { (setup : Setup) (history : History) → Stands setup self.old history
+            → IsClearOnceDone setup (with_turn event result history) self.new }
+        ensures coherent { (setup : Setup) (history : History) → Stands setup self.old history
+            → IsCoherent setup (with_turn event result history) self.new }
+        ensures asids { (setup : Setup) (history : History) → Stands setup self.old history
+            → TlbsHoldUsedAsids setup (with_turn event result history) self.new }
+        ensures spaces { (setup : Setup) (history : History) → Stands setup self.old history
+            → HartsAreInLiveSpaces setup (with_turn event result history) self.new }
+        ensures frames { (setup : Setup) (history : History) → Stands setup self.old history
+            → WalksHoldUsedFrames setup (with_turn event result history) self.new }
     {
         self.recall();
         reply_of(self.do_event(&event))
@@ -57,33 +58,39 @@ impl Machine {
             ↔ (length (appended replies.old.items replies.new.items) ≡ length events.now) }
         ensures no_more { length (appended replies.old.items replies.new.items)
             ≤ length events.now }
-        ensures due { (C : Setup) (H : History) → Stands C self.old H
-            → AreDue C H events.now (appended replies.old.items replies.new.items) }
-        ensures all_due { OnOk result ((C : Setup) (H : History) → Stands C self.old H
-            → appended replies.old.items replies.new.items ≡ due_replies C H events.now) }
-        ensures stands { (C : Setup) (H : History) → Stands C self.old H
-            → Stands C self.new (after_run events.now replies.old.items replies.new.items H) }
-        ensures mailboxes { (C : Setup) (H : History) → Stands C self.old H
-            → MailboxesKeepOrder C
-            (after_run events.now replies.old.items replies.new.items H) self.new }
-        ensures closed { (C : Setup) (H : History) → Stands C self.old H
-            → NothingAfterCloses C (after_run events.now replies.old.items replies.new.items H) }
-        ensures clear { (C : Setup) (H : History) → Stands C self.old H
-            → IsClear C (after_run events.now replies.old.items replies.new.items H) self.new }
-        ensures done { (C : Setup) (H : History) → Stands C self.old H
-            → IsClearOnceDone C
-            (after_run events.now replies.old.items replies.new.items H) self.new }
-        ensures coherent { (C : Setup) (H : History) → Stands C self.old H
-            → IsCoherent C (after_run events.now replies.old.items replies.new.items H) self.new }
-        ensures asids { (C : Setup) (H : History) → Stands C self.old H
-            → TlbsHoldUsedAsids C
-            (after_run events.now replies.old.items replies.new.items H) self.new }
-        ensures spaces { (C : Setup) (H : History) → Stands C self.old H
-            → HartsAreInLiveSpaces C
-            (after_run events.now replies.old.items replies.new.items H) self.new }
-        ensures frames { (C : Setup) (H : History) → Stands C self.old H
-            → WalksHoldUsedFrames C
-            (after_run events.now replies.old.items replies.new.items H) self.new }
+        ensures due { (setup : Setup) (history : History) → Stands setup self.old history
+            → AreDue setup history events.now (appended replies.old.items replies.new.items) }
+        ensures all_due { OnOk result ((setup : Setup) (history : History)
+            → Stands setup self.old history
+            → appended replies.old.items replies.new.items
+            ≡ due_replies setup history events.now) }
+        ensures stands { (setup : Setup) (history : History) → Stands setup self.old history
+            → Stands setup self.new
+            (after_run events.now replies.old.items replies.new.items history) }
+        ensures mailboxes { (setup : Setup) (history : History) → Stands setup self.old history
+            → MailboxesKeepOrder setup
+            (after_run events.now replies.old.items replies.new.items history) self.new }
+        ensures closed { (setup : Setup) (history : History) → Stands setup self.old history
+            → NothingAfterCloses setup
+            (after_run events.now replies.old.items replies.new.items history) }
+        ensures clear { (setup : Setup) (history : History) → Stands setup self.old history
+            → IsClear setup
+            (after_run events.now replies.old.items replies.new.items history) self.new }
+        ensures done { (setup : Setup) (history : History) → Stands setup self.old history
+            → IsClearOnceDone setup
+            (after_run events.now replies.old.items replies.new.items history) self.new }
+        ensures coherent { (setup : Setup) (history : History) → Stands setup self.old history
+            → IsCoherent setup
+            (after_run events.now replies.old.items replies.new.items history) self.new }
+        ensures asids { (setup : Setup) (history : History) → Stands setup self.old history
+            → TlbsHoldUsedAsids setup
+            (after_run events.now replies.old.items replies.new.items history) self.new }
+        ensures spaces { (setup : Setup) (history : History) → Stands setup self.old history
+            → HartsAreInLiveSpaces setup
+            (after_run events.now replies.old.items replies.new.items history) self.new }
+        ensures frames { (setup : Setup) (history : History) → Stands setup self.old history
+            → WalksHoldUsedFrames setup
+            (after_run events.now replies.old.items replies.new.items history) self.new }
     {
         for event in events {
             replies.reserve(1)?;

@@ -32,7 +32,8 @@ pub fn three_harts_are_configured()
 /// The steps of a worked run make a lawful history.
 #[tactic(auto, using(crate::proofs::RunsAreLawful::lawful_run))]
 pub fn run_is_lawful()
-    ensures { (C : Setup) (steps : List Step) → IsRun C steps → Lawful C (history_of steps) }
+    ensures { (setup : Setup) (steps : List Step)
+        → IsRun setup steps → Lawful setup (history_of steps) }
 {}
 
 /// A page of 2 MiB is unmapped while another hart holds it: the hart uses it until it serves the request, and not after.
