@@ -29,12 +29,14 @@ abbrev pub is_last : LiveReply → List LiveReply → Bool
 is_last Halted [] = true
 is_last _ _ = false
 
--- each step has its reply in turn, up to the end of the script, or to the one step that is answered `Halted`
+-- each step has its reply in turn, up to the end of the script, or to the one step that is answered
+-- `Halted`
 abbrev pub is_answered : List LiveStep → List LiveReply → Bool
 is_answered [] [] = true
 is_answered [] (reply ∷ replies) = false
 is_answered (step ∷ steps) [] = false
-is_answered (step ∷ steps) (reply ∷ replies) = is_last reply replies || (may_answer step reply && is_answered steps replies)
+is_answered (step ∷ steps) (reply ∷ replies) =
+    is_last reply replies || (may_answer step reply && is_answered steps replies)
 
 abbrev pub IsAnswered : List LiveStep → List LiveReply → Type 0
 IsAnswered steps replies = is_answered steps replies ≡ true
@@ -44,7 +46,8 @@ abbrev pub are_answered : List (List LiveStep) → List (List LiveReply) → Boo
 are_answered [] [] = true
 are_answered [] (replies ∷ rest) = false
 are_answered (steps ∷ scripts) [] = false
-are_answered (steps ∷ scripts) (replies ∷ rest) = is_answered steps replies && are_answered scripts rest
+are_answered (steps ∷ scripts) (replies ∷ rest) =
+    is_answered steps replies && are_answered scripts rest
 
 -- the scripts of so many harts, where those past the last script have none
 abbrev pub scripts_of : ℕ → List (List LiveStep) → List (List LiveStep)
@@ -54,4 +57,5 @@ scripts_of (suc harts) (steps ∷ scripts) = steps ∷ scripts_of harts scripts
 
 -- each hart has answered its script; one past the last script has none
 abbrev pub AreAnswered : List (List LiveStep) → List (List LiveReply) → Type 0
-AreAnswered scripts replies = (hart : ℕ) → IsAnswered (slice_index_or scripts hart []) (slice_index_or replies hart [])
+AreAnswered scripts replies =
+    (hart : ℕ) → IsAnswered (slice_index_or scripts hart []) (slice_index_or replies hart [])

@@ -17,8 +17,8 @@ pub struct List {
 /// The half of a list of turns that a tally has.
 pub type Turns = Outer<(Event, Reply)>;
 
-/// The lists of the tallies of a lock that is not open yet, all empty. They have no bytes. Contracts see it as the names of the
-/// lists.
+/// The lists of the tallies of a lock that is not open yet, all empty. They have no bytes.
+/// Contracts see it as the names of the lists.
 #[derive(Drop)]
 pub struct Blank {
     pub(crate) lists: Vec<List>,
@@ -32,7 +32,9 @@ impl Model for Blank {
 
     ghost view = { λ b. map (λ l. l.half.name) b.lists.items };
 
-    ghost invariant = { λ b. (map (λ t. t.name) b.turns.items ≡ map (λ l. l.half.name) b.lists.items) × All (λ l. l.half.list ≡ []) b.lists.items × All (λ t. t.list ≡ []) b.turns.items };
+    ghost invariant = { λ b. (map (λ t. t.name) b.turns.items
+        ≡ map (λ l. l.half.name) b.lists.items) × All (λ l. l.half.list ≡ []) b.lists.items
+        × All (λ t. t.list ≡ []) b.turns.items };
 }
 
 impl Blank {

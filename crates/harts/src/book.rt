@@ -14,8 +14,8 @@ use std::alloc::{AllocError, Global};
 use std::marker::{Model, PhantomData};
 use stepcore::{Event, Machine, Reply};
 
-/// A machine, and the history at which it stands: each event with its reply, the oldest first. `C` names the configuration of
-/// the machine, for contracts alone.
+/// A machine, and the history at which it stands: each event with its reply, the oldest first. `C`
+/// names the configuration of the machine, for contracts alone.
 #[derive(Drop)]
 pub struct Book<C: Named> {
     machine: Machine,
@@ -46,11 +46,12 @@ pub(crate) fn turn_of(event: &Event, reply: &Reply) -> (Event, Reply)
 }
 
 impl<C: Named> Book<C> {
-    /// A machine of a configuration, and no event yet. `BadLayout` exactly if `Config::check` says no, `NoMemory` if there
-    /// is not enough memory. `C` names the configuration.
+    /// A machine of a configuration, and no event yet. `BadLayout` exactly if `Config::check` says
+    /// no, `NoMemory` if there is not enough memory. `C` names the configuration.
     pub fn open(alloc: Global, config: &Config) -> Result<Book<C>, OpenFault>
         requires { C.config ≡ config.now }
-        ensures bad_layout { (result ≡ Err OpenFault.BadLayout) ↔ (¬ MeetsLimits max_frames config.now) }
+        ensures bad_layout { (result ≡ Err OpenFault.BadLayout)
+            ↔ (¬ MeetsLimits max_frames config.now) }
         ensures limits { OnOk result (MeetsLimits max_frames config.now) }
         ensures empty { IfOk result (λ book. book ≡ []) }
     {
@@ -62,11 +63,13 @@ impl<C: Named> Book<C> {
         })
     }
 
-    /// Steps the machine, and appends the event with its reply, which is the due one. At `AllocError` nothing changed.
+    /// Steps the machine, and appends the event with its reply, which is the due one. At
+    /// `AllocError` nothing changed.
     pub fn note(&mut self, event: Event) -> Result<Reply, AllocError>
         ensures lawful { Lawful (setup_of C.config) (history_of self.old) }
         ensures pages { HavePages (history_of self.old) }
-        ensures due { IfOk result (λ reply. reply ≡ due (setup_of C.config) (history_of self.old) event) }
+        ensures due { IfOk result (λ reply. reply
+            ≡ due (setup_of C.config) (history_of self.old) event) }
         ensures appended { IfOk result (λ reply. self.new ≡ self.old ++ (event, reply) ∷ []) }
         ensures unchanged { OnErr result (self.new ≡ self.old) }
     {

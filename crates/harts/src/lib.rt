@@ -1,4 +1,5 @@
-//! Harts as threads: a machine under one lock, with the history at which it stands; and ports, which share no lock.
+//! Harts as threads: a machine under one lock, with the history at which it stands; and ports,
+//! which share no lock.
 #![tactic(auto)]
 
 mod blank;

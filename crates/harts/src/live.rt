@@ -21,7 +21,8 @@ use std::thread::Threads;
 
 /// The board and its ports.
 fn open(alloc: Global, config: &Config) -> Result<(Board, Vec<HartPort>), LiveFault>
-    ensures bad_layout { (result ≡ Err LiveFault.BadLayout) ↔ (¬ MeetsLimits max_live_frames config.now) }
+    ensures bad_layout { (result ≡ Err LiveFault.BadLayout)
+        ↔ (¬ MeetsLimits max_live_frames config.now) }
     ensures limits { OnOk result (MeetsLimits max_live_frames config.now) }
     ensures board { IfOk result (λ r. r.0 ≡ setup_of config.now) }
     ensures ports { IfOk result (λ r. ArePorts (setup_of config.now) (map name_of r.1.items)) }
@@ -34,15 +35,18 @@ fn open(alloc: Global, config: &Config) -> Result<(Board, Vec<HartPort>), LiveFa
     Ok(opened)
 }
 
-/// Runs setup's steps in order on this thread, each by the port of its hart. Then each hart is a thread of its own, which does
-/// the steps of its script in order; a hart past the end of `scripts` has none. `gate` is told of each step of a script.
+/// Runs setup's steps in order on this thread, each by the port of its hart. Then each hart is a
+/// thread of its own, which does the steps of its script in order; a hart past the end of `scripts`
+/// has none. `gate` is told of each step of a script.
 ///
-/// At `Ok` each step of setup has its answer, and each step of a script, up to its end or to the step before which the gate
-/// ended it: that one is answered `Halted`, and nothing follows. Only a wait answers `Timeout`.
+/// At `Ok` each step of setup has its answer, and each step of a script, up to its end or to the
+/// step before which the gate ended it: that one is answered `Halted`, and nothing follows. Only a
+/// wait answers `Timeout`.
 ///
-/// A wait takes at most `turns` turns. In a turn the hart serves once from each other hart, the lowest first, and then collects
-/// the ticket. A hart whose script has ended serves every other hart in turns, until all scripts have ended or `turns` turns
-/// passed. All room for answers is taken before the first thread starts.
+/// A wait takes at most `turns` turns. In a turn the hart serves once from each other hart, the
+/// lowest first, and then collects the ticket. A hart whose script has ended serves every other
+/// hart in turns, until all scripts have ended or `turns` turns passed. All room for answers is
+/// taken before the first thread starts.
 ///
 /// `BadLayout` exactly if `Config::check_live` says no, `NoMemory` if there is not enough memory,
 /// `NoThread` if a thread could not be started. In which order the threads take their steps is not
@@ -58,12 +62,17 @@ pub fn run_live<R: Threads + Wait + Sync, G: Gate + Sync>(
 ) -> Result<LiveReport, LiveFault>
     requires setup { All (λ step. step.0 < config.now.harts) setup.now }
     requires scripts { length scripts.now ≤ config.now.harts }
-    ensures bad_layout { (result ≡ Err LiveFault.BadLayout) ↔ (¬ MeetsLimits max_live_frames config.now) }
+    ensures bad_layout { (result ≡ Err LiveFault.BadLayout)
+        ↔ (¬ MeetsLimits max_live_frames config.now) }
     ensures setup { IfOk result (λ r. length r.setup.items ≡ length setup.now) }
-    ensures made { IfOk result (λ r. are_made (map (λ step. step.1) setup.now) r.setup.items ≡ true) }
+    ensures made { IfOk result (λ r. are_made (map (λ step. step.1) setup.now) r.setup.items
+        ≡ true) }
     ensures scripts { IfOk result (λ r. length r.scripts.items ≡ config.now.harts) }
-    ensures answered { IfOk result (λ r. AreAnswered (map (λ script. script.items) scripts.now) (map (λ replies. replies.items) r.scripts.items)) }
-    ensures pairs { IfOk result (λ r. map (λ pair. (pair.sender, pair.receiver)) r.report.pairs.items ≡ pairs_of config.now.harts config.now.harts) }
+    ensures answered { IfOk result (λ r. AreAnswered (map (λ script. script.items) scripts.now)
+        (map (λ replies. replies.items) r.scripts.items)) }
+    ensures pairs { IfOk result (λ r.
+        map (λ pair. (pair.sender, pair.receiver)) r.report.pairs.items
+        ≡ pairs_of config.now.harts config.now.harts) }
 {
     let (board, mut ports) = open(alloc, config)?;
     let latch = Latch::new(config.harts as u8);

@@ -2,8 +2,8 @@
 
 use std::sync::atomic::{AtomicBool, AtomicU32, Ordering};
 
-/// Counts the scripts of a run that have ended, and tells whether the run was abandoned. It is open once all scripts have ended,
-/// or the run was abandoned. The threads of a run share one.
+/// Counts the scripts of a run that have ended, and tells whether the run was abandoned. It is open
+/// once all scripts have ended, or the run was abandoned. The threads of a run share one.
 #[derive(Drop)]
 pub(crate) struct Latch {
     pub(crate) harts: u8,

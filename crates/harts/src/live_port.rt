@@ -26,7 +26,8 @@ fn serve_others(port: &mut HartPort, harts: u8) -> bool
     served
 }
 
-/// By turns serves the other harts and collects a ticket, until the ticket is done or not open. At most so many turns.
+/// By turns serves the other harts and collects a ticket, until the ticket is done or not open. At
+/// most so many turns.
 fn wait(port: &mut HartPort, ticket: u32, turns: u32, latch: &Latch) -> LiveReply
     ensures same { name_of port.new ≡ name_of port.old }
     ensures made { may_answer (live_step.Wait ticket) result ≡ true }
@@ -47,7 +48,8 @@ fn wait(port: &mut HartPort, ticket: u32, turns: u32, latch: &Latch) -> LiveRepl
     LiveReply::Timeout
 }
 
-/// Once the hart's own script has ended: serves the other harts by turns until all scripts have ended. At most so many turns.
+/// Once the hart's own script has ended: serves the other harts by turns until all scripts have
+/// ended. At most so many turns.
 pub(crate) fn serve_until_over(port: &mut HartPort, turns: u32, latch: &Latch)
     ensures { name_of port.new ≡ name_of port.old }
 {

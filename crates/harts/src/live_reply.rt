@@ -17,8 +17,8 @@ use walk::Trap;
 pub enum LiveReply {
     /// The access translates to this physical address.
     Translated(u64),
-    /// The reply that the same step has in a run of events: `Trap`, `Table`, `Leaf`, `Opened`, `Ok`, `Taken`, `Done`, `Waiting`
-    /// or `Refused`.
+    /// The reply that the same step has in a run of events: `Trap`, `Table`, `Leaf`, `Opened`,
+    /// `Ok`, `Taken`, `Done`, `Waiting` or `Refused`.
     Replied(Reply),
     /// The gate ended the script before this step.
     Halted,
@@ -44,7 +44,8 @@ impl LiveReply {
     /// The answer of a step of mapping.
     pub(crate) fn of_map(answer: Result<Mapped, Refusal>) -> LiveReply
         ensures made { (step : LiveStep) → may_answer step result ≡ true }
-        ensures table { (ppn : ℕ) → answer ≡ Ok (mapped.Table ppn) → result ≡ live.Replied (reply.Table ppn) }
+        ensures table { (ppn : ℕ) → answer ≡ Ok (mapped.Table ppn)
+            → result ≡ live.Replied (reply.Table ppn) }
         ensures leaf { answer ≡ Ok mapped.Leaf → result ≡ live.Replied reply.Leaf }
         ensures refused { IfErr answer (λ refusal. result ≡ live.Replied (reply.Refused refusal)) }
     {
@@ -95,7 +96,8 @@ impl LiveReply {
     pub(crate) fn of_collection(answer: Result<Collected, Refusal>) -> LiveReply
         ensures made { (step : LiveStep) → may_answer step result ≡ true }
         ensures done { answer ≡ Ok collected.Done → result ≡ live.Replied reply.Done }
-        ensures waiting { (harts : ℕ) → answer ≡ Ok (collected.Waiting harts) → result ≡ live.Replied (reply.Waiting harts) }
+        ensures waiting { (harts : ℕ) → answer ≡ Ok (collected.Waiting harts)
+            → result ≡ live.Replied (reply.Waiting harts) }
         ensures refused { IfErr answer (λ refusal. result ≡ live.Replied (reply.Refused refusal)) }
     {
         match answer {

@@ -24,7 +24,8 @@ pub(crate) struct Role<'a> {
 
 impl<'a> Role<'a> {
     pub(crate) fn into_parts(self) -> (u8, HartPort, &'a Vec<LiveStep>, Vec<LiveReply>)
-        ensures same { (result.1 ≡ self.entry.port) × (result.2.now.items ≡ self.entry.script.now.items) }
+        ensures same { (result.1 ≡ self.entry.port)
+            × (result.2.now.items ≡ self.entry.script.now.items) }
         ensures none { result.3.items ≡ [] }
         ensures room { length result.2.now.items ≤ vec_capacity result.3 }
     {
@@ -39,8 +40,8 @@ impl<'a> Role<'a> {
     }
 }
 
-/// The steps of a script in order, each between the two calls of the gate. In a run that was abandoned, of which there is no
-/// report, the script is halted before its next step.
+/// The steps of a script in order, each between the two calls of the gate. In a run that was
+/// abandoned, of which there is no report, the script is halted before its next step.
 fn play<G: Gate>(
     port: &mut HartPort,
     hart: u8,
@@ -67,7 +68,8 @@ fn play<G: Gate>(
     }
 }
 
-/// The script of a hart to its end, and then the service of the others until all scripts have ended.
+/// The script of a hart to its end, and then the service of the others until all scripts have
+/// ended.
 pub(crate) fn run_script<G: Gate>(
     mut port: HartPort,
     hart: u8,

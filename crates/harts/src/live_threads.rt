@@ -17,7 +17,8 @@ use std::sync::Wait;
 use std::thread;
 use std::thread::{Promise, PromisedHandle, Threads};
 
-/// What the thread of a hart began with, for contracts alone: it gives that port back, with replies that answer those steps.
+/// What the thread of a hart began with, for contracts alone: it gives that port back, with replies
+/// that answer those steps.
 #[derive(Drop)]
 pub(crate) struct Played {
     port: Snapshot<HartPort>,
@@ -29,7 +30,8 @@ impl Promise<(HartPort, Vec<LiveReply>)> for Played {
     ghost use Rattle.board.specs.Ports.{name_of};
     ghost use Rattle.harts.specs.Scripts.{IsAnswered};
 
-    ghost kept_by = { λ p r. (name_of r.0 ≡ name_of p.port.value) × IsAnswered p.steps.value.items r.1.items };
+    ghost kept_by = { λ p r. (name_of r.0 ≡ name_of p.port.value)
+        × IsAnswered p.steps.value.items r.1.items };
 }
 
 impl Played {
@@ -70,8 +72,10 @@ pub(crate) fn roles_of<'a>(
 ) -> Result<Vec<Role<'a>>, AllocError>
     requires few { length ports.items ≤ 8 }
     requires empty { empty.now.items ≡ [] }
-    ensures same { IfOk result (λ roles. map (λ role. name_of role.port) roles.items ≡ map name_of ports.items) }
-    ensures scripts { IfOk result (λ roles. map (λ role. role.script.now.items) roles.items ≡ scripts_of (length ports.items) (map (λ script. script.items) scripts.now)) }
+    ensures same { IfOk result (λ roles. map (λ role. name_of role.port) roles.items
+        ≡ map name_of ports.items) }
+    ensures scripts { IfOk result (λ roles. map (λ role. role.script.now.items) roles.items
+        ≡ scripts_of (length ports.items) (map (λ script. script.items) scripts.now)) }
     ensures count { IfOk result (λ roles. length roles.items ≡ length ports.items) }
 {
     let mut roles = Vec::with_capacity(alloc, ports.len())?;
@@ -97,10 +101,13 @@ fn join_all<R: Threads>(
     answers: &mut Vec<Vec<LiveReply>>,
 )
     requires none { (ports.old.items ≡ []) × (answers.old.items ≡ []) }
-    requires room { (length handles.items ≤ vec_capacity ports.old) × (length handles.items ≤ vec_capacity answers.old) }
-    ensures ports { map name_of ports.new.items ≡ map (λ handle. name_of handle.promise.port.value) handles.items }
+    requires room { (length handles.items ≤ vec_capacity ports.old)
+        × (length handles.items ≤ vec_capacity answers.old) }
+    ensures ports { map name_of ports.new.items
+        ≡ map (λ handle. name_of handle.promise.port.value) handles.items }
     ensures count { length answers.new.items ≡ length handles.items }
-    ensures answered { are_answered (map (λ handle. handle.promise.steps.value.items) handles.items) (map (λ replies. replies.items) answers.new.items) ≡ true }
+    ensures answered { are_answered (map (λ handle. handle.promise.steps.value.items) handles.items)
+        (map (λ replies. replies.items) answers.new.items) ≡ true }
 {
     for handle in handles {
         let (port, own) = handle.join(rt);
@@ -122,7 +129,8 @@ fn handle_of<E: Drop>(started: Result<Running, E>, latch: &Latch) -> Option<Runn
     }
 }
 
-/// A thread for each hart, in order. None if one could not be started; then the others end before their next step.
+/// A thread for each hart, in order. None if one could not be started; then the others end before
+/// their next step.
 fn start_all<'a, R: Threads + Wait + Sync, G: Gate + Sync>(
     rt: &R,
     mut handles: Vec<Running>,
@@ -132,16 +140,24 @@ fn start_all<'a, R: Threads + Wait + Sync, G: Gate + Sync>(
     gate: &G,
 ) -> Option<Vec<Running>>
     requires { (handles.items ≡ []) × (length roles.items ≤ vec_capacity handles) }
-    ensures ports { IfSome result (λ handles. map (λ handle. name_of handle.promise.port.value) handles.items ≡ map (λ role. name_of role.port) roles.entry.items) }
-    ensures scripts { IfSome result (λ handles. map (λ handle. handle.promise.steps.value.items) handles.items ≡ map (λ role. role.script.now.items) roles.entry.items) }
+    ensures ports { IfSome result (λ handles.
+        map (λ handle. name_of handle.promise.port.value) handles.items
+        ≡ map (λ role. name_of role.port) roles.entry.items) }
+    ensures scripts { IfSome result (λ handles.
+        map (λ handle. handle.promise.steps.value.items) handles.items
+        ≡ map (λ role. role.script.now.items) roles.entry.items) }
 {
     thread::scope(
         thread::scope_env(),
         rt,
         |scope| -> Option<Vec<Running>>
             requires { (handles.items ≡ []) × (length roles.items ≤ vec_capacity handles) }
-            ensures ports { IfSome result (λ handles. map (λ handle. name_of handle.promise.port.value) handles.items ≡ map (λ role. name_of role.port) roles.entry.items) }
-            ensures scripts { IfSome result (λ handles. map (λ handle. handle.promise.steps.value.items) handles.items ≡ map (λ role. role.script.now.items) roles.entry.items) }
+            ensures ports { IfSome result (λ handles.
+                map (λ handle. name_of handle.promise.port.value) handles.items
+                ≡ map (λ role. name_of role.port) roles.entry.items) }
+            ensures scripts { IfSome result (λ handles.
+                map (λ handle. handle.promise.steps.value.items) handles.items
+                ≡ map (λ role. role.script.now.items) roles.entry.items) }
         {
             for role in roles {
                 let (hart, port, script, answers) = role.into_parts();
@@ -149,7 +165,8 @@ fn start_all<'a, R: Threads + Wait + Sync, G: Gate + Sync>(
                 let started = scope.spawn_with(
                     promise,
                     move || -> (HartPort, Vec<LiveReply>)
-                        requires { (answers.items ≡ []) × (length script.now.items ≤ vec_capacity answers) }
+                        requires { (answers.items ≡ [])
+                            × (length script.now.items ≤ vec_capacity answers) }
                         ensures port { name_of result.0 ≡ name_of port }
                         ensures answered { IsAnswered script.entry.now.items result.1.items }
                     { run_script(port, hart, script.as_slice(), answers, turns, latch, gate) },
@@ -170,9 +187,12 @@ pub(crate) fn run_threads<'a, R: Threads + Wait + Sync, G: Gate + Sync>(
     latch: &Latch,
     gate: &G,
 ) -> Result<(Vec<HartPort>, Vec<Vec<LiveReply>>), LiveFault>
-    ensures ports { IfOk result (λ r. map name_of r.0.items ≡ map (λ role. name_of role.port) roles.entry.items) }
+    ensures ports { IfOk result (λ r. map name_of r.0.items
+        ≡ map (λ role. name_of role.port) roles.entry.items) }
     ensures count { IfOk result (λ r. length r.1.items ≡ length roles.entry.items) }
-    ensures answered { IfOk result (λ r. are_answered (map (λ role. role.script.now.items) roles.entry.items) (map (λ replies. replies.items) r.1.items) ≡ true) }
+    ensures answered { IfOk result (λ r.
+        are_answered (map (λ role. role.script.now.items) roles.entry.items)
+        (map (λ replies. replies.items) r.1.items) ≡ true) }
     ensures layout { IfErr result (λ fault. fault ≢ LiveFault.BadLayout) }
 {
     let handles = Vec::with_capacity(alloc, roles.len())?;

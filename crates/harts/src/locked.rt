@@ -16,8 +16,8 @@ use std::marker::{Model, PhantomData};
 use std::sync::{Mutex, Wait};
 use stepcore::{Event, Machine, Reply};
 
-/// What lies under the lock: a book, and the list of each tally, for contracts alone. The book's history is an interleaving of
-/// the lists.
+/// What lies under the lock: a book, and the list of each tally, for contracts alone. The book's
+/// history is an interleaving of the lists.
 #[derive(Drop)]
 struct Kept<C: Named> {
     book: Book<C>,
@@ -34,16 +34,19 @@ impl<C: Named> Model for Kept<C> {
 
     ghost view = { λ k. k.book };
 
-    ghost invariant = { λ k. (map (λ l. l.half.name) k.lists.items ≡ C.lists) × IsInterleaving (map (λ l. l.half.list) k.lists.items) k.book };
+    ghost invariant = { λ k. (map (λ l. l.half.name) k.lists.items ≡ C.lists)
+        × IsInterleaving (map (λ l. l.half.list) k.lists.items) k.book };
 }
 
 impl<C: Named> Kept<C> {
-    /// One event, which is kept with its reply, in the history and in the list of the tally, if it was answered.
+    /// One event, which is kept with its reply, in the history and in the list of the tally, if it
+    /// was answered.
     fn call(&mut self, mine: &mut Tally<C>, event: Event) -> Result<Reply, AllocError>
         ensures due { IfOk result (λ reply. IsDueAfterSome (setup_of C.config) event reply) }
         ensures appended { IfOk result (λ reply. self.new ≡ self.old ++ (event, reply) ∷ []) }
         ensures unchanged { OnErr result (self.new ≡ self.old) }
-        ensures ok { IfOk result (λ reply. mine.new.turns.list ≡ mine.old.turns.list ++ (event, reply) ∷ []) }
+        ensures ok { IfOk result (λ reply. mine.new.turns.list
+            ≡ mine.old.turns.list ++ (event, reply) ∷ []) }
         ensures err { OnErr result (mine.new.turns.list ≡ mine.old.turns.list) }
         ensures same { mine.new.turns.name ≡ mine.old.turns.name }
     {
@@ -67,21 +70,23 @@ fn push_to(lists: &mut [List], number: usize, turns: &mut Turns, turn: &(Event, 
     ensures count { length lists.new ≡ length lists.old }
     ensures names { map (λ l. l.half.name) lists.new ≡ map (λ l. l.half.name) lists.old }
     ensures same { slice_index_or (map (λ l. l.half.list) lists.old) number [] ≡ turns.old.list }
-    ensures lists { map (λ l. l.half.list) lists.new ≡ slice_set (map (λ l. l.half.list) lists.old) number (turns.old.list ++ turn.now ∷ []) }
+    ensures lists { map (λ l. l.half.list) lists.new
+        ≡ slice_set (map (λ l. l.half.list) lists.old) number (turns.old.list ++ turn.now ∷ []) }
     ensures turns { turns.new.list ≡ turns.old.list ++ turn.now ∷ [] }
     ensures name { turns.new.name ≡ turns.old.name }
 {
     lists[number].half.push(turns, turn)
 }
 
-/// A machine under a lock. Whenever the lock is free, the machine stands at the history kept beside it. `C` names the
-/// configuration and the lists of the tallies, for contracts alone.
+/// A machine under a lock. Whenever the lock is free, the machine stands at the history kept beside
+/// it. `C` names the configuration and the lists of the tallies, for contracts alone.
 #[derive(Drop)]
 pub struct Locked<C: Named> {
     lock: Mutex<Kept<C>>,
 }
 
-/// Has, for contracts alone, the list of its turns: the events called with it, each with its reply, the oldest first.
+/// Has, for contracts alone, the list of its turns: the events called with it, each with its reply,
+/// the oldest first.
 #[derive(Drop)]
 pub struct Tally<C: Named> {
     number: usize,
@@ -99,9 +104,9 @@ unsafe impl<C: Named + Send> Send for Tally<C> {}
 unsafe impl<C: Named + Send> Sync for Locked<C> {}
 
 impl<C: Named> Locked<C> {
-    /// A machine of a configuration under a lock, and one tally for each list of the blank, whose turns are none. `BadLayout`
-    /// exactly if `Config::check` says no, `NoMemory` if there is not enough memory. `C` names the
-    /// configuration and the lists.
+    /// A machine of a configuration under a lock, and one tally for each list of the blank, whose
+    /// turns are none. `BadLayout` exactly if `Config::check` says no, `NoMemory` if there is not
+    /// enough memory. `C` names the configuration and the lists.
     pub fn open(
         alloc: Global,
         blank: Blank,
@@ -109,7 +114,8 @@ impl<C: Named> Locked<C> {
     ) -> Result<(Locked<C>, Vec<Tally<C>>), OpenFault>
         requires config { C.config ≡ config.now }
         requires lists { C.lists ≡ blank }
-        ensures bad_layout { (result ≡ Err OpenFault.BadLayout) ↔ (¬ MeetsLimits max_frames config.now) }
+        ensures bad_layout { (result ≡ Err OpenFault.BadLayout)
+            ↔ (¬ MeetsLimits max_frames config.now) }
         ensures limits { OnOk result (MeetsLimits max_frames config.now) }
         ensures each { IfOk result (λ r. map (λ tally. tally.turns.name) r.1.items ≡ C.lists) }
         ensures none { IfOk result (λ r. All (λ tally. tally.turns.list ≡ []) r.1.items) }
@@ -123,9 +129,10 @@ impl<C: Named> Locked<C> {
         Ok((locked, tallies))
     }
 
-    /// Takes the lock for one event, which is kept with its reply. The reply is due after some lawful history of the
-    /// configuration, and the tally's list is the old one followed by the event with the reply. `AllocError` if there is no
-    /// memory to keep the event; the tally is then the same, and the machine too.
+    /// Takes the lock for one event, which is kept with its reply. The reply is due after some
+    /// lawful history of the configuration, and the tally's list is the old one followed by the
+    /// event with the reply. `AllocError` if there is no memory to keep the event; the tally is
+    /// then the same, and the machine too.
     pub fn call(
         &self,
         rt: &impl Wait,
@@ -133,15 +140,17 @@ impl<C: Named> Locked<C> {
         event: Event,
     ) -> Result<Reply, AllocError>
         ensures due { IfOk result (λ reply. IsDueAfterSome (setup_of C.config) event reply) }
-        ensures ok { IfOk result (λ reply. tally.new.turns.list ≡ tally.old.turns.list ++ (event, reply) ∷ []) }
+        ensures ok { IfOk result (λ reply. tally.new.turns.list
+            ≡ tally.old.turns.list ++ (event, reply) ∷ []) }
         ensures err { OnErr result (tally.new.turns.list ≡ tally.old.turns.list) }
         ensures same { tally.new.turns.name ≡ tally.old.turns.name }
     {
         self.lock.lock(rt).call(tally, event)
     }
 
-    /// The machine, and the history at which it stands, the oldest event first: an interleaving of the lists of the tallies.
-    /// Asks for all tallies of this lock, in the order in which `open` gave them.
+    /// The machine, and the history at which it stands, the oldest event first: an interleaving of
+    /// the lists of the tallies. Asks for all tallies of this lock, in the order in which `open`
+    /// gave them.
     pub fn into_parts(self, tallies: Vec<Tally<C>>) -> (Machine, Vec<(Event, Reply)>)
         requires all { map (λ tally. tally.turns.name) tallies.items ≡ C.lists }
         ensures stands { Stands (setup_of C.config) result.0 (history_of result.1.items) }
@@ -178,7 +187,7 @@ fn agree<C: Named>(mut lists: Vec<List>, mut tallies: Vec<Tally<C>>)
 {
     while let Some(mut list) = lists.pop() {
         let Some(mut tally) = tallies.pop() else {
-            unreachable!()
+            break;
         };
         list.half.agree(&mut tally.turns);
     }
