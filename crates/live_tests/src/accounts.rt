@@ -1,5 +1,5 @@
-//! What the steps and answers of one hart of eight tell of its tickets, its pages and its mailboxes, and whether each answer is
-//! one that may be given.
+//! What the steps and answers of one hart of eight tell of its tickets, its pages and its
+//! mailboxes, and whether each answer is one that may be given.
 
 use crate::runs::*;
 use crate::scripts::{BASES, bit, ppn_of};

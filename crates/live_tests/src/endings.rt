@@ -11,7 +11,8 @@ fn flush(named: u8) -> LiveStep {
     }
 }
 
-// No harts; a mailbox of more than 64 places; no number of spare frames for a hart; more frames than harts that are threads have.
+// No harts; a mailbox of more than 64 places; no number of spare frames for a hart; more frames
+// than harts that are threads have.
 #[test]
 fn layout_is_refused(rt: HostRuntime) {
     let mut roomy = homes(2);
@@ -71,7 +72,8 @@ fn no_scripts(rt: HostRuntime) -> Result<(), Fail> {
     Ok(())
 }
 
-// The gate ends the script of hart 1 before its step 2: that is the last answer, and the gate is not told that a step ended.
+// The gate ends the script of hart 1 before its step 2: that is the last answer, and the gate is
+// not told that a step ended.
 #[test]
 fn halted_by_the_gate(rt: HostRuntime) -> Result<(), Fail> {
     let alloc = rt.alloc();
@@ -116,7 +118,8 @@ fn halted_before_the_last_step(rt: HostRuntime) -> Result<(), Fail> {
     Ok(())
 }
 
-// A hart whose script was halted before its first step serves the others, as any hart whose script has ended.
+// A hart whose script was halted before its first step serves the others, as any hart whose script
+// has ended.
 #[test]
 fn halted_hart_serves(rt: HostRuntime) -> Result<(), Fail> {
     let alloc = rt.alloc();

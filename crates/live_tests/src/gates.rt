@@ -49,8 +49,8 @@ impl Steps {
     }
 }
 
-/// Counts the calls of a hart of two, and sees whether each `after` follows the `before` of its step, from step 1 on. Ends the
-/// script of a hart at a step.
+/// Counts the calls of a hart of two, and sees whether each `after` follows the `before` of its
+/// step, from step 1 on. Ends the script of a hart at a step.
 #[derive(Drop)]
 pub(crate) struct Ending {
     pub(crate) hart: u8,

@@ -8,8 +8,9 @@ use history::{LiveStep, Reply};
 use shoot::Request;
 use std::alloc::{AllocError, Global};
 
-/// Which space a hart is in, how many requests from each hart it has taken at least, and the least version that it may still
-/// find of each page: what it served the unmapping of is gone, and what it found once is not replaced by something older.
+/// Which space a hart is in, how many requests from each hart it has taken at least, and the least
+/// version that it may still find of each page: what it served the unmapping of is gone, and what
+/// it found once is not replaced by something older.
 #[derive(Drop)]
 pub(crate) struct Reader {
     hart: u8,
@@ -57,8 +58,8 @@ impl Reader {
         }
     }
 
-    /// A request that was taken: the first one of those that the sender asked, after those that were taken, that is the same.
-    /// Those before it were taken too.
+    /// A request that was taken: the first one of those that the sender asked, after those that
+    /// were taken, that is the same. Those before it were taken too.
     fn serve(&mut self, from: u8, account: &Account, request: Option<&Request>) -> bool {
         let known = self.taken.get(usize::from(from)).copied().unwrap_or(0);
         let mut number: usize = 0;

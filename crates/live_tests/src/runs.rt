@@ -20,8 +20,8 @@ pub(crate) const USER: Ctx = Ctx {
     mxr: false,
 };
 
-/// So many harts, each the home of the space of its number, whose ASID is one more. Each hart has 8 spare frames, and the
-/// mailboxes have a capacity of 4.
+/// So many harts, each the home of the space of its number, whose ASID is one more. Each hart has 8
+/// spare frames, and the mailboxes have a capacity of 4.
 pub(crate) fn homes(harts: u8) -> Config {
     let mut spaces = ArrayVec::new();
     let mut spares = ArrayVec::new();

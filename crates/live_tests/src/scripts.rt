@@ -192,8 +192,8 @@ impl Draft {
     }
 }
 
-/// A script of a hart whose pages are mapped by setup as versions 0 and 1. An orderly one finishes each ticket before it opens
-/// the next, and so is refused nothing but a serve.
+/// A script of a hart whose pages are mapped by setup as versions 0 and 1. An orderly one finishes
+/// each ticket before it opens the next, and so is refused nothing but a serve.
 pub(crate) fn script(
     alloc: Global,
     hart: u8,

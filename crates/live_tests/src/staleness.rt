@@ -6,8 +6,9 @@ use pte::{Page, What};
 use std::alloc::{AllocError, Global};
 use std::test::Fail;
 
-// Hart 0 unmaps a page once all others have loaded it. Once it has posted to all, they load it again and serve. Once it has
-// waited, they load it again, and at last once it has mapped the page anew.
+// Hart 0 unmaps a page once all others have loaded it. Once it has posted to all, they load it
+// again and serve. Once it has waited, they load it again, and at last once it has mapped the page
+// anew.
 #[derive(Drop)]
 struct Rounds {
     steps: Steps,
@@ -69,8 +70,8 @@ fn loads(alloc: Global) -> Result<Vec<LiveStep>, AllocError> {
     Ok(script)
 }
 
-// As long as a hart has not served, it may use what it holds. Once the wait of the hart that asked was answered with `Done`, it
-// finds nothing, and then what is mapped anew.
+// As long as a hart has not served, it may use what it holds. Once the wait of the hart that asked
+// was answered with `Done`, it finds nothing, and then what is mapped anew.
 #[test]
 fn nothing_is_found_once_waited(rt: HostRuntime) -> Result<(), Fail> {
     let alloc = rt.alloc();

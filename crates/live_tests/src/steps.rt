@@ -56,7 +56,8 @@ const FENCE: LiveStep = LiveStep::Fence {
     rs2: None,
 };
 
-// A page is mapped, used, and made writable; hart 1 is asked to drop it, and everything is answered in turn.
+// A page is mapped, used, and made writable; hart 1 is asked to drop it, and everything is answered
+// in turn.
 #[test]
 fn protected_in_setup(rt: HostRuntime) -> Result<(), Fail> {
     let Some(page) = page(0x1000) else {

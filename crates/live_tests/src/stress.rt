@@ -74,7 +74,8 @@ fn readers_of(
     Ok(readers)
 }
 
-/// What was accepted is what was posted, and was taken in order: at least what the scripts took, and all but what waits.
+/// What was accepted is what was posted, and was taken in order: at least what the scripts took,
+/// and all but what waits.
 fn assert_pairs(rt: &impl Abort, accounts: &[Account], readers: &[Reader], pairs: &[PairReport]) {
     assert!(rt; pairs.len() == 56);
     for pair in pairs {
