@@ -4,8 +4,8 @@ use arrayvec::ArrayVec;
 use bitflags::Flags;
 use pte::{Page, PageSize, PteFlags, Scheme, VirtAddr};
 use spaces::{
-    Config, MapFault, Memory, OpenFault, Place, Space, apply, next_map_edit, protect_edit,
-    unmap_edit,
+    Config, MAX_HARTS, MAX_SPACES, MapFault, Memory, OpenFault, Place, Space, apply, next_map_edit,
+    protect_edit, unmap_edit,
 };
 use std::alloc::Global;
 use std::process::Abort;
@@ -14,27 +14,23 @@ use walk::Words;
 mod edit_walks;
 mod sv48;
 
-const R: u8 = 0x02;
+const R: PteFlags = PteFlags::R;
 
-const W: u8 = 0x04;
+const W: PteFlags = PteFlags::W;
 
-const X: u8 = 0x08;
+const X: PteFlags = PteFlags::X;
 
-const U: u8 = 0x10;
+const U: PteFlags = PteFlags::U;
 
-const G: u8 = 0x20;
+const G: PteFlags = PteFlags::G;
 
-const A: u8 = 0x40;
+const A: PteFlags = PteFlags::A;
 
-const D: u8 = 0x80;
+const D: PteFlags = PteFlags::D;
 
 const KERNEL: u64 = 0xFFFF_FFFF_C000_0000;
 
-fn flags(bits: u8) -> PteFlags {
-    PteFlags::from_bits_retain(bits)
-}
-
-fn spares_of(counts: &[u16]) -> ArrayVec<u16, 8> {
+fn spares_of(counts: &[u16]) -> ArrayVec<u16, MAX_HARTS> {
     let mut spares = ArrayVec::new();
     for count in counts {
         if !spares.is_full() {
@@ -44,7 +40,7 @@ fn spares_of(counts: &[u16]) -> ArrayVec<u16, 8> {
     spares
 }
 
-fn spaces_of(list: &[(u8, u16)]) -> ArrayVec<Space, 32> {
+fn spaces_of(list: &[(u8, u16)]) -> ArrayVec<Space, MAX_SPACES> {
     let mut spaces = ArrayVec::new();
     for (home, asid) in list {
         if !spaces.is_full() {
@@ -55,19 +51,6 @@ fn spaces_of(list: &[(u8, u16)]) -> ArrayVec<Space, 32> {
         }
     }
     spaces
-}
-
-/// One hart with 8 spare frames, one space of ASID 1, one slot of the window.
-fn default_config() -> Config {
-    Config {
-        scheme: Scheme::Sv39,
-        harts: 1,
-        spaces: spaces_of(&[(0, 1)]),
-        window: 1,
-        base: 0x8_0000,
-        spares: spares_of(&[8]),
-        capacity: 4,
-    }
 }
 
 fn page(rt: &impl Abort, base: u64, size: PageSize) -> Page {
@@ -81,9 +64,9 @@ fn page(rt: &impl Abort, base: u64, size: PageSize) -> Page {
 /// What is asked of a page of a place.
 #[derive(Clone, Copy)]
 enum Call {
-    Map(u64, u8),
+    Map(u64, PteFlags),
     Unmap,
-    Protect(u8),
+    Protect(PteFlags),
 }
 
 /// Makes the edit, applies it, and tells the word that changed.
@@ -97,9 +80,9 @@ fn edited(
 ) -> Result<(u64, u16, u64), MapFault> {
     assert!(rt; memory.has(place), "the place is there");
     let edit = match call {
-        Call::Map(ppn, bits) => next_map_edit(memory, hart, place, page, ppn, flags(bits))?,
+        Call::Map(ppn, flags) => next_map_edit(memory, hart, place, page, ppn, flags)?,
         Call::Unmap => unmap_edit(memory, hart, place, page)?,
-        Call::Protect(bits) => protect_edit(memory, hart, place, page, flags(bits))?,
+        Call::Protect(flags) => protect_edit(memory, hart, place, page, flags)?,
     };
     apply(memory, edit);
     let word = memory.word(edit.ppn(), edit.index()).expect(rt, "a word");
@@ -116,7 +99,7 @@ fn opened(rt: &impl Abort, alloc: Global, config: &Config) -> Memory {
 
 #[test]
 fn table_of_words(rt: HostRuntime) {
-    let mut memory = opened(&rt, rt.alloc(), &default_config());
+    let mut memory = opened(&rt, rt.alloc(), &Config::default());
     assert!(rt; memory.root(0) == 0x8_0001);
     assert!(rt; memory.word(0x8_0001, 511) == Some(0x2000_0021));
     assert!(rt; memory.word(0x8_0001, 0) == Some(0));
@@ -150,42 +133,42 @@ fn table_of_words(rt: HostRuntime) {
 fn with_harts(harts: u16) -> Config {
     Config {
         harts,
-        ..default_config()
+        ..Config::default()
     }
 }
 
 fn with_window(window: u16) -> Config {
     Config {
         window,
-        ..default_config()
+        ..Config::default()
     }
 }
 
 fn with_spaces(list: &[(u8, u16)]) -> Config {
     Config {
         spaces: spaces_of(list),
-        ..default_config()
+        ..Config::default()
     }
 }
 
 fn with_capacity(capacity: u16) -> Config {
     Config {
         capacity,
-        ..default_config()
+        ..Config::default()
     }
 }
 
 fn with_spares(counts: &[u16]) -> Config {
     Config {
         spares: spares_of(counts),
-        ..default_config()
+        ..Config::default()
     }
 }
 
 fn with_base(base: u64) -> Config {
     Config {
         base,
-        ..default_config()
+        ..Config::default()
     }
 }
 
@@ -254,7 +237,7 @@ fn largest() -> Config {
         harts: 8,
         spaces,
         spares: spares_of(&[1; 8]),
-        ..default_config()
+        ..Config::default()
     }
 }
 
@@ -274,11 +257,14 @@ fn homes_and_asids(rt: HostRuntime) {
     }
 }
 
-fn map(ppn: u64, bits: u8) -> Call {
-    Call::Map(ppn, bits)
+fn map(ppn: u64, flags: PteFlags) -> Call {
+    Call::Map(ppn, flags)
 }
 
-const RUAD: u8 = R | U | A | D;
+/// The flags of a page that a user may load from.
+fn user_flags() -> PteFlags {
+    R | U | A | D
+}
 
 /// Memory of two harts, in which the 2 MiB at 0x400000 of the space are mapped.
 fn with_large_page(rt: &impl Abort, alloc: Global) -> Memory {
@@ -288,7 +274,7 @@ fn with_large_page(rt: &impl Abort, alloc: Global) -> Memory {
     };
     let mut memory = opened(rt, alloc, &config);
     let large = page(rt, 0x40_0000, PageSize::Mib2);
-    let rwuad = map(0x200, W | RUAD);
+    let rwuad = map(0x200, W | user_flags());
     assert!(rt;
         edited(rt, &mut memory, 0, Place::Space(0), large, rwuad) == Ok((0x8_0001, 0, 0x2000_0801))
     );
@@ -307,11 +293,12 @@ fn edits_refused_by_what_is_asked(rt: HostRuntime) {
     let space = Place::Space(0);
     assert!(rt; !memory.has(Place::Space(5)));
     assert!(rt;
-        edited(&rt, &mut memory, 1, space, small, map(0x100, RUAD)) == Err(MapFault::NotHome)
+        edited(&rt, &mut memory, 1, space, small, map(0x100, user_flags()))
+            == Err(MapFault::NotHome)
     );
-    let too_large = map(1 << 44, RUAD);
+    let too_large = map(1 << 44, user_flags());
     let rows = [
-        (space, window, map(0x100, RUAD), MapFault::WrongHalf),
+        (space, window, map(0x100, user_flags()), MapFault::WrongHalf),
         (
             Place::Kernel,
             small,
@@ -319,10 +306,15 @@ fn edits_refused_by_what_is_asked(rt: HostRuntime) {
             MapFault::WrongHalf,
         ),
         (space, small, map(0x100, W | X | U), MapFault::BadFlags),
-        (space, small, map(0x100, RUAD | G), MapFault::BadFlags),
+        (
+            space,
+            small,
+            map(0x100, user_flags() | G),
+            MapFault::BadFlags,
+        ),
         (Place::Kernel, window, map(0x100, R), MapFault::BadFlags),
         (space, small, too_large, MapFault::PpnTooLarge),
-        (space, large, map(0x201, RUAD), MapFault::Misaligned),
+        (space, large, map(0x201, user_flags()), MapFault::Misaligned),
     ];
     for (place, page, call, fault) in rows {
         assert!(rt; edited(&rt, &mut memory, 0, place, page, call) == Err(fault));
@@ -346,9 +338,19 @@ fn first_refusal_is_told(rt: HostRuntime) {
         (0, window, Call::Protect(W), MapFault::WrongHalf),
         (0, large, map((1 << 44) + 1, W), MapFault::BadFlags),
         (0, large, map(0x201, W), MapFault::BadFlags),
-        (0, large, map((1 << 44) + 1, RUAD), MapFault::PpnTooLarge),
-        (0, large, map(0x201, RUAD), MapFault::Misaligned),
-        (0, large, map(0x200, W | RUAD), MapFault::AlreadyMapped),
+        (
+            0,
+            large,
+            map((1 << 44) + 1, user_flags()),
+            MapFault::PpnTooLarge,
+        ),
+        (0, large, map(0x201, user_flags()), MapFault::Misaligned),
+        (
+            0,
+            large,
+            map(0x200, W | user_flags()),
+            MapFault::AlreadyMapped,
+        ),
         (0, small, Call::Protect(W), MapFault::BadFlags),
         (0, small, Call::Protect(R | G), MapFault::BadFlags),
     ];
@@ -363,16 +365,16 @@ fn mapped_huge(
     memory: &mut Memory,
     place: Place,
     base: u64,
-    bits: u8,
+    flags: PteFlags,
 ) -> Result<(u64, u16, u64), MapFault> {
     let huge = page(rt, base, PageSize::Gib1);
-    edited(rt, memory, 0, place, huge, map(0x4_0000, bits))
+    edited(rt, memory, 0, place, huge, map(0x4_0000, flags))
 }
 
 /// The user's half is slots 0 to 255 of a root.
 #[test]
 fn slots_of_a_space(rt: HostRuntime) {
-    let mut memory = opened(&rt, rt.alloc(), &default_config());
+    let mut memory = opened(&rt, rt.alloc(), &Config::default());
     let rows = [
         (0x3F_C000_0000, Ok((0x8_0001, 255, 0x1000_00D3))),
         (0xFFFF_FFC0_0000_0000, Err(MapFault::WrongHalf)),
@@ -380,14 +382,14 @@ fn slots_of_a_space(rt: HostRuntime) {
         (KERNEL, Err(MapFault::WrongHalf)),
     ];
     for (base, answer) in rows {
-        assert!(rt; mapped_huge(&rt, &mut memory, Place::Space(0), base, RUAD) == answer);
+        assert!(rt; mapped_huge(&rt, &mut memory, Place::Space(0), base, user_flags()) == answer);
     }
 }
 
 /// A window of one slot is slot 511, where a table is from the opening on.
 #[test]
 fn slots_of_the_window(rt: HostRuntime) {
-    let mut memory = opened(&rt, rt.alloc(), &default_config());
+    let mut memory = opened(&rt, rt.alloc(), &Config::default());
     let rows = [
         (0x3F_C000_0000, MapFault::WrongHalf),
         (0xFFFF_FFC0_0000_0000, MapFault::WrongHalf),
@@ -411,7 +413,7 @@ fn flags_of_leaves(rt: HostRuntime) {
         (0xC0_0000, W | U | A | D, Err(MapFault::BadFlags)),
         (0xC0_0000, W | X | U, Err(MapFault::BadFlags)),
     ];
-    for (base, bits, answer) in rows {
+    for (base, flags, answer) in rows {
         let large = page(&rt, base, PageSize::Mib2);
         assert!(rt;
             edited(
@@ -420,7 +422,7 @@ fn flags_of_leaves(rt: HostRuntime) {
                 0,
                 Place::Space(0),
                 large,
-                map(0x200, bits)
+                map(0x200, flags)
             ) == answer
         );
     }
@@ -470,7 +472,7 @@ fn mapped_small(
     base: u64,
 ) -> Result<(u64, u16, u64), MapFault> {
     let flags = match place {
-        Place::Space(_) => RUAD,
+        Place::Space(_) => user_flags(),
         Place::Kernel => R | G | A | D,
     };
     let small = page(rt, base, PageSize::Kib4);
@@ -523,17 +525,42 @@ fn edits_refused_by_what_stands_there(rt: HostRuntime) {
     let space = Place::Space(0);
     let rgad = map(0x4_0000, R | G | A | D);
     let rows = [
-        (space, large, map(0x400, RUAD), MapFault::AlreadyMapped),
-        (space, inside, map(0x100, RUAD), MapFault::LeafInWay),
-        (space, huge, map(0x4_0000, RUAD), MapFault::TableInWay),
+        (
+            space,
+            large,
+            map(0x400, user_flags()),
+            MapFault::AlreadyMapped,
+        ),
+        (space, inside, map(0x100, user_flags()), MapFault::LeafInWay),
+        (
+            space,
+            huge,
+            map(0x4_0000, user_flags()),
+            MapFault::TableInWay,
+        ),
         (Place::Kernel, slot, rgad, MapFault::TableInWay),
         (space, inside, Call::Unmap, MapFault::WrongSize),
         (space, small, Call::Unmap, MapFault::NotMapped),
-        (space, inside, Call::Protect(RUAD), MapFault::WrongSize),
-        (space, small, Call::Protect(RUAD), MapFault::NotMapped),
+        (
+            space,
+            inside,
+            Call::Protect(user_flags()),
+            MapFault::WrongSize,
+        ),
+        (
+            space,
+            small,
+            Call::Protect(user_flags()),
+            MapFault::NotMapped,
+        ),
         (Place::Kernel, slot, Call::Unmap, MapFault::WrongSize),
         (space, huge, Call::Unmap, MapFault::WrongSize),
-        (space, huge, Call::Protect(RUAD), MapFault::WrongSize),
+        (
+            space,
+            huge,
+            Call::Protect(user_flags()),
+            MapFault::WrongSize,
+        ),
     ];
     for (place, page, call, fault) in rows {
         assert!(rt; edited(&rt, &mut memory, 0, place, page, call) == Err(fault));
@@ -544,7 +571,7 @@ fn edits_refused_by_what_stands_there(rt: HostRuntime) {
 fn frames_run_out(rt: HostRuntime) {
     let config = Config {
         spares: spares_of(&[1]),
-        ..default_config()
+        ..Config::default()
     };
     let mut memory = opened(&rt, rt.alloc(), &config);
     let small = page(&rt, 0x1000, PageSize::Kib4);
@@ -562,7 +589,7 @@ fn frames_run_out(rt: HostRuntime) {
 fn leaf_is_told_before_no_frame(rt: HostRuntime) {
     let config = Config {
         spares: spares_of(&[0]),
-        ..default_config()
+        ..Config::default()
     };
     let mut memory = opened(&rt, rt.alloc(), &config);
     let huge = page(&rt, 0, PageSize::Gib1);
@@ -574,4 +601,29 @@ fn leaf_is_told_before_no_frame(rt: HostRuntime) {
     assert!(rt;
         edited(&rt, &mut memory, 0, Place::Space(0), small, leaf) == Err(MapFault::LeafInWay)
     );
+}
+
+/// The default has the numbers that a file gets that leaves each key out.
+#[test]
+fn numbers_of_the_default(rt: HostRuntime) {
+    let config = Config::default();
+    assert!(rt; config.scheme == Scheme::Sv39 && config.harts == 1 && config.capacity == 4);
+    assert!(rt; config.window == 1 && config.base == 0x8_0000);
+    assert!(rt; config.spaces.as_slice() == &[Space { home: 0, asid: 1 }][..]);
+    assert!(rt; config.spares.as_slice() == &[8][..]);
+    assert!(rt; Config::with_harts(8).spares.as_slice() == &[8; 8][..]);
+    assert!(rt; Config::with_harts(8).check_live() && !Config::with_harts(9).check());
+}
+
+/// What faults say, as any error does.
+#[test]
+fn faults_are_told(rt: HostRuntime) {
+    let alloc = rt.alloc();
+    let fault = MapFault::NoFrame;
+    let refused = MapFault::Misaligned;
+    let opening = OpenFault::BadLayout;
+    let told = format!(in alloc; "{fault}; {refused}; {opening}").expect(&rt, "memory");
+    let wanted = "no spare frame of the home is left; the PPN is no multiple of the page's size; \
+                  the configuration is not within the limits";
+    assert!(rt; told.as_str() == wanted);
 }

@@ -6,4 +6,6 @@ mod edits;
 #[cfg(test)]
 mod entries;
 #[cfg(test)]
+mod faults;
+#[cfg(test)]
 mod walks;

@@ -4,6 +4,7 @@ ghost use Rattle.std.specs.Prelude.{◌≡◌};
 
 use pte::{Access, Ctx, Kind, Mode, Page, PageSize, Pte, Scheme, VirtAddr};
 use std::cell::Cell;
+use std::ops::ControlFlow;
 use std::process::Abort;
 use walk::{Found, Progress, Trap, Walk, Why, Words, flags_fault, translate, translate_in};
 
@@ -368,7 +369,7 @@ fn hostile_words(rt: HostRuntime) {
 fn fed_on(begun: Walk, words: &[u64]) -> Option<Walk> {
     let mut walk = begun;
     for word in words {
-        let Progress::More(next) = walk.load(Some(*word)) else {
+        let ControlFlow::Continue(next) = walk.load(Some(*word)).flow() else {
             return None;
         };
         walk = next;
@@ -403,6 +404,33 @@ fn fed_word_by_word(rt: HostRuntime) {
     assert!(rt; wanted(fed(&WORDS[..2])) == Some((0x8_0002, 3)));
     let not_canonical = Walk::begin(ROOT, 0x40_0000_0000, Access::Fetch, USER);
     assert!(rt; is_refused(not_canonical, 12));
+}
+
+/// A walk that is over tells its answer.
+#[test]
+fn over_or_not(rt: HostRuntime) {
+    let Some(over) = ended(fed(&WORDS[..1]), None) else {
+        assert!(rt; false, "no walk");
+        return;
+    };
+    let outside = Trap {
+        cause: 7,
+        why: Why::Outside,
+    };
+    assert!(rt; over.flow() == ControlFlow::Break(Err(outside)));
+}
+
+/// A walk begins alike at an address and at its number.
+#[test]
+fn begun_at_an_address(rt: HostRuntime) {
+    for scheme in [Scheme::Sv39, Scheme::Sv48] {
+        let Some(va) = VirtAddr::new_in(scheme, VA) else {
+            assert!(rt; false, "not canonical");
+            return;
+        };
+        let walk = Walk::from_root(scheme, ROOT, va, Access::Store, SUPER);
+        assert!(rt; Walk::begin_in(scheme, ROOT, VA, Access::Store, SUPER) == Ok(walk));
+    }
 }
 
 /// What a fed walk ends with, in full.

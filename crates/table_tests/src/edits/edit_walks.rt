@@ -1,8 +1,8 @@
 //! Edits that are fed by hand, word by word. The words are the manual's (privileged manual 4.4.1): a PPN times 1024, the flags,
 //! and V.
 
-use super::{A, D, G, KERNEL, R, RUAD, U, W, X, default_config, flags, page};
-use pte::{Page, PageSize, Scheme};
+use super::{A, D, G, KERNEL, R, U, W, X, page, user_flags};
+use pte::{Page, PageSize, PteFlags, Scheme};
 use spaces::{Config, EditWalk, MapFault, Next, Place, Wish};
 use std::process::Abort;
 
@@ -24,7 +24,7 @@ const LAST_SLOT: u64 = 0xFFFF_FF80_0000_0000;
 fn config_of(scheme: Scheme) -> Config {
     Config {
         scheme,
-        ..default_config()
+        ..Config::default()
     }
 }
 
@@ -72,12 +72,12 @@ fn refusal(rt: &impl Abort, scheme: Scheme, hart: u8, wish: &Wish) -> Option<Map
     begun(rt, scheme, hart, wish).err()
 }
 
-fn mapped(place: Place, page: Page, ppn: u64, bits: u8) -> Wish {
+fn mapped(place: Place, page: Page, ppn: u64, flags: PteFlags) -> Wish {
     Wish::Map {
         place,
         page,
         ppn,
-        flags: flags(bits),
+        flags,
     }
 }
 
@@ -85,19 +85,20 @@ fn unmapped(place: Place, page: Page) -> Wish {
     Wish::Unmap { place, page }
 }
 
-fn protected(place: Place, page: Page, bits: u8) -> Wish {
-    Wish::Protect {
-        place,
-        page,
-        flags: flags(bits),
-    }
+fn protected(place: Place, page: Page, flags: PteFlags) -> Wish {
+    Wish::Protect { place, page, flags }
 }
 
 #[test]
 fn fed_to_map(rt: HostRuntime) {
     let scheme = Scheme::Sv39;
-    let small = mapped(SPACE, page(&rt, 0x1000, PageSize::Kib4), 0x100, RUAD);
-    let large = mapped(SPACE, page(&rt, 0, PageSize::Mib2), 0x200, RUAD);
+    let small = mapped(
+        SPACE,
+        page(&rt, 0x1000, PageSize::Kib4),
+        0x100,
+        user_flags(),
+    );
+    let large = mapped(SPACE, page(&rt, 0, PageSize::Mib2), 0x200, user_flags());
     let root = (0x8_0001, 0, TO_2);
     let middle = (0x8_0002, 0, TO_3);
     let pointer = Ok((0x8_0001, 0, 0x2000_1401));
@@ -177,7 +178,7 @@ fn fed_for_the_kernel(rt: HostRuntime) {
 #[test]
 fn fed_under_sv48(rt: HostRuntime) {
     let small = page(&rt, 0x1000, PageSize::Kib4);
-    let wish = mapped(SPACE, small, 0x100, RUAD);
+    let wish = mapped(SPACE, small, 0x100, user_flags());
     let root = (0x8_0001, 0, TO_2);
     let high = (0x8_0002, 0, TO_3);
     let middle = (0x8_0003, 0, TO_4);
@@ -197,7 +198,7 @@ fn fed_under_sv48(rt: HostRuntime) {
     let weaker = protected(SPACE, small, R | U);
     assert!(rt; fed(&rt, Scheme::Sv48, &weaker, true, &there) == Ok((0x8_0004, 1, 0x4_0013)));
     let widest = page(&rt, 0x80_0000_0000, PageSize::Gib512);
-    let wish = mapped(SPACE, widest, 0x1000_0000, RUAD);
+    let wish = mapped(SPACE, widest, 0x1000_0000, user_flags());
     let wide = Ok((0x8_0001, 1, 0x40_0000_00D3));
     assert!(rt; fed(&rt, Scheme::Sv48, &wish, true, &[(0x8_0001, 1, 0)]) == wide);
 }
@@ -209,7 +210,7 @@ fn refused_at_the_begin(rt: HostRuntime) {
     let large = page(&rt, 0x60_0000, PageSize::Mib2);
     let window = page(&rt, KERNEL, PageSize::Kib4);
     let widest = page(&rt, 0x80_0000_0000, PageSize::Gib512);
-    let good = mapped(SPACE, small, 0x100, RUAD);
+    let good = mapped(SPACE, small, 0x100, user_flags());
     assert!(rt; refusal(&rt, Scheme::Sv39, 1, &good) == Some(MapFault::NotHome));
     assert!(rt; refusal(&rt, Scheme::Sv39, 0, &good) == None);
     let rows = [
@@ -217,10 +218,19 @@ fn refused_at_the_begin(rt: HostRuntime) {
         (unmapped(Place::Kernel, small), MapFault::WrongHalf),
         (unmapped(SPACE, widest), MapFault::WrongHalf),
         (mapped(SPACE, small, 0x100, W | X | U), MapFault::BadFlags),
-        (protected(SPACE, small, RUAD | G), MapFault::BadFlags),
+        (
+            protected(SPACE, small, user_flags() | G),
+            MapFault::BadFlags,
+        ),
         (protected(Place::Kernel, window, R), MapFault::BadFlags),
-        (mapped(SPACE, small, 1 << 44, RUAD), MapFault::PpnTooLarge),
-        (mapped(SPACE, large, 0x201, RUAD), MapFault::Misaligned),
+        (
+            mapped(SPACE, small, 1 << 44, user_flags()),
+            MapFault::PpnTooLarge,
+        ),
+        (
+            mapped(SPACE, large, 0x201, user_flags()),
+            MapFault::Misaligned,
+        ),
     ];
     for (wish, fault) in rows {
         assert!(rt; refusal(&rt, Scheme::Sv39, 0, &wish) == Some(fault));

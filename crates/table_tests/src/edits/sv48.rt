@@ -1,8 +1,7 @@
 //! The same under Sv48, and pages of Sv48 under Sv39.
 
 use super::{
-    A, Call, D, G, KERNEL, R, RUAD, W, default_config, edited, map, opened, page, spares_of,
-    two_harts,
+    A, Call, D, G, KERNEL, R, W, edited, map, opened, page, spares_of, two_harts, user_flags,
 };
 use pte::{Access, Ctx, Mode, Page, PageSize, Scheme};
 use spaces::{Config, MapFault, Memory, Place};
@@ -13,7 +12,7 @@ use walk::{Words, translate_in};
 fn of_sv48() -> Config {
     Config {
         scheme: Scheme::Sv48,
-        ..default_config()
+        ..Config::default()
     }
 }
 
@@ -53,11 +52,11 @@ fn table_of_words_of_sv48(rt: HostRuntime) {
     let widest = page(&rt, 0x80_0000_0000, PageSize::Gib512);
     let first = page(&rt, 0, PageSize::Gib512);
     let inside = page(&rt, 0x80_4000_0000, PageSize::Gib1);
-    let ruad = Call::Map(0x100, RUAD);
-    let rwuad = Call::Map(0x1000_0000, W | RUAD);
-    let odd = Call::Map(0x1000_0001, W | RUAD);
-    let half = Call::Map(0x1400_0000, W | RUAD);
-    let gib = Call::Map(0x4_0000, RUAD);
+    let ruad = Call::Map(0x100, user_flags());
+    let rwuad = Call::Map(0x1000_0000, W | user_flags());
+    let odd = Call::Map(0x1000_0001, W | user_flags());
+    let half = Call::Map(0x1400_0000, W | user_flags());
+    let gib = Call::Map(0x4_0000, user_flags());
     edits(
         &rt,
         &mut memory,
@@ -95,7 +94,7 @@ fn table_of_words_of_sv48(rt: HostRuntime) {
             (
                 space,
                 widest,
-                Call::Protect(RUAD),
+                Call::Protect(user_flags()),
                 Ok((0x8_0001, 1, 0x40_0000_00D3)),
             ),
             (space, widest, Call::Unmap, Ok((0x8_0001, 1, 0))),
@@ -116,7 +115,7 @@ fn window_of_sv48(rt: HostRuntime) {
     let below = page(&rt, 0xFFFF_FF7F_C000_0000, PageSize::Gib1);
     let rgad = Call::Map(0x1000_0000, R | G | A | D);
     let rwgad = Call::Map(0x4_0000, R | W | G | A | D);
-    let ruad = Call::Map(0x300, RUAD);
+    let ruad = Call::Map(0x300, user_flags());
     let leaf = Call::Map(0x300, R | G | A | D);
     edits(
         &rt,
@@ -180,7 +179,7 @@ fn two_window_slots_of_sv48(rt: HostRuntime) {
 #[test]
 fn slots_of_a_space_of_sv48(rt: HostRuntime) {
     let mut memory = opened(&rt, rt.alloc(), &of_sv48());
-    let ruad = Call::Map(0x1000_0000, RUAD);
+    let ruad = Call::Map(0x1000_0000, user_flags());
     let rows = [
         (0x7F80_0000_0000, Ok((0x8_0001, 255, 0x40_0000_00D3))),
         (0xFFFF_8000_0000_0000, Err(MapFault::WrongHalf)),
@@ -192,7 +191,7 @@ fn slots_of_a_space_of_sv48(rt: HostRuntime) {
         assert!(rt; edited(&rt, &mut memory, 0, Place::Space(0), widest, ruad) == answer);
     }
     let second = page(&rt, 0xC0_0000_0000, PageSize::Kib4);
-    let small = Call::Map(0x100, RUAD);
+    let small = Call::Map(0x100, user_flags());
     assert!(rt;
         edited(&rt, &mut memory, 0, Place::Space(0), second, small)
             == Ok((0x8_0001, 1, 0x2000_0801))
@@ -221,7 +220,7 @@ fn pages_that_do_not_fit(rt: HostRuntime) {
     for (place, base, size) in bases {
         let unfit = page(&rt, base, size);
         for call in [
-            map(0x1000_0000, RUAD),
+            map(0x1000_0000, user_flags()),
             map(1, W),
             Call::Unmap,
             Call::Protect(W),
@@ -244,7 +243,7 @@ fn frames_run_out_in_sv48(rt: HostRuntime) {
     };
     let mut memory = opened(&rt, rt.alloc(), &config);
     let small = page(&rt, 0x1000, PageSize::Kib4);
-    let ruad = Call::Map(0x100, RUAD);
+    let ruad = Call::Map(0x100, user_flags());
     let space = Place::Space(0);
     edits(
         &rt,
