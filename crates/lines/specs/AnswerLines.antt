@@ -40,16 +40,20 @@ abbrev pub trap_text : Trap → List ℕ
 trap_text trap = codes "trap " ++ decimal trap.cause ++ codes " " ++ why_text trap.why
 
 abbrev pub answer_text : Result Found Trap → List ℕ
-answer_text (Ok found) = codes "pa " ++ hex found.pa ++ codes " " ++ size_text found.page.size ++ global_text found.global
+answer_text (Ok found) =
+    codes "pa " ++ hex found.pa ++ codes " " ++ size_text found.page.size
+    ++ global_text found.global
 answer_text (Err trap) = trap_text trap
 
 -- the line of an answer
 abbrev pub line_of : ℕ → Result Found Trap → List ℕ
 line_of number answer = decimal number ++ codes " " ++ answer_text answer ++ codes "\n"
 
--- the lines of the steps, the first of which has this number: that of its outcome, and then the lines of the rest
+-- the lines of the steps, the first of which has this number: that of its outcome, and then the
+-- lines of the rest
 abbrev pub WritesLines : Scheme → Tables → ℕ → ℕ → List WalkStep → List ℕ → Type 0
 WritesLines scheme words root n [] lines = lines ≡ []
 WritesLines scheme words root n (step ∷ steps) lines =
-    (answer : Result Found Trap) × (rest : List ℕ) × Outcome scheme words root step.va step.access step.ctx answer
+    (answer : Result Found Trap) × (rest : List ℕ)
+    × Outcome scheme words root step.va step.access step.ctx answer
     × (lines ≡ line_of n answer ++ rest) × WritesLines scheme words root (n + 1) steps rest

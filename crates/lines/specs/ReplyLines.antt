@@ -70,7 +70,8 @@ what_text (SpaceOf asid) = codes "asid " ++ decimal asid
 what_text All = codes "all"
 
 abbrev pub request_text : Message → List ℕ
-request_text request = codes "taken " ++ decimal request.ticket ++ codes " " ++ what_text request.what
+request_text request =
+    codes "taken " ++ decimal request.ticket ++ codes " " ++ what_text request.what
 
 -- the text of a reply
 abbrev pub reply_text : Reply → List ℕ

@@ -7,6 +7,9 @@ ghost use Rattle.lines.specs.AnswerLines.{WritesLines};
 
 /// The steps of `walk`, made over one memory from one root, write one text, and only one.
 pub fn one_text()
-    ensures one { (scheme : Scheme) (words : Tables) (root n : ℕ) (steps : List WalkStep) (a b : List ℕ) → WritesLines scheme words root n steps a → WritesLines scheme words root n steps b → a ≡ b }
-    ensures some { (scheme : Scheme) (words : Tables) (root n : ℕ) (steps : List WalkStep) → (lines : List ℕ) × WritesLines scheme words root n steps lines }
+    ensures one { (scheme : Scheme) (words : Tables) (root n : ℕ) (steps : List WalkStep)
+        (a b : List ℕ) → WritesLines scheme words root n steps a
+        → WritesLines scheme words root n steps b → a ≡ b }
+    ensures some { (scheme : Scheme) (words : Tables) (root n : ℕ) (steps : List WalkStep)
+        → (lines : List ℕ) × WritesLines scheme words root n steps lines }
 {}

@@ -46,7 +46,8 @@ fn global_word(global: bool) -> &'static str
 
 /// Adds the size of the page that was found, whether it is global, and the end of the line.
 fn push_page(text: &mut String, found: &Found) -> Result<(), AllocError>
-    ensures ok { OnOk result (string_bytes text.new ≡ string_bytes text.old ++ codes " " ++ size_text found.now.page.size ++ global_text found.now.global ++ codes "\n") }
+    ensures ok { OnOk result (string_bytes text.new ≡ string_bytes text.old ++ codes " "
+        ++ size_text found.now.page.size ++ global_text found.now.global ++ codes "\n") }
 {
     let size = size_word(found.page.size());
     let end = global_word(found.global);
@@ -58,7 +59,8 @@ fn push_page(text: &mut String, found: &Found) -> Result<(), AllocError>
 
 /// Adds the line of an exception.
 fn push_trap(text: &mut String, number: usize, trap: Trap) -> Result<(), AllocError>
-    ensures ok { OnOk result (string_bytes text.new ≡ string_bytes text.old ++ line_of number (Err trap)) }
+    ensures ok { OnOk result (string_bytes text.new ≡ string_bytes text.old
+        ++ line_of number (Err trap)) }
 {
     let cause = trap.cause;
     let why = why_word(trap.why);
@@ -72,7 +74,8 @@ fn push_line(
     number: usize,
     answer: Result<Found, Trap>,
 ) -> Result<(), AllocError>
-    ensures ok { OnOk result (string_bytes text.new ≡ string_bytes text.old ++ line_of number answer) }
+    ensures ok { OnOk result (string_bytes text.new ≡ string_bytes text.old
+        ++ line_of number answer) }
 {
     match answer {
         Ok(found) => {
@@ -85,8 +88,8 @@ fn push_line(
     }
 }
 
-/// The lines of `walk`: each step's number, from 1, and the answer of the scheme's translation from the root, which the
-/// caller keeps below 2^44.
+/// The lines of `walk`: each step's number, from 1, and the answer of the scheme's translation from
+/// the root, which the caller keeps below 2^44.
 pub fn walk_lines<W: Words>(
     alloc: Global,
     scheme: Scheme,
@@ -95,7 +98,8 @@ pub fn walk_lines<W: Words>(
     steps: &[WalkStep],
 ) -> Result<String, AllocError>
     requires { root < 2 ^ ppn_bits }
-    ensures { IfOk result (λ text. WritesLines scheme (W.words words.now) root 1 steps.now (string_bytes text)) }
+    ensures { IfOk result (λ text. WritesLines scheme (W.words words.now) root 1 steps.now
+        (string_bytes text)) }
 {
     let mut text = String::new(alloc);
     for (index, step) in steps.iter().enumerate() {

@@ -51,7 +51,8 @@ fn refusal_word(refusal: Refusal) -> &'static str
 
 /// Adds a hart, after a comma where it is not the first.
 fn push_hart(text: &mut String, is_first: bool, hart: u8) -> Result<(), AllocError>
-    ensures ok { OnOk result (string_bytes text.new ≡ string_bytes text.old ++ next_text is_first hart) }
+    ensures ok { OnOk result (string_bytes text.new ≡ string_bytes text.old
+        ++ next_text is_first hart) }
 {
     if is_first {
         write!(text, "{hart}")
@@ -110,7 +111,8 @@ pub fn push_what(text: &mut String, what: What) -> Result<(), AllocError>
 }
 
 fn push_request(text: &mut String, request: Request) -> Result<(), AllocError>
-    ensures ok { OnOk result (string_bytes text.new ≡ string_bytes text.old ++ request_text request) }
+    ensures ok { OnOk result (string_bytes text.new ≡ string_bytes text.old
+        ++ request_text request) }
 {
     let ticket = request.ticket;
     write!(text, "taken {ticket} ")?;
@@ -155,7 +157,8 @@ pub fn push_reply(text: &mut String, reply: Reply) -> Result<(), AllocError>
 
 /// Adds the line of a reply.
 fn push_reply_line(text: &mut String, number: usize, reply: Reply) -> Result<(), AllocError>
-    ensures ok { OnOk result (string_bytes text.new ≡ string_bytes text.old ++ reply_line number reply) }
+    ensures ok { OnOk result (string_bytes text.new ≡ string_bytes text.old
+        ++ reply_line number reply) }
 {
     push_decimal(text, number)?;
     text.push_str(" ")?;

@@ -26,8 +26,10 @@ wish_with place page (Some flags) = Protect place page flags
 abbrev pub smaller : Span → Span → Span
 smaller page other = if nat_le (level_of page.size) (level_of other.size) then page else other
 
--- the word that the store replaces is a leaf with this PPN and these flags, which maps the page, and the new word is another one
-pub record IsLeafUnder (words : Tables) (store : Store) (page : Span) (ppn : ℕ) (flags : PteFlags) : Type 0 where
+-- the word that the store replaces is a leaf with this PPN and these flags, which maps the page,
+-- and the new word is another one
+pub record IsLeafUnder (words : Tables) (store : Store) (page : Span) (ppn : ℕ)
+    (flags : PteFlags) : Type 0 where
   pub word : ℕ
   pub is : words store.ppn store.index ≡ Some word
   pub kind : kind_of word ≡ Leaf ppn flags
@@ -52,7 +54,8 @@ pub record IsOfLeaf (change : Change) (m : Mapping) : Type 0 where
 
 -- the entry and the leaf map the page of 4 KiB of this number to one frame
 abbrev pub IsSameFrame : Change → Entry → ℕ → Type 0
-IsSameFrame change e number = change.ppn + number % pages_of change.page.size ≡ e.ppn + number % pages_of e.page.size
+IsSameFrame change e number =
+    change.ppn + number % pages_of change.page.size ≡ e.ppn + number % pages_of e.page.size
 
 -- the mappings of the entry in the page are those of the leaf
 pub record IsHeld (change : Change) (e : Entry) : Type 0 where

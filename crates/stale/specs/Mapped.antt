@@ -21,7 +21,8 @@ abbrev pub is_of : ℕ → Option ℕ → Bool
 is_of asid None = false
 is_of asid (Some other) = other == asid
 
--- pages of an ASID are reached through the space that has it and is not free, those of every ASID through each space
+-- pages of an ASID are reached through the space that has it and is not free, those of every ASID
+-- through each space
 abbrev pub has_asid : State → Option ℕ → ℕ → Bool
 has_asid m None space = true
 has_asid m (Some asid) space = is_of asid (asid_of_space m space)
@@ -31,7 +32,9 @@ is_reached m of space = nat_lt space (length m.memory.layout.homes) && has_asid 
 
 -- the tables of a space map it so
 abbrev pub IsMappedFrom : Held → ℕ → Mapping → Type 0
-IsMappedFrom memory space p = Maps memory.layout.scheme (words_of memory) (root_ppn memory.layout space) p.page p.ppn p.flags (is_none p.asid)
+IsMappedFrom memory space p =
+    Maps memory.layout.scheme (words_of memory) (root_ppn memory.layout space) p.page p.ppn p.flags
+    (is_none p.asid)
 
 -- there is a space through which it is reached, and each such space maps it so
 pub record IsMappedIn (m : State) (p : Mapping) : Type 0 where

@@ -1,4 +1,5 @@
--- Stale mappings: what a TLB holds while the page tables of its address space do not map it so. It is what Coherent denies.
+-- Stale mappings: what a TLB holds while the page tables of its address space do not map it so. It
+-- is what Coherent denies.
 use Rattle.pte.specs.Address.{Span}
 use Rattle.spaces.specs.declared.places.Place.{Place}
 use Rattle.std.specs.Prelude.{ℕ, Bool, true, false, ◌≡◌, ◌∷◌, Some}
@@ -32,7 +33,8 @@ abbrev pub is_hit : Reply → Bool
 is_hit (reply.Hit pa) = true
 is_hit _ = false
 
--- the turn is an access of h that its TLB answers by this mapping, that of the oldest entry that matches
+-- the turn is an access of h that its TLB answers by this mapping, that of the oldest entry that
+-- matches
 pub record Uses (C : Setup) (turn : Turn) (H : History) (h : ℕ) (m : Mapping) : Type 0 where
   pub va : ℕ
   pub access : Access
@@ -51,4 +53,5 @@ pub record UsesStale (C : Setup) (turn : Turn) (H : History) (h : ℕ) (m : Mapp
 
 -- the turn of an unmapping that opens an order under a ticket
 abbrev pub unmapping : ℕ → Place → Span → ℕ → ℕ → Turn
-unmapping hart place page named ticket = record { event = Unmap hart place page named; reply = reply.Opened ticket }
+unmapping hart place page named ticket =
+    record { event = Unmap hart place page named; reply = reply.Opened ticket }

@@ -1,4 +1,5 @@
--- What is told of a run: the mappings that become stale step by step, and the stale ones that are used.
+-- What is told of a run: the mappings that become stale step by step, and the stale ones that are
+-- used.
 use Rattle.std.specs.Prelude.{ℕ, Bool, false, ◌≡◌, ◌+◌, ◌<◌, List, length, Option, Some, None, slice_get, Contains}
 use Rattle.tlb.specs.declared.store.Entry.{Entry}
 use Rattle.tlb.specs.Mappings.{Mapping, LiesIn, IsMappingOf}
@@ -22,7 +23,8 @@ use Rattle.stale.specs.UseRuns.{due_turn, history_at, UsedAt}
 
 -- an item tells that this mapping of a hart becomes stale: it is one of the entry, in the page
 abbrev pub TellsBecoming : StaleItem → ℕ → Mapping → Type 0
-TellsBecoming (Became became) h m = (h ≡ became.hart) × IsMappingOf became.entry m × LiesIn became.page m.page
+TellsBecoming (Became became) h m =
+    (h ≡ became.hart) × IsMappingOf became.entry m × LiesIn became.page m.page
 TellsBecoming (Used use_) h m = ⊥
 
 -- or that the hart uses it
@@ -42,8 +44,8 @@ pub record IsAmong (items : List StaleAt) (n : ℕ) (T : StaleItem → Type 0) :
   pub step : told.step ≡ n
   pub tells : T told.item
 
--- the items tell that the mapping of h becomes stale by event n; that h uses it there; and that event n, of this hart, opened an
--- order under this ticket
+-- the items tell that the mapping of h becomes stale by event n; that h uses it there; and that
+-- event n, of this hart, opened an order under this ticket
 abbrev pub IsToldBecoming : List StaleAt → ℕ → ℕ → Mapping → Type 0
 IsToldBecoming items n h m = IsAmong items n (λ item. TellsBecoming item h m)
 
@@ -54,10 +56,12 @@ abbrev pub IsToldOrder : List StaleAt → ℕ → ℕ → ℕ → Type 0
 IsToldOrder items n home ticket = IsAmong items n (λ item. TellsOrder item home ticket)
 
 -- event n, from 0 on, makes the mapping of h stale
-pub record BecomesAt (C : Setup) (H : History) (events : List Event) (n h : ℕ) (m : Mapping) : Type 0 where
+pub record BecomesAt (C : Setup) (H : History) (events : List Event) (n h : ℕ)
+    (m : Mapping) : Type 0 where
   pub event : Event
   pub is : slice_get events n ≡ Some event
-  pub becomes : BecomesStale C (due_turn C (history_at C H events n) event) (history_at C H events n) h m
+  pub becomes : BecomesStale C (due_turn C (history_at C H events n) event)
+      (history_at C H events n) h m
 
 -- the turn is an unmapping or a change of flags, and opens an order
 abbrev pub is_edit : Event → Reply → Bool
@@ -71,8 +75,10 @@ IsEditOf home (Unmap hart place page named) = hart ≡ home
 IsEditOf home (Protect hart place page flags named) = hart ≡ home
 IsEditOf home _ = ⊥
 
--- event n, from 0 on, is an unmapping or a change of flags by this hart, and opens an order under this ticket
-pub record OpensAt (C : Setup) (H : History) (events : List Event) (n home ticket : ℕ) : Type 0 where
+-- event n, from 0 on, is an unmapping or a change of flags by this hart, and opens an order under
+-- this ticket
+pub record OpensAt (C : Setup) (H : History) (events : List Event)
+    (n home ticket : ℕ) : Type 0 where
   pub event : Event
   pub is : slice_get events n ≡ Some event
   pub edit : IsEditOf home event
@@ -86,7 +92,8 @@ abbrev pub UsedBy : Setup → History → List Event → ℕ → ℕ → Mapping
 UsedBy C H events number h m = (n : ℕ) × (number ≡ n + 1) × UsedAt C H events n h m
 
 abbrev pub OpensBy : Setup → History → List Event → ℕ → ℕ → ℕ → Type 0
-OpensBy C H events number home ticket = (n : ℕ) × (number ≡ n + 1) × OpensAt C H events n home ticket
+OpensBy C H events number home ticket =
+    (n : ℕ) × (number ≡ n + 1) × OpensAt C H events n home ticket
 
 -- what is told of an entry that holds the leaf that was changed
 abbrev pub became_of : Opening → ℕ → Entry → StaleAt
@@ -111,11 +118,14 @@ IsOfEntry opening hart None item = ⊥
 IsOfEntry opening hart (Some e) item = IsItemOf opening hart e item
 
 abbrev pub IsOfEntries : Opening → ℕ → List Entry → ℕ → StaleAt → Type 0
-IsOfEntries opening hart entries n item = (age : ℕ) × (age < n) × IsOfEntry opening hart (slice_get entries age) item
+IsOfEntries opening hart entries n item =
+    (age : ℕ) × (age < n) × IsOfEntry opening hart (slice_get entries age) item
 
 -- of some entry of some hart below this number
 abbrev pub IsOfHarts : State → Opening → ℕ → StaleAt → Type 0
-IsOfHarts m opening n item = (hart : ℕ) × (hart < n) × IsOfEntries opening hart (hart_at m hart).entries (length (hart_at m hart).entries) item
+IsOfHarts m opening n item =
+    (hart : ℕ) × (hart < n)
+    × IsOfEntries opening hart (hart_at m hart).entries (length (hart_at m hart).entries) item
 
 -- the hart of an edit of a page
 abbrev pub home_in : Event → ℕ
@@ -123,10 +133,13 @@ home_in (Unmap hart place page named) = hart
 home_in (Protect hart place page flags named) = hart
 home_in _ = 0
 
--- what is told of an event that changes a leaf, once it was answered: something if it opened an order
+-- what is told of an event that changes a leaf, once it was answered: something if it opened an
+-- order
 abbrev pub IsOfTicket : State → Change → ℕ → ℕ → Option ℕ → StaleAt → Type 0
 IsOfTicket m change home step None item = ⊥
-IsOfTicket m change home step (Some ticket) item = IsOfHarts m (record { step = step; home = home; ticket = ticket; change = change }) (length m.harts) item
+IsOfTicket m change home step (Some ticket) item =
+    IsOfHarts m (record { step = step; home = home; ticket = ticket; change = change })
+    (length m.harts) item
 
 abbrev pub IsOfChange : State → Option Change → ℕ → ℕ → Option ℕ → StaleAt → Type 0
 IsOfChange m None home step ticket item = ⊥

@@ -21,7 +21,8 @@ abbrev pub due_turn : Setup → History → Event → Turn
 due_turn C H event = record { event = event; reply = due C H event }
 
 -- event n, from 0 on, uses this stale mapping of h
-pub record UsedAt (C : Setup) (H : History) (events : List Event) (n h : ℕ) (m : Mapping) : Type 0 where
+pub record UsedAt (C : Setup) (H : History) (events : List Event) (n h : ℕ)
+    (m : Mapping) : Type 0 where
   pub event : Event
   pub is : slice_get events n ≡ Some event
   pub uses : UsesStale C (due_turn C (history_at C H events n) event) (history_at C H events n) h m

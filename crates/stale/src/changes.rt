@@ -96,7 +96,8 @@ fn edit_due(
     flags: Option<PteFlags>,
 ) -> Result<Edit, MapFault>
     requires { HasPlace memory.now.layout place }
-    ensures { result ≡ edit_of memory.now.layout (words_of memory.now) (spare_of memory.now hart) hart (wish_with place page flags) }
+    ensures { result ≡ edit_of memory.now.layout (words_of memory.now)
+        (spare_of memory.now hart) hart (wish_with place page flags) }
 {
     match flags {
         None => unmap_edit(memory, hart, place, page),
@@ -106,7 +107,8 @@ fn edit_due(
 
 /// The ASID, or every one, of the pages of a place that is there.
 fn reach_in(machine: &Machine, place: Place) -> Option<Option<u16>>
-    ensures some { IfSome result (λ reach. (is_place machine.now place ≡ true) × (reach ≡ asid_of machine.now place)) }
+    ensures some { IfSome result (λ reach. (is_place machine.now place ≡ true)
+        × (reach ≡ asid_of machine.now place)) }
     ensures there { IfSome result (λ _. HasPlace machine.now.memory.layout place) }
     ensures none { IfNone result (is_place machine.now place ≡ false) }
 {
@@ -121,9 +123,11 @@ fn reach_in(machine: &Machine, place: Place) -> Option<Option<u16>>
 
 /// The leaf that the edit replaces by something else, if it maps anything.
 fn leaf_under(memory: &Memory, edit: &Edit, page: Page) -> Option<(u64, PteFlags)>
-    ensures some { IfSome result (λ leaf. IsLeafUnder (words_of memory.now) edit.now page leaf.0 leaf.1) }
+    ensures some { IfSome result (λ leaf. IsLeafUnder
+        (words_of memory.now) edit.now page leaf.0 leaf.1) }
     ensures range { IfSome result (λ leaf. leaf.0 < 2 ^ ppn_bits) }
-    ensures none { IfNone result ((ppn : ℕ) (flags : PteFlagsOf) → ¬ IsLeafUnder (words_of memory.now) edit.now page ppn flags) }
+    ensures none { IfNone result ((ppn : ℕ) (flags : PteFlagsOf)
+        → ¬ IsLeafUnder (words_of memory.now) edit.now page ppn flags) }
 {
     let word = memory.word(edit.ppn(), edit.index())?;
     let leaf = Pte(word).kind();
@@ -150,10 +154,12 @@ fn change_in(
     page: Page,
     flags: Option<PteFlags>,
 ) -> Option<Change>
-    ensures some { IfSome result (λ change. IsChangeOf machine.now hart (wish_with place page flags) change) }
+    ensures some { IfSome result (λ change. IsChangeOf machine.now hart
+        (wish_with place page flags) change) }
     ensures range { IfSome result (λ change. change.ppn < 2 ^ ppn_bits) }
     ensures page { IfSome result (λ change. IsPage change.page) }
-    ensures none { IfNone result ((change : ChangeOf) → ¬ IsChangeOf machine.now hart (wish_with place page flags) change) }
+    ensures none { IfNone result ((change : ChangeOf)
+        → ¬ IsChangeOf machine.now hart (wish_with place page flags) change) }
 {
     // A page tells here that it is aligned.
     let _base = page.base();
@@ -176,8 +182,10 @@ pub(crate) fn change_of(machine: &Machine, event: &Event) -> Option<Change>
     ensures range { IfSome result (λ change. change.ppn < 2 ^ ppn_bits) }
     ensures page { IfSome result (λ change. IsPage change.page) }
     ensures edit { IfSome result (λ _. IsEditOf (home_in event.now) event.now) }
-    ensures changed { (C : Setup) (H : History) (t h : ℕ) (m : Mapping) → Stands C machine.now H → HasPage event.now → opened_ticket (due C H event.now) ≡ Some t
-        → BecomesStale C (due_turn C H event.now) H h m ↔ (IsMappedBy (entries_of C (due_turn C H event.now ∷ H) h) m × IsChanged result m) }
+    ensures changed { (C : Setup) (H : History) (t h : ℕ) (m : Mapping) → Stands C machine.now H
+        → HasPage event.now → opened_ticket (due C H event.now) ≡ Some t
+        → BecomesStale C (due_turn C H event.now) H h m
+        ↔ (IsMappedBy (entries_of C (due_turn C H event.now ∷ H) h) m × IsChanged result m) }
 {
     match *event {
         Event::Unmap {

@@ -37,8 +37,10 @@ fn is_hit(reply: &Reply) -> bool
 
 /// What a hit of a hart uses, if that is stale.
 fn use_of(machine: &Machine, hart: u8, va: u64, access: Access, ctx: Ctx) -> Option<StaleUse>
-    ensures { (C : Setup) (H : History) (r : ReplyOf) (h : ℕ) (m : Mapping) → Stands C machine.now (with_turn (Begin hart va access ctx) r H) → is_hit r ≡ true
-        → UsesStale C (record { event = Begin hart va access ctx; reply = r }) H h m ↔ Tells result h m }
+    ensures { (C : Setup) (H : History) (r : ReplyOf) (h : ℕ) (m : Mapping)
+        → Stands C machine.now (with_turn (Begin hart va access ctx) r H) → is_hit r ≡ true
+        → UsesStale C (record { event = Begin hart va access ctx; reply = r }) H h m
+        ↔ Tells result h m }
 {
     let Some(va) = VirtAddr::new_in(machine.memory().scheme(), va) else {
         return None;
@@ -60,10 +62,12 @@ fn use_of(machine: &Machine, hart: u8, va: u64, access: Access, ctx: Ctx) -> Opt
     Some(StaleUse { hart, va, entry })
 }
 
-/// What a step uses that is stale at that moment: of an access that was answered by a hit, the mapping of the oldest entry that
-/// matches, if the tables do not map it so. `event` and `reply` are those of the machine's last step.
+/// What a step uses that is stale at that moment: of an access that was answered by a hit, the
+/// mapping of the oldest entry that matches, if the tables do not map it so. `event` and `reply`
+/// are those of the machine's last step.
 pub fn stale_use(machine: &Machine, event: &Event, reply: &Reply) -> Option<StaleUse>
-    ensures { (C : Setup) (H : History) (h : ℕ) (m : Mapping) → Stands C machine.now (with_turn event.now reply.now H)
+    ensures { (C : Setup) (H : History) (h : ℕ) (m : Mapping)
+        → Stands C machine.now (with_turn event.now reply.now H)
         → UsesStale C (record { event = event.now; reply = reply.now }) H h m ↔ Tells result h m }
 {
     match *event {

@@ -1,4 +1,5 @@
-//! Stale mappings: what a TLB holds while the page tables do not map it so, and the accesses that it answers by it.
+//! Stale mappings: what a TLB holds while the page tables do not map it so, and the accesses that
+//! it answers by it.
 #![tactic(auto)]
 
 mod changes;

@@ -50,7 +50,9 @@ fn is_frame_of(entry: &Entry, va: VirtAddr, ppn: u64) -> bool
 
 /// Whether a walk found the mapping that the entry has.
 fn is_found(entry: &Entry, va: VirtAddr, found: &Found) -> bool
-    ensures { IsTrue result ↔ ((page_number found.now.pa ≡ (mapping_of entry.now (page_number va)).ppn) × (found.now.flags ≡ entry.now.flags) × (found.now.global ≡ entry.now.global)) }
+    ensures { IsTrue result ↔ ((page_number found.now.pa
+        ≡ (mapping_of entry.now (page_number va)).ppn) × (found.now.flags ≡ entry.now.flags)
+        × (found.now.global ≡ entry.now.global)) }
 {
     is_frame_of(entry, va, found.pa / PAGE_BYTES)
         && found.flags == entry.flags
@@ -60,13 +62,15 @@ fn is_found(entry: &Entry, va: VirtAddr, found: &Found) -> bool
 /// What a walk of an access from the root of a space answers.
 fn walked(memory: &Memory, space: u8, va: VirtAddr, access: Access, ctx: Ctx) -> Result<Found, Trap>
     requires { space < length memory.now.layout.homes }
-    ensures { Outcome memory.now.layout.scheme (words_of memory.now) (root_ppn memory.now.layout space) va access ctx result }
+    ensures { Outcome memory.now.layout.scheme (words_of memory.now)
+        (root_ppn memory.now.layout space) va access ctx result }
 {
     let root = memory.root(space);
     translate_in(memory.scheme(), memory, root, va.get(), access, ctx)
 }
 
-/// Whether the tables of a space map the entry's page at an address as the entry does. The entry answers this access of the address.
+/// Whether the tables of a space map the entry's page at an address as the entry does. The entry
+/// answers this access of the address.
 fn is_mapped_from(
     memory: &Memory,
     space: u8,
@@ -77,7 +81,8 @@ fn is_mapped_from(
 ) -> bool
     requires there { space < length memory.now.layout.homes }
     requires answers { flags_fault access ctx entry.now.flags ≡ None }
-    ensures { IsTrue result ↔ IsMappedFrom memory.now space (mapping_of entry.now (page_number va)) }
+    ensures { IsTrue result ↔ IsMappedFrom memory.now space
+        (mapping_of entry.now (page_number va)) }
 {
     match walked(memory, space, va, access, ctx) {
         Ok(found) => is_found(entry, va, &found),
@@ -85,8 +90,8 @@ fn is_mapped_from(
     }
 }
 
-/// Whether the tables map the entry's page at an address as the entry does, in each space of the entry's ASID, and there is
-/// one. The entry answers this access of the address.
+/// Whether the tables map the entry's page at an address as the entry does, in each space of the
+/// entry's ASID, and there is one. The entry answers this access of the address.
 fn is_mapped(machine: &Machine, entry: &Entry, va: VirtAddr, access: Access, ctx: Ctx) -> bool
     requires answers { flags_fault access ctx entry.now.flags ≡ None }
     ensures { IsTrue result ↔ IsMappedIn machine.now (mapping_of entry.now (page_number va)) }
@@ -106,8 +111,9 @@ fn is_mapped(machine: &Machine, entry: &Entry, va: VirtAddr, access: Access, ctx
     is_some
 }
 
-/// Whether the tables map the entry's page at an address as the entry does: there is a live or retiring space of the entry's ASID,
-/// for a global entry any space, and the tables of each map it so. The entry answers this access of the address.
+/// Whether the tables map the entry's page at an address as the entry does: there is a live or
+/// retiring space of the entry's ASID, for a global entry any space, and the tables of each map it
+/// so. The entry answers this access of the address.
 pub fn is_mapped_now(
     machine: &Machine,
     entry: &Entry,
@@ -116,7 +122,8 @@ pub fn is_mapped_now(
     ctx: Ctx,
 ) -> bool
     requires answers { flags_fault access ctx entry.now.flags ≡ None }
-    ensures { (C : Setup) (H : History) → Stands C machine.now H → IsTrue result ↔ IsMappedNow C H (reach_of entry.now) (mapping_of entry.now (page_number va)) }
+    ensures { (C : Setup) (H : History) → Stands C machine.now H → IsTrue result
+        ↔ IsMappedNow C H (reach_of entry.now) (mapping_of entry.now (page_number va)) }
 {
     is_mapped(machine, entry, va, access, ctx)
 }

@@ -37,7 +37,8 @@ fn tell_entry(
     items: &mut Vec<StaleAt>,
 ) -> Result<(), AllocError>
     requires { opening.now.change.ppn < 2 ^ ppn_bits }
-    ensures { OnOk result ((item : StaleAtOf) → Contains items.new.items item ↔ (Contains items.old.items item ⊎ IsOfEntry opening.now hart entry item)) }
+    ensures { OnOk result ((item : StaleAtOf) → Contains items.new.items item
+        ↔ (Contains items.old.items item ⊎ IsOfEntry opening.now hart entry item)) }
 {
     let Some(entry) = entry else {
         return Ok(());
@@ -66,7 +67,9 @@ fn tell_tlb(
     items: &mut Vec<StaleAt>,
 ) -> Result<(), AllocError>
     requires { opening.now.change.ppn < 2 ^ ppn_bits }
-    ensures { OnOk result ((item : StaleAtOf) → Contains items.new.items item ↔ (Contains items.old.items item ⊎ IsOfEntries opening.now hart tlb.now.entries (length tlb.now.entries) item)) }
+    ensures { OnOk result ((item : StaleAtOf) → Contains items.new.items item
+        ↔ (Contains items.old.items item ⊎ IsOfEntries opening.now hart tlb.now.entries
+        (length tlb.now.entries) item)) }
 {
     for age in 0..tlb.len() {
         tell_entry(opening, hart, tlb.entry(age), items)?;
@@ -81,7 +84,9 @@ fn tell_tlbs(
     items: &mut Vec<StaleAt>,
 ) -> Result<(), AllocError>
     requires { opening.now.change.ppn < 2 ^ ppn_bits }
-    ensures { OnOk result ((item : StaleAtOf) → Contains items.new.items item ↔ (Contains items.old.items item ⊎ IsOfHarts machine.now opening.now (length machine.now.harts) item)) }
+    ensures { OnOk result ((item : StaleAtOf) → Contains items.new.items item
+        ↔ (Contains items.old.items item ⊎ IsOfHarts machine.now opening.now
+        (length machine.now.harts) item)) }
 {
     for hart in 0..machine.harts() {
         tell_tlb(opening, hart, machine.hart(hart).tlb(), items)?;
@@ -110,7 +115,9 @@ fn tell_change(
     items: &mut Vec<StaleAt>,
 ) -> Result<(), AllocError>
     requires { IfSome change (λ change. change.ppn < 2 ^ ppn_bits) }
-    ensures { OnOk result ((item : StaleAtOf) → Contains items.new.items item ↔ (Contains items.old.items item ⊎ IsOfChange machine.now change home step (opened_ticket reply.now) item)) }
+    ensures { OnOk result ((item : StaleAtOf) → Contains items.new.items item
+        ↔ (Contains items.old.items item ⊎ IsOfChange machine.now change home step
+        (opened_ticket reply.now) item)) }
 {
     let Some(change) = change else {
         return Ok(());
@@ -129,7 +136,8 @@ fn tell_change(
 
 /// Tells a use, if there is one.
 fn tell_use(used: Option<StaleUse>, step: usize, items: &mut Vec<StaleAt>) -> Result<(), AllocError>
-    ensures { OnOk result ((item : StaleAtOf) → Contains items.new.items item ↔ (Contains items.old.items item ⊎ IsOfUse used step item)) }
+    ensures { OnOk result ((item : StaleAtOf) → Contains items.new.items item
+        ↔ (Contains items.old.items item ⊎ IsOfUse used step item)) }
 {
     if let Some(used) = used {
         items.push(StaleAt {
@@ -140,23 +148,34 @@ fn tell_use(used: Option<StaleUse>, step: usize, items: &mut Vec<StaleAt>) -> Re
     Ok(())
 }
 
-/// Does one event, which is the step of this number, and adds what becomes stale by it and what stale mapping it uses: an item for
-/// each entry some of whose mappings become stale, with the hart of the event and the ticket of the order that it opened. An error
-/// comes only if there is no memory for an item: the event is done all the same.
+/// Does one event, which is the step of this number, and adds what becomes stale by it and what
+/// stale mapping it uses: an item for each entry some of whose mappings become stale, with the hart
+/// of the event and the ticket of the order that it opened. An error comes only if there is no
+/// memory for an item: the event is done all the same.
 pub fn step_stale(
     machine: &mut Machine,
     event: Event,
     step: usize,
     items: &mut Vec<StaleAt>,
 ) -> Result<Reply, AllocError>
-    ensures stands { (C : Setup) (H : History) → Stands C machine.old H → Stands C machine.new (with_turn event (due C H event) H) }
-    ensures reply { IfOk result (λ reply. (C : Setup) (H : History) → Stands C machine.old H → reply ≡ due C H event) }
-    ensures became { OnOk result ((C : Setup) (H : History) (n h : ℕ) (m : Mapping) → Stands C machine.old H
-        → IsToldBecoming items.new.items n h m ↔ (IsToldBecoming items.old.items n h m ⊎ ((n ≡ step) × BecomesStale C (due_turn C H event) H h m))) }
-    ensures used { OnOk result ((C : Setup) (H : History) (n h : ℕ) (m : Mapping) → Stands C machine.old H
-        → IsToldUse items.new.items n h m ↔ (IsToldUse items.old.items n h m ⊎ ((n ≡ step) × UsesStale C (due_turn C H event) H h m))) }
-    ensures orders { OnOk result ((C : Setup) (H : History) (n home ticket : ℕ) → Stands C machine.old H → IsToldOrder items.new.items n home ticket
-        → IsToldOrder items.old.items n home ticket ⊎ ((n ≡ step) × IsEditOf home event × (opened_ticket (due C H event) ≡ Some ticket))) }
+    ensures stands { (C : Setup) (H : History) → Stands C machine.old H
+        → Stands C machine.new (with_turn event (due C H event) H) }
+    ensures reply { IfOk result (λ reply. (C : Setup) (H : History) → Stands C machine.old H → reply
+        ≡ due C H event) }
+    ensures became { OnOk result ((C : Setup) (H : History) (n h : ℕ) (m : Mapping)
+        → Stands C machine.old H
+        → IsToldBecoming items.new.items n h m
+        ↔ (IsToldBecoming items.old.items n h m
+        ⊎ ((n ≡ step) × BecomesStale C (due_turn C H event) H h m))) }
+    ensures used { OnOk result ((C : Setup) (H : History) (n h : ℕ) (m : Mapping)
+        → Stands C machine.old H
+        → IsToldUse items.new.items n h m
+        ↔ (IsToldUse items.old.items n h m
+        ⊎ ((n ≡ step) × UsesStale C (due_turn C H event) H h m))) }
+    ensures orders { OnOk result ((C : Setup) (H : History) (n home ticket : ℕ)
+        → Stands C machine.old H → IsToldOrder items.new.items n home ticket
+        → IsToldOrder items.old.items n home ticket
+        ⊎ ((n ≡ step) × IsEditOf home event × (opened_ticket (due C H event) ≡ Some ticket))) }
 {
     let change = change_of(machine, &event);
     let reply = machine.step(event);
@@ -166,18 +185,21 @@ pub fn step_stale(
     Ok(reply)
 }
 
-/// Does the events in order, and tells step by step what becomes stale and what stale mappings are used. An error comes only if
-/// there is no memory for it.
+/// Does the events in order, and tells step by step what becomes stale and what stale mappings are
+/// used. An error comes only if there is no memory for it.
 pub fn stale_report(
     alloc: Global,
     machine: &mut Machine,
     events: &[Event],
 ) -> Result<Vec<StaleAt>, AllocError>
-    ensures became { IfOk result (λ items. (C : Setup) (H : History) (number h : ℕ) (m : Mapping) → Stands C machine.old H
+    ensures became { IfOk result (λ items. (C : Setup) (H : History) (number h : ℕ) (m : Mapping)
+        → Stands C machine.old H
         → BecomesBy C H events.now number h m ↔ IsToldBecoming items.items number h m) }
-    ensures used { IfOk result (λ items. (C : Setup) (H : History) (number h : ℕ) (m : Mapping) → Stands C machine.old H
+    ensures used { IfOk result (λ items. (C : Setup) (H : History) (number h : ℕ) (m : Mapping)
+        → Stands C machine.old H
         → UsedBy C H events.now number h m ↔ IsToldUse items.items number h m) }
-    ensures orders { IfOk result (λ items. (C : Setup) (H : History) (number home ticket : ℕ) → Stands C machine.old H
+    ensures orders { IfOk result (λ items. (C : Setup) (H : History) (number home ticket : ℕ)
+        → Stands C machine.old H
         → IsToldOrder items.items number home ticket → OpensBy C H events.now number home ticket) }
 {
     let mut items = Vec::new(alloc);

@@ -26,20 +26,24 @@ pub struct UseAt {
 
 /// Does one event, and tells what it uses that is stale.
 fn step_use(machine: &mut Machine, event: Event) -> Option<StaleUse>
-    ensures stands { (C : Setup) (H : History) → Stands C machine.old H → Stands C machine.new (with_turn event (due C H event) H) }
-    ensures used { (C : Setup) (H : History) (h : ℕ) (m : Mapping) → Stands C machine.old H → UsesStale C (due_turn C H event) H h m ↔ Tells result h m }
+    ensures stands { (C : Setup) (H : History) → Stands C machine.old H
+        → Stands C machine.new (with_turn event (due C H event) H) }
+    ensures used { (C : Setup) (H : History) (h : ℕ) (m : Mapping) → Stands C machine.old H
+        → UsesStale C (due_turn C H event) H h m ↔ Tells result h m }
 {
     let reply = machine.step(event);
     stale_use(machine, &event, &reply)
 }
 
-/// Does the events in order, and tells each use of a stale mapping. An error comes only if there is no memory for one.
+/// Does the events in order, and tells each use of a stale mapping. An error comes only if there is
+/// no memory for one.
 pub fn stale_uses(
     alloc: Global,
     machine: &mut Machine,
     events: &[Event],
 ) -> Result<Vec<UseAt>, AllocError>
-    ensures { IfOk result (λ uses. (C : Setup) (H : History) (n h : ℕ) (m : Mapping) → Stands C machine.old H → UsedAt C H events.now n h m ↔ IsTold uses.items n h m) }
+    ensures { IfOk result (λ uses. (C : Setup) (H : History) (n h : ℕ) (m : Mapping)
+        → Stands C machine.old H → UsedAt C H events.now n h m ↔ IsTold uses.items n h m) }
 {
     let mut uses = Vec::new(alloc);
     let mut step = 0;
