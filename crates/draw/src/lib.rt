@@ -1,19 +1,16 @@
 //! Pictures of runs: what the harts of a scenario do, step by step, as one SVG document.
 //!
-//! Time goes down, a row a step, and each hart has a column. `run` records a scenario: which bars stand in which columns, from
-//! which row to which, and which rows an arrow joins. `picture` writes that as shapes, at the places that `layout` tells.
+//! Time goes down, a row a step, and each hart has a column. `run` records a scenario: which bars
+//! stand in which columns, from which row to which, and which rows an arrow joins. `picture` writes
+//! that as shapes, by crate `svg`.
 #![tactic(auto)]
 
 mod lanes;
-mod layout;
-mod legend;
 mod picture;
 mod record;
 mod recorder;
 mod run;
-mod shapes;
 mod staleness;
 mod step_words;
-mod style;
 
 pub use picture::draw_text;

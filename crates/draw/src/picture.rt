@@ -3,23 +3,16 @@
 ghost use Rattle.std.specs.Prelude.{◌≡◌, ◌<◌, ◌^◌, IfErr};
 ghost use Rattle.keys.specs.declared.fault.Fault.TheVariants.{NoMemory};
 
-use crate::layout::{
-    Column, HEAD_HEIGHT, LEAST_WIDTH, Point, ROW_HEIGHT, ROWS_A_HEAD, heads_above, row_middle,
-    row_top,
-};
-use crate::legend::push_legend;
 use crate::record::{Arrow, Bar, Message, Record, Span, StaleHit};
 use crate::run::{push_mapping, record};
-use crate::shapes::{
-    Area, push_arrow, push_dot, push_escaped, push_full_head, push_line, push_number,
-    push_open_head, push_rect, push_text,
-};
-use crate::step_words::{hart_of, push_step};
-use crate::style::STYLE;
 use files::{Fault, RunScenario};
 use pte::Page;
 use std::alloc::{AllocError, Global};
-use stepcore::{Event, Reply};
+use svg::{
+    Area, Column, HEAD_HEIGHT, LEAST_WIDTH, Point, ROW_HEIGHT, ROWS_A_HEAD, STYLE, heads_above,
+    push_arrow, push_dot, push_escaped, push_full_head, push_legend, push_line, push_number,
+    push_open_head, push_rect, push_text, row_middle, row_top,
+};
 
 /// How far below the last row a bar goes on that had not ended there.
 const TAIL: u64 = 12;
@@ -51,7 +44,7 @@ fn push_title(text: &mut String, harts: usize, steps: usize) -> Result<(), Alloc
 impl Picture {
     /// A picture that has room for a record.
     fn new(alloc: Global, record: &Record) -> Picture {
-        let rows = u32::try_from(record.replies.len()).unwrap_or(u32::MAX);
+        let rows = u32::try_from(record.rows.len()).unwrap_or(u32::MAX);
         let right = match record.columns.as_slice().last() {
             Some(column) => column.right(),
             None => 0,
@@ -69,7 +62,7 @@ impl Picture {
         let width = self.width;
         let height = self.height;
         let harts = record.columns.len();
-        let steps = record.replies.len();
+        let steps = record.rows.len();
         writeln!(
             self.svg,
             "<svg xmlns='http://www.w3.org/2000/svg' width='{width}' height='{height}' viewBox='0 0 {width} {height}' role='img'>"
@@ -226,7 +219,8 @@ impl Picture {
         push_text(&mut self.svg, "mapping", at, self.scratch.as_str())
     }
 
-    /// Adds the bar of a stale mapping, and its label: in the first row, and below each line of heads.
+    /// Adds the bar of a stale mapping, and its label: in the first row, and below each line of
+    /// heads.
     fn push_stale(
         &mut self,
         column: &Column,
@@ -256,13 +250,6 @@ impl Picture {
             }
             Span::Stale { page, ppn } => self.push_stale(column, bar, page, ppn),
         }
-    }
-
-    /// How many characters the text of a step has.
-    fn measure(&mut self, event: &Event, reply: Reply) -> Result<u16, AllocError> {
-        self.scratch.clear();
-        push_step(&mut self.scratch, event, reply)?;
-        Ok(u16::try_from(self.scratch.len()).unwrap_or(u16::MAX))
     }
 
     /// Adds an arrow, from one end of its sender's text or lane to its receiver's lane.
@@ -299,12 +286,7 @@ impl Picture {
     }
 
     /// Adds an arrow between two columns.
-    fn push_flight(
-        &mut self,
-        record: &Record,
-        events: &[Event],
-        arrow: &Arrow,
-    ) -> Result<(), AllocError> {
+    fn push_flight(&mut self, record: &Record, arrow: &Arrow) -> Result<(), AllocError> {
         let columns = record.columns.as_slice();
         let Some(sender) = columns.get(usize::from(arrow.sender)) else {
             return Ok(());
@@ -312,16 +294,11 @@ impl Picture {
         let Some(receiver) = columns.get(usize::from(arrow.receiver)) else {
             return Ok(());
         };
-        let row = arrow.first as usize;
-        let Some(event) = events.get(row) else {
+        let Some(row) = record.rows.get(arrow.first as usize) else {
             return Ok(());
         };
-        let Some(reply) = record.replies.get(row) else {
-            return Ok(());
-        };
-        let characters = self.measure(event, *reply)?;
         let x = if arrow.sender < arrow.receiver {
-            sender.text_end(characters) + 8
+            sender.text_end(row.characters()) + 8
         } else {
             sender.doing_x().saturating_sub(4)
         };
@@ -336,7 +313,8 @@ impl Picture {
         self.push_message(arrow, from, receiver.flight_x(arrow.lane), to)
     }
 
-    /// Adds the mark of an access that was answered by a stale mapping, and the line to the bar of that.
+    /// Adds the mark of an access that was answered by a stale mapping, and the line to the bar of
+    /// that.
     fn push_hit(
         &mut self,
         column: &Column,
@@ -368,61 +346,58 @@ impl Picture {
     }
 
     /// Adds the texts of the steps, and the marks of those that were answered by a stale mapping.
-    fn push_steps(&mut self, record: &Record, events: &[Event]) -> Result<(), AllocError> {
-        let mut row: u32 = 0;
+    fn push_steps(&mut self, record: &Record) -> Result<(), AllocError> {
+        let mut texts = record.texts.as_str();
+        let mut number: u32 = 0;
         let mut next_hit = 0;
-        for (event, reply) in events.iter().zip(record.replies.as_slice()) {
-            let Some(column) = record.columns.get(usize::from(hart_of(event))) else {
-                row = row.saturating_add(1);
-                continue;
+        for row in record.rows.as_slice() {
+            let Some((words, rest)) = texts.split_at_checked(row.length) else {
+                return Ok(());
             };
-            let characters = self.measure(event, *reply)?;
-            let mut class = match reply {
-                Reply::Refused(_) => "refused",
-                _ => "step",
-            };
-            if let Some(hit) = record.hits.get(next_hit) {
-                if hit.row == row {
-                    self.push_hit(column, hit, characters)?;
-                    class = "hit-words";
-                    next_hit += 1;
+            if let Some(column) = record.columns.get(usize::from(row.hart)) {
+                let mut class = if row.is_refused { "refused" } else { "step" };
+                if let Some(hit) = record.hits.get(next_hit) {
+                    if hit.row == number {
+                        self.push_hit(column, hit, row.characters())?;
+                        class = "hit-words";
+                        next_hit += 1;
+                    }
                 }
+                let at = Point {
+                    x: column.text_x(),
+                    y: row_middle(number) + 4,
+                };
+                push_text(&mut self.svg, class, at, words)?;
             }
-            self.scratch.clear();
-            push_step(&mut self.scratch, event, *reply)?;
-            let at = Point {
-                x: column.text_x(),
-                y: row_middle(row) + 4,
-            };
-            push_text(&mut self.svg, class, at, self.scratch.as_str())?;
-            row = row.saturating_add(1);
+            texts = rest;
+            number = number.saturating_add(1);
         }
         Ok(())
     }
 }
 
 /// Writes a record as a document.
-fn write(alloc: Global, record: &Record, events: &[Event]) -> Result<String, AllocError> {
+fn write(alloc: Global, record: &Record) -> Result<String, AllocError> {
     let mut picture = Picture::new(alloc, record);
     picture.push_front(record)?;
-    let rows = u32::try_from(record.replies.len()).unwrap_or(u32::MAX);
+    let rows = u32::try_from(record.rows.len()).unwrap_or(u32::MAX);
     picture.push_rows(record.columns.as_slice(), rows)?;
     for bar in record.bars.as_slice() {
         picture.push_bar(record.columns.as_slice(), bar)?;
     }
     for arrow in record.arrows.as_slice() {
-        picture.push_flight(record, events, arrow)?;
+        picture.push_flight(record, arrow)?;
     }
-    picture.push_steps(record, events)?;
+    picture.push_steps(record)?;
     picture.svg.push_str("</svg>\n")?;
     Ok(picture.svg)
 }
 
-/// The picture of a run, as an SVG document: a column a hart, a row a step, and what the legend in it says. An error comes only if
-/// there is no memory.
+/// The picture of a run, as an SVG document: a column a hart, a row a step, and what the legend in
+/// it says. An error comes only if there is no memory.
 pub fn draw_text(alloc: Global, scenario: &RunScenario) -> Result<String, Fault>
     ensures { IfErr result (λ fault. fault ≡ NoMemory) }
 {
     let record = record(alloc, scenario)?;
-    Ok(write(alloc, &record, scenario.events.as_slice())?)
+    Ok(write(alloc, &record)?)
 }

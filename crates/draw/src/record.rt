@@ -1,8 +1,7 @@
 //! What is recorded of a run: bars, arrows and marks, by harts, rows and lanes.
 
-use crate::layout::Column;
 use pte::Page;
-use stepcore::Reply;
+use svg::Column;
 
 /// What a bar stands for.
 #[derive(Clone, Copy)]
@@ -60,11 +59,28 @@ pub struct StaleHit {
     pub lane: Option<u16>,
 }
 
+/// A step: its hart, whether it was refused, and how many characters its text has.
+#[derive(Clone, Copy)]
+pub struct Row {
+    pub hart: u8,
+    pub is_refused: bool,
+    pub length: usize,
+}
+
+impl Row {
+    /// How many characters its text has, as far as a column can be wide.
+    pub fn characters(&self) -> u16 {
+        u16::try_from(self.length).unwrap_or(u16::MAX)
+    }
+}
+
 /// A run as it was recorded. Bars, arrows and hits are in the order in which they ended.
 #[derive(Drop)]
 pub struct Record {
     pub columns: Vec<Column>,
-    pub replies: Vec<Reply>,
+    pub rows: Vec<Row>,
+    /// The texts of the steps, one after the other.
+    pub texts: String,
     pub bars: Vec<Bar>,
     pub arrows: Vec<Arrow>,
     pub hits: Vec<StaleHit>,

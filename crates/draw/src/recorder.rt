@@ -1,12 +1,12 @@
 //! What is open while a run is recorded, hart by hart.
 
 use crate::lanes::Lanes;
-use crate::layout::Column;
 use crate::record::{Arrow, Bar, Message, Span};
 use crate::staleness::is_over;
 use pte::{PAGE_BYTES, Page, VirtAddr};
 use std::alloc::{AllocError, Global};
 use stepcore::Machine;
+use svg::Column;
 use tlb::Entry;
 
 /// A walk or a service that goes on.
@@ -99,7 +99,8 @@ impl Track {
         }
     }
 
-    /// The lane of the message that has been under way longest, from a hart and, for an acknowledgement, of a ticket.
+    /// The lane of the message that has been under way longest, from a hart and, for an
+    /// acknowledgement, of a ticket.
     fn lane_of(&self, message: Message, sender: u8, ticket: u32) -> Option<u16> {
         let mut found: Option<(u16, u32)> = None;
         for lane in 0..self.flights.count() {
@@ -308,7 +309,8 @@ impl Track {
         self.end_stale(hart, lane, row, true, bars)
     }
 
-    /// Ends the mappings that are stale no more after a step, which stored a leaf for a page or for none.
+    /// Ends the mappings that are stale no more after a step, which stored a leaf for a page or for
+    /// none.
     pub fn drop_over(
         &mut self,
         machine: &Machine,

@@ -3,32 +3,33 @@
 ghost use Rattle.std.specs.Prelude.{◌≡◌, IfErr};
 ghost use Rattle.keys.specs.declared.fault.Fault.TheVariants.{NoMemory};
 
-use crate::layout::FIRST_COLUMN;
-use crate::record::{Message, Record, Span, StaleHit};
+use crate::record::{Message, Record, Row, Span, StaleHit};
 use crate::recorder::{Doing, Flight, Held, OpenOrder, Track};
 use crate::staleness::stored_page;
 use crate::step_words::{hart_of, push_step};
 use files::{Fault, RunScenario};
-use lines::push_page;
+use lines::{push_hexadecimal, push_page};
 use pte::Page;
 use spaces::OpenFault;
 use stale::{BecameStale, StaleAt, StaleItem, StaleUse, step_stale};
 use std::alloc::{AllocError, Global};
 use stepcore::{Event, Machine, Reply};
+use svg::FIRST_COLUMN;
 
 /// A run while it is recorded: what is open, and what has ended.
 #[derive(Drop)]
 struct Recorder {
     tracks: Vec<Track>,
     record: Record,
-    /// A text that is measured.
+    /// A label that is measured.
     scratch: String,
 }
 
 /// Adds the label of a stale mapping: its page, and the PPN for it.
 pub fn push_mapping(text: &mut String, page: Page, ppn: u64) -> Result<(), AllocError> {
     push_page(text, page)?;
-    write!(text, " PPN 0x{ppn:x}")
+    text.push_str(" PPN 0x")?;
+    push_hexadecimal(text, ppn)
 }
 
 impl Recorder {
@@ -41,7 +42,8 @@ impl Recorder {
             tracks,
             record: Record {
                 columns: Vec::new(alloc),
-                replies: Vec::with_capacity(alloc, steps)?,
+                rows: Vec::with_capacity(alloc, steps)?,
+                texts: String::new(alloc),
                 bars: Vec::new(alloc),
                 arrows: Vec::new(alloc),
                 hits: Vec::new(alloc),
@@ -50,15 +52,23 @@ impl Recorder {
         })
     }
 
-    /// The hart makes room for a text of its step.
-    fn measure(&mut self, hart: u8, event: &Event, reply: Reply) -> Result<(), AllocError> {
-        self.scratch.clear();
-        push_step(&mut self.scratch, event, reply)?;
-        let length = self.scratch.len();
+    /// Adds a row with the text of a step, and makes room for it in the column of the hart.
+    fn add_row(&mut self, event: &Event, reply: Reply) -> Result<(), AllocError> {
+        let start = self.record.texts.len();
+        push_step(&mut self.record.texts, event, reply)?;
+        let length = self.record.texts.len().saturating_sub(start);
+        let hart = hart_of(event);
         if let Some(track) = self.tracks.get_mut(usize::from(hart)) {
             track.characters = track.characters.max(length);
         }
-        Ok(())
+        let is_refused = matches!(reply, Reply::Refused(_));
+        Ok(
+            self.record.rows.push(Row {
+                hart,
+                is_refused,
+                length,
+            })?,
+        )
     }
 
     /// A walk or a service begins.
@@ -316,13 +326,12 @@ impl Recorder {
     ) -> Result<(), AllocError> {
         items.clear();
         let reply = step_stale(machine, *event, row as usize, items)?;
-        self.measure(hart_of(event), event, reply)?;
         if !matches!(reply, Reply::Refused(_)) {
             self.note(row, event, &reply)?;
             self.note_items(row, items.as_slice())?;
             self.note_drops(machine, row, event, &reply)?;
         }
-        Ok(self.record.replies.push(reply)?)
+        self.add_row(event, reply)
     }
 
     /// Ends all that is open, and lays out the columns.

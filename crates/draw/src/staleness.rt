@@ -1,4 +1,5 @@
-//! When a stale mapping is stale no more: its entry has left the TLB, or one leaf maps its page so again.
+//! When a stale mapping is stale no more: its entry has left the TLB, or one leaf maps its page so
+//! again.
 
 use crate::recorder::Held;
 use pte::{Access, Ctx, Mode, Page, PteFlags};
@@ -73,7 +74,8 @@ fn holds(machine: &Machine, hart: u8, entry: &Entry) -> bool {
     false
 }
 
-/// Whether a mapping of a hart is stale no more, after a step that stored a leaf for a page or for none.
+/// Whether a mapping of a hart is stale no more, after a step that stored a leaf for a page or for
+/// none.
 pub fn is_over(machine: &Machine, hart: u8, held: &Held, stored: &Option<Page>) -> bool {
     !holds(machine, hart, &held.entry) || is_mapped_again(machine, &held.entry, &held.page, stored)
 }

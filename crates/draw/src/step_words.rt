@@ -2,7 +2,7 @@
 
 use bitflags::Flags;
 use history::Scope;
-use lines::{push_harts, push_page, push_reply};
+use lines::{push_harts, push_hexadecimal, push_page, push_reply};
 use pte::{Access, Ctx, Mode, Page, PteFlags};
 use shoot::HartSet;
 use spaces::Place;
@@ -58,8 +58,10 @@ fn push_begin(text: &mut String, va: u64, access: Access, ctx: Ctx) -> Result<()
     text.push_str(mode_word(ctx.mode))?;
     text.push_str(word_if(ctx.sum, "+sum"))?;
     text.push_str(word_if(ctx.mxr, "+mxr"))?;
-    let access = access_word(access);
-    write!(text, " {access} 0x{va:x}")
+    text.push_str(" ")?;
+    text.push_str(access_word(access))?;
+    text.push_str(" 0x")?;
+    push_hexadecimal(text, va)
 }
 
 fn push_flags(text: &mut String, flags: PteFlags) -> Result<(), AllocError> {

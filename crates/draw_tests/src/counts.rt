@@ -62,7 +62,8 @@ pub fn shapes_of(svg: &str) -> Shapes {
     }
 }
 
-/// Whether the elements of a picture are closed: each text, and each of the few others that hold something.
+/// Whether the elements of a picture are closed: each text, and each of the few others that hold
+/// something.
 pub fn is_balanced(svg: &str) -> bool {
     let texts = count(svg, "<text ") == count(svg, "</text>");
     let mut empty: usize = 0;

@@ -1,5 +1,5 @@
-//! Pictures of files of the folder `examples` at the top of the repository, without their comments. The shapes were counted by hand
-//! from the lines that stand beside the files there.
+//! Pictures of files of the folder `examples` at the top of the repository, without their comments.
+//! The shapes were counted by hand from the lines that stand beside the files there.
 use crate::counts::{Shapes, is_balanced, picture, shapes_of};
 use std::test::Fail;
 
@@ -26,6 +26,44 @@ steps = [
     "0 finish 0",
     "0 ackself 0",
     "0 finish 0",
+]
+"#;
+
+/// A shootdown of a page that its hart leaves alone until it has served.
+pub const SHOOTDOWN_NO_USE: &str = r#"
+harts = 2
+steps = [
+    "0 map 0 4K:0x1000 0x100 rwuad",
+    "0 map 0 4K:0x1000 0x100 rwuad",
+    "0 map 0 4K:0x1000 0x100 rwuad",
+    "0 map 0 4K:0x2000 0x101 rwuad",
+    "1 begin u store 0x1008",
+    "1 load",
+    "1 load",
+    "1 load",
+    "1 begin u load 0x2010",
+    "1 load",
+    "1 load",
+    "1 load",
+    "0 unmap 0 4K:0x1000 0,1",
+    "1 begin u load 0x2010",
+    "0 post 0 1",
+    "1 take 0",
+    "1 servefence",
+    "1 ack",
+    "1 begin u store 0x1008",
+    "1 load",
+    "1 load",
+    "1 load",
+    "1 begin u load 0x2010",
+    "0 collect 0 1",
+    "0 ackself 0",
+    "0 finish 0",
+    "0 map 0 4K:0x1000 0x102 rwuad",
+    "1 begin u store 0x1008",
+    "1 load",
+    "1 load",
+    "1 load",
 ]
 "#;
 
@@ -261,6 +299,20 @@ fn shapes_of_examples(rt: HostRuntime) -> Result<(), Fail> {
                 acks: (1, 1),
                 stale: 1,
                 hits: 1,
+            },
+        ),
+        (
+            SHOOTDOWN_NO_USE,
+            Shapes {
+                rows: 31,
+                walks: 4,
+                services: 1,
+                orders: 1,
+                done: 1,
+                requests: (1, 1),
+                acks: (1, 1),
+                stale: 1,
+                hits: 0,
             },
         ),
         (

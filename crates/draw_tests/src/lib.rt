@@ -1,4 +1,5 @@
-//! Tests of pictures of runs: how many shapes of each kind there are, and where some of them stand, worked out by hand.
+//! Tests of pictures of runs: how many shapes of each kind there are, and where some of them stand,
+//! worked out by hand.
 #![tactic(auto)]
 
 #[cfg(test)]

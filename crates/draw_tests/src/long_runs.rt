@@ -1,4 +1,5 @@
-//! Runs of no step, of more rows than have one line of heads, and of as many steps as a file may have.
+//! Runs of no step, of more rows than have one line of heads, and of as many steps as a file may
+//! have.
 use crate::counts::{count, is_balanced, picture};
 use std::alloc::{AllocError, Global};
 use std::test::Fail;
@@ -26,7 +27,8 @@ fn no_step(rt: HostRuntime) -> Result<(), Fail> {
     Ok(())
 }
 
-/// Row 40 begins at 222 + 39 * 20 = 1002, row 41 at 222 + 26 + 40 * 20 = 1048. Lines of heads stand above rows 1, 41 and 81.
+/// Row 40 begins at 222 + 39 * 20 = 1002, row 41 at 222 + 26 + 40 * 20 = 1048. Lines of heads stand
+/// above rows 1, 41 and 81.
 #[test]
 fn heads_are_repeated(rt: HostRuntime) -> Result<(), Fail> {
     let file = fences(rt.alloc(), 81)?;
@@ -50,8 +52,8 @@ fn heads_are_repeated(rt: HostRuntime) -> Result<(), Fail> {
     Ok(())
 }
 
-/// An order that is open in rows 1 to 81 has its ticket in rows 1, 41 and 81: the middle of row 81 is at
-/// 222 + 52 + 80 * 20 + 10 = 1884, and the order's lane begins at 52 + 10.
+/// An order that is open in rows 1 to 81 has its ticket in rows 1, 41 and 81: the middle of row 81
+/// is at 222 + 52 + 80 * 20 + 10 = 1884, and the order's lane begins at 52 + 10.
 #[test]
 fn ticket_is_repeated(rt: HostRuntime) -> Result<(), Fail> {
     let alloc = rt.alloc();

@@ -1,13 +1,15 @@
-//! Where things stand in a picture, in pixels, worked out by hand: a row is 20 high, a line of heads 26, and the first row begins
-//! at 222. A column has 9 for each lane of messages, 18 for each of orders, 7 for each character, and fixed margins.
+//! Where things stand in a picture, in pixels, worked out by hand: a row is 20 high, a line of
+//! heads 26, and the first row begins at 222. A column has 9 for each lane of messages, 18 for each
+//! of orders, 7 for each character, and fixed margins.
 use crate::counts::{count, picture};
 use crate::examples::FRAME_USED_AGAIN;
 use std::test::Fail;
 
-/// Hart 0 has one lane of messages and one of orders, so its texts begin at 52 + 9 + 18 + 20 + 18 = 117. Its longest text is
-/// `map 0 4K:0x1000 0x100 rwuad: table 0x80003`, of 42 characters, and it has no stale mapping: hart 1 begins at
-/// 117 + 294 + 10 + 10 = 431. That has a lane of messages and none of orders: its texts begin at 431 + 9 + 20 + 18 = 478. Its longest
-/// is `take 0: taken 0 page 4K:0x1000 asid 1`, of 37, so its stale mapping is at 478 + 259 + 10 = 747.
+/// Hart 0 has one lane of messages and one of orders, so its texts begin at 52 + 9 + 18 + 20 + 18 =
+/// 117. Its longest text is `map 0 4K:0x1000 0x100 rwuad: table 0x80003`, of 42 characters, and it
+/// has no stale mapping: hart 1 begins at 117 + 294 + 10 + 10 = 431. That has a lane of messages
+/// and none of orders: its texts begin at 431 + 9 + 20 + 18 = 478. Its longest is `take 0: taken 0
+/// page 4K:0x1000 asid 1`, of 37, so its stale mapping is at 478 + 259 + 10 = 747.
 #[test]
 fn places_of_frame_used_again(rt: HostRuntime) -> Result<(), Fail> {
     let svg = picture(rt.alloc(), FRAME_USED_AGAIN)?;
@@ -15,14 +17,17 @@ fn places_of_frame_used_again(rt: HostRuntime) -> Result<(), Fail> {
         // Row 1: its middle is at 232, the baseline of its texts 4 below.
         "<text class='number' x='40' y='236'>1</text>",
         "<text class='step' x='117' y='236'>map 0 4K:0x1000 0x100 rwuad: table 0x80003</text>",
-        // Row 8 begins at 222 + 140 = 362, row 21 ends at 642; the label `4K:0x1000 PPN 0x100` has 19 characters.
+        // Row 8 begins at 222 + 140 = 362, row 21 ends at 642; the label `4K:0x1000 PPN 0x100` has
+        // 19 characters.
         "<rect class='stale' x='747' y='364' width='143' height='276'/>",
         "<text class='mapping' x='752' y='376'>4K:0x1000 PPN 0x100</text>",
-        // Row 19: middle 592. `begin u store 0x1008: hit 0x100008` has 34 characters, so it ends at 478 + 238 = 716.
+        // Row 19: middle 592. `begin u store 0x1008: hit 0x100008` has 34 characters, so it ends at
+        // 478 + 238 = 716.
         "<text class='hit-words' x='478' y='596'>begin u store 0x1008: hit 0x100008</text>",
         "<rect class='hit' x='474' y='583' width='246' height='18'/>",
         "<line class='hit-line' x1='720' y1='592' x2='753' y2='592'/>",
-        // Row 9, middle 392: `post 0 1: ok`, 12 characters, ends at 117 + 84 = 201. Row 20, where hart 1 takes it: middle 612.
+        // Row 9, middle 392: `post 0 1: ok`, 12 characters, ends at 117 + 84 = 201. Row 20, where
+        // hart 1 takes it: middle 612.
         "<path class='request' d='M209,392H441V612H458'/>",
         "<path class='request-head' d='M458,612l-8,-4v8z'/>",
         // Row 22, middle 652, and row 24, middle 692.
@@ -39,7 +44,8 @@ fn places_of_frame_used_again(rt: HostRuntime) -> Result<(), Fail> {
     Ok(())
 }
 
-/// A flush that another hart does not take: one order, one request that waits, no other shape. What is refused is slanted.
+/// A flush that another hart does not take: one order, one request that waits, no other shape. What
+/// is refused is slanted.
 #[test]
 fn request_that_waits(rt: HostRuntime) -> Result<(), Fail> {
     let file = "harts = 2\nsteps = ['0 flush all 0,1', '0 post 0 1', '0 finish 0', '1 take 1']";

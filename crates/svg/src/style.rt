@@ -1,4 +1,5 @@
-//! How the shapes of a picture look: in light, in dark, and by lines and hatching where there is no colour.
+//! How the shapes of a picture look: in light, in dark, and by lines and hatching where there is no
+//! colour.
 
 /// The rules for the classes of shapes, and the hatching of stale mappings.
 pub const STYLE: &str = "<style>

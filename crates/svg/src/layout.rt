@@ -1,7 +1,8 @@
-//! Where things stand in a picture: rows, and the columns of the harts, in pixels from the top left.
+//! Where things stand in a picture: rows, and the columns of the harts, in pixels from the top
+//! left.
 
 ghost use Rattle.std.specs.Prelude.{◌≡◌, ◌+◌, ◌*◌, ◌/◌, ◌<◌, ◌≤◌, ◌^◌};
-ghost use Rattle.draw.specs.Layout.{doing_x, row_top, stale_x, text_x};
+ghost use Rattle.svg.specs.Layout.{doing_x, row_top, stale_x, text_x};
 
 /// How high a row is.
 pub const ROW_HEIGHT: u64 = 20;
@@ -44,8 +45,9 @@ pub struct Point {
     pub y: u64,
 }
 
-/// The column of a hart: where it begins, and how many lanes and characters it has room for. From the left: a lane for each
-/// message that is under way to the hart, one for each order, one for its walk or service, the text, one for each stale mapping.
+/// The column of a hart: where it begins, and how many lanes and characters it has room for. From
+/// the left: a lane for each message that is under way to the hart, one for each order, one for its
+/// walk or service, the text, one for each stale mapping.
 #[derive(Clone, Copy)]
 pub struct Column {
     pub left: u32,

@@ -1,7 +1,7 @@
 use Rattle.std.proofs.Common.{◌∙◌, ◌++◌, ◌≤◌, List, ℕ, length, ap, arith, string_bytes}
-use Rattle.draw.specs.Shapes.{escape}
-use Rattle.draw.proofs.Escaping.{byte_more, bytes_end}
-use Rattle.draw.proofs.shapes.push_escaped.Goals as goal
+use Rattle.svg.specs.Shapes.{escape}
+use Rattle.svg.proofs.Escaping.{byte_more, bytes_end}
+use Rattle.svg.proofs.shapes.push_bytes.Goals as goal
 
 pub loop-byte-preserved : goal.loop-byte-preserved
 loop-byte-preserved c =

@@ -2,7 +2,7 @@
 use Rattle.std.proofs.Common.{◌≡◌, ◌∙◌, ℕ, ◌+◌, ◌<◌, ◌≤◌, List, [], ◌++◌, length, drop, get_or, ap, sym, append_assoc, append-nil}
 use Rattle.std.proofs.lemmas.List.{drop_more}
 use Rattle.std.proofs.Math.ListN.{drop_of_length-le}
-use Rattle.draw.specs.Shapes.{escape, escaped}
+use Rattle.svg.specs.Shapes.{escape, escaped}
 
 -- with what stands for one byte more, what is left begins behind it
 pub byte_more : (words front new all : List ℕ) (i d : ℕ) → i < length words → front ++ escape (drop i words) ≡ all

@@ -1,8 +1,9 @@
 -- Where things stand in a picture, in pixels.
 use Rattle.std.specs.Prelude.{ℕ, ◌+◌, ◌*◌, ◌/◌}
-use Rattle.draw.specs.declared.layout.Column.{Column}
+use Rattle.svg.specs.declared.layout.Column.{Column}
 
--- the top of a row: below the legend, the rows before it, and a line of heads for each 40 rows that have begun
+-- the top of a row: below the legend, the rows before it, and a line of heads for each 40 rows that
+-- have begun
 abbrev pub row_top : ℕ → ℕ
 row_top row = 222 + 26 * (row / 40) + 20 * row
 
