@@ -1,5 +1,5 @@
-//! The files of the folder `examples` at the top of the repository, as they stand there: each is told to have no fault.
-//! Those from `live-unmap-at-once` on are in `more_examples`.
+//! The files of the folder `examples` at the top of the repository, as they stand there: each is
+//! told to have no fault. Those from `live-unmap-at-once` on are in `more_examples`.
 use crate::more_examples::MORE;
 use checks::check_text;
 use std::test::Fail;

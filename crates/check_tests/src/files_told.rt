@@ -1,4 +1,5 @@
-//! Whole files: what is not TOML, which command a file is for, several faults in one file, and files without a fault.
+//! Whole files: what is not TOML, which command a file is for, several faults in one file, and
+//! files without a fault.
 use checks::{Checked, check_text};
 use std::alloc::Global;
 use std::test::Fail;

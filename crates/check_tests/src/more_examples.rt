@@ -202,6 +202,63 @@ steps = [
 ]
 "##;
 
+const SHOOTDOWN_NO_USE: &str =
+    r##"# A whole shootdown in which no access is answered by a stale mapping.
+#
+#     ./svsim run examples/shootdown-no-use.toml
+#     ./svsim stale examples/shootdown-no-use.toml
+#
+# Hart 0 is the home of space 0, whose ASID is 1. Hart 1 runs in the space and holds two pages of 4 KiB in its TLB. Between
+# the unmapping of the first one and its service it makes no access to that page, so `stale` tells what became stale, and
+# ends with `stale 1 used 0` and status 0. (In shootdown.toml hart 1 uses the page once more before it serves, which is
+# lawful, and `stale` tells that use.)
+
+harts = 2
+
+steps = [
+    # Two pages: 0x1000 in frame 0x100, and 0x2000 in frame 0x101.
+    "0 map 0 4K:0x1000 0x100 rwuad",
+    "0 map 0 4K:0x1000 0x100 rwuad",
+    "0 map 0 4K:0x1000 0x100 rwuad",
+    "0 map 0 4K:0x2000 0x101 rwuad",
+
+    # Hart 1 walks to both, three words each, and fills its TLB.
+    "1 begin u store 0x1008",
+    "1 load",
+    "1 load",
+    "1 load", # 8 fill 0x100008
+    "1 begin u load 0x2010",
+    "1 load",
+    "1 load",
+    "1 load", # 12 fill 0x101010
+
+    # The first page is unmapped: what hart 1 holds of it is stale from here on, until hart 1 drops it.
+    "0 unmap 0 4K:0x1000 0,1", # 13 opened 0
+    "1 begin u load 0x2010", # 14 hit 0x101010: the other page, which is mapped as before
+    "0 post 0 1",
+    "1 take 0",
+    "1 servefence", # hart 1 has dropped the page
+    "1 ack",
+
+    # The access to the page comes after that. It finds nothing in the TLB, walks, and traps.
+    "1 begin u store 0x1008",
+    "1 load",
+    "1 load",
+    "1 load", # 22 trap 15 Invalid
+    "1 begin u load 0x2010", # 23 hit 0x101010: the request asked for the first page alone
+
+    # The order is done, and frame 0x100 is free. The page is mapped anew, to another frame, and hart 1 finds that one.
+    "0 collect 0 1",
+    "0 ackself 0", # 25 done
+    "0 finish 0",
+    "0 map 0 4K:0x1000 0x102 rwuad",
+    "1 begin u store 0x1008",
+    "1 load",
+    "1 load",
+    "1 load", # 31 fill 0x102008
+]
+"##;
+
 const SPACE_FLUSH_GLOBAL: &str =
     r##"# A kernel page unmapped, and the address space flushed in place of the page.
 #
@@ -433,11 +490,12 @@ steps = [
 ]
 "##;
 
-pub const MORE: [Example; 8] = [
+pub const MORE: [Example; 9] = [
     ("run", MAILBOX_FULL_AND_CLOSED),
     ("run", PROTECT_WITHOUT_WAITING),
     ("run", RANGE_FIRST_PAGE),
     ("run", SHOOTDOWN),
+    ("run", SHOOTDOWN_NO_USE),
     ("run", SPACE_FLUSH_GLOBAL),
     ("run", SUPERPAGE_SPLIT),
     ("run", SV48_SPLIT),

@@ -23,11 +23,13 @@ has_key key ms = is_there (get_member key ms)
 
 -- a key that `live` alone knows
 abbrev pub has_live_key : Members → Bool
-has_live_key ms = has_key (codes "setup") ms || (has_key (codes "scripts") ms || has_key (codes "turns") ms)
+has_live_key ms =
+    has_key (codes "setup") ms || (has_key (codes "scripts") ms || has_key (codes "turns") ms)
 
 -- a key that `walk` alone knows
 abbrev pub has_walk_key : Members → Bool
-has_walk_key ms = has_key (codes "root") ms || (has_key (codes "frames") ms || has_key (codes "words") ms)
+has_walk_key ms =
+    has_key (codes "root") ms || (has_key (codes "frames") ms || has_key (codes "words") ms)
 
 abbrev pub command_of : Members → Command
 command_of ms = if has_live_key ms then Live else if has_walk_key ms then Walk else Run
@@ -92,4 +94,5 @@ last_text n =
 
 -- the command, the lines that explain, and the last line
 abbrev pub whole_text : List ℕ → List (List ℕ) → List ℕ
-whole_text name lines = codes "file for " ++ name ++ codes "\n" ++ lines_text lines ++ last_text (length lines)
+whole_text name lines =
+    codes "file for " ++ name ++ codes "\n" ++ lines_text lines ++ last_text (length lines)

@@ -12,12 +12,12 @@ ghost use Rattle.checks.specs.Told.{command_of, fault_for, fault_of, is_memory, 
 use crate::commands::{Command, command_of};
 use crate::keys_known::tell_unknown;
 use crate::layout::tell_layout;
-use crate::places::Place;
 use crate::report::{MOST_TOLD, Report};
 use crate::step_texts::{List, Reader};
 use crate::tables_told::tell_tables;
 use crate::values::{Document, kind};
 use files::{MOST_STEPS, read_live, read_run, read_walk};
+use hints::Place;
 use keys::Fault;
 use pte::Scheme;
 use spaces::{MAX_FRAMES, MAX_HARTS, MAX_LIVE_FRAMES};
@@ -63,7 +63,8 @@ fn told(fault: Fault) -> Result<Option<Fault>, AllocError>
 
 #[tactic(auto, using(crate::proofs::FaultLemmas::failing))]
 fn walk_fault(alloc: Global, text: &str) -> Result<Option<Fault>, AllocError>
-    ensures { IfOk result (λ fault. option_map failure_of fault ≡ option_map Some (fault_in (walk_scenario_of text.now))) }
+    ensures { IfOk result (λ fault. option_map failure_of fault ≡ option_map Some
+        (fault_in (walk_scenario_of text.now))) }
 {
     match read_walk(alloc, text) {
         Ok(_scenario) => Ok(None),
@@ -73,7 +74,8 @@ fn walk_fault(alloc: Global, text: &str) -> Result<Option<Fault>, AllocError>
 
 #[tactic(auto, using(crate::proofs::FaultLemmas::failing))]
 fn run_fault(alloc: Global, text: &str) -> Result<Option<Fault>, AllocError>
-    ensures { IfOk result (λ fault. option_map failure_of fault ≡ option_map Some (fault_in (run_scenario_of text.now))) }
+    ensures { IfOk result (λ fault. option_map failure_of fault ≡ option_map Some
+        (fault_in (run_scenario_of text.now))) }
 {
     match read_run(alloc, text) {
         Ok(_scenario) => Ok(None),
@@ -83,7 +85,8 @@ fn run_fault(alloc: Global, text: &str) -> Result<Option<Fault>, AllocError>
 
 #[tactic(auto, using(crate::proofs::FaultLemmas::failing))]
 fn live_fault(alloc: Global, text: &str) -> Result<Option<Fault>, AllocError>
-    ensures { IfOk result (λ fault. option_map failure_of fault ≡ option_map Some (fault_in (live_scenario_of text.now))) }
+    ensures { IfOk result (λ fault. option_map failure_of fault ≡ option_map Some
+        (fault_in (live_scenario_of text.now))) }
 {
     match read_live(alloc, text) {
         Ok(_scenario) => Ok(None),
@@ -93,7 +96,8 @@ fn live_fault(alloc: Global, text: &str) -> Result<Option<Fault>, AllocError>
 
 /// The first fault of a text for a command. `AllocError`: there was not enough memory.
 fn fault_for(alloc: Global, command: Command, text: &str) -> Result<Option<Fault>, AllocError>
-    ensures { IfOk result (λ fault. option_map failure_of fault ≡ option_map Some (fault_for command text.now)) }
+    ensures { IfOk result (λ fault. option_map failure_of fault ≡ option_map Some
+        (fault_for command text.now)) }
 {
     match command {
         Command::Walk => walk_fault(alloc, text),
@@ -299,7 +303,8 @@ fn tell_error(report: &mut Report, text: &str, error: &toml::de::Error) -> Resul
 
 /// Adds the lines, each with its end.
 fn push_lines(text: &mut String, lines: &[String]) -> Result<(), AllocError>
-    ensures { OnOk result (string_bytes text.new ≡ string_bytes text.old ++ lines_text (map string_bytes lines.now)) }
+    ensures { OnOk result (string_bytes text.new ≡ string_bytes text.old ++ lines_text
+        (map string_bytes lines.now)) }
 {
     match lines {
         [] => Ok(()),
@@ -328,7 +333,8 @@ fn push_last(text: &mut String, count: usize) -> Result<(), AllocError>
 
 /// What is printed.
 fn text_of(alloc: Global, name: &str, lines: &[String]) -> Result<String, AllocError>
-    ensures { IfOk result (λ text. string_bytes text ≡ whole_text name.now (map string_bytes lines.now)) }
+    ensures { IfOk result (λ text. string_bytes text ≡ whole_text name.now
+        (map string_bytes lines.now)) }
 {
     let mut text = String::new(alloc);
     writeln!(text, "file for {name}")?;
@@ -366,9 +372,11 @@ fn report_of(
 
 /// What is found in a document that was read.
 fn check_table(alloc: Global, text: &str, table: &Table) -> Result<Checked, AllocError>
-    ensures fault { IfOk result (λ checked. option_map failure_of checked.fault ≡ option_map Some (fault_for (command_of (table_view table.now)) text.now)) }
+    ensures fault { IfOk result (λ checked. option_map failure_of checked.fault ≡ option_map Some
+        (fault_for (command_of (table_view table.now)) text.now)) }
     ensures told { IfOk result (λ checked. (checked.fault ≡ None) ↔ (vec_len checked.lines ≡ 0)) }
-    ensures text { IfOk result (λ checked. string_bytes checked.text ≡ whole_text (name_of (command_of (table_view table.now))) (map string_bytes checked.lines.items)) }
+    ensures text { IfOk result (λ checked. string_bytes checked.text ≡ whole_text
+        (name_of (command_of (table_view table.now))) (map string_bytes checked.lines.items)) }
 {
     let command = command_of(table);
     let fault = fault_for(alloc, command, text)?;
@@ -382,7 +390,8 @@ fn check_table(alloc: Global, text: &str, table: &Table) -> Result<Checked, Allo
 fn not_toml(alloc: Global, text: &str, error: &toml::de::Error) -> Result<Checked, AllocError>
     ensures fault { IfOk result (λ checked. checked.fault ≡ Some NotToml) }
     ensures told { IfOk result (λ checked. ¬ (vec_len checked.lines ≡ 0)) }
-    ensures text { IfOk result (λ checked. string_bytes checked.text ≡ whole_text (codes "no command") (map string_bytes checked.lines.items)) }
+    ensures text { IfOk result (λ checked. string_bytes checked.text ≡ whole_text
+        (codes "no command") (map string_bytes checked.lines.items)) }
 {
     let mut report = Report::new(alloc);
     tell_error(&mut report, text, error)?;
@@ -392,12 +401,15 @@ fn not_toml(alloc: Global, text: &str, error: &toml::de::Error) -> Result<Checke
     Ok(Checked { lines, text, fault })
 }
 
-/// Reads a file of any command, and explains each fault that is found in it, 200 at most. The command is told by the keys
-/// (`command_of`), and `fault` is what that command answers. `AllocError`: there was not enough memory.
+/// Reads a file of any command, and explains each fault that is found in it, 200 at most. The
+/// command is told by the keys (`command_of`), and `fault` is what that command answers.
+/// `AllocError`: there was not enough memory.
 pub fn check_text(alloc: Global, text: &str) -> Result<Checked, AllocError>
-    ensures fault { IfOk result (λ checked. option_map failure_of checked.fault ≡ option_map Some (fault_of text.now)) }
+    ensures fault { IfOk result (λ checked. option_map failure_of checked.fault ≡ option_map Some
+        (fault_of text.now)) }
     ensures told { IfOk result (λ checked. (checked.fault ≡ None) ↔ (vec_len checked.lines ≡ 0)) }
-    ensures text { IfOk result (λ checked. string_bytes checked.text ≡ whole_text (name_by (parse_document text.now)) (map string_bytes checked.lines.items)) }
+    ensures text { IfOk result (λ checked. string_bytes checked.text ≡ whole_text
+        (name_by (parse_document text.now)) (map string_bytes checked.lines.items)) }
 {
     match toml::table_from_str(alloc, text) {
         Ok(table) => check_table(alloc, text, &table),

@@ -28,8 +28,9 @@ const LIVE_KEYS: [&str; 10] = [
 /// The keys of the files for `walk`.
 const WALK_KEYS: [&str; 5] = ["root", "frames", "words", "steps", "mode"];
 
-/// The command that a document is for: `live` if it has a key that no other command knows (`setup`, `scripts`, `turns`), else
-/// `walk` if it has one of its own (`root`, `frames`, `words`), else `run`.
+/// The command that a document is for: `live` if it has a key that no other command knows (`setup`,
+/// `scripts`, `turns`), else `walk` if it has one of its own (`root`, `frames`, `words`), else
+/// `run`.
 pub fn command_of(table: &Table) -> Command
     ensures { result ≡ command_of (table_view table.now) }
 {

@@ -4,9 +4,9 @@ ghost use Rattle.keys.specs.Keys.{is_known, key_texts};
 ghost use Rattle.checks.specs.Told.{keys_of};
 
 use crate::commands::Command;
-use crate::near::nearest;
 use crate::report::Report;
 use crate::values::Document;
+use hints::nearest;
 use std::alloc::AllocError;
 
 /// Whether the command knows the key.

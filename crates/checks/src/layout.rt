@@ -10,7 +10,8 @@ use toml::Value;
 /// The spare frames of each hart where no key says how many.
 const DEFAULT_SPARES: u64 = 8;
 
-/// Tells what is wrong with the keys of the layout, where so many frames are allowed. Answers the number of harts if it is right.
+/// Tells what is wrong with the keys of the layout, where so many frames are allowed. Answers the
+/// number of harts if it is right.
 pub fn tell_layout(
     report: &mut Report,
     document: &Document<'_>,
@@ -31,7 +32,8 @@ pub fn tell_layout(
     Ok(harts)
 }
 
-/// Tells what is wrong with the spare frames. Answers how many there are together, if they are numbers.
+/// Tells what is wrong with the spare frames. Answers how many there are together, if they are
+/// numbers.
 fn tell_spares(
     report: &mut Report,
     document: &Document<'_>,
@@ -107,8 +109,8 @@ fn tell_spare(
     document.tell(report, "spares", what.as_str())
 }
 
-/// Tells whether the frames are too many, or have PPNs that are too large. The parts are those of the window, the spaces and
-/// the spare ones.
+/// Tells whether the frames are too many, or have PPNs that are too large. The parts are those of
+/// the window, the spaces and the spare ones.
 fn tell_frames(
     report: &mut Report,
     document: &Document<'_>,

@@ -1,4 +1,5 @@
-//! What is wrong with a file: the command that it is for, and a line for each fault that is found in it.
+//! What is wrong with a file: the command that it is for, and a line for each fault that is found
+//! in it.
 #![tactic(auto)]
 
 mod checked;
@@ -6,10 +7,7 @@ mod commands;
 mod fields;
 mod forms;
 mod keys_known;
-mod laws;
 mod layout;
-mod near;
-mod places;
 mod report;
 mod spaces_told;
 mod step_texts;
@@ -18,5 +16,3 @@ mod values;
 
 pub use checked::{Checked, check_text};
 pub use commands::{Command, command_of};
-pub use laws::near_words_are_edited_ones;
-pub use near::{is_near, nearest};

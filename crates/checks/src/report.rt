@@ -44,7 +44,8 @@ impl Report {
     }
 }
 
-/// A word of the file as it is printed: between backquotes, without control characters, and cut after 40 letters.
+/// A word of the file as it is printed: between backquotes, without control characters, and cut
+/// after 40 letters.
 pub fn shown(alloc: Global, word: &str) -> Result<String, AllocError> {
     let mut text = String::from_str(alloc, "`")?;
     for letter in word.chars().take(MOST_LETTERS) {

@@ -1,8 +1,8 @@
 //! What is wrong with the root, the frames and the words of a file for `walk`.
-use crate::places::Place;
 use crate::report::{Report, shown};
 use crate::values::{Document, text_of};
 use files::MOST_FRAMES;
+use hints::Place;
 use keys::number;
 use pte::{PPN_BITS, TABLE_LENGTH};
 use std::alloc::AllocError;
@@ -70,7 +70,8 @@ fn tell_frames(
     Ok(if are_right { Some(frames) } else { None })
 }
 
-/// What is wrong with a text `PPN INDEX WORD`, if something is. Which frames there are may be unknown.
+/// What is wrong with a text `PPN INDEX WORD`, if something is. Which frames there are may be
+/// unknown.
 fn wrong_word(
     document: &Document<'_>,
     frames: Option<&Vec<u64>>,

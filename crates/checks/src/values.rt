@@ -1,6 +1,6 @@
 //! What is wrong with the values of keys: each on its own.
-use crate::places::Place;
 use crate::report::{Report, shown};
+use hints::Place;
 use keys::number;
 use pte::Scheme;
 use std::alloc::{AllocError, Global};
@@ -42,7 +42,8 @@ impl<'a> Document<'a> {
         report.add(place.line, text.as_str())
     }
 
-    /// The whole number from `least` to `most` at a key, or else the default. `None`: it is wrong, and that is told.
+    /// The whole number from `least` to `most` at a key, or else the default. `None`: it is wrong,
+    /// and that is told.
     pub fn whole(
         &self,
         report: &mut Report,
@@ -70,7 +71,8 @@ impl<'a> Document<'a> {
         Ok(Some(n))
     }
 
-    /// The number, below `limit` if there is one, that the text at a key writes, or else the default.
+    /// The number, below `limit` if there is one, that the text at a key writes, or else the
+    /// default.
     pub fn ppn(
         &self,
         report: &mut Report,
@@ -130,7 +132,8 @@ impl<'a> Document<'a> {
         Ok(None)
     }
 
-    /// The texts of an array at a key, none where it is absent. `None`: something is no text, and that is told.
+    /// The texts of an array at a key, none where it is absent. `None`: something is no text, and
+    /// that is told.
     pub fn texts(
         &self,
         report: &mut Report,

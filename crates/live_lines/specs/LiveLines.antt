@@ -1,4 +1,5 @@
--- The lines that `live` prints: those of the setup, those of each hart's script, and one for each mailbox.
+-- The lines that `live` prints: those of the setup, those of each hart's script, and one for each
+-- mailbox.
 use Rattle.std.specs.Prelude.{ℕ, ◌+◌, List, [], ◌∷◌, ◌++◌, length, codes}
 use Rattle.std.specs.Fmt.{decimal}
 use Rattle.board.specs.declared.report.PairReport.{PairReport}
@@ -16,16 +17,20 @@ live_text Timeout = codes "timeout"
 
 -- the line of a step: whose it is, its number, and what it answered
 abbrev pub live_line : List ℕ → ℕ → LiveReply → List ℕ
-live_line whose number reply = whose ++ codes " " ++ decimal number ++ codes " " ++ live_text reply ++ codes "\n"
+live_line whose number reply =
+    whose ++ codes " " ++ decimal number ++ codes " " ++ live_text reply ++ codes "\n"
 
 -- how many requests were accepted, were taken, and wait
 abbrev pub counts_text : ℕ → ℕ → ℕ → List ℕ
-counts_text accepted taken waiting = codes " accepted " ++ decimal accepted ++ codes " taken " ++ decimal taken ++ codes " waiting " ++ decimal waiting
+counts_text accepted taken waiting =
+    codes " accepted " ++ decimal accepted ++ codes " taken " ++ decimal taken ++ codes " waiting "
+    ++ decimal waiting
 
 -- the line of a mailbox: from whom, to whom, and the counts
 abbrev pub pair_line : PairReport → List ℕ
 pair_line pair =
-    codes "pair " ++ decimal pair.sender ++ codes " " ++ decimal pair.receiver ++ counts_text pair.accepted pair.taken (length pair.waiting.items) ++ codes "\n"
+    codes "pair " ++ decimal pair.sender ++ codes " " ++ decimal pair.receiver
+    ++ counts_text pair.accepted pair.taken (length pair.waiting.items) ++ codes "\n"
 
 -- the text of each in turn, of which the first has this number
 abbrev pub each_from : {X : Type 0} → (ℕ → X → List ℕ) → ℕ → List X → List ℕ
@@ -45,4 +50,5 @@ pairs_lines pairs = each_from (λ n pair. pair_line pair) 0 pairs
 
 -- the whole
 abbrev pub live_lines : List LiveReply → List (List LiveReply) → List PairReport → List ℕ
-live_lines setup scripts pairs = steps_lines (codes "setup") setup ++ scripts_lines scripts ++ pairs_lines pairs
+live_lines setup scripts pairs =
+    steps_lines (codes "setup") setup ++ scripts_lines scripts ++ pairs_lines pairs

@@ -30,7 +30,8 @@ fn push_live_line(
     number: usize,
     reply: LiveReply,
 ) -> Result<(), AllocError>
-    ensures ok { OnOk result (string_bytes text.new ≡ string_bytes text.old ++ live_line whose.now number reply) }
+    ensures ok { OnOk result (string_bytes text.new ≡ string_bytes text.old
+        ++ live_line whose.now number reply) }
 {
     text.push_str(whose)?;
     text.push_str(" ")?;
@@ -42,7 +43,8 @@ fn push_live_line(
 
 /// Adds the lines of one list of steps.
 fn push_steps(text: &mut String, whose: &str, replies: &[LiveReply]) -> Result<(), AllocError>
-    ensures ok { OnOk result (string_bytes text.new ≡ string_bytes text.old ++ steps_lines whose.now replies.now) }
+    ensures ok { OnOk result (string_bytes text.new ≡ string_bytes text.old
+        ++ steps_lines whose.now replies.now) }
 {
     for (index, reply) in replies.iter().enumerate() {
         push_live_line(text, whose, index + 1, *reply)?;
@@ -52,14 +54,16 @@ fn push_steps(text: &mut String, whose: &str, replies: &[LiveReply]) -> Result<(
 
 /// Adds the lines of a hart's script.
 fn push_script(text: &mut String, hart: usize, replies: &[LiveReply]) -> Result<(), AllocError>
-    ensures ok { OnOk result (string_bytes text.new ≡ string_bytes text.old ++ steps_lines (decimal hart) replies.now) }
+    ensures ok { OnOk result (string_bytes text.new ≡ string_bytes text.old
+        ++ steps_lines (decimal hart) replies.now) }
 {
     let mut digits = Buffer::new();
     push_steps(text, digits.format(hart), replies)
 }
 
 fn push_scripts(text: &mut String, scripts: &[Vec<LiveReply>]) -> Result<(), AllocError>
-    ensures ok { OnOk result (string_bytes text.new ≡ string_bytes text.old ++ scripts_lines (map (λ replies. replies.items) scripts.now)) }
+    ensures ok { OnOk result (string_bytes text.new ≡ string_bytes text.old
+        ++ scripts_lines (map (λ replies. replies.items) scripts.now)) }
 {
     for (hart, replies) in scripts.iter().enumerate() {
         push_script(text, hart, replies.as_slice())?;
@@ -73,7 +77,8 @@ fn push_counts(
     taken: u64,
     waiting: usize,
 ) -> Result<(), AllocError>
-    ensures ok { OnOk result (string_bytes text.new ≡ string_bytes text.old ++ counts_text accepted taken waiting) }
+    ensures ok { OnOk result (string_bytes text.new ≡ string_bytes text.old
+        ++ counts_text accepted taken waiting) }
 {
     write!(text, " accepted {accepted} taken {taken} waiting {waiting}")
 }
@@ -95,7 +100,8 @@ fn push_pair(text: &mut String, pair: &PairReport) -> Result<(), AllocError>
 }
 
 fn push_pairs(text: &mut String, pairs: &[PairReport]) -> Result<(), AllocError>
-    ensures ok { OnOk result (string_bytes text.new ≡ string_bytes text.old ++ pairs_lines pairs.now) }
+    ensures ok { OnOk result (string_bytes text.new ≡ string_bytes text.old
+        ++ pairs_lines pairs.now) }
 {
     for pair in pairs {
         push_pair(text, pair)?;
@@ -103,16 +109,18 @@ fn push_pairs(text: &mut String, pairs: &[PairReport]) -> Result<(), AllocError>
     Ok(())
 }
 
-/// The lines of `live`: for each step of the setup `setup`, its number from 1 and what it answered; then, hart by hart, for
-/// each step of its script the hart, the step's number from 1 and what it answered; then for each mailbox of `pairs` the hart
-/// that posts, the hart that takes, and how many requests were accepted, were taken, and wait.
+/// The lines of `live`: for each step of the setup `setup`, its number from 1 and what it answered;
+/// then, hart by hart, for each step of its script the hart, the step's number from 1 and what it
+/// answered; then for each mailbox of `pairs` the hart that posts, the hart that takes, and how
+/// many requests were accepted, were taken, and wait.
 pub fn live_lines(
     alloc: Global,
     setup: &[LiveReply],
     scripts: &[Vec<LiveReply>],
     pairs: &[PairReport],
 ) -> Result<String, AllocError>
-    ensures { IfOk result (λ text. string_bytes text ≡ live_lines setup.now (map (λ replies. replies.items) scripts.now) pairs.now) }
+    ensures { IfOk result (λ text. string_bytes text
+        ≡ live_lines setup.now (map (λ replies. replies.items) scripts.now) pairs.now) }
 {
     let mut text = String::new(alloc);
     push_steps(&mut text, "setup", setup)?;

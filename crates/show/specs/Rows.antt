@@ -1,4 +1,5 @@
--- The lines of `show`. A line is made of columns: each is filled with blanks up to where the next begins.
+-- The lines of `show`. A line is made of columns: each is filled with blanks up to where the next
+-- begins.
 use Rattle.std.specs.Prelude.{ℕ, zero, suc, ◌+◌, ◌-◌, ◌*◌, Bool, List, [], ◌∷◌, ◌++◌, Option, Some, None, length, replicate, codes, if◌then◌else◌}
 use Rattle.std.specs.Fmt.{decimal}
 use Rattle.pte.specs.declared.address.PageSize.{PageSize}
@@ -71,8 +72,8 @@ access_text Fetch = codes "fetch"
 access_text Load = codes "load"
 access_text Store = codes "store"
 
--- a line, and then the columns of a walk in flight: the access, its address, and the level and the frame of the table that it
--- reads next
+-- a line, and then the columns of a walk in flight: the access, its address, and the level and the
+-- frame of the table that it reads next
 abbrev pub with_walk : List ℕ → Option Stage → List ℕ
 with_walk line None = line ++ codes "-"
 with_walk line (Some walk) = upto 54 (upto 47 (upto 27 (line ++ access_text walk.access) ++ hex walk.va) ++ decimal walk.level) ++ hex walk.table

@@ -12,7 +12,10 @@ found_of (progress.More walk) = None
 found_of (progress.Found found) = Some found
 found_of (progress.Trap trap) = None
 
--- a leaf of PPN 0 at the walk's level: the page around its address, and the place of the address there
+-- a leaf of PPN 0 at the walk's level: the page around its address, and the place of the address
+-- there
 abbrev pub IsFoundBy : Stage → Option Found → Type 0
 IsFoundBy walk None = ⊥
-IsFoundBy walk (Some found) = (found.page ≡ page_around walk.va (size_at walk.level)) × (found.pa ≡ walk.va % level_bytes walk.level)
+IsFoundBy walk (Some found) =
+    (found.page ≡ page_around walk.va (size_at walk.level))
+    × (found.pa ≡ walk.va % level_bytes walk.level)

@@ -18,7 +18,8 @@ pub(crate) fn pad(line: &mut String, column: usize) -> Result<(), AllocError>
 
 /// Adds a table after a blank line, if it has rows.
 pub(crate) fn push_table(text: &mut String, head: &str, rows: &str) -> Result<(), AllocError>
-    ensures ok { OnOk result (string_bytes text.new ≡ string_bytes text.old ++ table_text head.now rows.now) }
+    ensures ok { OnOk result (string_bytes text.new ≡ string_bytes text.old
+        ++ table_text head.now rows.now) }
 {
     if rows.is_empty() {
         return Ok(());

@@ -30,7 +30,8 @@ pub(crate) fn push_flags(line: &mut String, flags: PteFlags) -> Result<(), Alloc
 
 /// Adds the ASID of an entry, or that it is global.
 fn push_owner(line: &mut String, entry: &Entry) -> Result<(), AllocError>
-    ensures ok { OnOk result (string_bytes line.new ≡ string_bytes line.old ++ owner_text entry.now) }
+    ensures ok { OnOk result (string_bytes line.new ≡ string_bytes line.old
+        ++ owner_text entry.now) }
 {
     let asid = entry.asid;
     if entry.global {

@@ -21,7 +21,8 @@ const SERVICE_HEAD: &str = "hart  serves  ticket  fenced  drops\n";
 
 /// Adds the columns of a walk in flight.
 fn push_walk(line: &mut String, walk: Walk) -> Result<(), AllocError>
-    ensures ok { OnOk result (string_bytes line.new ≡ with_walk (string_bytes line.old) (Some walk)) }
+    ensures ok { OnOk result (string_bytes line.new
+        ≡ with_walk (string_bytes line.old) (Some walk)) }
 {
     let (va, level) = aim(walk);
     let (table, _index) = walk.wants();
@@ -80,7 +81,8 @@ pub(crate) fn push_harts(
     text: &mut String,
     machine: &Machine,
 ) -> Result<(), AllocError>
-    ensures ok { OnOk result (string_bytes text.new ≡ string_bytes text.old ++ harts_text machine.now) }
+    ensures ok { OnOk result (string_bytes text.new ≡ string_bytes text.old
+        ++ harts_text machine.now) }
 {
     let mut rows = String::new(alloc);
     for number in 0..machine.harts() {
@@ -97,7 +99,8 @@ fn push_service(
     number: u8,
     serving: Option<Serving>,
 ) -> Result<(), AllocError>
-    ensures ok { OnOk result (string_bytes rows.new ≡ string_bytes rows.old ++ service_row number serving) }
+    ensures ok { OnOk result (string_bytes rows.new ≡ string_bytes rows.old
+        ++ service_row number serving) }
 {
     if let Some(serving) = serving {
         let line = service_line(alloc, number, &serving)?;
@@ -112,7 +115,8 @@ pub(crate) fn push_services(
     text: &mut String,
     machine: &Machine,
 ) -> Result<(), AllocError>
-    ensures ok { OnOk result (string_bytes text.new ≡ string_bytes text.old ++ services_text machine.now) }
+    ensures ok { OnOk result (string_bytes text.new ≡ string_bytes text.old
+        ++ services_text machine.now) }
 {
     let mut rows = String::new(alloc);
     for number in 0..machine.harts() {
@@ -129,7 +133,8 @@ fn push_entry(
     age: usize,
     entry: Option<Entry>,
 ) -> Result<(), AllocError>
-    ensures ok { OnOk result (string_bytes rows.new ≡ string_bytes rows.old ++ entry_row number age entry) }
+    ensures ok { OnOk result (string_bytes rows.new ≡ string_bytes rows.old
+        ++ entry_row number age entry) }
 {
     if let Some(entry) = entry {
         let line = entry_line(alloc, number, age, &entry)?;
@@ -140,7 +145,8 @@ fn push_entry(
 
 /// Adds the entries of the TLB of a hart, the oldest first.
 fn push_entries(alloc: Global, rows: &mut String, number: u8, hart: &Hart) -> Result<(), AllocError>
-    ensures ok { OnOk result (string_bytes rows.new ≡ string_bytes rows.old ++ entry_rows number hart.now.entries) }
+    ensures ok { OnOk result (string_bytes rows.new ≡ string_bytes rows.old
+        ++ entry_rows number hart.now.entries) }
 {
     for age in 0..hart.tlb().len() {
         push_entry(alloc, rows, number, age, hart.tlb().entry(age))?;
@@ -154,7 +160,8 @@ pub(crate) fn push_tlbs(
     text: &mut String,
     machine: &Machine,
 ) -> Result<(), AllocError>
-    ensures ok { OnOk result (string_bytes text.new ≡ string_bytes text.old ++ tlbs_text machine.now) }
+    ensures ok { OnOk result (string_bytes text.new ≡ string_bytes text.old
+        ++ tlbs_text machine.now) }
 {
     let mut rows = String::new(alloc);
     for number in 0..machine.harts() {

@@ -15,7 +15,8 @@ const MAILBOX_HEAD: &str = "from  to  mailbox  outstanding  ticket  drops\n";
 
 /// Adds the columns of a request that waits.
 fn push_request(line: &mut String, request: Request) -> Result<(), AllocError>
-    ensures ok { OnOk result (string_bytes line.new ≡ with_request (string_bytes line.old) request) }
+    ensures ok { OnOk result (string_bytes line.new
+        ≡ with_request (string_bytes line.old) request) }
 {
     let ticket = request.ticket;
     pad(line, 32)?;
@@ -74,7 +75,8 @@ fn push_waiting(
     rows: &mut String,
     waiting: Option<Request>,
 ) -> Result<(), AllocError>
-    ensures ok { OnOk result (string_bytes rows.new ≡ string_bytes rows.old ++ waiting_row waiting) }
+    ensures ok { OnOk result (string_bytes rows.new ≡ string_bytes rows.old
+        ++ waiting_row waiting) }
 {
     if let Some(request) = waiting {
         let line = waiting_line(alloc, request)?;
@@ -92,7 +94,8 @@ fn push_mailbox(
     mailbox: &Mailbox,
     capacity: u16,
 ) -> Result<(), AllocError>
-    ensures ok { OnOk result (string_bytes rows.new ≡ string_bytes rows.old ++ mailbox_rows from to mailbox.now capacity) }
+    ensures ok { OnOk result (string_bytes rows.new ≡ string_bytes rows.old
+        ++ mailbox_rows from to mailbox.now capacity) }
 {
     let first = mailbox_line(alloc, from, to, mailbox, capacity)?;
     rows.push_str(first.as_str())?;
@@ -111,7 +114,8 @@ fn push_mailbox_if(
     mailbox: &Mailbox,
     capacity: u16,
 ) -> Result<(), AllocError>
-    ensures ok { OnOk result (string_bytes rows.new ≡ string_bytes rows.old ++ mailbox_rows_if from to mailbox.now capacity) }
+    ensures ok { OnOk result (string_bytes rows.new ≡ string_bytes rows.old
+        ++ mailbox_rows_if from to mailbox.now capacity) }
 {
     if mailbox.is_closed() || mailbox.outstanding() > 0 {
         push_mailbox(alloc, rows, from, to, mailbox, capacity)
@@ -129,7 +133,8 @@ fn push_mailboxes_from(
     capacity: u16,
 ) -> Result<(), AllocError>
     requires { from < length machine.now.harts }
-    ensures ok { OnOk result (string_bytes rows.new ≡ string_bytes rows.old ++ mailbox_rows_from machine.now capacity from (length machine.now.harts)) }
+    ensures ok { OnOk result (string_bytes rows.new ≡ string_bytes rows.old
+        ++ mailbox_rows_from machine.now capacity from (length machine.now.harts)) }
 {
     for to in 0..machine.harts() {
         push_mailbox_if(alloc, rows, from, to, machine.mailbox(from, to), capacity)?;
@@ -137,14 +142,16 @@ fn push_mailboxes_from(
     Ok(())
 }
 
-/// Adds the table of the mailboxes that are closed or have requests that are outstanding, if there is one.
+/// Adds the table of the mailboxes that are closed or have requests that are outstanding, if there
+/// is one.
 pub(crate) fn push_mailboxes(
     alloc: Global,
     text: &mut String,
     machine: &Machine,
     capacity: u16,
 ) -> Result<(), AllocError>
-    ensures ok { OnOk result (string_bytes text.new ≡ string_bytes text.old ++ mailboxes_text machine.now capacity) }
+    ensures ok { OnOk result (string_bytes text.new ≡ string_bytes text.old
+        ++ mailboxes_text machine.now capacity) }
 {
     let mut rows = String::new(alloc);
     for from in 0..machine.harts() {

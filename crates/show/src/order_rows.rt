@@ -46,7 +46,8 @@ fn push_marked(
     mark: Mark,
 ) -> Result<(), AllocError>
     requires { IsTrue (is_open tickets.now ticket) }
-    ensures ok { OnOk result (string_bytes line.new ≡ string_bytes line.old ++ marks_text harts (is_marked tickets.now ticket mark)) }
+    ensures ok { OnOk result (string_bytes line.new ≡ string_bytes line.old
+        ++ marks_text harts (is_marked tickets.now ticket mark)) }
 {
     for hart in 0..harts {
         if is_marked(tickets, ticket, mark, hart) {
@@ -67,7 +68,8 @@ fn order_line(
     ticket: u32,
 ) -> Result<String, AllocError>
     requires { IsTrue (is_open tickets.now ticket) }
-    ensures { IfOk result (λ line. string_bytes line ≡ order_row harts hart tickets.now ticket (what_at tickets.now ticket)) }
+    ensures { IfOk result (λ line. string_bytes line
+        ≡ order_row harts hart tickets.now ticket (what_at tickets.now ticket)) }
 {
     let mut line = String::new(alloc);
     write!(line, "{hart}")?;
@@ -96,7 +98,8 @@ fn push_order(
     tickets: &Tickets,
     ticket: u32,
 ) -> Result<(), AllocError>
-    ensures ok { OnOk result (string_bytes rows.new ≡ string_bytes rows.old ++ order_row harts hart tickets.now ticket (what_at tickets.now ticket)) }
+    ensures ok { OnOk result (string_bytes rows.new ≡ string_bytes rows.old
+        ++ order_row harts hart tickets.now ticket (what_at tickets.now ticket)) }
 {
     if tickets.is_open(ticket) {
         let line = order_line(alloc, harts, hart, tickets, ticket)?;
@@ -113,7 +116,8 @@ fn push_orders_of(
     hart: u8,
     tickets: &Tickets,
 ) -> Result<(), AllocError>
-    ensures ok { OnOk result (string_bytes rows.new ≡ string_bytes rows.old ++ order_rows harts hart tickets.now) }
+    ensures ok { OnOk result (string_bytes rows.new ≡ string_bytes rows.old
+        ++ order_rows harts hart tickets.now) }
 {
     for ticket in 0..MAX_TICKETS as u32 {
         push_order(alloc, rows, harts, hart, tickets, ticket)?;
@@ -127,7 +131,8 @@ pub(crate) fn push_orders(
     text: &mut String,
     machine: &Machine,
 ) -> Result<(), AllocError>
-    ensures ok { OnOk result (string_bytes text.new ≡ string_bytes text.old ++ orders_text machine.now) }
+    ensures ok { OnOk result (string_bytes text.new ≡ string_bytes text.old
+        ++ orders_text machine.now) }
 {
     let harts = machine.harts();
     let mut rows = String::new(alloc);

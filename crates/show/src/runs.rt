@@ -14,8 +14,10 @@ use stepcore::Machine;
 
 /// The machine of a scenario, after all its events.
 pub(crate) fn machine_after(alloc: Global, scenario: &RunScenario) -> Result<Machine, Fault>
-    ensures stands { IfOk result (λ machine. Stands (setup_of scenario.now.config) machine (due_history (setup_of scenario.now.config) scenario.now.events.items)) }
-    ensures spaces { IfOk result (λ machine. length machine.spaces ≡ length machine.memory.layout.homes) }
+    ensures stands { IfOk result (λ machine. Stands (setup_of scenario.now.config) machine
+        (due_history (setup_of scenario.now.config) scenario.now.events.items)) }
+    ensures spaces { IfOk result (λ machine. length machine.spaces
+        ≡ length machine.memory.layout.homes) }
     ensures some { IfOk result (λ machine. 0 < length machine.memory.layout.homes) }
     ensures window { OnOk result (scenario.now.config.window ≤ table_length) }
     ensures fault { IfErr result (λ fault. fault ≡ NoMemory) }

@@ -71,13 +71,14 @@ fn sheet(
     Ok(text)
 }
 
-/// What `svsim show` prints of a scenario: its events are done on a machine, and then its state is told as tables of text, a
-/// line of at most 100 bytes for each row. `NoMemory` is the only fault.
+/// What `svsim show` prints of a scenario: its events are done on a machine, and then its state is
+/// told as tables of text, a line of at most 100 bytes for each row. `NoMemory` is the only fault.
 ///
-/// The events are done once, in one pass, as `run` does them. What follows reads each table word once and each part of the
-/// machine a fixed number of times, whatever the number of events.
+/// The events are done once, in one pass, as `run` does them. What follows reads each table word
+/// once and each part of the machine a fixed number of times, whatever the number of events.
 pub fn show_text(alloc: Global, scenario: &RunScenario) -> Result<String, Fault>
-    ensures shown { IfOk result (λ text. Shows scenario.now.config scenario.now.events.items (string_bytes text)) }
+    ensures shown { IfOk result (λ text. Shows scenario.now.config scenario.now.events.items
+        (string_bytes text)) }
     ensures fault { IfErr result (λ fault. fault ≡ NoMemory) }
 {
     let machine = machine_after(alloc, scenario)?;

@@ -14,7 +14,8 @@ const SPACE_HEAD: &str = "space  asid   home  root           state\n";
 
 /// Adds the ASID of a space, if it has one.
 fn push_asid(line: &mut String, asid: u16, phase: Phase) -> Result<(), AllocError>
-    ensures ok { OnOk result (string_bytes line.new ≡ string_bytes line.old ++ asid_text asid phase) }
+    ensures ok { OnOk result (string_bytes line.new ≡ string_bytes line.old
+        ++ asid_text asid phase) }
 {
     match phase {
         Phase::Live | Phase::Retiring(_) => write!(line, "{asid}"),
@@ -65,7 +66,8 @@ pub(crate) fn push_spaces(
     machine: &Machine,
 ) -> Result<(), AllocError>
     requires { length machine.now.spaces ≡ length machine.now.memory.layout.homes }
-    ensures ok { OnOk result (string_bytes text.new ≡ string_bytes text.old ++ spaces_text machine.now) }
+    ensures ok { OnOk result (string_bytes text.new ≡ string_bytes text.old
+        ++ spaces_text machine.now) }
 {
     let mut rows = String::new(alloc);
     let memory = machine.memory();

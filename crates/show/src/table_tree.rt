@@ -58,7 +58,8 @@ fn pointer_line(
     table: Table,
     global: bool,
 ) -> Result<String, AllocError>
-    ensures { IfOk result (λ line. string_bytes line ≡ pointer_line depth index table.ppn table.level global) }
+    ensures { IfOk result (λ line. string_bytes line
+        ≡ pointer_line depth index table.ppn table.level global) }
 {
     let (ppn, level) = (table.ppn, table.level);
     let mut line = indexed_line(alloc, depth, index)?;
@@ -91,7 +92,8 @@ fn leaf_line(
     Ok(line)
 }
 
-/// Adds the line of a word, if it is a pointer or a leaf. The table that a pointer leads to comes back.
+/// Adds the line of a word, if it is a pointer or a leaf. The table that a pointer leads to comes
+/// back.
 fn push_word(
     alloc: Global,
     text: &mut String,
@@ -129,7 +131,8 @@ fn push_word(
     }
 }
 
-/// Adds the words of a table from an index up to another, each with all that lies below it, one level after the other.
+/// Adds the words of a table from an index up to another, each with all that lies below it, one
+/// level after the other.
 fn push_words(
     alloc: Global,
     text: &mut String,

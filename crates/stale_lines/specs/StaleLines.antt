@@ -18,9 +18,12 @@ use Rattle.stale.specs.declared.items.StaleItem.TheVariants.{Became, Used}
 abbrev pub ppn_at : Entry → ℕ → ℕ
 ppn_at e va = e.ppn % 2 ^ ppn_bits + va / bytes_of Kib4 % pages_of e.page.size
 
--- the mappings of an entry in a page: the page, the address spaces, and the PPN of the page's first address
+-- the mappings of an entry in a page: the page, the address spaces, and the PPN of the page's first
+-- address
 abbrev pub mappings_text : Entry → Span → List ℕ
-mappings_text e page = codes " page " ++ page_text page ++ codes " " ++ reach_text (reach_of e) ++ codes " ppn " ++ hex (ppn_at e page.base)
+mappings_text e page =
+    codes " page " ++ page_text page ++ codes " " ++ reach_text (reach_of e) ++ codes " ppn "
+    ++ hex (ppn_at e page.base)
 
 -- the hart that made the step, and its ticket
 abbrev pub order_text : ℕ → ℕ → List ℕ
@@ -31,8 +34,11 @@ unfoldable pub page_used : StaleUse → Span
 page_used used = page_around used.va Kib4
 
 abbrev pub item_text : StaleItem → List ℕ
-item_text (Became became) = codes " stale " ++ decimal became.hart ++ mappings_text became.entry became.page ++ order_text became.home became.ticket
-item_text (Used used) = codes " used " ++ decimal used.hart ++ mappings_text used.entry (page_used used)
+item_text (Became became) =
+    codes " stale " ++ decimal became.hart ++ mappings_text became.entry became.page
+    ++ order_text became.home became.ticket
+item_text (Used used) =
+    codes " used " ++ decimal used.hart ++ mappings_text used.entry (page_used used)
 
 abbrev pub item_line : StaleAt → List ℕ
 item_line at = decimal at.step ++ item_text at.item ++ codes "\n"
@@ -53,7 +59,9 @@ abbrev pub others_in : List StaleAt → ℕ
 others_in items = length (filter (λ at. not (is_use at.item)) items)
 
 abbrev pub last_line : List StaleAt → List ℕ
-last_line items = codes "stale " ++ decimal (others_in items) ++ codes " used " ++ decimal (uses_in items) ++ codes "\n"
+last_line items =
+    codes "stale " ++ decimal (others_in items) ++ codes " used " ++ decimal (uses_in items)
+    ++ codes "\n"
 
 abbrev pub stale_lines : List StaleAt → List ℕ
 stale_lines items = item_lines items ++ last_line items

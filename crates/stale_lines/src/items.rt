@@ -20,7 +20,8 @@ fn ppn_at(entry: &Entry, va: u64) -> u64
 
 /// Adds the address spaces that the entry is for.
 fn push_reach(text: &mut String, entry: &Entry) -> Result<(), AllocError>
-    ensures ok { OnOk result (string_bytes text.new ≡ string_bytes text.old ++ reach_text (reach_of entry.now)) }
+    ensures ok { OnOk result (string_bytes text.new ≡ string_bytes text.old
+        ++ reach_text (reach_of entry.now)) }
 {
     let asid = entry.asid;
     if entry.global {
@@ -30,9 +31,11 @@ fn push_reach(text: &mut String, entry: &Entry) -> Result<(), AllocError>
     }
 }
 
-/// Adds the mappings of an entry in a page: the page, the address spaces, and the PPN of the page's first address.
+/// Adds the mappings of an entry in a page: the page, the address spaces, and the PPN of the page's
+/// first address.
 fn push_mappings(text: &mut String, entry: &Entry, page: Page) -> Result<(), AllocError>
-    ensures ok { OnOk result (string_bytes text.new ≡ string_bytes text.old ++ mappings_text entry.now page) }
+    ensures ok { OnOk result (string_bytes text.new ≡ string_bytes text.old
+        ++ mappings_text entry.now page) }
 {
     text.push_str(" page ")?;
     push_page(text, page)?;
@@ -44,14 +47,16 @@ fn push_mappings(text: &mut String, entry: &Entry, page: Page) -> Result<(), All
 
 /// Adds the hart that made the step, and its ticket.
 fn push_order(text: &mut String, home: u8, ticket: u32) -> Result<(), AllocError>
-    ensures ok { OnOk result (string_bytes text.new ≡ string_bytes text.old ++ order_text home ticket) }
+    ensures ok { OnOk result (string_bytes text.new ≡ string_bytes text.old
+        ++ order_text home ticket) }
 {
     write!(text, " order {home} {ticket}")
 }
 
 /// Adds mappings that became stale.
 fn push_became(text: &mut String, became: &BecameStale) -> Result<(), AllocError>
-    ensures ok { OnOk result (string_bytes text.new ≡ string_bytes text.old ++ item_text (Became became.now)) }
+    ensures ok { OnOk result (string_bytes text.new ≡ string_bytes text.old
+        ++ item_text (Became became.now)) }
 {
     let hart = became.hart;
     write!(text, " stale {hart}")?;
@@ -69,7 +74,8 @@ fn page_used(used: &StaleUse) -> Page
 
 /// Adds a use.
 fn push_used(text: &mut String, used: &StaleUse) -> Result<(), AllocError>
-    ensures ok { OnOk result (string_bytes text.new ≡ string_bytes text.old ++ item_text (Used used.now)) }
+    ensures ok { OnOk result (string_bytes text.new ≡ string_bytes text.old
+        ++ item_text (Used used.now)) }
 {
     let hart = used.hart;
     write!(text, " used {hart}")?;
@@ -118,7 +124,8 @@ fn others_in(items: &[StaleAt]) -> usize
 
 /// Adds the numbers of both kinds.
 fn push_last(text: &mut String, items: &[StaleAt]) -> Result<(), AllocError>
-    ensures ok { OnOk result (string_bytes text.new ≡ string_bytes text.old ++ last_line items.now) }
+    ensures ok { OnOk result (string_bytes text.new ≡ string_bytes text.old
+        ++ last_line items.now) }
 {
     text.push_str("stale ")?;
     push_decimal(text, others_in(items))?;
@@ -127,8 +134,8 @@ fn push_last(text: &mut String, items: &[StaleAt]) -> Result<(), AllocError>
     text.push_str("\n")
 }
 
-/// The lines of `stale`: one for each item, with the number of its step, and a last one with how many items tell of mappings that
-/// became stale and how many are uses.
+/// The lines of `stale`: one for each item, with the number of its step, and a last one with how
+/// many items tell of mappings that became stale and how many are uses.
 pub fn stale_lines(alloc: Global, items: &[StaleAt]) -> Result<String, AllocError>
     ensures { IfOk result (λ text. string_bytes text ≡ stale_lines items.now) }
 {

@@ -1,4 +1,5 @@
-//! The lines of `svsim stale`: which step of a run makes mappings of a TLB stale, and which access a stale mapping answers.
+//! The lines of `svsim stale`: which step of a run makes mappings of a TLB stale, and which access
+//! a stale mapping answers.
 #![tactic(auto)]
 
 mod items;

@@ -22,10 +22,12 @@ pub struct StaleText {
     pub is_used: bool,
 }
 
-/// Opens the machine of a scenario, does its steps, and tells what becomes stale and what stale mappings are used. `NoMemory`: there
-/// is no memory for the machine or the lines.
+/// Opens the machine of a scenario, does its steps, and tells what becomes stale and what stale
+/// mappings are used. `NoMemory`: there is no memory for the machine or the lines.
 pub fn stale_text(alloc: Global, scenario: &RunScenario) -> Result<StaleText, Fault>
-    ensures prints { IfOk result (λ printed. Prints (setup_of scenario.now.config) scenario.now.events.items (string_bytes printed.text) printed.is_used) }
+    ensures prints { IfOk result (λ printed. Prints
+        (setup_of scenario.now.config) scenario.now.events.items
+        (string_bytes printed.text) printed.is_used) }
     ensures fault { IfErr result (λ fault. fault ≡ NoMemory) }
 {
     let mut machine = match Machine::open(alloc, &scenario.config) {

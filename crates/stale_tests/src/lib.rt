@@ -1,4 +1,5 @@
-//! Tests of stale mappings: which steps make mappings stale, and which accesses of a run are answered by one.
+//! Tests of stale mappings: which steps make mappings stale, and which accesses of a run are
+//! answered by one.
 #![tactic(auto)]
 
 #[cfg(test)]

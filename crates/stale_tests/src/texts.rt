@@ -17,7 +17,8 @@ fn prints(rt: &impl Abort, alloc: Global, scenario: &str, lines: &str, is_used: 
     printed.text.as_str() == lines && printed.is_used == is_used
 }
 
-/// A page of 2 MiB that hart 1 holds is unmapped, and hart 1 uses it once before it serves: examples/shootdown.toml.
+/// A page of 2 MiB that hart 1 holds is unmapped, and hart 1 uses it once before it serves:
+/// examples/shootdown.toml.
 #[test]
 fn superpage_shootdown(rt: HostRuntime) {
     let scenario = r#"harts = 2
@@ -50,8 +51,9 @@ stale 1 used 1
     assert!(rt; prints(&rt, rt.alloc(), scenario, lines, true));
 }
 
-/// Hart 1 still holds a page of 2 MiB that was split long ago, without an acknowledgement. A page of 4 KiB that is mapped as the old
-/// entry has it is unmapped: of the entry that page alone becomes stale, with its place's PPN. The rest of it is stale as it was.
+/// Hart 1 still holds a page of 2 MiB that was split long ago, without an acknowledgement. A page
+/// of 4 KiB that is mapped as the old entry has it is unmapped: of the entry that page alone
+/// becomes stale, with its place's PPN. The rest of it is stale as it was.
 #[test]
 fn small_page_below_a_large_entry(rt: HostRuntime) {
     let scenario = r#"harts = 2
@@ -77,7 +79,8 @@ stale 2 used 1
     assert!(rt; prints(&rt, rt.alloc(), scenario, lines, true));
 }
 
-/// A change of flags makes the old flags stale; one to the same flags does not: examples/protect-without-waiting.toml.
+/// A change of flags makes the old flags stale; one to the same flags does not:
+/// examples/protect-without-waiting.toml.
 #[test]
 fn changed_flags(rt: HostRuntime) {
     let scenario = r#"harts = 2
@@ -105,7 +108,8 @@ stale 1 used 1
     assert!(rt; prints(&rt, rt.alloc(), scenario, lines, true));
 }
 
-/// A kernel page becomes stale for every ASID, and a fence for one ASID leaves it: examples/global-page-asid-fence.toml.
+/// A kernel page becomes stale for every ASID, and a fence for one ASID leaves it:
+/// examples/global-page-asid-fence.toml.
 #[test]
 fn global_page(rt: HostRuntime) {
     let scenario = r#"harts = 2
@@ -136,8 +140,8 @@ stale 1 used 2
     assert!(rt; prints(&rt, rt.alloc(), scenario, lines, true));
 }
 
-/// A page is unmapped, and the hart that holds it is not asked; that a space is retired, reclaimed and created anew makes nothing
-/// stale: examples/asid-used-again.toml.
+/// A page is unmapped, and the hart that holds it is not asked; that a space is retired, reclaimed
+/// and created anew makes nothing stale: examples/asid-used-again.toml.
 #[test]
 fn retired_space(rt: HostRuntime) {
     let scenario = r#"harts = 2
@@ -192,7 +196,8 @@ stale 1 used 2
     assert!(rt; prints(&rt, rt.alloc(), scenario, lines, true));
 }
 
-/// Sv48: a page of 512 GiB that is replaced by smaller ones answers at each of them as before: examples/sv48-split.toml.
+/// Sv48: a page of 512 GiB that is replaced by smaller ones answers at each of them as before:
+/// examples/sv48-split.toml.
 #[test]
 fn sv48_page(rt: HostRuntime) {
     let scenario = r#"harts = 2
@@ -222,7 +227,8 @@ stale 1 used 3
     assert!(rt; prints(&rt, rt.alloc(), scenario, lines, true));
 }
 
-/// A frame goes to another process before hart 1 has dropped it, and hart 1 writes: examples/frame-used-again.toml.
+/// A frame goes to another process before hart 1 has dropped it, and hart 1 writes:
+/// examples/frame-used-again.toml.
 #[test]
 fn frame_used_again(rt: HostRuntime) {
     let scenario = r#"harts = 3
@@ -262,6 +268,51 @@ stale 1 used 1
     assert!(rt; prints(&rt, rt.alloc(), scenario, lines, true));
 }
 
+/// A whole shootdown of a page that hart 1 leaves alone until it has served; another page, which it
+/// uses meanwhile, is never stale: examples/shootdown-no-use.toml.
+#[test]
+fn shootdown_without_a_use(rt: HostRuntime) {
+    let scenario = r#"harts = 2
+steps = [
+    "0 map 0 4K:0x1000 0x100 rwuad",
+    "0 map 0 4K:0x1000 0x100 rwuad",
+    "0 map 0 4K:0x1000 0x100 rwuad",
+    "0 map 0 4K:0x2000 0x101 rwuad",
+    "1 begin u store 0x1008",
+    "1 load",
+    "1 load",
+    "1 load",
+    "1 begin u load 0x2010",
+    "1 load",
+    "1 load",
+    "1 load",
+    "0 unmap 0 4K:0x1000 0,1",
+    "1 begin u load 0x2010",
+    "0 post 0 1",
+    "1 take 0",
+    "1 servefence",
+    "1 ack",
+    "1 begin u store 0x1008",
+    "1 load",
+    "1 load",
+    "1 load",
+    "1 begin u load 0x2010",
+    "0 collect 0 1",
+    "0 ackself 0",
+    "0 finish 0",
+    "0 map 0 4K:0x1000 0x102 rwuad",
+    "1 begin u store 0x1008",
+    "1 load",
+    "1 load",
+    "1 load",
+]
+"#;
+    let lines = r#"13 stale 1 page 4K:0x1000 asid 1 ppn 0x100 order 0 0
+stale 1 used 0
+"#;
+    assert!(rt; prints(&rt, rt.alloc(), scenario, lines, false));
+}
+
 /// Two harts hold the page, each becomes stale; both drop it before they use it.
 #[test]
 fn none_is_used(rt: HostRuntime) {
@@ -295,7 +346,8 @@ stale 2 used 0
     assert!(rt; prints(&rt, rt.alloc(), scenario, lines, false));
 }
 
-/// What is held of another frame, or was stale before, does not become stale: the page was mapped to frame 0x101 meanwhile.
+/// What is held of another frame, or was stale before, does not become stale: the page was mapped
+/// to frame 0x101 meanwhile.
 #[test]
 fn stale_before(rt: HostRuntime) {
     let scenario = r#"harts = 2

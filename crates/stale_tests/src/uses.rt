@@ -127,7 +127,8 @@ fn uses_of(rt: &impl Abort, alloc: Global, events: &[Event]) -> Vec<UseAt> {
     }
 }
 
-/// Of the use at this place: its event, hart, address, the base of the entry's page, its PPN, and whether it is global.
+/// Of the use at this place: its event, hart, address, the base of the entry's page, its PPN, and
+/// whether it is global.
 fn told(uses: &Vec<UseAt>, at: usize) -> Option<(usize, u8, u64, u64, u64, bool)> {
     let found = uses.get(at)?;
     let entry = found.used.entry;
@@ -196,7 +197,8 @@ fn unserved_hart_uses_the_old_page(rt: HostRuntime) {
     );
 }
 
-/// A frame goes to another process before the first one's hart has dropped it: examples/frame-used-again.toml.
+/// A frame goes to another process before the first one's hart has dropped it:
+/// examples/frame-used-again.toml.
 #[test]
 fn frame_is_used_again(rt: HostRuntime) {
     let small = page(&rt, 0x1000, PageSize::Kib4);
@@ -233,8 +235,8 @@ fn frame_is_used_again(rt: HostRuntime) {
     assert_eq!(rt; told(&uses, 0), Some((18, 1, 0x1008, 0x1000, 0x100, false)));
 }
 
-/// Of a page of 2 MiB that is replaced by a small page, an old entry is stale at the small page too if its flags are others:
-/// examples/superpage-split.toml.
+/// Of a page of 2 MiB that is replaced by a small page, an old entry is stale at the small page too
+/// if its flags are others: examples/superpage-split.toml.
 #[test]
 fn superpage_is_split(rt: HostRuntime) {
     let space = Place::Space(0);

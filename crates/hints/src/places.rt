@@ -13,7 +13,8 @@ enum State {
     /// In a text that ends at this quote; after a backslash in it.
     Text(u8),
     Escape,
-    /// In a text of several lines that ends at three of this quote, of which so many were read; after a backslash in it.
+    /// In a text of several lines that ends at three of this quote, of which so many were read;
+    /// after a backslash in it.
     Long(u8, u8),
     LongEscape,
     /// Three closing quotes were read. Up to two more belong to the text.
@@ -97,7 +98,8 @@ fn text_after(quote: u8, byte: u8) -> State {
     }
 }
 
-/// The state in a text of several lines after a byte of it, where so many quotes stand before the byte.
+/// The state in a text of several lines after a byte of it, where so many quotes stand before the
+/// byte.
 fn long_after(quote: u8, read: u8, byte: u8) -> State {
     if byte == quote {
         if read >= 2 {
@@ -148,7 +150,8 @@ fn scan_line(
     Ok(scan.at_line_end())
 }
 
-/// The line of a key at the beginning of a line, and the texts in the array that is its value. `None`: there is no such line.
+/// The line of a key at the beginning of a line, and the texts in the array that is its value.
+/// `None`: there is no such line.
 #[derive(Drop)]
 pub struct Place {
     pub line: Option<usize>,
