@@ -102,7 +102,7 @@ module _ (m mid new : State) (hart named t : ℕ) (what : What)
     count = ap (λ (s : State). length s.spaces) others ∙ ap (λ (s : State). length s.spaces) opens;
     spaces = λ k below. ap (λ (s : State). space_at s k) others ∙ ap (λ (s : State). space_at s k) opens;
     words = λ p i. words m new.memory hart (wish.Unmap place page) store is _
-         (unmap_stored (setup_in m) (words_in m) (holders_in m) hart store place page is.is) p i;
+        (unmap_stored (setup_in m) (words_in m) (holders_in m) hart store place page is.is) p i;
     holders = holders (wish.Unmap place page) store e is;
     harts = ap (λ (s : State). s.harts) others ∙ ap (λ (s : State). s.harts) opens;
     tickets = tickets (wish.Unmap place page) asks;
@@ -113,7 +113,7 @@ module _ (m mid new : State) (hart named t : ℕ) (what : What)
     count = ap (λ (s : State). length s.spaces) others ∙ ap (λ (s : State). length s.spaces) opens;
     spaces = λ k below. ap (λ (s : State). space_at s k) others ∙ ap (λ (s : State). space_at s k) opens;
     words = λ p i. words m new.memory hart (wish.Protect place page flags) store is _
-         (protect_stored (setup_in m) (words_in m) (holders_in m) hart store place page flags is.is) p i;
+        (protect_stored (setup_in m) (words_in m) (holders_in m) hart store place page flags is.is) p i;
     holders = holders (wish.Protect place page flags) store e is;
     harts = ap (λ (s : State). s.harts) others ∙ ap (λ (s : State). s.harts) opens;
     tickets = tickets (wish.Protect place page flags) asks;
