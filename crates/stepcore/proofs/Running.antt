@@ -1,7 +1,7 @@
 -- Runs, one answered event at a time, and what holds of a machine that stands at a history.
 use Rattle.std.proofs.Common.{◌≡◌, ℕ, ◌+◌, ◌-◌, ◌<◌, ◌≤◌, List, [], ◌∷◌, ◌++◌, take, length, Option, None, Some, slice_get, refl, ap, sym, ◌∙◌, subst, arith}
 use Rattle.std.proofs.Math.Seq.{take-length}
-use Rattle.std.specs.Prelude.{slice_index}
+use Rattle.std.specs.Prelude.{slice_index, option_map, unwrap_or}
 use Rattle.pte.specs.declared.scheme.Scheme.{Scheme}
 use Rattle.pte.specs.Address.{top_level}
 use Rattle.walk.specs.Leads.{Tables}
@@ -11,7 +11,8 @@ use Rattle.walk.proofs.Downward.{leads_by_pointers}
 use Rattle.spaces.specs.Layout.{root_ppn, spare_ppn}
 use Rattle.std.proofs.lemmas.List.{drop_all, drop-append-le}
 use Rattle.tlb.specs.declared.store.Entry.{Entry}
-use Rattle.shoot.specs.Mailbox.{MailboxState}
+use Rattle.shoot.specs.Mailbox.{MailboxState, empty_mailbox}
+use Rattle.shoot.specs.Request.{Message}
 use Rattle.history.specs.Setup.{Setup}
 use Rattle.history.specs.declared.event.Event.{Event}
 use Rattle.history.specs.declared.reply.Reply.{Reply}
@@ -24,7 +25,7 @@ use Rattle.history.specs.Completion.{ClearOnceDone}
 use Rattle.history.specs.Staleness.{Clear, Coherent, HoldsUsedAsids}
 use Rattle.history.specs.Spaces.{Live, status_of, holder_of}
 use Rattle.history.specs.Tables.{words_of}
-use Rattle.history.specs.Harts.{Walking, space_of, walk_of}
+use Rattle.history.specs.Harts.{Walking, entries_of, space_of, walk_of}
 use Rattle.history.proofs.Mailboxes as mailboxes
 use Rattle.laws.proofs.Asids.{holds_used, live_hart}
 use Rattle.laws.proofs.Clearing.{clear}
@@ -32,7 +33,7 @@ use Rattle.laws.proofs.Cohering.{coherent}
 use Rattle.laws.proofs.Completed.{done_clear}
 use Rattle.laws.proofs.MapsKept.{stays_mapped, stays_unmapped, user_plain, window_shared}
 use Rattle.laws.proofs.Walkers.{walks_used}
-use Rattle.stepcore.specs.State.{State, hart_at}
+use Rattle.stepcore.specs.State.{State, HartState, hart_at, idle_hart, mailbox_index}
 use Rattle.stepcore.specs.Stands.{AreSameWalk, Stands}
 use Rattle.stepcore.specs.Runs.{with_turns, appended, AreDue, waiting_in, entries_in}
 
@@ -104,12 +105,21 @@ walk_told scheme words root (Some stage) (Some w) at same is =
     let table : stage.table ≡ at.table = cc (is) in
     (w, refl, ap (λ va. table_after scheme words root va w.loads) (sym same.va) ∙ ap (table_after scheme words root stage.va) (sym loads) ∙ leads.1 ∙ ap Some table)
 
+-- what is read of an item, or of what stands for one that is not there
+pub read_or : {A B : Type 0} (read : A → B) (item : Option A) (other : A) → unwrap_or (option_map read item) (read other) ≡ read (unwrap_or item other)
+read_or read None other = refl
+read_or read (Some x) other = refl
+
 module _ (C : Setup) (m : State) (H : History) (st : Stands C m H) where
+  entries_are : (h : ℕ) → h < C.harts → entries_in m h ≡ entries_of C H h
+  entries_are h l = read_or (λ (hart : HartState). hart.entries) (slice_get m.harts h) idle_hart ∙ (st.harts h l).entries
+
   -- each mailbox keeps its order: what was accepted is what was taken, followed by what waits in the machine
   pub mailbox_order : (s h : ℕ) → s < C.harts → h < C.harts → accepted C H s h ≡ taken H s h ++ waiting_in m s h
   mailbox_order s h ls lh =
       mailboxes.lawful_order C H st.lawful s h
-      ∙ ap (λ (mailbox : MailboxState). taken H s h ++ mailbox.waiting) (sym (st.mailboxes s h ls lh))
+      ∙ ap (λ (requests : List Message). taken H s h ++ requests)
+      (sym (read_or (λ (mailbox : MailboxState). mailbox.waiting) (slice_get m.mailboxes (mailbox_index s h)) (empty_mailbox 0) ∙ ap (λ (mailbox : MailboxState). mailbox.waiting) (st.mailboxes s h ls lh)))
 
   pub none_after_close : (s h : ℕ) → NoneAfterClose H s h
   none_after_close s h = mailboxes.no_post_after_close C H s h st.lawful
@@ -117,22 +127,22 @@ module _ (C : Setup) (m : State) (H : History) (st : Stands C m H) where
   -- what the TLBs of the machine hold is clear and coherent
   pub entries_clear : (k h : ℕ) → h < C.harts → Clear C H (entries_in m h) k h
   entries_clear k h l =
-      subst (λ (entries : List Entry). Clear C H entries k h) (sym (st.harts h l).entries)
+      subst (λ (entries : List Entry). Clear C H entries k h) (sym (entries_are h l))
       (clear C st.within (stays_unmapped C st.within) (user_plain C st.within) H k h st.lawful st.pages)
 
   pub entries_done : (k h : ℕ) → h < C.harts → ClearOnceDone C H (entries_in m h) k h
   entries_done k h l =
-      subst (λ (entries : List Entry). ClearOnceDone C H entries k h) (sym (st.harts h l).entries)
+      subst (λ (entries : List Entry). ClearOnceDone C H entries k h) (sym (entries_are h l))
       (done_clear C H k h st.lawful (clear C st.within (stays_unmapped C st.within) (user_plain C st.within) H k h st.lawful st.pages))
 
   pub entries_coherent : (k h : ℕ) → h < C.harts → Coherent C H (entries_in m h) k h
   entries_coherent k h l =
-      subst (λ (entries : List Entry). Coherent C H entries k h) (sym (st.harts h l).entries)
+      subst (λ (entries : List Entry). Coherent C H entries k h) (sym (entries_are h l))
       (coherent C st.within (user_plain C st.within) (stays_mapped C st.within) (window_shared C st.within) H k h st.lawful st.pages)
 
   -- nor do they hold what is of an ASID that no space has; harts are in live spaces, and walks at frames in use
   pub used_asids : (h : ℕ) → h < C.harts → HoldsUsedAsids C H (entries_in m h)
-  used_asids h l = subst (λ (entries : List Entry). HoldsUsedAsids C H entries) (sym (st.harts h l).entries) (holds_used C st.within H h st.lawful st.pages)
+  used_asids h l = subst (λ (entries : List Entry). HoldsUsedAsids C H entries) (sym (entries_are h l)) (holds_used C st.within H h st.lawful st.pages)
 
   pub live_spaces : (h : ℕ) → h < C.harts → status_of H (hart_at m h).space ≡ Live
   live_spaces h l = ap (status_of H) (st.harts h l).space ∙ live_hart C st.within H h st.lawful l

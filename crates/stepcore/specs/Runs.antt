@@ -1,8 +1,9 @@
 -- What a run of events appends to a history, and what a machine shows of its mailboxes and TLBs.
-use Rattle.std.specs.Prelude.{ℕ, ◌≡◌, ◌≢◌, ◌+◌, ◌<◌, List, [], ◌∷◌, drop, take, length, None, Some, slice_index}
+use Rattle.std.specs.Prelude.{ℕ, ◌≡◌, ◌≢◌, ◌+◌, ◌<◌, List, [], ◌∷◌, drop, take, length, None, Some, option_map, slice_get, slice_index, unwrap_or}
 use Rattle.walk.specs.Stage.{Stage}
 use Rattle.spaces.specs.Layout.{spare_ppn}
 use Rattle.tlb.specs.declared.store.Entry.{Entry}
+use Rattle.shoot.specs.Mailbox.{MailboxState}
 use Rattle.shoot.specs.Request.{Message}
 use Rattle.history.specs.declared.event.Event.{Event}
 use Rattle.history.specs.declared.reply.Reply.{Reply}
@@ -14,7 +15,7 @@ use Rattle.history.specs.Spaces.{Live, status_of, holder_of}
 use Rattle.history.specs.Completion.{ClearOnceDone}
 use Rattle.history.specs.Staleness.{Clear, Coherent, HoldsUsedAsids}
 use Rattle.history.specs.Runs.{with_turn, due_replies}
-use Rattle.stepcore.specs.State.{State, hart_at, mailbox_at}
+use Rattle.stepcore.specs.State.{State, HartState, hart_at, mailbox_index}
 
 -- the history once these events were answered so, as far as there are replies
 abbrev pub with_turns : List Event → List Reply → History → History
@@ -29,10 +30,13 @@ appended old new = drop (length old) new
 -- the requests that wait in the mailbox from one hart to another, and the entries of the TLB of a
 -- hart
 abbrev pub waiting_in : State → ℕ → ℕ → List Message
-waiting_in m sender receiver = (mailbox_at m sender receiver).waiting
+waiting_in m sender receiver =
+    unwrap_or (option_map (λ (mailbox : MailboxState). mailbox.waiting)
+    (slice_get m.mailboxes (mailbox_index sender receiver))) []
 
 abbrev pub entries_in : State → ℕ → List Entry
-entries_in m hart = (hart_at m hart).entries
+entries_in m hart =
+    unwrap_or (option_map (λ (h : HartState). h.entries) (slice_get m.harts hart)) []
 
 -- the history after a run that appended replies
 abbrev pub after_run : List Event → List Reply → List Reply → History → History
