@@ -27,7 +27,7 @@ use Rattle.history.specs.Turns.{History}
 use Rattle.history.specs.Orders.{Order, Cause, Unmapped, order_at}
 use Rattle.history.specs.Acknowledgements.{is_acked}
 use Rattle.history.specs.Due.{names}
-use Rattle.history.specs.Staleness.{is_mapped_anew, is_superseded, HasAnswered, IsAsidOf, IsForAsid, Reaches, IsRootOf, IsMapped, IsChange, Clear}
+use Rattle.history.specs.Staleness.{is_mapped_anew, is_superseded, HasAnswered, IsAsidOf, IsForAsid, Reaches, IsMapped, IsChange, Clear}
 use Rattle.counterexamples.specs.Counterexamples.{ClearForbids, ClearAllowsAll, CoherentForbids, CoherentAllowsAll}
 
 -- what an access of a mapped page finds
@@ -133,14 +133,14 @@ module _ (C : Setup) (H : History) (k h : ℕ) where
 
   -- a mapping that the tables do not have now may not be held
   pub coherent_forbids : (cause : Cause) (of : Option ℕ) (page : Span) → IsChange cause of page → HasAnswered C H k h cause → is_superseded C H k ≡ false
-      → (e : Entry) (m : Mapping) → IsMappingOf e m → IsForAsid of m → LiesIn page m.page → (root : ℕ) → IsRootOf C H of root → ¬ IsMapped C H root m
+      → (e : Entry) (m : Mapping) → IsMappingOf e m → IsForAsid of m → LiesIn page m.page → (s : ℕ) → Reaches C H of s → ¬ IsMapped C H s m
       → CoherentForbids C H k h e
-  coherent_forbids cause of page change answered old e m is for lies root is_root none entries at coherent =
-      none ((coherent cause of page change answered old m (e, at, is) for lies).each root is_root)
+  coherent_forbids cause of page change answered old e m is for lies s reached none entries at coherent =
+      none ((coherent cause of page change answered old m (e, at, is) for lies).each s reached)
 
   -- nor one of an ASID that no live or retiring space has
   pub coherent_forbids_unreached : (cause : Cause) (of : Option ℕ) (page : Span) → IsChange cause of page → HasAnswered C H k h cause → is_superseded C H k ≡ false
       → (e : Entry) (m : Mapping) → IsMappingOf e m → IsForAsid of m → LiesIn page m.page → ((s : ℕ) → ¬ Reaches C H of s) → CoherentForbids C H k h e
   coherent_forbids_unreached cause of page change answered old e m is for lies none entries at coherent =
       let some = (coherent cause of page change answered old m (e, at, is) for lies).some in
-      none some.1.0 some.1.1
+      none some.0 some.1

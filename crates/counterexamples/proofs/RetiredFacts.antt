@@ -97,7 +97,7 @@ other_asid_changed =
     (inr (2, refl, refl)) (record { from = omega arith; to = omega arith }) changed_since
 
 -- the space that has ASID 2 now maps the page to another PPN
-old_frame_gone : ¬ IsMapped spaces_of_one_home (history_of run.asid_used_again) 0x80001 (mapping 0x100)
+old_frame_gone : ¬ IsMapped spaces_of_one_home (history_of run.asid_used_again) 0 (mapping 0x100)
 unfolding kind_of wish_fault path_end edit_of
 old_frame_gone m =
     not_mapped Sv39 (words_of spaces_of_one_home (history_of run.asid_used_again)) 0x80001 0x1000 0x100 access.Load user (flags (R + U + A + D)) _ (inl (omega arith)) refl refl m
@@ -107,7 +107,7 @@ old_ppn_of_the_asid =
     coherent_forbids spaces_of_one_home (history_of run.asid_used_again) 3 0 (Unmapped (Some 2) (small_page 0x1000)) (Some 2) (small_page 0x1000) (inl refl)
     (record { order = _; is = refl; same_cause = refl; named = refl; acked = refl }) refl (read_only_entry 2 (small_page 0x1000) 0x100) (mapping 0x100)
     (record { asid = refl; page = record { from = omega arith; to = omega arith }; ppn = refl; flags = refl })
-    (inr (2, refl, refl)) (record { from = omega arith; to = omega arith }) 0x80001 (0, record { there = omega arith; kept = refl; same = refl }, refl) old_frame_gone
+    (inr (2, refl, refl)) (record { from = omega arith; to = omega arith }) 0 (record { there = omega arith; kept = refl; same = refl }) old_frame_gone
 
 -- a change of the page in the space that has ASID 2 now is one
 pub same_asid_changed : CoherentAllowsAll spaces_of_one_home (history_of run.unmapped_by_the_new_asid) 3 0

@@ -5,6 +5,8 @@ use Rattle.std.specs.Prelude.{◌↔◌}
 use Rattle.spaces.specs.Opening.{opening}
 use Rattle.spaces.specs.declared.places.Place.{Place}
 use Rattle.spaces.specs.declared.places.Place.TheVariants.{Space, Kernel}
+use Rattle.pte.specs.Address.{vpn_of}
+use Rattle.spaces.specs.Edits.{path_of}
 use Rattle.spaces.specs.Holders.{is_held_for, is_word_of, zero_word, emptied, given_back}
 use Rattle.walk.specs.Leads.{Tables}
 use Rattle.shoot.specs.Request.{Message}
@@ -17,7 +19,7 @@ use Rattle.history.specs.Turns.{Turn, History, is_ok, is_taken, is_table_at, are
 use Rattle.history.specs.Mailboxes.{Sent, posts, taken}
 use Rattle.history.specs.Service.{served, served_after, has_fenced, fenced_after}
 use Rattle.history.specs.Harts.{space_of, space_after}
-use Rattle.history.specs.Tables.{Written, path_index, path_table, words_of, words_after, with_written, written}
+use Rattle.history.specs.Tables.{Written, words_of, words_after, with_written, written}
 use Rattle.history.specs.Spaces.{holder_of, holder_after}
 use Rattle.history.specs.Occurrences.{Since, SinceOr, IsSwitch, Switches, IsTake, TakesPost, TakesOrAcks, IsServeFence, Empties, Puts, Stores, IsNewTable, TakesOrGivesBack}
 use Rattle.history.proofs.Splits.{not_sometime-empty, not_since-empty, sometime-here, sometime-later, sometime_cases, since-here, since-later, since_cases, read_since}
@@ -194,7 +196,7 @@ is_reclaim _ = false
 
 abbrev At : Setup → Tables → Option Written → ℕ → ℕ → Written → Type 0
 At C words o ppn index new =
-    (o ≡ Some new) × (path_table C words new.place new.page ≡ ppn) × (path_index C words new.place new.page ≡ index)
+    (o ≡ Some new) × ((path_of C.layout words new.place new.page).table ≡ ppn) × (vpn_of new.page.base (path_of C.layout words new.place new.page).level ≡ index)
 
 written_or : (C : Setup) (words : Tables) (o : Option Written) (ppn index word : ℕ) (P Q : Type 0)
     → ((new : Written) → At C words o ppn index new → new.word ≡ word → P) → (P → (new : Written) × At C words o ppn index new × (new.word ≡ word))
@@ -203,20 +205,20 @@ written_or : (C : Setup) (words : Tables) (o : Option Written) (ppn index word :
 written_or C words None ppn index word P Q new back is must =
     by_old (words ppn index) (Some word) P Q (λ p. let b = (back p).1.0 in cc (b)) (λ q. let b = (must q).1.0 in cc (b))
 written_or C words (Some w) ppn index word P Q new back is must =
-    by_cond (are_same ppn index (path_table C words w.place w.page) (path_index C words w.place w.page)) (Some w.word) (words ppn index) (Some word) P Q
-    (λ t e. let p = same_parts ppn index (path_table C words w.place w.page) (path_index C words w.place w.page) t in let q : w.word ≡ word = cc in new w (refl, sym p.0, sym p.1) q)
+    by_cond (are_same ppn index (path_of C.layout words w.place w.page).table (vpn_of w.page.base (path_of C.layout words w.place w.page).level)) (Some w.word) (words ppn index) (Some word) P Q
+    (λ t e. let p = same_parts ppn index (path_of C.layout words w.place w.page).table (vpn_of w.page.base (path_of C.layout words w.place w.page).level) t in let q : w.word ≡ word = cc in new w (refl, sym p.0, sym p.1) q)
     (λ p. let b = back p in (at b.0 b.1, let same : b.0 ≡ w = is_w b.0 b.1.0 in ap (λ (x : Written). Some x.word) (sym same) ∙ ap Some b.2))
-    (λ t. let p = same_parts ppn index (path_table C words w.place w.page) (path_index C words w.place w.page) t in inr (is w (refl, sym p.0, sym p.1)))
+    (λ t. let p = same_parts ppn index (path_of C.layout words w.place w.page).table (vpn_of w.page.base (path_of C.layout words w.place w.page).level) t in inr (is w (refl, sym p.0, sym p.1)))
     (λ q. let b = must q in at b.0 b.1)
   where
     is_w : (x : Written) → Some w ≡ Some x → x ≡ w
     is_w x e = cc
 
-    at : (x : Written) → At C words (Some w) ppn index x → are_same ppn index (path_table C words w.place w.page) (path_index C words w.place w.page) ≡ true
+    at : (x : Written) → At C words (Some w) ppn index x → are_same ppn index (path_of C.layout words w.place w.page).table (vpn_of w.page.base (path_of C.layout words w.place w.page).level) ≡ true
     at x a =
         let same = is_w x a.0 in
-        same_with ppn index (path_table C words w.place w.page) (path_index C words w.place w.page) (sym a.1 ∙ ap (λ (y : Written). path_table C words y.place y.page) same)
-        (sym a.2 ∙ ap (λ (y : Written). path_index C words y.place y.page) same)
+        same_with ppn index (path_of C.layout words w.place w.page).table (vpn_of w.page.base (path_of C.layout words w.place w.page).level) (sym a.1 ∙ ap (λ (y : Written). (path_of C.layout words y.place y.page).table) same)
+        (sym a.2 ∙ ap (λ (y : Written). vpn_of y.page.base (path_of C.layout words y.place y.page).level) same)
 
 module _ (C : Setup) (ppn index word : ℕ) where
   abbrev Stays : Event → Reply → History → Type 0 → Type 0

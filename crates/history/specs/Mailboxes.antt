@@ -7,7 +7,7 @@ use Rattle.history.specs.declared.event.Event.{Event}
 use Rattle.history.specs.declared.event.Event.TheVariants.{Post, Take, Close}
 use Rattle.history.specs.declared.reply.Reply.{Reply}
 use Rattle.history.specs.Turns.{History, is_ok, taken_request, are_same}
-use Rattle.history.specs.Orders.{open_order, what_of}
+use Rattle.history.specs.Orders.{open_order, order_at, what_asked}
 
 -- an accepted post: who sent it, of which order, and the request
 pub record Sent : Type 0 where
@@ -17,7 +17,7 @@ pub record Sent : Type 0 where
 
 abbrev pub sent_of : Setup → History → ℕ → ℕ → Option ℕ → List Sent
 sent_of setup history sender ticket None = []
-sent_of setup history sender ticket (Some number) = record { sender = sender; order = number; request = record { ticket = ticket; what = what_of setup history (Some number) } } ∷ []
+sent_of setup history sender ticket (Some number) = record { sender = sender; order = number; request = record { ticket = ticket; what = what_asked (order_at setup history number) } } ∷ []
 
 -- the accepted posts of a pair, the oldest first
 abbrev pub posts_after : Setup → Event → Reply → History → ℕ → ℕ → List Sent → List Sent

@@ -2,12 +2,13 @@
 -- src/occurrences.rt say that what a history leaves is read off such turns.
 use Rattle.pte.specs.declared.scheme.Scheme.{Scheme}
 use Rattle.std.specs.Prelude.{ℕ, suc, ◌-◌, ◌<◌, ◌≡◌, ◌⊎◌, Bool, true, false, ◌==◌, ◌&&◌, ◌∷◌, ◌++◌, length, slice_get, Option, Some, None}
-use Rattle.pte.specs.Address.{Span, top_level}
+use Rattle.pte.specs.Address.{Span, top_level, vpn_of}
 use Rattle.pte.specs.declared.flags.PteFlags.{PteFlags}
 use Rattle.walk.specs.declared.found_or_trap.Trap.{Trap}
 use Rattle.walk.specs.Leads.{Tables, Leads, word_at}
 use Rattle.spaces.specs.declared.places.Place.{Place}
 use Rattle.spaces.specs.declared.places.Place.TheVariants.{Space}
+use Rattle.spaces.specs.Edits.{path_of}
 use Rattle.spaces.specs.Holders.{is_word_of, zero_word}
 use Rattle.spaces.specs.declared.wishes.Wish.{Wish}
 use Rattle.spaces.specs.declared.wishes.Wish.TheVariants as wish
@@ -24,7 +25,7 @@ use Rattle.history.specs.Spaces.{asid_in, holder_of}
 use Rattle.history.specs.Orders.{Order, open_order, opened_order, order_at, what_of}
 use Rattle.history.specs.Mailboxes.{Sent, posts, taken}
 use Rattle.history.specs.Service.{served}
-use Rattle.history.specs.Tables.{Written, path_index, path_table, words_of, written}
+use Rattle.history.specs.Tables.{Written, words_of, written}
 use Rattle.history.specs.Harts.{Walking}
 use Rattle.history.specs.Acknowledgements.{is_acked, count_where}
 use Rattle.history.specs.Due.{due}
@@ -255,8 +256,10 @@ IsEdit hart w _ answer = ⊥
 pub record IsStore (setup : Setup) (ppn index word : ℕ) (turn : Turn) (before : History) : Type 0 where
   pub new : Written
   pub is : written setup turn.event turn.reply (words_of setup before) ≡ Some new
-  pub same_table : path_table setup (words_of setup before) new.place new.page ≡ ppn
-  pub same_index : path_index setup (words_of setup before) new.place new.page ≡ index
+  pub same_table : (path_of setup.layout (words_of setup before) new.place new.page).table ≡ ppn
+  pub same_index :
+      vpn_of new.page.base (path_of setup.layout (words_of setup before) new.place new.page).level
+      ≡ index
   pub same_word : new.word ≡ word
 
 -- an accepted Reclaim emptied the word, which was there and its space's own

@@ -1,6 +1,6 @@
 -- Orders: what an accepted Unmap, Protect, Flush or Retire asks of the harts that it names. An order is known by its number, which
 -- is how many turns were before it. Its ticket is the number by which its sender speaks of it while it is open.
-use Rattle.std.specs.Prelude.{ℕ, Bool, false, ◌==◌, ◌&&◌, List, [], ◌∷◌, length, Option, Some, None, if◌then◌else◌}
+use Rattle.std.specs.Prelude.{ℕ, Bool, false, ◌==◌, ◌&&◌, List, [], ◌∷◌, length, Option, Some, None, option_and_then, option_map, unwrap_or, if◌then◌else◌}
 use Rattle.pte.specs.Address.{Span}
 use Rattle.pte.specs.declared.address.What.{What}
 use Rattle.pte.specs.declared.address.What.TheVariants.{PageOf, SpaceOf, All}
@@ -78,14 +78,11 @@ open_order (turn ∷ history) sender ticket = open_after turn.event turn.reply (
 
 -- the open order is k
 abbrev pub is_order : Option ℕ → ℕ → Bool
-is_order None order = false
-is_order (Some place) order = place == order
+is_order number order = unwrap_or (option_map (λ place. place == order) number) false
 
 -- what the order at a place asks
 abbrev pub what_asked : Option Order → What
-what_asked None = All
-what_asked (Some order) = order.what
+what_asked order = unwrap_or (option_map (λ (x : Order). x.what) order) All
 
 abbrev pub what_of : Setup → History → Option ℕ → What
-what_of setup history None = All
-what_of setup history (Some order) = what_asked (order_at setup history order)
+what_of setup history number = what_asked (option_and_then (order_at setup history) number)

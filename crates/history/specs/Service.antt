@@ -1,5 +1,5 @@
 -- Service: which accepted post a hart serves, from its Take to its Ack, and whether it has fenced for it.
-use Rattle.std.specs.Prelude.{ℕ, Bool, true, false, ◌==◌, ◌&&◌, [], ◌∷◌, length, Option, Some, None, slice_get, if◌then◌else◌}
+use Rattle.std.specs.Prelude.{ℕ, Bool, true, false, ◌==◌, ◌&&◌, [], ◌∷◌, length, Option, Some, None, slice_get, option_map, unwrap_or, if◌then◌else◌}
 use Rattle.pte.specs.declared.address.What.{What}
 use Rattle.pte.specs.declared.address.What.TheVariants.{All}
 use Rattle.history.specs.Setup.{Setup}
@@ -30,8 +30,7 @@ has_fenced [] hart = false
 has_fenced (turn ∷ history) hart = fenced_after turn.event turn.reply hart (has_fenced history hart)
 
 abbrev pub is_served : Option Sent → ℕ → Bool
-is_served None order = false
-is_served (Some sent) order = sent.order == order
+is_served sent order = unwrap_or (option_map (λ (x : Sent). x.order == order) sent) false
 
 abbrev pub what_served : Option Sent → What
 what_served None = All

@@ -1,6 +1,6 @@
 -- What an acknowledgement promises of a TLB: after an unmapping no translation of the page, until it is mapped anew (Clear);
 -- after an unmapping or a change of flags none but what is mapped now, until the page is changed once more (Coherent).
-use Rattle.std.specs.Prelude.{ℕ, Bool, true, false, ◌≡◌, ◌+◌, ◌<◌, ◌⊎◌, ◌==◌, ◌&&◌, ◌||◌, List, [], ◌∷◌, length, Option, Some, None, is_none, All, slice_index}
+use Rattle.std.specs.Prelude.{ℕ, Bool, true, false, ◌≡◌, ◌+◌, ◌<◌, ◌⊎◌, ◌==◌, ◌&&◌, ◌||◌, List, [], ◌∷◌, length, Option, Some, None, is_none, All, slice_index, IfSome}
 use Rattle.pte.specs.Address.{Span, Holds}
 use Rattle.walk.specs.Maps.{Maps}
 use Rattle.history.specs.Setup.{Setup}
@@ -23,9 +23,8 @@ use Rattle.history.specs.Tables.{words_of}
 -- the ASID, or every one, of two pages is the same
 abbrev pub is_same_asid : Option ℕ → Option ℕ → Bool
 is_same_asid (Some a) (Some b) = a == b
-is_same_asid (Some a) None = false
-is_same_asid None (Some b) = false
 is_same_asid None None = true
+is_same_asid _ _ = false
 
 -- the page of an ASID overlaps the page that the order followed, and the ASID is the same
 abbrev pub is_over : Cause → Option ℕ → Span → Bool
@@ -58,8 +57,7 @@ is_superseded setup (turn ∷ history) order = superseded_after setup turn.event
 
 -- the address space of a page: that of its ASID, or, of the kernel, every one
 abbrev pub IsAsidOf : Option ℕ → ℕ → Type 0
-IsAsidOf (Some a) asid = asid ≡ a
-IsAsidOf None asid = Unit {0}
+IsAsidOf of asid = IfSome of (λ a. asid ≡ a)
 
 -- h is named by the order k, and has acknowledged it
 pub record HasAnswered (setup : Setup) (history : History) (number hart : ℕ) (cause : Cause) : Type 0 where
@@ -87,21 +85,20 @@ abbrev pub Reaches : Setup → History → Option ℕ → ℕ → Type 0
 Reaches setup history (Some asid) s = HasAsid setup history s asid
 Reaches setup history None s = s < length setup.asids
 
-abbrev pub IsRootOf : Setup → History → Option ℕ → ℕ → Type 0
-IsRootOf setup history of root = (s : ℕ) × Reaches setup history of s × (root ≡ root_ppn setup.layout s)
-
 -- the mapping is for an address space of the page
 abbrev pub IsForAsid : Option ℕ → Mapping → Type 0
 IsForAsid of m = (m.asid ≡ None) ⊎ ((asid : ℕ) × (m.asid ≡ Some asid) × IsAsidOf of asid)
 
--- the tables of the root map the page to the mapping's PPN with its flags, as global exactly if the mapping is for every ASID
+-- the tables of the space map the page to the mapping's PPN with its flags, as global exactly if the mapping is for every ASID
 abbrev pub IsMapped : Setup → History → ℕ → Mapping → Type 0
-IsMapped setup history root m = Maps setup.layout.scheme (words_of setup history) root m.page m.ppn m.flags (is_none m.asid)
+IsMapped setup history s m =
+    Maps setup.layout.scheme (words_of setup history) (root_ppn setup.layout s) m.page m.ppn m.flags
+    (is_none m.asid)
 
--- there is a root through which the page is reached, and each such root maps it so
+-- there is a space through which the page is reached, and each such space maps it so
 pub record IsMappedNow (setup : Setup) (history : History) (of : Option ℕ) (m : Mapping) : Type 0 where
-  pub some : (root : ℕ) × IsRootOf setup history of root
-  pub each : (root : ℕ) → IsRootOf setup history of root → IsMapped setup history root m
+  pub some : (s : ℕ) × Reaches setup history of s
+  pub each : (s : ℕ) → Reaches setup history of s → IsMapped setup history s m
 
 -- Coherent: once h has acknowledged the unmapping or the change k, each mapping of the page that these entries of its TLB
 -- hold for its address space is mapped now, until the page is unmapped or changed once more

@@ -1,7 +1,7 @@
 -- The table words that a history leaves: each is what the last accepted edit stored there, or 0 if its space was reclaimed since,
 -- else the opening's.
-use Rattle.std.specs.Prelude.{ℕ, ◌-◌, [], ◌∷◌, Option, Some, None, Result, if◌then◌else◌}
-use Rattle.pte.specs.Address.{Span, level_of, top_level, vpn_of}
+use Rattle.std.specs.Prelude.{ℕ, [], ◌∷◌, Option, Some, None, Result, if◌then◌else◌}
+use Rattle.pte.specs.Address.{Span, vpn_of}
 use Rattle.pte.specs.Entry.{leaf_word, ppn_of, table_word}
 use Rattle.walk.specs.Leads.{Tables}
 use Rattle.walk.specs.Stores.{stored}
@@ -10,7 +10,7 @@ use Rattle.spaces.specs.declared.places.Place.{Place}
 use Rattle.spaces.specs.declared.wishes.Wish.{Wish}
 use Rattle.spaces.specs.declared.faults.MapFault.{MapFault}
 use Rattle.spaces.specs.Opening.{opening}
-use Rattle.spaces.specs.Edits.{Store, edit_of, is_kernel, path_end, path_root}
+use Rattle.spaces.specs.Edits.{Store, edit_of, is_kernel, path_of}
 use Rattle.spaces.specs.Holders.{Holders, unused_spare, emptied}
 use Rattle.history.specs.declared.event.Event.{Event}
 use Rattle.history.specs.declared.event.Event.TheVariants.{Map, Unmap, Protect, Reclaim}
@@ -23,21 +23,7 @@ use Rattle.history.specs.Spaces.{holder_of}
 abbrev pub edit_due : Setup → Tables → Holders → ℕ → Wish → Result Store MapFault
 edit_due setup words holders hart w = edit_of setup.layout words (unused_spare setup.layout holders hart) hart w
 
--- where the path of a page of a place ends: the table, the index in it, and the word that stands there
-abbrev pub levels_down : Setup → Span → ℕ
-levels_down setup page = top_level setup.layout.scheme - level_of page.size
-
-abbrev pub path_table : Setup → Tables → Place → Span → ℕ
-path_table setup words place page = (path_end words page.base (level_of page.size) (levels_down setup page) (path_root setup.layout place)).table
-
-abbrev pub path_index : Setup → Tables → Place → Span → ℕ
-path_index setup words place page =
-    vpn_of page.base (path_end words page.base (level_of page.size) (levels_down setup page) (path_root setup.layout place)).level
-
-abbrev pub path_word : Setup → Tables → Place → Span → ℕ
-path_word setup words place page = (path_end words page.base (level_of page.size) (levels_down setup page) (path_root setup.layout place)).entry
-
--- a word that is written there
+-- a word that is written where the path of a page of a place ends
 pub record Written : Type 0 where
   pub place : Place
   pub page : Span
@@ -51,13 +37,14 @@ written setup (Map hart place page ppn flags) (reply.Table frame) words =
     Some (record { place = place; page = page; word = table_word frame (is_kernel place) })
 written setup (Unmap hart place page named) (reply.Opened ticket) words = Some (record { place = place; page = page; word = 0 })
 written setup (Protect hart place page flags named) (reply.Opened ticket) words =
-    Some (record { place = place; page = page; word = leaf_word (ppn_of (path_word setup words place page)) flags })
+    Some (record { place = place; page = page; word = leaf_word (ppn_of (path_of setup.layout words place page).entry) flags })
 written setup _ _ words = None
 
 abbrev pub with_written : Setup → Tables → Option Written → Tables
 with_written setup words None = words
 with_written setup words (Some new) =
-    stored words (path_table setup words new.place new.page) (path_index setup words new.place new.page) new.word
+    stored words (path_of setup.layout words new.place new.page).table
+    (vpn_of new.page.base (path_of setup.layout words new.place new.page).level) new.word
 
 abbrev pub words_after : Setup → Event → Reply → Tables → Holders → Tables
 words_after setup (Reclaim hart space) reply words holders = if is_ok reply then emptied setup.layout holders space words else words

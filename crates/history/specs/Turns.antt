@@ -1,5 +1,5 @@
 -- A history of the harts: their turns, the newest first, each an event with the reply that it got.
-use Rattle.std.specs.Prelude.{ℕ, Bool, true, false, ◌==◌, ◌&&◌, List, [], ◌∷◌, Option, Some, None}
+use Rattle.std.specs.Prelude.{ℕ, Bool, true, false, ◌==◌, ◌&&◌, List, [], ◌∷◌, Option, Some, None, is_some}
 use Rattle.shoot.specs.Request.{Message}
 use Rattle.history.specs.declared.event.Event.{Event}
 use Rattle.history.specs.declared.reply.Reply.{Reply}
@@ -47,8 +47,7 @@ opened_ticket (reply.Opened ticket) = Some ticket
 opened_ticket _ = None
 
 abbrev pub is_opened : Reply → Bool
-is_opened (reply.Opened ticket) = true
-is_opened _ = false
+is_opened reply = is_some (opened_ticket reply)
 
 abbrev pub is_taken : Reply → Bool
 is_taken (reply.Taken request) = true

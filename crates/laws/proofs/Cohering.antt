@@ -95,8 +95,7 @@ module _ (C : Setup) (setup : IsSetup C) (user : (H : History) → Lawful C H �
       subst (λ (G : History). Maps C.layout.scheme (words_of C G) (root_ppn C.layout s.space) m.page m.ppn m.flags e.global) (sym s.split) still in
       let here : Reaches C H of s.space = subst (λ (G : History). Reaches C G of s.space) (sym s.split) (reached_last C s.later s.earlier of s.space s.reached) in
       record {
-        some = (root_ppn C.layout s.space, (s.space, here, refl));
-        each = λ root r. subst (λ (x : ℕ). Maps C.layout.scheme (words_of C H) x m.page m.ppn m.flags (is_none m.asid)) (sym r.2)
-            (subst (λ (g : Bool). Maps C.layout.scheme (words_of C H) (root_ppn C.layout r.0) m.page m.ppn m.flags g) global
-            (each_root H of asked.place page s.space r.0 m e.global l pages asked.at asked.asked at here r.1 now));
+        some = (s.space, here);
+        each = λ t reached. subst (λ (g : Bool). Maps C.layout.scheme (words_of C H) (root_ppn C.layout t) m.page m.ppn m.flags g) global
+            (each_root H of asked.place page s.space t m e.global l pages asked.at asked.asked at here reached now);
       }

@@ -3,7 +3,7 @@ use Rattle.std.proofs.Common.{◌≡◌, ℕ, true, false, cond, ◌||◌, not, 
 use Rattle.std.proofs.lemmas.Bool.{false≢true, not-false}
 use Rattle.std.proofs.lemmas.Bool.Decides.{nat_tests}
 use Rattle.std.specs.Prelude.{Result, Ok, Err, ◌==◌}
-use Rattle.pte.specs.Address.{Span, level_of}
+use Rattle.pte.specs.Address.{Span, level_of, vpn_of}
 use Rattle.pte.specs.declared.entry.Kind.{Kind}
 use Rattle.pte.specs.declared.entry.Kind.TheVariants as kinds
 use Rattle.pte.specs.declared.flags.PteFlags.{PteFlags}
@@ -16,7 +16,7 @@ use Rattle.spaces.specs.declared.faults.MapFault.{MapFault}
 use Rattle.spaces.specs.declared.wishes.Wish.{Wish}
 use Rattle.spaces.specs.declared.wishes.Wish.TheVariants as wish
 use Rattle.spaces.specs.Accepted.{Writes, adds_table, adds_leaf}
-use Rattle.spaces.specs.Edits.{Store, place_of, page_of, is_kernel, edit_of, wish_fault, wish_end, due_word, page_word, upper_word}
+use Rattle.spaces.specs.Edits.{Store, place_of, page_of, is_kernel, edit_of, path_of, wish_fault, wish_end, due_word, page_word, upper_word}
 use Rattle.spaces.specs.Held.{IsLayout}
 use Rattle.spaces.specs.Holders.{Holders, unused_spare, emptied}
 use Rattle.spaces.specs.Tree.{IsTree}
@@ -30,7 +30,7 @@ use Rattle.refusals.specs.declared.refusal.Refusal.TheVariants.{NoHart, NoSpace,
 use Rattle.history.specs.declared.reply.Reply.{Reply}
 use Rattle.history.specs.declared.reply.Reply.TheVariants as reply
 use Rattle.history.specs.Turns.{History, is_ok, is_table, is_leaf, is_opened}
-use Rattle.history.specs.Tables.{words_of, written, with_written, path_table, path_index, path_word, edit_due}
+use Rattle.history.specs.Tables.{words_of, written, with_written, edit_due}
 use Rattle.history.specs.Spaces.{holder_of}
 use Rattle.history.specs.Due.{is_place, retires, edit_at, map_reply, stored_reply, due}
 use Rattle.laws.proofs.Tools.{by_test}
@@ -52,7 +52,7 @@ edited_after C _ r words holders = words
 
 -- the words once this one stands where the path of the page ends
 abbrev with_word : Setup → Tables → Place → Span → ℕ → Tables
-with_word C words place page word = stored words (path_table C words place page) (path_index C words place page) word
+with_word C words place page word = stored words (path_of C.layout words place page).table (vpn_of page.base (path_of C.layout words place page).level) word
 
 abbrev with_map : Setup → Tables → ℕ → Place → Span → ℕ → PteFlags → Reply → Tables
 with_map C words hart place page ppn flags r = with_written C words (written C (Map hart place page ppn flags) r words)
@@ -117,13 +117,13 @@ module _ (C : Setup) (words : Tables) (holders : Holders) (hart : ℕ) (store : 
   pub unmap_stored : (place : Place) (page : Span) → edit_due C words holders hart (wish.Unmap place page) ≡ Ok store → with_word C words place page 0 ≡ stored words store.ppn store.index store.word
   unmap_stored place page e =
       let a = at_end (wish.Unmap place page) e in
-      ap (with_word C words place page) (unmap_new place page (unused_spare C.layout holders hart) _ (path_word C words place page) a.new a.due) ∙ a.same
+      ap (with_word C words place page) (unmap_new place page (unused_spare C.layout holders hart) _ (path_of C.layout words place page).entry a.new a.due) ∙ a.same
 
   pub protect_stored : (place : Place) (page : Span) (flags : PteFlags) → edit_due C words holders hart (wish.Protect place page flags) ≡ Ok store
-      → with_word C words place page (leaf_word (ppn_of (path_word C words place page)) flags) ≡ stored words store.ppn store.index store.word
+      → with_word C words place page (leaf_word (ppn_of (path_of C.layout words place page).entry) flags) ≡ stored words store.ppn store.index store.word
   protect_stored place page flags e =
       let a = at_end (wish.Protect place page flags) e in
-      ap (with_word C words place page) (protect_new place page flags (unused_spare C.layout holders hart) _ (path_word C words place page) a.new a.due) ∙ a.same
+      ap (with_word C words place page) (protect_new place page flags (unused_spare C.layout holders hart) _ (path_of C.layout words place page).entry a.new a.due) ∙ a.same
 
   map_new : (place : Place) (page : Span) (ppn : ℕ) (flags : PteFlags) (level old word : ℕ) → IsLayout C.layout → Writes (unused_spare C.layout holders hart) level old (wish.Map place page ppn flags) word
       → with_map C words hart place page ppn flags (stored_reply (kind_of word)) ≡ with_word C words place page word

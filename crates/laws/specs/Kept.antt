@@ -19,7 +19,7 @@ use Rattle.history.specs.declared.event.Event.TheVariants.{Map, Unmap, Protect, 
 use Rattle.history.specs.Turns.{Turn, History}
 use Rattle.history.specs.Orders.{Order, Unmapped, order_at}
 use Rattle.history.specs.Tables.{edit_due, words_of}
-use Rattle.history.specs.Staleness.{is_mapped_anew, is_superseded, IsChange, IsRootOf}
+use Rattle.history.specs.Staleness.{is_mapped_anew, is_superseded, IsChange, Reaches}
 
 -- the page of an event is one: its base is canonical and a multiple of its size; and an ASID has 16 bits
 abbrev pub HasPage : Event → Type 0
@@ -45,6 +45,10 @@ pub record IsSetup (setup : Setup) : Type 0 where
   pub layout : IsLayout setup.layout
   pub homes : length setup.asids ≡ length setup.layout.homes
   pub asids : HasAsids setup
+
+-- the root of a space through which a page of an ASID, or of the kernel, is reached
+abbrev pub IsRootOf : Setup → History → Option ℕ → ℕ → Type 0
+IsRootOf setup history of root = (s : ℕ) × Reaches setup history of s × (root ≡ root_ppn setup.layout s)
 
 -- nothing is mapped in the page of an unmapping, from any root through which it is reached, until it is mapped anew
 abbrev pub StaysUnmapped : Setup → History → Type 0

@@ -99,9 +99,7 @@ end_at words va level table =
 -- a path goes on at a pointer
 abbrev pub go_on : Kind → (ℕ → PathEnd) → PathEnd → PathEnd
 go_on (kinds.Table ppn global) below here = below ppn
-go_on kinds.Invalid below here = here
-go_on kinds.Reserved below here = here
-go_on (kinds.Leaf ppn flags) below here = here
+go_on _ below here = here
 
 -- the end of the path of an address from a table that is this many levels above the lowest level
 -- that is looked at
@@ -115,6 +113,12 @@ path_end words va lowest (suc n) table =
 abbrev pub path_root : Layout → Place → ℕ
 path_root l (Space s) = root_ppn l s
 path_root l Kernel = root_ppn l 0
+
+-- the end of the path of a page of a place
+abbrev pub path_of : Layout → Tables → Place → Span → PathEnd
+path_of l words place page =
+    path_end words page.base (level_of page.size) (top_level l.scheme - level_of page.size)
+    (path_root l place)
 
 -- the word that is due at the page's own level, by what stands there
 abbrev pub page_word : Wish → Kind → Result ℕ MapFault
@@ -173,9 +177,7 @@ unless (Some fault) r = Err fault
 
 -- the end of the path of the wished page
 abbrev pub wish_end : Layout → Tables → Wish → PathEnd
-wish_end l words wish =
-    path_end words (page_of wish).base (level_of (page_of wish).size)
-    (top_level l.scheme - level_of (page_of wish).size) (path_root l (place_of wish))
+wish_end l words wish = path_of l words (place_of wish) (page_of wish)
 
 -- the store that is due, or the first fault
 unfoldable pub edit_of : Layout → Tables → Option ℕ → ℕ → Wish → Result Store MapFault

@@ -1,6 +1,6 @@
 -- For which place each spare frame is in use, which one a new table takes, and what giving back the
 -- frames of a space leaves.
-use Rattle.std.specs.Prelude.{ℕ, Bool, zero, suc, true, false, ◌+◌, ◌==◌, ◌&&◌, ◌||◌, nat_lt, if◌then◌else◌, Option, Some, None, is_none, slice_index}
+use Rattle.std.specs.Prelude.{ℕ, Bool, zero, suc, true, false, ◌+◌, ◌==◌, ◌&&◌, ◌||◌, nat_lt, if◌then◌else◌, Option, Some, None, is_none, option_map, unwrap_or, slice_index}
 use Rattle.walk.specs.Leads.{Tables}
 use Rattle.spaces.specs.declared.places.Place.{Place}
 use Rattle.spaces.specs.declared.places.Place.TheVariants.{Space, Kernel}
@@ -12,13 +12,11 @@ Holders = ℕ → Option Place
 
 abbrev pub is_same_place : Place → Place → Bool
 is_same_place (Space s) (Space t) = s == t
-is_same_place (Space s) Kernel = false
-is_same_place Kernel (Space t) = false
 is_same_place Kernel Kernel = true
+is_same_place _ _ = false
 
 abbrev pub is_held_for : Option Place → Place → Bool
-is_held_for None place = false
-is_held_for (Some other) place = is_same_place other place
+is_held_for holder place = unwrap_or (option_map (λ other. is_same_place other place) holder) false
 
 -- the first unused one of so many frames from a PPN on
 abbrev pub first_unused : Holders → ℕ → ℕ → Option ℕ
@@ -36,8 +34,7 @@ is_word_of l holders s ppn i =
     (ppn == root_ppn l s && nat_lt i user_slots) || is_held_for (holders ppn) (Space s)
 
 abbrev pub zero_word : Option ℕ → Option ℕ
-zero_word None = None
-zero_word (Some word) = Some 0
+zero_word word = option_map (λ (old : ℕ). 0) word
 
 -- the words and the holders once the space is given back: its words are 0, and its frames unused
 abbrev pub emptied : Layout → Holders → ℕ → Tables → Tables

@@ -56,12 +56,11 @@ module _ (C : Setup) (setup : IsSetup C) (H : History) (l : Lawful C H) (pages :
         | inr some ↦ subst (λ (o : Option ℕ). IsMappedNow C H o m) (ap Some (sym some.2) ∙ sym some.1 ∙ is) now
       ]
   own_now (Some a) (Space u) page h m at asked lies for by now None is =
-      let s = now.some.1.0 in
-      let has : HasAsid C H s a = now.some.1.1 in
-      let maps : Maps C.layout.scheme (words_of C H) now.some.0 m.page m.ppn m.flags (is_none m.asid) = now.each now.some.0 now.some.1 in
+      let s = now.some.0 in
+      let has : HasAsid C H s a = now.some.1 in
+      let maps : Maps C.layout.scheme (words_of C H) (root_ppn C.layout s) m.page m.ppn m.flags (is_none m.asid) = now.each s has in
       absurd (user_plain C setup H l pages u s page m.page m.ppn m.flags asked.is_page asked.right_half has.there lies
-      (subst (λ (r : ℕ). Maps C.layout.scheme (words_of C H) r m.page m.ppn m.flags true) now.some.1.2
-      (subst (λ (g : Bool). Maps C.layout.scheme (words_of C H) now.some.0 m.page m.ppn m.flags g) (ap is_none is) maps)))
+      (subst (λ (g : Bool). Maps C.layout.scheme (words_of C H) (root_ppn C.layout s) m.page m.ppn m.flags g) (ap is_none is) maps))
   own_now (Some a) Kernel page h m at asked lies for by now None is = let bad : Some a ≡ None = at in absurd (cc)
   own_now None place page h m at asked lies for by now None is = now
   own_now None place page h m at asked lies for by now (Some b) is =
@@ -70,8 +69,8 @@ module _ (C : Setup) (setup : IsSetup C) (H : History) (l : Lawful C H) (pages :
       let used = All-contains (IsOfUsedAsid C H) (entries_of C H h) e (holds_used C setup H h l pages) by.1 plain.0 in
       let has : HasAsid C H used.0 b = subst (λ (x : ℕ). HasAsid C H used.0 x) plain.1 used.1 in
       record {
-        some = (root_ppn C.layout used.0, (used.0, has, refl));
-        each = λ root of. now.each root (of.0, of.1.there, of.2);
+        some = (used.0, has);
+        each = λ s of. now.each s of.there;
       }
 
   pub not_changed : (k h : ℕ) (cause : Cause) (of : Option ℕ) (page : Span) (m : Mapping) → IsChange cause of page → HasAnswered C H k h cause → is_superseded C H k ≡ false

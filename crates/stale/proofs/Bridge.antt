@@ -52,7 +52,7 @@ module _ (C : Setup) (m : State) (H : History) (st : Stands C m H) where
   reaches_reached None s below = and_from (nat_lt s (length m.memory.layout.homes)) true (in_homes s below) refl
   reaches_reached (Some a) s has = and_from (nat_lt s (length m.memory.layout.homes)) (is_of a (answers.asid_of_space m s)) (in_homes s has.there) (asid_had a s has)
 
-  from_same : (s : ℕ) (p : Mapping) → IsMappedFrom m.memory s p ≡ IsMapped C H (root_ppn C.layout s) p
+  from_same : (s : ℕ) (p : Mapping) → IsMappedFrom m.memory s p ≡ IsMapped C H s p
   from_same s p =
       ap (λ (l : Layout). Maps l.scheme (words_in m) (root_ppn l s) p.page p.ppn p.flags (is_none p.asid)) (layout_same C m H st)
       ∙ ap (λ (words : Tables). Maps C.layout.scheme words (root_ppn C.layout s) p.page p.ppn p.flags (is_none p.asid)) (words_same C m H st)
@@ -60,11 +60,11 @@ module _ (C : Setup) (m : State) (H : History) (st : Stands C m H) where
   pub mapped_now : (p : Mapping) → IsMappedIn m p ↔ IsMappedNow C H p.asid p
   mapped_now p = (
     λ mapped. record {
-      some = (root_ppn C.layout mapped.some.0, (mapped.some.0, reached_reaches p.asid mapped.some.0 mapped.some.1, refl));
-      each = λ root of. subst (λ (r : ℕ). IsMapped C H r p) (sym of.2) (subst (λ (T : Type 0). T) (from_same of.0 p) (mapped.each of.0 (reaches_reached p.asid of.0 of.1)));
+      some = (mapped.some.0, reached_reaches p.asid mapped.some.0 mapped.some.1);
+      each = λ s reach. subst (λ (T : Type 0). T) (from_same s p) (mapped.each s (reaches_reached p.asid s reach));
     },
     λ now. record {
-      some = (now.some.1.0, reaches_reached p.asid now.some.1.0 now.some.1.1);
-      each = λ s reached. subst (λ (T : Type 0). T) (sym (from_same s p)) (now.each (root_ppn C.layout s) (s, reached_reaches p.asid s reached, refl));
+      some = (now.some.0, reaches_reached p.asid now.some.0 now.some.1);
+      each = λ s reached. subst (λ (T : Type 0). T) (sym (from_same s p)) (now.each s (reached_reaches p.asid s reached));
     },
   )

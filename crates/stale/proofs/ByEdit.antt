@@ -238,14 +238,12 @@ module _ (C : Setup) (setup : IsSetup C) (H : History) (l : Lawful C H) (pages :
       -- what is not of it stays mapped
       stays : (m : Mapping) → (LeafOf m → ⊥) → IsMappedNow C H m.asid m → IsMappedNow C (turn ∷ H) m.asid m
       stays m not_so now = record {
-        some = (root_ppn C.layout now.some.1.0, (now.some.1.0, (same_reach m.asid now.some.1.0).0 now.some.1.1, refl));
-        each = λ root reached.
-            let s = reached.0 in
-            let reach = (same_reach m.asid s).1 reached.1 in
+        some = (now.some.0, (same_reach m.asid now.some.0).0 now.some.1);
+        each = λ s reached.
+            let reach = (same_reach m.asid s).1 reached in
             let there = reach_there C setup H m.asid s reach in
-            let maps : Maps C.layout.scheme (words_of C H) (root_ppn C.layout s) m.page m.ppn m.flags (is_none m.asid) = now.each (root_ppn C.layout s) (s, reach, refl) in
-            subst (λ (x : ℕ). Maps C.layout.scheme (words_of C (turn ∷ H)) x m.page m.ppn m.flags (is_none m.asid)) (sym reached.2)
-            (elim (about (place_of w) (page_of w) is_page s m.page) [
+            let maps : Maps C.layout.scheme (words_of C H) (root_ppn C.layout s) m.page m.ppn m.flags (is_none m.asid) = now.each s reach in
+            elim (about (place_of w) (page_of w) is_page s m.page) [
               | inr not_about ↦ does.kept s m.page m.ppn m.flags (is_none m.asid) there not_about maps
               | inl is_about ↦ elim does.either [
                 | inl other ↦ absurd (not_so (of_leaf m s there reach is_about maps other))
@@ -255,7 +253,7 @@ module _ (C : Setup) (setup : IsSetup C) (H : History) (l : Lawful C H) (pages :
                     (same.1 s m.page m.ppn (is_none m.asid) there is_about
                     (subst (λ (f : PteFlags). Maps C.layout.scheme (words_of C H) (root_ppn C.layout s) m.page m.ppn f (is_none m.asid)) flags maps))
               ]
-            ]);
+            ];
       }
 
       pub becomes_leaf : (h : ℕ) (m : Mapping) → BecomesStale C turn H h m → LeafOf m
@@ -272,17 +270,15 @@ module _ (C : Setup) (setup : IsSetup C) (H : History) (l : Lawful C H) (pages :
       was_mapped m is =
           let some = some_of (place_of w) found.there in
           record {
-            some = (root_ppn C.layout some.0, (some.0, subst (λ (o : Option ℕ). Reaches C H o some.0) (sym is.asid) some.1, refl));
-            each = λ root reached.
-                let s = reached.0 in
-                let maps = leaf_maps C.layout (words_of C H) (holder_of H) hart w found.store edit acc leaf.q leaf.f leaf.at leaf.kind s m.page (reach_there C setup H m.asid s reached.1)
-                (hangs_by (place_of w) found.there m.asid is.asid s reached.1) (part (page_of w) m.page is.page) is.aligned
+            some = (some.0, subst (λ (o : Option ℕ). Reaches C H o some.0) (sym is.asid) some.1);
+            each = λ s reached.
+                let maps = leaf_maps C.layout (words_of C H) (holder_of H) hart w found.store edit acc leaf.q leaf.f leaf.at leaf.kind s m.page (reach_there C setup H m.asid s reached)
+                (hangs_by (place_of w) found.there m.asid is.asid s reached) (part (page_of w) m.page is.page) is.aligned
                 in
-                subst (λ (x : ℕ). Maps C.layout.scheme (words_of C H) x m.page m.ppn m.flags (is_none m.asid)) (sym reached.2)
-                (subst (λ (p : ℕ). Maps C.layout.scheme (words_of C H) (root_ppn C.layout s) m.page p m.flags (is_none m.asid)) (sym is.ppn)
+                subst (λ (p : ℕ). Maps C.layout.scheme (words_of C H) (root_ppn C.layout s) m.page p m.flags (is_none m.asid)) (sym is.ppn)
                 (subst (λ (f : PteFlags). Maps C.layout.scheme (words_of C H) (root_ppn C.layout s) m.page (leaf.q + m.page % pages_of (page_of w).size) f (is_none m.asid)) (sym is.flags)
                 (subst (λ (g : Bool). Maps C.layout.scheme (words_of C H) (root_ppn C.layout s) m.page (leaf.q + m.page % pages_of (page_of w).size) leaf.f g)
-                (sym (kernel_if C H (place_of w) m.asid is.asid)) maps)));
+                (sym (kernel_if C H (place_of w) m.asid is.asid)) maps));
           }
 
       pub leaf_becomes : (h : ℕ) (m : Mapping) → IsMappedBy (entries_of C (turn ∷ H) h) m → LeafOf m → BecomesStale C turn H h m
@@ -290,9 +286,9 @@ module _ (C : Setup) (setup : IsSetup C) (H : History) (l : Lawful C H) (pages :
         after = record {
           held = held;
           unmapped = λ now.
-              let s = now.some.1.0 in
-              let reach = (same_reach m.asid s).1 now.some.1.1 in
-              let maps : Maps C.layout.scheme (words_of C (turn ∷ H)) (root_ppn C.layout s) m.page m.ppn m.flags (is_none m.asid) = now.each (root_ppn C.layout s) (s, now.some.1.1, refl) in
+              let s = now.some.0 in
+              let reach = (same_reach m.asid s).1 now.some.1 in
+              let maps : Maps C.layout.scheme (words_of C (turn ∷ H)) (root_ppn C.layout s) m.page m.ppn m.flags (is_none m.asid) = now.each s now.some.1 in
               does.gone is.other s m.page m.ppn (is_none m.asid) (reach_there C setup H m.asid s reach)
               (hangs_by (place_of w) found.there m.asid is.asid s reach, part (page_of w) m.page is.page)
               (subst (λ (f : PteFlags). Maps C.layout.scheme (words_of C (turn ∷ H)) (root_ppn C.layout s) m.page m.ppn f (is_none m.asid)) is.flags maps);

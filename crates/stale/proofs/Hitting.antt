@@ -93,12 +93,12 @@ module _ (C : Setup) (H : History) (hart va : ℕ) (access : Access) (ctx : Ctx)
   pub mapped_still : (of : Option ℕ) (m : Mapping) → IsMappedNow C H of m ↔ IsMappedNow C (with_turn (Begin hart va access ctx) r H) of m
   mapped_still of m = (
     λ now. record {
-      some = (now.some.0, (now.some.1.0, (reaches_still of now.some.1.0).0 now.some.1.1, now.some.1.2));
-      each = λ root is. now.each root (is.0, (reaches_still of is.0).1 is.1, is.2);
+      some = (now.some.0, (reaches_still of now.some.0).0 now.some.1);
+      each = λ s reached. now.each s ((reaches_still of s).1 reached);
     },
     λ now. record {
-      some = (now.some.0, (now.some.1.0, (reaches_still of now.some.1.0).1 now.some.1.1, now.some.1.2));
-      each = λ root is. now.each root (is.0, (reaches_still of is.0).0 is.1, is.2);
+      some = (now.some.0, (reaches_still of now.some.0).1 now.some.1);
+      each = λ s reached. now.each s ((reaches_still of s).0 reached);
     },
   )
 

@@ -127,15 +127,14 @@ module _ (C : Setup) (setup : IsSetup C) where
       -- what is held after the turn and was mapped is mapped still
       stays : (h : ℕ) (m : Mapping) → IsMappedBy (entries_of C (turn ∷ H) h) m → IsMappedNow C H m.asid m → IsMappedNow C (turn ∷ H) m.asid m
       stays h m held now =
-          let some = reached_after h m held now.some.1.0 now.some.1.1 in
+          let some = reached_after h m held now.some.0 now.some.1 in
           record {
-            some = (root_ppn C.layout some.0, (some.0, some.1, refl));
-            each = λ root reach.
-                let before = reached_before m.asid reach.0 now.some.1.0 reach.1 now.some.1.1 in
-                let there = reach_there (turn ∷ H) m.asid reach.0 reach.1 in
-                subst (λ (x : ℕ). Maps C.layout.scheme (words_of C (turn ∷ H)) x m.page m.ppn m.flags (is_none m.asid)) (sym reach.2)
-                (kept_by turn.event turn.reply m.asid reach.0 m.page m.ppn m.flags (words_of C (turn ∷ H)) (changes C setup H l.0 pages.0 turn.event turn.reply l.1 pages.1) plain reach.1 there
-                (now.each (root_ppn C.layout reach.0) (reach.0, before, refl)));
+            some = (some.0, some.1);
+            each = λ s reach.
+                let before = reached_before m.asid s now.some.0 reach now.some.1 in
+                let there = reach_there (turn ∷ H) m.asid s reach in
+                kept_by turn.event turn.reply m.asid s m.page m.ppn m.flags (words_of C (turn ∷ H)) (changes C setup H l.0 pages.0 turn.event turn.reply l.1 pages.1) plain reach there
+                (now.each s before);
           }
 
       -- what a Load fills was mapped
@@ -155,23 +154,22 @@ module _ (C : Setup) (setup : IsSetup C) where
                 subst (λ (g : Bool). Maps C.layout.scheme (words_of C H) (root_ppn C.layout space) m.page m.ppn m.flags g) none.0 maps in
                 subst (λ (o : Option ℕ). IsMappedNow C H o m) (sym none.1)
                 (record {
-                  some = (root_ppn C.layout space, (space, there, refl));
-                  each = λ root reach.
-                      subst (λ (o : Option ℕ). Maps C.layout.scheme (words_of C H) root m.page m.ppn m.flags (is_none o)) (sym none.1)
-                      (subst (λ (x : ℕ). Maps C.layout.scheme (words_of C H) x m.page m.ppn m.flags true) (sym reach.2)
-                      (shared H l.0 pages.0 space reach.0 m.page m.ppn m.flags (in_layout space there) (in_layout reach.0 reach.1) global));
+                  some = (space, there);
+                  each = λ s reach.
+                      subst (λ (o : Option ℕ). Maps C.layout.scheme (words_of C H) (root_ppn C.layout s) m.page m.ppn m.flags (is_none o)) (sym none.1)
+                      (shared H l.0 pages.0 space s m.page m.ppn m.flags (in_layout space there) (in_layout s reach) global);
                 })
             | inr some ↦
                 let own : Maps C.layout.scheme (words_of C H) (root_ppn C.layout space) m.page m.ppn m.flags false =
                 subst (λ (g : Bool). Maps C.layout.scheme (words_of C H) (root_ppn C.layout space) m.page m.ppn m.flags g) some.0 maps in
                 subst (λ (o : Option ℕ). IsMappedNow C H o m) (sym some.1)
                 (record {
-                  some = (root_ppn C.layout space, (space, has, refl));
-                  each = λ root reach.
-                      let reached : HasAsid C H reach.0 e.asid = reach.1 in
-                      let same : space ≡ reach.0 = asids_differ C setup H l.0 space reach.0 there reached.there has.kept reached.kept (has.same ∙ sym reached.same) in
-                      subst (λ (o : Option ℕ). Maps C.layout.scheme (words_of C H) root m.page m.ppn m.flags (is_none o)) (sym some.1)
-                      (subst (λ (x : ℕ). Maps C.layout.scheme (words_of C H) x m.page m.ppn m.flags false) (ap (root_ppn C.layout) same ∙ sym reach.2) own);
+                  some = (space, has);
+                  each = λ s reach.
+                      let reached : HasAsid C H s e.asid = reach in
+                      let same : space ≡ s = asids_differ C setup H l.0 space s there reached.there has.kept reached.kept (has.same ∙ sym reached.same) in
+                      subst (λ (o : Option ℕ). Maps C.layout.scheme (words_of C H) (root_ppn C.layout s) m.page m.ppn m.flags (is_none o)) (sym some.1)
+                      (subst (λ (x : ℕ). Maps C.layout.scheme (words_of C H) x m.page m.ppn m.flags false) (ap (root_ppn C.layout) same) own);
                 })
           ]
 

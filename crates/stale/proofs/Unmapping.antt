@@ -42,10 +42,10 @@ module _ (C : Setup) (setup : IsSetup C) (H : History) (hart : ℕ) (place : Pla
       let removes = unmap_removes C setup H l.0 pages.0 hart place page named (reply.Opened ticket) l.1 pages.1 refl in
       record {
         held = held;
-        unmapped = λ now. let s = now.some.1.0 in
-            let reach : Reaches C (unmapping hart place page named ticket ∷ H) m.asid s = now.some.1.1 in
+        unmapped = λ now. let s = now.some.0 in
+            let reach : Reaches C (unmapping hart place page named ticket ∷ H) m.asid s = now.some.1 in
             let maps : Maps C.layout.scheme (words_of C (unmapping hart place page named ticket ∷ H)) (root_ppn C.layout s) m.page m.ppn m.flags (is_none m.asid) =
-            subst (λ (r : ℕ). Maps C.layout.scheme (words_of C (unmapping hart place page named ticket ∷ H)) r m.page m.ppn m.flags (is_none m.asid)) now.some.1.2 (now.each now.some.0 now.some.1) in
+            now.each s reach in
             let gone = ((removes.1 s m.page m.ppn m.flags (is_none m.asid) (there m.asid s reach)).0 maps).1 in
             gone (hangs place removes.0.1 m.asid of s reach, part page m.page lies);
       }
