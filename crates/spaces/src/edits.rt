@@ -89,12 +89,14 @@ fn spare_for(memory: &Memory, hart: u8, walk: &EditWalk) -> Option<u64>
     }
 }
 
-/// The store that is due, or why none is.
+/// The one store that is due next for a wish, or why none is: as `next_map_edit`, `unmap_edit` and
+/// `protect_edit` answer.
 #[inline(always)]
-fn edit_due(memory: &Memory, hart: u8, wish: &Wish) -> Result<Edit, MapFault>
+pub fn next_edit(memory: &Memory, hart: u8, wish: &Wish) -> Result<Edit, MapFault>
     requires { HasPlace memory.now.layout (place_of wish.now) }
     ensures outcome { result
         ≡ edit_of memory.now.layout (words_of memory.now) (spare_of memory.now hart) hart wish.now }
+    ensures due { IfOk result (IsDue memory.now) }
 {
     let mut walk = memory.begin(hart, wish)?;
     loop {
@@ -125,7 +127,7 @@ pub fn next_map_edit(
         (wish.Map place page ppn flags) }
     ensures due { IfOk result (IsDue memory.now) }
 {
-    edit_due(
+    next_edit(
         memory,
         hart,
         &Wish::Map {
@@ -148,7 +150,7 @@ pub fn unmap_edit(memory: &Memory, hart: u8, place: Place, page: Page) -> Result
         (wish.Unmap place page) }
     ensures due { IfOk result (IsDue memory.now) }
 {
-    edit_due(memory, hart, &Wish::Unmap { place, page })
+    next_edit(memory, hart, &Wish::Unmap { place, page })
 }
 
 /// The one store that gives the page's leaf other flags, and keeps its PPN. Refused, in this order,
@@ -168,7 +170,7 @@ pub fn protect_edit(
         (wish.Protect place page flags) }
     ensures due { IfOk result (IsDue memory.now) }
 {
-    edit_due(memory, hart, &Wish::Protect { place, page, flags })
+    next_edit(memory, hart, &Wish::Protect { place, page, flags })
 }
 
 /// Stores the edit's word; a new table is in use for the place from then on. Asks for an edit of

@@ -23,7 +23,7 @@ pub use edit_walk_laws::{
     edit_walk_stays_at_home,
 };
 pub use edit_walks::{EditWalk, Next};
-pub use edits::{Edit, apply, next_map_edit, protect_edit, unmap_edit};
+pub use edits::{Edit, apply, next_edit, next_map_edit, protect_edit, unmap_edit};
 pub use faults::{MapFault, OpenFault};
 pub use frames::{Memory, first_words};
 pub use laws::{

@@ -80,8 +80,9 @@ impl Wish {
     ghost use Rattle.spaces.specs.EditStages.{bare_layout, table_fault};
     ghost use Rattle.spaces.specs.Edits.{due_word, is_wrong_half, leaf_fault, page_of, page_word, place_of, upper_word};
 
+    /// The place that it is about.
     #[inline(always)]
-    pub(crate) fn place(&self) -> Place
+    pub fn place(&self) -> Place
         ensures { result ≡ place_of self.now }
     {
         match *self {
@@ -91,8 +92,9 @@ impl Wish {
         }
     }
 
+    /// The page that it is about.
     #[inline(always)]
-    pub(crate) fn page(&self) -> Page
+    pub fn page(&self) -> Page
         ensures { result ≡ page_of self.now }
     {
         match *self {

@@ -52,7 +52,7 @@ impl Machine {
             Some(answer) => Err(answer),
             None => {
                 let root = self.memory.root(this.space());
-                Walk::begin_in(scheme, root, va, access, ctx).map_err(AtOnce::Trap)
+                Ok(Walk::from_root(scheme, root, address, access, ctx))
             }
         }
     }

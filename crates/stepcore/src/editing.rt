@@ -22,7 +22,7 @@ use crate::prover::recall_page;
 use history::{Refusal, Reply, Scope};
 use pte::{Kind, Page, Pte, PteFlags, What};
 use shoot::TicketFault;
-use spaces::{Edit, MapFault, Memory, Place, Wish, apply, next_map_edit, protect_edit, unmap_edit};
+use spaces::{Edit, MapFault, Place, Wish, apply, next_edit};
 
 /// An edit's fault as a refusal.
 fn refusal(fault: MapFault) -> Refusal
@@ -51,37 +51,6 @@ fn stored_reply(word: u64) -> Reply
     match Pte(word).kind() {
         Kind::Table { ppn, .. } => Reply::Table(ppn),
         Kind::Invalid | Kind::Reserved | Kind::Leaf { .. } => Reply::Leaf,
-    }
-}
-
-/// The place and the page of a wish.
-fn target(wish: &Wish) -> (Place, Page)
-    ensures place { result.0 ≡ place_of wish.now }
-    ensures page { result.1 ≡ page_of wish.now }
-{
-    match *wish {
-        Wish::Map { place, page, .. }
-        | Wish::Unmap { place, page }
-        | Wish::Protect { place, page, .. } => (place, page),
-    }
-}
-
-/// The store that is due for a wish, or why none is.
-fn next_edit(memory: &Memory, hart: u8, wish: &Wish) -> Result<Edit, MapFault>
-    requires { HasPlace memory.now.layout (place_of wish.now) }
-    ensures outcome { result ≡ edit_of memory.now.layout (words_of memory.now)
-        (spare_of memory.now hart) hart wish.now }
-    ensures due { IfOk result (IsDue memory.now) }
-{
-    match *wish {
-        Wish::Map {
-            place,
-            page,
-            ppn,
-            flags,
-        } => next_map_edit(memory, hart, place, page, ppn, flags),
-        Wish::Unmap { place, page } => unmap_edit(memory, hart, place, page),
-        Wish::Protect { place, page, flags } => protect_edit(memory, hart, place, page, flags),
     }
 }
 
@@ -115,7 +84,7 @@ impl Machine {
             at_place self.now (place_of wish.now) (map_reply (edit_in self.now hart wish.now))
             ≡ reply.Refused why) }
     {
-        let (place, _page) = target(wish);
+        let place = wish.place();
         refuse(!self.is_place(place), Refusal::NoSpace)?;
         refuse(self.retires(place), Refusal::Retiring)?;
         next_edit(&self.memory, hart, wish).map_err(refusal)
@@ -182,11 +151,11 @@ impl Machine {
         requires { is_change wish.now ≡ true }
         ensures { Answers self.old (event_of hart wish.now named) result self.new }
     {
-        let (place, page) = target(wish);
+        let page = wish.page();
         recall_page(page);
         self.needs_harts(hart, named)?;
         let edit = self.due_edit(hart, wish)?;
-        let what = self.page_request(place, page);
+        let what = self.page_request(wish.place(), page);
         let ticket = self.open_ticket(hart, what, named)?;
         self.store(edit);
         Ok(Reply::Opened(ticket))

@@ -1,18 +1,31 @@
 //! Steps and runs.
 
-ghost use Rattle.std.specs.Prelude.{◌≡◌, ◌≤◌, ◌↔◌, IsOk, OnOk, false, length, take};
+ghost use Rattle.std.specs.Prelude.{◌≡◌, ◌≤◌, ◌+◌, ◌++◌, ◌∷◌, [], ◌↔◌, IsOk, OnOk, false, length, take};
+ghost use Rattle.std.specs.Vec.{vec_capacity, vec_len};
 ghost use Rattle.history.specs.Setup.{Setup};
 ghost use Rattle.history.specs.Turns.{History};
 ghost use Rattle.history.specs.Runs.{due_replies, with_turn};
 ghost use Rattle.history.specs.Due.{due};
-ghost use Rattle.stepcore.specs.Changes.{Follows, is_accepted};
+ghost use Rattle.stepcore.specs.Changes.{Follows, is_accepted, reply_of};
 ghost use Rattle.stepcore.specs.Runs.{after_run, appended, AreDue, HartsAreInLiveSpaces, IsClear, IsClearOnceDone, IsCoherent, MailboxesKeepOrder, NothingAfterCloses, TlbsHoldUsedAsids, WalksHoldUsedFrames};
 ghost use Rattle.stepcore.specs.Stands.{Stands};
 
 use crate::conditions::reply_of;
 use crate::machine::Machine;
-use history::{Event, Reply};
+use history::{Event, Refusal, Reply};
 use std::alloc::AllocError;
+
+/// Appends what an event is answered, as a reply, where there is room for it.
+#[inline(always)]
+fn append(answer: Result<Reply, Refusal>, replies: &mut Vec<Reply>)
+    requires { vec_len replies.old + 1 ≤ vec_capacity replies.old }
+    ensures { replies.new.items ≡ replies.old.items ++ reply_of answer ∷ [] }
+{
+    let _ = match answer {
+        Ok(reply) => replies.push(reply),
+        Err(refusal) => replies.push(Reply::Refused(refusal)),
+    };
+}
 
 impl Machine {
     /// Does one event of one hart, or refuses it. It takes no memory. The reply is the one that is
@@ -96,16 +109,16 @@ impl Machine {
             replies.reserve(1)?;
             self.recall();
             // The reply to an access is short, and a path of its own stores it by fewer moves.
-            let _ = match *event {
+            match *event {
                 Event::Begin {
                     hart,
                     va,
                     access,
                     ctx,
-                } => replies.push(reply_of(self.begin(hart, va, access, ctx))),
-                Event::Load { hart } => replies.push(reply_of(self.load(hart))),
-                _ => replies.push(reply_of(self.do_event(event))),
-            };
+                } => append(self.begin(hart, va, access, ctx), replies),
+                Event::Load { hart } => append(self.load(hart), replies),
+                _ => append(self.do_event(event), replies),
+            }
         }
         Ok(())
     }

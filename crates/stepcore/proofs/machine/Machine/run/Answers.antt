@@ -37,17 +37,17 @@ loop-event-preserved c =
     let turn : Turn c.loop-event.self event c.match-event.self now c.match-event.replies.items = elim c.match-event.branch [
       | in-Begin w ↦ rw (w.self-is, w.replies-is) (record {
         result = w.begin.result;
-        pushed = w.push.ensures.items ∙ (cond-true _ _ _ (w.push.ensures.succeeds (omega arith)) ∙ rw (c.in_ok-reserve.ensures.items, w.reply_of.ensures) refl);
+        pushed = w.append.ensures ∙ rw c.in_ok-reserve.ensures.items refl;
         answers = rw w.in-Begin.is w.begin.ensures;
       })
       | in-Load w ↦ rw (w.self-is, w.replies-is) (record {
         result = w.load.result;
-        pushed = w.push-in-Load.ensures.items ∙ (cond-true _ _ _ (w.push-in-Load.ensures.succeeds (omega arith)) ∙ rw (c.in_ok-reserve.ensures.items, w.reply_of-in-Load.ensures) refl);
+        pushed = w.append-in-Load.ensures ∙ rw c.in_ok-reserve.ensures.items refl;
         answers = rw w.in-Load.is w.load.ensures;
       })
       | in_default w ↦ rw (w.self-is, w.replies-is) (record {
         result = w.do_event.result;
-        pushed = w.push-in_default.ensures.items ∙ (cond-true _ _ _ (w.push-in_default.ensures.succeeds (omega arith)) ∙ rw (c.in_ok-reserve.ensures.items, w.reply_of-in_default.ensures) refl);
+        pushed = w.append-in_default.ensures ∙ rw c.in_ok-reserve.ensures.items refl;
         answers = w.do_event.ensures;
       })
     ] in

@@ -1,15 +1,17 @@
 use Rattle.std.proofs.Common.{sym, ◌∙◌, Ok, Err}
 use Rattle.std.proofs.lemmas.Result.{err_from_is_err_and}
 use Rattle.spaces.specs.Held.{spare_of, words_of}
+use Rattle.spaces.proofs.Dues.{due-of}
 use Rattle.spaces.proofs.HomeReads.{starts-home, stays-home, there}
 use Rattle.spaces.proofs.Stages.{begun-as, ends-here, goes-below, read-there}
-use Rattle.spaces.proofs.edits.edit_due.Goals as goal
+use Rattle.spaces.proofs.edits.next_edit.Goals as goal
 
 pub returns-in_err-walk : goal.returns-in_err-walk
 returns-in_err-walk c =
     let p = err_from_is_err_and c.from_residual.result c.from_residual.ensures.1 in
     rw (p.1, p.2) (record {
       outcome = begun-as c.args.memory.now c.begin.ensures.memory c.args.hart c.args.wish.now (Err c.in_err-walk.field-0.0) (sym c.in_err-walk.was ∙ c.begin.ensures.start);
+      due = tt;
     })
 
 pub loop-next-init : goal.loop-next-init
@@ -40,4 +42,5 @@ returns-in_default c =
     let end = ends-here c.loop-next.walk (words_of c.args.memory.now) (spare_of c.args.memory.now c.args.hart) c.word_there-word.result c.wants-ppn.result.0 c.wants-ppn.result.1
     c.wants-ppn.ensures.stage c.wants-ppn.ensures.table c.wants-ppn.ensures.index c.word_there-word.ensures
     c.in_default.ensures c.end.result c.spare_for.result c.end.ensures (c.spare_for.ensures.same c.word_there-word.result) in
-    record { outcome = end ∙ c.loop-next.invariant.answer }
+    let outcome = end ∙ c.loop-next.invariant.answer in
+    record { outcome = outcome; due = due-of c.args.memory.now c.args.hart c.args.wish.now _ c.requires outcome }

@@ -1,6 +1,0 @@
-use Rattle.spaces.specs.declared.wishes.Wish.TheVariants.{Map}
-use Rattle.spaces.proofs.Dues.{due-of}
-use Rattle.spaces.proofs.edits.next_map_edit.Goals as goal
-
-pub returns-clause-due : goal.returns-clause-due
-returns-clause-due c = due-of c.args.memory.now c.args.hart (Map c.args.place c.args.page c.args.ppn c.args.flags) _ c.requires c.edit_due.ensures.outcome
