@@ -34,28 +34,37 @@ access_of_words name words =
     else if bytes_eq name (codes "load") && is_over words then Some Load
     else None
 
+abbrev pub map_of_words : Scheme → List (List ℕ) → Option Spelled
+map_of_words scheme words = do
+  w ← four_words words
+  place ← place_of w.0
+  page ← page_of scheme w.1
+  ppn ← num_of w.2
+  flags ← flags_of w.3
+  Some (Edit (Map place page ppn flags))
+
+abbrev pub unmap_of_words : Scheme → List (List ℕ) → Option Spelled
+unmap_of_words scheme words = do
+  w ← three_words words
+  place ← place_of w.0
+  page ← page_of scheme w.1
+  named ← named_of w.2
+  Some (Edit (Unmap place page named))
+
+abbrev pub protect_of_words : Scheme → List (List ℕ) → Option Spelled
+protect_of_words scheme words = do
+  w ← four_words words
+  place ← place_of w.0
+  page ← page_of scheme w.1
+  flags ← flags_of w.2
+  named ← named_of w.3
+  Some (Edit (Protect place page flags named))
+
 abbrev pub edit_of_words : Scheme → List ℕ → List (List ℕ) → Option Spelled
 edit_of_words scheme name words =
-    if bytes_eq name (codes "map") then (do
-      w ← four_words words
-      place ← place_of w.0
-      page ← page_of scheme w.1
-      ppn ← num_of w.2
-      flags ← flags_of w.3
-      Some (Edit (Map place page ppn flags)))
-    else if bytes_eq name (codes "unmap") then (do
-      w ← three_words words
-      place ← place_of w.0
-      page ← page_of scheme w.1
-      named ← named_of w.2
-      Some (Edit (Unmap place page named)))
-    else if bytes_eq name (codes "protect") then (do
-      w ← four_words words
-      place ← place_of w.0
-      page ← page_of scheme w.1
-      flags ← flags_of w.2
-      named ← named_of w.3
-      Some (Edit (Protect place page flags named)))
+    if bytes_eq name (codes "map") then map_of_words scheme words
+    else if bytes_eq name (codes "unmap") then unmap_of_words scheme words
+    else if bytes_eq name (codes "protect") then protect_of_words scheme words
     else None
 
 abbrev pub fence_of_words : List ℕ → List (List ℕ) → Option Spelled

@@ -1,6 +1,6 @@
 //! What the words of a step say, with no machine in sight.
 ghost use Rattle.std.specs.Prelude.{◌≡◌};
-ghost use Rattle.steps.specs.Spelling.{access_of_words, collect_from_of_words, collect_of_words, edit_of_words, fence_of_words, is_of_live, is_of_run, is_pair_of_live, is_pair_of_run, mailbox_step_of_words, space_step_of_words, spelled_by, spelled_of, ticket_step_of_words};
+ghost use Rattle.steps.specs.Spelling.{access_of_words, collect_from_of_words, collect_of_words, edit_of_words, fence_of_words, is_of_live, is_of_run, is_pair_of_live, is_pair_of_run, mailbox_step_of_words, map_of_words, protect_of_words, space_step_of_words, spelled_by, spelled_of, ticket_step_of_words, unmap_of_words};
 ghost use Rattle.steps.specs.Words.{words_of};
 
 use crate::fields::{
@@ -162,33 +162,61 @@ fn access(name: &[u8], rest: &[u8]) -> Option<Spelled>
     }
 }
 
+/// What stands after `map`.
+fn map(scheme: Scheme, rest: &[u8]) -> Option<Spelled>
+    ensures { result ≡ map_of_words scheme (words_of rest.now) }
+{
+    let (at, span, frame, letters) = four_words(rest)?;
+    let place = place(at)?;
+    let page = page_word(scheme, span)?;
+    let ppn = num(frame)?;
+    let flags = flags(letters)?;
+    Some(Spelled::Edit(EditStep::Map {
+        place,
+        page,
+        ppn,
+        flags,
+    }))
+}
+
+/// What stands after `unmap`.
+fn unmap(scheme: Scheme, rest: &[u8]) -> Option<Spelled>
+    ensures { result ≡ unmap_of_words scheme (words_of rest.now) }
+{
+    let (at, span, harts) = three_words(rest)?;
+    let place = place(at)?;
+    let page = page_word(scheme, span)?;
+    let named = named(harts)?;
+    Some(Spelled::Edit(EditStep::Unmap { place, page, named }))
+}
+
+/// What stands after `protect`.
+fn protect(scheme: Scheme, rest: &[u8]) -> Option<Spelled>
+    ensures { result ≡ protect_of_words scheme (words_of rest.now) }
+{
+    let (at, span, letters, harts) = four_words(rest)?;
+    let place = place(at)?;
+    let page = page_word(scheme, span)?;
+    let flags = flags(letters)?;
+    let named = named(harts)?;
+    Some(Spelled::Edit(EditStep::Protect {
+        place,
+        page,
+        flags,
+        named,
+    }))
+}
+
 /// `map`, `unmap`, `protect`.
 fn edit(scheme: Scheme, name: &[u8], rest: &[u8]) -> Option<Spelled>
     ensures { result ≡ edit_of_words scheme name.now (words_of rest.now) }
 {
     if name == b"map".as_slice() {
-        let (at, span, frame, letters) = four_words(rest)?;
-        Some(Spelled::Edit(EditStep::Map {
-            place: place(at)?,
-            page: page_word(scheme, span)?,
-            ppn: num(frame)?,
-            flags: flags(letters)?,
-        }))
+        map(scheme, rest)
     } else if name == b"unmap".as_slice() {
-        let (at, span, harts) = three_words(rest)?;
-        Some(Spelled::Edit(EditStep::Unmap {
-            place: place(at)?,
-            page: page_word(scheme, span)?,
-            named: named(harts)?,
-        }))
+        unmap(scheme, rest)
     } else if name == b"protect".as_slice() {
-        let (at, span, letters, harts) = four_words(rest)?;
-        Some(Spelled::Edit(EditStep::Protect {
-            place: place(at)?,
-            page: page_word(scheme, span)?,
-            flags: flags(letters)?,
-            named: named(harts)?,
-        }))
+        protect(scheme, rest)
     } else {
         None
     }
