@@ -2,7 +2,8 @@
 
 ghost use Rattle.std.specs.Prelude.{◌≡◌, ◌<◌, ◌↔◌, Err, IfOk, length, map};
 ghost use Rattle.std.specs.Arc.{arc_value};
-ghost use Rattle.spaces.specs.Limits.{max_live_frames, MeetsLimits};
+ghost use Rattle.spaces.specs.Limits.{MeetsLimits};
+ghost use Rattle.spaces.specs.declared.configuration.TheConstants.{MAX_LIVE_FRAMES};
 ghost use Rattle.history.specs.Setup.{setup_of};
 ghost use Rattle.board.specs.Ports.{AreNew, ArePorts, name_of};
 ghost use Rattle.board.specs.Reports.{IsReport};
@@ -40,7 +41,7 @@ pub(crate) fn deal(
     mut outboxes: Vec<Vec<Option<Outbox>>>,
     mut inboxes: Vec<Vec<Option<Receiver>>>,
 ) -> Result<Vec<HartPort>, AllocError>
-    requires limits { MeetsLimits max_live_frames (arc_value config.now) }
+    requires limits { MeetsLimits MAX_LIVE_FRAMES (arc_value config.now) }
     requires seats { AreSeats (arc_value memory.now).shared.table_id (arc_value memory.now).shared.key
         (arc_value config.now) 0 seats.items }
     requires as_many { length seats.items ≡ (arc_value config.now).harts }
@@ -69,8 +70,8 @@ pub(crate) fn deal(
 /// What the ports share is told once.
 fn copied(config: &Config) -> Result<Config, AllocError>
     ensures setup { IfOk result (λ copy. setup_of copy ≡ setup_of config.now) }
-    ensures limits { IfOk result (λ copy. MeetsLimits max_live_frames config.now
-        → MeetsLimits max_live_frames copy) }
+    ensures limits { IfOk result (λ copy. MeetsLimits MAX_LIVE_FRAMES config.now
+        → MeetsLimits MAX_LIVE_FRAMES copy) }
 {
     let spaces = config.spaces.clone()?;
     let spares = config.spares.clone()?;
@@ -87,8 +88,8 @@ fn copied(config: &Config) -> Result<Config, AllocError>
 
 fn share(alloc: Global, config: &Config) -> Result<Arc<Config, Global>, AllocError>
     ensures setup { IfOk result (λ shared. setup_of (arc_value shared) ≡ setup_of config.now) }
-    ensures limits { IfOk result (λ shared. MeetsLimits max_live_frames config.now
-        → MeetsLimits max_live_frames (arc_value shared)) }
+    ensures limits { IfOk result (λ shared. MeetsLimits MAX_LIVE_FRAMES config.now
+        → MeetsLimits MAX_LIVE_FRAMES (arc_value shared)) }
 {
     let copy = copied(config)?;
     let shared = Arc::new(alloc, copy)?;
@@ -108,7 +109,8 @@ impl Model for Board {
     ghost use Rattle.std.specs.Prelude.{◌≡◌, ◌≤◌, ◌*◌, [], vec_capacity};
     ghost use Rattle.std.specs.Arc.{arc_value};
     ghost use Rattle.shoot.specs.declared.TheConstants.{MAX_HARTS};
-    ghost use Rattle.spaces.specs.Limits.{max_live_frames, MeetsLimits};
+    ghost use Rattle.spaces.specs.Limits.{MeetsLimits};
+    ghost use Rattle.spaces.specs.declared.configuration.TheConstants.{MAX_LIVE_FRAMES};
     ghost use Rattle.history.specs.Setup.{Setup, setup_of};
 
     ghost Value = { Setup };
@@ -118,12 +120,12 @@ impl Model for Board {
     ghost invariant = { λ b. ((b.pairs.items ≡ []) × (MAX_HARTS * MAX_HARTS ≤ vec_capacity b.pairs))
         × ((b.outboxes.items ≡ []) × ((arc_value b.config).harts ≤ vec_capacity b.outboxes))
         × ((b.inboxes.items ≡ []) × ((arc_value b.config).harts ≤ vec_capacity b.inboxes))
-        × MeetsLimits max_live_frames (arc_value b.config) };
+        × MeetsLimits MAX_LIVE_FRAMES (arc_value b.config) };
 }
 
 /// A board, and the rings between its harts.
 fn with_room(alloc: Global, config: Arc<Config, Global>) -> Result<Board, AllocError>
-    requires { MeetsLimits max_live_frames (arc_value config) }
+    requires { MeetsLimits MAX_LIVE_FRAMES (arc_value config) }
     ensures { IfOk result (λ board. board ≡ setup_of (arc_value config)) }
 {
     let harts = usize::from(config.harts);
@@ -143,7 +145,7 @@ impl Board {
     /// `Config::check_live` says no, `NoMemory` if there is not enough memory.
     pub fn open(alloc: Global, config: &Config) -> Result<(Board, Vec<HartPort>), OpenFault>
         ensures bad_layout { (result ≡ Err OpenFault.BadLayout)
-            ↔ (¬ MeetsLimits max_live_frames config.now) }
+            ↔ (¬ MeetsLimits MAX_LIVE_FRAMES config.now) }
         ensures board { IfOk result (λ r. r.0 ≡ setup_of config.now) }
         ensures ports { IfOk result (λ r. ArePorts (setup_of config.now) (map name_of r.1.items)) }
         ensures new { IfOk result (λ r. AreNew r.1.items) }

@@ -41,7 +41,8 @@ impl Model for HartPort {
     ghost use Rattle.std.specs.Prelude.{◌≡◌, map};
     ghost use Rattle.std.specs.Arc.{arc_value};
     ghost use Rattle.std.specs.Option.{option_map};
-    ghost use Rattle.spaces.specs.Limits.{max_live_frames, MeetsLimits};
+    ghost use Rattle.spaces.specs.Limits.{MeetsLimits};
+    ghost use Rattle.spaces.specs.declared.configuration.TheConstants.{MAX_LIVE_FRAMES};
     ghost use Rattle.history.specs.Setup.{setup_of};
     ghost use Rattle.board.specs.Ports.{PortState, IsPort, end_of_outbox, end_of_inbox};
     ghost use Rattle.board.specs.Seats.{IsSeated};
@@ -60,7 +61,7 @@ impl Model for HartPort {
       inboxes = p.inboxes.items;
     } };
 
-    ghost invariant = { λ p. MeetsLimits max_live_frames (arc_value p.config)
+    ghost invariant = { λ p. MeetsLimits MAX_LIVE_FRAMES (arc_value p.config)
         × (p.tickets.hart ≡ p.hart)
         × IsPort (record {
           setup = setup_of (arc_value p.config);
@@ -245,7 +246,8 @@ impl HartPort {
     ghost use Rattle.shoot.specs.HartSet.{harts_in};
     ghost use Rattle.shoot.specs.Tickets.{is_posted, names};
     ghost use Rattle.std.specs.Arc.{arc_value};
-    ghost use Rattle.spaces.specs.Limits.{max_live_frames, MeetsLimits};
+    ghost use Rattle.spaces.specs.Limits.{MeetsLimits};
+    ghost use Rattle.spaces.specs.declared.configuration.TheConstants.{MAX_LIVE_FRAMES};
     ghost use Rattle.history.specs.Setup.{setup_of};
     ghost use Rattle.board.specs.Rows.{IsInRow, IsOutRow};
     ghost use Rattle.board.specs.Seats.{IsNewSeat};
@@ -263,7 +265,7 @@ impl HartPort {
         outboxes: Vec<Option<Outbox>>,
         inboxes: Vec<Option<Receiver>>,
     ) -> HartPort
-        requires limits { MeetsLimits max_live_frames (arc_value config) }
+        requires limits { MeetsLimits MAX_LIVE_FRAMES (arc_value config) }
         requires hart { hart < (arc_value config).harts }
         requires seat { IsNewSeat (arc_value memory).shared.table_id (arc_value memory).shared.key
             (arc_value config) hart seat }

@@ -2,7 +2,8 @@
 
 ghost use Rattle.std.specs.Prelude.{◌≡◌, IfOk, length};
 ghost use Rattle.std.specs.Arc.{arc_value};
-ghost use Rattle.spaces.specs.Limits.{max_live_frames, MeetsLimits};
+ghost use Rattle.spaces.specs.Limits.{MeetsLimits};
+ghost use Rattle.spaces.specs.declared.configuration.TheConstants.{MAX_LIVE_FRAMES};
 ghost use Rattle.views.specs.Rule.{IsFit, first_view};
 ghost use Rattle.board.specs.Seats.{AreSeats};
 
@@ -18,7 +19,7 @@ fn deal_seats(
     mut first: Seat,
     config: &Config,
 ) -> Result<Vec<Seat>, AllocError>
-    requires limits { MeetsLimits max_live_frames config.now }
+    requires limits { MeetsLimits MAX_LIVE_FRAMES config.now }
     requires fit { IsFit words.now.table_id words.now.key config.now first }
     requires first { first.me.0 ≡ first_view config.now }
     ensures count { IfOk result (λ seats. length seats.items ≡ config.now.harts) }
@@ -39,7 +40,7 @@ pub(crate) fn open_seats(
     alloc: Global,
     config: &Config,
 ) -> Result<(Arc<Memory, Global>, Vec<Seat>), AllocError>
-    requires { MeetsLimits max_live_frames config.now }
+    requires { MeetsLimits MAX_LIVE_FRAMES config.now }
     ensures count { IfOk result (λ t. length t.1.items ≡ config.now.harts) }
     ensures seats { IfOk result (λ t.
         AreSeats (arc_value t.0).shared.table_id (arc_value t.0).shared.key config.now 0 t.1.items) }

@@ -19,7 +19,7 @@ use history::Refusal;
 use pte::{Access, Ctx, VirtAddr};
 use spaces::Config;
 use tlb::Entry;
-use views::{Place as Seat, Words, walk};
+use views::{Place as Seat, Words, walk_from_root};
 use walk::{Found, Trap, Why};
 
 /// A walk for a canonical address.
@@ -28,7 +28,7 @@ fn walk_words(
     seat: &mut Seat,
     config: &Config,
     root: u64,
-    va: u64,
+    va: VirtAddr,
     access: Access,
     ctx: Ctx,
 ) -> Result<Found, Trap>
@@ -44,7 +44,7 @@ fn walk_words(
     ensures entries { seat.new.me.0.entries
         ≡ with_found (asid_at seat.old.me.0.config root) seat.old.me.0.entries result }
 {
-    walk(words, seat, config, root, va, access, ctx)
+    walk_from_root(words, seat, config, root, va, access, ctx)
 }
 
 impl HartPort {
@@ -72,7 +72,13 @@ impl HartPort {
 
     /// What a walk from the root of the hart's space answers. What it finds is filled in.
     #[inline(never)]
-    fn walk_and_fill(&mut self, asid: u16, va: u64, access: Access, ctx: Ctx) -> Result<u64, Trap>
+    fn walk_and_fill(
+        &mut self,
+        asid: u16,
+        va: VirtAddr,
+        access: Access,
+        ctx: Ctx,
+    ) -> Result<u64, Trap>
         requires canonical { IsCanonical self.old.setup.layout.scheme va }
         requires asid { asid ≡ own_asid self.old }
         ensures missed { IsMissed self.old va access ctx result self.new }
@@ -118,6 +124,6 @@ impl HartPort {
         if let Some(entry) = self.tlb.lookup(asid, address) {
             return entry.translate(address, access, ctx);
         }
-        self.walk_and_fill(asid, va, access, ctx)
+        self.walk_and_fill(asid, address, access, ctx)
     }
 }

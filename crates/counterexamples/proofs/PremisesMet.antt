@@ -9,7 +9,7 @@ use Rattle.worked_runs.specs.WorkedRuns.{history_of, large_page, small_page, two
 use Rattle.worked_runs.specs.KernelRuns as kernel
 use Rattle.worked_runs.specs.ShootdownRuns as shootdowns
 use Rattle.worked_runs.specs.RetireRuns as retirements
-use Rattle.tlb.specs.Fence.{asid_bits}
+use Rattle.pte.specs.declared.TheConstants.{ASID_BITS}
 use Rattle.laws.specs.Kept.{HavePages, IsSetup}
 
 first : (s : ℕ) → s < 1 → asid_of two_harts [] s < 2 ^ 16
@@ -111,10 +111,10 @@ kernel_answered = record { order = _; is = refl; same_cause = refl; named = refl
 small : IsPage (small_page 0x1000)
 small = record { canonical = inl (omega arith); aligned = refl }
 
-asid_2 : 2 < 2 ^ asid_bits
+asid_2 : 2 < 2 ^ ASID_BITS
 asid_2 = omega arith
 
-asid_7 : 7 < 2 ^ asid_bits
+asid_7 : 7 < 2 ^ ASID_BITS
 asid_7 = omega arith
 
 pub retired_pages : HavePages (history_of retirements.retired_until_acknowledged)

@@ -12,7 +12,7 @@ use Rattle.std.proofs.lemmas.Option.{same_Some}
 use Rattle.std.proofs.lemmas.List.Sums.{fold-append, position_or_len_is}
 use Rattle.std.proofs.lemmas.List.Sorted.{list_any-IsPermutation, searched}
 use Rattle.std.proofs.lemmas.Map.Keys.{below_from_sorted, sorted_from_strictly_increasing}
-use Rattle.pte.specs.Address.{table_length}
+use Rattle.pte.specs.declared.address.TheConstants.{TABLE_LENGTH}
 use Rattle.files.specs.declared.frames.TableWord.{TableWord}
 use Rattle.files.specs.declared.frames.Frames.{Frames}
 use Rattle.files.specs.declared.frames.TableFrames.{TableFrames}
@@ -108,7 +108,7 @@ sorted_listed ppns sorted moved =
 
 -- one more word is stored over those before it
 stored_cases : (is_frame : ℕ → Bool) (words : List TableWord) (word : TableWord) (ppn index : ℕ) (there named : Bool) → names word ppn index ≡ named
-    → (is_frame ppn && nat_lt index table_length) ≡ there
+    → (is_frame ppn && nat_lt index TABLE_LENGTH) ≡ there
     → stored word ppn index (word_in is_frame words ppn index) ≡ word_in is_frame (words ++ word ∷ []) ppn index
 stored_cases is_frame words word ppn index true true e f = rw (e, f, fold-append {B = ℕ} _ 0 words (word ∷ []), e)
 stored_cases is_frame words word ppn index true false e f = rw (e, f, fold-append {B = ℕ} _ 0 words (word ∷ []), e)
@@ -124,28 +124,28 @@ get_zero zero i = refl
 get_zero (suc n) zero = refl
 get_zero (suc n) (suc i) = get_zero n i
 
-zeros_by : (frames : Frames) (words : List ℕ) (n ppn index : ℕ) → words ≡ replicate n 0 → (place : Option ℕ) (within : Bool) → place_of frames ppn ≡ place → nat_lt index table_length ≡ within
+zeros_by : (frames : Frames) (words : List ℕ) (n ppn index : ℕ) → words ≡ replicate n 0 → (place : Option ℕ) (within : Bool) → place_of frames ppn ≡ place → nat_lt index TABLE_LENGTH ≡ within
     → option_map (λ position. get_or words position 0) (position_of frames ppn index) ≡ word_in (is_frame_of frames) [] ppn index
 zeros_by frames words n ppn index e None true p w = rw (w, p, sym (placed_listed frames.ppns.items ppn), p)
 zeros_by frames words n ppn index e None false p w = rw (w, sym (placed_listed frames.ppns.items ppn), p)
-zeros_by frames words n ppn index e (Some at) true p w = rw (w, p, sym (placed_listed frames.ppns.items ppn), p, e) (ap Some (get_zero n (table_length * at + index)))
+zeros_by frames words n ppn index e (Some at) true p w = rw (w, p, sym (placed_listed frames.ppns.items ppn), p, e) (ap Some (get_zero n (TABLE_LENGTH * at + index)))
 zeros_by frames words n ppn index e (Some at) false p w = rw (w, sym (placed_listed frames.ppns.items ppn), p)
 
 -- frames whose words are all 0
 pub zeros : (frames : Frames) (words : List ℕ) (n : ℕ) → words ≡ replicate n 0 → (ppn index : ℕ)
     → option_map (λ position. get_or words position 0) (position_of frames ppn index) ≡ word_in (is_frame_of frames) [] ppn index
-zeros frames words n e ppn index = zeros_by frames words n ppn index e (place_of frames ppn) (nat_lt index table_length) refl refl
+zeros frames words n e ppn index = zeros_by frames words n ppn index e (place_of frames ppn) (nat_lt index TABLE_LENGTH) refl refl
 
 -- ---- storing
 
 pub record IsAt (frames : Frames) (ppn index at : ℕ) : Type 0 where
   pub place : ℕ
-  pub within : index < table_length
+  pub within : index < TABLE_LENGTH
   pub frame : place_of frames ppn ≡ Some place
-  pub is : at ≡ table_length * place + index
+  pub is : at ≡ TABLE_LENGTH * place + index
 
-at_by : (frames : Frames) (ppn index at : ℕ) (place : Option ℕ) (within : Bool) → place_of frames ppn ≡ place → nat_lt index table_length ≡ within
-    → cond within (option_map (λ place. table_length * place + index) place) None ≡ Some at → IsAt frames ppn index at
+at_by : (frames : Frames) (ppn index at : ℕ) (place : Option ℕ) (within : Bool) → place_of frames ppn ≡ place → nat_lt index TABLE_LENGTH ≡ within
+    → cond within (option_map (λ place. TABLE_LENGTH * place + index) place) None ≡ Some at → IsAt frames ppn index at
 at_by frames ppn index at None true p w h = cc
 at_by frames ppn index at None false p w h = cc
 at_by frames ppn index at (Some place) true p w h =
@@ -153,7 +153,7 @@ at_by frames ppn index at (Some place) true p w h =
 at_by frames ppn index at (Some place) false p w h = cc
 
 position_is_at : (frames : Frames) (ppn index at : ℕ) → position_of frames ppn index ≡ Some at → IsAt frames ppn index at
-position_is_at frames ppn index at h = at_by frames ppn index at (place_of frames ppn) (nat_lt index table_length) refl refl h
+position_is_at frames ppn index at h = at_by frames ppn index at (place_of frames ppn) (nat_lt index TABLE_LENGTH) refl refl h
 
 frame_at : (frames : Frames) (ppn place : ℕ) → place_of frames ppn ≡ Some place → ppn ≡ get_or frames.ppns.items place 0
 frame_at frames ppn place h = eqb-true ppn (get_or frames.ppns.items place 0) (position-Some (nat_eq ppn) frames.ppns.items place 0 h).1
@@ -163,9 +163,9 @@ one_word_at : (frames : Frames) (p i q j at : ℕ) → position_of frames p i �
 one_word_at frames p i q j at e f =
     let a = position_is_at frames p i at e in
     let b = position_is_at frames q j at f in
-    let sum : table_length * a.place + i ≡ table_length * b.place + j = sym a.is ∙ b.is in
-    let i_within : i < table_length = a.within in
-    let j_within : j < table_length = b.within in
+    let sum : TABLE_LENGTH * a.place + i ≡ TABLE_LENGTH * b.place + j = sym a.is ∙ b.is in
+    let i_within : i < TABLE_LENGTH = a.within in
+    let j_within : j < TABLE_LENGTH = b.within in
     let places : a.place ≡ b.place = omega (arith, sum, i_within, j_within) in
     let indices : i ≡ j = omega (arith, sum, i_within, j_within) in
     (frame_at frames p a.place a.frame ∙ ap (λ place. get_or frames.ppns.items place 0) places ∙ sym (frame_at frames q b.place b.frame), indices)
@@ -182,9 +182,9 @@ pub position_below : (tables : TableFrames) (ppn index at : ℕ) → position_of
 position_below tables ppn index at h =
     let a = position_is_at tables.frames ppn index at h in
     let place : a.place < length tables.frames.ppns.items = (position-Some (nat_eq ppn) tables.frames.ppns.items a.place 0 a.frame).0 in
-    let within : index < table_length = a.within in
-    let is : at ≡ table_length * a.place + index = a.is in
-    let room : vec_len tables.words ≡ table_length * vec_len tables.frames.ppns = tables.room in
+    let within : index < TABLE_LENGTH = a.within in
+    let is : at ≡ TABLE_LENGTH * a.place + index = a.is in
+    let room : vec_len tables.words ≡ TABLE_LENGTH * vec_len tables.frames.ppns = tables.room in
     let words : vec_len tables.words ≡ length tables.words.items = tables.words.ok.0 in
     let ppns : vec_len tables.frames.ppns ≡ length tables.frames.ppns.items = tables.frames.ppns.ok.0 in
     omega arith

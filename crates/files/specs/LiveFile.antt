@@ -8,7 +8,7 @@ use Rattle.std.specs.Str.{is_utf8}
 use Rattle.toml.specs.Data.{Data, as_array, as_integer, Members, get_member}
 use Rattle.toml.specs.Parse.{parse_document}
 use Rattle.spaces.specs.declared.configuration.Config.{Config}
-use Rattle.spaces.specs.Limits.{max_live_frames}
+use Rattle.spaces.specs.declared.configuration.TheConstants.{MAX_LIVE_FRAMES}
 use Rattle.history.specs.declared.live_step.LiveStep.{LiveStep}
 use Rattle.keys.specs.Faults.{Failure, not_toml, ◌>>=◌}
 use Rattle.keys.specs.Keys.{below, each, known_only, listed, text_views, texts_at, texts_of, value_or}
@@ -85,7 +85,7 @@ live_plan_of ms = do
   scripts ← scripts_at config.harts ms
   turns ← turns_at ms
   scheme ← mode_at ms
-  _ ← checked max_live_frames (in_scheme scheme config)
+  _ ← checked MAX_LIVE_FRAMES (in_scheme scheme config)
   _ ← few_of (step_count setup scripts)
   before ← setup_steps_in scheme config.harts setup
   each_hart ← scripts_in scheme config.harts 0 scripts

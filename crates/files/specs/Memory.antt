@@ -1,7 +1,7 @@
 -- The memory that a file of `walk` describes: the words of its table frames.
 use Rattle.std.specs.Prelude.{ℕ, ◌+◌, ◌*◌, ◌==◌, ◌&&◌, Bool, nat_eq, nat_lt, List, get_or, fold, position, Option, Some, None, option_map, if◌then◌else◌}
 use Rattle.std.specs.List.{list_any}
-use Rattle.pte.specs.Address.{table_length}
+use Rattle.pte.specs.declared.address.TheConstants.{TABLE_LENGTH}
 use Rattle.files.specs.declared.frames.Frames.{Frames}
 use Rattle.files.specs.declared.frames.TableFrames.{TableFrames}
 use Rattle.files.specs.declared.frames.TableWord.{TableWord}
@@ -21,7 +21,7 @@ last_word words ppn index =
 -- the same where the PPN is a frame's and the index a table's; all else is outside memory
 abbrev pub word_in : (ℕ → Bool) → List TableWord → ℕ → ℕ → Option ℕ
 word_in is_frame words ppn index =
-    if is_frame ppn && nat_lt index table_length then Some (last_word words ppn index) else None
+    if is_frame ppn && nat_lt index TABLE_LENGTH then Some (last_word words ppn index) else None
 
 -- ---- how the code keeps it
 
@@ -35,8 +35,8 @@ place_of frames ppn = position (nat_eq ppn) frames.ppns.items
 -- where a word stands among the words of all frames
 abbrev pub position_of : Frames → ℕ → ℕ → Option ℕ
 position_of frames ppn index =
-    if nat_lt index table_length
-    then option_map (λ place. table_length * place + index) (place_of frames ppn) else None
+    if nat_lt index TABLE_LENGTH
+    then option_map (λ place. TABLE_LENGTH * place + index) (place_of frames ppn) else None
 
 abbrev pub word_at : TableFrames → ℕ → ℕ → Option ℕ
 word_at tables ppn index =

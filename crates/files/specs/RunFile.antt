@@ -6,7 +6,7 @@ use Rattle.toml.specs.Data.{Members}
 use Rattle.toml.specs.Parse.{parse_document}
 use Rattle.pte.specs.declared.scheme.Scheme.{Scheme}
 use Rattle.spaces.specs.declared.configuration.Config.{Config}
-use Rattle.spaces.specs.Limits.{max_frames}
+use Rattle.spaces.specs.declared.configuration.TheConstants.{MAX_FRAMES}
 use Rattle.history.specs.declared.event.Event.{Event}
 use Rattle.files.specs.declared.plan.RunScenario.{RunScenario}
 use Rattle.keys.specs.Faults.{Failure, not_toml, ◌>>=◌}
@@ -37,7 +37,7 @@ run_plan_of ms = do
   config ← config_at ms
   texts ← texts_at (codes "steps") ms
   scheme ← mode_at ms
-  _ ← checked max_frames (in_scheme scheme config)
+  _ ← checked MAX_FRAMES (in_scheme scheme config)
   _ ← few texts
   events ← events_in scheme config.harts texts
   Ok (record { config = in_scheme scheme config; events = events })

@@ -4,9 +4,9 @@ use Rattle.std.specs.Option.{ok_or}
 use Rattle.std.specs.Str.{is_utf8}
 use Rattle.toml.specs.Data.{Data, as_str, Members, get_member}
 use Rattle.toml.specs.Parse.{parse_document}
-use Rattle.pte.specs.Address.{table_length}
+use Rattle.pte.specs.declared.address.TheConstants.{TABLE_LENGTH}
 use Rattle.pte.specs.declared.scheme.Scheme.{Scheme}
-use Rattle.pte.specs.Entry.{ppn_bits}
+use Rattle.pte.specs.declared.entry.TheConstants.{PPN_BITS}
 use Rattle.spaces.specs.Defaults.{default_config}
 use Rattle.walk.specs.Leads.{Tables}
 use Rattle.files.specs.declared.frames.TableWord.{TableWord}
@@ -39,7 +39,7 @@ walk_keys = codes "root" ∷ codes "frames" ∷ codes "words" ∷ codes "steps" 
 
 -- a text of one PPN
 abbrev pub ppn_of : List ℕ → Option ℕ
-ppn_of text = option_and_then (below (2 ^ ppn_bits)) (one_number text)
+ppn_of text = option_and_then (below (2 ^ PPN_BITS)) (one_number text)
 
 abbrev pub root_of : Data → Option ℕ
 root_of d = option_and_then ppn_of (as_str d)
@@ -60,7 +60,7 @@ frames_at ms =
 
 abbrev pub word_in_table : (ℕ → Bool) → ℕ → ℕ → ℕ → Option TableWord
 word_in_table is_frame ppn index word =
-    if is_frame ppn && nat_lt index table_length
+    if is_frame ppn && nat_lt index TABLE_LENGTH
     then Some (record { ppn = ppn; index = index; word = word }) else None
 
 abbrev pub word_of_words : (ℕ → Bool) → List (List ℕ) → Option TableWord

@@ -1,7 +1,7 @@
 //! The table frames of a file, and their words.
 ghost use Rattle.std.specs.Prelude.{◌≡◌, ◌≤◌, ◌*◌, vec_len};
 ghost use Rattle.std.specs.List.Sorted.{IsStrictlyIncreasing};
-ghost use Rattle.pte.specs.Address.{table_length};
+ghost use Rattle.pte.specs.declared.address.TheConstants.{TABLE_LENGTH};
 ghost use Rattle.files.specs.declared.limits.TheConstants.{MOST_FRAMES};
 
 use pte::TABLE_LENGTH;
@@ -75,7 +75,7 @@ impl Frames {
 pub struct TableFrames {
     frames: Frames,
     words: Vec<u64>,
-    ghost room: { vec_len words ≡ table_length * vec_len frames.ppns },
+    ghost room: { vec_len words ≡ TABLE_LENGTH * vec_len frames.ppns },
 }
 
 impl TableFrames {

@@ -7,6 +7,7 @@
 
 mod format_laws;
 mod frames;
+mod known_keys;
 mod limits;
 mod live_file;
 mod plan;
@@ -16,6 +17,7 @@ mod walk_file;
 pub use format_laws::{first_wrong_step, worked_turns};
 pub use frames::TableFrames;
 pub use keys::Fault;
+pub use known_keys::{LIVE_KEYS, RUN_KEYS, WALK_KEYS};
 pub use limits::{MOST_FRAMES, MOST_STEPS};
 pub use live_file::read_live;
 pub use plan::{LiveScenario, RunScenario, WalkScenario};

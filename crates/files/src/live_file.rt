@@ -6,6 +6,7 @@ ghost use Rattle.keys.specs.Keys.{each, text_views, texts_of};
 ghost use Rattle.files.specs.StepTexts.{script_in, scripts_in, setup_steps_in};
 ghost use Rattle.files.specs.LiveFile.{few_scripts, live_plan_of, live_scenario_of, live_view, script_views, scripts_at, scripts_of, scripts_view, step_count, turns_at, turns_of};
 
+use crate::known_keys::LIVE_KEYS;
 use crate::limits::MOST_STEPS;
 use crate::plan::LiveScenario;
 use history::LiveStep;
@@ -17,11 +18,6 @@ use pte::{MAX_HARTS, Scheme};
 use std::alloc::{AllocError, Global};
 use steps::{live_step_among, setup_step_among};
 use toml::{Table, Value};
-
-/// The keys that `live` knows.
-const KEYS: [&str; 10] = [
-    "harts", "window", "base", "capacity", "spares", "spaces", "setup", "scripts", "turns", "mode",
-];
 
 /// The turns of a wait where no key says how many.
 const DEFAULT_TURNS: u32 = 1_000_000;
@@ -202,7 +198,7 @@ fn scripts_steps(
 fn scenario(alloc: Global, table: &Table) -> Result<LiveScenario, Fault>
     ensures { Gives live_view result (live_plan_of (table_view table.now)) }
 {
-    check_keys(alloc, table, &KEYS)?;
+    check_keys(alloc, table, &LIVE_KEYS)?;
     let mut config = config(alloc, table)?;
     let setup = texts_of_key(alloc, table, "setup")?;
     let scripts = scripts_of_key(alloc, table, config.harts)?;

@@ -1,7 +1,8 @@
 //! A scenario that was read and checked.
 ghost use Rattle.std.specs.Prelude.{◌<◌, ◌≤◌, ◌^◌, All, length};
-ghost use Rattle.pte.specs.Entry.{ppn_bits};
-ghost use Rattle.spaces.specs.Limits.{max_frames, max_live_frames, MeetsLimits};
+ghost use Rattle.pte.specs.declared.entry.TheConstants.{PPN_BITS};
+ghost use Rattle.spaces.specs.Limits.{MeetsLimits};
+ghost use Rattle.spaces.specs.declared.configuration.TheConstants.{MAX_FRAMES, MAX_LIVE_FRAMES};
 
 use crate::frames::TableFrames;
 use history::{Event, LiveStep};
@@ -14,7 +15,7 @@ use steps::WalkStep;
 pub struct RunScenario {
     pub config: Config,
     pub events: Vec<Event>,
-    ghost within: { MeetsLimits max_frames config },
+    ghost within: { MeetsLimits MAX_FRAMES config },
 }
 
 /// A scenario of `live`, read and checked.
@@ -24,7 +25,7 @@ pub struct LiveScenario {
     pub setup: Vec<(u8, LiveStep)>,
     pub scripts: Vec<Vec<LiveStep>>,
     pub turns: u32,
-    ghost within: { MeetsLimits max_live_frames config },
+    ghost within: { MeetsLimits MAX_LIVE_FRAMES config },
     ghost harts: { All (λ step. step.0 < config.harts) setup.items },
     ghost few: { length scripts.items ≤ config.harts },
 }
@@ -36,5 +37,5 @@ pub struct WalkScenario {
     pub root: u64,
     pub tables: TableFrames,
     pub steps: Vec<WalkStep>,
-    ghost in_range: { root < 2 ^ ppn_bits },
+    ghost in_range: { root < 2 ^ PPN_BITS },
 }

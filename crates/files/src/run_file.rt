@@ -5,6 +5,7 @@ ghost use Rattle.keys.specs.Faults.{Gives};
 ghost use Rattle.files.specs.StepTexts.{events_in};
 ghost use Rattle.files.specs.RunFile.{run_plan_of, run_scenario_of, run_view};
 
+use crate::known_keys::RUN_KEYS;
 use crate::limits::MOST_STEPS;
 use crate::plan::RunScenario;
 use history::Event;
@@ -13,11 +14,6 @@ use pte::Scheme;
 use std::alloc::Global;
 use steps::run_step_among;
 use toml::Table;
-
-/// The keys that `run` knows.
-const KEYS: [&str; 8] = [
-    "harts", "window", "base", "capacity", "spares", "spaces", "steps", "mode",
-];
 
 fn events(alloc: Global, scheme: Scheme, harts: u8, texts: &[&str]) -> Result<Vec<Event>, Fault>
     requires { length texts.now ≤ MOST_STEPS }
@@ -39,7 +35,7 @@ fn events(alloc: Global, scheme: Scheme, harts: u8, texts: &[&str]) -> Result<Ve
 fn scenario(alloc: Global, table: &Table) -> Result<RunScenario, Fault>
     ensures { Gives run_view result (run_plan_of (table_view table.now)) }
 {
-    check_keys(alloc, table, &KEYS)?;
+    check_keys(alloc, table, &RUN_KEYS)?;
     let mut config = config(alloc, table)?;
     let texts = texts_of_key(alloc, table, "steps")?;
     config.scheme = mode(alloc, table)?;

@@ -1,7 +1,7 @@
 //! The scenario of `walk`, from its document.
 ghost use Rattle.std.specs.Prelude.{◌≡◌, ◌≤◌, ◌<◌, ◌^◌, IfOk, IfSome, length, map, option_map, string_bytes, vec_len};
-ghost use Rattle.pte.specs.Entry.{ppn_bits};
 ghost use Rattle.toml.specs.View.{table_view};
+ghost use Rattle.pte.specs.declared.entry.TheConstants.{PPN_BITS};
 ghost use Rattle.keys.specs.Keys.{each, text_views};
 ghost use Rattle.keys.specs.Faults.{Gives};
 ghost use Rattle.files.specs.Memory.{is_frame_of, is_listed, word_at};
@@ -9,29 +9,27 @@ ghost use Rattle.files.specs.StepTexts.{walk_steps_in};
 ghost use Rattle.files.specs.WalkFile.{frames_at, plan_view, ppn_of, ppns_of, root_at, tables_at, walk_plan_of, walk_scenario_of, word_in_table, word_of, words_at};
 
 use crate::frames::{Frames, TableFrames, TableWord};
+use crate::known_keys::WALK_KEYS;
 use crate::limits::{MOST_FRAMES, MOST_STEPS};
 use crate::plan::WalkScenario;
 use keys::{Fault, check_keys, document, key_fault, mode, number, texts_of_key, value_at};
-use pte::{PPN_BITS, TABLE_LENGTH};
+use pte::{PPN_LIMIT, TABLE_LENGTH};
 use spaces::Config;
 use std::alloc::{AllocError, Global};
 use steps::{StepFault, WalkStep, next_word, num, walk_step};
 use toml::Table;
 
-/// The keys that `walk` knows.
-const KEYS: [&str; 5] = ["root", "frames", "words", "steps", "mode"];
-
 fn ppn(alloc: Global, text: &str) -> Result<Option<u64>, AllocError>
     ensures value { IfOk result (λ n. n ≡ ppn_of text.now) }
-    ensures in_range { IfOk result (λ n. IfSome n (λ ppn. ppn < 2 ^ ppn_bits)) }
+    ensures in_range { IfOk result (λ n. IfSome n (λ ppn. ppn < 2 ^ PPN_BITS)) }
 {
     let n = number(alloc, text)?;
-    Ok(n.filter(|n| *n < 1 << PPN_BITS))
+    Ok(n.filter(|n| *n < PPN_LIMIT))
 }
 
 fn root(alloc: Global, table: &Table) -> Result<u64, Fault>
     ensures value { Gives (λ root. root) result (root_at (table_view table.now)) }
-    ensures in_range { IfOk result (λ root. root < 2 ^ ppn_bits) }
+    ensures in_range { IfOk result (λ root. root < 2 ^ PPN_BITS) }
 {
     let Some(value) = value_at(table, "root") else {
         return Ok(Config::default().base);
@@ -159,7 +157,7 @@ fn steps(alloc: Global, texts: &[&str]) -> Result<Vec<WalkStep>, Fault>
 fn scenario(alloc: Global, table: &Table) -> Result<WalkScenario, Fault>
     ensures { Gives plan_view result (walk_plan_of (table_view table.now)) }
 {
-    check_keys(alloc, table, &KEYS)?;
+    check_keys(alloc, table, &WALK_KEYS)?;
     let root = root(alloc, table)?;
     let frames = frames(alloc, table)?;
     let tables = tables(alloc, table, frames)?;

@@ -1,7 +1,8 @@
 //! A machine with its history.
 
 ghost use Rattle.std.specs.Prelude.{◌≡◌, ◌++◌, ◌∷◌, [], Err, IfOk, OnErr, OnOk, ◌↔◌};
-ghost use Rattle.spaces.specs.Limits.{max_frames, MeetsLimits};
+ghost use Rattle.spaces.specs.Limits.{MeetsLimits};
+ghost use Rattle.spaces.specs.declared.configuration.TheConstants.{MAX_FRAMES};
 ghost use Rattle.history.specs.Setup.{setup_of};
 ghost use Rattle.history.specs.Due.{Lawful, due};
 ghost use Rattle.laws.specs.Kept.{HavePages};
@@ -51,8 +52,8 @@ impl<C: Named> Book<C> {
     pub fn open(alloc: Global, config: &Config) -> Result<Book<C>, OpenFault>
         requires { C.config ≡ config.now }
         ensures bad_layout { (result ≡ Err OpenFault.BadLayout)
-            ↔ (¬ MeetsLimits max_frames config.now) }
-        ensures limits { OnOk result (MeetsLimits max_frames config.now) }
+            ↔ (¬ MeetsLimits MAX_FRAMES config.now) }
+        ensures limits { OnOk result (MeetsLimits MAX_FRAMES config.now) }
         ensures empty { IfOk result (λ book. book ≡ []) }
     {
         let machine = Machine::open(alloc, config)?;

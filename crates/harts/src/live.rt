@@ -1,7 +1,8 @@
 //! Live runs: each hart is a thread, which does the steps of its script by its port.
 
 ghost use Rattle.std.specs.Prelude.{◌≡◌, ◌≤◌, ◌<◌, ◌↔◌, All, true, IfOk, OnOk, Err, length, map};
-ghost use Rattle.spaces.specs.Limits.{max_live_frames, MeetsLimits};
+ghost use Rattle.spaces.specs.Limits.{MeetsLimits};
+ghost use Rattle.spaces.specs.declared.configuration.TheConstants.{MAX_LIVE_FRAMES};
 ghost use Rattle.history.specs.Setup.{setup_of};
 ghost use Rattle.board.specs.Ports.{ArePorts, name_of};
 ghost use Rattle.board.specs.Reports.{pairs_of};
@@ -22,8 +23,8 @@ use std::thread::Threads;
 /// The board and its ports.
 fn open(alloc: Global, config: &Config) -> Result<(Board, Vec<HartPort>), LiveFault>
     ensures bad_layout { (result ≡ Err LiveFault.BadLayout)
-        ↔ (¬ MeetsLimits max_live_frames config.now) }
-    ensures limits { OnOk result (MeetsLimits max_live_frames config.now) }
+        ↔ (¬ MeetsLimits MAX_LIVE_FRAMES config.now) }
+    ensures limits { OnOk result (MeetsLimits MAX_LIVE_FRAMES config.now) }
     ensures board { IfOk result (λ r. r.0 ≡ setup_of config.now) }
     ensures ports { IfOk result (λ r. ArePorts (setup_of config.now) (map name_of r.1.items)) }
     ensures count { IfOk result (λ r. length r.1.items ≡ config.now.harts) }
@@ -63,7 +64,7 @@ pub fn run_live<R: Threads + Wait + Sync, G: Gate + Sync>(
     requires setup { All (λ step. step.0 < config.now.harts) setup.now }
     requires scripts { length scripts.now ≤ config.now.harts }
     ensures bad_layout { (result ≡ Err LiveFault.BadLayout)
-        ↔ (¬ MeetsLimits max_live_frames config.now) }
+        ↔ (¬ MeetsLimits MAX_LIVE_FRAMES config.now) }
     ensures setup { IfOk result (λ r. length r.setup.items ≡ length setup.now) }
     ensures made { IfOk result (λ r. are_made (map (λ step. step.1) setup.now) r.setup.items
         ≡ true) }

@@ -1,6 +1,7 @@
 //! The threads of a live run.
 
 ghost use Rattle.std.specs.Prelude.{◌≡◌, ◌≢◌, ◌≤◌, true, [], Ok, IfOk, IfErr, IfSome, length, map, slice_index_or, vec_capacity};
+ghost use Rattle.pte.specs.declared.TheConstants.{MAX_HARTS};
 ghost use Rattle.harts.specs.Scripts.{are_answered, IsAnswered, scripts_of};
 ghost use Rattle.board.specs.Ports.{name_of};
 
@@ -70,7 +71,7 @@ pub(crate) fn roles_of<'a>(
     scripts: &'a [Vec<LiveStep>],
     empty: &'a Vec<LiveStep>,
 ) -> Result<Vec<Role<'a>>, AllocError>
-    requires few { length ports.items ≤ 8 }
+    requires few { length ports.items ≤ MAX_HARTS }
     requires empty { empty.now.items ≡ [] }
     ensures same { IfOk result (λ roles. map (λ role. name_of role.port) roles.items
         ≡ map name_of ports.items) }

@@ -1,7 +1,8 @@
 //! A machine that threads share under one lock.
 
 ghost use Rattle.std.specs.Prelude.{All, ◌≡◌, ℕ, ◌+◌, ◌<◌, ◌≤◌, [], ◌∷◌, ◌++◌, List, length, map, slice_index_or, slice_set, Err, IfOk, OnOk, OnErr, ◌↔◌};
-ghost use Rattle.spaces.specs.Limits.{max_frames, MeetsLimits};
+ghost use Rattle.spaces.specs.Limits.{MeetsLimits};
+ghost use Rattle.spaces.specs.declared.configuration.TheConstants.{MAX_FRAMES};
 ghost use Rattle.history.specs.Setup.{setup_of};
 ghost use Rattle.stepcore.specs.Stands.{Stands};
 ghost use Rattle.harts.specs.Books.{history_of, IsDueAfterSome};
@@ -115,8 +116,8 @@ impl<C: Named> Locked<C> {
         requires config { C.config ≡ config.now }
         requires lists { C.lists ≡ blank }
         ensures bad_layout { (result ≡ Err OpenFault.BadLayout)
-            ↔ (¬ MeetsLimits max_frames config.now) }
-        ensures limits { OnOk result (MeetsLimits max_frames config.now) }
+            ↔ (¬ MeetsLimits MAX_FRAMES config.now) }
+        ensures limits { OnOk result (MeetsLimits MAX_FRAMES config.now) }
         ensures each { IfOk result (λ r. map (λ tally. tally.turns.name) r.1.items ≡ C.lists) }
         ensures none { IfOk result (λ r. All (λ tally. tally.turns.list ≡ []) r.1.items) }
     {

@@ -1,7 +1,8 @@
 //! The harts, the spaces and the table memory that the keys of a document ask for.
 ghost use Rattle.std.specs.Prelude.{◌≡◌, ◌≤◌, IfOk, OnOk, length, map, option_and_then, option_map};
 ghost use Rattle.toml.specs.View.{table_view, view};
-ghost use Rattle.spaces.specs.Limits.{max_frames, max_live_frames, MeetsLimits};
+ghost use Rattle.spaces.specs.Limits.{MeetsLimits};
+ghost use Rattle.spaces.specs.declared.configuration.TheConstants.{MAX_FRAMES, MAX_LIVE_FRAMES};
 ghost use Rattle.keys.specs.Faults.{Gives};
 ghost use Rattle.steps.specs.Words.{words_of};
 ghost use Rattle.keys.specs.Keys.{each, one_word};
@@ -237,8 +238,8 @@ pub fn config(alloc: Global, table: &Table) -> Result<Config, Fault>
 
 /// Refuses a configuration that is not within the limits, with at most 512 table frames.
 pub fn check_layout(config: &Config) -> Result<(), Fault>
-    ensures checked { Gives (λ done. done) result (checked max_frames config.now) }
-    ensures within { OnOk result (MeetsLimits max_frames config.now) }
+    ensures checked { Gives (λ done. done) result (checked MAX_FRAMES config.now) }
+    ensures within { OnOk result (MeetsLimits MAX_FRAMES config.now) }
 {
     if config.check() {
         Ok(())
@@ -250,8 +251,8 @@ pub fn check_layout(config: &Config) -> Result<(), Fault>
 /// Refuses a configuration that is not within the limits for harts on threads, with at most 96
 /// table frames.
 pub fn check_live_layout(config: &Config) -> Result<(), Fault>
-    ensures checked { Gives (λ done. done) result (checked max_live_frames config.now) }
-    ensures within { OnOk result (MeetsLimits max_live_frames config.now) }
+    ensures checked { Gives (λ done. done) result (checked MAX_LIVE_FRAMES config.now) }
+    ensures within { OnOk result (MeetsLimits MAX_LIVE_FRAMES config.now) }
 {
     if config.check_live() {
         Ok(())

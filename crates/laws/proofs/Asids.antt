@@ -9,7 +9,7 @@ use Rattle.shoot.specs.HartSet.{contains, harts_where, is_empty}
 use Rattle.shoot.specs.declared.TheConstants.{MAX_HARTS}
 use Rattle.shoot.proofs.HartSets.{contains_where}
 use Rattle.tlb.specs.declared.store.Entry.{Entry}
-use Rattle.tlb.specs.Fence.{asid_bits}
+use Rattle.pte.specs.declared.TheConstants.{ASID_BITS}
 use Rattle.tlb.specs.Service.{is_served}
 use Rattle.spaces.specs.declared.places.Place.TheVariants.{Space}
 use Rattle.spaces.specs.Layout.{home_of}
@@ -103,12 +103,12 @@ module _ (C : Setup) where
     asids_differ (turn ∷ H) l = λ s t has_s has_t kept_s kept_t e.
         differ_with turn.event turn.reply H s t (asids_differ H l.0) has_s has_t (kept_cases turn.event turn.reply H s l.1 kept_s) (kept_cases turn.event turn.reply H t l.1 kept_t) e
 
-    pub asid_bound : (H : History) (s : ℕ) → Lawful C H → HavePages H → s < length C.asids → asid_of C H s < 2 ^ asid_bits
+    pub asid_bound : (H : History) (s : ℕ) → Lawful C H → HavePages H → s < length C.asids → asid_of C H s < 2 ^ ASID_BITS
     asid_bound [] s l has there = setup.asids.bound s there
     asid_bound (turn ∷ H) s l has there = bound_step turn.event turn.reply has.1 (asid_bound H s l.0 has.0 there)
       where
-        bound_step : (event : Event) (r : Reply) → HasPage event → asid_of C H s < 2 ^ asid_bits → asid_after event r s (asid_of C H s) < 2 ^ asid_bits
-        bound_step (Create hart space asid) r bound old = by_test (λ v. cond v asid (asid_of C H s) < 2 ^ asid_bits) (is_ok r && eqb space s) (λ _. bound) (λ _. old)
+        bound_step : (event : Event) (r : Reply) → HasPage event → asid_of C H s < 2 ^ ASID_BITS → asid_after event r s (asid_of C H s) < 2 ^ ASID_BITS
+        bound_step (Create hart space asid) r bound old = by_test (λ v. cond v asid (asid_of C H s) < 2 ^ ASID_BITS) (is_ok r && eqb space s) (λ _. bound) (λ _. old)
         bound_step _ r bound old = old
 
     -- a hart is in a live space
@@ -221,12 +221,12 @@ module _ (C : Setup) where
     other_served : (H : History) (s t : ℕ) (e : Entry) → Lawful C H → HavePages H → s < length C.asids → t < length C.asids → is_free (status_of H s) ≡ false → status_of H t ≡ Live
         → (status_of H s ≡ Live → ⊥) → e.asid ≡ asid_of C H t → is_served (SpaceOf (asid_of C H s)) e ≡ false
     other_served H s t e l pages has_s has_t kept live apart is =
-        let whole : asid_of C H s % 2 ^ asid_bits ≡ asid_of C H s = (let b = asid_bound H s l pages has_s in omega arith) in
-        let differ : e.asid ≡ asid_of C H s % 2 ^ asid_bits → ⊥ = λ q.
+        let whole : asid_of C H s % 2 ^ ASID_BITS ≡ asid_of C H s = (let b = asid_bound H s l pages has_s in omega arith) in
+        let differ : e.asid ≡ asid_of C H s % 2 ^ ASID_BITS → ⊥ = λ q.
         let same : s ≡ t = asids_differ H l s t has_s has_t kept (ap is_free live) (sym (sym is ∙ q ∙ whole)) in
         apart (ap (status_of H) same ∙ live)
         in
-        and_none (not e.global) (eqb e.asid (asid_of C H s % 2 ^ asid_bits)) (ne_eqb e.asid (asid_of C H s % 2 ^ asid_bits) differ)
+        and_none (not e.global) (eqb e.asid (asid_of C H s % 2 ^ ASID_BITS)) (ne_eqb e.asid (asid_of C H s % 2 ^ ASID_BITS) differ)
       where
         and_none : (a b : Bool) → b ≡ false → (a && b) ≡ false
         and_none true b e = e
@@ -318,8 +318,8 @@ module _ (C : Setup) where
         let a = reclaimed_acked hart space r H h l d c.0 there in
         let same : status_of H s ≡ Retires a.0 = ap (status_of H) (sym c.1) ∙ a.1 in
         let unserved = none a.0 same a.3 in
-        let whole : asid_of C H s % 2 ^ asid_bits ≡ asid_of C H s = (let b = asid_bound H s l pages u.there in omega arith) in
-        false≢true (sym unserved ∙ and_from (not e.global) (eqb e.asid (asid_of C H s % 2 ^ asid_bits)) (ap not g) (eq-eqb e.asid (asid_of C H s % 2 ^ asid_bits) (sym u.same ∙ sym whole)))
+        let whole : asid_of C H s % 2 ^ ASID_BITS ≡ asid_of C H s = (let b = asid_bound H s l pages u.there in omega arith) in
+        false≢true (sym unserved ∙ and_from (not e.global) (eqb e.asid (asid_of C H s % 2 ^ ASID_BITS)) (ap not g) (eq-eqb e.asid (asid_of C H s % 2 ^ ASID_BITS) (sym u.same ∙ sym whole)))
     gone_entry _ r H h e s l pages d there g u none c = c
 
     pub load_no_reclaim : (event : Event) (r : Reply) (s b : ℕ) → event ≡ Load b → Reclaims event r s → ⊥

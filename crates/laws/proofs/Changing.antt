@@ -4,7 +4,8 @@ use Rattle.std.specs.Prelude.{Result}
 use Rattle.std.proofs.lemmas.Bool.{leb-true, false≢true}
 use Rattle.pte.specs.declared.flags.PteFlags.{PteFlags}
 use Rattle.pte.specs.declared.entry.Kind.TheVariants as kinds
-use Rattle.pte.specs.Address.{Span, IsPage, table_length, vpn_of}
+use Rattle.pte.specs.Address.{Span, IsPage, vpn_of}
+use Rattle.pte.specs.declared.address.TheConstants.{TABLE_LENGTH}
 use Rattle.pte.specs.Entry.{kind_of, table_word}
 use Rattle.walk.specs.Leads.{Tables}
 use Rattle.walk.specs.Maps.{Maps}
@@ -62,7 +63,7 @@ module _ (l : Layout) (fits : IsLayout l) where
   zero_no_leaf : (q : ℕ) (flags : PteFlags) → kind_of 0 ≡ kinds.Leaf q flags → ⊥
   zero_no_leaf q flags k = let bad : kinds.Invalid ≡ kinds.Leaf q flags = sym kind-zero ∙ k in cc
 
-  root_no_leaf : (i q : ℕ) (flags : PteFlags) → i < table_length → kind_of (root_word l i) ≡ kinds.Leaf q flags → ⊥
+  root_no_leaf : (i q : ℕ) (flags : PteFlags) → i < TABLE_LENGTH → kind_of (root_word l i) ≡ kinds.Leaf q flags → ⊥
   root_no_leaf i q flags less =
       by_test (λ v. kind_of (cond v (table_word (window_ppn l (i - first_window_slot l)) true) 0) ≡ kinds.Leaf q flags → ⊥) (nat_le (first_window_slot l) i)
       (λ t k. let from = leb-true (first_window_slot l) i t in
@@ -70,7 +71,7 @@ module _ (l : Layout) (fits : IsLayout l) where
       let bad : Some (window_ppn l (i - first_window_slot l)) ≡ None = sym points ∙ ap pointed_kind k in cc)
       (λ _. zero_no_leaf q flags)
 
-  no_leaf : (f i entry q : ℕ) (flags : PteFlags) → i < table_length → Some entry ≡ opening l f i → kind_of entry ≡ kinds.Leaf q flags → ⊥
+  no_leaf : (f i entry q : ℕ) (flags : PteFlags) → i < TABLE_LENGTH → Some entry ≡ opening l f i → kind_of entry ≡ kinds.Leaf q flags → ⊥
   no_leaf f i entry q flags less e kind =
       by_test (λ v. Some entry ≡ cond v (Some (first_word l f i)) None → ⊥) (is_word l f i)
       (λ _ is. first (ap kind_of (sym (some-same entry (first_word l f i) is)) ∙ kind))

@@ -11,7 +11,7 @@ use Rattle.spaces.specs.declared.places.Place.TheVariants.{Space, Kernel}
 use Rattle.spaces.specs.Layout.{root_ppn}
 use Rattle.spaces.specs.Edits.{is_wrong_half}
 use Rattle.tlb.specs.declared.store.Entry.{Entry}
-use Rattle.tlb.specs.Fence.{asid_bits}
+use Rattle.pte.specs.declared.TheConstants.{ASID_BITS}
 use Rattle.tlb.specs.Mappings.{Mapping, LiesIn, IsMappingOf}
 use Rattle.tlb.specs.Service.{overlaps, is_served}
 use Rattle.history.specs.Setup.{Setup}
@@ -109,8 +109,8 @@ module _ (C : Setup) (setup : IsSetup C) (user : (H : History) → Lawful C H �
   left of page e m H space l pages over f (of_asid some g) n =
       let bound = asid_bound C setup H space l pages f.has.there in
       let same = f.has.same in
-      let whole : e.asid % 2 ^ asid_bits ≡ e.asid = omega (arith, bound, same) in
-      let dropped : is_served (PageOf page (Some e.asid)) e ≡ true = rw (over, g, eq-eqb e.asid (e.asid % 2 ^ asid_bits) (sym whole)) refl in
+      let whole : e.asid % 2 ^ ASID_BITS ≡ e.asid = omega (arith, bound, same) in
+      let dropped : is_served (PageOf page (Some e.asid)) e ≡ true = rw (over, g, eq-eqb e.asid (e.asid % 2 ^ ASID_BITS) (sym whole)) refl in
       false≢true (sym n ∙ ap (λ o. is_served (PageOf page o) e) some ∙ dropped)
 
   -- the page is reached through the space that it was filled from

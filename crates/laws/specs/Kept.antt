@@ -9,7 +9,7 @@ use Rattle.spaces.specs.declared.places.Place.TheVariants.{Space, Kernel}
 use Rattle.spaces.specs.Layout.{root_ppn}
 use Rattle.spaces.specs.Held.{IsLayout}
 use Rattle.spaces.specs.Edits.{Store, is_wrong_half}
-use Rattle.tlb.specs.Fence.{asid_bits}
+use Rattle.pte.specs.declared.TheConstants.{ASID_BITS}
 use Rattle.tlb.specs.Mappings.{LiesIn}
 use Rattle.history.specs.Setup.{Setup}
 use Rattle.history.specs.Spaces.{status_of, is_free, asid_of, holder_of}
@@ -26,7 +26,7 @@ abbrev pub HasPage : Event → Type 0
 HasPage (Map hart place page ppn flags) = IsPage page
 HasPage (Unmap hart place page named) = IsPage page
 HasPage (Protect hart place page flags named) = IsPage page
-HasPage (Create hart space asid) = asid < 2 ^ asid_bits
+HasPage (Create hart space asid) = asid < 2 ^ ASID_BITS
 HasPage _ = Unit {0}
 
 abbrev pub HavePages : History → Type 0
@@ -36,7 +36,7 @@ HavePages (turn ∷ history) = HavePages history × HasPage turn.event
 -- there is a space, and each has an ASID of its own at the opening
 pub record HasAsids (setup : Setup) : Type 0 where
   pub some_space : 0 < length setup.asids
-  pub bound : (s : ℕ) → s < length setup.asids → asid_of setup [] s < 2 ^ asid_bits
+  pub bound : (s : ℕ) → s < length setup.asids → asid_of setup [] s < 2 ^ ASID_BITS
   pub distinct : (s t : ℕ) → s < length setup.asids → t < length setup.asids → asid_of setup [] s ≡ asid_of setup [] t → s ≡ t
 
 -- what the laws ask of a setup: a layout and harts within the limits, and an ASID of its own for each of its spaces

@@ -22,8 +22,9 @@ ghost use Rattle.history.specs.Acknowledgements.{is_posted, is_acked, is_collect
 ghost use Rattle.history.specs.Due.{Lawful, names};
 ghost use Rattle.spaces.specs.Held.{IsLayout};
 ghost use Rattle.spaces.specs.declared.configuration.Config.{Config as Configuration};
-ghost use Rattle.spaces.specs.Limits.{max_frames, MeetsLimits};
-ghost use Rattle.tlb.specs.Fence.{asid_bits};
+ghost use Rattle.spaces.specs.Limits.{MeetsLimits};
+ghost use Rattle.spaces.specs.declared.configuration.TheConstants.{MAX_FRAMES};
+ghost use Rattle.pte.specs.declared.TheConstants.{ASID_BITS};
 ghost use Rattle.spaces.specs.Tree.{IsTree};
 ghost use Rattle.spaces.specs.declared.wishes.Wish.{Wish};
 ghost use Rattle.history.specs.Spaces.{Live, Retires, asid_of, holder_of, status_of};
@@ -159,7 +160,7 @@ pub fn acknowledged_hart_holds_only_what_it_filled_since()
 /// A configuration within the limits, with ASIDs of 16 bits, makes a setup such as the laws of the tables, of Clear and of
 /// Coherent ask for.
 pub fn limits_give_setup()
-    ensures { (c : Configuration) → MeetsLimits max_frames c → All (λ s. s.asid < 2 ^ asid_bits) c.spaces.items → IsSetup (setup_of c) }
+    ensures { (c : Configuration) → MeetsLimits MAX_FRAMES c → All (λ s. s.asid < 2 ^ ASID_BITS) c.spaces.items → IsSetup (setup_of c) }
 {}
 
 /// No page of the user's half is mapped global, from the root of any space.

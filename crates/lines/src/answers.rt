@@ -1,6 +1,6 @@
 //! The lines of the answers of translations.
 ghost use Rattle.std.specs.Prelude.{◌≡◌, ◌<◌, ◌^◌, ◌++◌, Err, OnOk, IfOk, codes, string_bytes};
-ghost use Rattle.pte.specs.Entry.{ppn_bits};
+ghost use Rattle.pte.specs.declared.entry.TheConstants.{PPN_BITS};
 ghost use Rattle.lines.specs.AnswerLines.{global_text, line_of, size_text, why_text, WritesLines};
 
 use crate::numbers::{push_decimal, push_hexadecimal};
@@ -97,7 +97,7 @@ pub fn walk_lines<W: Words>(
     root: u64,
     steps: &[WalkStep],
 ) -> Result<String, AllocError>
-    requires { root < 2 ^ ppn_bits }
+    requires { root < 2 ^ PPN_BITS }
     ensures { IfOk result (λ text. WritesLines scheme (W.words words.now) root 1 steps.now
         (string_bytes text)) }
 {

@@ -1,6 +1,6 @@
 //! Laws of the numbers: each function does nothing, and its contract is the law.
 
-ghost use Rattle.std.specs.Prelude.{ℕ, ◌≡◌, ◌+◌, ◌*◌, ◌≤◌, ◌↔◌, IsTrue};
+ghost use Rattle.std.specs.Prelude.{ℕ, ◌≡◌, ◌+◌, ◌*◌, ◌^◌, ◌≤◌, ◌↔◌, IsTrue};
 ghost use Rattle.pte.specs.declared.scheme.Scheme.{Scheme};
 ghost use Rattle.pte.specs.declared.address.PageSize.TheVariants.{Kib4};
 ghost use Rattle.pte.specs.Address.{Holds, IsCanonical, IsPage, IsPageOf, Overlap, Span};
@@ -9,7 +9,7 @@ ghost use Rattle.pte.specs.Address.{fits, holds, is_canonical, overlaps};
 
 use crate::ASID_BITS;
 use crate::address::{PAGE_BYTES, TABLE_LENGTH};
-use crate::entry::PPN_BITS;
+use crate::entry::{PPN_BITS, PPN_LIMIT};
 use crate::scheme::{LEVEL_BITS, OFFSET_BITS, SV39_LEVELS, SV48_LEVELS};
 
 /// The constants, from which the definitions have their numbers, are the manual's: LEVELS and the
@@ -23,6 +23,7 @@ pub fn constants_are_the_manuals()
     ensures page { PAGE_BYTES ≡ 4096 }
     ensures bytes { PAGE_BYTES ≡ bytes_of Kib4 }
     ensures ppn { PPN_BITS ≡ 44 }
+    ensures ppn_limit { PPN_LIMIT ≡ 2 ^ PPN_BITS }
     ensures asid { ASID_BITS ≡ 16 }
 {}
 

@@ -8,7 +8,8 @@ use Rattle.pte.specs.declared.entry.Kind.{Kind}
 use Rattle.pte.specs.declared.entry.Kind.TheVariants as kinds
 use Rattle.pte.specs.Address.{IsPage, IsPageOf, Span, fits, is_canonical, top_level, level_of, pages_of, vpn_of}
 use Rattle.pte.proofs.Schemes.{fits-IsPageOf}
-use Rattle.pte.specs.Entry.{kind_of, is_no_leaf, leaf_word, ppn_bits, table_word}
+use Rattle.pte.specs.Entry.{kind_of, is_no_leaf, leaf_word, table_word}
+use Rattle.pte.specs.declared.entry.TheConstants.{PPN_BITS}
 use Rattle.walk.specs.Leads.{Tables, word_at}
 use Rattle.spaces.specs.declared.places.Place.{Place}
 use Rattle.spaces.specs.declared.places.Place.TheVariants.{Space, Kernel}
@@ -102,10 +103,10 @@ module _ (spare : Option ℕ) (level old : ℕ) (entry : IsEntryOf old (kind_of 
   at-page : (wish : Wish) (new : ℕ) (kind : Kind) → kind_of old ≡ kind → leaf_fault wish ≡ None → level ≡ level_of (page_of wish).size → page_word wish kind ≡ Ok new → Writes spare level old wish new
   at-page (Map place page ppn flags) new kinds.Invalid is fault at e =
       let first = cond-none (is_bad place flags) BadFlags _ fault in
-      let second = cond-none (nat_le (2 ^ ppn_bits) ppn) PpnTooLarge _ first.1 in
+      let second = cond-none (nat_le (2 ^ PPN_BITS) ppn) PpnTooLarge _ first.1 in
       let third = cond-none (is_misaligned page ppn) Misaligned None second.1 in
       let word : leaf_word ppn flags ≡ new = cc in
-      let fits : ppn < 2 ^ ppn_bits = let t = second.0 in grind (arith, nat_tests) in
+      let fits : ppn < 2 ^ PPN_BITS = let t = second.0 in grind (arith, nat_tests) in
       let aligned : ppn % pages_of page.size ≡ 0 = eqb-true _ _ (not-false _ third.0) in
       subst (Writes spare level old (Map place page ppn flags)) word
       (adds_leaf place page ppn flags at (entry-zero old entry is) (flags-of place flags first.0) fits aligned)

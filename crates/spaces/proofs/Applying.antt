@@ -3,7 +3,7 @@ use Rattle.std.proofs.Common.{◌≡◌, ℕ, ◌+◌, ◌-◌, ◌*◌, ◌^◌
 use Rattle.std.specs.Prelude.{slice_set, slice_get, nat_le, nat_lt}
 use Rattle.std.proofs.lemmas.Bool.{and_parts, cases_eq, eq-eqb, ne_eqb}
 use borrow.Author.Tests.{ltb-true, leb-true}
-use Rattle.pte.specs.Address.{table_length}
+use Rattle.pte.specs.declared.address.TheConstants.{TABLE_LENGTH}
 use Rattle.spaces.specs.Layout.{home_of, is_frame, frame_count}
 use Rattle.spaces.specs.Opening.{is_word}
 use Rattle.spaces.specs.Held.{Held, IsMemory, IsDue, spare_of, held_at, holders_of, word_index, words_of}
@@ -136,8 +136,8 @@ facts-of m now store is held due =
       holders = λ f. holders-held m held store here f ∙ ap (λ x. holders_after (holders_of x) store.place store f) is;
     }
 
-pub at-index : (base ppn index a b : ℕ) → a ≡ 512 → b ≡ index → (ppn - base) * a + b ≡ (ppn - base) * table_length + index
-at-index base ppn index a b e f = ap (λ n. (ppn - base) * n + b) e ∙ ap (λ n. (ppn - base) * table_length + n) f
+pub at-index : (base ppn index a b : ℕ) → a ≡ 512 → b ≡ index → (ppn - base) * a + b ≡ (ppn - base) * TABLE_LENGTH + index
+at-index base ppn index a b e f = ap (λ n. (ppn - base) * n + b) e ∙ ap (λ n. (ppn - base) * TABLE_LENGTH + n) f
 
 pub product-bound : (d a : ℕ) → a ≡ 512 → d < 512 → d * a < 2 ^ 64
 product-bound d a e less = subst (λ n. d * n < 2 ^ 64) (sym e) (omega arith)

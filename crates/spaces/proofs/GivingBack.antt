@@ -6,7 +6,7 @@ use Rattle.std.proofs.lemmas.Bool.{cases_eq, cases_lt, lt-ltb, le-ltb, le-leb, l
 use Rattle.std.specs.Prelude.{Vec}
 use Rattle.std.proofs.lemmas.List.{with_items_is}
 use Rattle.std.specs.Vec.{with_items}
-use Rattle.pte.specs.Address.{table_length}
+use Rattle.pte.specs.declared.address.TheConstants.{TABLE_LENGTH}
 use Rattle.walk.specs.Leads.{Tables}
 use Rattle.spaces.specs.declared.places.Place.{Place}
 use Rattle.spaces.specs.declared.places.Place.TheVariants.{Space}
@@ -65,31 +65,31 @@ get-past (x ∷ xs) (suc n) from = get-past xs n (omega arith)
 -- the words are cleared of the frames before one
 module _ (xs : ℕ → Option ℕ) (own : ℕ → Bool) where
   abbrev Cleared : ℕ → (ℕ → Option ℕ) → Type 0
-  Cleared to ws = (n : ℕ) → ws n ≡ cond (nat_lt (n / table_length) to && own (n / table_length)) (zero_word (xs n)) (xs n)
+  Cleared to ws = (n : ℕ) → ws n ≡ cond (nat_lt (n / TABLE_LENGTH) to && own (n / TABLE_LENGTH)) (zero_word (xs n)) (xs n)
 
   module _ (ys : ℕ → Option ℕ) (at : ℕ) (done : Cleared at ys) where
     pub keeps-cleared : own at ≡ false → Cleared (at + 1) ys
-    keeps-cleared none n = done n ∙ ap (λ b. cond b (zero_word (xs n)) (xs n)) (elim (cases_eq at (n / table_length)) [
-      | inl same ↦ let other : own (n / table_length) ≡ false = sym (ap own same) ∙ none in and_right _ _ other ∙ sym (and_right _ _ other)
-      | inr apart ↦ ap (λ b. b && own (n / table_length)) (later (n / table_length) at apart)
+    keeps-cleared none n = done n ∙ ap (λ b. cond b (zero_word (xs n)) (xs n)) (elim (cases_eq at (n / TABLE_LENGTH)) [
+      | inl same ↦ let other : own (n / TABLE_LENGTH) ≡ false = sym (ap own same) ∙ none in and_right _ _ other ∙ sym (and_right _ _ other)
+      | inr apart ↦ ap (λ b. b && own (n / TABLE_LENGTH)) (later (n / TABLE_LENGTH) at apart)
     ])
 
-    pub more-cleared : (zs : ℕ → Option ℕ) (first count : ℕ) → own at ≡ true → first ≡ at * table_length → count ≡ table_length
+    pub more-cleared : (zs : ℕ → Option ℕ) (first count : ℕ) → own at ≡ true → first ≡ at * TABLE_LENGTH → count ≡ TABLE_LENGTH
         → ((n : ℕ) → zs n ≡ cond (nat_lt n (first + count) && nat_le first n) (zero_word (ys n)) (ys n)) → Cleared (at + 1) zs
-    more-cleared zs first count held f c is n = elim (cases_eq at (n / table_length)) [
+    more-cleared zs first count held f c is n = elim (cases_eq at (n / TABLE_LENGTH)) [
       | inl same ↦
-          let before : ys n ≡ xs n = done n ∙ ap (λ b. cond (b && own (n / table_length)) (zero_word (xs n)) (xs n)) (le-ltb (n / table_length) at (omega (arith, same))) in
+          let before : ys n ≡ xs n = done n ∙ ap (λ b. cond (b && own (n / TABLE_LENGTH)) (zero_word (xs n)) (xs n)) (le-ltb (n / TABLE_LENGTH) at (omega (arith, same))) in
           let inside : (nat_lt n (first + count) && nat_le first n) ≡ true =
           and_from _ _ (lt-ltb n (first + count) (omega (arith, f, c, same))) (le-leb first n (omega (arith, f, same)))
           in
           is n ∙ ap (λ b. cond b (zero_word (ys n)) (ys n)) inside ∙ ap zero_word before
-          ∙ sym (ap (λ b. cond b (zero_word (xs n)) (xs n)) (and_from _ _ (lt-ltb (n / table_length) (at + 1) (omega (arith, same))) (sym (ap own same) ∙ held)))
+          ∙ sym (ap (λ b. cond b (zero_word (xs n)) (xs n)) (and_from _ _ (lt-ltb (n / TABLE_LENGTH) (at + 1) (omega (arith, same))) (sym (ap own same) ∙ held)))
       | inr apart ↦
           is n ∙ ap (λ b. cond b (zero_word (ys n)) (ys n)) (outside apart) ∙ done n
-          ∙ ap (λ b. cond (b && own (n / table_length)) (zero_word (xs n)) (xs n)) (later (n / table_length) at apart)
+          ∙ ap (λ b. cond (b && own (n / TABLE_LENGTH)) (zero_word (xs n)) (xs n)) (later (n / TABLE_LENGTH) at apart)
     ]
       where
-        outside : (at ≡ n / table_length → ⊥) → (nat_lt n (first + count) && nat_le first n) ≡ false
+        outside : (at ≡ n / TABLE_LENGTH → ⊥) → (nat_lt n (first + count) && nat_le first n) ≡ false
         outside apart = elim (cases_lt n first) [
           | inl less ↦ and_right _ _ (lt-leb first n less)
           | inr from ↦ elim (cases_lt n (first + count)) [
@@ -99,14 +99,14 @@ module _ (xs : ℕ → Option ℕ) (own : ℕ → Bool) where
         ]
 
     -- once the user half of a root is cleared too, of which there are no words past the frames
-    pub all-cleared : (zs : ℕ → Option ℕ) (root first count : ℕ) → first ≡ root * table_length → count ≡ user_slots
-        → ((n : ℕ) → at ≤ n / table_length → xs n ≡ None)
+    pub all-cleared : (zs : ℕ → Option ℕ) (root first count : ℕ) → first ≡ root * TABLE_LENGTH → count ≡ user_slots
+        → ((n : ℕ) → at ≤ n / TABLE_LENGTH → xs n ≡ None)
         → ((n : ℕ) → zs n ≡ cond (nat_lt n (first + count) && nat_le first n) (zero_word (ys n)) (ys n))
-        → (n : ℕ) → zs n ≡ cond ((eqb (n / table_length) root && nat_lt (n % table_length) user_slots) || own (n / table_length)) (zero_word (xs n)) (xs n)
+        → (n : ℕ) → zs n ≡ cond ((eqb (n / TABLE_LENGTH) root && nat_lt (n % TABLE_LENGTH) user_slots) || own (n / TABLE_LENGTH)) (zero_word (xs n)) (xs n)
     all-cleared zs root first count f c past is n =
         is n ∙ ap (λ y. cond (nat_lt n (first + count) && nat_le first n) (zero_word y) y) frames
-        ∙ twice (nat_lt n (first + count) && nat_le first n) (own (n / table_length)) (xs n)
-        ∙ ap (λ b. cond (b || own (n / table_length)) (zero_word (xs n)) (xs n)) half
+        ∙ twice (nat_lt n (first + count) && nat_le first n) (own (n / TABLE_LENGTH)) (xs n)
+        ∙ ap (λ b. cond (b || own (n / TABLE_LENGTH)) (zero_word (xs n)) (xs n)) half
       where
         twice : (a b : Bool) (o : Option ℕ) → cond a (zero_word (cond b (zero_word o) o)) (cond b (zero_word o) o) ≡ cond (a || b) (zero_word o) o
         twice true true None = refl
@@ -120,24 +120,24 @@ module _ (xs : ℕ → Option ℕ) (own : ℕ → Bool) where
         same-none false true o e = rw e refl
         same-none false false o e = refl
 
-        frames : ys n ≡ cond (own (n / table_length)) (zero_word (xs n)) (xs n)
-        frames = done n ∙ elim (cases_lt (n / table_length) at) [
-          | inl less ↦ ap (λ b. cond (b && own (n / table_length)) (zero_word (xs n)) (xs n)) (lt-ltb (n / table_length) at less)
+        frames : ys n ≡ cond (own (n / TABLE_LENGTH)) (zero_word (xs n)) (xs n)
+        frames = done n ∙ elim (cases_lt (n / TABLE_LENGTH) at) [
+          | inl less ↦ ap (λ b. cond (b && own (n / TABLE_LENGTH)) (zero_word (xs n)) (xs n)) (lt-ltb (n / TABLE_LENGTH) at less)
           | inr from ↦ same-none _ _ (xs n) (past n from)
         ]
 
-        half : (nat_lt n (first + count) && nat_le first n) ≡ (eqb (n / table_length) root && nat_lt (n % table_length) user_slots)
-        half = elim (cases_eq (n / table_length) root) [
-          | inl same ↦ elim (cases_lt (n % table_length) user_slots) [
+        half : (nat_lt n (first + count) && nat_le first n) ≡ (eqb (n / TABLE_LENGTH) root && nat_lt (n % TABLE_LENGTH) user_slots)
+        half = elim (cases_eq (n / TABLE_LENGTH) root) [
+          | inl same ↦ elim (cases_lt (n % TABLE_LENGTH) user_slots) [
             | inl low ↦ and_from _ _ (lt-ltb n (first + count) (omega (arith, f, c, same, low))) (le-leb first n (omega (arith, f, same)))
-                ∙ sym (and_from _ _ (eq-eqb (n / table_length) root same) (lt-ltb (n % table_length) user_slots low))
-            | inr high ↦ and_left _ _ (le-ltb n (first + count) (omega (arith, f, c, same, high))) ∙ sym (and_right _ _ (le-ltb (n % table_length) user_slots high))
+                ∙ sym (and_from _ _ (eq-eqb (n / TABLE_LENGTH) root same) (lt-ltb (n % TABLE_LENGTH) user_slots low))
+            | inr high ↦ and_left _ _ (le-ltb n (first + count) (omega (arith, f, c, same, high))) ∙ sym (and_right _ _ (le-ltb (n % TABLE_LENGTH) user_slots high))
           ]
           | inr apart ↦ elim (cases_lt n first) [
-            | inl less ↦ and_right _ _ (lt-leb first n less) ∙ sym (and_left _ _ (ne_eqb (n / table_length) root apart))
+            | inl less ↦ and_right _ _ (lt-leb first n less) ∙ sym (and_left _ _ (ne_eqb (n / TABLE_LENGTH) root apart))
             | inr from ↦ elim (cases_lt n (first + count)) [
               | inl to ↦ absurd (apart (omega (arith, f, c, from, to)))
-              | inr beyond ↦ and_left _ _ (le-ltb n (first + count) beyond) ∙ sym (and_left _ _ (ne_eqb (n / table_length) root apart))
+              | inr beyond ↦ and_left _ _ (le-ltb n (first + count) beyond) ∙ sym (and_left _ _ (ne_eqb (n / TABLE_LENGTH) root apart))
             ]
           ]
         ]
@@ -158,10 +158,10 @@ module _ (m : Held) (ws : List ℕ) (hs : List (Option Place)) (s : ℕ)
   own-same : (f i : ℕ) → is_word m.layout f i ≡ true → is_own_at m.holders (m.layout.window + s) s (word_index m.layout f i) ≡ is_word_of m.layout (holders_of m) s f i
   own-same f i is =
       let at = in-memory m.layout f i is in
-      let frame : word_index m.layout f i / table_length ≡ f - m.layout.base = omega (arith, at.index) in
-      let slot : word_index m.layout f i % table_length ≡ i = omega (arith, at.index) in
+      let frame : word_index m.layout f i / TABLE_LENGTH ≡ f - m.layout.base = omega (arith, at.index) in
+      let slot : word_index m.layout f i % TABLE_LENGTH ≡ i = omega (arith, at.index) in
       let there : is_frame m.layout f ≡ true = ap (λ b. b && nat_lt f (m.layout.base + frame_count m.layout)) (le-leb m.layout.base f at.from) ∙ lt-ltb f (m.layout.base + frame_count m.layout) at.to in
-      ap (λ x. (eqb x (m.layout.window + s) && nat_lt (word_index m.layout f i % table_length) user_slots) || is_held_for (held_at (slice_get m.holders x)) (Space s)) frame
+      ap (λ x. (eqb x (m.layout.window + s) && nat_lt (word_index m.layout f i % TABLE_LENGTH) user_slots) || is_held_for (held_at (slice_get m.holders x)) (Space s)) frame
       ∙ ap (λ x. (eqb (f - m.layout.base) (m.layout.window + s) && nat_lt x user_slots) || is_held_for (held_at (slice_get m.holders (f - m.layout.base))) (Space s)) slot
       ∙ ap (λ b. (b && nat_lt i user_slots) || is_held_for (held_at (slice_get m.holders (f - m.layout.base))) (Space s)) (frame-same f at.from)
       ∙ sym (ap (λ b. (eqb f (root_ppn m.layout s) && nat_lt i user_slots) || is_held_for (cond b (held_at (slice_get m.holders (f - m.layout.base))) None) (Space s)) there)

@@ -4,7 +4,8 @@ use Rattle.std.specs.Prelude.{nat_le, nat_lt, slice_index}
 use Rattle.std.proofs.lemmas.Bool.{and_from, eqb-false, le-leb, lt-ltb}
 use Rattle.pte.specs.declared.scheme.Scheme.{Scheme}
 use Rattle.pte.specs.declared.scheme.Scheme.TheVariants.{Sv39, Sv48}
-use Rattle.pte.specs.Address.{table_length, top_level, widest, level_of, vpn_of}
+use Rattle.pte.specs.Address.{top_level, widest, level_of, vpn_of}
+use Rattle.pte.specs.declared.address.TheConstants.{TABLE_LENGTH}
 use Rattle.walk.specs.Leads.{Tables}
 use Rattle.walk.specs.Pointers.{pointed, pointed_kind}
 use Rattle.spaces.specs.declared.wishes.Wish.{Wish}
@@ -132,7 +133,7 @@ module _ (l : Layout) (fits : IsLayout l) (words : Tables) (holders : Holders) (
   pub written-home : IsAtHome l hart store.ppn
   written-home = let here = written-there l fits words holders tree wish has store at-home in subst (λ h. IsAtHome l h store.ppn) (sym due-accepted.home) here.home
 
-  pub index-below : store.index < table_length
+  pub index-below : store.index < TABLE_LENGTH
   index-below =
       let vpn = vpn-below (page_of wish).base (start_level l (place_of wish) - at-home.depth) in
       omega (arith, at-home.index)

@@ -6,7 +6,8 @@ use Rattle.pte.specs.declared.flags.PteFlags.{PteFlags}
 use Rattle.pte.specs.declared.entry.Kind.{Kind}
 use Rattle.pte.specs.declared.entry.Kind.TheVariants as kinds
 use Rattle.pte.specs.Address.{vpn_of}
-use Rattle.pte.specs.Entry.{kind_of, is_global, ppn_bits}
+use Rattle.pte.specs.Entry.{kind_of, is_global}
+use Rattle.pte.specs.declared.entry.TheConstants.{PPN_BITS}
 use Rattle.walk.specs.Leads.{Tables}
 use Rattle.spaces.specs.declared.places.Place.{Place}
 use Rattle.spaces.specs.declared.places.Place.TheVariants.{Space, Kernel}
@@ -52,7 +53,7 @@ fresh-of l h holders frame e =
     let u = first-from holders (slice_index l.spares h) (spare_ppn l h) frame e in
     record { number = u.0; below = u.1; is = u.2; none = u.3 }
 
-pub fresh-range : (l : Layout) (fits : IsLayout l) (h : ℕ) (holders : Holders) (frame : ℕ) → Unused l h holders frame → frame < 2 ^ ppn_bits
+pub fresh-range : (l : Layout) (fits : IsLayout l) (h : ℕ) (holders : Holders) (frame : ℕ) → Unused l h holders frame → frame < 2 ^ PPN_BITS
 fresh-range l fits h holders frame fresh = let part = sum-within l.spares h in omega (arith, fits.ppns_fit, fresh.below, fresh.is)
 
 -- G of a leaf is the place's

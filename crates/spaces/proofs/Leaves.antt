@@ -6,7 +6,8 @@ use Rattle.std.proofs.lemmas.Bool.{cases_lt}
 use Rattle.pte.specs.declared.flags.PteFlags.{PteFlags}
 use Rattle.pte.specs.declared.entry.Kind.TheVariants as kinds
 use Rattle.pte.specs.Address.{IsCanonical, top_level, level_pages, vpn_of}
-use Rattle.pte.specs.Entry.{kind_of, table_word, ppn_bits}
+use Rattle.pte.specs.Entry.{kind_of, table_word}
+use Rattle.pte.specs.declared.entry.TheConstants.{PPN_BITS}
 use Rattle.pte.proofs.EntryKinds.{kind-table}
 use Rattle.pte.proofs.Schemes.{levels_two}
 use Rattle.walk.specs.Leads.{Tables, word_at, Leads, IsGlobalAt}
@@ -88,7 +89,7 @@ module _ (l : Layout) (fits : IsLayout l) (words : Tables) (holders : Holders) (
       let same : first_window_slot l + (vpn_of va (top_level l.scheme) - first_window_slot l) ≡ vpn_of va (top_level l.scheme) = omega (arith, fits.window) in
       ap (words (root_ppn l s)) (sym same) ∙ (root-home s has).window s (vpn_of va (top_level l.scheme) - first_window_slot l) has refl k
 
-  pub window-fits : (va : ℕ) → IsIn l Kernel va → start_table l Kernel va < 2 ^ ppn_bits
+  pub window-fits : (va : ℕ) → IsIn l Kernel va → start_table l Kernel va < 2 ^ PPN_BITS
   window-fits va in-window = let slot = vpn-below va (top_level l.scheme) in omega (arith, fits.ppns_fit, fits.window)
 
   pub leaf-place : (s va level t entry leaf : ℕ) (flags : PteFlags) → s < length l.homes → Leads l.scheme words (root_ppn l s) va level t (Some entry) → kind_of entry ≡ kinds.Leaf leaf flags

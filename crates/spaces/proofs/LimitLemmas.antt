@@ -4,7 +4,7 @@ use Rattle.std.specs.Prelude.{IsTrue}
 use Rattle.std.specs.List.{AllByRecursion, list_all}
 use Rattle.std.proofs.lemmas.Bool.{and_parts, eqb-true, eq-eqb, leb-true, lt-ltb, ltb-true}
 use Rattle.std.proofs.lemmas.List.Elements.{All-from_recursion, recursion_from_All}
-use Rattle.pte.specs.Entry.{ppn_bits}
+use Rattle.pte.specs.declared.entry.TheConstants.{PPN_BITS}
 use Rattle.walk.proofs.Unique.{same_bool}
 use Rattle.spaces.specs.declared.configuration.Config.{Config}
 use Rattle.spaces.specs.declared.configuration.Space.{Space}
@@ -40,7 +40,7 @@ within frames c m =
     (both _ _ (eq-eqb (length c.spares.items) c.harts m.spares)
     (both _ _ (homes_test c.harts c.spaces.items (recursion_from_All _ c.spaces.items m.homes))
     (both _ _ m.asids
-    (both _ _ (le-leb (frame_count (layout_of c)) frames m.frames_fit) (le-leb (c.base + frame_count (layout_of c)) (2 ^ ppn_bits) m.ppns_fit))))))))
+    (both _ _ (le-leb (frame_count (layout_of c)) frames m.frames_fit) (le-leb (c.base + frame_count (layout_of c)) (2 ^ PPN_BITS) m.ppns_fit))))))))
 
 pub meets : (frames : ℕ) (c : Config) → is_within_limits frames c ≡ true → MeetsLimits frames c
 unfolding is_within_limits
@@ -68,7 +68,7 @@ meets frames c e =
       window = window_range.1;
       spares = eqb-true (length c.spares.items) c.harts spares.0;
       frames_fit = leb-true (frame_count (layout_of c)) frames fits.0;
-      ppns_fit = leb-true (c.base + frame_count (layout_of c)) (2 ^ ppn_bits) fits.1;
+      ppns_fit = leb-true (c.base + frame_count (layout_of c)) (2 ^ PPN_BITS) fits.1;
       some_capacity = capacity_range.0;
       capacity = capacity_range.1;
     }

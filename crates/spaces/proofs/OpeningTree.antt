@@ -3,7 +3,8 @@ use Rattle.std.proofs.Common.{◌≡◌, ℕ, zero, suc, ◌+◌, ◌-◌, ◌<�
 use Rattle.std.specs.Prelude.{slice_index, nat_le, nat_lt}
 use Rattle.std.proofs.lemmas.Bool.{and_parts}
 use Rattle.std.proofs.lemmas.Bool.Decides.{nat_tests}
-use Rattle.pte.specs.Address.{top_level, table_length, vpn_of}
+use Rattle.pte.specs.Address.{top_level, vpn_of}
+use Rattle.pte.specs.declared.address.TheConstants.{TABLE_LENGTH}
 use Rattle.pte.specs.Entry.{kind_of, is_global, table_word}
 use Rattle.pte.proofs.EntryKinds.{kind-table}
 use Rattle.pte.proofs.Schemes.{levels_two}
@@ -29,11 +30,11 @@ frame-is l h f (of_spare n less is) =
     let to : f < l.base + frame_count l = omega arith in
     grind (arith, nat_tests)
 
-pub word-is : (l : Layout) (h f i : ℕ) → IsAtHome l h f → i < table_length → is_word l f i ≡ true
+pub word-is : (l : Layout) (h f i : ℕ) → IsAtHome l h f → i < TABLE_LENGTH → is_word l f i ≡ true
 word-is l h f i home less = let frame = frame-is l h f home in rw frame (grind (arith, nat_tests))
 
 module _ (l : Layout) (fits : IsLayout l) where
-  opening-at : (h f i : ℕ) → IsAtHome l h f → i < table_length → opening l f i ≡ Some (first_word l f i)
+  opening-at : (h f i : ℕ) → IsAtHome l h f → i < TABLE_LENGTH → opening l f i ≡ Some (first_word l f i)
   opening-at h f i home less = ap (λ b. cond b (Some (first_word l f i)) None) (word-is l h f i home less)
 
   own-word : (f i : ℕ) → IsOwn l f i → first_word l f i ≡ 0
@@ -56,7 +57,7 @@ module _ (l : Layout) (fits : IsLayout l) where
   root-first : (s i : ℕ) → s < length l.homes → first_word l (root_ppn l s) i ≡ root_word l i
   root-first s i has = ap (λ b. cond b (root_word l i) 0) (root-is l s has)
 
-  entry-first : (f i : ℕ) → i < table_length → IsEntryOf (first_word l f i) (kind_of (first_word l f i))
+  entry-first : (f i : ℕ) → i < TABLE_LENGTH → IsEntryOf (first_word l f i) (kind_of (first_word l f i))
   entry-first f i less = by_root (is_root l f)
     where
       zero-entry : IsEntryOf 0 (kind_of 0)
@@ -129,10 +130,10 @@ module _ (l : Layout) (fits : IsLayout l) where
     where
       by_test : (f i word : ℕ) (b : Bool) → is_word l f i ≡ b → cond b (Some (first_word l f i)) None ≡ Some word → IsEntryOf word (kind_of word)
       by_test f i word true t e =
-          let less : i < table_length = below-length f i t in subst (λ w. IsEntryOf w (kind_of w)) (some-same _ _ e) (entry-first f i less)
+          let less : i < TABLE_LENGTH = below-length f i t in subst (λ w. IsEntryOf w (kind_of w)) (some-same _ _ e) (entry-first f i less)
         where
-          below-length : (f i : ℕ) → is_word l f i ≡ true → i < table_length
-          below-length f i t = let p = and_parts (is_frame l f) (nat_lt i table_length) t in let less = p.1 in grind (arith, nat_tests)
+          below-length : (f i : ℕ) → is_word l f i ≡ true → i < TABLE_LENGTH
+          below-length f i t = let p = and_parts (is_frame l f) (nat_lt i TABLE_LENGTH) t in let less = p.1 in grind (arith, nat_tests)
       by_test f i word false t e = absurd (let bad : None ≡ Some word = e in cc)
 
   pub opening-tree : IsTree l (opening l) (λ _. None)

@@ -1,7 +1,8 @@
 -- Paths in a tree: which tables they pass, and that a table is on one path.
 use Rattle.std.proofs.Common.{◌≡◌, ℕ, zero, suc, ◌+◌, ◌-◌, ◌<◌, ◌≤◌, ◌⊎◌, Option, Some, None, ap, sym, ◌∙◌, subst, refl, inl, inr, arith}
 use Rattle.std.proofs.lemmas.Bool.{cases_lt}
-use Rattle.pte.specs.Address.{top_level, table_length, vpn_of}
+use Rattle.pte.specs.Address.{top_level, vpn_of}
+use Rattle.pte.specs.declared.address.TheConstants.{TABLE_LENGTH}
 use Rattle.walk.specs.Leads.{Tables, word_at}
 use Rattle.walk.specs.Pointers.{next_table}
 use Rattle.spaces.specs.declared.places.Place.{Place}
@@ -53,7 +54,7 @@ pub record On (l : Layout) (h : ℕ) (holders : Holders) (place : Place) (va n t
   pub own : IsOwn l t (vpn_of va (start_level l place - n))
   pub from : ((n ≡ 0) × (t ≡ start_table l place va)) ⊎ ((0 < n) × IsSpareFor l h holders place t)
 
-pub vpn-below : (va i : ℕ) → vpn_of va i < table_length
+pub vpn-below : (va i : ℕ) → vpn_of va i < TABLE_LENGTH
 vpn-below va i = omega arith
 
 pub some-same : (a b : ℕ) → Some a ≡ Some b → a ≡ b

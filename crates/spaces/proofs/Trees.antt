@@ -4,7 +4,8 @@ use Rattle.std.specs.Prelude.{slice_index}
 use Rattle.std.proofs.lemmas.Bool.{eq-eqb, eqb-true, ne_eqb}
 use Rattle.std.proofs.lemmas.Bool.Decides.{nat_tests}
 use Rattle.pte.specs.declared.entry.Kind.TheVariants as kinds
-use Rattle.pte.specs.Address.{top_level, table_length, vpn_of}
+use Rattle.pte.specs.Address.{top_level, vpn_of}
+use Rattle.pte.specs.declared.address.TheConstants.{TABLE_LENGTH}
 use Rattle.pte.specs.Entry.{kind_of, is_global, table_word}
 use Rattle.walk.specs.Leads.{Tables, word_at}
 use Rattle.spaces.specs.declared.places.Place.{Place}
@@ -104,7 +105,7 @@ unused-apart l fits h holders place f has (inr spare) u = let bad : None ≡ Som
 
 module _ (l : Layout) (fits : IsLayout l) (words : Tables) (h : ℕ) (holders : Holders) (tree : IsHome l words h holders) (owner : Place) (f i x : ℕ)
     (here : IsPlace l words h holders owner f i x) where
-  present-stored : (g j : ℕ) → IsAtHome l h g → j < table_length → IsSome (stored words f i x g j)
+  present-stored : (g j : ℕ) → IsAtHome l h g → j < TABLE_LENGTH → IsSome (stored words f i x g j)
   present-stored g j home less = elim (is-word f i g j) [
     | inl same ↦ subst IsSome (sym (stored-here words f i x g j same.0 same.1)) refl
     | inr apart ↦ subst IsSome (sym (stored-there words f i x g j apart)) (tree.present g j home less)
@@ -124,7 +125,7 @@ module _ (l : Layout) (fits : IsLayout l) (words : Tables) (h : ℕ) (holders : 
   upper-stored : (s j : ℕ) → s < length l.homes → slice_index l.homes s ≡ h → user_slots ≤ j → j < first_window_slot l → stored words f i x (root_ppn l s) j ≡ Some 0
   upper-stored s j has home from to = stored-there words f i x _ _ (upper-apart l f i s _ has here.own from) ∙ tree.upper s j has home from to
 
-  unused-stored : (n j : ℕ) → holders (spare_ppn l h + n) ≡ None → n < slice_index l.spares h → j < table_length → stored words f i x (spare_ppn l h + n) j ≡ Some 0
+  unused-stored : (n j : ℕ) → holders (spare_ppn l h + n) ≡ None → n < slice_index l.spares h → j < TABLE_LENGTH → stored words f i x (spare_ppn l h + n) j ≡ Some 0
   unused-stored n j none to less =
       stored-there words f i x _ _ (λ is _. unused-apart l fits h holders owner f here.has here.of (record { number = n; below = to; is = is; none = ap holders is ∙ none }))
       ∙ tree.unused n j none to less
@@ -164,10 +165,10 @@ module _ (l : Layout) (fits : IsLayout l) (words : Tables) (h : ℕ) (holders : 
   module _ (frame : ℕ) (room : Unused l h holders frame) (new : pointed (Some x) ≡ Some frame)
       (high : (place : Place) (va n : ℕ) → HasPlace l place → home_of l place ≡ h → IsIn l place va → table_on l words place va n ≡ Some f
       → vpn_of va (start_level l place - n) ≡ i → n < start_level l place) where
-    pub fresh-empty : (j : ℕ) → j < table_length → stored words f i x frame j ≡ Some 0
+    pub fresh-empty : (j : ℕ) → j < TABLE_LENGTH → stored words f i x frame j ≡ Some 0
     fresh-empty j less = ap (λ g. stored words f i x g j) room.is ∙ unused-stored room.number j (ap holders (sym room.is) ∙ room.none) room.below less
 
-    fresh-points : (j g : ℕ) → j < table_length → pointed (stored words f i x frame j) ≡ Some g → ⊥
+    fresh-points : (j g : ℕ) → j < TABLE_LENGTH → pointed (stored words f i x frame j) ≡ Some g → ⊥
     fresh-points j g less e = let no-table : None ≡ Some g = sym pointed-zero ∙ ap pointed (sym (fresh-empty j less)) ∙ e in cc
 
     -- what a path reaches it reached before, or it is the new table

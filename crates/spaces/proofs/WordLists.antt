@@ -5,7 +5,7 @@ use Rattle.std.proofs.lemmas.Bool.{and_parts}
 use Rattle.std.proofs.lemmas.Option.{slice_get-get_or}
 use Rattle.std.proofs.Math.Path.{fun_ext}
 use borrow.Author.Tests.{ltb-true, leb-true}
-use Rattle.pte.specs.Address.{table_length}
+use Rattle.pte.specs.declared.address.TheConstants.{TABLE_LENGTH}
 use Rattle.walk.specs.Leads.{Tables}
 use Rattle.walk.specs.Stores.{stored}
 use Rattle.spaces.specs.declared.places.Place.{Place}
@@ -18,13 +18,13 @@ use Rattle.spaces.proofs.Stored.{is-word, stored-here, stored-there}
 pub record InMemory (l : Layout) (f i : ℕ) : Type 0 where
   pub from : l.base ≤ f
   pub to : f < l.base + frame_count l
-  pub index : i < table_length
+  pub index : i < TABLE_LENGTH
 
 pub in-memory : (l : Layout) (f i : ℕ) → is_word l f i ≡ true → InMemory l f i
 in-memory l f i h =
-    let parts = and_parts (is_frame l f) (nat_lt i table_length) h in
+    let parts = and_parts (is_frame l f) (nat_lt i TABLE_LENGTH) h in
     let frame = and_parts (nat_le l.base f) (nat_lt f (l.base + frame_count l)) parts.0 in
-    record { from = leb-true l.base f frame.0; to = ltb-true f (l.base + frame_count l) frame.1; index = ltb-true i table_length parts.1 }
+    record { from = leb-true l.base f frame.0; to = ltb-true f (l.base + frame_count l) frame.1; index = ltb-true i TABLE_LENGTH parts.1 }
 
 pub ruleset in_memory = (in-memory)
 
@@ -37,7 +37,7 @@ pub list-same : (l : Layout) (ws : List ℕ) (holders holders' : List (Option Pl
 unfolding words_of
 list-same l ws holders holders' = refl
 
-module _ (l : Layout) (ws : List ℕ) (holders : List (Option Place)) (wide : frame_count l * table_length ≤ length ws) (f i : ℕ) (is : is_word l f i ≡ true) where
+module _ (l : Layout) (ws : List ℕ) (holders : List (Option Place)) (wide : frame_count l * TABLE_LENGTH ≤ length ws) (f i : ℕ) (is : is_word l f i ≡ true) where
   index-there : word_index l f i < length ws
   index-there = let w = in-memory l f i is in omega (arith, wide, w.from, w.to, w.index)
 
@@ -78,7 +78,7 @@ module _ (l : Layout) (ws : List ℕ) (holders : List (Option Place)) (wide : fr
     list-stored-all = fun_ext (λ g. fun_ext (λ k. list-stored g k))
 
 -- words that follow those of the frames are of no table
-pub list-front : (l : Layout) (ws zs : List ℕ) (holders : List (Option Place)) → length ws ≡ frame_count l * table_length → (f i : ℕ) → listed l (ws ++ zs) holders f i ≡ listed l ws holders f i
+pub list-front : (l : Layout) (ws zs : List ℕ) (holders : List (Option Place)) → length ws ≡ frame_count l * TABLE_LENGTH → (f i : ℕ) → listed l (ws ++ zs) holders f i ≡ listed l ws holders f i
 unfolding words_of
 list-front l ws zs holders wide f i = by_test (is_word l f i) refl
   where
@@ -87,7 +87,7 @@ list-front l ws zs holders wide f i = by_test (is_word l f i) refl
     by_test false is = refl
 
 -- and a store to one of them changes no table
-pub list-behind : (l : Layout) (ws : List ℕ) (holders : List (Option Place)) (k x : ℕ) → frame_count l * table_length ≤ k → (f i : ℕ) → listed l (slice_set ws k x) holders f i ≡ listed l ws holders f i
+pub list-behind : (l : Layout) (ws : List ℕ) (holders : List (Option Place)) (k x : ℕ) → frame_count l * TABLE_LENGTH ≤ k → (f i : ℕ) → listed l (slice_set ws k x) holders f i ≡ listed l ws holders f i
 unfolding words_of
 list-behind l ws holders k x behind f i = by_test (is_word l f i) refl
   where

@@ -3,7 +3,8 @@ use Rattle.std.specs.Prelude.{ℕ, ◌≡◌, ◌-◌, ◌<◌, ◌≤◌, ◌%�
 use Rattle.pte.specs.declared.flags.PteFlags.{PteFlags}
 use Rattle.pte.specs.declared.entry.Kind.TheVariants.{Leaf}
 use Rattle.pte.specs.Address.{Span, level_of, pages_of, vpn_of}
-use Rattle.pte.specs.Entry.{kind_of, is_no_leaf, leaf_word, ppn_bits, table_word}
+use Rattle.pte.specs.Entry.{kind_of, is_no_leaf, leaf_word, table_word}
+use Rattle.pte.specs.declared.entry.TheConstants.{PPN_BITS}
 use Rattle.walk.specs.Leads.{Tables}
 use Rattle.spaces.specs.declared.places.Place.{Place}
 use Rattle.spaces.specs.declared.wishes.Wish.{Wish}
@@ -27,7 +28,7 @@ pub data Writes (spare : Option ℕ) (level old : ℕ) : Wish → ℕ → Type 0
       → Writes spare level old (Map place page ppn flags) (table_word frame (is_kernel place))
   adds_leaf : (place : Place) (page : Span) (ppn : ℕ) (flags : PteFlags)
       → level ≡ level_of page.size → old ≡ 0
-      → IsFlags place flags → ppn < 2 ^ ppn_bits → ppn % pages_of page.size ≡ 0
+      → IsFlags place flags → ppn < 2 ^ PPN_BITS → ppn % pages_of page.size ≡ 0
       → Writes spare level old (Map place page ppn flags) (leaf_word ppn flags)
   removes_leaf : (place : Place) (page : Span) (q : ℕ) (f : PteFlags) → level ≡ level_of page.size
       → kind_of old ≡ Leaf q f

@@ -4,7 +4,8 @@ use Rattle.pte.specs.declared.flags.PteFlags.{PteFlags}
 use Rattle.pte.specs.declared.entry.Kind.{Kind}
 use Rattle.pte.specs.declared.entry.Kind.TheVariants as kinds
 use Rattle.pte.specs.Address.{Span, fits, top_level, widest, level_of, pages_of, vpn_of}
-use Rattle.pte.specs.Entry.{kind_of, ppn_bits, table_word, leaf_word, is_no_leaf, is_global}
+use Rattle.pte.specs.Entry.{kind_of, table_word, leaf_word, is_no_leaf, is_global}
+use Rattle.pte.specs.declared.entry.TheConstants.{PPN_BITS}
 use Rattle.walk.specs.Leads.{Tables, word_at}
 use Rattle.spaces.specs.declared.places.Place.{Place}
 use Rattle.spaces.specs.declared.places.Place.TheVariants.{Space, Kernel}
@@ -66,7 +67,7 @@ is_misaligned page ppn = not (ppn % pages_of page.size == 0)
 abbrev pub leaf_fault : Wish → Option MapFault
 leaf_fault (Map place page ppn flags) =
     if is_bad place flags then Some BadFlags
-    else if nat_le (2 ^ ppn_bits) ppn then Some PpnTooLarge
+    else if nat_le (2 ^ PPN_BITS) ppn then Some PpnTooLarge
     else if is_misaligned page ppn then Some Misaligned
     else None
 leaf_fault (Unmap place page) = None

@@ -1,7 +1,7 @@
 -- What table memory holds: each word, and for which place each spare frame is in use.
 use Rattle.std.specs.Prelude.{ℕ, ◌≡◌, ◌+◌, ◌-◌, ◌*◌, ◌/◌, ◌%◌, ◌<◌, ◌≤◌, ◌^◌, Bool, ◌==◌, ◌&&◌, ◌||◌, nat_lt, List, length, slice_get, if◌then◌else◌, Option, Some, None, Ok, All}
-use Rattle.pte.specs.Address.{table_length}
-use Rattle.pte.specs.Entry.{ppn_bits}
+use Rattle.pte.specs.declared.address.TheConstants.{TABLE_LENGTH}
+use Rattle.pte.specs.declared.entry.TheConstants.{PPN_BITS}
 use Rattle.walk.specs.Leads.{Tables}
 use Rattle.spaces.specs.declared.wishes.Wish.{Wish}
 use Rattle.spaces.specs.declared.places.Place.{Place}
@@ -22,7 +22,7 @@ pub record Held : Type 0 where
 
 -- where the word of a frame stands in the list
 abbrev pub word_index : Layout → ℕ → ℕ → ℕ
-word_index l ppn i = (ppn - l.base) * table_length + i
+word_index l ppn i = (ppn - l.base) * TABLE_LENGTH + i
 
 -- the words as tables
 unfoldable pub words_of : Held → Tables
@@ -42,8 +42,8 @@ holders_of m ppn =
 -- the root's frame
 abbrev pub is_own_at : List (Option Place) → ℕ → ℕ → ℕ → Bool
 is_own_at holders root space n =
-    (n / table_length == root && nat_lt (n % table_length) user_slots)
-    || is_held_for (held_at (slice_get holders (n / table_length))) (Space space)
+    (n / TABLE_LENGTH == root && nat_lt (n % TABLE_LENGTH) user_slots)
+    || is_held_for (held_at (slice_get holders (n / TABLE_LENGTH))) (Space space)
 
 -- the lowest spare frame of a hart that is not in use
 abbrev pub spare_of : Held → ℕ → Option ℕ
@@ -58,12 +58,12 @@ pub record IsLayout (l : Layout) : Type 0 where
   pub some_window : 1 ≤ l.window
   pub window : l.window ≤ MAX_WINDOW
   pub frames_fit : frame_count l ≤ MAX_FRAMES
-  pub ppns_fit : l.base + frame_count l ≤ 2 ^ ppn_bits
+  pub ppns_fit : l.base + frame_count l ≤ 2 ^ PPN_BITS
 
 -- what every memory keeps
 pub record IsMemory (m : Held) : Type 0 where
   pub layout : IsLayout m.layout
-  pub words : length m.words ≡ frame_count m.layout * table_length
+  pub words : length m.words ≡ frame_count m.layout * TABLE_LENGTH
   pub holders : length m.holders ≡ frame_count m.layout
   pub tree : IsTree m.layout (words_of m) (holders_of m)
 

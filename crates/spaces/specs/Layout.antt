@@ -2,7 +2,7 @@
 -- then each hart's spare frames. A frame is a physical page, named by its PPN.
 use Rattle.std.specs.Prelude.{ℕ, Bool, ◌+◌, ◌-◌, ◌/◌, ◌<◌, ◌&&◌, List, length, map, sum, take, slice_index, nat_le, nat_lt}
 use Rattle.pte.specs.declared.scheme.Scheme.{Scheme}
-use Rattle.pte.specs.Address.{table_length}
+use Rattle.pte.specs.declared.address.TheConstants.{TABLE_LENGTH}
 use Rattle.spaces.specs.declared.configuration.Config.{Config}
 use Rattle.spaces.specs.declared.places.Place.{Place}
 use Rattle.spaces.specs.declared.places.Place.TheVariants.{Space, Kernel}
@@ -49,10 +49,10 @@ is_root l ppn = nat_le (root_ppn l 0) ppn && nat_lt ppn (root_ppn l (length l.ho
 
 -- the slots of a root below this one are the user's half, and the last ones are the window
 abbrev pub user_slots : ℕ
-user_slots = table_length / 2
+user_slots = TABLE_LENGTH / 2
 
 abbrev pub first_window_slot : Layout → ℕ
-first_window_slot l = table_length - l.window
+first_window_slot l = TABLE_LENGTH - l.window
 
 -- the place is there
 abbrev pub HasPlace : Layout → Place → Type 0

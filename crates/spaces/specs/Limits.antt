@@ -2,18 +2,15 @@
 use Rattle.std.specs.Prelude.{ℕ, ◌≡◌, ◌+◌, ◌<◌, ◌≤◌, ◌^◌, Bool, true, ◌==◌, ◌&&◌, not, nat_le, nat_lt, IsTrue, All, List, [], ◌∷◌, length}
 use Rattle.std.specs.List.{list_all, list_any}
 use Rattle.pte.specs.declared.TheConstants.{MAX_CAPACITY, MAX_HARTS}
-use Rattle.pte.specs.Entry.{ppn_bits}
+use Rattle.pte.specs.declared.entry.TheConstants.{PPN_BITS}
 use Rattle.spaces.specs.declared.configuration.Config.{Config}
 use Rattle.spaces.specs.declared.configuration.Space.{Space}
-use Rattle.spaces.specs.declared.configuration.TheConstants.{MAX_FRAMES, MAX_LIVE_FRAMES, MAX_SPACES, MAX_WINDOW}
+use Rattle.spaces.specs.declared.configuration.TheConstants.{MAX_FRAMES, MAX_SPACES, MAX_WINDOW}
 use Rattle.spaces.specs.Layout.{layout_of, frame_count}
 
--- how many table frames there may be at most, and how many for harts on threads
+-- how many table frames there may be at most
 abbrev pub max_frames : ℕ
 max_frames = MAX_FRAMES
-
-abbrev pub max_live_frames : ℕ
-max_live_frames = MAX_LIVE_FRAMES
 
 -- no space has the ASID of one after it
 abbrev pub asids_differ : List Space → Bool
@@ -32,7 +29,7 @@ pub record MeetsLimits (frames : ℕ) (c : Config) : Type 0 where
   pub window : c.window ≤ MAX_WINDOW
   pub spares : length c.spares.items ≡ c.harts
   pub frames_fit : frame_count (layout_of c) ≤ frames
-  pub ppns_fit : c.base + frame_count (layout_of c) ≤ 2 ^ ppn_bits
+  pub ppns_fit : c.base + frame_count (layout_of c) ≤ 2 ^ PPN_BITS
   pub some_capacity : 1 ≤ c.capacity
   pub capacity : c.capacity ≤ MAX_CAPACITY
 
@@ -51,4 +48,4 @@ is_within_limits frames c =
     && (list_all (λ s. nat_lt s.home c.harts) c.spaces.items
     && (asids_differ c.spaces.items
     && (nat_le (frame_count (layout_of c)) frames
-    && nat_le (c.base + frame_count (layout_of c)) (2 ^ ppn_bits))))))))
+    && nat_le (c.base + frame_count (layout_of c)) (2 ^ PPN_BITS))))))))

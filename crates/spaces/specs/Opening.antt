@@ -1,7 +1,7 @@
 -- The words of table memory at its opening: 0, but for the window's slots of each root, which point
 -- to the window's tables.
 use Rattle.std.specs.Prelude.{ℕ, Bool, ◌+◌, ◌-◌, ◌/◌, ◌%◌, ◌&&◌, nat_le, nat_lt, if◌then◌else◌, true, Some, None, List, [], ◌∷◌, ◌++◌, zero, suc}
-use Rattle.pte.specs.Address.{table_length}
+use Rattle.pte.specs.declared.address.TheConstants.{TABLE_LENGTH}
 use Rattle.pte.specs.Entry.{table_word}
 use Rattle.walk.specs.Leads.{Tables}
 use Rattle.spaces.specs.Layout.{Layout, is_frame, is_root, first_window_slot, window_ppn}
@@ -14,7 +14,7 @@ root_word l i =
 
 -- there is a word i of the table at a PPN
 abbrev pub is_word : Layout → ℕ → ℕ → Bool
-is_word l ppn i = is_frame l ppn && nat_lt i table_length
+is_word l ppn i = is_frame l ppn && nat_lt i TABLE_LENGTH
 
 -- the word at the opening: of a root as above, of any other frame 0; and the memory of all these
 -- words
@@ -28,4 +28,4 @@ opening l ppn i = if is_word l ppn i then Some (first_word l ppn i) else None
 abbrev pub first_words : Layout → ℕ → List ℕ
 first_words l zero = []
 first_words l (suc n) =
-    first_words l n ++ first_word l (l.base + n / table_length) (n % table_length) ∷ []
+    first_words l n ++ first_word l (l.base + n / TABLE_LENGTH) (n % TABLE_LENGTH) ∷ []

@@ -3,7 +3,8 @@
 use Rattle.std.specs.Prelude.{ℕ, true, false, ◌≡◌, ◌+◌, ◌-◌, ◌<◌, ◌≤◌, ◌⊎◌, Option, Some, None, IsSome, length, slice_index}
 use Rattle.pte.specs.declared.entry.Kind.{Kind}
 use Rattle.pte.specs.declared.entry.Kind.TheVariants as kinds
-use Rattle.pte.specs.Address.{top_level, table_length, vpn_of}
+use Rattle.pte.specs.Address.{top_level, vpn_of}
+use Rattle.pte.specs.declared.address.TheConstants.{TABLE_LENGTH}
 use Rattle.pte.specs.Entry.{kind_of, is_global, table_word}
 use Rattle.walk.specs.Leads.{Tables, word_at}
 use Rattle.walk.specs.Pointers.{pointed, table_below}
@@ -79,7 +80,7 @@ pub record IsHome (l : Layout) (words : Tables) (h : ℕ) (holders : Holders) : 
   -- what is in use for a place of this home is a spare frame of it
   pub held : (f : ℕ) (place : Place) → holders f ≡ Some place → home_of l place ≡ h
       → (n : ℕ) × (n < slice_index l.spares h) × (f ≡ spare_ppn l h + n)
-  pub present : (f i : ℕ) → IsAtHome l h f → i < table_length → IsSome (words f i)
+  pub present : (f i : ℕ) → IsAtHome l h f → i < TABLE_LENGTH → IsSome (words f i)
   pub entries : (f i word : ℕ) → IsAtHome l h f → words f i ≡ Some word
       → IsEntryOf word (kind_of word)
   -- every root points to the window's tables, and its other upper slots are empty
@@ -95,7 +96,7 @@ pub record IsHome (l : Layout) (words : Tables) (h : ℕ) (holders : Holders) : 
   pub once : (f i f' i' g : ℕ) → IsAtHome l h f → IsAtHome l h f' → IsOwn l f i → IsOwn l f' i'
       → pointed (words f i) ≡ Some g → pointed (words f' i') ≡ Some g → (f ≡ f') × (i ≡ i')
   pub unused : (n i : ℕ) → holders (spare_ppn l h + n) ≡ None → n < slice_index l.spares h
-      → i < table_length → words (spare_ppn l h + n) i ≡ Some 0
+      → i < TABLE_LENGTH → words (spare_ppn l h + n) i ≡ Some 0
   -- pointers lead down level by level: at the lowest there is none
   pub bottom : (place : Place) (va t : ℕ) → HasPlace l place → home_of l place ≡ h → IsIn l place va
       → table_on l words place va (start_level l place) ≡ Some t

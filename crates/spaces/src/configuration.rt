@@ -6,7 +6,7 @@ ghost use Rattle.spaces.specs.Limits.{asids_differ};
 
 use crate::places::Place;
 use arrayvec::ArrayVec;
-use pte::{PPN_BITS, Scheme};
+use pte::{PPN_LIMIT, Scheme};
 pub use pte::{MAX_CAPACITY, MAX_HARTS};
 
 /// How many spaces there may be.
@@ -93,10 +93,10 @@ fn asids_differ(spaces: &[Space]) -> bool
 }
 
 impl Config {
-    ghost use Rattle.pte.specs.Entry.{ppn_bits};
+    ghost use Rattle.pte.specs.declared.entry.TheConstants.{PPN_BITS};
     ghost use Rattle.spaces.specs.Layout.{layout_of, frame_count, HasPlace, home_of, root_ppn, spare_ppn};
     ghost use Rattle.spaces.specs.Defaults.{default_for};
-    ghost use Rattle.spaces.specs.Limits.{is_within_limits, max_frames, max_live_frames, MeetsLimits};
+    ghost use Rattle.spaces.specs.Limits.{is_within_limits, MeetsLimits};
 
     /// The default for so many harts, each of which has 8 spare frames; there may be 8 harts at
     /// most.
@@ -120,16 +120,16 @@ impl Config {
 
     /// Whether the limits hold that the fields tell, with at most 512 table frames.
     pub fn check(&self) -> bool
-        ensures value { result ≡ is_within_limits max_frames self.now }
-        ensures limits { IsTrue result ↔ MeetsLimits max_frames self.now }
+        ensures value { result ≡ is_within_limits MAX_FRAMES self.now }
+        ensures limits { IsTrue result ↔ MeetsLimits MAX_FRAMES self.now }
     {
         self.meets_limits(MAX_FRAMES)
     }
 
     /// Whether the limits hold that the fields tell, with at most 96 table frames.
     pub fn check_live(&self) -> bool
-        ensures value { result ≡ is_within_limits max_live_frames self.now }
-        ensures limits { IsTrue result ↔ MeetsLimits max_live_frames self.now }
+        ensures value { result ≡ is_within_limits MAX_LIVE_FRAMES self.now }
+        ensures limits { IsTrue result ↔ MeetsLimits MAX_LIVE_FRAMES self.now }
     {
         self.meets_limits(MAX_LIVE_FRAMES)
     }
@@ -164,10 +164,10 @@ impl Config {
 
     /// The PPN of the root of a space.
     pub fn root(&self, space: u8) -> u64
-        requires limits { MeetsLimits max_frames self.now }
+        requires limits { MeetsLimits MAX_FRAMES self.now }
         requires space { space < length self.now.spaces.items }
         ensures value { result ≡ root_ppn (layout_of self.now) space }
-        ensures range { result < 2 ^ ppn_bits }
+        ensures range { result < 2 ^ PPN_BITS }
     {
         self.base + u64::from(self.window) + u64::from(space)
     }
@@ -175,12 +175,12 @@ impl Config {
     /// The PPN of the spare frame of a hart with this number, from 0 on, if it has so many.
     #[tactic(auto, using(crate::proofs::Homes::sums))]
     pub fn spare(&self, hart: u8, number: u16) -> Option<u64>
-        requires limits { MeetsLimits max_frames self.now }
+        requires limits { MeetsLimits MAX_FRAMES self.now }
         requires hart { hart < length self.now.spares.items }
         ensures value { result
             ≡ (if nat_lt number (slice_index self.now.spares.items hart)
             then Some (spare_ppn (layout_of self.now) hart + number) else None) }
-        ensures range { IfSome result (λ frame. frame < 2 ^ ppn_bits) }
+        ensures range { IfSome result (λ frame. frame < 2 ^ PPN_BITS) }
     {
         let hart = usize::from(hart);
         if number < self.spares[hart] {
@@ -203,16 +203,16 @@ impl Config {
 
     /// Whether the frames are at most so many, and their PPNs below 2^44.
     fn frames_fit(&self, frames: u64) -> bool
-        requires { frames ≤ max_frames }
+        requires { frames ≤ MAX_FRAMES }
         ensures { IsTrue result ↔ (frame_count (layout_of self.now) ≤ frames)
-            × (self.now.base + frame_count (layout_of self.now) ≤ 2 ^ ppn_bits) }
+            × (self.now.base + frame_count (layout_of self.now) ≤ 2 ^ PPN_BITS) }
     {
         let count = self.frame_count();
-        count <= frames && self.base <= (1 << PPN_BITS) - count
+        count <= frames && self.base <= PPN_LIMIT - count
     }
 
     fn meets_limits(&self, frames: u64) -> bool
-        requires { frames ≤ max_frames }
+        requires { frames ≤ MAX_FRAMES }
         ensures { IsTrue result ↔ MeetsLimits frames self.now }
     {
         let spaces = self.spaces.len();

@@ -2,7 +2,8 @@
 //! laws.
 
 ghost use Rattle.std.specs.Prelude.{◌≡◌, ◌≤◌, ◌<◌, ℕ, IsTrue, length, None, Option, Some, Ok, unwrap_or};
-ghost use Rattle.pte.specs.Address.{table_length, top_level};
+ghost use Rattle.pte.specs.Address.{top_level};
+ghost use Rattle.pte.specs.declared.address.TheConstants.{TABLE_LENGTH};
 ghost use Rattle.walk.specs.Leads.{Tables};
 ghost use Rattle.walk.specs.Pointers.{pointed};
 ghost use Rattle.spaces.specs.declared.edit_walks.Next.TheVariants as next;
@@ -55,7 +56,7 @@ pub fn edit_replaces_no_pointer()
         → pointed (words store.ppn store.index) ≡ None }
     ensures index { (l : Layout) (words : Tables) (holders : Holders) (hart : ℕ) (w : WishOf)
         (store : Store) → IsEdit l words holders hart w store
-        → store.index < table_length }
+        → store.index < TABLE_LENGTH }
 {}
 
 /// An accepted edit that stores a pointer points to the home's lowest unused spare frame, which is

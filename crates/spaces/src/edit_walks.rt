@@ -1,11 +1,10 @@
 //! An edit that reads its page's path one word at a time.
 
 ghost use Rattle.std.specs.Prelude.{◌≡◌, ◌<◌, ◌≤◌, ◌^◌, IfSome};
-ghost use Rattle.pte.specs.Address.{table_length};
-ghost use Rattle.pte.specs.Entry.{ppn_bits};
 ghost use Rattle.walk.specs.Pointers.{pointed};
 ghost use Rattle.spaces.specs.Layout.{HasPlace, layout_of};
-ghost use Rattle.spaces.specs.Limits.{max_frames, MeetsLimits};
+ghost use Rattle.spaces.specs.Limits.{MeetsLimits};
+ghost use Rattle.spaces.specs.declared.configuration.TheConstants.{MAX_FRAMES};
 ghost use Rattle.spaces.specs.Edits.{IsStage, is_wrong_half, page_of, place_of};
 ghost use Rattle.spaces.specs.EditStages.{bare_layout, below_of, due_here, edit_next, edit_start, index_of, start_at_home};
 
@@ -78,7 +77,7 @@ impl EditWalk {
     /// `MapFault`; last that of a page of the kernel of the root's level, where the window's table
     /// stands: `TableInWay`, or `WrongSize` to unmap or protect it.
     pub fn begin(config: &Config, hart: u8, wish: Wish) -> Result<EditWalk, MapFault>
-        requires limits { MeetsLimits max_frames config.now }
+        requires limits { MeetsLimits MAX_FRAMES config.now }
         requires place { HasPlace (layout_of config.now) (place_of wish) }
         ensures { result ≡ edit_start (layout_of config.now) hart wish }
     {
@@ -97,8 +96,8 @@ impl EditWalk {
         base: u64,
         wish: Wish,
     ) -> Result<EditWalk, MapFault>
-        requires window { window ≤ table_length }
-        requires base { base ≤ 2 ^ ppn_bits }
+        requires window { window ≤ TABLE_LENGTH }
+        requires base { base ≤ 2 ^ PPN_BITS }
         ensures { result ≡ start_at_home (bare_layout scheme window base) wish }
     {
         if wish.is_wrong_half(scheme, window) {
@@ -159,7 +158,7 @@ impl EditWalk {
     /// The store that is due where the path ends at a word, or why none is.
     #[inline(always)]
     pub(crate) fn end(self, word: u64, spare: Option<u64>) -> Result<Edit, MapFault>
-        requires { IfSome spare (λ frame. frame < 2 ^ ppn_bits) }
+        requires { IfSome spare (λ frame. frame < 2 ^ PPN_BITS) }
         ensures { result ≡ due_here self word spare }
     {
         let end = PathEnd {
@@ -189,7 +188,7 @@ impl EditWalk {
     /// unused spare frame, which is below 2^44.
     #[inline(always)]
     pub fn load(self, word: u64, spare: Option<u64>) -> Next
-        requires { IfSome spare (λ frame. frame < 2 ^ ppn_bits) }
+        requires { IfSome spare (λ frame. frame < 2 ^ PPN_BITS) }
         ensures { result ≡ edit_next self word spare }
     {
         if let Some(next) = self.below(word) {

@@ -1,7 +1,7 @@
 //! Edits: the one store that maps, unmaps or protects a page.
 
 ghost use Rattle.std.specs.Prelude.{◌≡◌, ◌<◌, ◌^◌, ◌-◌, ◌≤◌, IfOk, IfSome, ℕ};
-ghost use Rattle.pte.specs.Entry.{ppn_bits};
+ghost use Rattle.pte.specs.declared.entry.TheConstants.{PPN_BITS};
 ghost use Rattle.spaces.specs.Layout.{HasPlace};
 ghost use Rattle.spaces.specs.Held.{holders_of, IsDue, spare_of, words_of};
 ghost use Rattle.spaces.specs.Applied.{holders_after, words_after};
@@ -80,7 +80,7 @@ impl Edit {
 fn spare_for(memory: &Memory, hart: u8, walk: &EditWalk) -> Option<u64>
     ensures same { (word : ℕ)
         → due_here walk.now word result ≡ due_here walk.now word (spare_of memory.now hart) }
-    ensures range { IfSome result (λ frame. frame < 2 ^ ppn_bits) }
+    ensures range { IfSome result (λ frame. frame < 2 ^ PPN_BITS) }
 {
     if walk.is_at_page() {
         None

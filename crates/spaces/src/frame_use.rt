@@ -1,7 +1,7 @@
 //! For which place each frame is in use.
 
 ghost use Rattle.std.specs.Prelude.{◌≡◌, ◌<◌, ◌≤◌, ℕ, IfOk, length, slice_get, slice_set, replicate, Some, None};
-ghost use Rattle.spaces.specs.Limits.{max_frames};
+ghost use Rattle.spaces.specs.declared.configuration.TheConstants.{MAX_FRAMES};
 ghost use Rattle.spaces.specs.Held.{held_at};
 ghost use Rattle.spaces.specs.Holders.{given_back, is_held_for};
 ghost use Rattle.spaces.specs.UnusedFrames.{AreMarked, is_unused_in, IsLowest, marked_in};
@@ -34,7 +34,7 @@ impl Model for FrameUse {
 
 /// For which place each frame is in use, where none is.
 fn no_holders(alloc: Global, count: u64) -> Result<Vec<Option<Place>>, AllocError>
-    requires { count ≤ max_frames }
+    requires { count ≤ MAX_FRAMES }
     ensures { IfOk result (λ holders. holders.items ≡ replicate count None) }
 {
     let mut holders = Vec::with_capacity(alloc, count as usize)?;
@@ -57,7 +57,7 @@ pub(crate) fn is_held_for(holder: Option<Place>, space: u8) -> bool
 
 /// Leaves the frames unused that are in use for a space.
 fn free_frames(holders: &mut [Option<Place>], unused: &mut UnusedFrames, space: u8)
-    requires few { length holders.old ≤ max_frames }
+    requires few { length holders.old ≤ MAX_FRAMES }
     requires marks { AreMarked (marked_in unused.old) holders.old }
     ensures length { length holders.new ≡ length holders.old }
     ensures holders { (n : ℕ)
@@ -75,7 +75,7 @@ fn free_frames(holders: &mut [Option<Place>], unused: &mut UnusedFrames, space: 
 impl FrameUse {
     /// So many frames, each of them unused.
     pub(crate) fn new(alloc: Global, count: u64) -> Result<FrameUse, AllocError>
-        requires { count ≤ max_frames }
+        requires { count ≤ MAX_FRAMES }
         ensures { IfOk result (λ frames. frames ≡ replicate count None) }
     {
         let holders = no_holders(alloc, count)?;

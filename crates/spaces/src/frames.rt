@@ -1,10 +1,10 @@
 //! Table memory.
 
 ghost use Rattle.std.specs.Prelude.{◌≡◌, ◌+◌, ◌*◌, ◌<◌, ◌≤◌, ◌^◌, ◌↔◌, ◌&&◌, ◌||◌, IsTrue, IfOk, IfSome, length, map, nat_le, nat_lt, slice_index, slice_get, slice_set, sum, take, Some, None, replicate, ℕ, true, is_some, if◌then◌else◌};
-ghost use Rattle.pte.specs.Address.{table_length};
-ghost use Rattle.pte.specs.Entry.{ppn_bits};
+ghost use Rattle.pte.specs.declared.entry.TheConstants.{PPN_BITS};
 ghost use Rattle.spaces.specs.Layout.{frame_count, HasPlace, home_of, layout_of, root_ppn, user_slots};
-ghost use Rattle.spaces.specs.Limits.{max_frames, MeetsLimits};
+ghost use Rattle.spaces.specs.Limits.{MeetsLimits};
+ghost use Rattle.spaces.specs.declared.configuration.TheConstants.{MAX_FRAMES};
 ghost use Rattle.spaces.specs.Opening.{first_word, first_words, is_word, opening};
 ghost use Rattle.spaces.specs.Edits.{place_of};
 ghost use Rattle.spaces.specs.EditStages.{edit_start};
@@ -92,9 +92,9 @@ fn copy_of(spares: &[u16]) -> ArrayVec<u16, MAX_HARTS>
 
 /// The words of all frames at the opening, frame by frame.
 pub fn first_words(alloc: Global, config: &Config) -> Result<Vec<u64>, AllocError>
-    requires { MeetsLimits max_frames config.now }
+    requires { MeetsLimits MAX_FRAMES config.now }
     ensures { IfOk result (λ words. words.items
-        ≡ first_words (layout_of config.now) (frame_count (layout_of config.now) * table_length)) }
+        ≡ first_words (layout_of config.now) (frame_count (layout_of config.now) * TABLE_LENGTH)) }
 {
     let count = config.frame_count() * u64::from(TABLE_LENGTH);
     let mut words = Vec::with_capacity(alloc, count as usize)?;
@@ -108,8 +108,8 @@ pub fn first_words(alloc: Global, config: &Config) -> Result<Vec<u64>, AllocErro
 
 /// A word at the opening.
 fn first_word(config: &Config, ppn: u64, index: u16) -> u64
-    requires limits { MeetsLimits max_frames config.now }
-    requires index { index < table_length }
+    requires limits { MeetsLimits MAX_FRAMES config.now }
+    requires index { index < TABLE_LENGTH }
     ensures { result ≡ first_word (layout_of config.now) ppn index }
 {
     let roots = config.base + u64::from(config.window);
@@ -130,8 +130,8 @@ impl Memory {
     /// if the words cannot be allocated.
     pub fn open(alloc: Global, config: &Config) -> Result<Memory, OpenFault>
         ensures bad_layout { (result ≡ Err OpenFault.BadLayout)
-            ↔ (¬ MeetsLimits max_frames config.now) }
-        ensures limits { OnOk result (MeetsLimits max_frames config.now) }
+            ↔ (¬ MeetsLimits MAX_FRAMES config.now) }
+        ensures limits { OnOk result (MeetsLimits MAX_FRAMES config.now) }
         ensures layout { IfOk result (λ memory. memory.layout ≡ layout_of config.now) }
         ensures words { IfOk result (λ memory. (ppn i : ℕ)
             → words_of memory ppn i ≡ opening (layout_of config.now) ppn i) }
@@ -199,7 +199,7 @@ impl Memory {
     pub fn root(&self, space: u8) -> u64
         requires { space < length self.now.layout.homes }
         ensures value { result ≡ root_ppn self.now.layout space }
-        ensures range { result < 2 ^ ppn_bits }
+        ensures range { result < 2 ^ PPN_BITS }
     {
         self.base + u64::from(self.window) + u64::from(space)
     }
@@ -246,7 +246,7 @@ impl Memory {
     #[tactic(auto, using(crate::proofs::Homes::sums))]
     pub(crate) fn spare(&self, hart: u8) -> Option<u64>
         ensures value { result ≡ spare_of self.now hart }
-        ensures range { IfSome result (λ frame. frame < 2 ^ ppn_bits) }
+        ensures range { IfSome result (λ frame. frame < 2 ^ PPN_BITS) }
     {
         let hart = usize::from(hart);
         let count = usize::from(*self.spares.get(hart)?);
@@ -303,7 +303,7 @@ fn clear(words: &mut [u64], first: usize, count: usize)
 /// Stores 0 on each word of a space, whose root is the frame of this number. Words of no other
 /// frame are read or stored.
 fn empty_words(words: &mut [u64], holders: &[Option<Place>], root: usize, space: u8)
-    requires length { length words.old ≡ length holders.now * table_length }
+    requires length { length words.old ≡ length holders.now * TABLE_LENGTH }
     requires root { root < length holders.now }
     ensures length { length words.new ≡ length words.old }
     ensures words { (n : ℕ)

@@ -14,7 +14,8 @@ ghost use Rattle.spaces.specs.declared.wishes.Wish.TheVariants as wish;
 ghost use Rattle.spaces.specs.Layout.{first_window_slot, Layout, home_of, layout_of, root_ppn, spare_ppn};
 ghost use Rattle.pte.specs.declared.TheConstants.{MAX_HARTS};
 ghost use Rattle.spaces.specs.Defaults.{default_for};
-ghost use Rattle.spaces.specs.Limits.{is_within_limits, max_frames, max_live_frames, MeetsLimits};
+ghost use Rattle.spaces.specs.Limits.{is_within_limits, MeetsLimits};
+ghost use Rattle.spaces.specs.declared.configuration.TheConstants.{MAX_FRAMES, MAX_LIVE_FRAMES};
 ghost use Rattle.spaces.specs.Opening.{opening};
 ghost use Rattle.spaces.specs.Held.{IsLayout};
 ghost use Rattle.spaces.specs.Holders.{emptied, given_back, Holders, unused_spare};
@@ -47,12 +48,12 @@ pub fn places_are_tested()
 #[tactic(auto, using(crate::proofs::DefaultLimits::meets_for))]
 pub fn defaults_meet_the_limits()
     ensures { (harts : ℕ) → 1 ≤ harts → harts ≤ MAX_HARTS
-        → MeetsLimits max_live_frames (default_for harts) }
+        → MeetsLimits MAX_LIVE_FRAMES (default_for harts) }
 {}
 
 /// A configuration within the limits has a layout within them.
 pub fn limits_give_layout()
-    ensures { (c : Configuration) → MeetsLimits max_frames c → IsLayout (layout_of c) }
+    ensures { (c : Configuration) → MeetsLimits MAX_FRAMES c → IsLayout (layout_of c) }
 {}
 
 /// The words at the opening are a tree, of which no spare frame is in use.

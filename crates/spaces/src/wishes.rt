@@ -1,13 +1,14 @@
 //! What is wished of a page, and which word it takes.
 
 ghost use Rattle.std.specs.Prelude.{ℕ, ◌≡◌, ◌<◌, ◌≤◌, ◌^◌, IfSome, None, false, Ok};
-ghost use Rattle.pte.specs.Entry.{is_no_leaf, leaf_word, ppn_bits};
+ghost use Rattle.pte.specs.Entry.{is_no_leaf, leaf_word};
+ghost use Rattle.pte.specs.declared.entry.TheConstants.{PPN_BITS};
 
 use crate::edit_walks::USER_SLOTS;
 use crate::faults::MapFault;
 use crate::places::Place;
 use bitflags::Flags;
-use pte::{Kind, LeafFault, PPN_BITS, Page, Pte, PteFlags, Scheme, TABLE_LENGTH};
+use pte::{Kind, LeafFault, PPN_LIMIT, Page, Pte, PteFlags, Scheme, TABLE_LENGTH};
 
 /// A page to map, to unmap or to protect.
 #[derive(Clone, Copy, PartialEq, Eq, Debug)]
@@ -44,7 +45,7 @@ pub(crate) struct PathEnd {
 #[tactic(auto, unfolding(pte::specs::Entry::leaf_of))]
 fn leaf_word(ppn: u64, flags: PteFlags) -> Result<u64, MapFault>
     requires flags { is_no_leaf flags.0 ≡ false }
-    requires ppn { ppn < 2 ^ ppn_bits }
+    requires ppn { ppn < 2 ^ PPN_BITS }
     ensures { result ≡ Ok (leaf_word ppn flags) }
 {
     match Pte::leaf(ppn, flags) {
@@ -75,7 +76,7 @@ impl Place {
 }
 
 impl Wish {
-    ghost use Rattle.pte.specs.Address.{level_of, table_length, top_level, widest};
+    ghost use Rattle.pte.specs.Address.{level_of, top_level, widest};
     ghost use Rattle.pte.specs.Entry.{kind_of};
     ghost use Rattle.spaces.specs.EditStages.{bare_layout, table_fault};
     ghost use Rattle.spaces.specs.Edits.{due_word, is_wrong_half, leaf_fault, page_of, page_word, place_of, upper_word};
@@ -116,7 +117,7 @@ impl Wish {
     /// has beside a window of so many slots.
     #[inline(always)]
     pub(crate) fn is_wrong_half(&self, scheme: Scheme, window: u16) -> bool
-        requires { window ≤ table_length }
+        requires { window ≤ TABLE_LENGTH }
         ensures page { result ≡ false → level_of (page_of self.now).size ≤ top_level scheme }
         ensures value { (base : ℕ)
             → result
@@ -132,7 +133,7 @@ impl Wish {
     /// The same, for callers that name the scheme: its numbers are constants then.
     #[inline(always)]
     fn is_wrong_half_in(&self, scheme: Scheme, window: u16) -> bool
-        requires { window ≤ table_length }
+        requires { window ≤ TABLE_LENGTH }
         ensures page { result ≡ false → level_of (page_of self.now).size ≤ top_level scheme }
         ensures value { (base : ℕ)
             → result
@@ -173,7 +174,7 @@ impl Wish {
             } => {
                 if place.is_bad(flags) {
                     Some(MapFault::BadFlags)
-                } else if ppn >= 1 << PPN_BITS {
+                } else if ppn >= PPN_LIMIT {
                     Some(MapFault::PpnTooLarge)
                 } else if ppn % page.size().pages() != 0 {
                     Some(MapFault::Misaligned)
@@ -221,7 +222,7 @@ impl Wish {
     /// spare frame.
     #[inline(always)]
     fn upper_word(&self, spare: Option<u64>, entry: u64) -> Result<u64, MapFault>
-        requires { IfSome spare (λ frame. frame < 2 ^ ppn_bits) }
+        requires { IfSome spare (λ frame. frame < 2 ^ PPN_BITS) }
         ensures { result ≡ upper_word self.now spare (kind_of entry) }
     {
         match *self {
@@ -243,7 +244,7 @@ impl Wish {
     #[inline(always)]
     pub(crate) fn due_word(&self, spare: Option<u64>, end: &PathEnd) -> Result<u64, MapFault>
         requires wish { leaf_fault self.now ≡ None }
-        requires frame { IfSome spare (λ frame. frame < 2 ^ ppn_bits) }
+        requires frame { IfSome spare (λ frame. frame < 2 ^ PPN_BITS) }
         requires level { level_of (page_of self.now).size ≤ end.now.level }
         ensures { result ≡ due_word self.now spare end.now }
     {

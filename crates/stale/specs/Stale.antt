@@ -18,38 +18,42 @@ use Rattle.history.specs.Spaces.{asid_of}
 use Rattle.history.specs.Harts.{space_of, entries_of}
 use Rattle.history.specs.Staleness.{IsMappedNow}
 
--- the TLB of h holds the mapping, and the tables do not map it so now
-pub record Stale (C : Setup) (H : History) (h : ℕ) (m : Mapping) : Type 0 where
-  pub held : IsMappedBy (entries_of C H h) m
-  pub unmapped : ¬ IsMappedNow C H m.asid m
+-- the TLB of the hart holds the mapping, and the tables do not map it so now
+pub record Stale (setup : Setup) (history : History) (hart : ℕ) (m : Mapping) : Type 0 where
+  pub held : IsMappedBy (entries_of setup history hart) m
+  pub unmapped : ¬ IsMappedNow setup history m.asid m
 
 -- the turn makes the mapping stale
-pub record BecomesStale (C : Setup) (turn : Turn) (H : History) (h : ℕ) (m : Mapping) : Type 0 where
-  pub after : Stale C (turn ∷ H) h m
-  pub before : ¬ Stale C H h m
+pub record BecomesStale (setup : Setup) (turn : Turn) (history : History) (hart : ℕ)
+    (m : Mapping) : Type 0 where
+  pub after : Stale setup (turn ∷ history) hart m
+  pub before : ¬ Stale setup history hart m
 
 -- the reply is a hit
 abbrev pub is_hit : Reply → Bool
 is_hit (reply.Hit pa) = true
 is_hit _ = false
 
--- the turn is an access of h that its TLB answers by this mapping, that of the oldest entry that
--- matches
-pub record Uses (C : Setup) (turn : Turn) (H : History) (h : ℕ) (m : Mapping) : Type 0 where
+-- the turn is an access of the hart that its TLB answers by this mapping, that of the oldest entry
+-- that matches
+pub record Uses (setup : Setup) (turn : Turn) (history : History) (hart : ℕ)
+    (m : Mapping) : Type 0 where
   pub va : ℕ
   pub access : Access
   pub ctx : Ctx
-  pub event : turn.event ≡ Begin h va access ctx
+  pub event : turn.event ≡ Begin hart va access ctx
   pub hit : is_hit turn.reply ≡ true
   pub entry : Entry
-  pub first : first_match (entries_of C H h) (asid_of C H (space_of H h)) va ≡ Some entry
+  pub first : first_match (entries_of setup history hart)
+      (asid_of setup history (space_of history hart)) va ≡ Some entry
   pub is : IsMappingOf entry m
   pub page : m.page ≡ page_number va
 
 -- the turn uses a mapping that is stale at that moment
-pub record UsesStale (C : Setup) (turn : Turn) (H : History) (h : ℕ) (m : Mapping) : Type 0 where
-  pub uses : Uses C turn H h m
-  pub stale : Stale C H h m
+pub record UsesStale (setup : Setup) (turn : Turn) (history : History) (hart : ℕ)
+    (m : Mapping) : Type 0 where
+  pub uses : Uses setup turn history hart m
+  pub stale : Stale setup history hart m
 
 -- the turn of an unmapping that opens an order under a ticket
 abbrev pub unmapping : ℕ → Place → Span → ℕ → ℕ → Turn

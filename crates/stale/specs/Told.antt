@@ -23,14 +23,14 @@ use Rattle.stale.specs.UseRuns.{due_turn, history_at, UsedAt}
 
 -- an item tells that this mapping of a hart becomes stale: it is one of the entry, in the page
 abbrev pub TellsBecoming : StaleItem → ℕ → Mapping → Type 0
-TellsBecoming (Became became) h m =
-    (h ≡ became.hart) × IsMappingOf became.entry m × LiesIn became.page m.page
-TellsBecoming (Used use_) h m = ⊥
+TellsBecoming (Became became) hart m =
+    (hart ≡ became.hart) × IsMappingOf became.entry m × LiesIn became.page m.page
+TellsBecoming (Used use_) hart m = ⊥
 
 -- or that the hart uses it
 abbrev pub TellsUse : StaleItem → ℕ → Mapping → Type 0
-TellsUse (Became became) h m = ⊥
-TellsUse (Used use_) h m = Tells (Some use_) h m
+TellsUse (Became became) hart m = ⊥
+TellsUse (Used use_) hart m = Tells (Some use_) hart m
 
 -- or that a hart opened an order under a ticket
 abbrev pub TellsOrder : StaleItem → ℕ → ℕ → Type 0
@@ -44,24 +44,24 @@ pub record IsAmong (items : List StaleAt) (n : ℕ) (T : StaleItem → Type 0) :
   pub step : told.step ≡ n
   pub tells : T told.item
 
--- the items tell that the mapping of h becomes stale by event n; that h uses it there; and that
--- event n, of this hart, opened an order under this ticket
+-- the items tell that the mapping of the hart becomes stale by event n; that the hart uses it
+-- there; and that event n, of this hart, opened an order under this ticket
 abbrev pub IsToldBecoming : List StaleAt → ℕ → ℕ → Mapping → Type 0
-IsToldBecoming items n h m = IsAmong items n (λ item. TellsBecoming item h m)
+IsToldBecoming items n hart m = IsAmong items n (λ item. TellsBecoming item hart m)
 
 abbrev pub IsToldUse : List StaleAt → ℕ → ℕ → Mapping → Type 0
-IsToldUse items n h m = IsAmong items n (λ item. TellsUse item h m)
+IsToldUse items n hart m = IsAmong items n (λ item. TellsUse item hart m)
 
 abbrev pub IsToldOrder : List StaleAt → ℕ → ℕ → ℕ → Type 0
 IsToldOrder items n home ticket = IsAmong items n (λ item. TellsOrder item home ticket)
 
--- event n, from 0 on, makes the mapping of h stale
-pub record BecomesAt (C : Setup) (H : History) (events : List Event) (n h : ℕ)
+-- event n, from 0 on, makes the mapping of the hart stale
+pub record BecomesAt (setup : Setup) (history : History) (events : List Event) (n hart : ℕ)
     (m : Mapping) : Type 0 where
   pub event : Event
   pub is : slice_get events n ≡ Some event
-  pub becomes : BecomesStale C (due_turn C (history_at C H events n) event)
-      (history_at C H events n) h m
+  pub becomes : BecomesStale setup (due_turn setup (history_at setup history events n) event)
+      (history_at setup history events n) hart m
 
 -- the turn is an unmapping or a change of flags, and opens an order
 abbrev pub is_edit : Event → Reply → Bool
@@ -77,23 +77,25 @@ IsEditOf home _ = ⊥
 
 -- event n, from 0 on, is an unmapping or a change of flags by this hart, and opens an order under
 -- this ticket
-pub record OpensAt (C : Setup) (H : History) (events : List Event)
+pub record OpensAt (setup : Setup) (history : History) (events : List Event)
     (n home ticket : ℕ) : Type 0 where
   pub event : Event
   pub is : slice_get events n ≡ Some event
   pub edit : IsEditOf home event
-  pub opened : opened_ticket (due C (history_at C H events n) event) ≡ Some ticket
+  pub opened : opened_ticket (due setup (history_at setup history events n) event) ≡ Some ticket
 
 -- the same by the number of the step, from 1 on
 abbrev pub BecomesBy : Setup → History → List Event → ℕ → ℕ → Mapping → Type 0
-BecomesBy C H events number h m = (n : ℕ) × (number ≡ n + 1) × BecomesAt C H events n h m
+BecomesBy setup history events number hart m =
+    (n : ℕ) × (number ≡ n + 1) × BecomesAt setup history events n hart m
 
 abbrev pub UsedBy : Setup → History → List Event → ℕ → ℕ → Mapping → Type 0
-UsedBy C H events number h m = (n : ℕ) × (number ≡ n + 1) × UsedAt C H events n h m
+UsedBy setup history events number hart m =
+    (n : ℕ) × (number ≡ n + 1) × UsedAt setup history events n hart m
 
 abbrev pub OpensBy : Setup → History → List Event → ℕ → ℕ → ℕ → Type 0
-OpensBy C H events number home ticket =
-    (n : ℕ) × (number ≡ n + 1) × OpensAt C H events n home ticket
+OpensBy setup history events number home ticket =
+    (n : ℕ) × (number ≡ n + 1) × OpensAt setup history events n home ticket
 
 -- what is told of an entry that holds the leaf that was changed
 abbrev pub became_of : Opening → ℕ → Entry → StaleAt

@@ -12,24 +12,26 @@ use Rattle.stale.specs.Uses.{Tells}
 
 -- the history after the first n events, each answered as is due
 abbrev pub history_at : Setup → History → List Event → ℕ → History
-history_at C H events zero = H
-history_at C H [] (suc n) = H
-history_at C H (event ∷ events) (suc n) = history_at C (with_turn event (due C H event) H) events n
+history_at setup history events zero = history
+history_at setup history [] (suc n) = history
+history_at setup history (event ∷ events) (suc n) =
+    history_at setup (with_turn event (due setup history event) history) events n
 
 -- an event with the reply that is due
 abbrev pub due_turn : Setup → History → Event → Turn
-due_turn C H event = record { event = event; reply = due C H event }
+due_turn setup history event = record { event = event; reply = due setup history event }
 
--- event n, from 0 on, uses this stale mapping of h
-pub record UsedAt (C : Setup) (H : History) (events : List Event) (n h : ℕ)
+-- event n, from 0 on, uses this stale mapping of the hart
+pub record UsedAt (setup : Setup) (history : History) (events : List Event) (n hart : ℕ)
     (m : Mapping) : Type 0 where
   pub event : Event
   pub is : slice_get events n ≡ Some event
-  pub uses : UsesStale C (due_turn C (history_at C H events n) event) (history_at C H events n) h m
+  pub uses : UsesStale setup (due_turn setup (history_at setup history events n) event)
+      (history_at setup history events n) hart m
 
 -- it is told
-pub record IsTold (uses : List UseAt) (n h : ℕ) (m : Mapping) : Type 0 where
+pub record IsTold (uses : List UseAt) (n hart : ℕ) (m : Mapping) : Type 0 where
   pub told : UseAt
   pub among : Contains uses told
   pub step : told.step ≡ n
-  pub tells : Tells (Some told.used) h m
+  pub tells : Tells (Some told.used) hart m

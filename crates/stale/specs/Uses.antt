@@ -7,5 +7,5 @@ use Rattle.stale.specs.Mapped.{mapping_of}
 
 -- what is told is that this hart uses this mapping
 abbrev pub Tells : Option StaleUse → ℕ → Mapping → Type 0
-Tells None h m = ⊥
-Tells (Some use_) h m = (h ≡ use_.hart) × (m ≡ mapping_of use_.entry (page_number use_.va))
+Tells None hart m = ⊥
+Tells (Some use_) hart m = (hart ≡ use_.hart) × (m ≡ mapping_of use_.entry (page_number use_.va))

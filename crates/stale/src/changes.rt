@@ -3,7 +3,7 @@
 ghost use Rattle.std.specs.Prelude.{ℕ, true, false, ◌≡◌, ◌<◌, ◌^◌, ◌↔◌, ◌∷◌, IsTrue, IfSome, IfNone, Some};
 ghost use Rattle.pte.specs.declared.flags.PteFlags.{PteFlags as PteFlagsOf};
 ghost use Rattle.pte.specs.Address.{IsPage};
-ghost use Rattle.pte.specs.Entry.{ppn_bits};
+ghost use Rattle.pte.specs.declared.entry.TheConstants.{PPN_BITS};
 ghost use Rattle.walk.specs.Maps.{page_number};
 ghost use Rattle.spaces.specs.Held.{words_of, spare_of};
 ghost use Rattle.spaces.specs.Layout.{HasPlace};
@@ -62,7 +62,7 @@ pub(crate) fn smaller(page: Page, other: Page) -> Page
 
 /// Whether an entry and a leaf map the page of 4 KiB of this number to one frame.
 fn is_same_frame(change: &Change, entry: &Entry, number: u64) -> bool
-    requires { change.now.ppn < 2 ^ ppn_bits }
+    requires { change.now.ppn < 2 ^ PPN_BITS }
     ensures { IsTrue result ↔ IsSameFrame change.now entry.now number }
 {
     let frame = change.ppn + number % change.page.size().pages();
@@ -78,7 +78,7 @@ fn reach_of(entry: &Entry) -> Option<u16>
 
 /// Whether the mappings of the entry in the page are those of the leaf.
 pub(crate) fn is_held(change: &Change, entry: &Entry) -> bool
-    requires { change.now.ppn < 2 ^ ppn_bits }
+    requires { change.now.ppn < 2 ^ PPN_BITS }
     ensures { IsTrue result ↔ IsHeld change.now entry.now }
 {
     reach_of(entry) == change.reach
@@ -125,7 +125,7 @@ fn reach_in(machine: &Machine, place: Place) -> Option<Option<u16>>
 fn leaf_under(memory: &Memory, edit: &Edit, page: Page) -> Option<(u64, PteFlags)>
     ensures some { IfSome result (λ leaf. IsLeafUnder
         (words_of memory.now) edit.now page leaf.0 leaf.1) }
-    ensures range { IfSome result (λ leaf. leaf.0 < 2 ^ ppn_bits) }
+    ensures range { IfSome result (λ leaf. leaf.0 < 2 ^ PPN_BITS) }
     ensures none { IfNone result ((ppn : ℕ) (flags : PteFlagsOf)
         → ¬ IsLeafUnder (words_of memory.now) edit.now page ppn flags) }
 {
@@ -156,13 +156,12 @@ fn change_in(
 ) -> Option<Change>
     ensures some { IfSome result (λ change. IsChangeOf machine.now hart
         (wish_with place page flags) change) }
-    ensures range { IfSome result (λ change. change.ppn < 2 ^ ppn_bits) }
+    ensures range { IfSome result (λ change. change.ppn < 2 ^ PPN_BITS) }
     ensures page { IfSome result (λ change. IsPage change.page) }
     ensures none { IfNone result ((change : ChangeOf)
         → ¬ IsChangeOf machine.now hart (wish_with place page flags) change) }
 {
-    // A page tells here that it is aligned.
-    let _base = page.base();
+    page.recall();
     let memory = machine.memory();
     let reach = reach_in(machine, place)?;
     let Ok(edit) = edit_due(memory, hart, place, page, flags) else {
@@ -179,13 +178,15 @@ fn change_in(
 
 /// The leaf that an event would change now, if it is accepted.
 pub(crate) fn change_of(machine: &Machine, event: &Event) -> Option<Change>
-    ensures range { IfSome result (λ change. change.ppn < 2 ^ ppn_bits) }
+    ensures range { IfSome result (λ change. change.ppn < 2 ^ PPN_BITS) }
     ensures page { IfSome result (λ change. IsPage change.page) }
     ensures edit { IfSome result (λ _. IsEditOf (home_in event.now) event.now) }
-    ensures changed { (C : Setup) (H : History) (t h : ℕ) (m : Mapping) → Stands C machine.now H
-        → HasPage event.now → opened_ticket (due C H event.now) ≡ Some t
-        → BecomesStale C (due_turn C H event.now) H h m
-        ↔ (IsMappedBy (entries_of C (due_turn C H event.now ∷ H) h) m × IsChanged result m) }
+    ensures changed { (setup : Setup) (history : History) (ticket hart : ℕ) (m : Mapping)
+        → Stands setup machine.now history → HasPage event.now
+        → opened_ticket (due setup history event.now) ≡ Some ticket
+        → BecomesStale setup (due_turn setup history event.now) history hart m
+        ↔ (IsMappedBy (entries_of setup (due_turn setup history event.now ∷ history) hart) m
+        × IsChanged result m) }
 {
     match *event {
         Event::Unmap {

@@ -37,10 +37,11 @@ fn is_hit(reply: &Reply) -> bool
 
 /// What a hit of a hart uses, if that is stale.
 fn use_of(machine: &Machine, hart: u8, va: u64, access: Access, ctx: Ctx) -> Option<StaleUse>
-    ensures { (C : Setup) (H : History) (r : ReplyOf) (h : ℕ) (m : Mapping)
-        → Stands C machine.now (with_turn (Begin hart va access ctx) r H) → is_hit r ≡ true
-        → UsesStale C (record { event = Begin hart va access ctx; reply = r }) H h m
-        ↔ Tells result h m }
+    ensures { (setup : Setup) (history : History) (r : ReplyOf) (holder : ℕ) (m : Mapping)
+        → Stands setup machine.now (with_turn (Begin hart va access ctx) r history)
+        → is_hit r ≡ true
+        → UsesStale setup (record { event = Begin hart va access ctx; reply = r }) history holder m
+        ↔ Tells result holder m }
 {
     let Some(va) = VirtAddr::new_in(machine.memory().scheme(), va) else {
         return None;
@@ -51,8 +52,7 @@ fn use_of(machine: &Machine, hart: u8, va: u64, access: Access, ctx: Ctx) -> Opt
     let Some(entry) = machine.hart(hart).lookup(machine.asid(hart), va) else {
         return None;
     };
-    // A page tells here that it is aligned.
-    let _base = entry.page.base();
+    entry.page.recall();
     if flags_fault(entry.flags, access, ctx).is_some() {
         return None;
     }
@@ -66,9 +66,10 @@ fn use_of(machine: &Machine, hart: u8, va: u64, access: Access, ctx: Ctx) -> Opt
 /// mapping of the oldest entry that matches, if the tables do not map it so. `event` and `reply`
 /// are those of the machine's last step.
 pub fn stale_use(machine: &Machine, event: &Event, reply: &Reply) -> Option<StaleUse>
-    ensures { (C : Setup) (H : History) (h : ℕ) (m : Mapping)
-        → Stands C machine.now (with_turn event.now reply.now H)
-        → UsesStale C (record { event = event.now; reply = reply.now }) H h m ↔ Tells result h m }
+    ensures { (setup : Setup) (history : History) (hart : ℕ) (m : Mapping)
+        → Stands setup machine.now (with_turn event.now reply.now history)
+        → UsesStale setup (record { event = event.now; reply = reply.now }) history hart m
+        ↔ Tells result hart m }
 {
     match *event {
         Event::Begin {

@@ -1,7 +1,6 @@
 //! Whether the tables map now what a TLB entry holds.
 
 ghost use Rattle.std.specs.Prelude.{◌≡◌, ◌<◌, ◌^◌, ◌↔◌, IsTrue, None, length};
-ghost use Rattle.pte.specs.Entry.{ppn_bits};
 ghost use Rattle.walk.specs.Answer.{flags_fault};
 ghost use Rattle.walk.specs.Maps.{page_number};
 ghost use Rattle.history.specs.Setup.{Setup};
@@ -122,8 +121,8 @@ pub fn is_mapped_now(
     ctx: Ctx,
 ) -> bool
     requires answers { flags_fault access ctx entry.now.flags ≡ None }
-    ensures { (C : Setup) (H : History) → Stands C machine.now H → IsTrue result
-        ↔ IsMappedNow C H (reach_of entry.now) (mapping_of entry.now (page_number va)) }
+    ensures { (setup : Setup) (history : History) → Stands setup machine.now history → IsTrue result
+        ↔ IsMappedNow setup history (reach_of entry.now) (mapping_of entry.now (page_number va)) }
 {
     is_mapped(machine, entry, va, access, ctx)
 }

@@ -1,7 +1,7 @@
 //! What becomes stale in a run, and what stale mappings it uses.
 
 ghost use Rattle.std.specs.Prelude.{ℕ, ◌≡◌, ◌<◌, ◌^◌, ◌↔◌, ◌⊎◌, Some, IfSome, OnOk, IfOk, Contains, length};
-ghost use Rattle.pte.specs.Entry.{ppn_bits};
+ghost use Rattle.pte.specs.declared.entry.TheConstants.{PPN_BITS};
 ghost use Rattle.history.specs.Setup.{Setup};
 ghost use Rattle.history.specs.Turns.{History, opened_ticket};
 ghost use Rattle.history.specs.Due.{due};
@@ -36,7 +36,7 @@ fn tell_entry(
     entry: Option<Entry>,
     items: &mut Vec<StaleAt>,
 ) -> Result<(), AllocError>
-    requires { opening.now.change.ppn < 2 ^ ppn_bits }
+    requires { opening.now.change.ppn < 2 ^ PPN_BITS }
     ensures { OnOk result ((item : StaleAtOf) → Contains items.new.items item
         ↔ (Contains items.old.items item ⊎ IsOfEntry opening.now hart entry item)) }
 {
@@ -66,7 +66,7 @@ fn tell_tlb(
     tlb: &Tlb,
     items: &mut Vec<StaleAt>,
 ) -> Result<(), AllocError>
-    requires { opening.now.change.ppn < 2 ^ ppn_bits }
+    requires { opening.now.change.ppn < 2 ^ PPN_BITS }
     ensures { OnOk result ((item : StaleAtOf) → Contains items.new.items item
         ↔ (Contains items.old.items item ⊎ IsOfEntries opening.now hart tlb.now.entries
         (length tlb.now.entries) item)) }
@@ -83,7 +83,7 @@ fn tell_tlbs(
     opening: &Opening,
     items: &mut Vec<StaleAt>,
 ) -> Result<(), AllocError>
-    requires { opening.now.change.ppn < 2 ^ ppn_bits }
+    requires { opening.now.change.ppn < 2 ^ PPN_BITS }
     ensures { OnOk result ((item : StaleAtOf) → Contains items.new.items item
         ↔ (Contains items.old.items item ⊎ IsOfHarts machine.now opening.now
         (length machine.now.harts) item)) }
@@ -114,7 +114,7 @@ fn tell_change(
     step: usize,
     items: &mut Vec<StaleAt>,
 ) -> Result<(), AllocError>
-    requires { IfSome change (λ change. change.ppn < 2 ^ ppn_bits) }
+    requires { IfSome change (λ change. change.ppn < 2 ^ PPN_BITS) }
     ensures { OnOk result ((item : StaleAtOf) → Contains items.new.items item
         ↔ (Contains items.old.items item ⊎ IsOfChange machine.now change home step
         (opened_ticket reply.now) item)) }
@@ -158,24 +158,24 @@ pub fn step_stale(
     step: usize,
     items: &mut Vec<StaleAt>,
 ) -> Result<Reply, AllocError>
-    ensures stands { (C : Setup) (H : History) → Stands C machine.old H
-        → Stands C machine.new (with_turn event (due C H event) H) }
-    ensures reply { IfOk result (λ reply. (C : Setup) (H : History) → Stands C machine.old H → reply
-        ≡ due C H event) }
-    ensures became { OnOk result ((C : Setup) (H : History) (n h : ℕ) (m : Mapping)
-        → Stands C machine.old H
-        → IsToldBecoming items.new.items n h m
-        ↔ (IsToldBecoming items.old.items n h m
-        ⊎ ((n ≡ step) × BecomesStale C (due_turn C H event) H h m))) }
-    ensures used { OnOk result ((C : Setup) (H : History) (n h : ℕ) (m : Mapping)
-        → Stands C machine.old H
-        → IsToldUse items.new.items n h m
-        ↔ (IsToldUse items.old.items n h m
-        ⊎ ((n ≡ step) × UsesStale C (due_turn C H event) H h m))) }
-    ensures orders { OnOk result ((C : Setup) (H : History) (n home ticket : ℕ)
-        → Stands C machine.old H → IsToldOrder items.new.items n home ticket
-        → IsToldOrder items.old.items n home ticket
-        ⊎ ((n ≡ step) × IsEditOf home event × (opened_ticket (due C H event) ≡ Some ticket))) }
+    ensures stands { (setup : Setup) (history : History) → Stands setup machine.old history
+        → Stands setup machine.new (with_turn event (due setup history event) history) }
+    ensures reply { IfOk result (λ reply. (setup : Setup) (history : History)
+        → Stands setup machine.old history → reply ≡ due setup history event) }
+    ensures became { OnOk result ((setup : Setup) (history : History) (n hart : ℕ) (m : Mapping)
+        → Stands setup machine.old history
+        → IsToldBecoming items.new.items n hart m
+        ↔ (IsToldBecoming items.old.items n hart m
+        ⊎ ((n ≡ step) × BecomesStale setup (due_turn setup history event) history hart m))) }
+    ensures used { OnOk result ((setup : Setup) (history : History) (n hart : ℕ) (m : Mapping)
+        → Stands setup machine.old history
+        → IsToldUse items.new.items n hart m
+        ↔ (IsToldUse items.old.items n hart m
+        ⊎ ((n ≡ step) × UsesStale setup (due_turn setup history event) history hart m))) }
+    ensures orders { OnOk result ((setup : Setup) (history : History) (n home ticket : ℕ)
+        → Stands setup machine.old history → IsToldOrder items.new.items n home ticket
+        → IsToldOrder items.old.items n home ticket ⊎ ((n ≡ step) × IsEditOf home event
+        × (opened_ticket (due setup history event) ≡ Some ticket))) }
 {
     let change = change_of(machine, &event);
     let reply = machine.step(event);
@@ -192,15 +192,17 @@ pub fn stale_report(
     machine: &mut Machine,
     events: &[Event],
 ) -> Result<Vec<StaleAt>, AllocError>
-    ensures became { IfOk result (λ items. (C : Setup) (H : History) (number h : ℕ) (m : Mapping)
-        → Stands C machine.old H
-        → BecomesBy C H events.now number h m ↔ IsToldBecoming items.items number h m) }
-    ensures used { IfOk result (λ items. (C : Setup) (H : History) (number h : ℕ) (m : Mapping)
-        → Stands C machine.old H
-        → UsedBy C H events.now number h m ↔ IsToldUse items.items number h m) }
-    ensures orders { IfOk result (λ items. (C : Setup) (H : History) (number home ticket : ℕ)
-        → Stands C machine.old H
-        → IsToldOrder items.items number home ticket → OpensBy C H events.now number home ticket) }
+    ensures became { IfOk result (λ items. (setup : Setup) (history : History) (number hart : ℕ)
+        (m : Mapping) → Stands setup machine.old history
+        → BecomesBy setup history events.now number hart m
+        ↔ IsToldBecoming items.items number hart m) }
+    ensures used { IfOk result (λ items. (setup : Setup) (history : History) (number hart : ℕ)
+        (m : Mapping) → Stands setup machine.old history
+        → UsedBy setup history events.now number hart m ↔ IsToldUse items.items number hart m) }
+    ensures orders { IfOk result (λ items. (setup : Setup) (history : History)
+        (number home ticket : ℕ) → Stands setup machine.old history
+        → IsToldOrder items.items number home ticket
+        → OpensBy setup history events.now number home ticket) }
 {
     let mut items = Vec::new(alloc);
     let mut step = 0;

@@ -26,10 +26,11 @@ pub struct UseAt {
 
 /// Does one event, and tells what it uses that is stale.
 fn step_use(machine: &mut Machine, event: Event) -> Option<StaleUse>
-    ensures stands { (C : Setup) (H : History) → Stands C machine.old H
-        → Stands C machine.new (with_turn event (due C H event) H) }
-    ensures used { (C : Setup) (H : History) (h : ℕ) (m : Mapping) → Stands C machine.old H
-        → UsesStale C (due_turn C H event) H h m ↔ Tells result h m }
+    ensures stands { (setup : Setup) (history : History) → Stands setup machine.old history
+        → Stands setup machine.new (with_turn event (due setup history event) history) }
+    ensures used { (setup : Setup) (history : History) (hart : ℕ) (m : Mapping)
+        → Stands setup machine.old history
+        → UsesStale setup (due_turn setup history event) history hart m ↔ Tells result hart m }
 {
     let reply = machine.step(event);
     stale_use(machine, &event, &reply)
@@ -42,8 +43,9 @@ pub fn stale_uses(
     machine: &mut Machine,
     events: &[Event],
 ) -> Result<Vec<UseAt>, AllocError>
-    ensures { IfOk result (λ uses. (C : Setup) (H : History) (n h : ℕ) (m : Mapping)
-        → Stands C machine.old H → UsedAt C H events.now n h m ↔ IsTold uses.items n h m) }
+    ensures { IfOk result (λ uses. (setup : Setup) (history : History) (n hart : ℕ) (m : Mapping)
+        → Stands setup machine.old history → UsedAt setup history events.now n hart m
+        ↔ IsTold uses.items n hart m) }
 {
     let mut uses = Vec::new(alloc);
     let mut step = 0;

@@ -11,7 +11,8 @@ use Rattle.spaces.specs.Held.{words_of, holders_of}
 use Rattle.spaces.specs.declared.configuration.Space.{Space}
 use Rattle.stepcore.specs.declared.space_state.SpaceState.{SpaceState}
 use Rattle.spaces.specs.Layout.{layout_of}
-use Rattle.spaces.specs.Limits.{MeetsLimits, max_frames}
+use Rattle.spaces.specs.Limits.{MeetsLimits}
+use Rattle.spaces.specs.declared.configuration.TheConstants.{MAX_FRAMES}
 use Rattle.spaces.specs.Opening.{opening}
 use Rattle.shoot.specs.Mailbox.{empty_mailbox}
 use Rattle.shoot.specs.Tickets.{no_tickets}
@@ -23,7 +24,7 @@ use Rattle.stepcore.specs.Stands.{bare, SpaceStands, Stands}
 
 -- what an opened machine has
 pub record IsOpened (c : Config) (m : State) : Type 0 where
-  pub meets : MeetsLimits max_frames c
+  pub meets : MeetsLimits MAX_FRAMES c
   pub layout : m.memory.layout ≡ layout_of c
   pub words : (ppn i : ℕ) → words_of m.memory ppn i ≡ opening (layout_of c) ppn i
   pub holders : (ppn : ℕ) → holders_of m.memory ppn ≡ None

@@ -18,7 +18,6 @@ ghost use Rattle.stepcore.specs.Changes.{Answers, event_of, is_accepted, is_chan
 
 use crate::conditions::refuse;
 use crate::machine::Machine;
-use crate::prover::recall_page;
 use history::{Refusal, Reply, Scope};
 use pte::{Kind, Page, Pte, PteFlags, What};
 use shoot::TicketFault;
@@ -101,7 +100,7 @@ impl Machine {
     ) -> Result<Reply, Refusal>
         ensures { Answers self.old (Map hart place page ppn flags) result self.new }
     {
-        recall_page(page);
+        page.recall();
         self.needs_hart(hart)?;
         let wish = Wish::Map {
             place,
@@ -152,7 +151,7 @@ impl Machine {
         ensures { Answers self.old (event_of hart wish.now named) result self.new }
     {
         let page = wish.page();
-        recall_page(page);
+        page.recall();
         self.needs_harts(hart, named)?;
         let edit = self.due_edit(hart, wish)?;
         let what = self.page_request(wish.place(), page);

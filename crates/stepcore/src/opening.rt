@@ -5,9 +5,10 @@ ghost use Rattle.std.specs.List.{range_with_len};
 ghost use Rattle.shoot.specs.Mailbox.{empty_mailbox};
 ghost use Rattle.shoot.specs.Tickets.{no_tickets};
 ghost use Rattle.pte.specs.declared.TheConstants.{MAX_CAPACITY, MAX_HARTS};
-ghost use Rattle.spaces.specs.Limits.{MeetsLimits, max_frames};
+ghost use Rattle.spaces.specs.Limits.{MeetsLimits};
+ghost use Rattle.spaces.specs.declared.configuration.TheConstants.{MAX_FRAMES};
 ghost use Rattle.spaces.specs.declared.faults.OpenFault.TheVariants as fault;
-ghost use Rattle.tlb.specs.Fence.{asid_bits};
+ghost use Rattle.pte.specs.declared.TheConstants.{ASID_BITS};
 ghost use Rattle.history.specs.Setup.{setup_of};
 ghost use Rattle.stepcore.specs.State.{live_space, new_hart};
 ghost use Rattle.stepcore.specs.Stands.{Stands};
@@ -25,7 +26,7 @@ use std::alloc::{AllocError, Global};
 /// The ASID of a space.
 fn asid_of(space: &Space) -> u16
     ensures value { result ≡ space.now.asid }
-    ensures bits { space.now.asid < 2 ^ asid_bits }
+    ensures bits { space.now.asid < 2 ^ ASID_BITS }
 {
     space.asid
 }
@@ -34,7 +35,7 @@ fn asid_of(space: &Space) -> u16
 fn live_spaces(spaces: &[Space]) -> ArrayVec<SpaceState, MAX_SPACES>
     requires { length spaces.now ≤ MAX_SPACES }
     ensures spaces { result.items ≡ map (λ s. live_space s.asid) spaces.now }
-    ensures bits { All (λ s. s.asid < 2 ^ asid_bits) spaces.now }
+    ensures bits { All (λ s. s.asid < 2 ^ ASID_BITS) spaces.now }
 {
     let mut states = ArrayVec::new();
     for space in spaces {
@@ -91,8 +92,8 @@ impl Machine {
     /// `BadLayout` exactly if `Config::check` says no, `NoMemory` if the room cannot be allocated.
     pub fn open(alloc: Global, config: &Config) -> Result<Machine, OpenFault>
         ensures bad_layout { (result ≡ Err fault.BadLayout)
-            ↔ (¬ MeetsLimits max_frames config.now) }
-        ensures limits { OnOk result (MeetsLimits max_frames config.now) }
+            ↔ (¬ MeetsLimits MAX_FRAMES config.now) }
+        ensures limits { OnOk result (MeetsLimits MAX_FRAMES config.now) }
         ensures ok { IfOk result (λ machine. Stands (setup_of config.now) machine []) }
     {
         let memory = Memory::open(alloc, config)?;

@@ -1,19 +1,8 @@
-//! Acts for the prover alone: each recalls what every value of a type keeps, and does nothing when
-//! it runs.
+//! An act for the prover alone: it recalls what every machine keeps, and does nothing when it runs.
 
-ghost use Rattle.pte.specs.Address.{IsPage};
 ghost use Rattle.stepcore.specs.State.{IsMachine};
 
 use crate::machine::Machine;
-use pte::Page;
-
-/// Recalls that the base of a page is canonical and a multiple of its size.
-#[inline(always)]
-pub(crate) fn recall_page(page: Page)
-    ensures { IsPage page }
-{
-    let _base = page.base();
-}
 
 impl Machine {
     /// Recalls what every machine keeps.

@@ -10,7 +10,8 @@ use Rattle.pte.specs.declared.address.What.TheVariants.{PageOf}
 use Rattle.pte.specs.Address.{Span, Holds}
 use Rattle.tlb.specs.declared.store.Entry.{Entry}
 use Rattle.tlb.specs.Entries.{filled, holds, is_match}
-use Rattle.tlb.specs.Fence.{asid_bits, fenced, is_fenced}
+use Rattle.tlb.specs.Fence.{fenced, is_fenced}
+use Rattle.pte.specs.declared.TheConstants.{ASID_BITS}
 use Rattle.tlb.specs.Mappings.{Mapping, IsMappingOf, IsMappedBy, Translates, maps_into}
 use Rattle.tlb.specs.Service.{is_served, overlaps, served}
 use Rattle.tlb.proofs.Keeping.{Contains-filter, Contains-filled, served_are_gone, AllPass-served}
@@ -55,12 +56,12 @@ pub served_global_page : (entries : List Entry) (page : Span) → AllPass (λ e.
 served_global_page entries page = served_are_gone entries (PageOf page None)
 
 -- what is neither global in the page, nor dropped by the service of the page of an ASID, does not map into it for that ASID
-not_mapped : (over global : Bool) (own asid : ℕ) → asid < 2 ^ asid_bits → IsTrue (not (global && over)) → IsTrue (not (over && (not global && (own == asid % 2 ^ asid_bits)))) → IsTrue (not (over && (global || (own == asid))))
+not_mapped : (over global : Bool) (own asid : ℕ) → asid < 2 ^ ASID_BITS → IsTrue (not (global && over)) → IsTrue (not (over && (not global && (own == asid % 2 ^ ASID_BITS)))) → IsTrue (not (over && (global || (own == asid))))
 not_mapped false global own asid small a b = refl
 not_mapped true true own asid small a b = absurd (true≢false (sym a))
-not_mapped true false own asid small a b = let same : asid % 2 ^ asid_bits ≡ asid = omega arith in ap (λ n. not (own == n)) (sym same) ∙ b
+not_mapped true false own asid small a b = let same : asid % 2 ^ ASID_BITS ≡ asid = omega arith in ap (λ n. not (own == n)) (sym same) ∙ b
 
-pub served_space_page : (entries : List Entry) (page : Span) (asid : ℕ) → asid < 2 ^ asid_bits → AllPass (λ e. not (e.global && overlaps page e.page)) entries → AllPass (λ e. not (maps_into page (Some asid) e)) (served entries (PageOf page (Some asid)))
+pub served_space_page : (entries : List Entry) (page : Span) (asid : ℕ) → asid < 2 ^ ASID_BITS → AllPass (λ e. not (e.global && overlaps page e.page)) entries → AllPass (λ e. not (maps_into page (Some asid) e)) (served entries (PageOf page (Some asid)))
 served_space_page entries page asid small all k d below =
     let e : Entry = slice_index_or (served entries (PageOf page (Some asid))) k d in
     not_mapped (overlaps page e.page) e.global e.asid asid small

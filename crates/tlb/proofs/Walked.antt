@@ -7,7 +7,7 @@ use Rattle.pte.specs.declared.address.PageSize.TheVariants.{Kib4, Mib2, Gib1, Gi
 use Rattle.pte.specs.declared.permission.Access.{Access}
 use Rattle.pte.specs.declared.permission.Ctx.{Ctx}
 use Rattle.pte.specs.Address.{IsCanonical, IsPageOf, Holds, Span, bytes_of, level_of, pages_of, page_around, top_level}
-use Rattle.pte.specs.Entry.{ppn_bits}
+use Rattle.pte.specs.declared.entry.TheConstants.{PPN_BITS}
 use Rattle.pte.specs.declared.flags.PteFlags.{PteFlags}
 use Rattle.walk.specs.declared.found_or_trap.Found.{Found}
 use Rattle.walk.specs.declared.found_or_trap.Trap.{Trap}
@@ -90,13 +90,13 @@ found_or_fault None access found = refl
 found_or_fault (Some why) access found = refl
 
 pub hit_is_outcome : (scheme : Scheme) (words : Tables) (root va : ℕ) (access : Access) (ctx : Ctx) (answer : Result Found Trap) (e : Entry) (m : Mapping) → (global : Bool)
-    → e.ppn < 2 ^ ppn_bits → IsMappingOf e m → m.page ≡ page_number va → Maps scheme words root m.page m.ppn m.flags global → Outcome scheme words root va access ctx answer
+    → e.ppn < 2 ^ PPN_BITS → IsMappingOf e m → m.page ≡ page_number va → Maps scheme words root m.page m.ppn m.flags global → Outcome scheme words root va access ctx answer
     → answer_of e va access ctx ≡ address_found answer
 hit_is_outcome scheme words root va access ctx answer e m global ppn of page maps out =
     let here : Maps scheme words root (page_number va) m.ppn m.flags global = subst (λ n. Maps scheme words root n m.ppn m.flags global) page maps in
     let found = mapped_answer scheme words root va m.ppn access ctx m.flags global here in
     let same : answer ≡ found_unless (flags_fault access ctx m.flags) access found.0 = outcome_unique scheme words root va access ctx answer _ out found.1 in
-    let cut : e.ppn % 2 ^ ppn_bits ≡ e.ppn = omega arith in
+    let cut : e.ppn % 2 ^ PPN_BITS ≡ e.ppn = omega arith in
     let pa : address_of e va ≡ found.0.pa =
     ap (λ n. n * bytes_of Kib4 + va % bytes_of e.page.size) cut ∙ place e.page.size e.ppn va
     ∙ ap (λ n. (e.ppn + n % pages_of e.page.size) * bytes_of Kib4 + va % bytes_of Kib4) (sym page)

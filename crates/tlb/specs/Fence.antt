@@ -9,10 +9,6 @@ use Rattle.pte.specs.declared.TheConstants.{ASID_BITS}
 use Rattle.pte.specs.Address.{holds, is_canonical}
 use Rattle.tlb.specs.declared.store.Entry.{Entry}
 
--- how many bits an ASID has
-abbrev pub asid_bits : ℕ
-asid_bits = ASID_BITS
-
 -- rs1 is canonical, and the entry holds a leaf for that address
 abbrev pub is_of_address : Scheme → ℕ → Entry → Bool
 is_of_address scheme rs1 e = is_canonical scheme rs1 && holds e.page rs1

@@ -13,7 +13,7 @@ ghost use Rattle.tlb.specs.Mappings.{IsMappedBy, Translates};
 ghost use Rattle.tlb.specs.Service.{is_served, served, Served};
 
 use crate::banks::Banks;
-use pte::{ASID_BITS, Access, Ctx, PAGE_BYTES, PPN_BITS, Page, PteFlags, Scheme, VirtAddr, What};
+use pte::{ASID_BITS, Access, Ctx, PAGE_BYTES, PPN_LIMIT, Page, PteFlags, Scheme, VirtAddr, What};
 use std::marker::Model;
 use walk::{Found, Trap, flags_fault};
 
@@ -62,7 +62,7 @@ impl Entry {
         if let Some(why) = flags_fault(self.flags, access, ctx) {
             return Err(Trap::page(access, why));
         }
-        Ok(self.ppn % (1 << PPN_BITS) * PAGE_BYTES + va.get() % self.page.size().bytes())
+        Ok(self.ppn % PPN_LIMIT * PAGE_BYTES + va.get() % self.page.size().bytes())
     }
 }
 
@@ -223,7 +223,7 @@ impl Tlb {
     pub fn fill(&mut self, entry: Entry)
         ensures { self.new ≡ record self.old { entries = filled self.old.entries entry } }
     {
-        entry.page.invariant();
+        entry.page.recall();
         self.banks.add(entry);
     }
 
@@ -259,7 +259,7 @@ impl Tlb {
         ensures meaning { IsRequest self.old.scheme (What.PageOf page.now asid)
             → Served self.old.scheme self.old.entries (What.PageOf page.now asid) self.new.entries }
     {
-        page.invariant();
+        page.recall();
         drop_served(&mut self.banks, page, asid);
     }
 }

@@ -18,7 +18,8 @@ use Rattle.spaces.specs.declared.places.Place.{Place}
 use Rattle.spaces.specs.declared.places.Place.TheVariants.{Space, Kernel}
 use Rattle.spaces.specs.Layout.{Layout, layout_of}
 use Rattle.spaces.specs.Held.{Held, IsLayout}
-use Rattle.spaces.specs.Limits.{MeetsLimits, max_live_frames}
+use Rattle.spaces.specs.Limits.{MeetsLimits}
+use Rattle.spaces.specs.declared.configuration.TheConstants.{MAX_LIVE_FRAMES}
 use Rattle.spaces.specs.Edits.{is_wrong_half}
 use Rattle.tlb.specs.declared.store.Entry.{Entry}
 use Rattle.tlb.specs.Mappings.{maps_into}
@@ -28,7 +29,8 @@ use Rattle.tlb.proofs.Mapped.{served_global_page, served_space_page}
 use Rattle.views.specs.declared.view.Cause.TheVariants.{Unmapped, Other}
 use Rattle.views.specs.declared.view.Order.{Order}
 use Rattle.views.specs.declared.view.View.{View}
-use Rattle.views.specs.Rule.{board_size, cell, memory_of, size, tickets, Seated, Tabled}
+use Rattle.views.specs.Rule.{board_size, cell, memory_of, size, Seated, Tabled}
+use Rattle.shoot.specs.declared.TheConstants.{MAX_TICKETS}
 use Rattle.shoot.specs.Acknowledgement.{IsAskable, acknowledgement}
 use Rattle.shoot.proofs.AcknowledgementWords.{not_zero}
 use Rattle.views.specs.Orders.{asid_for, asid_in, asked, dropping, is_in, IsLive, Misses, IsClean, Kept, IsGlobalInWindow, Ordered}
@@ -55,7 +57,7 @@ beyond-tables c ws homes views i x past b = record {
 }
 
 -- a cell is a word of the table
-pub cell-inside : (l : Layout) (s t h : ℕ) → s < length l.spares → t < tickets → h < length l.spares → cell l s t h < board_size l
+pub cell-inside : (l : Layout) (s t h : ℕ) → s < length l.spares → t < MAX_TICKETS → h < length l.spares → cell l s t h < board_size l
 cell-inside l s t h a b d =
     let one : suc s * length l.spares ≤ length l.spares * length l.spares = mul-le-mul_right (length l.spares) a in
     omega (arith, one, b, d, suc-mul s (length l.spares))
@@ -80,7 +82,7 @@ some-one a d o e e' = let same : Some a ≡ Some d = sym e ∙ e' in cc
 
 module _ (c : Config) (id : ℕ) (v : View) where
   -- arming: the sender stores 0
-  module _ (ticket to : ℕ) (small-ticket : ticket < tickets) (small : to < length (layout_of c).spares) (s : State ℕ View) (b : Tabled c s) (o : Ordered c s) (at : get_elem? s.views id ≡ some v) where
+  module _ (ticket to : ℕ) (small-ticket : ticket < MAX_TICKETS) (small : to < length (layout_of c).spares) (s : State ℕ View) (b : Tabled c s) (o : Ordered c s) (at : get_elem? s.views id ≡ some v) where
     abbrev armed-cell : ℕ
     armed-cell = cell (layout_of c) v.hart ticket to
 
@@ -93,7 +95,7 @@ module _ (c : Config) (id : ℕ) (v : View) where
     armed-there : armed-cell < length s.words
     armed-there = let t = b.each id v at in let i = cell-inside (layout_of c) v.hart ticket to t.local.hart small-ticket small in omega (arith, b.wide, i)
 
-    armed-cells : (a t h : ℕ) → t < tickets → h < length (layout_of c).spares → Change c v.hart h (slice_index s.words (cell (layout_of c) a t h)) (slice_index armed-words (cell (layout_of c) a t h)) v.entries
+    armed-cells : (a t h : ℕ) → t < MAX_TICKETS → h < length (layout_of c).spares → Change c v.hart h (slice_index s.words (cell (layout_of c) a t h)) (slice_index armed-words (cell (layout_of c) a t h)) v.entries
     armed-cells a t h few less = dite (ℕ_discrete (cell (layout_of c) a t h) armed-cell)
         (λ (e : cell (layout_of c) a t h ≡ armed-cell). clears (ap (λ n. slice_index armed-words n) e ∙ get_or-set_same s.words armed-cell 0 0 armed-there))
         (λ (n : cell (layout_of c) a t h ≢ armed-cell). stays (get_or-set_other s.words armed-cell (cell (layout_of c) a t h) 0 0 n))
@@ -105,7 +107,7 @@ module _ (c : Config) (id : ℕ) (v : View) where
       right_half = t.right_half;
       askable = t.askable;
       unmapped = t.unmapped;
-      numbered = λ h is. subst (λ (n : ℕ). n < tickets) (sym same) small-ticket;
+      numbered = λ h is. subst (λ (n : ℕ). n < MAX_TICKETS) (sym same) small-ticket;
       acked = λ h less is now. elim (or_cases (to == h) (is_in h k.armed) is) [
         | inl me ↦
             let zero-there : slice_index armed-words (cell (layout_of c) v.hart k.ticket h) ≡ 0 =
@@ -129,7 +131,7 @@ module _ (c : Config) (id : ℕ) (v : View) where
               subst (λ (z : Order). IsLive z place page → Kept c armed-words armed-views v.hart (memory_of (layout_of c) v) z place page) new.1 (λ l. armed-order r.0 new.0 place page (stood l)) live
         ]) s.homes
 
-  pub arms : (ticket to : ℕ) → ticket < tickets → to < length (layout_of c).spares
+  pub arms : (ticket to : ℕ) → ticket < MAX_TICKETS → to < length (layout_of c).spares
       → Steps c id v (cell (layout_of c) v.hart ticket to) (λ _. 0) (λ _. with_armed ticket to v) (λ _. Unit {0})
   arms ticket to small-ticket small s b at fits =
       let t = b.tables.each id v at in (
@@ -150,7 +152,7 @@ module _ (c : Config) (id : ℕ) (v : View) where
       subst (λ x. Misses page (Some (asid_in c t)) (served entries x)) e (served_space_page entries page (asid_in c t) f.1 (λ k d below. not-global-over (layout_of c) fits t page f.0 half (slice_index_or entries k d) (window k d below)))
 
   -- acknowledging: the receiver stores the word of what it served
-  module _ (from ticket : ℕ) (what : What) (small-from : from < length (layout_of c).spares) (small-ticket : ticket < tickets) (asks : IsAskable what)
+  module _ (from ticket : ℕ) (what : What) (small-from : from < length (layout_of c).spares) (small-ticket : ticket < MAX_TICKETS) (asks : IsAskable what)
       (w : View) (hart : w.hart ≡ v.hart) (memory : memory_of (layout_of c) w ≡ memory_of (layout_of c) v) (entries : w.entries ≡ served v.entries what)
       (s : State ℕ View) (b : Tabled c s) (o : Ordered c s) (at : get_elem? s.views id ≡ some v) where
     abbrev acked-cell : ℕ
@@ -168,7 +170,7 @@ module _ (c : Config) (id : ℕ) (v : View) where
     now-misses : (place : Place) (page : Span) → is_wrong_half (layout_of c) place page ≡ false → dropping c place page ≡ what → Misses page (asid_for c place) w.entries
     now-misses place page half e = subst (λ es. Misses page (asid_for c place) es) (sym entries) (dropped-misses (live-layout c b.limits) v.entries (o.window id v at) what asks place page half e)
 
-    acked-cells : (a t h : ℕ) → t < tickets → h < length (layout_of c).spares → Change c v.hart h (slice_index s.words (cell (layout_of c) a t h)) (slice_index acked-words (cell (layout_of c) a t h)) w.entries
+    acked-cells : (a t h : ℕ) → t < MAX_TICKETS → h < length (layout_of c).spares → Change c v.hart h (slice_index s.words (cell (layout_of c) a t h)) (slice_index acked-words (cell (layout_of c) a t h)) w.entries
     acked-cells a t h few less = dite (ℕ_discrete (cell (layout_of c) a t h) acked-cell)
         (λ (e : cell (layout_of c) a t h ≡ acked-cell).
         acks (receiver (layout_of c) a t h from ticket v.hart few small-ticket less (b.each id v at).local.hart e) what asks (ap (λ n. slice_index acked-words n) e ∙ get_or-set_same s.words acked-cell (acknowledgement what) 0 acked-there) now-misses)
@@ -193,7 +195,7 @@ module _ (c : Config) (id : ℕ) (v : View) where
     mine-clean : (place : Place) (page : Span) → is_wrong_half (layout_of c) place page ≡ false → dropping c place page ≡ what → IsClean acked-views v.hart page (asid_for c place)
     mine-clean place page half e = clean-mine c s b o id v w at hart acked-words fewer acked-cells page (asid_for c place) (now-misses place page half e)
 
-  acknowledges : (from ticket : ℕ) (what : What) → from < length (layout_of c).spares → ticket < tickets → IsAskable what
+  acknowledges : (from ticket : ℕ) (what : What) → from < length (layout_of c).spares → ticket < MAX_TICKETS → IsAskable what
       → Steps c id v (cell (layout_of c) from ticket v.hart) (λ _. acknowledgement what) (λ _. acknowledged from ticket what v) (λ _. Unit {0})
   acknowledges from ticket what small-from small-ticket asks s b at fits =
       let t = b.tables.each id v at in (
@@ -206,7 +208,7 @@ module _ (c : Config) (id : ℕ) (v : View) where
         tt,
       )
 
-  pub acknowledges-by : (from ticket word : ℕ) (what : What) → from < length (layout_of c).spares → ticket < tickets → IsAskable what → word ≡ acknowledgement what
+  pub acknowledges-by : (from ticket word : ℕ) (what : What) → from < length (layout_of c).spares → ticket < MAX_TICKETS → IsAskable what → word ≡ acknowledgement what
       → Steps c id v (cell (layout_of c) from ticket v.hart) (λ _. word) (λ _. acknowledged from ticket what v) (λ _. Unit {0})
   acknowledges-by from ticket word what small-from small-ticket asks is =
       subst (λ (x : ℕ). Steps c id v (cell (layout_of c) from ticket v.hart) (λ _. x) (λ _. acknowledged from ticket what v) (λ _. Unit {0})) (sym is) (acknowledges from ticket what small-from small-ticket asks)
@@ -304,7 +306,7 @@ module _ (c : Config) (id : ℕ) (v : View) where
           }
 
   -- the sender's own acknowledgement
-  acknowledges-self : (ticket : ℕ) (what : What) → ticket < tickets → IsAskable what → IsAsking c v ticket what
+  acknowledges-self : (ticket : ℕ) (what : What) → ticket < MAX_TICKETS → IsAskable what → IsAsking c v ticket what
       → Steps c id v (cell (layout_of c) v.hart ticket v.hart) (λ _. acknowledgement what) (λ _. self_acked ticket what v) (λ _. Unit {0})
   acknowledges-self ticket what small-ticket asks asking s b at fits =
       let t = b.tables.each id v at in
@@ -350,13 +352,13 @@ module _ (c : Config) (id : ℕ) (v : View) where
             ];
           }
 
-  pub acknowledges-self-by : (ticket word : ℕ) (what : What) → ticket < tickets → IsAskable what → IsAsking c v ticket what → word ≡ acknowledgement what
+  pub acknowledges-self-by : (ticket word : ℕ) (what : What) → ticket < MAX_TICKETS → IsAskable what → IsAsking c v ticket what → word ≡ acknowledgement what
       → Steps c id v (cell (layout_of c) v.hart ticket v.hart) (λ _. word) (λ _. self_acked ticket what v) (λ _. Unit {0})
   acknowledges-self-by ticket word what small-ticket asks asking is =
       subst (λ (x : ℕ). Steps c id v (cell (layout_of c) v.hart ticket v.hart) (λ _. x) (λ _. self_acked ticket what v) (λ _. Unit {0})) (sym is) (acknowledges-self ticket what small-ticket asks asking)
 
 -- how many words there are at most
-pub small-board : (c : Config) → MeetsLimits max_live_frames c → board_size (layout_of c) < 2 ^ 32
+pub small-board : (c : Config) → MeetsLimits MAX_LIVE_FRAMES c → board_size (layout_of c) < 2 ^ 32
 small-board c limits =
     let harts : length (layout_of c).spares ≤ 8 = omega (arith, limits.spares, limits.harts) in
     let one : length (layout_of c).spares * length (layout_of c).spares ≤ length (layout_of c).spares * 8 = mul-le-mul_left (length (layout_of c).spares) harts in

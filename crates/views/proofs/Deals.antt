@@ -12,14 +12,16 @@ use Rattle.walk.specs.Leads.{Tables}
 use Rattle.walk.specs.Pointers.{pointed}
 use Rattle.spaces.specs.declared.configuration.Config.{Config}
 use Rattle.spaces.specs.Layout.{Layout, layout_of, frame_count, spare_ppn}
-use Rattle.spaces.specs.Limits.{MeetsLimits, max_live_frames}
+use Rattle.spaces.specs.Limits.{MeetsLimits}
+use Rattle.spaces.specs.declared.configuration.TheConstants.{MAX_LIVE_FRAMES}
 use Rattle.spaces.specs.Opening.{first_words, opening}
 use Rattle.spaces.specs.Tree.{IsAtHome}
 use Rattle.spaces.proofs.Opened.{length-first_words, words-open}
 use Rattle.spaces.proofs.OpenedMemory.{holders-open, memory-open, opening-inside}
 use Rattle.spaces.proofs.WordLists.{list-front}
 use Rattle.views.specs.declared.view.View.{View}
-use Rattle.views.specs.Rule.{size, tickets, board_size, board_words, Sits, seated, waits, tables_in, starting, first_view, dealer, dealt, Local, Seated, Tabled}
+use Rattle.views.specs.Rule.{size, board_size, board_words, Sits, seated, waits, tables_in, starting, first_view, dealer, dealt, Local, Seated, Tabled}
+use Rattle.shoot.specs.declared.TheConstants.{MAX_TICKETS}
 use Rattle.views.proofs.Keeps.{below}
 use Rattle.views.proofs.EditKeeps.{live-layout, live-limits}
 
@@ -28,7 +30,7 @@ length-zeros zero = refl
 length-zeros (suc n) = ap suc (length-zeros n)
 
 -- a view that begins has a memory just opened
-pub local-starting : (c : Config) → MeetsLimits max_live_frames c → (hart next : ℕ) → hart < length (layout_of c).spares → Local (layout_of c) (starting c hart next)
+pub local-starting : (c : Config) → MeetsLimits MAX_LIVE_FRAMES c → (hart next : ℕ) → hart < length (layout_of c).spares → Local (layout_of c) (starting c hart next)
 local-starting c limits hart next less = record {
   hart = less;
   memory = memory-open c (live-limits c limits);
@@ -40,7 +42,7 @@ local-starting c limits hart next less = record {
   };
 }
 
-pub harts-are : (c : Config) → MeetsLimits max_live_frames c → 0 < length (layout_of c).spares
+pub harts-are : (c : Config) → MeetsLimits MAX_LIVE_FRAMES c → 0 < length (layout_of c).spares
 harts-are c m = omega (arith, m.spares, m.some_hart)
 
 pub lone : (v u : View) (j : ℕ) → get_elem? (v ∷ []) j ≡ some u → (j ≡ 0) × (v ≡ u)
@@ -54,11 +56,11 @@ sits-first v next hart (suc h) = waits 0 v refl (omega (arith, next)) (omega (ar
 
 pub length-board_words : (l : Layout) → length (board_words l) ≡ board_size l
 length-board_words l =
-    length-append (first_words l (size l)) (replicate (length l.spares * length l.spares * tickets) 0)
-    ∙ (let a = length-first_words l (size l) in let z = length-zeros (length l.spares * length l.spares * tickets) in omega (arith, a, z))
+    length-append (first_words l (size l)) (replicate (length l.spares * length l.spares * MAX_TICKETS) 0)
+    ∙ (let a = length-first_words l (size l) in let z = length-zeros (length l.spares * length l.spares * MAX_TICKETS) in omega (arith, a, z))
 
 -- a hart that has done nothing sits well where its words are as at the opening
-starting-seated : (c : Config) → MeetsLimits max_live_frames c → (words : Tables) (hart next : ℕ) → hart < length (layout_of c).spares
+starting-seated : (c : Config) → MeetsLimits MAX_LIVE_FRAMES c → (words : Tables) (hart next : ℕ) → hart < length (layout_of c).spares
     → ((f i : ℕ) → IsAtHome (layout_of c) hart f → words f i ≡ opening (layout_of c) f i) → Seated c words (starting c hart next)
 starting-seated c limits words hart next less own = record {
   config = refl;
@@ -70,10 +72,10 @@ starting-seated c limits words hart next less own = record {
 -- the tables of the words at the opening
 first-tables : (l : Layout) (f i : ℕ) → tables_in l (board_words l) f i ≡ opening l f i
 first-tables l f i =
-    list-front l (first_words l (size l)) (replicate (length l.spares * length l.spares * tickets) 0) [] (length-first_words l (size l)) f i
+    list-front l (first_words l (size l)) (replicate (length l.spares * length l.spares * MAX_TICKETS) 0) [] (length-first_words l (size l)) f i
     ∙ words-open l [] f i
 
-pub open-keeps : (c : Config) → MeetsLimits max_live_frames c → Tabled c (at_start (board_words (layout_of c)) [] (first_view c))
+pub open-keeps : (c : Config) → MeetsLimits MAX_LIVE_FRAMES c → Tabled c (at_start (board_words (layout_of c)) [] (first_view c))
 open-keeps c limits = record {
   limits = limits;
   wide = omega (arith, length-board_words (layout_of c));

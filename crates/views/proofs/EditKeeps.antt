@@ -14,7 +14,8 @@ use Rattle.spaces.specs.declared.configuration.Config.{Config}
 use Rattle.spaces.specs.declared.places.Place.{Place}
 use Rattle.spaces.specs.declared.wishes.Wish.{Wish}
 use Rattle.spaces.specs.Layout.{Layout, HasPlace, home_of, layout_of, is_frame, spare_ppn}
-use Rattle.spaces.specs.Limits.{MeetsLimits, max_frames, max_live_frames}
+use Rattle.spaces.specs.Limits.{MeetsLimits}
+use Rattle.spaces.specs.declared.configuration.TheConstants.{MAX_FRAMES, MAX_LIVE_FRAMES}
 use Rattle.spaces.specs.Opening.{is_word}
 use Rattle.spaces.specs.Holders.{Holders, unused_spare}
 use Rattle.spaces.specs.Held.{IsDue, IsLayout, holders_of, word_index, words_of}
@@ -35,7 +36,7 @@ use Rattle.views.specs.Edits.{edit_over}
 use Rattle.views.proofs.TableWords.{wide-words, word-stored}
 use Rattle.views.proofs.Keeps.{IsStore, keeps-store, walk-stays}
 
-pub live-limits : (c : Config) → MeetsLimits max_live_frames c → MeetsLimits max_frames c
+pub live-limits : (c : Config) → MeetsLimits MAX_LIVE_FRAMES c → MeetsLimits MAX_FRAMES c
 live-limits c m = record {
   some_hart = m.some_hart;
   harts = m.harts;
@@ -52,7 +53,7 @@ live-limits c m = record {
   capacity = m.capacity;
 }
 
-pub live-layout : (c : Config) → MeetsLimits max_live_frames c → IsLayout (layout_of c)
+pub live-layout : (c : Config) → MeetsLimits MAX_LIVE_FRAMES c → IsLayout (layout_of c)
 live-layout c m = layout-meets c (live-limits c m)
 
 pub local-home : (l : Layout) (v : View) → Local l v → IsHome l (words_of (memory_of l v)) v.hart (holders_of (memory_of l v))

@@ -1,6 +1,7 @@
 -- A whole walk, load by load.
-use Rattle.std.proofs.Common.{◌≡◌, ℕ, ◌+◌, ◌<◌, List, [], ◌∷◌, ◌++◌, length, Some, None, Ok, Err, sym, refl, ap, ◌∙◌, subst, inl, inr, arith, length-append}
+use Rattle.std.proofs.Common.{◌≡◌, ℕ, ◌+◌, ◌<◌, List, [], ◌∷◌, ◌++◌, length, Some, None, Ok, Err, Result, sym, refl, ap, ◌∙◌, subst, inl, inr, arith, length-append}
 use Rattle.std.proofs.lemmas.Bool.{cases_lt}
+use Rattle.std.specs.declared.ops.ControlFlow.TheVariants.{Continue, Break}
 use Rattle.pte.specs.declared.permission.Access.{Access}
 use Rattle.pte.specs.declared.permission.Ctx.{Ctx}
 use Rattle.pte.specs.Address.{IsCanonical, level_count, top_level, vpn_of}
@@ -12,7 +13,7 @@ use Rattle.walk.specs.Leads.{Tables}
 use Rattle.walk.specs.Loads.{GoesOn}
 use Rattle.walk.specs.Pointers.{pointed}
 use Rattle.walk.specs.Stage.{Stage, OnPath, IsFor, start_of}
-use Rattle.walk.specs.Step.{load_of}
+use Rattle.walk.specs.Step.{flow_of, load_of}
 use Rattle.walk.proofs.Ending.{goes-load, more-points, on_path-start, outcome-same, same-access}
 use Rattle.spaces.specs.Layout.{Layout, user_slots}
 use Rattle.spaces.specs.Held.{holders_of, words_of}
@@ -47,6 +48,12 @@ pub record IsGoing (l : Layout) (v : View) (root va : ℕ) (access : Access) (ct
   pub count : w.loads ≡ v.loads + length w.reads
   pub depth : st.level + length w.reads ≡ level_count l.scheme
   pub home : IsSameHome v w
+
+-- a load that does not end the walk has the walk that goes on
+pub flow-more : (made : Progress) (next : Stage) → flow_of made ≡ Continue next → progress.More next ≡ made
+flow-more (progress.More one) next on = let same : next ≡ one = cc in ap (λ (s : Stage). progress.More s) same
+flow-more (progress.Found found) next on = cc
+flow-more (progress.Trap trap) next on = cc
 
 length-snoc : (rs : List Read) (r : Read) → length (rs ++ r ∷ []) ≡ length rs + 1
 length-snoc rs r = omega (arith, length-append rs (r ∷ []))
@@ -190,3 +197,8 @@ module _ (l : Layout) (v : View) (local : Local l v) (root va : ℕ) (access : A
       entries = going.entries ∙ ap (with_fill (asid_at v.config root) v.entries) (sym is);
       home = going.home;
     }
+
+    pub answer-at : (made : Progress) (answer : Result Found Trap) → made ≡ load_of st (Some word) → flow_of made ≡ Break answer → AnswersByLoads l v root va access ctx answer w
+    answer-at (progress.More next) answer is over = cc
+    answer-at (progress.Found found) answer is over = let same : Ok found ≡ answer = cc in subst (λ a. AnswersByLoads l v root va access ctx a w) same (found-at found is)
+    answer-at (progress.Trap trap) answer is over = let same : Err trap ≡ answer = cc in subst (λ a. AnswersByLoads l v root va access ctx a w) same (trap-at trap is)

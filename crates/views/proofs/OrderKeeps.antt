@@ -20,11 +20,12 @@ use Rattle.shoot.specs.Acknowledgement.{IsAskable, acknowledgement}
 use Rattle.shoot.proofs.AcknowledgementWords.{not_zero, same_what}
 use Rattle.views.specs.declared.view.Order.{Order}
 use Rattle.views.specs.declared.view.View.{View}
-use Rattle.views.specs.Rule.{cell, memory_of, tickets, Tabled}
+use Rattle.views.specs.Rule.{cell, memory_of, Tabled}
+use Rattle.shoot.specs.declared.TheConstants.{MAX_TICKETS}
 use Rattle.views.specs.Orders.{IsAsidFor, asid_for, dropping, IsLive, Misses, IsClean, Kept, IsGlobalInWindow, Ordered}
 
 -- the receiver of a cell is read from its number
-pub receiver : (l : Layout) (s t h s' t' h' : ℕ) → t < tickets → t' < tickets → h < length l.spares → h' < length l.spares → cell l s t h ≡ cell l s' t' h' → h ≡ h'
+pub receiver : (l : Layout) (s t h s' t' h' : ℕ) → t < MAX_TICKETS → t' < MAX_TICKETS → h < length l.spares → h' < length l.spares → cell l s t h ≡ cell l s' t' h' → h ≡ h'
 receiver l s t h s' t' h' few few' lt lt' e =
     let e' : s * length l.spares + h ≡ s' * length l.spares + h' = omega (arith, e, few, few') in
     sym (mod-mul-add s (length l.spares) h lt) ∙ (ap (λ (n : ℕ). n % length l.spares) e' ∙ mod-mul-add s' (length l.spares) h' lt')
@@ -40,7 +41,7 @@ pub data Change (c : Config) (hart h old new : ℕ) (entries : List Entry) : Typ
 module _ (c : Config) (s : State ℕ View) (b : Tabled c s) (o : Ordered c s) (id : ℕ) (v w : View) (at : get_elem? s.views id ≡ some v) (hart : w.hart ≡ v.hart) (words' : List ℕ)
     (fewer : (j : ℕ) (u : View) → get_elem? s.views j ≡ some u → (n : ℕ) (k : Order) → get_elem? u.orders n ≡ some k → (place : Place) (page : Span) → IsLive k place page
     → Misses page (asid_for c place) v.entries → Misses page (asid_for c place) w.entries)
-    (cells : (a t h : ℕ) → t < tickets → h < length (layout_of c).spares
+    (cells : (a t h : ℕ) → t < MAX_TICKETS → h < length (layout_of c).spares
     → Change c v.hart h (slice_index s.words (cell (layout_of c) a t h)) (slice_index words' (cell (layout_of c) a t h)) w.entries) where
   abbrev pub views' : List View
   views' = slice_set s.views id w
@@ -64,7 +65,7 @@ module _ (c : Config) (s : State ℕ View) (b : Tabled c s) (o : Ordered c s) (i
     old = o.kept j u at-u n k at-k place page live
 
     -- a cell that had the order's word, or has it now: its receiver is clean
-    pub cell-cleans : (h : ℕ) → h < length (layout_of c).spares → k.ticket < tickets
+    pub cell-cleans : (h : ℕ) → h < length (layout_of c).spares → k.ticket < MAX_TICKETS
         → (slice_index s.words (cell (layout_of c) u.hart k.ticket h) ≡ acknowledgement (dropping c place page) → IsClean s.views h page (asid_for c place))
         → slice_index words' (cell (layout_of c) u.hart k.ticket h) ≡ acknowledgement (dropping c place page) → IsClean views' h page (asid_for c place)
     cell-cleans h small few before now = by (cells u.hart k.ticket h few small) where

@@ -4,12 +4,14 @@ use Rattle.std.specs.Prelude.{slice_set}
 use mathlib.Core.Option.{some}
 use lib.ListN.{get_elem?}
 use Rattle.atomic_table.specs.Table.{State, opening as at_start}
-use Rattle.pte.specs.Address.{table_length, vpn_of}
+use Rattle.pte.specs.Address.{vpn_of}
+use Rattle.pte.specs.declared.address.TheConstants.{TABLE_LENGTH}
 use Rattle.walk.specs.Stage.{Stage}
 use Rattle.spaces.specs.declared.configuration.Config.{Config}
 use Rattle.spaces.specs.declared.wishes.Wish.{Wish}
 use Rattle.spaces.specs.Layout.{HasPlace, is_frame, layout_of}
-use Rattle.spaces.specs.Limits.{MeetsLimits, max_live_frames}
+use Rattle.spaces.specs.Limits.{MeetsLimits}
+use Rattle.spaces.specs.declared.configuration.TheConstants.{MAX_LIVE_FRAMES}
 use Rattle.spaces.specs.Held.{word_index, words_of}
 use Rattle.spaces.specs.Edits.{Store, place_of}
 use Rattle.spaces.specs.Tree.{IsAtHome}
@@ -46,7 +48,7 @@ module _ (c : Config) (id : ℕ) (v : View) where
       )
 
   -- a home's reading of a word of its own
-  pub home-reads : (f i : ℕ) → IsAtHome (layout_of c) v.hart f → i < table_length
+  pub home-reads : (f i : ℕ) → IsAtHome (layout_of c) v.hart f → i < TABLE_LENGTH
       → Steps c id v (word_index (layout_of c) f i) (λ n. n) (λ _. v) (λ n. words_of (memory_of (layout_of c) v) f i ≡ Some n)
   home-reads f i home less s b at fits = (
     record { tables = read-keeps c s b.tables id v at f i home less; orders = read-orders c s b.tables b.orders id v at (word_index (layout_of c) f i) },
@@ -61,7 +63,7 @@ module _ (c : Config) (id : ℕ) (v : View) where
     tt,
   )
 
-pub opens : (c : Config) → MeetsLimits max_live_frames c → Board c (at_start (board_words (layout_of c)) [] (first_view c))
+pub opens : (c : Config) → MeetsLimits MAX_LIVE_FRAMES c → Board c (at_start (board_words (layout_of c)) [] (first_view c))
 opens c limits = record { tables = open-keeps c limits; orders = open-orders c }
 
 pub deals-seat : (c : Config) (id : ℕ) (v : View) → 0 < v.next → v.next < length (layout_of c).spares → (s : State ℕ View) → Board c s → get_elem? s.views id ≡ some v

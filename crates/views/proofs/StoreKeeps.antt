@@ -32,7 +32,8 @@ use Rattle.views.specs.declared.view.Cause.TheVariants.{Unmapped, Other}
 use Rattle.views.specs.declared.view.Order.{Order}
 use Rattle.views.specs.declared.view.View.{View}
 use Rattle.views.specs.Edits.{edit_over}
-use Rattle.views.specs.Rule.{cell, memory_of, tickets, Tabled}
+use Rattle.views.specs.Rule.{cell, memory_of, Tabled}
+use Rattle.shoot.specs.declared.TheConstants.{MAX_TICKETS}
 use Rattle.views.specs.Orders.{dropping, is_over, IsLive, IsUnmapped, Kept, Ordered}
 use Rattle.views.specs.OrderTurns.{IsAsked, fresh, marked, noted, orders_after}
 use Rattle.views.proofs.EditKeeps.{acc, live-layout, words-after, word-there}
@@ -126,7 +127,7 @@ module _ (c : Config) (id : ℕ) (v : View) (wish : Wish) (ticket : ℕ) (store 
   abbrev views-now : List View
   views-now = slice_set s.views id new-view
 
-  cells-stay : (a t h : ℕ) → t < tickets → h < length (layout_of c).spares → Change c v.hart h (slice_index s.words (cell (layout_of c) a t h)) (slice_index shared-now (cell (layout_of c) a t h)) v.entries
+  cells-stay : (a t h : ℕ) → t < MAX_TICKETS → h < length (layout_of c).spares → Change c v.hart h (slice_index s.words (cell (layout_of c) a t h)) (slice_index shared-now (cell (layout_of c) a t h)) v.entries
   cells-stay a t h few small =
       let m = in-memory (layout_of c) store.ppn store.index is-word-there in
       stays (get_or-set_other s.words place-in-list (cell (layout_of c) a t h) store.word 0 (λ (q : cell (layout_of c) a t h ≡ place-in-list). absurd (omega (arith, q, m.from, m.to, m.index))))

@@ -6,7 +6,8 @@ use Rattle.std.proofs.lemmas.List.{set-get_or}
 use mathlib.Core.Option.{some}
 use lib.ListN.{get_elem?}
 use Rattle.atomic_table.specs.Table.{State}
-use Rattle.pte.specs.Address.{table_length, vpn_of}
+use Rattle.pte.specs.Address.{vpn_of}
+use Rattle.pte.specs.declared.address.TheConstants.{TABLE_LENGTH}
 use Rattle.walk.specs.declared.walking.Progress.{Progress}
 use Rattle.walk.specs.declared.walking.Progress.TheVariants as progress
 use Rattle.walk.specs.Loads.{GoesOn}
@@ -95,7 +96,7 @@ module _ (c : Config) (s : State ℕ View) (b : Tabled c s) (id : ℕ) (v : View
       at_home = λ home. sym (t.own st.table (vpn_of st.va st.level) home) ∙ read;
     }
 
-  module _ (f i : ℕ) (home : IsAtHome (layout_of c) v.hart f) (less : i < table_length) where
+  module _ (f i : ℕ) (home : IsAtHome (layout_of c) v.hart f) (less : i < TABLE_LENGTH) where
     pub read-keeps : Loaded c s id (word_index (layout_of c) f i) v
     read-keeps = loaded c s id (word_index (layout_of c) f i) v (keeps-load c s b id v v at refl refl (b.each id v at))
 

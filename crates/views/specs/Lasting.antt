@@ -32,7 +32,8 @@ use Rattle.views.specs.declared.view.CellStep.TheVariants.{Found, Stored}
 use Rattle.views.specs.declared.view.Order.{Order}
 use Rattle.views.specs.declared.view.Read.{Read}
 use Rattle.views.specs.declared.view.View.{View}
-use Rattle.views.specs.Rule.{Has, cell, size, tickets, board_size}
+use Rattle.views.specs.Rule.{Has, cell, size, board_size}
+use Rattle.shoot.specs.declared.TheConstants.{MAX_TICKETS}
 use Rattle.views.specs.Orders.{IsAsidFor, IsLive, asid_for, asid_in}
 use Rattle.views.specs.OrderTurns.{acknowledged, last_word, looked, noted, open_order, ordered, self_acked, with_armed}
 use Rattle.views.specs.Turns.{walked}
@@ -120,10 +121,10 @@ TranslatesNoneHoldsNone =
 -- the cells lie behind the words of the tables, and no two senders, tickets or receivers share one
 abbrev pub CellsAreApart : Type 0
 CellsAreApart =
-    (l : Layout) (sender ticket receiver : ℕ) → sender < length l.spares → ticket < tickets
+    (l : Layout) (sender ticket receiver : ℕ) → sender < length l.spares → ticket < MAX_TICKETS
     → receiver < length l.spares
     → (size l ≤ cell l sender ticket receiver) × (cell l sender ticket receiver < board_size l)
-    × ((other number to : ℕ) → other < length l.spares → number < tickets → to < length l.spares
+    × ((other number to : ℕ) → other < length l.spares → number < MAX_TICKETS → to < length l.spares
     → cell l sender ticket receiver ≡ cell l other number to
     → (sender ≡ other) × (ticket ≡ number) × (receiver ≡ to))
 

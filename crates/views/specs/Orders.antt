@@ -27,7 +27,8 @@ use Rattle.views.specs.declared.view.Cause.{Cause}
 use Rattle.views.specs.declared.view.Cause.TheVariants.{Unmapped, Other}
 use Rattle.views.specs.declared.view.Order.{Order}
 use Rattle.views.specs.declared.view.View.{View}
-use Rattle.views.specs.Rule.{cell, memory_of, tickets}
+use Rattle.views.specs.Rule.{cell, memory_of}
+use Rattle.shoot.specs.declared.TheConstants.{MAX_TICKETS}
 
 abbrev pub asid_in : Config → ℕ → ℕ
 asid_in c s = slice_index (map (λ s. s.asid) c.spaces.items) s
@@ -88,7 +89,7 @@ pub record Kept (c : Config) (words : List ℕ) (views : List View) (hart : ℕ)
   pub askable : IsAskable (dropping c place page)
   pub unmapped : IsUnmapped (layout_of c) (words_of own) place page
   -- cells are armed for tickets of a hart, which are numbered from 0
-  pub numbered : (h : ℕ) → is_in h k.armed ≡ true → k.ticket < tickets
+  pub numbered : (h : ℕ) → is_in h k.armed ≡ true → k.ticket < MAX_TICKETS
   -- once a cell that was armed for it has its word, the receiver has no mapping of it
   pub acked : (h : ℕ) → h < length (layout_of c).spares → is_in h k.armed ≡ true
       → slice_index words (cell (layout_of c) hart k.ticket h)

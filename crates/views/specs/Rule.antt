@@ -6,14 +6,16 @@ use Rattle.atomic_table.specs.Table.{State}
 use Rattle.atomic_table.specs.Seated.{TableId}
 use Rattle.atomic_table.specs.declared.shared.Seat.{Seat}
 use Rattle.pte.specs.declared.scheme.Scheme.{Scheme}
-use Rattle.pte.specs.Address.{table_length}
+use Rattle.pte.specs.declared.address.TheConstants.{TABLE_LENGTH}
 use Rattle.walk.specs.Leads.{Tables}
 use Rattle.walk.specs.Pointers.{pointed}
 use Rattle.walk.specs.Stage.{Stage, OnPath}
+use Rattle.shoot.specs.declared.TheConstants.{MAX_TICKETS}
 use Rattle.spaces.specs.declared.configuration.Config.{Config}
 use Rattle.spaces.specs.declared.places.Place.{Place}
 use Rattle.spaces.specs.Layout.{Layout, layout_of, frame_count, home_of, is_frame, root_ppn, spare_ppn}
-use Rattle.spaces.specs.Limits.{MeetsLimits, max_live_frames}
+use Rattle.spaces.specs.Limits.{MeetsLimits}
+use Rattle.spaces.specs.declared.configuration.TheConstants.{MAX_LIVE_FRAMES}
 use Rattle.spaces.specs.Opening.{first_words, opening}
 use Rattle.spaces.specs.Holders.{Holders}
 use Rattle.spaces.specs.Held.{Held, IsMemory, holders_of, words_of}
@@ -23,21 +25,18 @@ use Rattle.views.specs.declared.view.View.{View}
 
 -- how many words all table frames have
 abbrev pub size : Layout → ℕ
-size l = frame_count l * table_length
-
--- how many tickets a hart has
-abbrev pub tickets : ℕ
-tickets = 64
+size l = frame_count l * TABLE_LENGTH
 
 -- The cells follow the words of the tables, one for each sender, ticket and receiver. Those of a
 -- sender and a receiver stand side by side, by ticket, so that they share a cache line with others
 -- at most at their ends.
 abbrev pub cell : Layout → ℕ → ℕ → ℕ → ℕ
-cell l sender ticket receiver = size l + ((sender * length l.spares + receiver) * tickets + ticket)
+cell l sender ticket receiver =
+    size l + ((sender * length l.spares + receiver) * MAX_TICKETS + ticket)
 
 -- how many words and cells there are
 abbrev pub board_size : Layout → ℕ
-board_size l = size l + length l.spares * length l.spares * tickets
+board_size l = size l + length l.spares * length l.spares * MAX_TICKETS
 
 -- the root of a space
 abbrev pub IsRoot : Layout → ℕ → Type 0
@@ -101,7 +100,7 @@ pub data Sits (views : List View) (h : ℕ) : Type 0 where
 -- What is kept of table words: each is as its home's view says, and each walk in flight stands
 -- where the words lead.
 pub record Tabled (c : Config) (s : State ℕ View) : Type 0 where
-  pub limits : MeetsLimits max_live_frames c
+  pub limits : MeetsLimits MAX_LIVE_FRAMES c
   -- the words of the frames come first, then the cells
   pub wide : board_size (layout_of c) ≤ length s.words
   -- a pointer leads to a frame
@@ -123,7 +122,8 @@ pub record Tabled (c : Config) (s : State ℕ View) : Type 0 where
 
 -- the words at the opening: those of all frames, and the cells
 abbrev pub board_words : Layout → List ℕ
-board_words l = first_words l (size l) ++ replicate (length l.spares * length l.spares * tickets) 0
+board_words l =
+    first_words l (size l) ++ replicate (length l.spares * length l.spares * MAX_TICKETS) 0
 
 -- the view of a hart that has done nothing; next is the hart that gets the next seat from this one,
 -- or 0
@@ -157,7 +157,7 @@ dealt v = starting v.config v.next 0
 
 -- the seat is one of the words of a configuration
 pub record IsFit (z : TableId) (key c : Config) (seat : Seat ℕ View) : Type 0 where
-  pub limits : MeetsLimits max_live_frames c
+  pub limits : MeetsLimits MAX_LIVE_FRAMES c
   pub key_is : key ≡ c
   pub words_are : board_size (layout_of c) ≤ z.words
   pub same : seat.table_id ≡ z

@@ -5,9 +5,11 @@ ghost use Rattle.std.specs.Prelude.{◌≡◌, ℕ, ◌<◌, ◌==◌, [], ◌�
 ghost use Rattle.std.specs.List.{AllPass};
 ghost use Rattle.pte.specs.declared.address.What.{What as Asked};
 ghost use Rattle.spaces.specs.Layout.{layout_of};
-ghost use Rattle.spaces.specs.Limits.{max_live_frames, MeetsLimits};
+ghost use Rattle.spaces.specs.Limits.{MeetsLimits};
+ghost use Rattle.spaces.specs.declared.configuration.TheConstants.{MAX_LIVE_FRAMES};
 ghost use Rattle.tlb.specs.Service.{is_served};
-ghost use Rattle.views.specs.Rule.{board_size, cell, IsFit, tickets};
+ghost use Rattle.views.specs.Rule.{board_size, cell, IsFit};
+ghost use Rattle.shoot.specs.declared.TheConstants.{MAX_TICKETS};
 ghost use Rattle.views.specs.Board.{Steps};
 ghost use Rattle.shoot.specs.Acknowledgement.{acknowledgement};
 ghost use Rattle.views.specs.declared.view.CellStep.TheVariants.{Found, Stored};
@@ -24,9 +26,9 @@ use tlb::Tlb;
 /// The cells of a sender and a receiver are 64 words side by side, so that they share a cache line
 /// with others at most at their ends.
 fn cell(config: &Config, sender: u8, ticket: u32, receiver: u8) -> usize
-    requires limits { MeetsLimits max_live_frames config.now }
+    requires limits { MeetsLimits MAX_LIVE_FRAMES config.now }
     requires sender { sender < length (layout_of config.now).spares }
-    requires ticket { ticket < tickets }
+    requires ticket { ticket < MAX_TICKETS }
     requires receiver { receiver < length (layout_of config.now).spares }
     ensures value { result ≡ cell (layout_of config.now) sender ticket receiver }
     ensures range { result < board_size (layout_of config.now) }
@@ -79,7 +81,7 @@ fn arm_as<T: Turn>(words: &Words, seat: &mut Place, word: usize, _ticket: u32, _
 pub fn arm(words: &Words, seat: &mut Place, config: &Config, hart: u8, ticket: u32, to: u8)
     requires fit { IsFit words.now.table_id words.now.key config.now seat.old }
     requires hart { seat.old.me.0.hart ≡ hart }
-    requires ticket { ticket < tickets }
+    requires ticket { ticket < MAX_TICKETS }
     requires to { to < length (layout_of config.now).spares }
     ensures fit { IsFit words.now.table_id words.now.key config.now seat.new }
     ensures view { seat.new.me.0 ≡ with_armed ticket to seat.old.me.0 }

@@ -65,20 +65,20 @@ fn ask(config: &Config, wish: &Wish)
 {
     match *wish {
         Wish::Map { page, .. } | Wish::Protect { page, .. } => {
-            let _base = page.base();
+            page.recall();
         }
         Wish::Unmap {
             place: Home::Space(space),
             page,
         } => {
-            let _base = page.base();
+            page.recall();
             let _asid = asid_in(config, space);
         }
         Wish::Unmap {
             place: Home::Kernel,
             page,
         } => {
-            let _base = page.base();
+            page.recall();
         }
     }
 }

@@ -1,7 +1,8 @@
 //! The opening of the words, and a seat for each hart.
 
 ghost use Rattle.std.specs.Prelude.{◌≡◌, ◌<◌, IfOk};
-ghost use Rattle.spaces.specs.Limits.{max_live_frames, MeetsLimits};
+ghost use Rattle.spaces.specs.Limits.{MeetsLimits};
+ghost use Rattle.spaces.specs.declared.configuration.TheConstants.{MAX_LIVE_FRAMES};
 ghost use Rattle.spaces.specs.Layout.{layout_of};
 ghost use Rattle.views.specs.Rule.{board_words, dealer, dealt, first_view, IsFit};
 
@@ -15,7 +16,7 @@ pub(crate) const TICKETS: u64 = MAX_TICKETS as u64;
 
 /// The words of all frames at the opening, and the cells, which are 0.
 fn board_words(alloc: Global, config: &Config) -> Result<Vec<u64>, AllocError>
-    requires { MeetsLimits max_live_frames config.now }
+    requires { MeetsLimits MAX_LIVE_FRAMES config.now }
     ensures { IfOk result (λ words. words.items ≡ board_words (layout_of config.now)) }
 {
     let mut words = first_words(alloc, config)?;
@@ -28,7 +29,7 @@ fn board_words(alloc: Global, config: &Config) -> Result<Vec<u64>, AllocError>
 
 /// The words of a configuration, with the seat of hart 0, from which the others are dealt.
 pub fn open(alloc: Global, config: &Config) -> Result<(Memory, Place), AllocError>
-    requires { MeetsLimits max_live_frames config.now }
+    requires { MeetsLimits MAX_LIVE_FRAMES config.now }
     ensures fit { IfOk result (λ t. IsFit t.0.shared.table_id t.0.shared.key config.now t.1) }
     ensures view { IfOk result (λ t. t.1.me.0 ≡ first_view config.now) }
 {

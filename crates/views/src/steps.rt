@@ -1,7 +1,6 @@
 //! The atomic steps on table words, each with what its seat knows after it.
 
 ghost use Rattle.std.specs.Prelude.{◌≡◌, ℕ, ◌^◌, ◌<◌, [], true, Some, Ok};
-ghost use Rattle.pte.specs.Address.{table_length};
 ghost use Rattle.spaces.specs.Layout.{HasPlace, is_frame, layout_of};
 ghost use Rattle.spaces.specs.Edits.{place_of};
 ghost use Rattle.spaces.specs.Held.{word_index, words_of};
@@ -89,7 +88,7 @@ fn read_as<T: Turn>(words: &Words, seat: &mut Place, word: usize, _table: u64, _
 pub fn read_home(words: &Words, seat: &mut Place, config: &Config, table: u64, index: u16) -> u64
     requires fit { IsFit words.now.table_id words.now.key config.now seat.old }
     requires home { IsAtHome (layout_of config.now) seat.old.me.0.hart table }
-    requires index { index < table_length }
+    requires index { index < TABLE_LENGTH }
     ensures fit { IsFit words.now.table_id words.now.key config.now seat.new }
     ensures view { seat.new.me.0 ≡ seat.old.me.0 }
     ensures word { words_of (memory_of (layout_of config.now) seat.old.me.0) table index

@@ -1,14 +1,16 @@
 //! A whole walk.
 
+ghost use Rattle.pte.specs.Address.{IsCanonical};
 ghost use Rattle.spaces.specs.Layout.{layout_of};
 ghost use Rattle.views.specs.Rule.{IsFit, IsRoot};
-ghost use Rattle.views.specs.Walks.{Walked};
+ghost use Rattle.views.specs.Walks.{AnswersByLoads, Walked};
 
 use crate::rule::{Place, Words};
 use crate::steps::{load_first, load_next};
-use pte::{Access, Ctx};
+use pte::{Access, Ctx, VirtAddr};
 use spaces::Config;
-use walk::{Found, Progress, Trap, Walk};
+use std::ops::ControlFlow;
+use walk::{Found, Trap, Walk, Why};
 
 /// Where an access of a virtual address leads from a space's root, by the words that this call's
 /// own loads find: one a level, between which other harts may store. What is found is filled in.
@@ -27,16 +29,38 @@ pub fn walk(
     ensures walked { Walked (layout_of config.now) seat.old.me.0 root va access ctx result
         seat.new.me.0 }
 {
-    let mut walk = Walk::begin_in(config.scheme, root, va, access, ctx)?;
+    let Some(va) = VirtAddr::new_in(config.scheme, va) else {
+        return Err(Trap::page(access, Why::NotCanonical));
+    };
+    walk_from_root(words, seat, config, root, va, access, ctx)
+}
+
+/// The same for an address that the caller found canonical in the scheme.
+pub fn walk_from_root(
+    words: &Words,
+    seat: &mut Place,
+    config: &Config,
+    root: u64,
+    va: VirtAddr,
+    access: Access,
+    ctx: Ctx,
+) -> Result<Found, Trap>
+    requires fit { IsFit words.now.table_id words.now.key config.now seat.old }
+    requires root { IsRoot (layout_of config.now) root }
+    requires canonical { IsCanonical config.now.scheme va }
+    ensures fit { IsFit words.now.table_id words.now.key config.now seat.new }
+    ensures loads { AnswersByLoads (layout_of config.now) seat.old.me.0 root va access ctx result
+        seat.new.me.0 }
+{
+    let mut walk = Walk::from_root(config.scheme, root, va, access, ctx);
     let mut word = load_first(words, seat, config, root, walk);
     loop {
-        match walk.load(Some(word)) {
-            Progress::More(next) => {
+        match walk.load(Some(word)).flow() {
+            ControlFlow::Continue(next) => {
                 word = load_next(words, seat, config, root, next);
                 walk = next;
             }
-            Progress::Found(found) => return Ok(found),
-            Progress::Trap(trap) => return Err(trap),
+            ControlFlow::Break(answer) => return answer,
         }
     }
 }

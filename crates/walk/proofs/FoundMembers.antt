@@ -13,7 +13,8 @@ use Rattle.pte.specs.declared.entry.Kind.{Kind}
 use Rattle.pte.specs.declared.entry.Kind.TheVariants as kinds
 use Rattle.pte.specs.Address.{IsCanonical, Holds, Span, level_bytes, level_of, level_pages, bytes_of, page_around, pages_of, top_level, widest}
 use Rattle.pte.proofs.Schemes.{level_in_widest}
-use Rattle.pte.specs.Entry.{kind_of, ppn_bits}
+use Rattle.pte.specs.Entry.{kind_of}
+use Rattle.pte.specs.declared.entry.TheConstants.{PPN_BITS}
 use Rattle.pte.specs.Permission.{is_permitted}
 use Rattle.walk.specs.declared.found_or_trap.Found.{Found}
 use Rattle.walk.specs.declared.found_or_trap.Why.{Why}
@@ -66,19 +67,19 @@ pub record FoundAt (scheme : Scheme) (words : Tables) (root va : ℕ) (found : F
   pub page : found.page ≡ page_around va (size_at level)
 
 -- a leaf's PPN fits its bits
-pub leaf-ppn : (entry ppn : ℕ) (flags : PteFlags) → kind_of entry ≡ kinds.Leaf ppn flags → ppn < 2 ^ ppn_bits
+pub leaf-ppn : (entry ppn : ℕ) (flags : PteFlags) → kind_of entry ≡ kinds.Leaf ppn flags → ppn < 2 ^ PPN_BITS
 unfolding kind_of
 leaf-ppn entry ppn flags kind = grind (arith, nat_tests)
 
 -- an aligned page of a PPN below 2^44 ends below 2^44
-physical-below : (ppn va i : ℕ) → i ≤ top_level widest → ppn < 2 ^ ppn_bits → ppn % level_pages i ≡ 0 → ppn * bytes_of Kib4 + va % level_bytes i < 2 ^ ppn_bits * bytes_of Kib4
+physical-below : (ppn va i : ℕ) → i ≤ top_level widest → ppn < 2 ^ PPN_BITS → ppn % level_pages i ≡ 0 → ppn * bytes_of Kib4 + va % level_bytes i < 2 ^ PPN_BITS * bytes_of Kib4
 physical-below ppn va i level below aligned =
     let pages : ℕ = level_pages i in
-    let rest : ℕ = 2 ^ (ppn_bits - 9 * i) in
-    let exponents : ppn_bits - 9 * i + 9 * i ≡ ppn_bits = omega arith in
-    let whole : rest * pages ≡ 2 ^ ppn_bits = sym (pow-add 2 (ppn_bits - 9 * i) (9 * i)) ∙ ap (λ k. 2 ^ k) exponents in
-    let fits : ppn < 2 ^ (ppn_bits - 9 * i + 9 * i) = subst (λ k. ppn < 2 ^ k) (sym exponents) below in
-    let row : ppn / pages < rest = shr_below ppn (ppn_bits - 9 * i) (9 * i) fits in
+    let rest : ℕ = 2 ^ (PPN_BITS - 9 * i) in
+    let exponents : PPN_BITS - 9 * i + 9 * i ≡ PPN_BITS = omega arith in
+    let whole : rest * pages ≡ 2 ^ PPN_BITS = sym (pow-add 2 (PPN_BITS - 9 * i) (9 * i)) ∙ ap (λ k. 2 ^ k) exponents in
+    let fits : ppn < 2 ^ (PPN_BITS - 9 * i + 9 * i) = subst (λ k. ppn < 2 ^ k) (sym exponents) below in
+    let row : ppn / pages < rest = shr_below ppn (PPN_BITS - 9 * i) (9 * i) fits in
     let split : ppn / pages * pages + ppn % pages ≡ ppn = shr_split ppn (9 * i) in
     let next : ppn / pages * pages + pages ≤ rest * pages = row_fits (ppn / pages) pages rest pages row (omega arith) in
     let bytes : level_bytes i ≡ 2 ^ 12 * pages = pow-add 2 12 (9 * i) in
@@ -145,7 +146,7 @@ module _ (scheme : Scheme) (words : Tables) (root va : ℕ) (access : Access) (c
       (same_canonical scheme va at from.level from.leads.level (sym same) from.canonical) same)
 
   -- a PPN and a physical address fit their bits
-  pub found_in_range : (found.ppn < 2 ^ ppn_bits) × (found.pa < 2 ^ ppn_bits * bytes_of Kib4)
+  pub found_in_range : (found.ppn < 2 ^ PPN_BITS) × (found.pa < 2 ^ PPN_BITS * bytes_of Kib4)
   found_in_range =
       let ppn = leaf-ppn from.entry found.ppn found.flags from.kind in
-      (ppn, subst (λ n. n < 2 ^ ppn_bits * bytes_of Kib4) (sym from.pa) (physical-below found.ppn va from.level (level_in_widest scheme from.level from.leads.level) ppn from.aligned))
+      (ppn, subst (λ n. n < 2 ^ PPN_BITS * bytes_of Kib4) (sym from.pa) (physical-below found.ppn va from.level (level_in_widest scheme from.level from.leads.level) ppn from.aligned))

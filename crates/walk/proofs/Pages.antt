@@ -6,7 +6,8 @@ use Rattle.pte.specs.declared.scheme.Scheme.TheVariants.{Sv39, Sv48}
 use Rattle.pte.proofs.Schemes.{bits_levels}
 use Rattle.pte.specs.declared.address.PageSize.{PageSize}
 use Rattle.pte.specs.declared.address.PageSize.TheVariants.{Kib4}
-use Rattle.pte.specs.Address.{IsCanonical, address_bits, bytes_of, level_bytes, level_pages, page_around, table_length, top_level, vpn_of, Holds}
+use Rattle.pte.specs.Address.{IsCanonical, address_bits, bytes_of, level_bytes, level_pages, page_around, top_level, vpn_of, Holds}
+use Rattle.pte.specs.declared.address.TheConstants.{TABLE_LENGTH}
 use Rattle.walk.specs.Leads.{Tables, PointsTo, Leads, IsGlobalAt}
 use Rattle.walk.specs.Maps.{page_number}
 
@@ -17,7 +18,7 @@ same_high a b j k le e =
 
 -- addresses of one page of level i have one index at each level from i up
 pub same_vpn : (a b i j : ℕ) → i ≤ j → a / level_bytes i ≡ b / level_bytes i → vpn_of a j ≡ vpn_of b j
-same_vpn a b i j le e = ap (λ n. n % table_length) (same_high a b (12 + 9 * i) (12 + 9 * j) (omega arith) e)
+same_vpn a b i j le e = ap (λ n. n % TABLE_LENGTH) (same_high a b (12 + 9 * i) (12 + 9 * j) (omega arith) e)
 
 canonical-high : (scheme : Scheme) (a b : ℕ) → a / 2 ^ (address_bits scheme - 1) ≡ b / 2 ^ (address_bits scheme - 1) → IsCanonical scheme a → IsCanonical scheme b
 canonical-high Sv39 a b e (inl low) = inl (omega arith)

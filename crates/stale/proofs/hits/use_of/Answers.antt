@@ -29,11 +29,11 @@ pub returns-then-is_mapped_now : goal.returns-then-is_mapped_now
 returns-then-is_mapped_now c = λ C H r h p stands hit.
     let oldest = rw (c.hart.ensures, c.asid.ensures, c.in-Some.ensures.1) at c.in-Some-lookup.ensures.oldest in
     let now = rw c.in-Some.ensures.1 at ((c.is_mapped_now.ensures C _ stands).0 c.if-is_mapped_now.true) in
-    ((λ u. use_untold C c.args.machine.now H c.args.hart c.args.va c.args.access c.args.ctx r stands hit c.in-Some-lookup.entry oldest c.base-base.ensures.page now h p u), (λ t. absurd t))
+    ((λ u. use_untold C c.args.machine.now H c.args.hart c.args.va c.args.access c.args.ctx r stands hit c.in-Some-lookup.entry oldest c.recall.ensures now h p u), (λ t. absurd t))
 
 pub returns : goal.returns
 returns c = λ C H r h p stands hit.
     let oldest = rw (c.hart.ensures, c.asid.ensures, c.in-Some.ensures.1) at c.in-Some-lookup.ensures.oldest in
     rw c.in-Some.ensures.1
-    (use_told C c.args.machine.now H c.args.hart c.args.va c.args.access c.args.ctx r stands hit c.in-Some-lookup.entry oldest c.base-base.ensures.page
+    (use_told C c.args.machine.now H c.args.hart c.args.va c.args.access c.args.ctx r stands hit c.in-Some-lookup.entry oldest c.recall.ensures
     (λ now. false≢true (sym c.if-is_mapped_now.false ∙ (c.is_mapped_now.ensures C _ stands).1 (rw c.in-Some.ensures.1 now))) h p)

@@ -1,5 +1,6 @@
 use Rattle.std.proofs.Common.{◌≡◌, sym, ◌∙◌, ap, subst, map, replicate, None, rules}
-use Rattle.spaces.specs.Limits.{MeetsLimits, max_frames}
+use Rattle.spaces.specs.Limits.{MeetsLimits}
+use Rattle.spaces.specs.declared.configuration.TheConstants.{MAX_FRAMES}
 use Rattle.spaces.specs.Layout.{layout_of}
 use Rattle.spaces.specs.Held.{IsMemory, holders_of, words_of}
 use Rattle.spaces.proofs.Opened.{made, words-open, opened, opened-is}
@@ -13,7 +14,7 @@ is_opened c =
     (c.homes_of.ensures ∙ ap (map (λ s. s.home)) c.deref.ensures.0) (c.copy_of.ensures ∙ c.deref-2.ensures.0) c.in_ok-words.ensures
     (c.in_ok-frames.ensures ∙ ap (λ n. replicate n None) c.frame_count.ensures)
 
-limits : (c : After-copy_of) → MeetsLimits max_frames c.args.config.now
+limits : (c : After-copy_of) → MeetsLimits MAX_FRAMES c.args.config.now
 limits c = search rules
 
 pub invariant_of-result : goal.invariant_of-result

@@ -10,12 +10,12 @@ returns c = record {
       (record {
         memory = c.due_edit.ensures.memory;
         has = c.in_ok-edit.ensures.has;
-        page = c.recall_page.ensures;
+        page = c.recall.ensures;
         is = c.in_ok-edit.ensures.is;
         layout = c.store.ensures.layout;
         words = c.store.ensures.words;
         holders = c.store.ensures.holders;
       }));
   refused = search rules;
-  page = c.recall_page.ensures;
+  page = c.recall.ensures;
 }

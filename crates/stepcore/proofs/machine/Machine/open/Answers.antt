@@ -2,7 +2,7 @@ use Rattle.std.proofs.Common.{rules, ℕ, replicate, ◌*◌, ◌<◌, ◌^◌, 
 use Rattle.std.specs.Prelude.{All}
 use Rattle.spaces.specs.declared.configuration.Space.{Space}
 use Rattle.shoot.specs.Mailbox.{empty_mailbox}
-use Rattle.tlb.specs.Fence.{asid_bits}
+use Rattle.pte.specs.declared.TheConstants.{ASID_BITS}
 use Rattle.stepcore.specs.State.{live_space}
 use Rattle.stepcore.proofs.Open.{IsOpened, opened, machine}
 use Rattle.stepcore.proofs.machine.Machine.open.Goals as goal
@@ -29,4 +29,4 @@ pub invariant_of-result : goal.invariant_of-result
 invariant_of-result c = machine _ _ (is_opened c)
 
 pub returns-clause-ok : goal.returns-clause-ok
-returns-clause-ok c = opened _ _ (is_opened c) (c.limits_give_setup.ensures c.args.config.now (is_opened c).meets (subst (All (λ (s : Space). s.asid < 2 ^ asid_bits)) c.deref.ensures.0 c.live_spaces-spaces.ensures.bits))
+returns-clause-ok c = opened _ _ (is_opened c) (c.limits_give_setup.ensures c.args.config.now (is_opened c).meets (subst (All (λ (s : Space). s.asid < 2 ^ ASID_BITS)) c.deref.ensures.0 c.live_spaces-spaces.ensures.bits))
