@@ -2,13 +2,9 @@
 #![tactic(auto)]
 
 #[cfg(test)]
-mod examples;
-#[cfg(test)]
 mod files_told;
 #[cfg(test)]
 mod keys_told;
-#[cfg(test)]
-mod more_examples;
 #[cfg(test)]
 mod near_words;
 #[cfg(test)]

@@ -1,11 +1,15 @@
 //! The files of the folder `examples`, in which it is run, each by the whole program over memory.
 //! It prints a line for each `NAME.toml`, in the order of their names: `as expected` if its command
 //! prints what stands in `NAME.out`, `draw` of a file for `run` what stands in `NAME.svg`, and
-//! `check` that it is ok; else what is amiss. The status is 1 unless each is as expected.
+//! `check` that it is ok; else what is amiss. A line for each row of `cases` follows. The status is
+//! 1 unless each is as expected.
 #![tactic(auto)]
 
-use harts::OpenGate;
-use scenario::answer_words;
+mod cases;
+mod program;
+
+use cases::{CASES, is_answered};
+use program::answer;
 use std::process::ExitCode;
 use std::sync::Wait;
 use std::thread::Threads;
@@ -49,24 +53,10 @@ fn printed<T: Threads + Wait + Sync>(
     command: &str,
     name: &str,
 ) -> io::Result<Option<Vec<u8>>> {
-    let alloc = rt.alloc();
-    let mut words = Vec::new(alloc);
-    words.push(String::from_str(alloc, "svsim")?)?;
-    words.push(String::from_str(alloc, command)?)?;
-    words.push(format!(in alloc; "{name}.toml")?)?;
-    let mut out: Vec<u8> = Vec::new(alloc);
-    let mut err: Vec<u8> = Vec::new(alloc);
-    let status = answer_words(
-        threads,
-        alloc,
-        Ok(words),
-        |file| fs::open(rt, file).ok(),
-        &mut out,
-        &mut err,
-        &OpenGate,
-    );
-    let is_done = status == 0 && err.is_empty();
-    Ok(if is_done { Some(out) } else { None })
+    let file = format!(in rt.alloc(); "{name}.toml")?;
+    let outcome = answer(rt, threads, ".", command, file.as_str())?;
+    let is_done = outcome.status == 0 && outcome.err.is_empty();
+    Ok(if is_done { Some(outcome.out) } else { None })
 }
 
 /// Whether a command on `NAME.toml` prints this text and nothing else.
@@ -150,6 +140,18 @@ fn main(rt: HostRuntime) -> ExitCode {
             status = 1;
         }
         let _ = println!(rt; "{name}: {told}");
+    }
+    for case in CASES {
+        let told = match is_answered(&rt, &rt, case) {
+            Ok(true) => "as expected",
+            Ok(false) => "another answer",
+            Err(_) => "not read",
+        };
+        if told != "as expected" {
+            status = 1;
+        }
+        let (command, file, ..) = case;
+        let _ = println!(rt; "{command} {file}: {told}");
     }
     ExitCode::from(status)
 }

@@ -1,8 +1,0 @@
-//! `svsim run other.toml`, where there is no such file: the program of svsim, on other words.
-#![tactic(auto)]
-
-use std::process::ExitCode;
-
-fn main(rt: HostRuntime) -> ExitCode {
-    ExitCode::from(scenario::start(&rt, &rt))
-}
