@@ -4,6 +4,7 @@ ghost use Rattle.toml.specs.View.{table_view};
 ghost use Rattle.keys.specs.Keys.{key_texts};
 ghost use Rattle.checks.specs.Told.{command_of, has_key, has_live_key, has_walk_key, keys_of, name_of};
 
+use files::{LIVE_KEYS, RUN_KEYS, WALK_KEYS};
 use keys::value_at;
 use toml::Table;
 
@@ -14,19 +15,6 @@ pub enum Command {
     Run,
     Live,
 }
-
-/// The keys of the files for `run`.
-const RUN_KEYS: [&str; 8] = [
-    "harts", "window", "base", "capacity", "spares", "spaces", "steps", "mode",
-];
-
-/// The keys of the files for `live`.
-const LIVE_KEYS: [&str; 10] = [
-    "harts", "window", "base", "capacity", "spares", "spaces", "setup", "scripts", "turns", "mode",
-];
-
-/// The keys of the files for `walk`.
-const WALK_KEYS: [&str; 5] = ["root", "frames", "words", "steps", "mode"];
 
 /// The command that a document is for: `live` if it has a key that no other command knows (`setup`,
 /// `scripts`, `turns`), else `walk` if it has one of its own (`root`, `frames`, `words`), else

@@ -2,13 +2,10 @@
 use crate::report::Report;
 use crate::spaces_told::tell_spaces;
 use crate::values::{Document, kind};
-use pte::PPN_BITS;
-use spaces::{MAX_CAPACITY, MAX_HARTS, MAX_WINDOW};
+use pte::PPN_LIMIT;
+use spaces::{Config, DEFAULT_SPARES, MAX_CAPACITY, MAX_HARTS, MAX_WINDOW};
 use std::alloc::AllocError;
 use toml::Value;
-
-/// The spare frames of each hart where no key says how many.
-const DEFAULT_SPARES: u64 = 8;
 
 /// Tells what is wrong with the keys of the layout, where so many frames are allowed. Answers the
 /// number of harts if it is right.
@@ -17,12 +14,15 @@ pub fn tell_layout(
     document: &Document<'_>,
     most_frames: u64,
 ) -> Result<Option<u8>, AllocError> {
-    let harts = document.whole(report, "harts", (1, MAX_HARTS as i64), 1)?;
+    let default = Config::default();
+    let (harts, window) = (i64::from(default.harts), i64::from(default.window));
+    let harts = document.whole(report, "harts", (1, MAX_HARTS as i64), harts)?;
     let harts = harts.and_then(|harts| u8::try_from(harts).ok());
-    let window = document.whole(report, "window", (1, i64::from(MAX_WINDOW)), 1)?;
+    let window = document.whole(report, "window", (1, i64::from(MAX_WINDOW)), window)?;
     let window = window.and_then(|window| u64::try_from(window).ok());
-    let base = document.ppn(report, "base", None, 0x8_0000)?;
-    let _capacity = document.whole(report, "capacity", (1, MAX_CAPACITY as i64), 4)?;
+    let base = document.ppn(report, "base", None, default.base)?;
+    let capacity = i64::from(default.capacity);
+    let _capacity = document.whole(report, "capacity", (1, MAX_CAPACITY as i64), capacity)?;
     let spares = tell_spares(report, document, harts)?;
     let spaces = tell_spaces(report, document, harts)?;
     if let (Some(window), Some(spaces), Some(spares)) = (window, spaces, spares) {
@@ -41,7 +41,7 @@ fn tell_spares(
 ) -> Result<Option<u64>, AllocError> {
     let alloc = document.alloc;
     let Some(value) = document.value("spares") else {
-        return Ok(harts.map(|harts| DEFAULT_SPARES.saturating_mul(u64::from(harts))));
+        return Ok(harts.map(|harts| u64::from(DEFAULT_SPARES).saturating_mul(u64::from(harts))));
     };
     let Some(values) = value.as_array() else {
         let kind = kind(value);
@@ -61,7 +61,7 @@ fn tell_spares(
         }
     } else if count > MAX_HARTS {
         let what = format!(in alloc;
-            "numbers are {count}: one for each of at most 8 harts is expected"
+            "numbers are {count}: one for each of at most {MAX_HARTS} harts is expected"
         )?;
         document.tell(report, "spares", what.as_str())?;
     }
@@ -127,9 +127,8 @@ fn tell_frames(
         )?;
         report.add(None, what.as_str())?;
     }
-    let limit = 1_u64 << PPN_BITS;
     if let Some(base) = base {
-        if base > limit.saturating_sub(count) {
+        if base > PPN_LIMIT.saturating_sub(count) {
             let what = format!(in alloc;
                 "frames: {count} from PPN {base:#x} on are not all below 2^44"
             )?;

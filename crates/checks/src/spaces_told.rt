@@ -2,7 +2,7 @@
 use crate::report::{Report, shown};
 use crate::values::{Document, text_of};
 use hints::Place;
-use spaces::{MAX_SPACES, Space};
+use spaces::{Config, MAX_HARTS, MAX_SPACES, Space};
 use std::alloc::AllocError;
 use steps::{num, words};
 
@@ -26,7 +26,7 @@ fn space_of(
         return Ok(Err(format!(in alloc; "{text} is not two numbers HOME ASID, as `0 1`")?));
     }
     let (home, asid) = (words.as_slice()[0], words.as_slice()[1]);
-    let most = u64::from(harts.unwrap_or(8));
+    let most = u64::from(harts.unwrap_or(MAX_HARTS as u8));
     let Some(home) = num(home)
         .filter(|home| *home < most)
         .and_then(|home| u8::try_from(home).ok())
@@ -51,7 +51,7 @@ pub fn tell_spaces(
     harts: Option<u8>,
 ) -> Result<Option<usize>, AllocError> {
     if document.value("spaces").is_none() {
-        return Ok(Some(1));
+        return Ok(Some(Config::default().spaces.len()));
     }
     let Some(texts) = document.texts(report, "spaces", "an array of 1 to 32 texts HOME ASID")?
     else {
@@ -59,7 +59,7 @@ pub fn tell_spaces(
     };
     let count = texts.len();
     if count == 0 || count > MAX_SPACES {
-        let what = format!(in document.alloc; "{count} spaces are not from 1 to 32")?;
+        let what = format!(in document.alloc; "{count} spaces are not from 1 to {MAX_SPACES}")?;
         document.tell(report, "spaces", what.as_str())?;
     }
     tell_each(report, document, harts, texts.as_slice())?;

@@ -4,15 +4,14 @@ use crate::values::{Document, text_of};
 use files::MOST_FRAMES;
 use hints::Place;
 use keys::number;
-use pte::{PPN_BITS, TABLE_LENGTH};
+use pte::{PPN_LIMIT, TABLE_LENGTH};
+use spaces::Config;
 use std::alloc::AllocError;
 use steps::{num, words};
 
-const PPN_LIMIT: u64 = 1 << PPN_BITS;
-
 /// Tells what is wrong with the keys `root`, `frames` and `words`.
 pub fn tell_tables(report: &mut Report, document: &Document<'_>) -> Result<(), AllocError> {
-    let _root = document.ppn(report, "root", Some(PPN_LIMIT), 0x8_0000)?;
+    let _root = document.ppn(report, "root", Some(PPN_LIMIT), Config::default().base)?;
     let frames = tell_frames(report, document)?;
     let Some(texts) = document.texts(report, "words", "an array of texts PPN INDEX WORD")? else {
         return Ok(());

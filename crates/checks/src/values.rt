@@ -3,6 +3,7 @@ use crate::report::{Report, shown};
 use hints::Place;
 use keys::number;
 use pte::Scheme;
+use spaces::Config;
 use std::alloc::{AllocError, Global};
 use std::str::from_utf8;
 use steps::words;
@@ -111,7 +112,7 @@ impl<'a> Document<'a> {
     /// The scheme of the key `mode`.
     pub fn mode(&self, report: &mut Report) -> Result<Option<Scheme>, AllocError> {
         let Some(value) = self.value("mode") else {
-            return Ok(Some(Scheme::Sv39));
+            return Ok(Some(Config::default().scheme));
         };
         let Some(text) = value.as_str() else {
             let kind = kind(value);

@@ -1,7 +1,9 @@
 -- The configuration of a machine that the numbers of C ask for.
 use Rattle.std.specs.Prelude.{ℕ, if◌then◌else◌, nat_lt, ◌||◌, List, length, map, Result, Ok, Err}
+use Rattle.pte.specs.declared.TheConstants.{MAX_HARTS}
 use Rattle.spaces.specs.declared.configuration.Config.{Config}
 use Rattle.spaces.specs.declared.configuration.Space.{Space}
+use Rattle.spaces.specs.declared.configuration.TheConstants.{MAX_SPACES}
 use Rattle.melissaledge_c.specs.declared.codes.Fault.{Fault}
 use Rattle.melissaledge_c.specs.declared.codes.Fault.TheVariants as fault
 use Rattle.melissaledge_c.specs.declared.configs.ConfigAsked.{ConfigAsked}
@@ -14,7 +16,7 @@ opened_space asked = record { home = asked.home; asid = asked.asid }
 abbrev pub config_of : ConfigAsked → List SpaceAsked → List ℕ → Result Config Fault
 config_of asked spaces spares =
     or_fault (scheme_of asked.scheme) fault.Scheme (λ scheme.
-    if nat_lt 32 (length spaces) || nat_lt 8 (length spares) then Err fault.Layout
+    if nat_lt MAX_SPACES (length spaces) || nat_lt MAX_HARTS (length spares) then Err fault.Layout
     else Ok (record {
       scheme = scheme;
       harts = asked.harts;

@@ -8,7 +8,8 @@ use Rattle.history.specs.Runs.{with_turn}
 use Rattle.history.specs.Due.{due}
 use Rattle.pte.specs.Address.{is_canonical, widest}
 use Rattle.spaces.specs.declared.configuration.Config.{Config}
-use Rattle.spaces.specs.Limits.{MeetsLimits, max_frames}
+use Rattle.spaces.specs.Limits.{MeetsLimits}
+use Rattle.spaces.specs.declared.configuration.TheConstants.{MAX_FRAMES}
 use Rattle.tlb.specs.Mappings.{IsMappedBy, Translates}
 use Rattle.stepcore.specs.Changes.{is_accepted}
 use Rattle.stepcore.specs.Runs.{HartsAreInLiveSpaces, IsClear, IsClearOnceDone, IsCoherent, MailboxesKeepOrder, NothingAfterCloses, TlbsHoldUsedAsids, WalksHoldUsedFrames, entries_in}
@@ -30,13 +31,13 @@ pub record IsOpened (config : Config) (result : ℤ) (new : Held) : Type 0 where
   pub machine : State
   pub held : new ≡ Some machine
   pub result_is : result ≡ pos 0
-  pub limits : MeetsLimits max_frames config
+  pub limits : MeetsLimits MAX_FRAMES config
   pub stands : Stands (setup_of config) machine []
 
 -- a configuration outside the limits is refused with Layout, and no other; or there is no memory;
 -- or the machine is opened
 pub record OpensAnew (config : Config) (result : ℤ) (new : Held) : Type 0 where
-  pub layout : (result ≡ code_of fault.Layout) ↔ (¬ MeetsLimits max_frames config)
+  pub layout : (result ≡ code_of fault.Layout) ↔ (¬ MeetsLimits MAX_FRAMES config)
   pub refused : ¬ (result ≡ pos 0) → new ≡ None
   pub opened : result ≡ pos 0 → IsOpened config result new
   pub answers : (result ≡ pos 0) ⊎ (result ≡ code_of fault.Layout) ⊎ (result ≡ code_of fault.NoMemory)

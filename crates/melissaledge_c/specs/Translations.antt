@@ -1,7 +1,8 @@
 -- What a translation over a flat memory answers C.
 use Rattle.std.specs.Prelude.{ℕ, ℤ, pos, ◌≡◌, ◌+◌, ◌*◌, ◌^◌, ◌==◌, ◌||◌, not, nat_le, nat_lt, if◌then◌else◌, List, Option, Some, None, Result, Ok, Err}
-use Rattle.pte.specs.Address.{bytes_of, table_length}
-use Rattle.pte.specs.Entry.{ppn_bits}
+use Rattle.pte.specs.Address.{bytes_of}
+use Rattle.pte.specs.declared.address.TheConstants.{TABLE_LENGTH}
+use Rattle.pte.specs.declared.entry.TheConstants.{PPN_BITS}
 use Rattle.walk.specs.declared.found_or_trap.Found.{Found}
 use Rattle.walk.specs.declared.found_or_trap.Trap.{Trap}
 use Rattle.walk.specs.Outcome.{Outcome}
@@ -20,8 +21,8 @@ use Rattle.melissaledge_c.specs.Requests.{and_then, asked_of}
 -- root is one of the frames
 abbrev pub memory_fault : Tables → ℕ → Option Fault
 memory_fault tables words =
-    if tables.frames == 0 || not (nat_le (tables.base_ppn + tables.frames) (2 ^ ppn_bits)) then Some fault.Memory
-    else if not (words == tables.frames * table_length) then Some fault.Length
+    if tables.frames == 0 || not (nat_le (tables.base_ppn + tables.frames) (2 ^ PPN_BITS)) then Some fault.Memory
+    else if not (words == tables.frames * TABLE_LENGTH) then Some fault.Length
     else if nat_lt tables.root_ppn tables.base_ppn || nat_le (tables.base_ppn + tables.frames) tables.root_ppn then Some fault.Root
     else None
 

@@ -6,10 +6,8 @@ ghost use Rattle.melissaledge_c.specs.Configs.{config_of, opened_space};
 use crate::codes::{Fault, scheme_of};
 use arrayvec::ArrayVec;
 use pte::MAX_HARTS;
+use spaces::MAX_SPACES;
 use stepcore::{Config, Space};
-
-/// How many spaces there may be.
-const MAX_SPACES: usize = 32;
 
 /// An address space at the opening: `struct mle_space` of C.
 #[repr(C)]

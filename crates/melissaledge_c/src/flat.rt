@@ -1,8 +1,9 @@
 //! Frames that lie one behind the other.
 
 ghost use Rattle.std.specs.Prelude.{◌≡◌, ◌≤◌, ◌+◌, ◌*◌, ◌^◌, length};
-ghost use Rattle.pte.specs.Entry.{ppn_bits};
+ghost use Rattle.pte.specs.declared.entry.TheConstants.{PPN_BITS};
 
+use pte::TABLE_LENGTH;
 use walk::Words;
 
 /// The words of frames of 4 KiB with PPNs from a base on, 512 a frame.
@@ -11,7 +12,7 @@ pub(crate) struct Flat<'a> {
     pub(crate) base: u64,
     pub(crate) frames: u64,
     pub(crate) words: &'a [u64],
-    pub(crate) ghost fits: { base + frames ≤ 2 ^ ppn_bits },
+    pub(crate) ghost fits: { base + frames ≤ 2 ^ PPN_BITS },
 }
 
 impl Words for Flat<'_> {
@@ -24,7 +25,7 @@ impl Words for Flat<'_> {
         if ppn < self.base || self.base + self.frames <= ppn {
             return None;
         }
-        let place = (ppn - self.base) * 512 + u64::from(index);
+        let place = (ppn - self.base) * u64::from(TABLE_LENGTH) + u64::from(index);
         self.words.get(place as usize).copied()
     }
 }

@@ -7,7 +7,7 @@ use crate::codes::{Fault, number_of, scheme_of, why_code};
 use crate::flat::Flat;
 use crate::requests::{AccessAsked, asked_of};
 use bitflags::Flags;
-use pte::{Access, Ctx, PPN_BITS, Scheme};
+use pte::{Access, Ctx, PPN_LIMIT, Scheme, TABLE_LENGTH};
 use tlb::Entry;
 use walk::{Found, Trap, translate_in};
 
@@ -59,11 +59,11 @@ pub(crate) struct Request {
 fn memory_fault(tables: &Tables, words: usize) -> Option<Fault>
     ensures { result ≡ memory_fault tables.now words }
 {
-    let end = 1 << PPN_BITS;
-    if tables.frames == 0 || tables.frames > end || tables.base_ppn > end - tables.frames {
+    let frames = tables.frames;
+    if frames == 0 || frames > PPN_LIMIT || tables.base_ppn > PPN_LIMIT - frames {
         return Some(Fault::Memory);
     }
-    if words as u64 != tables.frames * 512 {
+    if words as u64 != frames * u64::from(TABLE_LENGTH) {
         return Some(Fault::Length);
     }
     if tables.root_ppn < tables.base_ppn || tables.base_ppn + tables.frames <= tables.root_ppn {

@@ -1,7 +1,7 @@
 //! The machine after the steps of a file.
 
 ghost use Rattle.std.specs.Prelude.{◌≡◌, ◌<◌, ◌≤◌, IfErr, IfOk, OnOk, length};
-ghost use Rattle.pte.specs.Address.{table_length};
+ghost use Rattle.pte.specs.declared.address.TheConstants.{TABLE_LENGTH};
 ghost use Rattle.history.specs.Setup.{setup_of};
 ghost use Rattle.keys.specs.declared.fault.Fault.TheVariants.{NoMemory};
 ghost use Rattle.stepcore.specs.Stands.{Stands};
@@ -19,7 +19,7 @@ pub(crate) fn machine_after(alloc: Global, scenario: &RunScenario) -> Result<Mac
     ensures spaces { IfOk result (λ machine. length machine.spaces
         ≡ length machine.memory.layout.homes) }
     ensures some { IfOk result (λ machine. 0 < length machine.memory.layout.homes) }
-    ensures window { OnOk result (scenario.now.config.window ≤ table_length) }
+    ensures window { OnOk result (scenario.now.config.window ≤ TABLE_LENGTH) }
     ensures fault { IfErr result (λ fault. fault ≡ NoMemory) }
 {
     let mut machine = match Machine::open(alloc, &scenario.config) {

@@ -1,7 +1,7 @@
 //! The whole text.
 
 ghost use Rattle.std.specs.Prelude.{◌≡◌, ◌<◌, ◌≤◌, IfErr, IfOk, length, string_bytes};
-ghost use Rattle.pte.specs.Address.{table_length};
+ghost use Rattle.pte.specs.declared.address.TheConstants.{TABLE_LENGTH};
 ghost use Rattle.keys.specs.declared.fault.Fault.TheVariants.{NoMemory};
 ghost use Rattle.show.specs.Sheet.{IsSheet, Shows};
 ghost use Rattle.show.specs.Rows.{first_line, scheme_text};
@@ -56,7 +56,7 @@ fn sheet(
 ) -> Result<String, AllocError>
     requires spaces { length machine.now.spaces ≡ length machine.now.memory.layout.homes }
     requires some { 0 < length machine.now.memory.layout.homes }
-    requires window { config.now.window ≤ table_length }
+    requires window { config.now.window ≤ TABLE_LENGTH }
     ensures { IfOk result (λ text. IsSheet steps config.now machine.now (string_bytes text)) }
 {
     let mut text = first_line(alloc, steps, config)?;

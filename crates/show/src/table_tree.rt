@@ -2,7 +2,7 @@
 
 ghost use Rattle.std.specs.Prelude.{◌≡◌, ◌<◌, ◌≤◌, IfOk, IfSome, length, string_bytes};
 ghost use Rattle.show.specs.Rows.{indexed, leaf_line, pointer_line};
-ghost use Rattle.pte.specs.Address.{table_length, top_level};
+ghost use Rattle.pte.specs.Address.{top_level};
 
 use crate::columns::pad;
 use crate::entries::push_flags;
@@ -171,7 +171,7 @@ fn root(memory: &Memory, space: u8) -> Table
 pub(crate) fn tree_text(alloc: Global, machine: &Machine, window: u16) -> Result<String, AllocError>
     requires spaces { length machine.now.spaces ≡ length machine.now.memory.layout.homes }
     requires some { 0 < length machine.now.memory.layout.homes }
-    requires window { window ≤ table_length }
+    requires window { window ≤ TABLE_LENGTH }
 {
     let mut text = String::new(alloc);
     let memory = machine.memory();

@@ -5,12 +5,8 @@ use Rattle.pte.specs.declared.TheConstants.{MAX_CAPACITY, MAX_HARTS}
 use Rattle.pte.specs.declared.entry.TheConstants.{PPN_BITS}
 use Rattle.spaces.specs.declared.configuration.Config.{Config}
 use Rattle.spaces.specs.declared.configuration.Space.{Space}
-use Rattle.spaces.specs.declared.configuration.TheConstants.{MAX_FRAMES, MAX_SPACES, MAX_WINDOW}
+use Rattle.spaces.specs.declared.configuration.TheConstants.{MAX_SPACES, MAX_WINDOW}
 use Rattle.spaces.specs.Layout.{layout_of, frame_count}
-
--- how many table frames there may be at most
-abbrev pub max_frames : ℕ
-max_frames = MAX_FRAMES
 
 -- no space has the ASID of one after it
 abbrev pub asids_differ : List Space → Bool

@@ -4,7 +4,7 @@ use Rattle.std.specs.Fmt.{decimal}
 use Rattle.std.specs.List.{filter}
 use Rattle.pte.specs.Address.{Span, bytes_of, page_around, pages_of}
 use Rattle.pte.specs.declared.address.PageSize.TheVariants.{Kib4}
-use Rattle.pte.specs.Entry.{ppn_bits}
+use Rattle.pte.specs.declared.entry.TheConstants.{PPN_BITS}
 use Rattle.tlb.specs.declared.store.Entry.{Entry}
 use Rattle.lines.specs.AnswerLines.{hex}
 use Rattle.lines.specs.ReplyLines.{page_text, reach_text}
@@ -16,7 +16,7 @@ use Rattle.stale.specs.declared.items.StaleItem.TheVariants.{Became, Used}
 
 -- the PPN that an entry has for an address of its page; of the entry's PPN the low 44 bits count
 abbrev pub ppn_at : Entry → ℕ → ℕ
-ppn_at e va = e.ppn % 2 ^ ppn_bits + va / bytes_of Kib4 % pages_of e.page.size
+ppn_at e va = e.ppn % 2 ^ PPN_BITS + va / bytes_of Kib4 % pages_of e.page.size
 
 -- the mappings of an entry in a page: the page, the address spaces, and the PPN of the page's first
 -- address

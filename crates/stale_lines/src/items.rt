@@ -6,7 +6,7 @@ ghost use Rattle.stale.specs.Mapped.{reach_of};
 ghost use Rattle.stale.specs.declared.items.StaleItem.TheVariants.{Became, Used};
 
 use lines::{push_decimal, push_hexadecimal, push_page};
-use pte::{PAGE_BYTES, PPN_BITS, Page, PageSize};
+use pte::{PAGE_BYTES, PPN_LIMIT, Page, PageSize};
 use stale::{BecameStale, StaleAt, StaleItem, StaleUse};
 use std::alloc::{AllocError, Global};
 use tlb::Entry;
@@ -15,7 +15,7 @@ use tlb::Entry;
 fn ppn_at(entry: &Entry, va: u64) -> u64
     ensures { result ≡ ppn_at entry.now va }
 {
-    entry.ppn % (1 << PPN_BITS) + va / PAGE_BYTES % entry.page.size().pages()
+    entry.ppn % PPN_LIMIT + va / PAGE_BYTES % entry.page.size().pages()
 }
 
 /// Adds the address spaces that the entry is for.
