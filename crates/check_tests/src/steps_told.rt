@@ -228,3 +228,17 @@ fn no_more_than_200_faults(rt: HostRuntime) -> Result<(), Fail> {
     assert!(rt; checked.text.as_str().ends_with(last));
     Ok(())
 }
+
+/// Keys that are not known come first, and after 200 of them no wrong value of another is told.
+#[test]
+fn no_more_than_200_faults_of_keys(rt: HostRuntime) -> Result<(), Fail> {
+    let mut text = String::from_str(rt.alloc(), "mode = 3\nbase = 3\n")?;
+    for number in 0..250 {
+        writeln!(text, "key{number} = 1")?;
+    }
+    let checked = check_text(rt.alloc(), text.as_str())?;
+    assert!(rt; checked.lines.len() == 200);
+    let last = "\n200 faults are told, and there may be more\n";
+    assert!(rt; checked.text.as_str().ends_with(last));
+    Ok(())
+}

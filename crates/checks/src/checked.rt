@@ -1,5 +1,5 @@
 //! The whole of a file: its command, each fault in a line, and the last line.
-ghost use Rattle.std.specs.Prelude.{◌≡◌, ◌↔◌, ◌+◌, ◌++◌, None, Some, IfOk, OnOk, codes, false, length, map, option_map, string_bytes, vec_len};
+ghost use Rattle.std.specs.Prelude.{◌≡◌, ◌≤◌, ◌↔◌, ◌+◌, ◌++◌, None, Some, IfOk, OnOk, codes, false, length, map, min, option_map, string_bytes, vec_len};
 ghost use Rattle.toml.specs.Parse.{parse_document};
 ghost use Rattle.toml.specs.View.{table_view};
 ghost use Rattle.keys.specs.Faults.{failure_of, fault_in};
@@ -7,7 +7,7 @@ ghost use Rattle.keys.specs.declared.fault.Fault.TheVariants.{NotToml};
 ghost use Rattle.files.specs.LiveFile.{live_scenario_of};
 ghost use Rattle.files.specs.RunFile.{run_scenario_of};
 ghost use Rattle.files.specs.WalkFile.{walk_scenario_of};
-ghost use Rattle.checks.specs.Told.{command_of, fault_for, fault_of, is_memory, last_text, lines_text, name_by, name_of, whole_text};
+ghost use Rattle.checks.specs.Told.{command_of, fault_for, fault_of, is_memory, last_text, lines_text, most_told, name_by, name_of, whole_text};
 
 use crate::commands::{Command, command_of};
 use crate::keys_known::tell_unknown;
@@ -283,7 +283,8 @@ fn tell_all(
 
 /// Tells where the reader of TOML stopped, and why.
 fn tell_error(report: &mut Report, text: &str, error: &toml::de::Error) -> Result<(), AllocError>
-    ensures { OnOk result (length report.new.lines.items ≡ length report.old.lines.items + 1) }
+    ensures { OnOk result (length report.new.lines.items
+        ≡ min (length report.old.lines.items + 1) most_told) }
 {
     let start = error.span().map_or(0, |span| span.start);
     let mut line = 1_usize;
@@ -375,6 +376,7 @@ fn check_table(alloc: Global, text: &str, table: &Table) -> Result<Checked, Allo
     ensures fault { IfOk result (λ checked. option_map failure_of checked.fault ≡ option_map Some
         (fault_for (command_of (table_view table.now)) text.now)) }
     ensures told { IfOk result (λ checked. (checked.fault ≡ None) ↔ (vec_len checked.lines ≡ 0)) }
+    ensures few { IfOk result (λ checked. vec_len checked.lines ≤ most_told) }
     ensures text { IfOk result (λ checked. string_bytes checked.text ≡ whole_text
         (name_of (command_of (table_view table.now))) (map string_bytes checked.lines.items)) }
 {
@@ -390,6 +392,7 @@ fn check_table(alloc: Global, text: &str, table: &Table) -> Result<Checked, Allo
 fn not_toml(alloc: Global, text: &str, error: &toml::de::Error) -> Result<Checked, AllocError>
     ensures fault { IfOk result (λ checked. checked.fault ≡ Some NotToml) }
     ensures told { IfOk result (λ checked. ¬ (vec_len checked.lines ≡ 0)) }
+    ensures few { IfOk result (λ checked. vec_len checked.lines ≤ most_told) }
     ensures text { IfOk result (λ checked. string_bytes checked.text ≡ whole_text
         (codes "no command") (map string_bytes checked.lines.items)) }
 {
@@ -408,6 +411,7 @@ pub fn check_text(alloc: Global, text: &str) -> Result<Checked, AllocError>
     ensures fault { IfOk result (λ checked. option_map failure_of checked.fault ≡ option_map Some
         (fault_of text.now)) }
     ensures told { IfOk result (λ checked. (checked.fault ≡ None) ↔ (vec_len checked.lines ≡ 0)) }
+    ensures few { IfOk result (λ checked. vec_len checked.lines ≤ most_told) }
     ensures text { IfOk result (λ checked. string_bytes checked.text ≡ whole_text
         (name_by (parse_document text.now)) (map string_bytes checked.lines.items)) }
 {

@@ -1,5 +1,6 @@
 //! The lines that explain.
-ghost use Rattle.std.specs.Prelude.{◌≡◌, ◌+◌, [], OnOk, length};
+ghost use Rattle.std.specs.Prelude.{◌≡◌, ◌≤◌, ◌+◌, [], OnOk, length, min, nat_le, vec_len};
+ghost use Rattle.checks.specs.Told.{most_told};
 
 use std::alloc::{AllocError, Global};
 
@@ -14,6 +15,7 @@ const MOST_LETTERS: usize = 40;
 pub struct Report {
     pub alloc: Global,
     pub lines: Vec<String>,
+    ghost few: { vec_len lines ≤ most_told },
 }
 
 impl Report {
@@ -26,10 +28,15 @@ impl Report {
         }
     }
 
-    /// Adds a line, after the number of the line of the file if it is known.
+    /// Adds a line, after the number of the line of the file if it is known. Nothing is added once
+    /// no more faults are told.
     pub fn add(&mut self, line: Option<usize>, what: &str) -> Result<(), AllocError>
-        ensures { OnOk result (length self.new.lines.items ≡ length self.old.lines.items + 1) }
+        ensures { OnOk result (length self.new.lines.items
+            ≡ min (length self.old.lines.items + 1) most_told) }
     {
+        if self.is_full() {
+            return Ok(());
+        }
         let text = match line {
             Some(line) => format!(in self.alloc; "line {line}: {what}")?,
             None => String::from_str(self.alloc, what)?,
@@ -39,7 +46,9 @@ impl Report {
     }
 
     /// Whether no more faults are told.
-    pub fn is_full(&self) -> bool {
+    pub fn is_full(&self) -> bool
+        ensures { result ≡ nat_le most_told (length self.now.lines.items) }
+    {
         self.lines.len() >= MOST_TOLD
     }
 }
