@@ -10,7 +10,7 @@ use Rattle.shoot.proofs.HartSets.{by_test}
 use Rattle.spaces.specs.declared.configuration.Config.{Config}
 use Rattle.views.specs.declared.view.Order.{Order}
 use Rattle.views.specs.Orders.{is_in}
-use Rattle.views.specs.OrderTurns.{last_word, open_order}
+use Rattle.views.specs.OrderTurns.{last_word, order_of_ticket}
 use Rattle.board.specs.Ports.{PortState}
 use Rattle.board.specs.Ties.{AreTied, IsTied}
 use Rattle.board.specs.Collects.{IsCollected, after_look, after_looks, awaited_word, is_awaiting, look_at}
@@ -32,8 +32,8 @@ collected_step port ticket from mid after is_found i idle found looked =
 
 -- a ticket is done exactly if each hart that it names is collected for its order
 pub all_collected : (c : Config) (ks : List Order) (T : TicketTable) (n : ℕ) → IsTrue (is_open T n) → AreTied c ks T
-    → (progress_at T n ≡ Done) ↔ ((k : Order) → open_order n ks ≡ Some k → (h : ℕ) → names T n h ≡ true → is_in h k.collected ≡ true)
-all_collected c ks T n there was = by (ticket_at T n) (open_order n ks) there (was.each n)
+    → (progress_at T n ≡ Done) ↔ ((k : Order) → order_of_ticket n ks ≡ Some k → (h : ℕ) → names T n h ≡ true → is_in h k.collected ≡ true)
+all_collected c ks T n there was = by (ticket_at T n) (order_of_ticket n ks) there (was.each n)
   where
     by : (x : Option Ticket) (o : Option Order) → is_some x ≡ true → IsTied c T.hart x o
         → (progress_with x ≡ Done) ↔ ((k : Order) → o ≡ Some k → (h : ℕ) → tells (λ t. t.named) x h ≡ true → is_in h k.collected ≡ true)

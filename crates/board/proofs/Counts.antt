@@ -1,4 +1,5 @@
--- How many ends a port has, and that a change of one end that stays the end which it is changes no name.
+-- How many ends a port has, and that a change of one end that stays the end which it is changes no
+-- name.
 use Rattle.spaces.proofs.Lists.{slice_get-set_same}
 use Rattle.std.proofs.Common.{◌≡◌, ◌∙◌, sym, ap, refl, ℕ, zero, suc, List, [], ◌∷◌, length, map, ◌<◌, Option, slice_set, slice_index_or}
 use Rattle.std.proofs.lemmas.List.{length-map}

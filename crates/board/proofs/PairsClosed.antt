@@ -1,4 +1,5 @@
--- The pairs before one are closed, by sender and then by receiver: what their reports are, and which ends stay.
+-- The pairs before one are closed, by sender and then by receiver: what their reports are, and
+-- which ends stay.
 use Rattle.std.proofs.Common.{◌≡◌, ◌∙◌, sym, ap, ap₂, refl, ℕ, suc, ◌+◌, ◌*◌, ◌<◌, ◌≤◌, ◌==◌, ◌++◌, List, [], ◌∷◌, length, ◌⊎◌, inl, inr, map, Option, Bool, true, false, All, if◌then◌else◌, arith, append_assoc}
 use Rattle.std.proofs.lemmas.Bool.{eq-eqb, ne_eqb}
 use Rattle.std.proofs.lemmas.List.{map-append, append-nil}

@@ -6,7 +6,7 @@ use lib.ListN.{get_elem?}
 use Rattle.tlb.specs.declared.store.Entry.{Entry}
 use Rattle.tlb.specs.Mappings.{IsMappedBy, Translates}
 use Rattle.views.specs.declared.view.Order.{Order}
-use Rattle.views.specs.OrderTurns.{open_order}
+use Rattle.views.specs.OrderTurns.{order_of_ticket}
 use Rattle.views.proofs.Collected.{collected_is_clean}
 use Rattle.board.specs.Ties.{IsWithin}
 use Rattle.spaces.specs.declared.faults.MapFault.{MapFault}
@@ -22,11 +22,11 @@ use Rattle.board.specs.Tables.{after_opened, after_store, due_store, named_refus
 use Rattle.board.specs.Promises.{AcceptedUnmappingIsLive, DoneIsClean, TranslateNoneHoldsNone}
 
 -- the open order is one of the orders
-find-order : (ticket : ℕ) (ks : List Order) (k : Order) → open_order ticket ks ≡ Some k → (n : ℕ) × (get_elem? ks n ≡ some k)
+find-order : (ticket : ℕ) (ks : List Order) (k : Order) → order_of_ticket ticket ks ≡ Some k → (n : ℕ) × (get_elem? ks n ≡ some k)
 find-order ticket [] k e = absurd (let bad : None ≡ Some k = e in cc)
 find-order ticket (x ∷ xs) k e = by (x.ticket == ticket) e (find-order ticket xs k)
   where
-    by : (q : Bool) → cond q (Some x) (open_order ticket xs) ≡ Some k → (open_order ticket xs ≡ Some k → (n : ℕ) × (get_elem? xs n ≡ some k)) → (n : ℕ) × (get_elem? (x ∷ xs) n ≡ some k)
+    by : (q : Bool) → cond q (Some x) (order_of_ticket ticket xs) ≡ Some k → (order_of_ticket ticket xs ≡ Some k → (n : ℕ) × (get_elem? xs n ≡ some k)) → (n : ℕ) × (get_elem? (x ∷ xs) n ≡ some k)
     by true e rest = (zero, ap (λ (o : Option Order). some (unwrap_or o k)) e)
     by false e rest = let r = rest e in (suc r.0, r.1)
 
@@ -52,11 +52,11 @@ no-ticket (Some refusal) why ticket e = cc
 
 pub accepted_unmapping_is_live : AcceptedUnmappingIsLive
 accepted_unmapping_is_live port place page named ticket e =
-    subst (λ (r : Result ℕ Refusal). (k : Order) × (open_order ticket (after_opened port (Unmap place page) named r).view.orders ≡ Some k) × IsLive k place page × (k.armed ≡ []) × (k.collected ≡ []))
+    subst (λ (r : Result ℕ Refusal). (k : Order) × (order_of_ticket ticket (after_opened port (Unmap place page) named r).view.orders ≡ Some k) × IsLive k place page × (k.armed ≡ []) × (k.collected ≡ []))
     (sym e) (by (due_store port (Unmap place page)) refl)
   where
     by : (d : Result Store MapFault) → due_store port (Unmap place page) ≡ d → (k : Order)
-        × (open_order ticket (after_store port (Unmap place page) ticket d).view.orders ≡ Some k) × IsLive k place page × (k.armed ≡ []) × (k.collected ≡ [])
+        × (order_of_ticket ticket (after_store port (Unmap place page) ticket d).view.orders ≡ Some k) × IsLive k place page × (k.armed ≡ []) × (k.collected ≡ [])
     by (Ok store) is = let b = begins_live port.view.config place page ticket port.view store in (b.0, b.1, b.2, b.3, b.4)
     by (Err fault) is =
         absurd (no-ticket (named_refusal port place named) (refusal_of fault) ticket (

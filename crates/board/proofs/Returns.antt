@@ -1,4 +1,5 @@
--- Ports of one board that come back: their ends are those of the board, and what their ends carried is what the ports did.
+-- Ports of one board that come back: their ends are those of the board, and what their ends carried
+-- is what the ports did.
 use Rattle.std.proofs.Common.{◌≡◌, ◌≢◌, ◌∙◌, sym, ap, refl, ℕ, zero, suc, ◌+◌, ◌<◌, ◌==◌, List, [], ◌∷◌, length, map, Option, Some, None, is_some, IsTrue, Bool, All, if◌then◌else◌, get_or, drop, ap₂, ◌++◌, arith}
 use Rattle.std.proofs.lemmas.Bool.{ne_eqb}
 use Rattle.std.proofs.lemmas.List.{length-map}
@@ -10,7 +11,7 @@ use Rattle.history.specs.Setup.{Setup}
 use Rattle.shoot.specs.Request.{Request}
 use Rattle.rings.specs.Ends.{OutboxState, InboxState, count_of}
 use Rattle.board.specs.Ports.{End, PortState, ArePorts, IsPort, capacities, capacities_of, element, end_of_inbox, end_of_outbox, name_of, row}
-use Rattle.board.specs.Reports.{IsReport, IsReportOf, accepted, accepted_by, pairs_of, taken, taken_by}
+use Rattle.board.specs.Reports.{IsReport, IsReportOf, accepted_between, accepted_by, pairs_of, taken_between, taken_by}
 use Rattle.board.specs.Rows.{AreEnds, IsPairOf, items_at}
 use Rattle.board.specs.declared.report.PairReport.{PairReport}
 use Rattle.board.proofs.Counts.{inboxes_count, outboxes_count}
@@ -96,10 +97,10 @@ module _ (setup : Setup) (ports : List PortState) (are : ArePorts setup (map nam
     linked = λ s h. sym (out-cell ports outs (sym same-outs) s h) ∙ (are.linked s h ∙ in-cell ports ins (sym same-ins) s h);
   }
 
-  same-accepted : (s h : ℕ) → accepted ports s h ≡ accepted_by (element (items_at outs s) h)
+  same-accepted : (s h : ℕ) → accepted_between ports s h ≡ accepted_by (element (items_at outs s) h)
   same-accepted s h = ap (λ (r : List (Option OutboxState)). accepted_by (element r h)) (out-row s)
 
-  same-taken : (s h : ℕ) → taken ports s h ≡ taken_by (element (items_at ins h) s)
+  same-taken : (s h : ℕ) → taken_between ports s h ≡ taken_by (element (items_at ins h) s)
   same-taken s h = ap (λ (r : List (Option InboxState)). taken_by (element r s)) (in-row h)
 
   of_ports : (pair : PairReport) → IsPairOf outs ins pair → IsReportOf ports pair

@@ -14,13 +14,13 @@ use Rattle.std.proofs.lemmas.Bool.{cases_eq, cases_lt, eq-eqb, eqb-true, ne_eqb,
 use Rattle.pte.specs.declared.address.What.{What}
 use Rattle.shoot.specs.HartSet.{contains, harts_in, no_harts}
 use Rattle.shoot.specs.declared.tickets.Ticket.{Ticket}
-use Rattle.shoot.specs.Tickets.{TicketTable, ticket_at, if_open, with_ticket, with_change, changed, after_acked, after_finish, after_open, after_posted, asked as asked_of, done_with, is_done_at, is_open, is_posted, names, new_ticket, lowest_free, no_tickets, open_answer, opened, tells, what_at, with_acked, with_collected, with_posted}
+use Rattle.shoot.specs.Tickets.{TicketTable, ticket_at, if_open, with_ticket, with_change, changed, after_acked, after_finish, after_open, after_posted, asked as asked_of, done_with, is_done_at, is_open, ticket_posted, names, new_ticket, lowest_free, no_tickets, open_answer, opened, tells, what_at, with_acked, with_collected, with_posted}
 use Rattle.rings.specs.Ends.{OutboxState, after_close, after_release}
 use Rattle.spaces.specs.declared.configuration.Config.{Config}
 use Rattle.views.specs.declared.view.Cause.{Cause}
 use Rattle.views.specs.declared.view.Order.{Order}
 use Rattle.views.specs.Orders.{asked, dropping, is_in}
-use Rattle.views.specs.OrderTurns.{IsAsking, IsAwaiting, armed, collected, for_ticket, fresh, marked, open_order, orders_after}
+use Rattle.views.specs.OrderTurns.{IsAsking, IsAwaiting, armed, collected, for_ticket, fresh, marked, order_of_ticket, orders_after}
 use Rattle.views.specs.declared.view.View.{View}
 use Rattle.board.specs.Answers.{acked_by, collected_by, outbox_with}
 use Rattle.shoot.specs.Request.{Request}
@@ -56,33 +56,33 @@ each-set P (y ∷ ys) (suc n) x none here others (suc m) =
 
 -- the open order of another ticket stays
 other-order : (n : ℕ) (g : Order → Order) → ((k : Order) → (g k).ticket ≡ k.ticket) → (m : ℕ) → m ≢ n → (ks : List Order)
-    → open_order m (for_ticket n g ks) ≡ open_order m ks
+    → order_of_ticket m (for_ticket n g ks) ≡ order_of_ticket m ks
 other-order n g keeps m apart [] = refl
 other-order n g keeps m apart (x ∷ xs) = by (x.ticket == n) refl (other-order n g keeps m apart xs)
   where
-    by : (q : Bool) → (x.ticket == n) ≡ q → open_order m (for_ticket n g xs) ≡ open_order m xs → open_order m (cond q (g x ∷ xs) (x ∷ for_ticket n g xs)) ≡ cond (x.ticket == m) (Some x) (open_order m xs)
+    by : (q : Bool) → (x.ticket == n) ≡ q → order_of_ticket m (for_ticket n g xs) ≡ order_of_ticket m xs → order_of_ticket m (cond q (g x ∷ xs) (x ∷ for_ticket n g xs)) ≡ cond (x.ticket == m) (Some x) (order_of_ticket m xs)
     by true is rest =
         let was : (x.ticket == m) ≡ false = ne_eqb x.ticket m (λ e. apart (sym e ∙ eqb-true x.ticket n is)) in
         let now : ((g x).ticket == m) ≡ false = ap (λ t. t == m) (keeps x) ∙ was in
-        ap (λ b. cond b (Some (g x)) (open_order m xs)) now ∙ sym (ap (λ b. cond b (Some x) (open_order m xs)) was)
+        ap (λ b. cond b (Some (g x)) (order_of_ticket m xs)) now ∙ sym (ap (λ b. cond b (Some x) (order_of_ticket m xs)) was)
     by false is rest = ap (λ o. cond (x.ticket == m) (Some x) o) rest
 
 -- and that of the ticket changes
 own-order : (n : ℕ) (g : Order → Order) → ((k : Order) → (g k).ticket ≡ k.ticket) → (ks : List Order)
-    → open_order n (for_ticket n g ks) ≡ option_map g (open_order n ks)
+    → order_of_ticket n (for_ticket n g ks) ≡ option_map g (order_of_ticket n ks)
 own-order n g keeps [] = refl
 own-order n g keeps (x ∷ xs) = by (x.ticket == n) refl (own-order n g keeps xs)
   where
-    by : (q : Bool) → (x.ticket == n) ≡ q → open_order n (for_ticket n g xs) ≡ option_map g (open_order n xs) → open_order n (cond q (g x ∷ xs) (x ∷ for_ticket n g xs)) ≡ option_map g (cond q (Some x) (open_order n xs))
-    by true is rest = ap (λ b. cond b (Some (g x)) (open_order n xs)) (ap (λ t. t == n) (keeps x) ∙ is)
-    by false is rest = ap (λ b. cond b (Some x) (open_order n (for_ticket n g xs))) is ∙ rest
+    by : (q : Bool) → (x.ticket == n) ≡ q → order_of_ticket n (for_ticket n g xs) ≡ option_map g (order_of_ticket n xs) → order_of_ticket n (cond q (g x ∷ xs) (x ∷ for_ticket n g xs)) ≡ option_map g (cond q (Some x) (order_of_ticket n xs))
+    by true is rest = ap (λ b. cond b (Some (g x)) (order_of_ticket n xs)) (ap (λ t. t == n) (keeps x) ∙ is)
+    by false is rest = ap (λ b. cond b (Some x) (order_of_ticket n (for_ticket n g xs))) is ∙ rest
 
 -- a mark on each order
-mapped-order : (g : Order → Order) → ((k : Order) → (g k).ticket ≡ k.ticket) → (m : ℕ) (ks : List Order) → open_order m (map g ks) ≡ option_map g (open_order m ks)
+mapped-order : (g : Order → Order) → ((k : Order) → (g k).ticket ≡ k.ticket) → (m : ℕ) (ks : List Order) → order_of_ticket m (map g ks) ≡ option_map g (order_of_ticket m ks)
 mapped-order g keeps m [] = refl
-mapped-order g keeps m (x ∷ xs) = ap (λ t. cond (t == m) (Some (g x)) (open_order m (map g xs))) (keeps x) ∙ by (x.ticket == m) (mapped-order g keeps m xs)
+mapped-order g keeps m (x ∷ xs) = ap (λ t. cond (t == m) (Some (g x)) (order_of_ticket m (map g xs))) (keeps x) ∙ by (x.ticket == m) (mapped-order g keeps m xs)
   where
-    by : (q : Bool) → open_order m (map g xs) ≡ option_map g (open_order m xs) → cond q (Some (g x)) (open_order m (map g xs)) ≡ option_map g (cond q (Some x) (open_order m xs))
+    by : (q : Bool) → order_of_ticket m (map g xs) ≡ option_map g (order_of_ticket m xs) → cond q (Some (g x)) (order_of_ticket m (map g xs)) ≡ option_map g (cond q (Some x) (order_of_ticket m xs))
     by true rest = refl
     by false rest = rest
 
@@ -130,10 +130,10 @@ module _ (c : Config) (home : ℕ) where
 
 module _ (c : Config) (ks : List Order) (T : TicketTable) where
   -- the ticket of one number and its order become others
-  tied-set : (ks' : List Order) (n : ℕ) (x : Option Ticket) → ((m : ℕ) → m ≢ n → open_order m ks' ≡ open_order m ks)
-      → IsTied c T.hart x (open_order n ks') → AreTied c ks T → AreTied c ks' (with_ticket T n x)
+  tied-set : (ks' : List Order) (n : ℕ) (x : Option Ticket) → ((m : ℕ) → m ≢ n → order_of_ticket m ks' ≡ order_of_ticket m ks)
+      → IsTied c T.hart x (order_of_ticket n ks') → AreTied c ks T → AreTied c ks' (with_ticket T n x)
   tied-set ks' n x others here was = record {
-    each = each-set (λ m y. IsTied c T.hart y (open_order m ks')) T.tickets n x (λ m. tt) here
+    each = each-set (λ m y. IsTied c T.hart y (order_of_ticket m ks')) T.tickets n x (λ m. tt) here
         (λ m apart. subst (λ o. IsTied c T.hart (ticket_at T m) o) (sym (others m apart)) (was.each m));
   }
 
@@ -142,14 +142,14 @@ module _ (c : Config) (ks : List Order) (T : TicketTable) where
       → AreTied c ks T → AreTied c (for_ticket n g ks) (with_change T n f)
   tied-both n f g keeps step was =
       tied-set (for_ticket n g ks) n (changed f (ticket_at T n)) (λ m apart. other-order n g keeps m apart ks)
-      (subst (λ o. IsTied c T.hart (changed f (ticket_at T n)) o) (sym (own-order n g keeps ks)) (tied-change c T.hart f g (ticket_at T n) (open_order n ks) step (was.each n))) was
+      (subst (λ o. IsTied c T.hart (changed f (ticket_at T n)) o) (sym (own-order n g keeps ks)) (tied-change c T.hart f g (ticket_at T n) (order_of_ticket n ks) step (was.each n))) was
 
   -- a change of each order, which tells nothing of tickets
   tied-map : (g : Order → Order) → ((k : Order) → (g k).ticket ≡ k.ticket)
       → ((t : Ticket) (k : Order) → IsOrderOf c t k → IsOrderOf c t (g k)) → AreTied c ks T → AreTied c (map g ks) T
   tied-map g keeps step was = record {
     each = λ n. subst (λ o. IsTied c T.hart (ticket_at T n) o) (sym (mapped-order g keeps n ks))
-        (order-change c T.hart g (ticket_at T n) (open_order n ks) (λ t k e is. step t k is.1) (was.each n));
+        (order-change c T.hart g (ticket_at T n) (order_of_ticket n ks) (λ t k e is. step t k is.1) (was.each n));
   }
 
   -- and of the order of one ticket
@@ -157,8 +157,8 @@ module _ (c : Config) (ks : List Order) (T : TicketTable) where
       → ((t : Ticket) (k : Order) → ticket_at T n ≡ Some t → IsWhole T.hart t × IsOrderOf c t k → IsOrderOf c t (g k)) → AreTied c ks T → AreTied c (for_ticket n g ks) T
   tied-order n g keeps step was = record {
     each = λ m. elim (cases_eq m n) [
-      | inl same ↦ subst (λ j. IsTied c T.hart (ticket_at T j) (open_order j (for_ticket n g ks))) (sym same)
-          (subst (λ o. IsTied c T.hart (ticket_at T n) o) (sym (own-order n g keeps ks)) (order-change c T.hart g (ticket_at T n) (open_order n ks) step (was.each n)))
+      | inl same ↦ subst (λ j. IsTied c T.hart (ticket_at T j) (order_of_ticket j (for_ticket n g ks))) (sym same)
+          (subst (λ o. IsTied c T.hart (ticket_at T n) o) (sym (own-order n g keeps ks)) (order-change c T.hart g (ticket_at T n) (order_of_ticket n ks) step (was.each n)))
       | inr apart ↦ subst (λ o. IsTied c T.hart (ticket_at T m) o) (sym (other-order n g keeps m apart ks)) (was.each m)
     ];
   }
@@ -168,7 +168,7 @@ module _ (c : Config) (ks : List Order) (T : TicketTable) where
       → ((t : Ticket) (k : Order) → ticket_at T n ≡ Some t → IsWhole T.hart t × IsOrderOf c t k → IsWhole T.hart (f t) × IsOrderOf c (f t) k)
       → AreTied c ks T → AreTied c ks (with_change T n f)
   tied-ticket n f step was =
-      tied-set ks n (changed f (ticket_at T n)) (λ m apart. refl) (by (ticket_at T n) (open_order n ks) step (was.each n)) was
+      tied-set ks n (changed f (ticket_at T n)) (λ m apart. refl) (by (ticket_at T n) (order_of_ticket n ks) step (was.each n)) was
     where
       by : (x : Option Ticket) (o : Option Order) → ((t : Ticket) (k : Order) → x ≡ Some t → IsWhole T.hart t × IsOrderOf c t k → IsWhole T.hart (f t) × IsOrderOf c (f t) k)
           → IsTied c T.hart x o → IsTied c T.hart (changed f x) o
@@ -176,11 +176,11 @@ module _ (c : Config) (ks : List Order) (T : TicketTable) where
       by (Some t) None keeps is = absurd is
       by (Some t) (Some k) keeps is = keeps t k refl is
 
-  fresh-order : (n : ℕ) (cause : Cause) → open_order n (fresh n cause ∷ ks) ≡ Some (fresh n cause)
-  fresh-order n cause = ap (λ b. cond b (Some (fresh n cause)) (open_order n ks)) (eq-eqb n n refl)
+  fresh-order : (n : ℕ) (cause : Cause) → order_of_ticket n (fresh n cause ∷ ks) ≡ Some (fresh n cause)
+  fresh-order n cause = ap (λ b. cond b (Some (fresh n cause)) (order_of_ticket n ks)) (eq-eqb n n refl)
 
-  later-order : (n : ℕ) (cause : Cause) (m : ℕ) → m ≢ n → open_order m (fresh n cause ∷ ks) ≡ open_order m ks
-  later-order n cause m apart = ap (λ b. cond b (Some (fresh n cause)) (open_order m ks)) (ne_eqb n m (λ e. apart (sym e)))
+  later-order : (n : ℕ) (cause : Cause) (m : ℕ) → m ≢ n → order_of_ticket m (fresh n cause ∷ ks) ≡ order_of_ticket m ks
+  later-order n cause m apart = ap (λ b. cond b (Some (fresh n cause)) (order_of_ticket m ks)) (ne_eqb n m (λ e. apart (sym e)))
 
   new-tied : (n : ℕ) (cause : Cause) (what : What) (named : ℕ) → asked c cause ≡ what → IsWhole T.hart (new_ticket what named) × IsOrderOf c (new_ticket what named) (fresh n cause)
   new-tied n cause what named asks = (
@@ -299,9 +299,9 @@ tied_new c hart = record { each = λ n. subst (λ x. IsTied c hart x None) (sym 
 
 -- an open ticket's order asks for what the ticket asks
 pub asking : (c : Config) (v : View) (T : TicketTable) (n : ℕ) (what : What) → what_at T n ≡ Some what → AreTied c v.orders T → IsAsking c v n what
-asking c v T n what is was = by (ticket_at T n) (open_order n v.orders) is refl (was.each n)
+asking c v T n what is was = by (ticket_at T n) (order_of_ticket n v.orders) is refl (was.each n)
   where
-    by : (x : Option Ticket) (o : Option Order) → asked_of x ≡ Some what → open_order n v.orders ≡ o → IsTied c T.hart x o → IsAsking c v n what
+    by : (x : Option Ticket) (o : Option Order) → asked_of x ≡ Some what → order_of_ticket n v.orders ≡ o → IsTied c T.hart x o → IsAsking c v n what
     by None o e same tied = absurd (let bad : None ≡ Some what = e in cc)
     by (Some t) None e same tied = absurd tied
     by (Some t) (Some k) e same tied = record { order = k; is = same; asks = tied.1.asks ∙ some-what t.what what e }
@@ -452,14 +452,14 @@ counted_self T outs n was = by_test (λ b. AreCounted (cond b (after_acked T n T
 
 -- the counts after each call
 module _ (c : Config) (ks : List Order) (T : TicketTable) (outs : List (Option OutboxState)) where
-  pub counted_posted : (n to room : ℕ) (request : Request) → IsTrue (names T n to) → is_posted T n to ≡ false → to ≢ T.hart → AreTied c ks T → AreCounted T outs
+  pub counted_posted : (n to room : ℕ) (request : Request) → IsTrue (names T n to) → ticket_posted T n to ≡ false → to ≢ T.hart → AreTied c ks T → AreCounted T outs
       → AreCounted (after_posted T n to) (slice_set outs to (outbox_with request room (element outs to)))
   counted_posted n to room request named new apart tied was =
       let x = changed (with_posted to) (ticket_at T n) in
       let there = some-by (λ t. t.named) (ticket_at T n) to named in
       let e = count-set to T.tickets n x there in
       let before : one_if (awaits to (ticket_at T n)) ≡ 0 = ap one_if (posted-before c T.hart to (ticket_at T n) new) in
-      let after : one_if (awaits to x) ≡ 1 = ap one_if (posted-now c T.hart to (ticket_at T n) (open_order n ks) apart named new (tied.each n)) in
+      let after : one_if (awaits to x) ≡ 1 = ap one_if (posted-now c T.hart to (ticket_at T n) (order_of_ticket n ks) apart named new (tied.each n)) in
       let more : count_awaiting to (slice_set T.tickets n x) ≡ count_awaiting to T.tickets + 1 = omega (arith, e, before, after) in
       record {
         each = each-set (λ m o. m ≢ T.hart → HasOutstanding (count_awaiting m (slice_set T.tickets n x)) o) outs to (outbox_with request room (element outs to))
@@ -474,7 +474,7 @@ module _ (c : Config) (ks : List Order) (T : TicketTable) (outs : List (Option O
 
   pub counted_finished : (n : ℕ) → AreTied c ks T → AreCounted T outs → AreCounted (after_finish T n) outs
   counted_finished n tied was = by_test (λ b. AreCounted (cond b (with_ticket T n None) T) outs) (is_done_at T n)
-      (λ is-done. counted-same T n None outs (λ h other. sym (finished-same c T.hart h (ticket_at T n) (open_order n ks) is-done (tied.each n))) was)
+      (λ is-done. counted-same T n None outs (λ h other. sym (finished-same c T.hart h (ticket_at T n) (order_of_ticket n ks) is-done (tied.each n))) was)
       (λ more. was)
 
   pub counted_closed : (to : ℕ) → AreCounted T outs → AreCounted T (slice_set outs to (option_map after_close (element outs to)))
@@ -523,7 +523,7 @@ module _ (c : Config) (ks : List Order) (T : TicketTable) (n from : ℕ) (waits 
   found-there was t at =
       let stands : ticket_at (after_acked T n from) n ≡ changed (with_acked T.hart from) (ticket_at T n) =
       put T.tickets n (changed (with_acked T.hart from) (ticket_at T n)) (some-awaited (ticket_at T n) from waits) in
-      acked-there c T.hart from apart (ticket_at T n) (open_order n ks) t waits (sym stands ∙ at) (was.each n)
+      acked-there c T.hart from apart (ticket_at T n) (order_of_ticket n ks) t waits (sym stands ∙ at) (was.each n)
 
   pub tied_found : AreTied c ks T → AreTied c (for_ticket n (collected from) ks) (collected_by T n from)
   tied_found was = tied-both c ks (after_acked T n from) n (with_collected from) (collected from) (λ k. refl) (λ t k at is.
@@ -570,7 +570,7 @@ module _ (c : Config) (ks : List Order) (T : TicketTable) (n from : ℕ) (waits 
       let e = count-set from (slice_set T.tickets n x) n y (some-awaited (ticket_at (after_acked T n from) n) from now) in
       let before : one_if (awaits from (ticket_at (after_acked T n from) n)) ≡ 1 = ap one_if now in
       let after : one_if (awaits from y) ≡ 0 =
-      ap one_if (collected-now (ticket_at (after_acked T n from) n) (open_order n ks) (λ t at. (found-there was t at).0) ((acked-tied was).each n)) in
+      ap one_if (collected-now (ticket_at (after_acked T n from) n) (order_of_ticket n ks) (λ t at. (found-there was t at).0) ((acked-tied was).each n)) in
       omega (arith, e, before, after, kept)
 
   -- so its end has some outstanding
@@ -599,9 +599,9 @@ module _ (c : Config) (ks : List Order) (T : TicketTable) (n from : ℕ) (waits 
 
   -- the cell of the hart was armed for the order of the ticket
   pub awaiting : (v : View) (what : What) → v.orders ≡ ks → what_at T n ≡ Some what → AreTied c ks T → IsAwaiting c v n from what
-  awaiting v what orders is was = by (ticket_at T n) (open_order n ks) is waits (ap (open_order n) orders) (was.each n)
+  awaiting v what orders is was = by (ticket_at T n) (order_of_ticket n ks) is waits (ap (order_of_ticket n) orders) (was.each n)
     where
-      by : (x : Option Ticket) (o : Option Order) → asked_of x ≡ Some what → awaits from x ≡ true → open_order n v.orders ≡ o → IsTied c T.hart x o → IsAwaiting c v n from what
+      by : (x : Option Ticket) (o : Option Order) → asked_of x ≡ Some what → awaits from x ≡ true → order_of_ticket n v.orders ≡ o → IsTied c T.hart x o → IsAwaiting c v n from what
       by None o e w same tied = absurd (let bad : None ≡ Some what = e in cc)
       by (Some t) None e w same tied = absurd tied
       by (Some t) (Some k) e w same tied = record {
@@ -612,7 +612,7 @@ module _ (c : Config) (ks : List Order) (T : TicketTable) (n from : ℕ) (waits 
 -- the ticket still names the hart, and is still open, once its acknowledgement is noted
 pub named_acked : (c : Config) (ks : List Order) (T : TicketTable) (n from : ℕ) → IsTrue (awaits from (ticket_at T n)) → AreTied c ks T → IsTrue (names T n from) × IsTrue (names (after_acked T n from) n from)
 named_acked c ks T n from waits was =
-    let named = by (ticket_at T n) (open_order n ks) waits (was.each n) in
+    let named = by (ticket_at T n) (order_of_ticket n ks) waits (was.each n) in
     (named, ap (λ x. tells (λ t. t.named) x from) (put T.tickets n (changed (with_acked T.hart from) (ticket_at T n)) (some-awaited (ticket_at T n) from waits)) ∙ (stays (ticket_at T n) ∙ named))
   where
     by : (x : Option Ticket) (o : Option Order) → awaits from x ≡ true → IsTied c T.hart x o → tells (λ t. t.named) x from ≡ true

@@ -11,7 +11,7 @@ use Rattle.tlb.specs.declared.store.Entry.{Entry}
 use Rattle.tlb.specs.Answer.{entry_of}
 use Rattle.tlb.specs.Entries.{filled}
 use Rattle.tlb.specs.Fence.{fenced, is_fenced}
-use Rattle.tlb.specs.Service.{is_served, served}
+use Rattle.tlb.specs.Service.{is_dropped, after_service}
 use Rattle.tlb.proofs.Keeping.{Contains-filled, Contains-filter, served_are_gone}
 use Rattle.views.specs.declared.view.View.{View}
 use Rattle.views.specs.Turns.{asid_at}
@@ -43,11 +43,11 @@ left-by p (y ∷ ys) x (suc k) less is passes = by (p y) refl (left-by p ys x k 
     by true e rest = let below = rest.1 in rw e (suc rest.0, omega (arith, below), rest.2)
     by false e rest = rw e rest
 
-pub within_served : (tlb held : List Entry) (what : What) → IsWithin tlb held → IsWithin (served tlb what) (served held what)
+pub within_served : (tlb held : List Entry) (what : What) → IsWithin tlb held → IsWithin (after_service tlb what) (after_service held what)
 within_served tlb held what was = record {
   each = λ e at.
-      let there = was.each e (Contains-filter (λ x. not (is_served what x)) tlb e at) in
-      left-by (λ x. not (is_served what x)) held e there.0 there.1 there.2 (All-contains (λ x. not (is_served what x) ≡ true) (served tlb what) e (served_are_gone tlb what) at);
+      let there = was.each e (Contains-filter (λ x. not (is_dropped what x)) tlb e at) in
+      left-by (λ x. not (is_dropped what x)) held e there.0 there.1 there.2 (All-contains (λ x. not (is_dropped what x) ≡ true) (after_service tlb what) e (served_are_gone tlb what) at);
 }
 
 -- after a walk from the root of a space

@@ -4,14 +4,14 @@ use Rattle.std.specs.Option.{option_map}
 use Rattle.pte.specs.declared.address.What.{What}
 use Rattle.pte.specs.declared.address.What.TheVariants.{All}
 use Rattle.tlb.specs.Entries.{TlbState}
-use Rattle.tlb.specs.Service.{served}
+use Rattle.tlb.specs.Service.{after_service}
 use Rattle.shoot.specs.Request.{Request}
 use Rattle.shoot.specs.declared.mailbox.PostFault.{PostFault}
 use Rattle.shoot.specs.declared.mailbox.PostFault.TheVariants as fault
 use Rattle.shoot.specs.declared.tickets.TicketFault.{TicketFault}
 use Rattle.shoot.specs.declared.tickets.TicketFault.TheVariants as ticket_fault
 use Rattle.shoot.specs.declared.tickets.Collected.{Collected}
-use Rattle.shoot.specs.Tickets.{TicketTable, is_open, names, is_posted, is_done_at, what_at, open_answer, progress_at, after_open, after_posted, after_acked, after_collect, after_finish}
+use Rattle.shoot.specs.Tickets.{TicketTable, is_open, names, ticket_posted, is_done_at, what_at, open_answer, progress_at, after_open, after_posted, after_acked, after_collect, after_finish}
 use Rattle.refusals.specs.declared.refusal.Refusal.{Refusal}
 use Rattle.refusals.specs.declared.refusal.Refusal.TheVariants.{NoHart, NoSpace, HomeNotNamed, NoTicket, NotOpen, NotNamed, AlreadyPosted, Closed, Full, NotDone}
 use Rattle.history.specs.declared.event.Scope.{Scope}
@@ -83,7 +83,7 @@ ticket_refusal port ticket to =
     refused_if (not (are_pair port.setup port.hart to)) NoHart
     (refused_if (not (is_open port.tickets ticket)) NotOpen
     (refused_if (not (names port.tickets ticket to)) NotNamed
-    (refused_if (is_posted port.tickets ticket to) AlreadyPosted None)))
+    (refused_if (ticket_posted port.tickets ticket to) AlreadyPosted None)))
 
 abbrev pub or_refusal : Option Refusal → Option Refusal → Option Refusal
 or_refusal None rest = rest
@@ -103,12 +103,12 @@ known_waiting None = []
 known_waiting (Some inbox) = inbox.known
 
 -- the request of an open ticket
-abbrev pub what_of : Option What → What
-what_of None = All
-what_of (Some what) = what
+abbrev pub asked_or_all : Option What → What
+asked_or_all None = All
+asked_or_all (Some what) = what
 
 abbrev pub request_of : TicketTable → ℕ → Request
-request_of tickets ticket = record { ticket = ticket; what = what_of (what_at tickets ticket) }
+request_of tickets ticket = record { ticket = ticket; what = asked_or_all (what_at tickets ticket) }
 
 -- an end once it accepted a request, and one once it took one
 abbrev pub outbox_with : Request → ℕ → Option OutboxState → Option OutboxState
@@ -133,9 +133,9 @@ after_no_post port ticket to =
     if is_none (post_refusal port ticket to)
     then record port { view = with_armed ticket to port.view } else port
 
--- a TLB once a request was served
+-- a TLB once a request was after_service
 abbrev pub tlb_served : TlbState → What → TlbState
-tlb_served tlb what = record tlb { entries = served tlb.entries what }
+tlb_served tlb what = record tlb { entries = after_service tlb.entries what }
 
 -- Serve: a port once it took a request, dropped what it names from its TLB and its view, and stored
 -- its word to the sender's cell; the end then knows these to wait
@@ -159,9 +159,9 @@ ack_self_answer port ticket =
 abbrev pub after_ack_self : PortState → ℕ → PortState
 after_ack_self port ticket =
     if is_open port.tickets ticket then record port {
-      view = self_acked ticket (what_of (what_at port.tickets ticket)) port.view;
+      view = self_acked ticket (asked_or_all (what_at port.tickets ticket)) port.view;
       tickets = acked_by port.tickets ticket port.hart;
-      tlb = tlb_served port.tlb (what_of (what_at port.tickets ticket));
+      tlb = tlb_served port.tlb (asked_or_all (what_at port.tickets ticket));
     } else port
 
 -- Collect: a hart whose cell had the word of the ticket's request has acknowledged it, and is

@@ -7,7 +7,7 @@ use Rattle.history.specs.Due.{are_pair}
 use Rattle.rings.specs.Ends.{after_release}
 use Rattle.views.specs.declared.view.Order.{Order}
 use Rattle.views.specs.Orders.{is_in}
-use Rattle.views.specs.OrderTurns.{looked, open_order}
+use Rattle.views.specs.OrderTurns.{looked, order_of_ticket}
 use Rattle.board.specs.Ports.{PortState, outbox_to}
 use Rattle.board.specs.Answers.{collected_by, request_of}
 use Rattle.board.specs.Ties.{awaits}
@@ -53,5 +53,5 @@ pub record IsCollected (port : PortState) (ticket bound : ℕ) (after : PortStat
 -- each hart that the ticket names is collected for its open order in the view
 abbrev pub AreAllCollected : PortState → ℕ → Type 0
 AreAllCollected port ticket =
-    (k : Order) → open_order ticket port.view.orders ≡ Some k → (h : ℕ)
+    (k : Order) → order_of_ticket ticket port.view.orders ≡ Some k → (h : ℕ)
     → names port.tickets ticket h ≡ true → is_in h k.collected ≡ true

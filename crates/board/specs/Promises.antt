@@ -15,7 +15,7 @@ use Rattle.views.specs.declared.view.Order.{Order}
 use Rattle.views.specs.declared.view.View.{View}
 use Rattle.views.specs.Board.{Board}
 use Rattle.views.specs.Orders.{IsAsidFor, IsLive}
-use Rattle.views.specs.OrderTurns.{open_order}
+use Rattle.views.specs.OrderTurns.{order_of_ticket}
 use Rattle.views.specs.Lasting.{IsFor}
 use Rattle.board.specs.Ports.{PortState}
 use Rattle.board.specs.Ties.{IsWithin}
@@ -35,7 +35,7 @@ abbrev pub DoneIsClean : Type 0
 DoneIsClean =
     (c : Config) (s : State ℕ View) → Board c s → (i : ℕ) (port : PortState)
     → get_elem? s.views i ≡ some port.view
-    → (ticket : ℕ) (k : Order) → open_order ticket port.view.orders ≡ Some k
+    → (ticket : ℕ) (k : Order) → order_of_ticket ticket port.view.orders ≡ Some k
     → (place : Place) (page : Span) → IsLive k place page → AreAllCollected port ticket
     → (j : ℕ) (other : PortState) → get_elem? s.views j ≡ some other.view
     → other.view.hart < length (layout_of c).spares
@@ -49,7 +49,7 @@ abbrev pub AcceptedUnmappingIsLive : Type 0
 AcceptedUnmappingIsLive =
     (port : PortState) (place : Place) (page : Span) (named ticket : ℕ)
     → edit_answer port (Unmap place page) named ≡ Ok ticket → (k : Order)
-    × (open_order ticket (after_edit port (Unmap place page) named).view.orders ≡ Some k)
+    × (order_of_ticket ticket (after_edit port (Unmap place page) named).view.orders ≡ Some k)
     × IsLive k place page × (k.armed ≡ []) × (k.collected ≡ [])
 
 -- where no address of a page of a place is translated, no entry overlaps the page that is for the

@@ -10,7 +10,7 @@ use Rattle.rings.specs.Ends.{OutboxState}
 use Rattle.spaces.specs.declared.configuration.Config.{Config}
 use Rattle.views.specs.declared.view.Order.{Order}
 use Rattle.views.specs.Orders.{asked, is_in}
-use Rattle.views.specs.OrderTurns.{open_order}
+use Rattle.views.specs.OrderTurns.{order_of_ticket}
 use Rattle.board.specs.Ports.{element}
 
 -- the order under an open ticket asks for what the ticket asks; the cell of each hart that the
@@ -41,7 +41,7 @@ IsTied c home (Some ticket) (Some k) = IsWhole home ticket × IsOrderOf c ticket
 
 -- so it is with each ticket
 pub record AreTied (c : Config) (orders : List Order) (tickets : TicketTable) : Type 0 where
-  pub each : (n : ℕ) → IsTied c tickets.hart (ticket_at tickets n) (open_order n orders)
+  pub each : (n : ℕ) → IsTied c tickets.hart (ticket_at tickets n) (order_of_ticket n orders)
 
 -- the ticket was posted to the hart, and the hart is not collected
 abbrev pub awaits : ℕ → Option Ticket → Bool

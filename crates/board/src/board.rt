@@ -42,7 +42,8 @@ pub(crate) fn deal(
     mut inboxes: Vec<Vec<Option<Receiver>>>,
 ) -> Result<Vec<HartPort>, AllocError>
     requires limits { MeetsLimits MAX_LIVE_FRAMES (arc_value config.now) }
-    requires seats { AreSeats (arc_value memory.now).shared.table_id (arc_value memory.now).shared.key
+    requires seats { AreSeats (arc_value memory.now).shared.table_id
+        (arc_value memory.now).shared.key
         (arc_value config.now) 0 seats.items }
     requires as_many { length seats.items ≡ (arc_value config.now).harts }
     requires net { IsNet (arc_value config.now).capacity (arc_value config.now).harts

@@ -36,7 +36,8 @@ fn release_at(outboxes: &mut Vec<Option<Outbox>>, to: u8)
     requires some { (end : OutboxState) → element outboxes.old.items to ≡ Some end
         → 0 < end.outstanding }
     ensures released { outboxes.new.items
-        ≡ slice_set outboxes.old.items to (option_map after_release (element outboxes.old.items to)) }
+        ≡ slice_set outboxes.old.items to
+        (option_map after_release (element outboxes.old.items to)) }
     ensures same { map (option_map end_of_outbox) outboxes.new.items
         ≡ map (option_map end_of_outbox) outboxes.old.items }
 {
@@ -82,7 +83,8 @@ impl HartPort {
         ensures found { is_awaiting self.old ticket from ≡ true
             → result ≡ (last_word self.new.view.cell_steps == awaited_word self.old ticket) }
         ensures after { is_awaiting self.old ticket from ≡ true
-            → self.new ≡ after_look self.old ticket from result (last_word self.new.view.cell_steps) }
+            → self.new ≡ after_look self.old ticket from result
+            (last_word self.new.view.cell_steps) }
         ensures same { name_of self.new ≡ name_of self.old }
     {
         let Some(request) = self.awaited(ticket, from) else {

@@ -244,7 +244,7 @@ impl HartPort {
     ghost use Rattle.history.specs.Due.{are_harts, are_pair};
     ghost use Rattle.history.specs.Orders.{scope_request};
     ghost use Rattle.shoot.specs.HartSet.{harts_in};
-    ghost use Rattle.shoot.specs.Tickets.{is_posted, names};
+    ghost use Rattle.shoot.specs.Tickets.{ticket_posted, names};
     ghost use Rattle.std.specs.Arc.{arc_value};
     ghost use Rattle.spaces.specs.Limits.{MeetsLimits};
     ghost use Rattle.spaces.specs.declared.configuration.TheConstants.{MAX_LIVE_FRAMES};
@@ -443,7 +443,7 @@ impl HartPort {
         ensures there { OnOk result (to < length self.now.outboxes) }
         ensures spare { OnOk result (to < length self.now.setup.layout.spares) }
         ensures other { OnOk result (to ≢ self.now.hart) }
-        ensures unposted { OnOk result (is_posted self.now.tickets ticket to ≡ false) }
+        ensures unposted { OnOk result (ticket_posted self.now.tickets ticket to ≡ false) }
     {
         if !self.is_other(to) {
             return Err(Refusal::NoHart);

@@ -1,7 +1,7 @@
 -- Which mailboxes keep their order after the worked runs, and which do not.
 use Rattle.std.proofs.Common.{◌≡◌, ℕ, List, [], ◌∷◌, map, Bool, true, false, ◌==◌, ◌&&◌, inl, inr, refl, sym, ap, ◌∙◌}
 use Rattle.std.proofs.lemmas.Bool.{true≢false, false_from_ne_true}
-use Rattle.shoot.specs.Request.{Message}
+use Rattle.shoot.specs.Request.{Request}
 use Rattle.history.specs.Turns.{History}
 use Rattle.history.specs.Mailboxes.{Mailboxes, KeepsOrder, is_closed}
 use Rattle.history.specs.Occurrences.{Sometime, IsClose, IsPostAfterClose, NoneAfterClose}
@@ -13,8 +13,8 @@ use Rattle.worked_runs.specs.UnlawfulRuns as unlawful
 use Rattle.counterexamples.specs.Counterexamples.{request_of}
 
 -- lists of requests with different tickets are different
-abbrev tickets : List Message → List ℕ
-tickets requests = map (λ (r : Message). r.ticket) requests
+abbrev tickets : List Request → List ℕ
+tickets requests = map (λ (r : Request). r.ticket) requests
 
 abbrev same : List ℕ → List ℕ → Bool
 same [] [] = true
@@ -22,7 +22,7 @@ same [] (b ∷ ys) = false
 same (a ∷ xs) [] = false
 same (a ∷ xs) (b ∷ ys) = (a == b) && same xs ys
 
-distinct : (a b : List Message) → same (tickets a) (tickets a) ≡ true → same (tickets a) (tickets b) ≡ false → a ≡ b → ⊥
+distinct : (a b : List Request) → same (tickets a) (tickets a) ≡ true → same (tickets a) (tickets b) ≡ false → a ≡ b → ⊥
 distinct a b itself other e = true≢false (sym itself ∙ ap (λ ms. same (tickets a) (tickets ms)) e ∙ other)
 
 -- a mailbox that was never closed

@@ -1,4 +1,5 @@
--- What an acknowledgement forbids a TLB to hold, and where it says nothing, computed from the histories of worked runs.
+-- What an acknowledgement forbids a TLB to hold, and where it says nothing, computed from the
+-- histories of worked runs.
 use Rattle.pte.specs.declared.scheme.Scheme.{Scheme}
 use Rattle.std.proofs.Common.{◌≡◌, ℕ, zero, suc, ◌+◌, ◌*◌, ◌%◌, Bool, true, false, List, [], ◌∷◌, Some, None, Ok, Err, ◌==◌, IsTrue, refl, sym, ap, subst, ◌∙◌, arith, Option}
 use Rattle.std.specs.Prelude.{Contains, Result}
@@ -90,7 +91,8 @@ one_translates entries e asid va is aligned on =
     subst (λ es. Translates (IsMappedBy es) asid va) (sym is) (match_translates (e ∷ []) asid va e aligned (0, omega arith, refl) on)
 
 module _ (C : Setup) (H : History) (k h : ℕ) where
-  -- where h has answered the unmapping and the page is not mapped anew, no entry of the page may be held
+  -- where h has answered the unmapping and the page is not mapped anew, no entry of the page may be
+  -- held
   pub clear_forbids : (of : Option ℕ) (page : Span) → HasAnswered C H k h (Unmapped of page) → is_mapped_anew C H k ≡ false
       → (asid va : ℕ) → IsAsidOf of asid → Holds page va → (e : Entry) → IsPage e.page → IsTrue (is_match asid va e) → ClearForbids C H k h e
   clear_forbids of page answered old asid va for held e aligned on entries at clear =

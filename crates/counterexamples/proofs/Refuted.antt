@@ -1,4 +1,5 @@
--- What the definitions of orders, posts and fills refuse, computed from the histories of worked runs.
+-- What the definitions of orders, posts and fills refuse, computed from the histories of worked
+-- runs.
 use Rattle.std.proofs.Common.{◌≡◌, ℕ, zero, suc, true, false, [], ◌∷◌, Option, Some, None, refl, sym, ap, ◌∙◌, arith}
 use Rattle.std.specs.Prelude.{Contains}
 use Rattle.std.proofs.lemmas.Bool.{true≢false}

@@ -77,7 +77,8 @@ asid_7_clear =
     let same : 7 ≡ asid = eqb-true 7 asid on.1 in
     omega (arith, same, for))
 
--- Coherent: no page of an ASID that no live or retiring space has, though the same space maps the page
+-- Coherent: no page of an ASID that no live or retiring space has, though the same space maps the
+-- page
 abbrev mapping : ℕ → Mapping
 mapping ppn = record { asid = Some 2; page = 1; ppn = ppn; flags = flags (R + U + A + D) }
 

@@ -1,4 +1,5 @@
--- Worked runs after which hart 1 still translates an address, though the page was unmapped or changed.
+-- Worked runs after which hart 1 still translates an address, though the page was unmapped or
+-- changed.
 use Rattle.std.proofs.Common.{◌≡◌, [], ◌∷◌, refl, arith, inl}
 use Rattle.pte.specs.Entry.{kind_of}
 use Rattle.spaces.specs.Edits.{wish_fault, path_end, edit_of}

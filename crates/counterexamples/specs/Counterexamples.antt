@@ -1,7 +1,7 @@
 -- What the promises of an acknowledgement, and of used ASIDs, forbid a TLB to hold.
 use Rattle.std.specs.Prelude.{ℕ, List, Contains}
 use Rattle.tlb.specs.declared.store.Entry.{Entry}
-use Rattle.shoot.specs.Request.{Message}
+use Rattle.shoot.specs.Request.{Request}
 use Rattle.pte.specs.declared.address.What.TheVariants.{All}
 use Rattle.history.specs.Setup.{Setup}
 use Rattle.history.specs.Turns.{History}
@@ -22,7 +22,7 @@ abbrev pub CoherentAllowsAll : Setup → History → ℕ → ℕ → Type 0
 CoherentAllowsAll C H k h = (entries : List Entry) → Coherent C H entries k h
 
 -- the request of a ticket that asks for everything
-abbrev pub request_of : ℕ → Message
+abbrev pub request_of : ℕ → Request
 request_of ticket = record { ticket = ticket; what = All }
 
 -- no TLB that holds the entry holds used ASIDs alone

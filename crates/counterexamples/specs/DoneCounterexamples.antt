@@ -7,7 +7,8 @@ use Rattle.history.specs.Completion.{ClearOnceDone}
 
 -- ClearOnceDone is false of each TLB that holds the entry, whatever else it holds
 abbrev pub DoneForbids : Setup → History → ℕ → ℕ → Entry → Type 0
-DoneForbids C H k h e = (entries : List Entry) → Contains entries e → ¬ ClearOnceDone C H entries k h
+DoneForbids C H k h e =
+    (entries : List Entry) → Contains entries e → ¬ ClearOnceDone C H entries k h
 
 -- ClearOnceDone says nothing: it is so whatever the TLB holds
 abbrev pub DoneAllowsAll : Setup → History → ℕ → ℕ → Type 0

@@ -1,4 +1,5 @@
-//! What the promises refuse, and where they say nothing. Each function does nothing, and its contract is what is told.
+//! What the promises refuse, and where they say nothing. Each function does nothing, and its
+//! contract is what is told.
 #![tactic(auto)]
 
 pub mod of_done;

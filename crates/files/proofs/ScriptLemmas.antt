@@ -1,4 +1,5 @@
--- The scripts of a file for `live`: their texts, their number of steps, and the loop that reads them.
+-- The scripts of a file for `live`: their texts, their number of steps, and the loop that reads
+-- them.
 use Rattle.pte.specs.declared.scheme.Scheme.{Scheme}
 use Rattle.std.proofs.Common.{◌≡◌, ℕ, ◌+◌, ◌-◌, ◌<◌, ◌≤◌, true, false, List, [], ◌∷◌, ◌++◌, length, get_or, drop, map, Some, refl, sym, ap, ◌∙◌, append_assoc, append-nil, Bor, Vec, Global, Result, Ok, Err, string_bytes, arith, le-leb}
 use Rattle.std.specs.Prelude.{All, nat_le}

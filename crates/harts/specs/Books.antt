@@ -19,4 +19,5 @@ history_of turns = kept_on turns []
 -- the reply is due to the event after some lawful history, whose events speak of pages
 abbrev pub IsDueAfterSome : Setup → Event → Reply → Type 0
 IsDueAfterSome setup event reply =
-    (history : History) × Lawful setup history × HavePages history × (reply ≡ due setup history event)
+    (history : History) × Lawful setup history × HavePages history
+    × (reply ≡ due setup history event)

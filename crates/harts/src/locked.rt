@@ -155,7 +155,8 @@ impl<C: Named> Locked<C> {
     pub fn into_parts(self, tallies: Vec<Tally<C>>) -> (Machine, Vec<(Event, Reply)>)
         requires all { map (λ tally. tally.turns.name) tallies.items ≡ C.lists }
         ensures stands { Stands (setup_of C.config) result.0 (history_of result.1.items) }
-        ensures woven { IsInterleaving (map (λ tally. tally.turns.list) tallies.items) result.1.items }
+        ensures woven { IsInterleaving (map (λ tally. tally.turns.list) tallies.items)
+            result.1.items }
     {
         let Kept { book, lists } = self.lock.into_inner();
         agree(lists, tallies);

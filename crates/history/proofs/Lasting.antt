@@ -9,7 +9,7 @@ use Rattle.pte.specs.Address.{vpn_of}
 use Rattle.spaces.specs.Edits.{path_of}
 use Rattle.spaces.specs.Holders.{is_held_for, is_word_of, zero_word, emptied, given_back}
 use Rattle.walk.specs.Leads.{Tables}
-use Rattle.shoot.specs.Request.{Message}
+use Rattle.shoot.specs.Request.{Request}
 use Rattle.history.specs.Setup.{Setup}
 use Rattle.history.specs.declared.event.Event.{Event}
 use Rattle.history.specs.declared.event.Event.TheVariants.{Map, Switch, Take, ServeFence, Ack, Reclaim}
@@ -60,7 +60,7 @@ by_old old x P Q none_p none_q = (λ e. inr (none_q, e), λ c. elim c [ inl p �
 pub ok_and : (r : Reply) (a b : ℕ) → r ≡ Ok → a ≡ b → (is_ok r && eqb a b) ≡ true
 ok_and r a b e f = rw (e, f, eq-eqb b b refl) refl
 
-taken_is : (r : Reply) → is_taken r ≡ true → (request : Message) × (r ≡ Taken request)
+taken_is : (r : Reply) → is_taken r ≡ true → (request : Request) × (r ≡ Taken request)
 taken_is (Taken request) e = (request, refl)
 taken_is _ e = absurd (false≢true e)
 
@@ -103,7 +103,7 @@ abbrev is_ack : Event → Bool
 is_ack (Ack hart) = true
 is_ack _ = false
 
-taken_and : (r : Reply) (request : Message) (a b : ℕ) → r ≡ Taken request → a ≡ b → (is_taken r && eqb a b) ≡ true
+taken_and : (r : Reply) (request : Request) (a b : ℕ) → r ≡ Taken request → a ≡ b → (is_taken r && eqb a b) ≡ true
 taken_and r request a b e f = rw (e, f, eq-eqb b b refl) refl
 
 served_step : (C : Setup) (e : Event) (r : Reply) (H : History) (h : ℕ) (sent : Sent) (old : Option Sent)

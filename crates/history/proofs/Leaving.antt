@@ -7,7 +7,7 @@ use Rattle.shoot.proofs.HartSets.{by_test}
 use Rattle.tlb.specs.Answer.{entry_of}
 use Rattle.tlb.specs.Entries.{filled}
 use Rattle.tlb.specs.Fence.{fenced}
-use Rattle.tlb.specs.Service.{IsRequest, Served, served as with_service}
+use Rattle.tlb.specs.Service.{IsRequest, Served, after_service as with_service}
 use Rattle.tlb.proofs.Serving.{served_is_meant}
 use Rattle.history.specs.Setup.{Setup}
 use Rattle.history.specs.declared.event.Event.{Event}

@@ -2,7 +2,7 @@
 use Rattle.std.proofs.Common.{◌≡◌, ℕ, zero, suc, true, false, cond, ◌&&◌, List, [], ◌∷◌, ◌++◌, length, drop, map, Option, Some, None, inl, inr, slice_get, refl, ap, sym, ◌∙◌, eqb}
 use Rattle.std.proofs.lemmas.List.{append-nil}
 use Rattle.std.proofs.lemmas.Bool.{and_parts, eqb-true, true≢false}
-use Rattle.shoot.specs.Request.{Message}
+use Rattle.shoot.specs.Request.{Request}
 use Rattle.history.specs.Setup.{Setup}
 use Rattle.history.specs.declared.event.Event.{Event}
 use Rattle.history.specs.declared.event.Event.TheVariants.{Post, Take}
@@ -42,16 +42,16 @@ pub map_append : {A B : Type 0} (f : A → B) (xs ys : List A) → map f (xs ++ 
 map_append f [] ys = refl
 map_append f (x ∷ xs) ys = ap (λ zs. f x ∷ zs) (map_append f xs ys)
 
-next_taken : (xs : List Message) (request : Message) → next_reply xs ≡ Taken request → (rest : List Message) × (xs ≡ request ∷ rest)
+next_taken : (xs : List Request) (request : Request) → next_reply xs ≡ Taken request → (rest : List Request) × (xs ≡ request ∷ rest)
 next_taken [] request e = absurd cc
 next_taken (x ∷ xs) request e = (xs, let same : x ≡ request = cc in ap (λ y. y ∷ xs) same)
 
-abbrev of : Sent → Message
+abbrev of : Sent → Request
 of sent = sent.request
 
 module _ (C : Setup) where
   -- a Take that was answered took the first that waited
-  took : (H : History) (hart from : ℕ) (request : Message) → Taken request ≡ due C H (Take hart from) → (rest : List Message) × (waiting C H from hart ≡ request ∷ rest)
+  took : (H : History) (hart from : ℕ) (request : Request) → Taken request ≡ due C H (Take hart from) → (rest : List Request) × (waiting C H from hart ≡ request ∷ rest)
   took H hart from request e =
       let pair = passed _ NoHart _ (Taken request) (sym e) refl in
       let walk = passed _ Walking _ (Taken request) pair.1 refl in
@@ -134,5 +134,5 @@ get_front [] ws n x e = absurd cc
 get_front (t ∷ ts) ws zero x e = e
 get_front (t ∷ ts) ws (suc n) x e = get_front ts ws n x e
 
-pub taken_nth : (C : Setup) (H : History) (s h n : ℕ) (request : Message) → Lawful C H → slice_get (taken H s h) n ≡ Some request → slice_get (accepted C H s h) n ≡ Some request
+pub taken_nth : (C : Setup) (H : History) (s h n : ℕ) (request : Request) → Lawful C H → slice_get (taken H s h) n ≡ Some request → slice_get (accepted C H s h) n ≡ Some request
 taken_nth C H s h n request l e = ap (λ xs. slice_get xs n) (lawful_order C H l s h) ∙ get_front (taken H s h) (waiting C H s h) n request e

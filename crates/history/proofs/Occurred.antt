@@ -1,4 +1,5 @@
--- What is marked once something happened: posted, acknowledged, collected, mapped anew, superseded, closed.
+-- What is marked once something happened: posted, acknowledged, collected, mapped anew, superseded,
+-- closed.
 use Rattle.std.proofs.Common.{◌≡◌, ℕ, Bool, true, false, ◌&&◌, ◌||◌, ◌⊎◌, inl, inr, Option, Some, None, refl, ap, sym, ◌∙◌, eqb}
 use Rattle.std.proofs.lemmas.Bool.{or_cases, and_parts, eqb-true, eq-eqb, false≢true}
 use Rattle.std.specs.Prelude.{◌↔◌, is_none}

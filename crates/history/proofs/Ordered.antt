@@ -2,7 +2,7 @@
 use Rattle.std.proofs.Common.{◌≡◌, ℕ, zero, suc, cond, ◌&&◌, ◌⊎◌, inl, inr, List, [], ◌∷◌, ◌++◌, length, Option, Some, None, slice_get, refl, ap, sym, ◌∙◌}
 use Rattle.std.proofs.lemmas.Bool.{and_parts}
 use Rattle.std.specs.Prelude.{◌↔◌}
-use Rattle.shoot.specs.Request.{Message}
+use Rattle.shoot.specs.Request.{Request}
 use Rattle.history.specs.Setup.{Setup}
 use Rattle.history.specs.declared.event.Event.{Event}
 use Rattle.history.specs.declared.event.Event.TheVariants.{Post, Take}
@@ -81,8 +81,8 @@ module _ (C : Setup) (s h n : ℕ) (sent : Sent) where
       (λ turn H. (post_to turn.event turn.reply H, λ c. elim c [ inl p ↦ post_by turn H p | inr o ↦ post_stays turn.event turn.reply H o ])) H
 
 -- taken
-module _ (s h n : ℕ) (request : Message) where
-  take_new : (hart from : ℕ) (r : Reply) (H : History) (old : List Message) → old ≡ taken H s h → hart ≡ h → from ≡ s → slice_get (old ++ taken_request r) n ≡ Some request
+module _ (s h n : ℕ) (request : Request) where
+  take_new : (hart from : ℕ) (r : Reply) (H : History) (old : List Request) → old ≡ taken H s h → hart ≡ h → from ≡ s → slice_get (old ++ taken_request r) n ≡ Some request
       → IsNthTake s h n request (turn_of (Take hart from) r) H ⊎ (slice_get old n ≡ Some request)
   take_new hart from (Taken new) H old was receiver sender e = elim (last_cases old new request n e) [
     | inl p ↦ inl (record {

@@ -1,4 +1,5 @@
--- Whether a space is live, retiring or free, and which ASID it has, is by the last turn that decided it.
+-- Whether a space is live, retiring or free, and which ASID it has, is by the last turn that
+-- decided it.
 use Rattle.std.proofs.Common.{◌≡◌, ℕ, Bool, true, false, ◌&&◌, ◌⊎◌, inl, inr, length, refl, ap, sym, ◌∙◌, eqb, slice_index}
 use Rattle.std.specs.Prelude.{◌↔◌}
 use Rattle.std.proofs.lemmas.Bool.{and_parts, eqb-true, eq-eqb, false≢true}

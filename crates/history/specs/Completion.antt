@@ -16,21 +16,25 @@ use Rattle.history.specs.Occurrences.{Sometime}
 pub record IsDoneAt (number : ℕ) (turn : Turn) (before : History) : Type 0 where
   pub sender : ℕ
   pub ticket : ℕ
-  pub event : (turn.event ≡ AckSelf sender ticket) ⊎ ((from : ℕ) × (turn.event ≡ Collect sender ticket from))
+  pub event : (turn.event ≡ AckSelf sender ticket)
+      ⊎ ((from : ℕ) × (turn.event ≡ Collect sender ticket from))
   pub told : turn.reply ≡ reply.Done
   pub order : open_order before sender ticket ≡ Some number
 
 -- the unmapping k of this page of an ASID, or of every one, was answered Done, and it names h
-pub record IsDoneFor (setup : Setup) (history : History) (number hart : ℕ) (of : Option ℕ) (page : Span) : Type 0 where
+pub record IsDoneFor (setup : Setup) (history : History) (number hart : ℕ) (of : Option ℕ)
+    (page : Span) : Type 0 where
   pub order : Order
   pub is : order_at setup history number ≡ Some order
   pub cause : order.cause ≡ Unmapped of page
   pub named : contains order.named hart ≡ true
   pub done : Sometime (IsDoneAt number) history
 
--- ClearOnceDone: once the unmapping k was answered Done, these entries of the TLB of each hart h that it names translate no
--- address of the page in its address space, until the page is mapped anew
+-- ClearOnceDone: once the unmapping k was answered Done, these entries of the TLB of each hart h
+-- that it names translate no address of the page in its address space, until the page is mapped
+-- anew
 abbrev pub ClearOnceDone : Setup → History → List Entry → ℕ → ℕ → Type 0
 ClearOnceDone setup history entries order hart =
-    (of : Option ℕ) (page : Span) → IsDoneFor setup history order hart of page → is_mapped_anew setup history order ≡ false
+    (of : Option ℕ) (page : Span) → IsDoneFor setup history order hart of page
+    → is_mapped_anew setup history order ≡ false
     → (asid va : ℕ) → IsAsidOf of asid → Holds page va → ¬ Translates (IsMappedBy entries) asid va

@@ -1,5 +1,5 @@
--- The reply that is due to an event after a history: the first refusal that applies, else what the event does. A history is
--- lawful if each of its replies was due.
+-- The reply that is due to an event after a history: the first refusal that applies, else what the
+-- event does. A history is lawful if each of its replies was due.
 use Rattle.std.specs.Prelude.{ℕ, zero, suc, ◌+◌, ◌^◌, ◌≡◌, Bool, true, false, ◌==◌, ◌&&◌, ◌||◌, not, nat_le, nat_lt, List, [], ◌∷◌, length, Option, Some, None, is_some, is_none, Result, Ok, Err, if◌then◌else◌}
 use Rattle.pte.specs.declared.permission.Access.{Access}
 use Rattle.pte.specs.declared.permission.Ctx.{Ctx}
@@ -21,7 +21,7 @@ use Rattle.spaces.specs.declared.faults.MapFault.{MapFault}
 use Rattle.spaces.specs.Layout.{root_ppn, home_of}
 use Rattle.spaces.specs.Edits.{Store}
 use Rattle.shoot.specs.HartSet.{contains, harts_in, harts_where, is_empty, byte_of}
-use Rattle.shoot.specs.Request.{Message}
+use Rattle.shoot.specs.Request.{Request}
 use Rattle.shoot.specs.declared.TheConstants.{MAX_TICKETS}
 use Rattle.tlb.specs.declared.store.Entry.{Entry}
 use Rattle.tlb.specs.Entries.{first_match}
@@ -55,7 +55,8 @@ when test refusal = record { test = test; refusal = refusal }
 -- the first refusal whose test holds, else the answer
 abbrev pub first_of : List Rule → Reply → Reply
 first_of [] answer = answer
-first_of (rule ∷ rules) answer = if rule.test then reply.Refused rule.refusal else first_of rules answer
+first_of (rule ∷ rules) answer =
+    if rule.test then reply.Refused rule.refusal else first_of rules answer
 
 -- what is answered of the order that is open, if there is one
 abbrev pub for_open : Option ℕ → (ℕ → Reply) → Reply
@@ -106,13 +107,17 @@ match_reply va access ctx (Some entry) = access_reply (answer_of entry va access
 
 abbrev pub begin_reply : Setup → History → ℕ → ℕ → Access → Ctx → Reply
 begin_reply setup history hart va access ctx =
-    if is_canonical setup.layout.scheme va then match_reply va access ctx (first_match (entries_of setup history hart) (asid_of setup history (space_of history hart)) va)
+    if is_canonical setup.layout.scheme va
+    then match_reply va access ctx
+    (first_match (entries_of setup history hart) (asid_of setup history (space_of history hart)) va)
     else reply.Trap (page_trap access NotCanonical)
 
--- Load: a pointer above the lowest level leads at the level that the walk has come to, or it ends with the outcome of now
+-- Load: a pointer above the lowest level leads at the level that the walk has come to, or it ends
+-- with the outcome of now
 abbrev pub goes_on : Setup → History → ℕ → Walk → Bool
 goes_on setup history hart walk =
-    has_next setup.layout.scheme (words_of setup history) (root_ppn setup.layout (space_of history hart)) walk.va walk.loads
+    has_next setup.layout.scheme (words_of setup history)
+    (root_ppn setup.layout (space_of history hart)) walk.va walk.loads
 
 abbrev pub end_reply : Result Found Trap → Reply
 end_reply (Ok found) = reply.Filled found.pa
@@ -120,7 +125,9 @@ end_reply (Err trap) = reply.Trap trap
 
 abbrev pub load_reply : Setup → History → ℕ → Option Walk → Reply
 load_reply setup history hart None = reply.Refused NotWalking
-load_reply setup history hart (Some walk) = if goes_on setup history hart walk then reply.More else end_reply (outcome_of setup history (space_of history hart) walk)
+load_reply setup history hart (Some walk) =
+    if goes_on setup history hart walk then reply.More
+    else end_reply (outcome_of setup history (space_of history hart) walk)
 
 -- Map: the one store that is due, a pointer to a new table or the leaf
 abbrev pub stored_reply : Kind → Reply
@@ -140,7 +147,9 @@ edit_at setup history hart w = edit_due setup (words_of setup history) (holder_o
 -- an opening takes the least number that is not open
 abbrev pub least_free : History → ℕ → ℕ → ℕ → Option ℕ
 least_free history hart zero from = None
-least_free history hart (suc n) from = if is_none (open_order history hart from) then Some from else least_free history hart n (from + 1)
+least_free history hart (suc n) from =
+    if is_none (open_order history hart from) then Some from
+    else least_free history hart n (from + 1)
 
 abbrev pub opened_reply : Option ℕ → Reply
 opened_reply None = reply.Refused NoTicket
@@ -148,7 +157,8 @@ opened_reply (Some ticket) = reply.Opened ticket
 
 abbrev pub open_reply : History → ℕ → ℕ → Reply
 open_reply history hart named =
-    first_of (when (not (contains (harts_in named) hart)) HomeNotNamed ∷ []) (opened_reply (least_free history hart MAX_TICKETS 0))
+    first_of (when (not (contains (harts_in named) hart)) HomeNotNamed ∷ [])
+    (opened_reply (least_free history hart MAX_TICKETS 0))
 
 -- Unmap and Protect: the store, and a ticket
 abbrev pub edit_reply : Result Store MapFault → Reply → Reply
@@ -161,14 +171,15 @@ names None hart = false
 names (Some order) hart = contains order.named hart
 
 -- Take: the first request that waits
-abbrev pub next_reply : List Message → Reply
+abbrev pub next_reply : List Request → Reply
 next_reply [] = reply.Refused Empty
 next_reply (request ∷ rest) = reply.Taken request
 
 -- AckSelf and Collect: which named harts are not collected once the event is done
 abbrev pub left_after : Setup → History → Event → ℕ → List Bool
 left_after setup history event order =
-    harts_where (λ hart. names (order_at setup history order) hart && not (is_collected setup (with_turn event reply.Done history) order hart))
+    harts_where (λ hart. names (order_at setup history order) hart
+    && not (is_collected setup (with_turn event reply.Done history) order hart))
 
 abbrev pub left_reply : List Bool → Reply
 left_reply left = if is_empty left then reply.Done else reply.Waiting (byte_of left)
@@ -178,24 +189,31 @@ progress_reply setup history event order = left_reply (left_after setup history 
 
 -- Finish: each named hart is collected
 abbrev pub is_done : Setup → History → ℕ → Bool
-is_done setup history order = is_empty (harts_where (λ hart. names (order_at setup history order) hart && not (is_collected setup history order hart)))
+is_done setup history order =
+    is_empty (harts_where (λ hart. names (order_at setup history order) hart
+    && not (is_collected setup history order hart)))
 
 -- Retire: some hart is in the space
 abbrev pub is_in_use : Setup → History → ℕ → Bool
-is_in_use setup history space = not (is_empty (harts_where (λ hart. is_hart setup hart && (space_of history hart == space))))
+is_in_use setup history space =
+    not (is_empty (harts_where (λ hart. is_hart setup hart && (space_of history hart == space))))
 
 -- Reclaim: each hart is collected for the retirement
 abbrev pub reclaim_reply : Setup → History → Status → Reply
 reclaim_reply setup history Live = reply.Refused NotRetiring
-reclaim_reply setup history (Retires order) = first_of (when (not (is_done setup history order)) NotAcked ∷ []) reply.Ok
+reclaim_reply setup history (Retires order) =
+    first_of (when (not (is_done setup history order)) NotAcked ∷ []) reply.Ok
 reclaim_reply setup history Free = reply.Refused NoSpace
 
 -- Create: one of so many spaces is live or retiring and has the ASID
 abbrev pub is_asid_of : Setup → History → ℕ → ℕ → Bool
 is_asid_of setup history asid zero = false
-is_asid_of setup history asid (suc n) = (not (is_free (status_of history n)) && (asid_of setup history n == asid)) || is_asid_of setup history asid n
+is_asid_of setup history asid (suc n) =
+    (not (is_free (status_of history n)) && (asid_of setup history n == asid))
+    || is_asid_of setup history asid n
 
--- the reply that is due: the first refusal of the event that applies, in this order, else what the event does
+-- the reply that is due: the first refusal of the event that applies, in this order, else what the
+-- event does
 abbrev pub due : Setup → History → Event → Reply
 due setup history (Begin hart va access ctx) =
     first_of (
@@ -204,7 +222,8 @@ due setup history (Begin hart va access ctx) =
     ∷ when (is_some (served setup history hart)) Serving ∷ [])
     (begin_reply setup history hart va access ctx)
 due setup history (Load hart) =
-    first_of (when (not (is_hart setup hart)) NoHart ∷ []) (load_reply setup history hart (walk_of history hart))
+    first_of (when (not (is_hart setup hart)) NoHart ∷ [])
+    (load_reply setup history hart (walk_of history hart))
 due setup history (Map hart place page ppn flags) =
     first_of (
     when (not (is_hart setup hart)) NoHart
@@ -216,13 +235,15 @@ due setup history (Unmap hart place page named) =
     when (not (is_hart setup hart && are_harts setup named)) NoHart
     ∷ when (not (is_place setup history place)) NoSpace
     ∷ when (retires history place) Retiring ∷ [])
-    (edit_reply (edit_at setup history hart (wish.Unmap place page)) (open_reply history hart named))
+    (edit_reply (edit_at setup history hart (wish.Unmap place page))
+    (open_reply history hart named))
 due setup history (Protect hart place page flags named) =
     first_of (
     when (not (is_hart setup hart && are_harts setup named)) NoHart
     ∷ when (not (is_place setup history place)) NoSpace
     ∷ when (retires history place) Retiring ∷ [])
-    (edit_reply (edit_at setup history hart (wish.Protect place page flags)) (open_reply history hart named))
+    (edit_reply (edit_at setup history hart (wish.Protect place page flags))
+    (open_reply history hart named))
 due setup history (Flush hart scope named) =
     first_of (
     when (not (is_hart setup hart && are_harts setup named)) NoHart
@@ -242,7 +263,8 @@ due setup history (Fence hart rs1 rs2) =
     ∷ when (is_some (walk_of history hart)) Walking ∷ [])
     reply.Ok
 due setup history (Post hart ticket to) =
-    first_of (when (not (are_pair setup hart to)) NoHart ∷ []) (for_open (open_order history hart ticket) (λ order.
+    first_of (when (not (are_pair setup hart to)) NoHart ∷ [])
+    (for_open (open_order history hart ticket) (λ order.
     first_of (
     when (not (names (order_at setup history order) to)) NotNamed
     ∷ when (is_posted history order to) AlreadyPosted
@@ -268,13 +290,18 @@ due setup history (Ack hart) =
     ∷ when (not (has_fenced history hart)) NotFenced ∷ [])
     reply.Ok
 due setup history (AckSelf hart ticket) =
-    first_of (when (not (is_hart setup hart)) NoHart ∷ []) (for_open (open_order history hart ticket) (λ order.
-    first_of (when (is_some (walk_of history hart)) Walking ∷ []) (progress_reply setup history (AckSelf hart ticket) order)))
+    first_of (when (not (is_hart setup hart)) NoHart ∷ [])
+    (for_open (open_order history hart ticket) (λ order.
+    first_of (when (is_some (walk_of history hart)) Walking ∷ [])
+    (progress_reply setup history (AckSelf hart ticket) order)))
 due setup history (Collect hart ticket from) =
-    first_of (when (not (are_pair setup hart from)) NoHart ∷ []) (for_open (open_order history hart ticket) (λ order.
-    first_of (when (not (names (order_at setup history order) from)) NotNamed ∷ []) (progress_reply setup history (Collect hart ticket from) order)))
+    first_of (when (not (are_pair setup hart from)) NoHart ∷ [])
+    (for_open (open_order history hart ticket) (λ order.
+    first_of (when (not (names (order_at setup history order) from)) NotNamed ∷ [])
+    (progress_reply setup history (Collect hart ticket from) order)))
 due setup history (Finish hart ticket) =
-    first_of (when (not (is_hart setup hart)) NoHart ∷ []) (for_open (open_order history hart ticket) (λ order.
+    first_of (when (not (is_hart setup hart)) NoHart ∷ [])
+    (for_open (open_order history hart ticket) (λ order.
     first_of (when (not (is_done setup history order)) NotDone ∷ []) reply.Ok))
 due setup history (Close hart to) =
     first_of (

@@ -14,7 +14,7 @@ use Rattle.tlb.specs.declared.store.Entry.{Entry}
 use Rattle.tlb.specs.Entries.{filled}
 use Rattle.tlb.specs.Answer.{entry_of}
 use Rattle.tlb.specs.Fence.{fenced}
-use Rattle.tlb.specs.Service.{served as with_service}
+use Rattle.tlb.specs.Service.{after_service as with_service}
 use Rattle.history.specs.declared.event.Event.{Event}
 use Rattle.history.specs.declared.event.Event.TheVariants.{Begin, Load, Switch, Fence, ServeFence, AckSelf}
 use Rattle.history.specs.declared.reply.Reply.{Reply}
@@ -42,12 +42,14 @@ pub record Walking : Type 0 where
   pub loads : ℕ
 
 abbrev pub begun : Reply → ℕ → Access → Ctx → Option Walking → Option Walking
-begun reply.More va access ctx old = Some (record { va = va; access = access; ctx = ctx; loads = 0 })
+begun reply.More va access ctx old =
+    Some (record { va = va; access = access; ctx = ctx; loads = 0 })
 begun _ va access ctx old = old
 
 abbrev pub with_load : Option Walking → Option Walking
 with_load None = None
-with_load (Some walk) = Some (record { va = walk.va; access = walk.access; ctx = walk.ctx; loads = walk.loads + 1 })
+with_load (Some walk) =
+    Some (record { va = walk.va; access = walk.access; ctx = walk.ctx; loads = walk.loads + 1 })
 
 abbrev pub loaded : Reply → Option Walking → Option Walking
 loaded reply.More old = with_load old
@@ -56,7 +58,8 @@ loaded (reply.Trap trap) old = None
 loaded _ old = old
 
 abbrev pub walk_after : Event → Reply → ℕ → Option Walking → Option Walking
-walk_after (Begin by va access ctx) reply hart old = if by == hart then begun reply va access ctx old else old
+walk_after (Begin by va access ctx) reply hart old =
+    if by == hart then begun reply va access ctx old else old
 walk_after (Load by) reply hart old = if by == hart then loaded reply old else old
 walk_after _ reply hart old = old
 
@@ -67,7 +70,8 @@ walk_of (turn ∷ history) hart = walk_after turn.event turn.reply hart (walk_of
 -- what the walk of a hart finds in the words of now
 abbrev pub outcome_of : Setup → History → ℕ → Walking → Result Found Trap
 outcome_of setup history space walk =
-    answer_after (level_count setup.layout.scheme) (words_of setup history) (start_of setup.layout.scheme (root_ppn setup.layout space) walk.va walk.access walk.ctx)
+    answer_after (level_count setup.layout.scheme) (words_of setup history)
+    (start_of setup.layout.scheme (root_ppn setup.layout space) walk.va walk.access walk.ctx)
 
 -- a fill: the entry of what was found, with the ASID of the space
 abbrev pub with_found : ℕ → Result Found Trap → List Entry → List Entry
@@ -76,16 +80,24 @@ with_found asid (Err trap) old = old
 
 abbrev pub with_fill : Setup → History → ℕ → Option Walking → List Entry → List Entry
 with_fill setup history space None old = old
-with_fill setup history space (Some walk) old = with_found (asid_of setup history space) (outcome_of setup history space walk) old
+with_fill setup history space (Some walk) old =
+    with_found (asid_of setup history space) (outcome_of setup history space walk) old
 
 abbrev pub entries_after : Setup → Event → Reply → History → ℕ → List Entry → List Entry
-entries_after setup (Load by) reply history hart old = if is_filled reply && (by == hart) then with_fill setup history (space_of history hart) (walk_of history hart) old else old
-entries_after setup (Fence by rs1 rs2) reply history hart old = if is_ok reply && (by == hart) then fenced setup.layout.scheme old rs1 rs2 else old
-entries_after setup (ServeFence by) reply history hart old = if is_ok reply && (by == hart) then with_service old (what_served (served setup history hart)) else old
+entries_after setup (Load by) reply history hart old =
+    if is_filled reply && (by == hart)
+    then with_fill setup history (space_of history hart) (walk_of history hart) old else old
+entries_after setup (Fence by rs1 rs2) reply history hart old =
+    if is_ok reply && (by == hart) then fenced setup.layout.scheme old rs1 rs2 else old
+entries_after setup (ServeFence by) reply history hart old =
+    if is_ok reply && (by == hart) then with_service old (what_served (served setup history hart))
+    else old
 entries_after setup (AckSelf by ticket) reply history hart old =
-    if is_progress reply && (by == hart) then with_service old (what_of setup history (open_order history by ticket)) else old
+    if is_progress reply && (by == hart)
+    then with_service old (what_of setup history (open_order history by ticket)) else old
 entries_after setup _ reply history hart old = old
 
 abbrev pub entries_of : Setup → History → ℕ → List Entry
 entries_of setup [] hart = []
-entries_of setup (turn ∷ history) hart = entries_after setup turn.event turn.reply history hart (entries_of setup history hart)
+entries_of setup (turn ∷ history) hart =
+    entries_after setup turn.event turn.reply history hart (entries_of setup history hart)

@@ -1,5 +1,5 @@
--- When something happened: facts about one turn of a history and the turns before it, in plain words. The laws of
--- src/occurrences.rt say that what a history leaves is read off such turns.
+-- When something happened: facts about one turn of a history and the turns before it, in plain
+-- words. The laws of src/occurrences.rt say that what a history leaves is read off such turns.
 use Rattle.pte.specs.declared.scheme.Scheme.{Scheme}
 use Rattle.std.specs.Prelude.{ℕ, suc, ◌-◌, ◌<◌, ◌≡◌, ◌⊎◌, Bool, true, false, ◌==◌, ◌&&◌, ◌∷◌, ◌++◌, length, slice_get, Option, Some, None}
 use Rattle.pte.specs.Address.{Span, top_level, vpn_of}
@@ -12,7 +12,7 @@ use Rattle.spaces.specs.Edits.{path_of}
 use Rattle.spaces.specs.Holders.{is_word_of, zero_word}
 use Rattle.spaces.specs.declared.wishes.Wish.{Wish}
 use Rattle.spaces.specs.declared.wishes.Wish.TheVariants as wish
-use Rattle.shoot.specs.Request.{Message}
+use Rattle.shoot.specs.Request.{Request}
 use Rattle.shoot.specs.declared.TheConstants.{MAX_TICKETS}
 use Rattle.tlb.specs.Service.{overlaps}
 use Rattle.history.specs.Setup.{Setup}
@@ -46,7 +46,8 @@ pub record Since (Happens Ends : Turn → History → Type 0) (history : History
   pub earlier : History
   pub split : history ≡ later ++ turn ∷ earlier
   pub so : Happens turn earlier
-  pub none_since : (newer : History) (next : Turn) (between : History) → later ≡ newer ++ next ∷ between → ¬ Ends next (between ++ turn ∷ earlier)
+  pub none_since : (newer : History) (next : Turn) (between : History)
+      → later ≡ newer ++ next ∷ between → ¬ Ends next (between ++ turn ∷ earlier)
 
 -- a Post to h was accepted of the ticket under which order k was open
 pub record IsPost (number hart : ℕ) (turn : Turn) (before : History) : Type 0 where
@@ -76,10 +77,13 @@ pub record IsAckSelf (number hart : ℕ) (turn : Turn) (before : History) : Type
   pub order : open_order before hart ticket ≡ Some number
 
 abbrev pub Acknowledges : Setup → ℕ → ℕ → Turn → History → Type 0
-Acknowledges setup order hart turn before = IsAck setup order hart turn before ⊎ IsAckSelf order hart turn before
+Acknowledges setup order hart turn before =
+    IsAck setup order hart turn before ⊎ IsAckSelf order hart turn before
 
--- a Collect from h was accepted of the ticket under which order k was open, once h had acknowledged k
-pub record IsCollect (setup : Setup) (number hart : ℕ) (turn : Turn) (before : History) : Type 0 where
+-- a Collect from h was accepted of the ticket under which order k was open, once h had acknowledged
+-- k
+pub record IsCollect (setup : Setup) (number hart : ℕ) (turn : Turn)
+    (before : History) : Type 0 where
   pub sender : ℕ
   pub ticket : ℕ
   pub event : turn.event ≡ Collect sender ticket hart
@@ -88,10 +92,13 @@ pub record IsCollect (setup : Setup) (number hart : ℕ) (turn : Turn) (before :
   pub acked : is_acked setup before number hart ≡ true
 
 abbrev pub Collects : Setup → ℕ → ℕ → Turn → History → Type 0
-Collects setup order hart turn before = IsCollect setup order hart turn before ⊎ IsAckSelf order hart turn before
+Collects setup order hart turn before =
+    IsCollect setup order hart turn before ⊎ IsAckSelf order hart turn before
 
--- the turns before have an order k, and it followed an Unmap or a Protect of a page of the ASID that overlaps this page
-pub record IsOfPage (setup : Setup) (number : ℕ) (of : Option ℕ) (page : Span) (before : History) : Type 0 where
+-- the turns before have an order k, and it followed an Unmap or a Protect of a page of the ASID
+-- that overlaps this page
+pub record IsOfPage (setup : Setup) (number : ℕ) (of : Option ℕ) (page : Span)
+    (before : History) : Type 0 where
   pub order : Order
   pub changed : Span
   pub is : order_at setup before number ≡ Some order
@@ -133,7 +140,8 @@ pub record IsProtectOver (setup : Setup) (order : ℕ) (turn : Turn) (before : H
   pub of_page : IsOfPage setup order (asid_in setup before place) page before
 
 abbrev pub Supersedes : Setup → ℕ → Turn → History → Type 0
-Supersedes setup order turn before = IsUnmapOver setup order turn before ⊎ IsProtectOver setup order turn before
+Supersedes setup order turn before =
+    IsUnmapOver setup order turn before ⊎ IsProtectOver setup order turn before
 
 -- a Close of the pair was accepted
 pub record IsClose (sender receiver : ℕ) (turn : Turn) (before : History) : Type 0 where
@@ -151,7 +159,8 @@ abbrev pub NoneAfterClose : History → ℕ → ℕ → Type 0
 NoneAfterClose history sender receiver = ¬ Sometime (IsPostAfterClose sender receiver) history
 
 -- the turn with k turns before it opened this order
-pub record OpensAt (setup : Setup) (number : ℕ) (order : Order) (turn : Turn) (before : History) : Type 0 where
+pub record OpensAt (setup : Setup) (number : ℕ) (order : Order) (turn : Turn)
+    (before : History) : Type 0 where
   pub place : length before ≡ number
   pub opened : opened_order setup turn.event turn.reply before ≡ Some order
 
@@ -175,37 +184,48 @@ pub record IsFinish (sender ticket : ℕ) (turn : Turn) (before : History) : Typ
 
 -- the turn with k turns before it opened the sender's ticket
 abbrev pub OpensOrder : ℕ → ℕ → ℕ → Turn → History → Type 0
-OpensOrder sender ticket order turn before = Opens sender ticket turn before × (length before ≡ order)
+OpensOrder sender ticket order turn before =
+    Opens sender ticket turn before × (length before ≡ order)
 
 abbrev pub OpensOrFinishes : ℕ → ℕ → Turn → History → Type 0
-OpensOrFinishes sender ticket turn before = Opens sender ticket turn before ⊎ IsFinish sender ticket turn before
+OpensOrFinishes sender ticket turn before =
+    Opens sender ticket turn before ⊎ IsFinish sender ticket turn before
 
 -- a Post of the pair was accepted as the one after n others, of this order and with this request
-pub record IsNthPost (setup : Setup) (sender receiver n : ℕ) (sent : Sent) (turn : Turn) (before : History) : Type 0 where
+pub record IsNthPost (setup : Setup) (sender receiver n : ℕ) (sent : Sent) (turn : Turn)
+    (before : History) : Type 0 where
   pub ticket : ℕ
   pub order : ℕ
   pub event : turn.event ≡ Post sender ticket receiver
   pub accepted : turn.reply ≡ reply.Ok
   pub is_open : open_order before sender ticket ≡ Some order
   pub count : length (posts setup before sender receiver) ≡ n
-  pub is : sent ≡ record { sender = sender; order = order; request = record { ticket = ticket; what = what_of setup before (Some order) } }
+  pub is : sent ≡ record {
+    sender = sender;
+    order = order;
+    request = record { ticket = ticket; what = what_of setup before (Some order) };
+  }
 
 -- a Take of the pair answered this request, after n others
-pub record IsNthTake (sender receiver n : ℕ) (request : Message) (turn : Turn) (before : History) : Type 0 where
+pub record IsNthTake (sender receiver n : ℕ) (request : Request) (turn : Turn)
+    (before : History) : Type 0 where
   pub event : turn.event ≡ Take receiver sender
   pub answer : turn.reply ≡ reply.Taken request
   pub count : length (taken before sender receiver) ≡ n
 
--- at the level that the walk has come to, which is not the lowest, the address leads to a pointer: the next table leads
--- one level below
+-- at the level that the walk has come to, which is not the lowest, the address leads to a pointer:
+-- the next table leads one level below
 abbrev pub LeadsOn : Scheme → Tables → ℕ → Walking → Type 0
 LeadsOn scheme words root walk =
     (walk.loads < top_level scheme)
-    × ((table : ℕ) × Leads scheme words root walk.va (top_level scheme - suc walk.loads) table (word_at words walk.va (top_level scheme - suc walk.loads) table))
+    × ((table : ℕ) × Leads scheme words root walk.va (top_level scheme - suc walk.loads) table
+    (word_at words walk.va (top_level scheme - suc walk.loads) table))
 
 -- it happened, and at no later turn it ended; or it never ended, and this is so at the opening
-abbrev pub SinceOr : (Turn → History → Type 0) → (Turn → History → Type 0) → Type 0 → History → Type 0
-SinceOr Happens Ends opening history = Since Happens Ends history ⊎ ((¬ Sometime Ends history) × opening)
+abbrev pub SinceOr : (Turn → History → Type 0) → (Turn → History → Type 0) → Type 0 → History
+    → Type 0
+SinceOr Happens Ends opening history =
+    Since Happens Ends history ⊎ ((¬ Sometime Ends history) × opening)
 
 -- a Switch of the hart to the space was accepted
 pub record IsSwitch (hart space : ℕ) (turn : Turn) (before : History) : Type 0 where
@@ -218,14 +238,16 @@ Switches hart turn before = (space : ℕ) × IsSwitch hart space turn before
 -- the hart took a request
 pub record IsTake (hart : ℕ) (turn : Turn) (before : History) : Type 0 where
   pub from : ℕ
-  pub request : Message
+  pub request : Request
   pub event : turn.event ≡ Take hart from
   pub answer : turn.reply ≡ reply.Taken request
 
--- the hart took a request, and this is the mailbox's accepted post of that place: the n-th, if n were taken before
-pub record TakesPost (setup : Setup) (hart : ℕ) (sent : Sent) (turn : Turn) (before : History) : Type 0 where
+-- the hart took a request, and this is the mailbox's accepted post of that place: the n-th, if n
+-- were taken before
+pub record TakesPost (setup : Setup) (hart : ℕ) (sent : Sent) (turn : Turn)
+    (before : History) : Type 0 where
   pub from : ℕ
-  pub request : Message
+  pub request : Request
   pub event : turn.event ≡ Take hart from
   pub answer : turn.reply ≡ reply.Taken request
   pub is : slice_get (posts setup before from hart) (length (taken before from hart)) ≡ Some sent
@@ -246,14 +268,19 @@ pub record IsServeFence (hart : ℕ) (turn : Turn) (before : History) : Type 0 w
 -- the event asked for this edit by the hart, and it was accepted
 abbrev pub IsEdit : ℕ → Wish → Event → Reply → Type 0
 IsEdit hart w (Map by place page ppn flags) answer =
-    (by ≡ hart) × (w ≡ wish.Map place page ppn flags) × ((answer ≡ reply.Leaf) ⊎ ((table : ℕ) × (answer ≡ reply.Table table)))
-IsEdit hart w (Unmap by place page named) answer = (by ≡ hart) × (w ≡ wish.Unmap place page) × ((ticket : ℕ) × (answer ≡ reply.Opened ticket))
+    (by ≡ hart) × (w ≡ wish.Map place page ppn flags)
+    × ((answer ≡ reply.Leaf) ⊎ ((table : ℕ) × (answer ≡ reply.Table table)))
+IsEdit hart w (Unmap by place page named) answer =
+    (by ≡ hart) × (w ≡ wish.Unmap place page) × ((ticket : ℕ) × (answer ≡ reply.Opened ticket))
 IsEdit hart w (Protect by place page flags named) answer =
-    (by ≡ hart) × (w ≡ wish.Protect place page flags) × ((ticket : ℕ) × (answer ≡ reply.Opened ticket))
+    (by ≡ hart) × (w ≡ wish.Protect place page flags)
+    × ((ticket : ℕ) × (answer ≡ reply.Opened ticket))
 IsEdit hart w _ answer = ⊥
 
--- an accepted edit stored the word at this index of the table at this PPN, where the path of its page ended
-pub record IsStore (setup : Setup) (ppn index word : ℕ) (turn : Turn) (before : History) : Type 0 where
+-- an accepted edit stored the word at this index of the table at this PPN, where the path of its
+-- page ended
+pub record IsStore (setup : Setup) (ppn index word : ℕ) (turn : Turn)
+    (before : History) : Type 0 where
   pub new : Written
   pub is : written setup turn.event turn.reply (words_of setup before) ≡ Some new
   pub same_table : (path_of setup.layout (words_of setup before) new.place new.page).table ≡ ppn
@@ -273,10 +300,13 @@ pub record Empties (setup : Setup) (ppn index : ℕ) (turn : Turn) (before : His
 -- a turn put the word there
 abbrev pub Puts : Setup → ℕ → ℕ → ℕ → Turn → History → Type 0
 Puts setup ppn index word turn before =
-    IsStore setup ppn index word turn before ⊎ (Empties setup ppn index turn before × (zero_word (words_of setup before ppn index) ≡ Some word))
+    IsStore setup ppn index word turn before
+    ⊎ (Empties setup ppn index turn before
+    × (zero_word (words_of setup before ppn index) ≡ Some word))
 
 abbrev pub Stores : Setup → ℕ → ℕ → Turn → History → Type 0
-Stores setup ppn index turn before = ((word : ℕ) × IsStore setup ppn index word turn before) ⊎ Empties setup ppn index turn before
+Stores setup ppn index turn before =
+    ((word : ℕ) × IsStore setup ppn index word turn before) ⊎ Empties setup ppn index turn before
 
 -- a walk for this access began
 pub record IsBegin (hart : ℕ) (walk : Walking) (turn : Turn) (before : History) : Type 0 where
@@ -286,10 +316,12 @@ pub record IsBegin (hart : ℕ) (walk : Walking) (turn : Turn) (before : History
 -- a Load ended a walk
 pub record IsLastLoad (hart : ℕ) (turn : Turn) (before : History) : Type 0 where
   pub event : turn.event ≡ Load hart
-  pub ended : ((pa : ℕ) × (turn.reply ≡ reply.Filled pa)) ⊎ ((trap : Trap) × (turn.reply ≡ reply.Trap trap))
+  pub ended : ((pa : ℕ) × (turn.reply ≡ reply.Filled pa))
+      ⊎ ((trap : Trap) × (turn.reply ≡ reply.Trap trap))
 
 abbrev pub BeginsOrEnds : ℕ → Turn → History → Type 0
-BeginsOrEnds hart turn before = ((walk : Walking) × IsBegin hart walk turn before) ⊎ IsLastLoad hart turn before
+BeginsOrEnds hart turn before =
+    ((walk : Walking) × IsBegin hart walk turn before) ⊎ IsLastLoad hart turn before
 
 -- a Load of the hart after which its walk goes on
 abbrev pub is_load_by : ℕ → Event → Bool
@@ -299,7 +331,8 @@ is_load_by hart _ = false
 abbrev pub is_further_load : ℕ → Turn → Bool
 is_further_load hart turn = is_more turn.reply && is_load_by hart turn.event
 
--- the walk began, and since then none began or ended; its loads are those since then after which it went on
+-- the walk began, and since then none began or ended; its loads are those since then after which it
+-- went on
 pub record IsInWalk (hart : ℕ) (walk : Walking) (history : History) : Type 0 where
   pub since : Since (IsBegin hart walk) (BeginsOrEnds hart) history
   pub loads : walk.loads ≡ count_where (is_further_load hart) since.later
@@ -322,7 +355,8 @@ pub record IsGivenBack (ppn : ℕ) (turn : Turn) (before : History) : Type 0 whe
   pub was : holder_of before ppn ≡ Some (Space space)
 
 abbrev pub TakesOrGivesBack : ℕ → Turn → History → Type 0
-TakesOrGivesBack ppn turn before = ((place : Place) × IsNewTable ppn place turn before) ⊎ IsGivenBack ppn turn before
+TakesOrGivesBack ppn turn before =
+    ((place : Place) × IsNewTable ppn place turn before) ⊎ IsGivenBack ppn turn before
 
 -- the number is the least of the hart's tickets that is not open
 pub record IsLeastFree (history : History) (hart ticket : ℕ) : Type 0 where
@@ -332,7 +366,9 @@ pub record IsLeastFree (history : History) (hart ticket : ℕ) : Type 0 where
 
 -- the reply of each turn was due after the turns before it
 abbrev pub EachIsDue : Setup → History → Type 0
-EachIsDue setup history = (later : History) (turn : Turn) (earlier : History) → history ≡ later ++ turn ∷ earlier → turn.reply ≡ due setup earlier turn.event
+EachIsDue setup history =
+    (later : History) (turn : Turn) (earlier : History) → history ≡ later ++ turn ∷ earlier
+    → turn.reply ≡ due setup earlier turn.event
 
 -- a Retire of the space was accepted, with k turns before it
 pub record IsRetire (space order : ℕ) (turn : Turn) (before : History) : Type 0 where
@@ -359,4 +395,6 @@ Creates space turn before = (asid : ℕ) × IsCreate space asid turn before
 
 -- a turn that decides whether the space is live, retiring or free
 abbrev pub Decides : ℕ → Turn → History → Type 0
-Decides space turn before = ((order : ℕ) × IsRetire space order turn before) ⊎ (IsReclaim space turn before ⊎ Creates space turn before)
+Decides space turn before =
+    ((order : ℕ) × IsRetire space order turn before)
+    ⊎ (IsReclaim space turn before ⊎ Creates space turn before)

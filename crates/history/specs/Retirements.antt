@@ -1,5 +1,6 @@
--- What is due to a Retire, a Reclaim and a Create, what each of them leaves once it was accepted, and what it does not touch.
--- The laws of src/retirements.rt say that the definitions of Due, Spaces, Orders and Tables give just this.
+-- What is due to a Retire, a Reclaim and a Create, what each of them leaves once it was accepted,
+-- and what it does not touch. The laws of src/retirements.rt say that the definitions of Due,
+-- Spaces, Orders and Tables give just this.
 use Rattle.std.specs.Prelude.{ℕ, ◌≡◌, ◌≢◌, ◌<◌, true, ◌∷◌, length, Some}
 use Rattle.pte.specs.declared.address.What.TheVariants.{SpaceOf}
 use Rattle.spaces.specs.Layout.{home_of}
@@ -27,7 +28,8 @@ pub record IsAtHome (setup : Setup) (hart space : ℕ) : Type 0 where
   pub space_there : space < length setup.asids
   pub home : hart ≡ home_of setup.layout (Space space)
 
--- a Retire is due this ticket: the space is live, no hart is in it, and the ticket is the least that is not open
+-- a Retire is due this ticket: the space is live, no hart is in it, and the ticket is the least
+-- that is not open
 pub record CanRetire (setup : Setup) (history : History) (hart space ticket : ℕ) : Type 0 where
   pub at_home : IsAtHome setup hart space
   pub live : status_of history space ≡ Live
@@ -36,7 +38,9 @@ pub record CanRetire (setup : Setup) (history : History) (hart space ticket : �
 
 -- each hart that the order names is collected
 abbrev pub IsCollected : Setup → History → Order → ℕ → Type 0
-IsCollected setup history order number = (hart : ℕ) → hart < MAX_HARTS → contains order.named hart ≡ true → is_collected setup history number hart ≡ true
+IsCollected setup history order number =
+    (hart : ℕ) → hart < MAX_HARTS → contains order.named hart ≡ true
+    → is_collected setup history number hart ≡ true
 
 -- a Reclaim is due Ok: the space is retiring, and each hart is collected for its retirement
 pub record CanReclaim (setup : Setup) (history : History) (hart space : ℕ) : Type 0 where
@@ -78,12 +82,18 @@ pub record KeepsHarts (setup : Setup) (turn : Turn) (history : History) : Type 0
 
 -- no mailbox changes, nor how far any order is
 pub record KeepsMailboxes (setup : Setup) (turn : Turn) (history : History) : Type 0 where
-  pub posts : (sender receiver : ℕ) → posts setup (turn ∷ history) sender receiver ≡ posts setup history sender receiver
-  pub taken : (sender receiver : ℕ) → taken (turn ∷ history) sender receiver ≡ taken history sender receiver
-  pub closed : (sender receiver : ℕ) → is_closed (turn ∷ history) sender receiver ≡ is_closed history sender receiver
-  pub posted : (order hart : ℕ) → is_posted (turn ∷ history) order hart ≡ is_posted history order hart
-  pub acked : (order hart : ℕ) → is_acked setup (turn ∷ history) order hart ≡ is_acked setup history order hart
-  pub collected : (order hart : ℕ) → is_collected setup (turn ∷ history) order hart ≡ is_collected setup history order hart
+  pub posts : (sender receiver : ℕ)
+      → posts setup (turn ∷ history) sender receiver ≡ posts setup history sender receiver
+  pub taken : (sender receiver : ℕ)
+      → taken (turn ∷ history) sender receiver ≡ taken history sender receiver
+  pub closed : (sender receiver : ℕ)
+      → is_closed (turn ∷ history) sender receiver ≡ is_closed history sender receiver
+  pub posted : (order hart : ℕ)
+      → is_posted (turn ∷ history) order hart ≡ is_posted history order hart
+  pub acked : (order hart : ℕ)
+      → is_acked setup (turn ∷ history) order hart ≡ is_acked setup history order hart
+  pub collected : (order hart : ℕ)
+      → is_collected setup (turn ∷ history) order hart ≡ is_collected setup history order hart
 
 -- no order comes, and none is opened or finished
 pub record KeepsOrders (setup : Setup) (turn : Turn) (history : History) : Type 0 where
@@ -91,28 +101,35 @@ pub record KeepsOrders (setup : Setup) (turn : Turn) (history : History) : Type 
   pub tickets : (s t : ℕ) → open_order (turn ∷ history) s t ≡ open_order history s t
 
 -- of no other space the status or the ASID changes
-pub record KeepsOtherSpaces (setup : Setup) (turn : Turn) (history : History) (space : ℕ) : Type 0 where
+pub record KeepsOtherSpaces (setup : Setup) (turn : Turn) (history : History)
+    (space : ℕ) : Type 0 where
   pub statuses : (s : ℕ) → s ≢ space → status_of (turn ∷ history) s ≡ status_of history s
   pub asids : (s : ℕ) → s ≢ space → asid_of setup (turn ∷ history) s ≡ asid_of setup history s
 
 -- the order of a retirement asks each hart to drop the ASID that the space has
-pub record IsOrderToDrop (setup : Setup) (history : History) (hart space ticket : ℕ) (order : Order) : Type 0 where
+pub record IsOrderToDrop (setup : Setup) (history : History) (hart space ticket : ℕ)
+    (order : Order) : Type 0 where
   pub sender : order.sender ≡ hart
   pub number : order.ticket ≡ ticket
   pub asked : order.what ≡ SpaceOf (asid_of setup history space)
   pub cause : order.cause ≡ Flushed
-  pub named : (other : ℕ) → other < MAX_HARTS → (contains order.named other ≡ true → other < setup.harts) × (other < setup.harts → contains order.named other ≡ true)
+  pub named : (other : ℕ) → other < MAX_HARTS
+      → (contains order.named other ≡ true → other < setup.harts)
+      × (other < setup.harts → contains order.named other ≡ true)
 
 -- after a Retire the space is retiring since the order that the turn opened under the ticket
 pub record AfterRetire (setup : Setup) (history : History) (hart space ticket : ℕ) : Type 0 where
   pub status : status_of (retire hart space ticket ∷ history) space ≡ Retires (length history)
-  pub same_asid : asid_of setup (retire hart space ticket ∷ history) space ≡ asid_of setup history space
+  pub same_asid : asid_of setup (retire hart space ticket ∷ history) space
+      ≡ asid_of setup history space
   pub order : Order
   pub is : order_at setup (retire hart space ticket ∷ history) (length history) ≡ Some order
   pub to_drop : IsOrderToDrop setup history hart space ticket order
   pub opened : open_order (retire hart space ticket ∷ history) hart ticket ≡ Some (length history)
-  pub other_orders : (number : ℕ) → number ≢ length history → order_at setup (retire hart space ticket ∷ history) number ≡ order_at setup history number
-  pub other_tickets : (s t : ℕ) → (s ≡ hart → t ≢ ticket) → open_order (retire hart space ticket ∷ history) s t ≡ open_order history s t
+  pub other_orders : (number : ℕ) → number ≢ length history
+      → order_at setup (retire hart space ticket ∷ history) number ≡ order_at setup history number
+  pub other_tickets : (s t : ℕ) → (s ≡ hart → t ≢ ticket)
+      → open_order (retire hart space ticket ∷ history) s t ≡ open_order history s t
   pub other_spaces : KeepsOtherSpaces setup (retire hart space ticket) history space
   pub tables : KeepsTables setup (retire hart space ticket) history
   pub harts : KeepsHarts setup (retire hart space ticket) history
@@ -122,7 +139,8 @@ pub record AfterRetire (setup : Setup) (history : History) (hart space ticket : 
 pub record AfterReclaim (setup : Setup) (history : History) (hart space : ℕ) : Type 0 where
   pub status : status_of (reclaim hart space ∷ history) space ≡ Free
   pub same_asid : asid_of setup (reclaim hart space ∷ history) space ≡ asid_of setup history space
-  pub words : EmptiesWords setup.layout space (holder_of history) (words_of setup history) (words_of setup (reclaim hart space ∷ history))
+  pub words : EmptiesWords setup.layout space (holder_of history) (words_of setup history)
+      (words_of setup (reclaim hart space ∷ history))
   pub holders : GivesBack space (holder_of history) (holder_of (reclaim hart space ∷ history))
   pub other_spaces : KeepsOtherSpaces setup (reclaim hart space) history space
   pub orders : KeepsOrders setup (reclaim hart space) history

@@ -9,4 +9,6 @@ use Rattle.history.specs.Due.{due}
 
 abbrev pub due_replies : Setup → History → List Event → List Reply
 due_replies setup history [] = []
-due_replies setup history (event ∷ events) = due setup history event ∷ due_replies setup (with_turn event (due setup history event) history) events
+due_replies setup history (event ∷ events) =
+    due setup history event ∷ due_replies setup (with_turn event (due setup history event) history)
+    events

@@ -1,4 +1,5 @@
--- Service: which accepted post a hart serves, from its Take to its Ack, and whether it has fenced for it.
+-- Service: which accepted post a hart serves, from its Take to its Ack, and whether it has fenced
+-- for it.
 use Rattle.std.specs.Prelude.{ℕ, Bool, true, false, ◌==◌, ◌&&◌, [], ◌∷◌, length, Option, Some, None, slice_get, option_map, unwrap_or, if◌then◌else◌}
 use Rattle.pte.specs.declared.address.What.{What}
 use Rattle.pte.specs.declared.address.What.TheVariants.{All}
@@ -11,13 +12,17 @@ use Rattle.history.specs.Mailboxes.{Sent, posts, taken}
 
 -- the n-th accepted Take of a pair takes its n-th accepted post
 abbrev pub served_after : Setup → Event → Reply → History → ℕ → Option Sent → Option Sent
-served_after setup (Take by from) reply history hart old = if is_taken reply && (by == hart) then slice_get (posts setup history from by) (length (taken history from by)) else old
-served_after setup (Ack by) reply history hart old = if is_ok reply && (by == hart) then None else old
+served_after setup (Take by from) reply history hart old =
+    if is_taken reply && (by == hart)
+    then slice_get (posts setup history from by) (length (taken history from by)) else old
+served_after setup (Ack by) reply history hart old =
+    if is_ok reply && (by == hart) then None else old
 served_after setup _ reply history hart old = old
 
 abbrev pub served : Setup → History → ℕ → Option Sent
 served setup [] hart = None
-served setup (turn ∷ history) hart = served_after setup turn.event turn.reply history hart (served setup history hart)
+served setup (turn ∷ history) hart =
+    served_after setup turn.event turn.reply history hart (served setup history hart)
 
 -- a ServeFence was accepted since the hart took what it serves
 abbrev pub fenced_after : Event → Reply → ℕ → Bool → Bool

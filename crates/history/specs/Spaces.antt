@@ -1,4 +1,5 @@
--- What a history leaves of a space: whether it is live, retiring or free, its ASID, and which spare frames are in use for it.
+-- What a history leaves of a space: whether it is live, retiring or free, its ASID, and which spare
+-- frames are in use for it.
 use Rattle.std.specs.Prelude.{ℕ, Bool, true, false, ◌==◌, ◌&&◌, [], ◌∷◌, length, Option, Some, None, slice_index, if◌then◌else◌}
 use Rattle.spaces.specs.declared.places.Place.{Place}
 use Rattle.spaces.specs.declared.places.Place.TheVariants.{Space, Kernel}
@@ -16,14 +17,18 @@ pub data Status : Type 0 where
   Free : Status
 
 abbrev pub status_after : Event → Reply → ℕ → ℕ → Status → Status
-status_after (Retire hart space) reply place s old = if is_opened reply && (space == s) then Retires place else old
-status_after (Reclaim hart space) reply place s old = if is_ok reply && (space == s) then Free else old
-status_after (Create hart space asid) reply place s old = if is_ok reply && (space == s) then Live else old
+status_after (Retire hart space) reply place s old =
+    if is_opened reply && (space == s) then Retires place else old
+status_after (Reclaim hart space) reply place s old =
+    if is_ok reply && (space == s) then Free else old
+status_after (Create hart space asid) reply place s old =
+    if is_ok reply && (space == s) then Live else old
 status_after _ reply place s old = old
 
 abbrev pub status_of : History → ℕ → Status
 status_of [] s = Live
-status_of (turn ∷ history) s = status_after turn.event turn.reply (length history) s (status_of history s)
+status_of (turn ∷ history) s =
+    status_after turn.event turn.reply (length history) s (status_of history s)
 
 abbrev pub is_free : Status → Bool
 is_free Free = true
@@ -47,12 +52,16 @@ abbrev pub asid_in : Setup → History → Place → Option ℕ
 asid_in setup history (Space s) = Some (asid_of setup history s)
 asid_in setup history Kernel = None
 
--- the place that a spare frame is in use for: that of the Map which was answered with it, until the space is reclaimed
+-- the place that a spare frame is in use for: that of the Map which was answered with it, until the
+-- space is reclaimed
 abbrev pub holder_after : Event → Reply → ℕ → Option Place → Option Place
-holder_after (Map hart place page ppn flags) reply frame old = if is_table_at reply frame then Some place else old
-holder_after (Reclaim hart space) reply frame old = if is_ok reply then given_back old space else old
+holder_after (Map hart place page ppn flags) reply frame old =
+    if is_table_at reply frame then Some place else old
+holder_after (Reclaim hart space) reply frame old =
+    if is_ok reply then given_back old space else old
 holder_after _ reply frame old = old
 
 abbrev pub holder_of : History → ℕ → Option Place
 holder_of [] frame = None
-holder_of (turn ∷ history) frame = holder_after turn.event turn.reply frame (holder_of history frame)
+holder_of (turn ∷ history) frame =
+    holder_after turn.event turn.reply frame (holder_of history frame)

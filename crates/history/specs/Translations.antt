@@ -1,4 +1,5 @@
--- Which events touch a TLB, and what they find there or in the tables: for the laws of src/translations.rt.
+-- Which events touch a TLB, and what they find there or in the tables: for the laws of
+-- src/translations.rt.
 use Rattle.std.specs.Prelude.{ℕ, true, ◌≡◌, ◌<◌, ◌⊎◌, List, ◌∷◌, ◌++◌, Option, Some, None, Result}
 use Rattle.pte.specs.Address.{Holds}
 use Rattle.walk.specs.declared.found_or_trap.Found.{Found}
@@ -31,31 +32,42 @@ pub record IsFirstMatch (entries : List Entry) (asid va : ℕ) (e : Entry) : Typ
   pub younger : List Entry
   pub split : entries ≡ older ++ e ∷ younger
   pub matches : Matches asid va e
-  pub none_older : (other : Entry) (front back : List Entry) → older ≡ front ++ other ∷ back → ¬ Matches asid va other
+  pub none_older : (other : Entry) (front back : List Entry) → older ≡ front ++ other ∷ back
+      → ¬ Matches asid va other
 
 -- no entry matches
 abbrev pub NoneMatches : List Entry → ℕ → ℕ → Type 0
-NoneMatches entries asid va = (other : Entry) (front back : List Entry) → entries ≡ front ++ other ∷ back → ¬ Matches asid va other
+NoneMatches entries asid va =
+    (other : Entry) (front back : List Entry) → entries ≡ front ++ other ∷ back
+    → ¬ Matches asid va other
 
--- the hart is in this walk, the address leads to no further pointer, and this is the outcome of its access in the words of now
-pub record WalkEnds (setup : Setup) (history : History) (hart : ℕ) (walk : Walking) (answer : Result Found Trap) : Type 0 where
+-- the hart is in this walk, the address leads to no further pointer, and this is the outcome of its
+-- access in the words of now
+pub record WalkEnds (setup : Setup) (history : History) (hart : ℕ) (walk : Walking)
+    (answer : Result Found Trap) : Type 0 where
   pub there : hart < setup.harts
   pub walking : walk_of history hart ≡ Some walk
-  pub last : ¬ LeadsOn setup.layout.scheme (words_of setup history) (root_ppn setup.layout (space_of history hart)) walk
-  pub outcome : Outcome setup.layout.scheme (words_of setup history) (root_ppn setup.layout (space_of history hart)) walk.va walk.access walk.ctx answer
+  pub last : ¬ LeadsOn setup.layout.scheme (words_of setup history)
+      (root_ppn setup.layout (space_of history hart)) walk
+  pub outcome : Outcome setup.layout.scheme (words_of setup history)
+      (root_ppn setup.layout (space_of history hart)) walk.va walk.access walk.ctx answer
 
--- an accepted turn of the hart that touches its TLB: a Load that fills, a Fence, a ServeFence, an AckSelf
+-- an accepted turn of the hart that touches its TLB: a Load that fills, a Fence, a ServeFence, an
+-- AckSelf
 abbrev pub Fills : ℕ → Turn → Type 0
 Fills hart turn = (turn.event ≡ Load hart) × ((pa : ℕ) × (turn.reply ≡ reply.Filled pa))
 
 abbrev pub Fences : ℕ → Turn → Type 0
-Fences hart turn = ((rs1 rs2 : Option ℕ) × (turn.event ≡ Fence hart rs1 rs2)) × (turn.reply ≡ reply.Ok)
+Fences hart turn =
+    ((rs1 rs2 : Option ℕ) × (turn.event ≡ Fence hart rs1 rs2)) × (turn.reply ≡ reply.Ok)
 
 abbrev pub Serves : ℕ → Turn → Type 0
 Serves hart turn = (turn.event ≡ ServeFence hart) × (turn.reply ≡ reply.Ok)
 
 abbrev pub AcknowledgesOwn : ℕ → Turn → Type 0
-AcknowledgesOwn hart turn = ((ticket : ℕ) × (turn.event ≡ AckSelf hart ticket)) × IsProgress turn.reply
+AcknowledgesOwn hart turn =
+    ((ticket : ℕ) × (turn.event ≡ AckSelf hart ticket)) × IsProgress turn.reply
 
 abbrev pub TouchesTlb : ℕ → Turn → Type 0
-TouchesTlb hart turn = Fills hart turn ⊎ (Fences hart turn ⊎ (Serves hart turn ⊎ AcknowledgesOwn hart turn))
+TouchesTlb hart turn =
+    Fills hart turn ⊎ (Fences hart turn ⊎ (Serves hart turn ⊎ AcknowledgesOwn hart turn))

@@ -1,6 +1,6 @@
 -- A history of the harts: their turns, the newest first, each an event with the reply that it got.
 use Rattle.std.specs.Prelude.{ℕ, Bool, true, false, ◌==◌, ◌&&◌, List, [], ◌∷◌, Option, Some, None, is_some}
-use Rattle.shoot.specs.Request.{Message}
+use Rattle.shoot.specs.Request.{Request}
 use Rattle.history.specs.declared.event.Event.{Event}
 use Rattle.history.specs.declared.reply.Reply.{Reply}
 use Rattle.history.specs.declared.reply.Reply.TheVariants as reply
@@ -53,7 +53,7 @@ abbrev pub is_taken : Reply → Bool
 is_taken (reply.Taken request) = true
 is_taken _ = false
 
-abbrev pub taken_request : Reply → List Message
+abbrev pub taken_request : Reply → List Request
 taken_request (reply.Taken request) = request ∷ []
 taken_request _ = []
 

@@ -12,11 +12,13 @@ pub enum Scope {
     All,
 }
 
-/// One step of one hart. Harts, spaces and tickets are numbers from 0, and a step that speaks of one that is not there, or
-/// not open, is refused. `named` is a set of harts, bit h for hart h, and `va` a virtual address, canonical or not.
+/// One step of one hart. Harts, spaces and tickets are numbers from 0, and a step that speaks of
+/// one that is not there, or not open, is refused. `named` is a set of harts, bit h for hart h, and
+/// `va` a virtual address, canonical or not.
 #[derive(Clone, Copy, PartialEq, Eq, Debug)]
 pub enum Event {
-    /// Begins an access: the hart's TLB answers it, or a walk from the root of the hart's space begins.
+    /// Begins an access: the hart's TLB answers it, or a walk from the root of the hart's space
+    /// begins.
     Begin {
         hart: u8,
         va: u64,
@@ -107,13 +109,15 @@ pub enum Event {
         hart: u8,
         to: u8,
     },
-    /// Retires a space that no hart is in, and opens a ticket for its address space that names every hart.
+    /// Retires a space that no hart is in, and opens a ticket for its address space that names
+    /// every hart.
     Retire {
         hart: u8,
         space: u8,
     },
-    /// Gives back a retiring space, once every hart is collected for its retirement: stores 0 on the words of its own tables and of
-    /// its root's user half. The frames of the tables are unused then, and the space is free.
+    /// Gives back a retiring space, once every hart is collected for its retirement: stores 0 on
+    /// the words of its own tables and of its root's user half. The frames of the tables are unused
+    /// then, and the space is free.
     Reclaim {
         hart: u8,
         space: u8,

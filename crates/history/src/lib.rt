@@ -1,4 +1,5 @@
-//! What a run of the harts leaves, and which reply is due to an event after it: definitions, with no machine.
+//! What a run of the harts leaves, and which reply is due to an event after it: definitions, with
+//! no machine.
 #![tactic(auto)]
 
 mod event;

@@ -4,11 +4,12 @@ use crate::Scope;
 use pte::{Access, Ctx, Page, PteFlags};
 use spaces::Place;
 
-/// One step of a hart of a live run, where each hart is a thread with a port of the board. The numbers are those of `Event`,
-/// and so are the sets of harts.
+/// One step of a hart of a live run, where each hart is a thread with a port of the board. The
+/// numbers are those of `Event`, and so are the sets of harts.
 #[derive(Clone, Copy, PartialEq, Eq, Debug)]
 pub enum LiveStep {
-    /// Translates an address to its end, by the hart's TLB or by a walk from the root of the hart's space.
+    /// Translates an address to its end, by the hart's TLB or by a walk from the root of the hart's
+    /// space.
     Translate {
         va: u64,
         access: Access,
@@ -48,12 +49,14 @@ pub enum LiveStep {
         rs1: Option<u64>,
         rs2: Option<u64>,
     },
-    /// Arms the cell of an open ticket's request to another hart, and puts the request into the ring to it.
+    /// Arms the cell of an open ticket's request to another hart, and puts the request into the
+    /// ring to it.
     Post {
         ticket: u32,
         to: u8,
     },
-    /// Takes the oldest request out of the ring from another hart, fences as it asks, and acknowledges it.
+    /// Takes the oldest request out of the ring from another hart, fences as it asks, and
+    /// acknowledges it.
     Serve {
         from: u8,
     },
@@ -73,7 +76,8 @@ pub enum LiveStep {
     Close {
         to: u8,
     },
-    /// Serves the other harts and collects a ticket by turns, until all of its harts are collected or the turns are used up.
+    /// Serves the other harts and collects a ticket by turns, until all of its harts are collected
+    /// or the turns are used up.
     Wait {
         ticket: u32,
     },

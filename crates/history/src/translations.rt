@@ -1,5 +1,6 @@
-//! Laws of what a TLB answers and keeps, one for each event that touches a TLB: exactly what Begin and Load answer, and exactly what
-//! is left of the entries. Each function does nothing, and its contract is the law.
+//! Laws of what a TLB answers and keeps, one for each event that touches a TLB: exactly what Begin
+//! and Load answer, and exactly what is left of the entries. Each function does nothing, and its
+//! contract is the law.
 
 ghost use Rattle.std.specs.Prelude.{ℕ, ◌<◌, ◌≡◌, ◌∷◌, Err, None, Ok, Option, Result, Some};
 ghost use Rattle.pte.specs.Address.{IsCanonical};
@@ -32,68 +33,99 @@ ghost use Rattle.history.specs.Harts.{entries_of, space_of, walk_of, Walking};
 ghost use Rattle.history.specs.Occurrences.{IsProgress, LeadsOn};
 ghost use Rattle.history.specs.Translations.{IsFirstMatch, MayBegin, NoneMatches, TouchesTlb, WalkEnds};
 
-/// A Begin of a hart that is in no walk and serves nothing is answered as the oldest entry that matches answers the access: its
-/// physical address, or the trap that its flags raise. If none matches a walk begins. An address that is not canonical traps.
+/// A Begin of a hart that is in no walk and serves nothing is answered as the oldest entry that
+/// matches answers the access: its physical address, or the trap that its flags raise. If none
+/// matches a walk begins. An address that is not canonical traps.
 pub fn begin_answers_as_the_first_match()
-    ensures hit { (setup : Setup) (history : History) (hart va : ℕ) (access : Access) (ctx : Ctx) (e : Entry) (pa : ℕ) → MayBegin setup history hart → IsCanonical setup.layout.scheme va
-        → IsFirstMatch (entries_of setup history hart) (asid_of setup history (space_of history hart)) va e → answer_of e va access ctx ≡ Ok pa
+    ensures hit { (setup : Setup) (history : History) (hart va : ℕ) (access : Access) (ctx : Ctx)
+        (e : Entry) (pa : ℕ) → MayBegin setup history hart → IsCanonical setup.layout.scheme va
+        → IsFirstMatch (entries_of setup history hart)
+        (asid_of setup history (space_of history hart)) va e → answer_of e va access ctx ≡ Ok pa
         → due setup history (Begin hart va access ctx) ≡ reply.Hit pa }
-    ensures trap { (setup : Setup) (history : History) (hart va : ℕ) (access : Access) (ctx : Ctx) (e : Entry) (trap : Fault) → MayBegin setup history hart → IsCanonical setup.layout.scheme va
-        → IsFirstMatch (entries_of setup history hart) (asid_of setup history (space_of history hart)) va e → answer_of e va access ctx ≡ Err trap
+    ensures trap { (setup : Setup) (history : History) (hart va : ℕ) (access : Access) (ctx : Ctx)
+        (e : Entry) (trap : Fault) → MayBegin setup history hart
+        → IsCanonical setup.layout.scheme va
+        → IsFirstMatch (entries_of setup history hart)
+        (asid_of setup history (space_of history hart)) va e → answer_of e va access ctx ≡ Err trap
         → due setup history (Begin hart va access ctx) ≡ reply.Trap trap }
-    ensures more { (setup : Setup) (history : History) (hart va : ℕ) (access : Access) (ctx : Ctx) → MayBegin setup history hart → IsCanonical setup.layout.scheme va
-        → NoneMatches (entries_of setup history hart) (asid_of setup history (space_of history hart)) va → due setup history (Begin hart va access ctx) ≡ reply.More }
-    ensures not_canonical { (setup : Setup) (history : History) (hart va : ℕ) (access : Access) (ctx : Ctx) → MayBegin setup history hart → (¬ IsCanonical setup.layout.scheme va)
-        → due setup history (Begin hart va access ctx) ≡ reply.Trap (page_trap access NotCanonical) }
+    ensures more { (setup : Setup) (history : History) (hart va : ℕ) (access : Access) (ctx : Ctx)
+        → MayBegin setup history hart → IsCanonical setup.layout.scheme va
+        → NoneMatches (entries_of setup history hart)
+        (asid_of setup history (space_of history hart)) va
+        → due setup history (Begin hart va access ctx) ≡ reply.More }
+    ensures not_canonical { (setup : Setup) (history : History) (hart va : ℕ) (access : Access)
+        (ctx : Ctx) → MayBegin setup history hart → (¬ IsCanonical setup.layout.scheme va)
+        → due setup history (Begin hart va access ctx)
+        ≡ reply.Trap (page_trap access NotCanonical) }
 {}
 
-/// A Load goes on where one more pointer leads on; else it is answered with the outcome of the access in the words of now, of
-/// every access and every size of a leaf.
+/// A Load goes on where one more pointer leads on; else it is answered with the outcome of the
+/// access in the words of now, of every access and every size of a leaf.
 pub fn load_answers_the_outcome()
-    ensures more { (setup : Setup) (history : History) (hart : ℕ) (walk : Walking) → hart < setup.harts → walk_of history hart ≡ Some walk
-        → LeadsOn setup.layout.scheme (words_of setup history) (root_ppn setup.layout (space_of history hart)) walk → due setup history (Load hart) ≡ reply.More }
-    ensures found { (setup : Setup) (history : History) (hart : ℕ) (walk : Walking) (found : Found) → Lawful setup history → WalkEnds setup history hart walk (Ok found)
+    ensures more { (setup : Setup) (history : History) (hart : ℕ) (walk : Walking)
+        → hart < setup.harts → walk_of history hart ≡ Some walk
+        → LeadsOn setup.layout.scheme (words_of setup history)
+        (root_ppn setup.layout (space_of history hart)) walk
+        → due setup history (Load hart) ≡ reply.More }
+    ensures found { (setup : Setup) (history : History) (hart : ℕ) (walk : Walking) (found : Found)
+        → Lawful setup history → WalkEnds setup history hart walk (Ok found)
         → due setup history (Load hart) ≡ reply.Filled found.pa }
-    ensures trap { (setup : Setup) (history : History) (hart : ℕ) (walk : Walking) (trap : Fault) → Lawful setup history → WalkEnds setup history hart walk (Err trap)
+    ensures trap { (setup : Setup) (history : History) (hart : ℕ) (walk : Walking) (trap : Fault)
+        → Lawful setup history → WalkEnds setup history hart walk (Err trap)
         → due setup history (Load hart) ≡ reply.Trap trap }
-    ensures no_walk { (setup : Setup) (history : History) (hart : ℕ) → hart < setup.harts → walk_of history hart ≡ None → due setup history (Load hart) ≡ reply.Refused NotWalking }
+    ensures no_walk { (setup : Setup) (history : History) (hart : ℕ) → hart < setup.harts
+        → walk_of history hart ≡ None → due setup history (Load hart) ≡ reply.Refused NotWalking }
 {}
 
 /// Each Load that is answered Filled ended a walk that found a leaf.
 pub fn filled_is_of_what_was_found()
-    ensures { (setup : Setup) (history : History) (hart pa : ℕ) → Lawful setup (with_turn (Load hart) (reply.Filled pa) history)
-        → (walk : Walking) × (found : Found) × WalkEnds setup history hart walk (Ok found) × (pa ≡ found.pa) }
+    ensures { (setup : Setup) (history : History) (hart pa : ℕ)
+        → Lawful setup (with_turn (Load hart) (reply.Filled pa) history)
+        → (walk : Walking) × (found : Found) × WalkEnds setup history hart walk (Ok found)
+        × (pa ≡ found.pa) }
 {}
 
-/// A Load that is answered Filled leaves exactly the TLB filled with the entry of what its walk found, for the ASID of the hart's
-/// space: of every access and every size of a leaf.
+/// A Load that is answered Filled leaves exactly the TLB filled with the entry of what its walk
+/// found, for the ASID of the hart's space: of every access and every size of a leaf.
 pub fn load_fills_what_was_found()
-    ensures { (setup : Setup) (history : History) (hart pa : ℕ) (walk : Walking) (found : Found) → Lawful setup history → WalkEnds setup history hart walk (Ok found)
-        → entries_of setup (with_turn (Load hart) (reply.Filled pa) history) hart ≡ filled (entries_of setup history hart) (entry_of (asid_of setup history (space_of history hart)) found) }
+    ensures { (setup : Setup) (history : History) (hart pa : ℕ) (walk : Walking) (found : Found)
+        → Lawful setup history → WalkEnds setup history hart walk (Ok found)
+        → entries_of setup (with_turn (Load hart) (reply.Filled pa) history) hart
+        ≡ filled (entries_of setup history hart)
+        (entry_of (asid_of setup history (space_of history hart)) found) }
 {}
 
 /// A fence leaves exactly the entries that SFENCE.VMA with its registers does not take out.
 pub fn fence_leaves_what_it_does_not_name()
     ensures { (setup : Setup) (history : History) (hart : ℕ) (rs1 rs2 : Option ℕ)
-        → entries_of setup (with_turn (Fence hart rs1 rs2) reply.Ok history) hart ≡ fenced setup.layout.scheme (entries_of setup history hart) rs1 rs2 }
+        → entries_of setup (with_turn (Fence hart rs1 rs2) reply.Ok history) hart
+        ≡ fenced setup.layout.scheme (entries_of setup history hart) rs1 rs2 }
 {}
 
-/// The service of a request, of a page of the scheme, leaves exactly the entries that stay under each fence that the request
-/// stands for, in the same order.
+/// The service of a request, of a page of the scheme, leaves exactly the entries that stay under
+/// each fence that the request stands for, in the same order.
 pub fn service_leaves_what_stays()
-    ensures { (setup : Setup) (history : History) (hart : ℕ) (post : Sent) → served setup history hart ≡ Some post → IsRequest setup.layout.scheme post.request.what
-        → Served setup.layout.scheme (entries_of setup history hart) post.request.what (entries_of setup (with_turn (ServeFence hart) reply.Ok history) hart) }
+    ensures { (setup : Setup) (history : History) (hart : ℕ) (post : Sent)
+        → served setup history hart ≡ Some post → IsRequest setup.layout.scheme post.request.what
+        → Served setup.layout.scheme (entries_of setup history hart) post.request.what
+        (entries_of setup (with_turn (ServeFence hart) reply.Ok history) hart) }
 {}
 
-/// A hart's acknowledgement of its own order, of a page of the scheme, leaves exactly the entries that stay under each fence that
-/// the order stands for, in the same order.
+/// A hart's acknowledgement of its own order, of a page of the scheme, leaves exactly the entries
+/// that stay under each fence that the order stands for, in the same order.
 pub fn own_acknowledgement_leaves_what_stays()
-    ensures { (setup : Setup) (history : History) (hart ticket number : ℕ) (order : Order) (answer : Reply) → open_order history hart ticket ≡ Some number → order_at setup history number ≡ Some order
+    ensures { (setup : Setup) (history : History) (hart ticket number : ℕ) (order : Order)
+        (answer : Reply) → open_order history hart ticket ≡ Some number
+        → order_at setup history number ≡ Some order
         → IsRequest setup.layout.scheme order.what → IsProgress answer
-        → Served setup.layout.scheme (entries_of setup history hart) order.what (entries_of setup (with_turn (AckSelf hart ticket) answer history) hart) }
+        → Served setup.layout.scheme (entries_of setup history hart) order.what
+        (entries_of setup (with_turn (AckSelf hart ticket) answer history) hart) }
 {}
 
-/// No other turn changes an entry of the hart's TLB: no other event, nothing that is refused, and no event of another hart.
+/// No other turn changes an entry of the hart's TLB: no other event, nothing that is refused, and
+/// no event of another hart.
 pub fn nothing_else_touches_a_tlb()
-    ensures { (setup : Setup) (history : History) (hart : ℕ) (turn : Turn) → (¬ TouchesTlb hart turn) → entries_of setup (turn ∷ history) hart ≡ entries_of setup history hart }
+    ensures { (setup : Setup) (history : History) (hart : ℕ) (turn : Turn)
+        → (¬ TouchesTlb hart turn) → entries_of setup (turn ∷ history) hart
+        ≡ entries_of setup history hart }
 {}

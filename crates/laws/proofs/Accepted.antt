@@ -13,7 +13,7 @@ use Rattle.spaces.specs.declared.faults.MapFault.{MapFault}
 use Rattle.spaces.specs.declared.wishes.Wish.{Wish}
 use Rattle.spaces.specs.declared.wishes.Wish.TheVariants as wish
 use Rattle.spaces.specs.Edits.{Store, place_of}
-use Rattle.shoot.specs.Request.{Message}
+use Rattle.shoot.specs.Request.{Request}
 use Rattle.shoot.specs.HartSet.{contains, harts_in, harts_where}
 use Rattle.shoot.proofs.HartSets.{contains_where}
 use Rattle.std.specs.Int.{bit_at}
@@ -253,11 +253,11 @@ post_found C H s t h r d z =
 pub record TakeFound (C : Setup) (H : History) (h s : ℕ) : Type 0 where
   pub apart : h ≡ s → ⊥
   pub unwalking : walk_of H h ≡ None
-  pub first : Message
-  pub rest : List Message
+  pub first : Request
+  pub rest : List Request
   pub waits : waiting C H s h ≡ first ∷ rest
 
-next_with : (ws : List Message) (r : Reply) → next_reply ws ≡ r → is_accepted r ≡ true → (first : Message) × (rest : List Message) × (ws ≡ first ∷ rest)
+next_with : (ws : List Request) (r : Reply) → next_reply ws ≡ r → is_accepted r ≡ true → (first : Request) × (rest : List Request) × (ws ≡ first ∷ rest)
 next_with [] r e a = absurd (false≢true (ap is_accepted e ∙ a))
 next_with (first ∷ rest) r e a = (first, rest, refl)
 

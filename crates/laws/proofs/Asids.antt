@@ -1,4 +1,5 @@
--- ASIDs of spaces over a lawful history: they differ, harts are in live spaces, and no TLB holds what is of an ASID that is free.
+-- ASIDs of spaces over a lawful history: they differ, harts are in live spaces, and no TLB holds
+-- what is of an ASID that is free.
 use Rattle.std.proofs.Common.{◌≡◌, ℕ, ◌%◌, ◌^◌, ◌<◌, ◌≤◌, ◌⊎◌, Bool, true, false, cond, ◌&&◌, not, [], ◌∷◌, length, Some, refl, ap, sym, ◌∙◌, subst, eqb, inl, inr, arith}
 use Rattle.std.specs.Prelude.{All}
 use Rattle.std.specs.List.{slice_index_or}
@@ -10,7 +11,7 @@ use Rattle.shoot.specs.declared.TheConstants.{MAX_HARTS}
 use Rattle.shoot.proofs.HartSets.{contains_where}
 use Rattle.tlb.specs.declared.store.Entry.{Entry}
 use Rattle.pte.specs.declared.TheConstants.{ASID_BITS}
-use Rattle.tlb.specs.Service.{is_served}
+use Rattle.tlb.specs.Service.{is_dropped}
 use Rattle.spaces.specs.declared.places.Place.TheVariants.{Space}
 use Rattle.spaces.specs.Layout.{home_of}
 use Rattle.history.specs.Setup.{Setup, is_hart}
@@ -219,7 +220,7 @@ module _ (C : Setup) where
 
     -- an entry of a live space is not dropped by the request of a retiring one
     other_served : (H : History) (s t : ℕ) (e : Entry) → Lawful C H → HavePages H → s < length C.asids → t < length C.asids → is_free (status_of H s) ≡ false → status_of H t ≡ Live
-        → (status_of H s ≡ Live → ⊥) → e.asid ≡ asid_of C H t → is_served (SpaceOf (asid_of C H s)) e ≡ false
+        → (status_of H s ≡ Live → ⊥) → e.asid ≡ asid_of C H t → is_dropped (SpaceOf (asid_of C H s)) e ≡ false
     other_served H s t e l pages has_s has_t kept live apart is =
         let whole : asid_of C H s % 2 ^ ASID_BITS ≡ asid_of C H s = (let b = asid_bound H s l pages has_s in omega arith) in
         let differ : e.asid ≡ asid_of C H s % 2 ^ ASID_BITS → ⊥ = λ q.
@@ -234,7 +235,7 @@ module _ (C : Setup) where
 
     -- whoever has acknowledged the retirement holds nothing of the space
     abbrev pub Unserved : ℕ → Entry → Type 0
-    Unserved asid e = is_served (SpaceOf asid) e ≡ false
+    Unserved asid e = is_dropped (SpaceOf asid) e ≡ false
 
     -- a space that retires did, or the turn retired it
     retires_cases : (event : Event) (r : Reply) (H : History) (s k : ℕ) → status_of (turn_of event r ∷ H) s ≡ Retires k
@@ -264,8 +265,8 @@ module _ (C : Setup) where
                     (λ q. let both : Retires k ≡ Live = sym old.0 ∙ q in cc (both)) (ap (λ (z : Entry). z.asid) f.is))
                 | inr n ↦ let o = retirement H s k l.0 old.0 in
                     let what : what_asked (order_at C H k) ≡ SpaceOf (asid_of C H s) = ap what_asked o.is ∙ o.what in
-                    All-weaker (λ x. not (is_served (what_asked (order_at C H k)) x) ≡ true) (Unserved (asid_of C H s))
-                    (λ x d. ap (λ w. is_served w x) (sym what) ∙ not-true (is_served (what_asked (order_at C H k)) x) d)
+                    All-weaker (λ x. not (is_dropped (what_asked (order_at C H k)) x) ≡ true) (Unserved (asid_of C H s))
+                    (λ x d. ap (λ w. is_dropped w x) (sym what) ∙ not-true (is_dropped (what_asked (order_at C H k)) x) d)
                     (entries_of C (turn ∷ H) h) (acknowledged C turn H k h l n acked)
               ])
         ]
@@ -313,7 +314,7 @@ module _ (C : Setup) where
     used_step _ r H s a d u none = record { there = u.there; kept = u.kept; same = u.same }
 
     gone_entry : (event : Event) (r : Reply) (H : History) (h : ℕ) (e : Entry) (s : ℕ) → Lawful C H → HavePages H → r ≡ due C H event → h < C.harts → e.global ≡ false → HasAsid C H s e.asid
-        → ((k : ℕ) → status_of H s ≡ Retires k → is_acked C H k h ≡ true → is_served (SpaceOf (asid_of C H s)) e ≡ false) → Reclaims event r s → ⊥
+        → ((k : ℕ) → status_of H s ≡ Retires k → is_acked C H k h ≡ true → is_dropped (SpaceOf (asid_of C H s)) e ≡ false) → Reclaims event r s → ⊥
     gone_entry (Reclaim hart space) r H h e s l pages d there g u none c =
         let a = reclaimed_acked hart space r H h l d c.0 there in
         let same : status_of H s ≡ Retires a.0 = ap (status_of H) (sym c.1) ∙ a.1 in

@@ -1,4 +1,5 @@
--- What an order followed: a page of a place that is there, in its half, and the request asks just for it.
+-- What an order followed: a page of a place that is there, in its half, and the request asks just
+-- for it.
 use Rattle.std.proofs.Common.{◌≡◌, ℕ, ◌<◌, Bool, true, false, cond, ◌&&◌, not, List, [], ◌∷◌, length, Option, Some, None, refl, sym, subst, eqb, inl, inr}
 use Rattle.std.specs.Prelude.{Result, Ok}
 use Rattle.std.proofs.lemmas.Bool.{not-false, and_parts}

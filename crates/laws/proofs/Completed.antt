@@ -1,4 +1,5 @@
--- An order that was answered Done is acknowledged by each hart that it names, and its page is clear.
+-- An order that was answered Done is acknowledged by each hart that it names, and its page is
+-- clear.
 use Rattle.std.proofs.Common.{◌≡◌, ℕ, ◌<◌, true, false, cond, ◌&&◌, ◌⊎◌, inl, inr, not, [], ◌∷◌, length, Option, Some, None, refl, ap, sym, ◌∙◌, arith}
 use Rattle.std.specs.Prelude.{is_some}
 use Rattle.std.proofs.lemmas.Bool.{not-false}

@@ -1,4 +1,5 @@
--- What a TLB holds was filled; once an order is acknowledged, nothing of it is left but what was filled since.
+-- What a TLB holds was filled; once an order is acknowledged, nothing of it is left but what was
+-- filled since.
 use Rattle.std.proofs.Common.{◌≡◌, ℕ, ◌<◌, Bool, true, false, cond, ◌&&◌, not, List, [], ◌∷◌, length, Option, Some, None, refl, ap, sym, ◌∙◌, subst, eqb, ◌⊎◌, inl, inr, filter}
 use Rattle.std.specs.Prelude.{All, Result, Ok, Err}
 use Rattle.std.proofs.lemmas.Bool.{and_parts, eqb-true, false≢true, not-true, cases_Bool}
@@ -9,7 +10,7 @@ use Rattle.walk.specs.declared.found_or_trap.Trap.{Trap}
 use Rattle.tlb.specs.declared.store.Entry.{Entry}
 use Rattle.tlb.specs.Answer.{entry_of}
 use Rattle.tlb.specs.Fence.{is_fenced}
-use Rattle.tlb.specs.Service.{is_served}
+use Rattle.tlb.specs.Service.{is_dropped}
 use Rattle.tlb.proofs.Keeping.{All-filled}
 use Rattle.history.specs.Setup.{Setup}
 use Rattle.history.specs.Spaces.{asid_of}
@@ -58,9 +59,9 @@ entries_each C (Load b) r H h P all new =
     (record { walk = w; found = found; event = ap Load bh; accepted = y.0; walking = is; finds = finds; is = refl })))
     (λ _. all)
 entries_each C (Fence b rs1 rs2) r H h P all new = filter_each P (λ e. not (is_fenced C.layout.scheme rs1 rs2 e)) (is_ok r && eqb b h) (entries_of C H h) all
-entries_each C (ServeFence b) r H h P all new = filter_each P (λ e. not (is_served (what_served (served C H h)) e)) (is_ok r && eqb b h) (entries_of C H h) all
+entries_each C (ServeFence b) r H h P all new = filter_each P (λ e. not (is_dropped (what_served (served C H h)) e)) (is_ok r && eqb b h) (entries_of C H h) all
 entries_each C (AckSelf b t) r H h P all new =
-    filter_each P (λ e. not (is_served (what_of C H (open_order H b t)) e)) (is_progress r && eqb b h) (entries_of C H h) all
+    filter_each P (λ e. not (is_dropped (what_of C H (open_order H b t)) e)) (is_progress r && eqb b h) (entries_of C H h) all
 entries_each C _ r H h P all new = all
 
 -- each entry was filled
@@ -86,7 +87,7 @@ acknowledged_step C (Ack b) r H k h l old e =
 acknowledged_step C (AckSelf b t) r H k h l old e =
     elim (or3 (is_progress r) (eqb b h) (is_order (open_order H b t) k) (is_acked C H k h) e) [
       | inl n ↦ let o = order_is (open_order H b t) k n.2 in
-          rw (n.0, n.1, o) (filter_passes (λ y. not (is_served (what_asked (order_at C H k)) y)) (entries_of C H h))
+          rw (n.0, n.1, o) (filter_passes (λ y. not (is_dropped (what_asked (order_at C H k)) y)) (entries_of C H h))
       | inr y ↦ absurd (false≢true (sym old ∙ y))
     ]
 acknowledged_step C _ r H k h l old e = absurd (false≢true (sym old ∙ e))
@@ -97,12 +98,12 @@ acknowledged C turn H k h l old e = acknowledged_step C turn.event turn.reply H 
 
 -- once an order is acknowledged, what it drops was filled since
 abbrev pub LeftOrFilled : Setup → History → ℕ → ℕ → Entry → Type 0
-LeftOrFilled C H k h e = (is_served (what_asked (order_at C H k)) e ≡ false) ⊎ Sometime (FillsAcked C k h e) H
+LeftOrFilled C H k h e = (is_dropped (what_asked (order_at C H k)) e ≡ false) ⊎ Sometime (FillsAcked C k h e) H
 
 left_later : (C : Setup) (turn : Turn) (H : History) (k h : ℕ) → k < length H → (e : Entry) → LeftOrFilled C H k h e → LeftOrFilled C (turn ∷ H) k h e
 left_later C turn H k h below e f =
     elim f [
-      | inl n ↦ inl (ap (λ o. is_served (what_asked o) e) (order_stays C turn H k below) ∙ n)
+      | inl n ↦ inl (ap (λ o. is_dropped (what_asked o) e) (order_stays C turn H k below) ∙ n)
       | inr s ↦ inr (sometime-later (FillsAcked C k h e) turn H s)
     ]
 
@@ -115,7 +116,7 @@ acknowledged_since C (turn ∷ H) k h l e =
           (All-weaker (LeftOrFilled C H k h) (LeftOrFilled C (turn ∷ H) k h) (left_later C turn H k h below) (entries_of C H h) (acknowledged_since C H k h l.0 y))
           (λ x f. inr (sometime-here (FillsAcked C k h x) turn H (y, f)))
       | inr n ↦ let below = acked_before C turn H k h l.0 e in
-          All-weaker (λ x. not (is_served (what_asked (order_at C H k)) x) ≡ true) (LeftOrFilled C (turn ∷ H) k h)
-          (λ x d. left_later C turn H k h below x (inl (not-true (is_served (what_asked (order_at C H k)) x) d)))
+          All-weaker (λ x. not (is_dropped (what_asked (order_at C H k)) x) ≡ true) (LeftOrFilled C (turn ∷ H) k h)
+          (λ x d. left_later C turn H k h below x (inl (not-true (is_dropped (what_asked (order_at C H k)) x) d)))
           (entries_of C (turn ∷ H) h) (acknowledged C turn H k h l n e)
     ]

@@ -24,7 +24,8 @@ both_hold : (p q : Span) (n : ℕ) → IsPage p → IsPage q → IsPart p n → 
 both_hold p q n is_p is_q at_p at_q = (overlaps-Overlap p q).1 (common_part p q n is_p is_q at_p at_q)
 
 module _ (C : Setup) (layout : IsLayout C.layout) where
-  -- where an edit is about a part of a page in a root through which the page is reached, it is over the page
+  -- where an edit is about a part of a page in a root through which the page is reached, it is over
+  -- the page
   pub about_over : (H : History) (of : Option ℕ) (place other : Place) (page span : Span) (s n : ℕ) → IsAt of place → IsAsked C place page → IsAsked C other span
       → Reaches C H of s → IsPart page n → IsAbout other span s n → (is_same_asid of (asid_in C H other) && overlaps page span) ≡ true
   about_over H of (Space t) (Space u) page span s n of_is a b reach at about =

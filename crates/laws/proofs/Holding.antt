@@ -1,4 +1,5 @@
--- What a hart that has acknowledged an order holds of its page: only what it filled since, which was mapped then.
+-- What a hart that has acknowledged an order holds of its page: only what it filled since, which
+-- was mapped then.
 use Rattle.std.proofs.Common.{◌≡◌, ℕ, ◌%◌, ◌^◌, ◌<◌, Bool, true, false, [], ◌∷◌, ◌++◌, length, Option, Some, None, refl, ap, sym, ◌∙◌, subst, arith, ◌⊎◌, inl, inr, append_assoc}
 use Rattle.std.specs.Prelude.{Contains}
 use Rattle.std.proofs.lemmas.Bool.{eq-eqb, false≢true, cases_Bool}
@@ -13,7 +14,7 @@ use Rattle.spaces.specs.Edits.{is_wrong_half}
 use Rattle.tlb.specs.declared.store.Entry.{Entry}
 use Rattle.pte.specs.declared.TheConstants.{ASID_BITS}
 use Rattle.tlb.specs.Mappings.{Mapping, LiesIn, IsMappingOf}
-use Rattle.tlb.specs.Service.{overlaps, is_served}
+use Rattle.tlb.specs.Service.{overlaps, is_dropped}
 use Rattle.history.specs.Setup.{Setup}
 use Rattle.history.specs.Spaces.{is_free}
 use Rattle.history.specs.Turns.{Turn, History}
@@ -42,8 +43,8 @@ pub pages_before : (later before : History) → HavePages (later ++ before) → 
 pages_before [] before has = has
 pages_before (turn ∷ later) before has = pages_before later before has.0
 
--- the entry was filled since h acknowledged the order k, when the tables mapped the mapping from a root through which the page
--- was reached, as it is since then
+-- the entry was filled since h acknowledged the order k, when the tables mapped the mapping from a
+-- root through which the page was reached, as it is since then
 pub record MappedSince (C : Setup) (H : History) (k : ℕ) (of : Option ℕ) (e : Entry) (m : Mapping) : Type 0 where
   pub later : History
   pub earlier : History
@@ -104,14 +105,14 @@ module _ (C : Setup) (setup : IsSetup C) (user : (H : History) → Lawful C H �
 
   -- an entry that the request of a page does not drop has no mapping of the page
   left : (of : Option ℕ) (page : Span) (e : Entry) (m : Mapping) (H : History) (space : ℕ) → Lawful C H → HavePages H → overlaps page e.page ≡ true → Mapped H e m space → Kind of e
-      → is_served (PageOf page of) e ≡ false → ⊥
-  left of page e m H space l pages over f (of_kernel none) n = false≢true (sym n ∙ ap (λ o. is_served (PageOf page o) e) none ∙ over)
+      → is_dropped (PageOf page of) e ≡ false → ⊥
+  left of page e m H space l pages over f (of_kernel none) n = false≢true (sym n ∙ ap (λ o. is_dropped (PageOf page o) e) none ∙ over)
   left of page e m H space l pages over f (of_asid some g) n =
       let bound = asid_bound C setup H space l pages f.has.there in
       let same = f.has.same in
       let whole : e.asid % 2 ^ ASID_BITS ≡ e.asid = omega (arith, bound, same) in
-      let dropped : is_served (PageOf page (Some e.asid)) e ≡ true = rw (over, g, eq-eqb e.asid (e.asid % 2 ^ ASID_BITS) (sym whole)) refl in
-      false≢true (sym n ∙ ap (λ o. is_served (PageOf page o) e) some ∙ dropped)
+      let dropped : is_dropped (PageOf page (Some e.asid)) e ≡ true = rw (over, g, eq-eqb e.asid (e.asid % 2 ^ ASID_BITS) (sym whole)) refl in
+      false≢true (sym n ∙ ap (λ o. is_dropped (PageOf page o) e) some ∙ dropped)
 
   -- the page is reached through the space that it was filled from
   reaches : (of : Option ℕ) (e : Entry) (m : Mapping) (H : History) (space : ℕ) → Mapped H e m space → Kind of e → Reaches C H of space
@@ -141,7 +142,7 @@ module _ (C : Setup) (setup : IsSetup C) (user : (H : History) → Lawful C H �
             let f = fill_mapped s.turn s.earlier h e m before.0 s.so is in
             let kind = kind_in of asked.place page asid e m s.earlier (space_of s.earlier h) before.0.0 before.1 asked.at asked.asked is_asid at is for f in
             let what : what_asked (order_at C H k) ≡ PageOf page of = ap what_asked ordered ∙ asked.asks in
-            absurd (left of page e m s.earlier (space_of s.earlier h) before.0.0 before.1 over f kind (ap (λ w. is_served w e) (sym what) ∙ n))
+            absurd (left of page e m s.earlier (space_of s.earlier h) before.0.0 before.1 over f kind (ap (λ w. is_dropped w e) (sym what) ∙ n))
         | inr s ↦ let before = filled_before H s.turn s.earlier s.later s.split l pages in
             let f = fill_mapped s.turn s.earlier h e m before.0 s.fills is in
             let kind = kind_in of asked.place page asid e m s.earlier (space_of s.earlier h) before.0.0 before.1 asked.at asked.asked is_asid at is for f in

@@ -5,7 +5,7 @@ use Rattle.std.specs.List.{slice_index_or}
 use Rattle.std.proofs.lemmas.Bool.{and_parts, and_from, eqb-true, ne_eqb, eq-eqb, false≢true, false_from_ne_true}
 use Rattle.std.proofs.lemmas.List.{append-nil, drop-append-le}
 use Rattle.std.proofs.lemmas.List.Elements.{All-nil, All-head, All-tail, All-append}
-use Rattle.shoot.specs.Request.{Message}
+use Rattle.shoot.specs.Request.{Request}
 use Rattle.shoot.specs.HartSet.{contains}
 use Rattle.history.specs.Setup.{Setup}
 use Rattle.history.specs.declared.event.Event.{Event}
@@ -108,7 +108,7 @@ All-drop_more P zero (x ∷ xs) h = All-tail P x xs h
 All-drop_more P (suc n) [] h = h
 All-drop_more P (suc n) (x ∷ xs) h = All-drop_more P n xs h
 
-took : (P : Sent → Type 0) (ts : List Message) (r : Reply) (xs : List Sent) → All P (drop (length ts) xs) → All P (drop (length (ts ++ taken_request r)) xs)
+took : (P : Sent → Type 0) (ts : List Request) (r : Reply) (xs : List Sent) → All P (drop (length ts) xs) → All P (drop (length (ts ++ taken_request r)) xs)
 took P ts (reply.Taken request) xs w = rw (taken_length (reply.Taken request) ts refl) (All-drop_more P (length ts) xs w)
 took P ts _ xs w = rw append-nil w
 

@@ -1,4 +1,5 @@
--- What the tables of a lawful history keep: which pages are global, the window, and a page until it is edited once more.
+-- What the tables of a lawful history keep: which pages are global, the window, and a page until it
+-- is edited once more.
 use Rattle.std.proofs.Common.{◌≡◌, ℕ, ◌*◌, ◌≤◌, ◌<◌, Bool, true, false, cond, ◌&&◌, ◌||◌, ◌⊎◌, eqb, List, [], ◌∷◌, length, Option, Some, None, refl, ap, sym, ◌∙◌, subst, inl, inr, arith}
 use Rattle.std.proofs.lemmas.Bool.{or_parts, and_parts, and_from, eqb-true, eq-eqb, false≢true, true≢false}
 use Rattle.pte.specs.Address.{Span, bytes_of, top_level, vpn_of}

@@ -18,7 +18,8 @@ use Rattle.laws.specs.Orders.{IsOrder, IsOpenedBy, Finishes}
 use Rattle.laws.proofs.Tools.{by_test, and3}
 use Rattle.laws.proofs.Accepted.{turn_of, OpeningFound, unmap_found, protect_found, flush_found, retire_found}
 
--- an order that was opened: its ticket was free, and it names its sender and harts that can be there
+-- an order that was opened: its ticket was free, and it names its sender and harts that can be
+-- there
 pub record Opened (H : History) (order : Order) : Type 0 where
   pub bound : order.ticket < MAX_TICKETS
   pub free : open_order H order.sender order.ticket ≡ None

@@ -1,4 +1,5 @@
--- The counter of a mailbox: what each event adds or takes away, that it stays within the capacity, and that it counts what waits.
+-- The counter of a mailbox: what each event adds or takes away, that it stays within the capacity,
+-- and that it counts what waits.
 use Rattle.std.proofs.Common.{◌≡◌, ℕ, suc, ◌+◌, ◌-◌, ◌<◌, ◌≤◌, Bool, true, false, cond, ◌&&◌, ◌||◌, not, [], ◌∷◌, ◌++◌, length, map, Option, Some, None, refl, ap, sym, ◌∙◌, subst, arith, eqb, inl, inr}
 use Rattle.std.specs.Prelude.{All}
 use Rattle.std.specs.List.{slice_index_or}

@@ -1,4 +1,5 @@
--- An edit that is due replaces a word that is no pointer: so each pointer stays until its space is reclaimed.
+-- An edit that is due replaces a word that is no pointer: so each pointer stays until its space is
+-- reclaimed.
 use Rattle.std.proofs.Common.{◌≡◌, ℕ, ◌⊎◌, ◌∷◌, Bool, true, false, cond, ◌||◌, Some, None, refl, ap, sym, ◌∙◌, subst, inl, inr}
 use Rattle.std.specs.Prelude.{Result}
 use Rattle.walk.specs.Leads.{Tables, PointsTo}

@@ -1,4 +1,5 @@
--- Accepted posts: each is of an order of its sender, no two of a pair are of one order, and what is served is none that waits.
+-- Accepted posts: each is of an order of its sender, no two of a pair are of one order, and what is
+-- served is none that waits.
 use Rattle.std.proofs.Common.{◌≡◌, ℕ, zero, suc, ◌<◌, ◌≤◌, true, false, cond, ◌&&◌, List, [], ◌∷◌, ◌++◌, length, drop, map, Option, Some, None, slice_get, refl, ap, sym, ◌∙◌, subst, arith, eqb, length-append}
 use Rattle.std.specs.Prelude.{All}
 use Rattle.std.specs.List.{AllPairs}
@@ -6,7 +7,7 @@ use Rattle.std.proofs.lemmas.Bool.{and_parts, eqb-true, eq-eqb, false≢true, or
 use Rattle.std.proofs.lemmas.List.{append-nil, length-map, length-drop}
 use Rattle.std.proofs.lemmas.List.Elements.{All-nil, All-cons, All-head, All-tail, All-append, All-weaker, All-drop}
 use Rattle.std.proofs.lemmas.List.Kept.{AllPairs-cons}
-use Rattle.shoot.specs.Request.{Message}
+use Rattle.shoot.specs.Request.{Request}
 use Rattle.history.specs.Setup.{Setup}
 use Rattle.history.specs.declared.event.Event.{Event}
 use Rattle.history.specs.declared.event.Event.TheVariants.{Post, Take, Ack}
@@ -170,12 +171,12 @@ posts_grow C (Post a t b) r H s h =
     (λ _. omega (arith, length-append (posts C H s h) (sent_of C H a t (open_order H a t)))) (λ _. omega arith)
 posts_grow C _ r H s h = omega arith
 
-waits_more : (xs : List Sent) (n : ℕ) (first : Message) (rest : List Message) → drop n (map (λ (x : Sent). x.request) xs) ≡ first ∷ rest → n < length xs
+waits_more : (xs : List Sent) (n : ℕ) (first : Request) (rest : List Request) → drop n (map (λ (x : Sent). x.request) xs) ≡ first ∷ rest → n < length xs
 waits_more xs n first rest e =
     let l = ap length e in
     omega (arith, l, length-drop n (map (λ (x : Sent). x.request) xs), length-map xs (λ (x : Sent). x.request))
 
-taken_one : (r : Reply) (ts : List Message) (n : ℕ) → length ts ≤ n → (is_taken r ≡ true → length ts < n) → length (ts ++ taken_request r) ≤ n
+taken_one : (r : Reply) (ts : List Request) (n : ℕ) → length ts ≤ n → (is_taken r ≡ true → length ts < n) → length (ts ++ taken_request r) ≤ n
 taken_one (reply.Taken request) ts n l f = let m = f refl in omega (arith, length-append ts (request ∷ []))
 taken_one _ ts n l f = rw append-nil l
 

@@ -1,10 +1,11 @@
--- What a hart that has acknowledged an order still holds of it was filled since, from a space that has kept its ASID since.
+-- What a hart that has acknowledged an order still holds of it was filled since, from a space that
+-- has kept its ASID since.
 use Rattle.std.proofs.Common.{◌≡◌, ℕ, ◌<◌, ◌⊎◌, true, false, not, [], ◌∷◌, ◌++◌, length, Option, Some, None, refl, ap, sym, ◌∙◌, subst, inl, inr, append_assoc}
 use Rattle.std.specs.Prelude.{All}
 use Rattle.std.proofs.lemmas.Bool.{cases_Bool, false≢true, not-true}
 use Rattle.std.proofs.lemmas.List.Elements.{All-weaker}
 use Rattle.tlb.specs.declared.store.Entry.{Entry}
-use Rattle.tlb.specs.Service.{is_served}
+use Rattle.tlb.specs.Service.{is_dropped}
 use Rattle.history.specs.Setup.{Setup}
 use Rattle.history.specs.Spaces.{is_free}
 use Rattle.history.specs.Turns.{Turn, History}
@@ -49,7 +50,8 @@ unfolding ReachedSince
 kernel_reached C [] before s there = there
 kernel_reached C (turn ∷ later) before s there = (kernel_reached C later before s there, there)
 
--- the entry was filled once h had acknowledged the order k, and since then the space has kept the ASID
+-- the entry was filled once h had acknowledged the order k, and since then the space has kept the
+-- ASID
 pub record IsHeldSince (C : Setup) (H : History) (k h : ℕ) (e : Entry) : Type 0 where
   pub later : History
   pub turn : Turn
@@ -60,7 +62,7 @@ pub record IsHeldSince (C : Setup) (H : History) (k h : ℕ) (e : Entry) : Type 
   pub since : e.global ≡ false → ReachedSince C later (turn ∷ earlier) (Some e.asid) (space_of earlier h)
 
 abbrev pub LeftOrHeld : Setup → History → ℕ → ℕ → Entry → Type 0
-LeftOrHeld C H k h e = (is_served (what_asked (order_at C H k)) e ≡ false) ⊎ IsHeldSince C H k h e
+LeftOrHeld C H k h e = (is_dropped (what_asked (order_at C H k)) e ≡ false) ⊎ IsHeldSince C H k h e
 
 module _ (C : Setup) (setup : IsSetup C) where
   -- the space that has an ASID after a turn is the one that had it before
@@ -92,7 +94,7 @@ module _ (C : Setup) (setup : IsSetup C) where
 
   left_held : (turn : Turn) (H : History) (k h : ℕ) → k < length H → Lawful C (turn ∷ H) → (e : Entry) → LeftOrHeld C H k h e → IsOfUsedAsid C (turn ∷ H) e → LeftOrHeld C (turn ∷ H) k h e
   left_held turn H k h below l e f used = elim f [
-    | inl n ↦ inl (ap (λ o. is_served (what_asked o) e) (order_stays C turn H k below) ∙ n)
+    | inl n ↦ inl (ap (λ o. is_dropped (what_asked o) e) (order_stays C turn H k below) ∙ n)
     | inr s ↦ inr (held_later turn H k h e l used s)
   ]
 
@@ -128,7 +130,7 @@ module _ (C : Setup) (setup : IsSetup C) where
             λ i d within. all i d within (used i d within)
         | inr n ↦
             let below = acked_before C turn H k h l.0 e in
-            All-weaker (λ x. not (is_served (what_asked (order_at C H k)) x) ≡ true) (LeftOrHeld C (turn ∷ H) k h)
-            (λ x d. inl (ap (λ o. is_served (what_asked o) x) (order_stays C turn H k below) ∙ not-true (is_served (what_asked (order_at C H k)) x) d))
+            All-weaker (λ x. not (is_dropped (what_asked (order_at C H k)) x) ≡ true) (LeftOrHeld C (turn ∷ H) k h)
+            (λ x d. inl (ap (λ o. is_dropped (what_asked o) x) (order_stays C turn H k below) ∙ not-true (is_dropped (what_asked (order_at C H k)) x) d))
             (entries_of C (turn ∷ H) h) (acknowledged C turn H k h l n e)
       ]

@@ -1,4 +1,5 @@
--- Each order asks for a page of the scheme, or for no page; so what a service leaves is what stays under all its fences.
+-- Each order asks for a page of the scheme, or for no page; so what a service leaves is what stays
+-- under all its fences.
 use Rattle.std.proofs.Common.{◌≡◌, ℕ, List, [], ◌∷◌, Bool, length, Option, Some, subst, inl, inr}
 use Rattle.pte.specs.declared.address.What.{What}
 use Rattle.pte.specs.declared.address.What.TheVariants.{PageOf, SpaceOf}

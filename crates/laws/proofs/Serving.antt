@@ -1,4 +1,5 @@
--- A hart that serves has no walk in flight, and once it has fenced holds no entry that the request drops.
+-- A hart that serves has no walk in flight, and once it has fenced holds no entry that the request
+-- drops.
 use Rattle.std.proofs.Common.{◌≡◌, ℕ, Bool, true, false, cond, ◌&&◌, not, List, [], ◌∷◌, length, Option, Some, None, slice_get, refl, ap, subst, eqb, filter}
 use Rattle.std.specs.List.{AllPass}
 use Rattle.std.proofs.lemmas.Bool.{and_parts, eqb-true, false≢true}
@@ -8,7 +9,7 @@ use Rattle.pte.specs.declared.permission.Access.{Access}
 use Rattle.pte.specs.declared.permission.Ctx.{Ctx}
 use Rattle.tlb.specs.declared.store.Entry.{Entry}
 use Rattle.tlb.specs.Fence.{is_fenced}
-use Rattle.tlb.specs.Service.{is_served, served as with_service}
+use Rattle.tlb.specs.Service.{is_dropped, after_service as with_service}
 use Rattle.history.specs.Setup.{Setup}
 use Rattle.history.specs.declared.event.Event.{Event}
 use Rattle.history.specs.declared.event.Event.TheVariants.{Begin, Load, Fence, Take, ServeFence, Ack, AckSelf}
@@ -59,11 +60,11 @@ idle C (turn ∷ H) h x l e = idle_step C turn.event turn.reply H h x l.1 (λ y 
 
 -- the request drops no entry of the list
 abbrev pub DropsNone : What → List Entry → Type 0
-DropsNone what entries = AllPass (λ e. not (is_served what e)) entries
+DropsNone what entries = AllPass (λ e. not (is_dropped what e)) entries
 
 -- an entry that is taken out or not stays undropped
 filtered_none : (what : What) (test : Entry → Bool) (apply : Bool) (entries : List Entry) → DropsNone what entries → DropsNone what (cond apply (filter test entries) entries)
-filtered_none what test true entries h = All-filter test (λ e. not (is_served what e) ≡ true) entries h
+filtered_none what test true entries h = All-filter test (λ e. not (is_dropped what e) ≡ true) entries h
 filtered_none what test false entries h = h
 
 -- no walk, no fill
@@ -85,11 +86,11 @@ fenced_step C (Take b a) r H h x l old e f =
     (λ _ _ g. absurd (false≢true g)) (λ _ q g. old q g) e f
 fenced_step C (ServeFence b) r H h x l old e f =
     by_test (λ v. cond v true (has_fenced H h) ≡ true → DropsNone x.request.what (cond v (with_service (entries_of C H h) (what_served (served C H h))) (entries_of C H h))) (is_ok r && eqb b h)
-    (λ _ _. rw e (filter_passes (λ y. not (is_served x.request.what y)) (entries_of C H h))) (λ _ g. old e g) f
+    (λ _ _. rw e (filter_passes (λ y. not (is_dropped x.request.what y)) (entries_of C H h))) (λ _ g. old e g) f
 fenced_step C (Ack b) r H h x l old e f =
     by_test (λ v. cond v None (served C H h) ≡ Some x → DropsNone x.request.what (entries_of C H h)) (is_ok r && eqb b h) (λ _ q. absurd cc) (λ _ q. old q f) e
 fenced_step C (AckSelf b t) r H h x l old e f =
-    filtered_none x.request.what (λ y. not (is_served (what_of C H (open_order H b t)) y)) (is_progress r && eqb b h) (entries_of C H h) (old e f)
+    filtered_none x.request.what (λ y. not (is_dropped (what_of C H (open_order H b t)) y)) (is_progress r && eqb b h) (entries_of C H h) (old e f)
 fenced_step C _ r H h x l old e f = old e f
 
 pub fenced : (C : Setup) (H : History) (h : ℕ) (x : Sent) → Lawful C H → served C H h ≡ Some x → has_fenced H h ≡ true → DropsNone x.request.what (entries_of C H h)

@@ -17,7 +17,8 @@ use Rattle.laws.proofs.Posts.{order_is}
 use Rattle.laws.proofs.Acknowledged.{acked_posted, collected_acked}
 use Rattle.laws.proofs.Live.{finished_collected}
 
--- the order is open under its ticket, names a hart other than its sender, was not posted to it, and their mailbox is closed
+-- the order is open under its ticket, names a hart other than its sender, was not posted to it, and
+-- their mailbox is closed
 pub record IsStuck (C : Setup) (H : History) (s t k h : ℕ) : Type 0 where
   pub is_open : open_order H s t ≡ Some k
   pub named : names (order_at C H k) h ≡ true

@@ -4,7 +4,7 @@ use Rattle.std.specs.Prelude.{All}
 use Rattle.std.proofs.lemmas.Bool.{and_parts, eqb-true, eq-eqb, false≢true, false_from_ne_true, cases_eq}
 use Rattle.std.proofs.lemmas.List.{append-nil, drop-append-le}
 use Rattle.std.proofs.lemmas.List.Elements.{All-append, All-weaker, All-contains, Contains-append_left, Contains-push}
-use Rattle.shoot.specs.Request.{Message}
+use Rattle.shoot.specs.Request.{Request}
 use Rattle.history.specs.Setup.{Setup}
 use Rattle.history.specs.declared.event.Event.{Event}
 use Rattle.history.specs.declared.event.Event.TheVariants.{Post, Take, Ack}
@@ -42,7 +42,7 @@ not_taken : (r : Reply) → is_taken r ≡ false → taken_request r ≡ []
 not_taken (reply.Taken request) e = absurd (cc (e))
 not_taken _ e = refl
 
-pub taken_length : (r : Reply) (ts : List Message) → is_taken r ≡ true → length (ts ++ taken_request r) ≡ suc (length ts)
+pub taken_length : (r : Reply) (ts : List Request) → is_taken r ≡ true → length (ts ++ taken_request r) ≡ suc (length ts)
 taken_length (reply.Taken request) ts e = omega (arith, length-append ts (request ∷ []))
 taken_length _ ts e = absurd (false≢true e)
 

@@ -11,7 +11,8 @@ use Rattle.history.specs.Harts.{Walking, walk_of, space_of, outcome_of}
 use Rattle.history.specs.Acknowledgements.{is_acked}
 
 -- the turn is a Load of h that finds a leaf in the words of now, and the entry is what it fills
-pub record Fills (setup : Setup) (hart : ℕ) (e : Entry) (turn : Turn) (before : History) : Type 0 where
+pub record Fills (setup : Setup) (hart : ℕ) (e : Entry) (turn : Turn)
+    (before : History) : Type 0 where
   pub walk : Walking
   pub found : Found
   pub event : turn.event ≡ Load hart
@@ -22,4 +23,5 @@ pub record Fills (setup : Setup) (hart : ℕ) (e : Entry) (turn : Turn) (before 
 
 -- the same, once h had acknowledged the order k
 abbrev pub FillsAcked : Setup → ℕ → ℕ → Entry → Turn → History → Type 0
-FillsAcked setup order hart e turn before = (is_acked setup before order hart ≡ true) × Fills setup hart e turn before
+FillsAcked setup order hart e turn before =
+    (is_acked setup before order hart ≡ true) × Fills setup hart e turn before

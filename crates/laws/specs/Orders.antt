@@ -7,8 +7,8 @@ use Rattle.history.specs.Turns.{Turn, History, is_ok}
 use Rattle.history.specs.declared.event.Event.TheVariants.{Finish}
 use Rattle.history.specs.Orders.{Order, order_at}
 
--- what is known of the order at a place of a history: the place is that of a turn, its ticket is below 64, and it names its own
--- sender and only harts that can be there
+-- what is known of the order at a place of a history: the place is that of a turn, its ticket is
+-- below 64, and it names its own sender and only harts that can be there
 pub record IsOrder (history : History) (number : ℕ) (order : Order) : Type 0 where
   pub below : number < length history
   pub ticket_bound : order.ticket < MAX_TICKETS

@@ -8,8 +8,10 @@ use Rattle.history.specs.Acknowledgements.{is_posted, is_acked}
 use Rattle.history.specs.Due.{names}
 use Rattle.laws.specs.Orders.{IsOpenedBy}
 
--- a post from s to h: it is of an order of s, under its ticket, that asks what the request asks, names h, and is posted to it
-pub record IsAcceptedPost (setup : Setup) (history : History) (s hart : ℕ) (post : Sent) : Type 0 where
+-- a post from s to h: it is of an order of s, under its ticket, that asks what the request asks,
+-- names h, and is posted to it
+pub record IsAcceptedPost (setup : Setup) (history : History) (s hart : ℕ)
+    (post : Sent) : Type 0 where
   pub sender : post.sender ≡ s
   pub apart : s ≢ hart
   pub opened : IsOpenedBy setup history s post.request.ticket post.order
@@ -24,7 +26,8 @@ pub record IsLive (setup : Setup) (history : History) (hart : ℕ) (post : Sent)
 
 -- the accepted posts that wait
 abbrev pub waiting_posts : Setup → History → ℕ → ℕ → List Sent
-waiting_posts setup history sender receiver = drop (length (taken history sender receiver)) (posts setup history sender receiver)
+waiting_posts setup history sender receiver =
+    drop (length (taken history sender receiver)) (posts setup history sender receiver)
 
 -- the post is of another order
 abbrev pub IsOfOther : ℕ → Sent → Type 0

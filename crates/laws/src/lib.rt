@@ -1,4 +1,5 @@
-//! The laws of all lawful histories, over the definitions alone: each function does nothing, and its contract is the law.
+//! The laws of all lawful histories, over the definitions alone: each function does nothing, and
+//! its contract is the law.
 #![tactic(auto)]
 
 pub mod done;

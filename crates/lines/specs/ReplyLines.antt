@@ -6,7 +6,7 @@ use Rattle.pte.specs.Address.{Span}
 use Rattle.pte.specs.declared.address.What.{What}
 use Rattle.pte.specs.declared.address.What.TheVariants.{PageOf, SpaceOf, All}
 use Rattle.shoot.specs.HartSet.{all_harts, contains, harts_in}
-use Rattle.shoot.specs.Request.{Message}
+use Rattle.shoot.specs.Request.{Request}
 use Rattle.refusals.specs.declared.refusal.Refusal.{Refusal}
 use Rattle.refusals.specs.declared.refusal.Refusal.TheVariants as refusals
 use Rattle.history.specs.declared.reply.Reply.{Reply}
@@ -69,7 +69,7 @@ what_text (PageOf page reach) = codes "page " ++ page_text page ++ codes " " ++ 
 what_text (SpaceOf asid) = codes "asid " ++ decimal asid
 what_text All = codes "all"
 
-abbrev pub request_text : Message → List ℕ
+abbrev pub request_text : Request → List ℕ
 request_text request =
     codes "taken " ++ decimal request.ticket ++ codes " " ++ what_text request.what
 

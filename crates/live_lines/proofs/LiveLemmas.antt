@@ -6,7 +6,8 @@ use Rattle.std.specs.Fmt.{decimal}
 use Rattle.harts.specs.declared.live_reply.LiveReply.{LiveReply}
 use Rattle.live_lines.specs.LiveLines.{each_from, scripts_lines, steps_lines}
 
--- what is written so far, and then the texts of the rest, is what was there and then the texts of all
+-- what is written so far, and then the texts of the rest, is what was there and then the texts of
+-- all
 abbrev pub EachWritten : {X : Type 0} → (ℕ → X → List ℕ) → ℕ → List X → ℕ → List ℕ → List ℕ → Type 0
 EachWritten text n xs i old front = old ++ each_from text n xs ≡ front ++ each_from text (i + n) (drop i xs)
 

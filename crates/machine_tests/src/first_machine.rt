@@ -1,4 +1,5 @@
-//! A machine of two harts: hart 0 maps a page and unmaps it again, and hart 1, which has used it, drops it when it is asked.
+//! A machine of two harts: hart 0 maps a page and unmaps it again, and hart 1, which has used it,
+//! drops it when it is asked.
 
 use arrayvec::ArrayVec;
 use pte::{Access, Ctx, Mode, Page, PageSize, PteFlags, Scheme, VirtAddr};

@@ -1,4 +1,5 @@
-//! First steps: an address that is translated over tables of one's own, and a machine that is opened and run.
+//! First steps: an address that is translated over tables of one's own, and a machine that is
+//! opened and run.
 
 use pte::{Access, Ctx};
 use std::alloc::Global;
@@ -26,7 +27,8 @@ pub fn load_from(root: &Root, va: u64, ctx: Ctx) -> Result<Found, Trap> {
     translate(root, 0x8_0000, va, Access::Load, ctx)
 }
 
-/// What a new machine replies to these events. `None` if the configuration breaks a limit, or there is no memory.
+/// What a new machine replies to these events. `None` if the configuration breaks a limit, or there
+/// is no memory.
 pub fn replies_to(alloc: Global, config: &Config, events: &[Event]) -> Option<Vec<Reply>> {
     let mut machine = Machine::open(alloc, config).ok()?;
     let mut replies = Vec::new(alloc);

@@ -1,4 +1,5 @@
-//! Two harts as two threads over one lock, each with events of its own. In the end there is one history of both.
+//! Two harts as two threads over one lock, each with events of its own. In the end there is one
+//! history of both.
 
 ghost use Rattle.std.specs.Prelude.{◌≡◌, IfOk};
 

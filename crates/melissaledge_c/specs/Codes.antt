@@ -19,7 +19,9 @@ abbrev pub scheme_of : ℕ → Option Scheme
 scheme_of code = if code == 8 then Some Sv39 else if code == 9 then Some Sv48 else None
 
 abbrev pub access_of : ℕ → Option Access
-access_of code = if code == 0 then Some Fetch else if code == 1 then Some Load else if code == 2 then Some Store else None
+access_of code =
+    if code == 0 then Some Fetch else if code == 1 then Some Load else if code == 2 then Some Store
+    else None
 
 -- a privilege mode has the number of its encoding (privileged manual 1.2)
 abbrev pub mode_of : ℕ → Option Mode
@@ -49,7 +51,8 @@ or_fault (Some x) why next = next x
 abbrev pub page_of : ℕ → ℕ → Result Span Fault
 page_of base bytes =
     or_fault (size_of bytes) fault.Page (λ size.
-    if is_canonical widest base && (base % bytes_of size == 0) then Ok (record { base = base; size = size }) else Err fault.Page)
+    if is_canonical widest base && (base % bytes_of size == 0)
+    then Ok (record { base = base; size = size }) else Err fault.Page)
 
 abbrev pub why_code : Why → ℕ
 why_code why.NotCanonical = 1

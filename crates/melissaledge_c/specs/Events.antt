@@ -27,16 +27,25 @@ abbrev pub scope_of : EventAsked → Scope
 scope_of asked = if is_set asked.all then scope.All else scope.Space asked.space
 
 abbrev pub begin_event : EventAsked → Result Event Fault
-begin_event asked = and_then (asked_of asked.access) (λ access. Ok (event.Begin asked.hart asked.access.va access.0 access.1))
+begin_event asked =
+    and_then (asked_of asked.access)
+    (λ access. Ok (event.Begin asked.hart asked.access.va access.0 access.1))
 
 abbrev pub map_event : EventAsked → Result Event Fault
-map_event asked = and_then (page_of asked.page_base asked.page_bytes) (λ page. Ok (event.Map asked.hart (place_of asked) page asked.ppn (record { 0 = asked.flags })))
+map_event asked =
+    and_then (page_of asked.page_base asked.page_bytes)
+    (λ page. Ok (event.Map asked.hart (place_of asked) page asked.ppn (record { 0 = asked.flags })))
 
 abbrev pub unmap_event : EventAsked → Result Event Fault
-unmap_event asked = and_then (page_of asked.page_base asked.page_bytes) (λ page. Ok (event.Unmap asked.hart (place_of asked) page asked.named))
+unmap_event asked =
+    and_then (page_of asked.page_base asked.page_bytes)
+    (λ page. Ok (event.Unmap asked.hart (place_of asked) page asked.named))
 
 abbrev pub protect_event : EventAsked → Result Event Fault
-protect_event asked = and_then (page_of asked.page_base asked.page_bytes) (λ page. Ok (event.Protect asked.hart (place_of asked) page (record { 0 = asked.flags }) asked.named))
+protect_event asked =
+    and_then (page_of asked.page_base asked.page_bytes)
+    (λ page. Ok (event.Protect asked.hart (place_of asked) page (record { 0 = asked.flags })
+    asked.named))
 
 abbrev pub event_with : Kind → EventAsked → Result Event Fault
 event_with kind.Begin asked = begin_event asked
@@ -46,7 +55,9 @@ event_with kind.Protect asked = protect_event asked
 event_with kind.Load asked = Ok (event.Load asked.hart)
 event_with kind.Flush asked = Ok (event.Flush asked.hart (scope_of asked) asked.named)
 event_with kind.Switch asked = Ok (event.Switch asked.hart asked.space)
-event_with kind.Fence asked = Ok (event.Fence asked.hart (optional_word asked.has_rs1 asked.rs1) (optional_word asked.has_rs2 asked.rs2))
+event_with kind.Fence asked =
+    Ok (event.Fence asked.hart (optional_word asked.has_rs1 asked.rs1)
+    (optional_word asked.has_rs2 asked.rs2))
 event_with kind.Post asked = Ok (event.Post asked.hart asked.ticket asked.other)
 event_with kind.Take asked = Ok (event.Take asked.hart asked.other)
 event_with kind.ServeFence asked = Ok (event.ServeFence asked.hart)

@@ -6,4 +6,5 @@ use Rattle.pte.specs.declared.address.TheConstants.{TABLE_LENGTH}
 -- the word at an index of the frame with a PPN, where the frames from the base on have these words
 abbrev pub flat_words : ℕ → ℕ → List ℕ → ℕ → ℕ → Option ℕ
 flat_words base frames words ppn index =
-    if nat_le base ppn && nat_lt ppn (base + frames) then slice_get words ((ppn - base) * TABLE_LENGTH + index) else None
+    if nat_le base ppn && nat_lt ppn (base + frames)
+    then slice_get words ((ppn - base) * TABLE_LENGTH + index) else None

@@ -13,4 +13,5 @@ Held = Option Machine
 -- nothing at the null pointer; else the pointer is that of a box
 abbrev pub owned_at : Held → Ptr → Fml
 owned_at None p = feq Ptr p null_ptr
-owned_at (Some v) p = box_owns (ghosts.dealloc_token (record { memory = record { seal = tt } })) the_row p v
+owned_at (Some v) p =
+    box_owns (ghosts.dealloc_token (record { memory = record { seal = tt } })) the_row p v

@@ -40,7 +40,8 @@ pub record OpensAnew (config : Config) (result : ℤ) (new : Held) : Type 0 wher
   pub layout : (result ≡ code_of fault.Layout) ↔ (¬ MeetsLimits MAX_FRAMES config)
   pub refused : ¬ (result ≡ pos 0) → new ≡ None
   pub opened : result ≡ pos 0 → IsOpened config result new
-  pub answers : (result ≡ pos 0) ⊎ (result ≡ code_of fault.Layout) ⊎ (result ≡ code_of fault.NoMemory)
+  pub answers : (result ≡ pos 0) ⊎ (result ≡ code_of fault.Layout)
+      ⊎ (result ≡ code_of fault.NoMemory)
 
 abbrev pub Opens : Result Config Fault → Held → ℤ → Held → Type 0
 Opens (Err why) old result new = Refused why old result new
@@ -56,14 +57,21 @@ pub record IsStep (old : State) (event : Event) (reply : Reply) (new : State) : 
   pub stands : (C : Setup) (H : History) → Stands C old H → Stands C new (with_turn event reply H)
   pub due_is : (C : Setup) (H : History) → Stands C old H → reply ≡ due C H event
   pub refused : is_accepted reply ≡ false → new ≡ old
-  pub mailboxes : (C : Setup) (H : History) → Stands C old H → MailboxesKeepOrder C (with_turn event reply H) new
-  pub closed : (C : Setup) (H : History) → Stands C old H → NothingAfterCloses C (with_turn event reply H)
+  pub mailboxes : (C : Setup) (H : History) → Stands C old H
+      → MailboxesKeepOrder C (with_turn event reply H) new
+  pub closed : (C : Setup) (H : History) → Stands C old H
+      → NothingAfterCloses C (with_turn event reply H)
   pub clear : (C : Setup) (H : History) → Stands C old H → IsClear C (with_turn event reply H) new
-  pub done : (C : Setup) (H : History) → Stands C old H → IsClearOnceDone C (with_turn event reply H) new
-  pub coherent : (C : Setup) (H : History) → Stands C old H → IsCoherent C (with_turn event reply H) new
-  pub asids : (C : Setup) (H : History) → Stands C old H → TlbsHoldUsedAsids C (with_turn event reply H) new
-  pub spaces : (C : Setup) (H : History) → Stands C old H → HartsAreInLiveSpaces C (with_turn event reply H) new
-  pub frames : (C : Setup) (H : History) → Stands C old H → WalksHoldUsedFrames C (with_turn event reply H) new
+  pub done : (C : Setup) (H : History) → Stands C old H
+      → IsClearOnceDone C (with_turn event reply H) new
+  pub coherent : (C : Setup) (H : History) → Stands C old H
+      → IsCoherent C (with_turn event reply H) new
+  pub asids : (C : Setup) (H : History) → Stands C old H
+      → TlbsHoldUsedAsids C (with_turn event reply H) new
+  pub spaces : (C : Setup) (H : History) → Stands C old H
+      → HartsAreInLiveSpaces C (with_turn event reply H) new
+  pub frames : (C : Setup) (H : History) → Stands C old H
+      → WalksHoldUsedFrames C (with_turn event reply H) new
 
 -- the machine makes a step to the next, and C is told the reply
 pub record IsStepped (old : State) (event : Event) (next : State) (told : ReplyGiven) : Type 0 where
@@ -77,7 +85,8 @@ StepsTo old event (Some next) told = IsStepped old event next told
 
 abbrev pub Steps : Result Event Fault → Held → ℤ → Held → ReplyGiven → ReplyGiven → Type 0
 Steps (Err why) old result new before after = Refused why old result new × (after ≡ before)
-Steps (Ok event) None result new before after = Refused fault.NotOpen None result new × (after ≡ before)
+Steps (Ok event) None result new before after =
+    Refused fault.NotOpen None result new × (after ≡ before)
 Steps (Ok event) (Some machine) result new before after =
     (result ≡ pos 0) × StepsTo machine event new after
 
@@ -93,4 +102,5 @@ SaysAt true true machine hart asid va result = Says machine hart asid va result
 
 abbrev pub Tells : Held → ℕ → ℕ → ℕ → ℤ → Type 0
 Tells None hart asid va result = result ≡ code_of fault.NotOpen
-Tells (Some machine) hart asid va result = SaysAt (nat_lt hart (length machine.harts)) (is_canonical widest va) machine hart asid va result
+Tells (Some machine) hart asid va result =
+    SaysAt (nat_lt hart (length machine.harts)) (is_canonical widest va) machine hart asid va result

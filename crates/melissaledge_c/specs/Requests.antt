@@ -26,7 +26,13 @@ and_then (Ok x) next = next x
 
 abbrev pub entry_of : EntryGiven → Result Entry Fault
 entry_of given = and_then (page_of given.page_base given.page_bytes) (λ page.
-    Ok (record { asid = given.asid; global = is_set given.global; page = page; ppn = given.ppn; flags = record { 0 = given.flags } }))
+    Ok (record {
+      asid = given.asid;
+      global = is_set given.global;
+      page = page;
+      ppn = given.ppn;
+      flags = record { 0 = given.flags };
+    }))
 
 abbrev pub entry_given : Entry → EntryGiven
 entry_given entry = record {
@@ -53,7 +59,8 @@ rs2_of fence = optional_word fence.has_rs2 fence.rs2
 
 abbrev pub what_of : WhatAsked → Result What Fault
 what_of asked =
-    if asked.kind == 0 then and_then (page_of asked.page_base asked.page_bytes) (λ page. Ok (what.PageOf page (optional_asid asked.has_asid asked.asid)))
+    if asked.kind == 0 then and_then (page_of asked.page_base asked.page_bytes)
+    (λ page. Ok (what.PageOf page (optional_asid asked.has_asid asked.asid)))
     else if asked.kind == 1 then Ok (what.SpaceOf asked.asid)
     else if asked.kind == 2 then Ok what.All
     else Err fault.Kind

@@ -10,7 +10,7 @@ use Rattle.tlb.specs.declared.store.Entry.{Entry}
 use Rattle.tlb.specs.Answer.{answer_of}
 use Rattle.tlb.specs.Entries.{TlbState, filled, first_match}
 use Rattle.tlb.specs.Fence.{fenced}
-use Rattle.tlb.specs.Service.{served}
+use Rattle.tlb.specs.Service.{after_service}
 use Rattle.melissaledge_c.specs.declared.codes.Fault.{Fault}
 use Rattle.melissaledge_c.specs.declared.codes.Fault.TheVariants as fault
 use Rattle.melissaledge_c.specs.declared.requests.EntryGiven.{EntryGiven}
@@ -28,7 +28,8 @@ Refused why old result new = (result ≡ code_of why) × (new ≡ old)
 -- a new TLB has no entries
 abbrev pub OpensAnew : Scheme → ℤ → Held → Type 0
 OpensAnew scheme result new =
-    ((result ≡ pos 0) × (new ≡ Some (record { scheme = scheme; entries = [] }))) ⊎ ((result ≡ code_of fault.NoMemory) × (new ≡ None))
+    ((result ≡ pos 0) × (new ≡ Some (record { scheme = scheme; entries = [] })))
+    ⊎ ((result ≡ code_of fault.NoMemory) × (new ≡ None))
 
 abbrev pub Opens : Option Scheme → Held → ℤ → Held → Type 0
 Opens None old result new = Refused fault.Scheme old result new
@@ -40,7 +41,8 @@ Closes None result new = Refused fault.NotOpen None result new
 Closes (Some tlb) result new = (result ≡ pos 0) × (new ≡ None)
 
 -- what is asked with a value changes the TLB so
-abbrev pub Changes : {A : Type 0} → Result A Fault → (A → TlbState → TlbState) → Held → ℤ → Held → Type 0
+abbrev pub Changes : {A : Type 0} → Result A Fault → (A → TlbState → TlbState) → Held → ℤ → Held
+    → Type 0
 Changes (Err why) change old result new = Refused why old result new
 Changes (Ok x) change None result new = Refused fault.NotOpen None result new
 Changes (Ok x) change (Some tlb) result new = (result ≡ pos 0) × (new ≡ Some (change x tlb))
@@ -49,10 +51,11 @@ abbrev pub with_entry : Entry → TlbState → TlbState
 with_entry entry tlb = record tlb { entries = filled tlb.entries entry }
 
 abbrev pub fenced_by : FenceAsked → TlbState → TlbState
-fenced_by fence tlb = record tlb { entries = fenced tlb.scheme tlb.entries (rs1_of fence) (rs2_of fence) }
+fenced_by fence tlb =
+    record tlb { entries = fenced tlb.scheme tlb.entries (rs1_of fence) (rs2_of fence) }
 
 abbrev pub dropped : What → TlbState → TlbState
-dropped what tlb = record tlb { entries = served tlb.entries what }
+dropped what tlb = record tlb { entries = after_service tlb.entries what }
 
 -- the entry is told, or that there is none
 abbrev pub Tells : Option Entry → ℤ → EntryGiven → EntryGiven → Type 0
@@ -73,7 +76,8 @@ abbrev pub AnswersAt : Bool → Entry → Result ℕ Trap → ℤ → Answer →
 AnswersAt false entry outcome result old new = (result ≡ code_of fault.Address) × (new ≡ old)
 AnswersAt true entry outcome result old new = IsAnswer entry outcome result new
 
-abbrev pub Answers : Result Entry Fault → Result (Access × Ctx) Fault → ℕ → ℤ → Answer → Answer → Type 0
+abbrev pub Answers : Result Entry Fault → Result (Access × Ctx) Fault → ℕ → ℤ → Answer → Answer
+    → Type 0
 Answers (Err why) asked va result old new = (result ≡ code_of why) × (new ≡ old)
 Answers (Ok entry) (Err why) va result old new = (result ≡ code_of why) × (new ≡ old)
 Answers (Ok entry) (Ok asked) va result old new =

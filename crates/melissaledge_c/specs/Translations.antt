@@ -21,9 +21,11 @@ use Rattle.melissaledge_c.specs.Requests.{and_then, asked_of}
 -- root is one of the frames
 abbrev pub memory_fault : Tables → ℕ → Option Fault
 memory_fault tables words =
-    if tables.frames == 0 || not (nat_le (tables.base_ppn + tables.frames) (2 ^ PPN_BITS)) then Some fault.Memory
+    if tables.frames == 0 || not (nat_le (tables.base_ppn + tables.frames) (2 ^ PPN_BITS))
+    then Some fault.Memory
     else if not (words == tables.frames * TABLE_LENGTH) then Some fault.Length
-    else if nat_lt tables.root_ppn tables.base_ppn || nat_le (tables.base_ppn + tables.frames) tables.root_ppn then Some fault.Root
+    else if nat_lt tables.root_ppn tables.base_ppn
+    || nat_le (tables.base_ppn + tables.frames) tables.root_ppn then Some fault.Root
     else None
 
 abbrev pub unless_fault : {A : Type 0} → Option Fault → A → Result A Fault
@@ -35,7 +37,8 @@ abbrev pub request_of : Tables → ℕ → AccessAsked → Result Request Fault
 request_of tables words asked =
     or_fault (scheme_of tables.scheme) fault.Scheme (λ scheme.
     and_then (asked_of asked) (λ access.
-    unless_fault (memory_fault tables words) (record { scheme = scheme; access = access.0; ctx = access.1 })))
+    unless_fault (memory_fault tables words)
+    (record { scheme = scheme; access = access.0; ctx = access.1 })))
 
 abbrev pub trap_answer : Trap → Answer
 trap_answer trap = record {
@@ -80,9 +83,11 @@ status_of (Err trap) = pos 1
 
 -- what is in order is answered by the outcome of the access; and what is not, by its first fault,
 -- with nothing changed
-abbrev pub Translates : Tables → List ℕ → AccessAsked → Result Request Fault → ℤ → Answer → Answer → Type 0
+abbrev pub Translates : Tables → List ℕ → AccessAsked → Result Request Fault → ℤ → Answer → Answer
+    → Type 0
 Translates tables words asked (Err why) result old new = (result ≡ code_of why) × (new ≡ old)
 Translates tables words asked (Ok request) result old new =
     (outcome : Result Found Trap)
-    × Outcome request.scheme (flat_words tables.base_ppn tables.frames words) tables.root_ppn asked.va request.access request.ctx outcome
+    × Outcome request.scheme (flat_words tables.base_ppn tables.frames words) tables.root_ppn
+    asked.va request.access request.ctx outcome
     × (result ≡ status_of outcome) × (new ≡ answer_of outcome)

@@ -25,7 +25,8 @@ pub extern "C" fn melissaledge_machine_open(
     spares: &[u16],
     machine: &mut MachineHandle,
 ) -> i32
-    ensures { Opens (config_of config.now spaces.now spares.now) machine.old.held result machine.new.held }
+    ensures { Opens (config_of config.now spaces.now spares.now) machine.old.held result
+        machine.new.held }
 {
     let config = match config_of(config, spaces, spares) {
         Ok(config) => config,
@@ -78,7 +79,8 @@ pub extern "C" fn melissaledge_machine_step(
     event: &EventAsked,
     reply: &mut ReplyGiven,
 ) -> i32
-    ensures { Steps (event_of event.now) machine.old.held result machine.new.held reply.old reply.new }
+    ensures { Steps (event_of event.now) machine.old.held result machine.new.held reply.old
+        reply.new }
 {
     let event = match event_of(event) {
         Ok(event) => event,
@@ -95,7 +97,8 @@ pub extern "C" fn melissaledge_machine_step(
 
 /// The answer of `melissaledge_machine_translates` about a machine.
 fn answer_of(machine: &Machine, hart: u8, asid: u16, va: u64) -> i32
-    ensures { SaysAt (nat_lt hart (length machine.now.harts)) (is_canonical widest va) machine.now hart asid va result }
+    ensures { SaysAt (nat_lt hart (length machine.now.harts)) (is_canonical widest va) machine.now
+        hart asid va result }
 {
     tests_are_facts();
     if hart >= machine.harts() {

@@ -150,7 +150,8 @@ pub extern "C" fn melissaledge_entry_translate(
     asked: &AccessAsked,
     answer: &mut Answer,
 ) -> i32
-    ensures { Answers (entry_of entry.now) (asked_of asked.now) asked.now.va result answer.old answer.new }
+    ensures { Answers (entry_of entry.now) (asked_of asked.now) asked.now.va result answer.old
+        answer.new }
 {
     tests_are_facts();
     let entry = match entry_of(entry) {

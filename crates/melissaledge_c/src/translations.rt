@@ -145,7 +145,8 @@ pub extern "C" fn melissaledge_translate(
     asked: &AccessAsked,
     answer: &mut Answer,
 ) -> i32
-    ensures { Translates tables.now words.now asked.now (request_of tables.now (length words.now) asked.now) result answer.old answer.new }
+    ensures { Translates tables.now words.now asked.now
+        (request_of tables.now (length words.now) asked.now) result answer.old answer.new }
 {
     let request = match request_of(tables, words.len(), asked) {
         Ok(request) => request,

@@ -35,8 +35,8 @@ impl Usual {
     }
 }
 
-/// Does a command on a file. Without memory nothing is printed but by `check`, which may lack it for
-/// the line on standard error alone.
+/// Does a command on a file. Without memory nothing is printed but by `check`, which may lack it
+/// for the line on standard error alone.
 fn inspect(alloc: Global, inspection: Inspection, file: &str, usual: Usual) -> Verdict {
     let Ok(mut out) = Vec::with_capacity(alloc, ROOM) else {
         return Verdict::NoMemory;

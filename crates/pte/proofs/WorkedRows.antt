@@ -1,5 +1,5 @@
--- Worked rows, computed from the definitions alone: the edges of what is canonical in each scheme, indices, sizes, and the
--- pages that fit a scheme.
+-- Worked rows, computed from the definitions alone: the edges of what is canonical in each scheme,
+-- indices, sizes, and the pages that fit a scheme.
 use Rattle.std.proofs.Common.{◌≡◌, ℕ, true, false, refl}
 use Rattle.pte.specs.declared.scheme.Scheme.TheVariants.{Sv39, Sv48}
 use Rattle.pte.specs.declared.address.PageSize.{PageSize}

@@ -3,7 +3,8 @@ use Rattle.std.proofs.Common.{◌≡◌, ◌∙◌, sym, ap, ◌+◌, ◌<◌, �
 use mathlib.Core.List.{IsPrefix}
 use Rattle.shoot.specs.Request.{Request}
 
--- what waits begins what the receiver's end knows, and what it knew begins with what it took: so this was the first that waits
+-- what waits begins what the receiver's end knows, and what it knew begins with what it took: so
+-- this was the first that waits
 pub after_take : (taken waiting all old new : List Request) (request : Request) → taken ++ waiting ≡ all → IsPrefix waiting old → 0 < length waiting
     → IsPrefix old (request ∷ new)
     → (rest : List Request) × ((taken ++ request ∷ []) ++ rest ≡ all) × IsPrefix rest new × (length rest + 1 ≡ length waiting)

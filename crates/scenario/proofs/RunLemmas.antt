@@ -8,7 +8,8 @@ use Rattle.history.specs.Due.{due, Lawful}
 use Rattle.history.specs.Runs.{due_replies, with_turn}
 use Rattle.stepcore.specs.Runs.{with_turns}
 
--- a lawful history of these turns after an older one: the older one is lawful, and the replies were due after it
+-- a lawful history of these turns after an older one: the older one is lawful, and the replies were
+-- due after it
 pub replies_due : (C : Setup) (events : List Event) (replies : List Reply) (H : History) → length replies ≡ length events → Lawful C (with_turns events replies H)
     → Lawful C H × (replies ≡ due_replies C H events)
 replies_due C [] [] H same lawful = (lawful, refl)

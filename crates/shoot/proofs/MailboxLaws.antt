@@ -6,7 +6,7 @@ use Rattle.std.proofs.lemmas.Bool.Decides.{nat_tests}
 use Rattle.std.specs.Option.{is_none}
 use Rattle.shoot.specs.Request.{Request}
 use Rattle.shoot.specs.Mailbox.{MailboxState, empty_mailbox, post_fault, post_answer, answer_with, with_request}
-use Rattle.shoot.specs.MailboxHistory.{Turn, Post, Take, Release, Close, accepted, accepted_by, taken, taken_by, released, is_closed, after_turn, mailbox_after, IsDue, IsLawful, Stands}
+use Rattle.shoot.specs.MailboxHistory.{MailboxCall, Post, Take, Release, Close, accepted_by_calls, accepted_by, taken_by_calls, taken_by, released, is_closed_by_calls, after_turn, mailbox_after, IsDue, IsLawful, IsLeftBy}
 use Rattle.shoot.specs.declared.mailbox.PostFault.{PostFault}
 use Rattle.shoot.specs.declared.mailbox.PostFault.TheVariants.{Closed, Full}
 
@@ -31,16 +31,16 @@ order_take (first ∷ rest) (Some request) front back e h =
     let same : request ≡ first = cc in
     append-nil front ∙ (h ∙ (ap (λ (m : Request). back ++ m ∷ rest) (sym same) ∙ sym (append_assoc back (request ∷ []) rest)))
 
-pub order : (capacity : ℕ) (history : List Turn) → IsLawful capacity history
-    → accepted history ≡ taken history ++ (mailbox_after capacity history).waiting
+pub order : (capacity : ℕ) (history : List MailboxCall) → IsLawful capacity history
+    → accepted_by_calls history ≡ taken_by_calls history ++ (mailbox_after capacity history).waiting
 order capacity [] lawful = refl
 order capacity (Post request answer ∷ earlier) lawful =
     let mailbox = mailbox_after capacity earlier in
-    rw (append-nil (taken earlier)) (order_post (post_fault mailbox) answer mailbox request (accepted earlier) (taken earlier) lawful.1 (order capacity earlier lawful.0))
+    rw (append-nil (taken_by_calls earlier)) (order_post (post_fault mailbox) answer mailbox request (accepted_by_calls earlier) (taken_by_calls earlier) lawful.1 (order capacity earlier lawful.0))
 order capacity (Take answer ∷ earlier) lawful =
-    order_take (mailbox_after capacity earlier).waiting answer (accepted earlier) (taken earlier) lawful.1 (order capacity earlier lawful.0)
-order capacity (Release ∷ earlier) lawful = rw (append-nil (accepted earlier), append-nil (taken earlier)) (order capacity earlier lawful.0)
-order capacity (Close ∷ earlier) lawful = rw (append-nil (accepted earlier), append-nil (taken earlier)) (order capacity earlier lawful.0)
+    order_take (mailbox_after capacity earlier).waiting answer (accepted_by_calls earlier) (taken_by_calls earlier) lawful.1 (order capacity earlier lawful.0)
+order capacity (Release ∷ earlier) lawful = rw (append-nil (accepted_by_calls earlier), append-nil (taken_by_calls earlier)) (order capacity earlier lawful.0)
+order capacity (Close ∷ earlier) lawful = rw (append-nil (accepted_by_calls earlier), append-nil (taken_by_calls earlier)) (order capacity earlier lawful.0)
 
 room_post : (fault : Option PostFault) (answer : Answer) (mailbox : MailboxState) (request : Request) (front : List Request) (collected : ℕ)
     → answer ≡ answer_with fault request → length front ≡ mailbox.outstanding + collected
@@ -50,18 +50,18 @@ room_post None (Err fault) mailbox request front collected e h = absurd cc
 room_post (Some fault) (Ok done) mailbox request front collected e h = absurd cc
 room_post (Some fault) (Err pair) mailbox request front collected e h = rw (append-nil front) h
 
-pub room : (capacity : ℕ) (history : List Turn) → IsLawful capacity history
-    → length (accepted history) ≡ (mailbox_after capacity history).outstanding + released history
+pub room : (capacity : ℕ) (history : List MailboxCall) → IsLawful capacity history
+    → length (accepted_by_calls history) ≡ (mailbox_after capacity history).outstanding + released history
 room capacity [] lawful = refl
 room capacity (Post request answer ∷ earlier) lawful =
     let mailbox = mailbox_after capacity earlier in
-    room_post (post_fault mailbox) answer mailbox request (accepted earlier) (released earlier) lawful.1 (room capacity earlier lawful.0)
-room capacity (Take answer ∷ earlier) lawful = rw (append-nil (accepted earlier)) (room capacity earlier lawful.0)
+    room_post (post_fault mailbox) answer mailbox request (accepted_by_calls earlier) (released earlier) lawful.1 (room capacity earlier lawful.0)
+room capacity (Take answer ∷ earlier) lawful = rw (append-nil (accepted_by_calls earlier)) (room capacity earlier lawful.0)
 room capacity (Release ∷ earlier) lawful =
     let some : length (mailbox_after capacity earlier).waiting < (mailbox_after capacity earlier).outstanding = ltb-true _ _ lawful.1 in
     let before = room capacity earlier lawful.0 in
-    rw (append-nil (accepted earlier)) (omega arith)
-room capacity (Close ∷ earlier) lawful = rw (append-nil (accepted earlier)) (room capacity earlier lawful.0)
+    rw (append-nil (accepted_by_calls earlier)) (omega arith)
+room capacity (Close ∷ earlier) lawful = rw (append-nil (accepted_by_calls earlier)) (room capacity earlier lawful.0)
 
 kept_by_post : {A : Type 0} (part : MailboxState → A) (fault : Option PostFault) (mailbox : MailboxState) (request : Request)
     → part (with_request mailbox request) ≡ part mailbox
@@ -69,7 +69,7 @@ kept_by_post : {A : Type 0} (part : MailboxState → A) (fault : Option PostFaul
 kept_by_post part None mailbox request e = e
 kept_by_post part (Some fault) mailbox request e = refl
 
-pub closed : (capacity : ℕ) (history : List Turn) → (mailbox_after capacity history).closed ≡ is_closed history
+pub closed : (capacity : ℕ) (history : List MailboxCall) → (mailbox_after capacity history).closed ≡ is_closed_by_calls history
 closed capacity [] = refl
 closed capacity (Post request answer ∷ earlier) =
     let mailbox = mailbox_after capacity earlier in
@@ -78,7 +78,7 @@ closed capacity (Take answer ∷ earlier) = closed capacity earlier
 closed capacity (Release ∷ earlier) = closed capacity earlier
 closed capacity (Close ∷ earlier) = refl
 
-pub capacity_kept : (capacity : ℕ) (history : List Turn) → (mailbox_after capacity history).capacity ≡ capacity
+pub capacity_kept : (capacity : ℕ) (history : List MailboxCall) → (mailbox_after capacity history).capacity ≡ capacity
 capacity_kept capacity [] = refl
 capacity_kept capacity (Post request answer ∷ earlier) =
     let mailbox = mailbox_after capacity earlier in
@@ -90,13 +90,13 @@ capacity_kept capacity (Close ∷ earlier) = capacity_kept capacity earlier
 leb-add : (a b c : ℕ) → leb (a + c) (b + c) ≡ leb a b
 leb-add a b c = grind (arith, nat_tests)
 
-pub fault : (capacity : ℕ) (history : List Turn) → IsLawful capacity history
-    → post_fault (mailbox_after capacity history) ≡ cond (is_closed history) (Some Closed) (cond (leb (capacity + released history) (length (accepted history))) (Some Full) None)
+pub fault : (capacity : ℕ) (history : List MailboxCall) → IsLawful capacity history
+    → post_fault (mailbox_after capacity history) ≡ cond (is_closed_by_calls history) (Some Closed) (cond (leb (capacity + released history) (length (accepted_by_calls history))) (Some Full) None)
 fault capacity history lawful =
     let mailbox = mailbox_after capacity history in
     rw (room capacity history lawful, leb-add capacity mailbox.outstanding (released history), ← closed capacity history, capacity_kept capacity history) refl
 
-closed_before : (later earlier : List Turn) → is_closed (later ++ Close ∷ earlier) ≡ true
+closed_before : (later earlier : List MailboxCall) → is_closed_by_calls (later ++ Close ∷ earlier) ≡ true
 closed_before [] earlier = refl
 closed_before (Post request answer ∷ later) earlier = closed_before later earlier
 closed_before (Take answer ∷ later) earlier = closed_before later earlier
@@ -111,31 +111,31 @@ refused mailbox request (Err pair) h e = refl
 refused mailbox request (Ok done) h e =
     absurd (apart (Ok done) done (Closed, request) refl (e ∙ ap (λ (test : Bool). answer_with (cond test (Some Closed) (cond (leb mailbox.capacity mailbox.outstanding) (Some Full) None)) request) h))
 
-pub none_after_close : (capacity : ℕ) (later earlier : List Turn) → IsLawful capacity (later ++ Close ∷ earlier) → accepted (later ++ Close ∷ earlier) ≡ accepted earlier
-none_after_close capacity [] earlier lawful = append-nil (accepted earlier)
+pub none_after_close : (capacity : ℕ) (later earlier : List MailboxCall) → IsLawful capacity (later ++ Close ∷ earlier) → accepted_by_calls (later ++ Close ∷ earlier) ≡ accepted_by_calls earlier
+none_after_close capacity [] earlier lawful = append-nil (accepted_by_calls earlier)
 none_after_close capacity (Post request answer ∷ later) earlier lawful =
     let before = later ++ Close ∷ earlier in
     let mailbox = mailbox_after capacity before in
-    rw (refused mailbox request answer (closed capacity before ∙ closed_before later earlier) lawful.1, append-nil (accepted before)) (none_after_close capacity later earlier lawful.0)
+    rw (refused mailbox request answer (closed capacity before ∙ closed_before later earlier) lawful.1, append-nil (accepted_by_calls before)) (none_after_close capacity later earlier lawful.0)
 none_after_close capacity (Take answer ∷ later) earlier lawful =
-    rw (append-nil (accepted (later ++ Close ∷ earlier))) (none_after_close capacity later earlier lawful.0)
+    rw (append-nil (accepted_by_calls (later ++ Close ∷ earlier))) (none_after_close capacity later earlier lawful.0)
 none_after_close capacity (Release ∷ later) earlier lawful =
-    rw (append-nil (accepted (later ++ Close ∷ earlier))) (none_after_close capacity later earlier lawful.0)
+    rw (append-nil (accepted_by_calls (later ++ Close ∷ earlier))) (none_after_close capacity later earlier lawful.0)
 none_after_close capacity (Close ∷ later) earlier lawful =
-    rw (append-nil (accepted (later ++ Close ∷ earlier))) (none_after_close capacity later earlier lawful.0)
+    rw (append-nil (accepted_by_calls (later ++ Close ∷ earlier))) (none_after_close capacity later earlier lawful.0)
 
 -- ---- each call adds its turn to the history at which the mailbox stands
 
-pub stands_new : (capacity : ℕ) → Stands (empty_mailbox capacity) []
+pub stands_new : (capacity : ℕ) → IsLeftBy (empty_mailbox capacity) []
 stands_new capacity = record { lawful = tt; left = refl }
 
-capacity_after : (mailbox : MailboxState) (turn : Turn) → (after_turn mailbox turn).capacity ≡ mailbox.capacity
+capacity_after : (mailbox : MailboxState) (turn : MailboxCall) → (after_turn mailbox turn).capacity ≡ mailbox.capacity
 capacity_after mailbox (Post request answer) = kept_by_post (λ m. m.capacity) (post_fault mailbox) mailbox request refl
 capacity_after mailbox (Take answer) = refl
 capacity_after mailbox Release = refl
 capacity_after mailbox Close = refl
 
-pub stands_after : (mailbox : MailboxState) (turn : Turn) (history : List Turn) → Stands mailbox history → IsDue mailbox turn → Stands (after_turn mailbox turn) (turn ∷ history)
+pub stands_after : (mailbox : MailboxState) (turn : MailboxCall) (history : List MailboxCall) → IsLeftBy mailbox history → IsDue mailbox turn → IsLeftBy (after_turn mailbox turn) (turn ∷ history)
 stands_after mailbox turn history stands due =
     let kept = capacity_after mailbox turn in
     let P : MailboxState → Type 0 = λ m. IsDue m turn in
@@ -146,8 +146,8 @@ stands_after mailbox turn history stands due =
       left = ap (λ m. after_turn m turn) stands.left ∙ ap (λ capacity. after_turn (mailbox_after capacity history) turn) (sym kept);
     }
 
-pub stands_order : (mailbox : MailboxState) (history : List Turn) → Stands mailbox history → accepted history ≡ taken history ++ mailbox.waiting
-stands_order mailbox history stands = order mailbox.capacity history stands.lawful ∙ ap (λ (m : MailboxState). taken history ++ m.waiting) (sym stands.left)
+pub stands_order : (mailbox : MailboxState) (history : List MailboxCall) → IsLeftBy mailbox history → accepted_by_calls history ≡ taken_by_calls history ++ mailbox.waiting
+stands_order mailbox history stands = order mailbox.capacity history stands.lawful ∙ ap (λ (m : MailboxState). taken_by_calls history ++ m.waiting) (sym stands.left)
 
-pub stands_room : (mailbox : MailboxState) (history : List Turn) → Stands mailbox history → length (accepted history) ≡ mailbox.outstanding + released history
+pub stands_room : (mailbox : MailboxState) (history : List MailboxCall) → IsLeftBy mailbox history → length (accepted_by_calls history) ≡ mailbox.outstanding + released history
 stands_room mailbox history stands = room mailbox.capacity history stands.lawful ∙ ap (λ (m : MailboxState). m.outstanding + released history) (sym stands.left)

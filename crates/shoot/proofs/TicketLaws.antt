@@ -1,8 +1,9 @@
--- What every call on the tickets of a hart keeps: whose acknowledgement is collected has acknowledged.
+-- What every call on the tickets of a hart keeps: whose acknowledgement is collected has
+-- acknowledged.
 use Rattle.std.proofs.Common.{◌≡◌, ◌≢◌, ◌∙◌, sym, ap, refl, subst, ℕ, zero, suc, ◌<◌, Bool, true, false, cond, List, [], ◌∷◌, length, length-set, replicate, set, slice_get, Option, Some, None, Result, Ok, Err, IfSome, IsTrue, ◌⊎◌, inl, inr, arith, eqb}
 use Rattle.pte.specs.declared.address.What.{What}
 use Rattle.shoot.specs.HartSet.{contains}
-use Rattle.shoot.specs.Tickets.{TicketTable, IsSound, AreSound, no_tickets, if_open, ticket_at, with_ticket, with_change, changed, ticket_for, with_posted, with_acked, with_collected, answer_for, with_opened, after_acked, after_collect, after_finish, after_open_for, after_posted, is_done_at, done_with, tells, names, is_acked}
+use Rattle.shoot.specs.Tickets.{TicketTable, IsSound, AreSound, no_tickets, if_open, ticket_at, with_ticket, with_change, changed, ticket_for, with_posted, with_acked, with_collected, answer_for, with_opened, after_acked, after_collect, after_finish, after_open_for, after_posted, is_done_at, done_with, tells, names, ticket_acked}
 use Rattle.shoot.specs.declared.TheConstants.{MAX_HARTS, MAX_TICKETS}
 use Rattle.shoot.specs.declared.tickets.Ticket.{Ticket}
 use Rattle.shoot.specs.declared.tickets.TicketFault.{TicketFault}
@@ -147,7 +148,7 @@ finished_sound table number was = by_test (λ done. AreSound (cond done (with_ti
 -- ---- a ticket that is done was acknowledged by each hart that it names
 
 pub done_acked : (table : TicketTable) (number hart : ℕ) → AreSound table → hart < MAX_HARTS
-    → IsTrue (is_done_at table number) → IsTrue (names table number hart) → IsTrue (is_acked table number hart)
+    → IsTrue (is_done_at table number) → IsTrue (names table number hart) → IsTrue (ticket_acked table number hart)
 done_acked table number hart sound below = at (ticket_at table number) (sound.each number)
   where
     at : (place : Option Ticket) → IfSome place IsSound → done_with place ≡ true

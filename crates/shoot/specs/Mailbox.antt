@@ -52,10 +52,6 @@ with_request mailbox request = record {
   capacity = mailbox.capacity;
 }
 
--- the same under the name that crates above still use
-abbrev pub with_message : MailboxState → Request → MailboxState
-with_message = with_request
-
 -- a refused post changes nothing
 abbrev pub after_post : MailboxState → Request → MailboxState
 after_post mailbox request =

@@ -6,7 +6,3 @@ use Rattle.pte.specs.declared.address.What.{What}
 pub record Request : Type 0 where
   pub ticket : ℕ
   pub what : What
-
--- the same under the name that crates above still use
-abbrev pub Message : Type 0
-Message = Request

@@ -37,14 +37,15 @@ tells set (Some ticket) hart = contains (set ticket) hart
 abbrev pub names : TicketTable → ℕ → ℕ → Bool
 names table number hart = tells (λ ticket. ticket.named) (ticket_at table number) hart
 
-abbrev pub is_posted : TicketTable → ℕ → ℕ → Bool
-is_posted table number hart = tells (λ ticket. ticket.posted) (ticket_at table number) hart
+abbrev pub ticket_posted : TicketTable → ℕ → ℕ → Bool
+ticket_posted table number hart = tells (λ ticket. ticket.posted) (ticket_at table number) hart
 
-abbrev pub is_acked : TicketTable → ℕ → ℕ → Bool
-is_acked table number hart = tells (λ ticket. ticket.acked) (ticket_at table number) hart
+abbrev pub ticket_acked : TicketTable → ℕ → ℕ → Bool
+ticket_acked table number hart = tells (λ ticket. ticket.acked) (ticket_at table number) hart
 
-abbrev pub is_collected : TicketTable → ℕ → ℕ → Bool
-is_collected table number hart = tells (λ ticket. ticket.collected) (ticket_at table number) hart
+abbrev pub ticket_collected : TicketTable → ℕ → ℕ → Bool
+ticket_collected table number hart =
+    tells (λ ticket. ticket.collected) (ticket_at table number) hart
 
 abbrev pub asked : Option Ticket → Option What
 asked None = None

@@ -8,7 +8,7 @@ use Rattle.shoot.specs.HartSet.{byte_of, harts_in}
 use Rattle.shoot.specs.Request.{Request}
 use Rattle.shoot.specs.Mailbox.{can_release}
 use Rattle.shoot.specs.MailboxHistory.{Post, Take, Release, Close, IsLawful, mailbox_after}
-use Rattle.shoot.specs.Tickets.{TicketTable, no_tickets, is_open, names, open_answer, progress_at, finish_answer, what_at, is_acked, is_posted, is_collected, is_done_at, after_open, after_posted, after_acked, after_collect, after_finish}
+use Rattle.shoot.specs.Tickets.{TicketTable, no_tickets, is_open, names, open_answer, progress_at, finish_answer, what_at, ticket_acked, ticket_posted, ticket_collected, is_done_at, after_open, after_posted, after_acked, after_collect, after_finish}
 use Rattle.shoot.specs.declared.mailbox.PostFault.TheVariants.{Closed, Full}
 use Rattle.shoot.specs.declared.tickets.Collected.TheVariants.{Done, Waiting}
 use Rattle.shoot.specs.declared.tickets.TicketFault.TheVariants.{HomeNotNamed, NoTicket}
@@ -103,13 +103,13 @@ abbrev pub who_is_named : Type 0
 who_is_named = marks names ≡ true ∷ true ∷ true ∷ false ∷ []
 
 abbrev pub who_was_posted_to : Type 0
-who_was_posted_to = marks is_posted ≡ false ∷ true ∷ false ∷ false ∷ []
+who_was_posted_to = marks ticket_posted ≡ false ∷ true ∷ false ∷ false ∷ []
 
 abbrev pub who_acknowledged : Type 0
-who_acknowledged = marks is_acked ≡ true ∷ false ∷ false ∷ false ∷ []
+who_acknowledged = marks ticket_acked ≡ true ∷ false ∷ false ∷ false ∷ []
 
 abbrev pub who_is_collected : Type 0
-who_is_collected = marks is_collected ≡ true ∷ false ∷ false ∷ false ∷ []
+who_is_collected = marks ticket_collected ≡ true ∷ false ∷ false ∷ false ∷ []
 
 abbrev pub one_is_done : Type 0
 one_is_done = map (is_done_at (after_acked two_open 1 2)) (0 ∷ 1 ∷ []) ≡ false ∷ true ∷ []
@@ -125,14 +125,14 @@ abbrev pub what_is_asked : Type 0
 what_is_asked = what_at alone 0 ≡ Some (SpaceOf 1)
 
 abbrev pub not_acked_again : Type 0
-not_acked_again = is_acked ticket_0_used_again 0 0 ≡ false
+not_acked_again = ticket_acked ticket_0_used_again 0 0 ≡ false
 
 abbrev pub not_collected_again : Type 0
-not_collected_again = is_collected ticket_0_used_again 0 0 ≡ false
+not_collected_again = ticket_collected ticket_0_used_again 0 0 ≡ false
 
 abbrev pub only_who_was_posted_to : Type 0
 only_who_was_posted_to =
-    is_posted (after_posted (after_open (no_tickets 0) All 0xF) 0 3) 0 2 ≡ false
+    ticket_posted (after_posted (after_open (no_tickets 0) All 0xF) 0 3) 0 2 ≡ false
 
 -- the tickets of hart 0 once so many were opened, of which each names it alone
 unfoldable pub opened : ℕ → TicketTable

@@ -3,7 +3,7 @@
 ghost use Rattle.std.specs.Prelude.{◌≡◌, ◌≢◌, ◌↔◌, ◌<◌, ℕ, Bool, false, List, Option, None, Ok, Err, IsTrue, length};
 ghost use Rattle.pte.specs.declared.address.What.{What};
 ghost use Rattle.shoot.specs.HartSet.{contains, harts_in};
-ghost use Rattle.shoot.specs.Tickets.{AreSound, TicketTable, after_acked, after_collect, after_finish, after_open_for, after_posted, is_acked, is_done, is_done_at, is_open, names, no_tickets, open_answer, ticket_at, with_ticket};
+ghost use Rattle.shoot.specs.Tickets.{AreSound, TicketTable, after_acked, after_collect, after_finish, after_open_for, after_posted, ticket_acked, is_done, is_done_at, is_open, names, no_tickets, open_answer, ticket_at, with_ticket};
 
 use crate::MAX_HARTS;
 use crate::tickets::{Ticket, TicketFault};
@@ -45,7 +45,7 @@ pub fn lowest_free_number_is_opened()
 pub fn done_tickets_were_acknowledged()
     ensures { (table : TicketTable) (number hart : ℕ) → AreSound table → hart < MAX_HARTS
         → IsTrue (is_done_at table number) → IsTrue (names table number hart)
-        → IsTrue (is_acked table number hart) }
+        → IsTrue (ticket_acked table number hart) }
 {}
 
 /// A ticket is done exactly if each hart that it names is collected.

@@ -136,7 +136,7 @@ impl Ticket {
 }
 
 impl Tickets {
-    ghost use Rattle.shoot.specs.Tickets.{no_tickets, ticket_at, is_open, names, is_posted, is_acked, is_collected, open_answer, answer_for, after_open, after_open_for, progress_at, after_posted, after_acked, after_collect, is_done, finish_answer, after_finish, lowest_free, what_at};
+    ghost use Rattle.shoot.specs.Tickets.{no_tickets, ticket_at, is_open, names, ticket_posted, ticket_acked, ticket_collected, open_answer, answer_for, after_open, after_open_for, progress_at, after_posted, after_acked, after_collect, is_done, finish_answer, after_finish, lowest_free, what_at};
 
     /// The tickets of a hart whose number is below 8, all of them free.
     pub fn new(hart: u8) -> Tickets
@@ -297,7 +297,7 @@ impl Tickets {
     /// Whether an open ticket was posted to the hart.
     pub fn is_posted(&self, ticket: u32, hart: u8) -> bool
         requires { IsTrue (is_open self.now ticket) }
-        ensures { result ≡ is_posted self.now ticket hart }
+        ensures { result ≡ ticket_posted self.now ticket hart }
     {
         self.get(ticket)
             .is_some_and(|open| open.posted.contains(hart))
@@ -306,7 +306,7 @@ impl Tickets {
     /// Whether the hart acknowledged an open ticket.
     pub fn is_acked(&self, ticket: u32, hart: u8) -> bool
         requires { IsTrue (is_open self.now ticket) }
-        ensures { result ≡ is_acked self.now ticket hart }
+        ensures { result ≡ ticket_acked self.now ticket hart }
     {
         self.get(ticket)
             .is_some_and(|open| open.acked.contains(hart))
@@ -315,7 +315,7 @@ impl Tickets {
     /// Whether the hart's acknowledgement of an open ticket is collected.
     pub fn is_collected(&self, ticket: u32, hart: u8) -> bool
         requires { IsTrue (is_open self.now ticket) }
-        ensures { result ≡ is_collected self.now ticket hart }
+        ensures { result ≡ ticket_collected self.now ticket hart }
     {
         self.get(ticket)
             .is_some_and(|open| open.collected.contains(hart))

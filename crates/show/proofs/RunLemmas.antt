@@ -1,4 +1,5 @@
--- The replies of a run from the opening are those that are due, and a machine that stands there has its spaces.
+-- The replies of a run from the opening are those that are due, and a machine that stands there has
+-- its spaces.
 use Rattle.std.proofs.Common.{◌≡◌, ◌<◌, ◌≤◌, List, [], ◌∷◌, length, refl, ap, ◌∙◌, arith}
 use Rattle.std.proofs.lemmas.List.{length-map}
 use Rattle.history.specs.declared.event.Event.{Event}
@@ -13,7 +14,8 @@ use Rattle.stepcore.specs.Runs.{with_turns}
 use Rattle.stepcore.specs.Stands.{bare}
 use Rattle.stepcore.specs.State.{State, setup_in}
 
--- a lawful history of these turns after an older one: the older one is lawful, and the replies were due after it
+-- a lawful history of these turns after an older one: the older one is lawful, and the replies were
+-- due after it
 pub replies_due : (C : Setup) (events : List Event) (replies : List Reply) (H : History) → length replies ≡ length events → Lawful C (with_turns events replies H)
     → Lawful C H × (replies ≡ due_replies C H events)
 replies_due C [] [] H same lawful = (lawful, refl)

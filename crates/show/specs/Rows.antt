@@ -13,7 +13,7 @@ use Rattle.pte.specs.Entry.{is_accessed, is_dirty, is_global, is_user, may_execu
 use Rattle.walk.specs.Stage.{Stage}
 use Rattle.tlb.specs.declared.store.Entry.{Entry}
 use Rattle.shoot.specs.Mailbox.{MailboxState, first_waiting}
-use Rattle.shoot.specs.Request.{Message}
+use Rattle.shoot.specs.Request.{Request}
 use Rattle.spaces.specs.declared.configuration.Config.{Config}
 use Rattle.lines.specs.AnswerLines.{hex, size_text}
 use Rattle.lines.specs.ReplyLines.{page_text, what_text}
@@ -63,7 +63,8 @@ phase_text phase.Free = codes "free"
 
 abbrev pub space_line : ℕ → SpaceState → ℕ → ℕ → List ℕ
 space_line space state home root =
-    end_line (upto 35 (upto 20 (upto 14 (upto 7 (decimal space) ++ asid_text state.asid state.phase) ++ decimal home) ++ hex root) ++ phase_text state.phase)
+    end_line (upto 35 (upto 20 (upto 14 (upto 7 (decimal space) ++ asid_text state.asid state.phase)
+    ++ decimal home) ++ hex root) ++ phase_text state.phase)
 
 -- ---- harts
 
@@ -76,18 +77,22 @@ access_text Store = codes "store"
 -- frame of the table that it reads next
 abbrev pub with_walk : List ℕ → Option Stage → List ℕ
 with_walk line None = line ++ codes "-"
-with_walk line (Some walk) = upto 54 (upto 47 (upto 27 (line ++ access_text walk.access) ++ hex walk.va) ++ decimal walk.level) ++ hex walk.table
+with_walk line (Some walk) =
+    upto 54 (upto 47 (upto 27 (line ++ access_text walk.access) ++ hex walk.va)
+    ++ decimal walk.level) ++ hex walk.table
 
 abbrev pub hart_line : ℕ → HartState → ℕ → List ℕ
 hart_line number hart asid =
-    end_line (with_walk (upto 20 (upto 13 (upto 6 (decimal number) ++ decimal hart.space) ++ decimal asid)) hart.walk)
+    end_line (with_walk (upto 20
+    (upto 13 (upto 6 (decimal number) ++ decimal hart.space) ++ decimal asid)) hart.walk)
 
 abbrev pub yes_text : Bool → List ℕ
 yes_text fenced = if fenced then codes "yes" else codes "no"
 
 abbrev pub service_line : ℕ → Serving → List ℕ
 service_line number serving =
-    end_line (upto 30 (upto 22 (upto 14 (upto 6 (decimal number) ++ decimal serving.from) ++ decimal serving.request.ticket) ++ yes_text serving.fenced)
+    end_line (upto 30 (upto 22 (upto 14 (upto 6 (decimal number) ++ decimal serving.from)
+    ++ decimal serving.request.ticket) ++ yes_text serving.fenced)
     ++ what_text serving.request.what)
 
 -- ---- the entries of TLBs
@@ -107,7 +112,9 @@ owner_text entry = if entry.global then codes "global" else decimal entry.asid
 
 abbrev pub entry_line : ℕ → ℕ → Entry → List ℕ
 entry_line hart age entry =
-    end_line (upto 59 (upto 44 (upto 36 (upto 11 (upto 6 (decimal hart) ++ decimal age) ++ page_text entry.page) ++ owner_text entry) ++ hex entry.ppn)
+    end_line (upto 59 (upto 44 (upto 36
+    (upto 11 (upto 6 (decimal hart) ++ decimal age) ++ page_text entry.page) ++ owner_text entry)
+    ++ hex entry.ppn)
     ++ flags_text entry.flags)
 
 -- ---- rows by number
@@ -126,18 +133,22 @@ mark_text has hart = if has hart then decimal hart else codes "-"
 abbrev pub marks_text : ℕ → (ℕ → Bool) → List ℕ
 marks_text harts has = rows_below (mark_text has) harts
 
-abbrev pub order_line : ℕ → ℕ → ℕ → (ℕ → Bool) → (ℕ → Bool) → (ℕ → Bool) → (ℕ → Bool) → What → List ℕ
+abbrev pub order_line : ℕ → ℕ → ℕ → (ℕ → Bool) → (ℕ → Bool) → (ℕ → Bool) → (ℕ → Bool) → What
+    → List ℕ
 order_line harts hart ticket named posted acked collected what =
-    end_line (upto 59 (upto 48 (upto 34 (upto 24 (upto 14 (upto 6 (decimal hart) ++ decimal ticket) ++ marks_text harts named)
-    ++ marks_text harts posted) ++ marks_text harts acked) ++ marks_text harts collected) ++ what_text what)
+    end_line (upto 59 (upto 48 (upto 34
+    (upto 24 (upto 14 (upto 6 (decimal hart) ++ decimal ticket) ++ marks_text harts named)
+    ++ marks_text harts posted) ++ marks_text harts acked) ++ marks_text harts collected)
+    ++ what_text what)
 
 -- ---- mailboxes
 
 -- a line, and then the columns of a request that waits
-abbrev pub with_request : List ℕ → Message → List ℕ
-with_request line request = upto 40 (upto 32 line ++ decimal request.ticket) ++ what_text request.what
+abbrev pub with_request : List ℕ → Request → List ℕ
+with_request line request =
+    upto 40 (upto 32 line ++ decimal request.ticket) ++ what_text request.what
 
-abbrev pub with_first : List ℕ → Option Message → List ℕ
+abbrev pub with_first : List ℕ → Option Request → List ℕ
 with_first line None = upto 32 line ++ codes "-"
 with_first line (Some request) = with_request line request
 
@@ -146,10 +157,11 @@ closed_text closed = if closed then codes "closed" else codes "open"
 
 abbrev pub mailbox_line : ℕ → ℕ → MailboxState → ℕ → List ℕ
 mailbox_line sender receiver mailbox capacity =
-    end_line (with_first (upto 19 (upto 10 (upto 6 (decimal sender) ++ decimal receiver) ++ closed_text mailbox.closed)
+    end_line (with_first (upto 19
+    (upto 10 (upto 6 (decimal sender) ++ decimal receiver) ++ closed_text mailbox.closed)
     ++ (decimal mailbox.outstanding ++ codes " of " ++ decimal capacity)) (first_waiting mailbox))
 
-abbrev pub waiting_line : Message → List ℕ
+abbrev pub waiting_line : Request → List ℕ
 waiting_line request = end_line (with_request [] request)
 
 -- ---- tables

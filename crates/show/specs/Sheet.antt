@@ -3,15 +3,15 @@ use Rattle.std.specs.Prelude.{ℕ, ◌≡◌, ◌+◌, List, [], ◌++◌, Optio
 use Rattle.pte.specs.declared.address.What.{What}
 use Rattle.tlb.specs.declared.store.Entry.{Entry}
 use Rattle.shoot.specs.Mailbox.{MailboxState}
-use Rattle.shoot.specs.Request.{Message}
-use Rattle.shoot.specs.Tickets.{TicketTable, is_acked, is_collected, is_posted, names, what_at}
+use Rattle.shoot.specs.Request.{Request}
+use Rattle.shoot.specs.Tickets.{TicketTable, ticket_acked, ticket_collected, ticket_posted, names, what_at}
 use Rattle.shoot.specs.declared.TheConstants.{MAX_CAPACITY, MAX_TICKETS}
 use Rattle.history.specs.Setup.{setup_of}
 use Rattle.history.specs.declared.event.Event.{Event}
 use Rattle.spaces.specs.Layout.{home_of, root_ppn}
 use Rattle.spaces.specs.declared.configuration.Config.{Config}
 use Rattle.spaces.specs.declared.places.Place.TheVariants as place
-use Rattle.stepcore.specs.Answers.{asid_in}
+use Rattle.stepcore.specs.Answers.{asid_of_hart}
 use Rattle.stepcore.specs.Stands.{Stands}
 use Rattle.stepcore.specs.State.{State, hart_at, mailbox_at, space_at, tickets_at}
 use Rattle.stepcore.specs.declared.serving.Serving.{Serving}
@@ -41,10 +41,12 @@ mailbox_head = codes "from  to  mailbox  outstanding  ticket  drops\n"
 -- ---- their rows
 
 abbrev pub space_row : State → ℕ → List ℕ
-space_row m space = space_line space (space_at m space) (home_of m.memory.layout (place.Space space)) (root_ppn m.memory.layout space)
+space_row m space =
+    space_line space (space_at m space) (home_of m.memory.layout (place.Space space))
+    (root_ppn m.memory.layout space)
 
 abbrev pub hart_row : State → ℕ → List ℕ
-hart_row m hart = hart_line hart (hart_at m hart) (asid_in m (hart_at m hart))
+hart_row m hart = hart_line hart (hart_at m hart) (asid_of_hart m (hart_at m hart))
 
 abbrev pub service_row : ℕ → Option Serving → List ℕ
 service_row hart None = []
@@ -59,7 +61,8 @@ entry_row hart age (Some entry) = entry_line hart age entry
 
 -- the entries of a TLB, the oldest first
 abbrev pub entry_rows : ℕ → List Entry → List ℕ
-entry_rows hart entries = rows_below (λ age. entry_row hart age (slice_get entries age)) (length entries)
+entry_rows hart entries =
+    rows_below (λ age. entry_row hart age (slice_get entries age)) (length entries)
 
 -- how many tickets a hart has, and for how many requests a mailbox may have room
 unfoldable pub ticket_count : ℕ
@@ -71,28 +74,34 @@ waiting_count = MAX_CAPACITY
 abbrev pub order_row : ℕ → ℕ → TicketTable → ℕ → Option What → List ℕ
 order_row harts hart tickets ticket None = []
 order_row harts hart tickets ticket (Some what) =
-    order_line harts hart ticket (names tickets ticket) (is_posted tickets ticket) (is_acked tickets ticket) (is_collected tickets ticket) what
+    order_line harts hart ticket (names tickets ticket) (ticket_posted tickets ticket)
+    (ticket_acked tickets ticket) (ticket_collected tickets ticket) what
 
 -- the open orders of a hart, by their tickets
 abbrev pub order_rows : ℕ → ℕ → TicketTable → List ℕ
-order_rows harts hart tickets = rows_below (λ ticket. order_row harts hart tickets ticket (what_at tickets ticket)) ticket_count
+order_rows harts hart tickets =
+    rows_below (λ ticket. order_row harts hart tickets ticket (what_at tickets ticket)) ticket_count
 
-abbrev pub waiting_row : Option Message → List ℕ
+abbrev pub waiting_row : Option Request → List ℕ
 waiting_row None = []
 waiting_row (Some request) = waiting_line request
 
 -- a mailbox with the oldest request that waits, and those that wait behind it
 abbrev pub mailbox_rows : ℕ → ℕ → MailboxState → ℕ → List ℕ
 mailbox_rows sender receiver mailbox capacity =
-    mailbox_line sender receiver mailbox capacity ++ rows_below (λ place. waiting_row (slice_get mailbox.waiting (place + 1))) waiting_count
+    mailbox_line sender receiver mailbox capacity
+    ++ rows_below (λ place. waiting_row (slice_get mailbox.waiting (place + 1))) waiting_count
 
 -- one that is closed or has requests that are outstanding
 abbrev pub mailbox_rows_if : ℕ → ℕ → MailboxState → ℕ → List ℕ
 mailbox_rows_if sender receiver mailbox capacity =
-    if mailbox.closed || nat_lt 0 mailbox.outstanding then mailbox_rows sender receiver mailbox capacity else []
+    if mailbox.closed || nat_lt 0 mailbox.outstanding
+    then mailbox_rows sender receiver mailbox capacity else []
 
 abbrev pub mailbox_rows_from : State → ℕ → ℕ → ℕ → List ℕ
-mailbox_rows_from m capacity sender receivers = rows_below (λ receiver. mailbox_rows_if sender receiver (mailbox_at m sender receiver) capacity) receivers
+mailbox_rows_from m capacity sender receivers =
+    rows_below (λ receiver. mailbox_rows_if sender receiver (mailbox_at m sender receiver) capacity)
+    receivers
 
 -- ---- the tables
 
@@ -106,22 +115,31 @@ abbrev pub services_text : State → List ℕ
 services_text m = table_text service_head (rows_below (service_rows m) (length m.harts))
 
 abbrev pub tlbs_text : State → List ℕ
-tlbs_text m = table_text entry_head (rows_below (λ hart. entry_rows hart (hart_at m hart).entries) (length m.harts))
+tlbs_text m =
+    table_text entry_head (rows_below (λ hart. entry_rows hart (hart_at m hart).entries)
+    (length m.harts))
 
 abbrev pub orders_text : State → List ℕ
-orders_text m = table_text order_head (rows_below (λ hart. order_rows (length m.harts) hart (tickets_at m hart)) (length m.harts))
+orders_text m =
+    table_text order_head (rows_below (λ hart. order_rows (length m.harts) hart (tickets_at m hart))
+    (length m.harts))
 
 abbrev pub mailboxes_text : State → ℕ → List ℕ
-mailboxes_text m capacity = table_text mailbox_head (rows_below (λ sender. mailbox_rows_from m capacity sender (length m.harts)) (length m.harts))
+mailboxes_text m capacity =
+    table_text mailbox_head (rows_below
+    (λ sender. mailbox_rows_from m capacity sender (length m.harts)) (length m.harts))
 
 -- ---- the whole text
 
 -- the text of a machine after so many steps: all tables, and then some lines of page tables
 abbrev pub IsSheet : ℕ → Config → State → List ℕ → Type 0
 IsSheet steps config m text =
-    (tree : List ℕ) × (text ≡ first_line steps config ++ spaces_text m ++ harts_text m ++ services_text m ++ tlbs_text m ++ orders_text m
+    (tree : List ℕ) × (text ≡ first_line steps config ++ spaces_text m ++ harts_text m
+    ++ services_text m ++ tlbs_text m ++ orders_text m
     ++ mailboxes_text m config.capacity ++ tree)
 
 -- it is the text of a machine that stands after the events, each of which had its due reply
 abbrev pub Shows : Config → List Event → List ℕ → Type 0
-Shows config events text = (m : State) × Stands (setup_of config) m (due_history (setup_of config) events) × IsSheet (length events) config m text
+Shows config events text =
+    (m : State) × Stands (setup_of config) m (due_history (setup_of config) events)
+    × IsSheet (length events) config m text

@@ -1,7 +1,7 @@
 //! Open orders.
 
 ghost use Rattle.std.specs.Prelude.{◌≡◌, ◌++◌, IfOk, IsTrue, OnOk, Some, string_bytes};
-ghost use Rattle.shoot.specs.Tickets.{is_acked, is_collected, is_open, is_posted, names, what_at};
+ghost use Rattle.shoot.specs.Tickets.{ticket_acked, ticket_collected, is_open, ticket_posted, names, what_at};
 ghost use Rattle.show.specs.Marks.{is_marked};
 ghost use Rattle.show.specs.Sheet.{order_row, order_rows, orders_text};
 ghost use Rattle.show.specs.Rows.{marks_text, order_line};

@@ -6,7 +6,7 @@ use borrow.Author.Tests.{ltb-true, leb-true}
 use Rattle.pte.specs.declared.address.TheConstants.{TABLE_LENGTH}
 use Rattle.spaces.specs.Layout.{home_of, is_frame, frame_count}
 use Rattle.spaces.specs.Opening.{is_word}
-use Rattle.spaces.specs.Held.{Held, IsMemory, IsDue, spare_of, held_at, holders_of, word_index, words_of}
+use Rattle.spaces.specs.Held.{Held, IsMemory, IsDue, spare_of, held_at, holders_of, word_index, memory_words}
 use Rattle.spaces.specs.Holders.{Holders, unused_spare}
 use Rattle.spaces.specs.declared.places.Place.{Place}
 use Rattle.walk.specs.Leads.{Tables}
@@ -15,7 +15,7 @@ use Rattle.spaces.specs.Edits.{Store, place_of, page_of}
 use Rattle.spaces.specs.Tree.{start_level, of_spare, IsTree}
 use Rattle.walk.specs.Pointers.{pointed}
 use Rattle.spaces.specs.Accepted.{Accepted}
-use Rattle.spaces.specs.Applied.{words_after, points_at, holders_after, list_after, memory_after}
+use Rattle.spaces.specs.Applied.{words_after_store, points_at, holders_after, list_after, memory_after}
 use Rattle.spaces.proofs.Lists.{slice_get-set_same, slice_get-set_other}
 use Rattle.spaces.proofs.Paths.{vpn-below, some-same}
 use Rattle.spaces.proofs.WordLists.{InMemory, in-memory, list-same, list-stored}
@@ -25,14 +25,14 @@ use Rattle.std.proofs.lemmas.Option.{slice_get-get_or}
 use Rattle.spaces.proofs.OpeningTree.{word-is, frame-is}
 
 module _ (m : Held) (held : IsMemory m) (store : Store) (due : IsDue m store) where
-  pub at-home : Accepted m.layout (words_of m) (unused_spare m.layout (holders_of m) (home_of m.layout (place_of due.wish))) (home_of m.layout (place_of due.wish)) due.wish store
+  pub at-home : Accepted m.layout (memory_words m) (unused_spare m.layout (holders_of m) (home_of m.layout (place_of due.wish))) (home_of m.layout (place_of due.wish)) due.wish store
   at-home =
-      let acc = accepted m.layout held.layout (words_of m) (holders_of m) held.tree (spare_of m due.hart) due.hart due.wish store due.has due.is in
-      subst (λ h. Accepted m.layout (words_of m) (spare_of m h) h due.wish store) acc.home acc
+      let acc = accepted m.layout held.layout (memory_words m) (holders_of m) held.tree (spare_of m due.hart) due.hart due.wish store due.has due.is in
+      subst (λ h. Accepted m.layout (memory_words m) (spare_of m h) h due.wish store) acc.home acc
 
   pub word-there : is_word m.layout store.ppn store.index ≡ true
   word-there =
-      let on = there m.layout held.layout (words_of m) (holders_of m) held.tree due.wish due.has store at-home in
+      let on = there m.layout held.layout (memory_words m) (holders_of m) held.tree due.wish due.has store at-home in
       let vpn = vpn-below (page_of due.wish).base (start_level m.layout (place_of due.wish) - at-home.depth) in
       word-is m.layout (home_of m.layout (place_of due.wish)) store.ppn store.index on.home (omega (arith, at-home.index))
 
@@ -42,10 +42,10 @@ module _ (m : Held) (held : IsMemory m) (store : Store) (due : IsDue m store) wh
   pub index-there : word_index m.layout store.ppn store.index < length m.words
   index-there = omega (arith, held.words, place-there.from, place-there.to, place-there.index)
 
-  tree-after : IsTree m.layout (words_after (words_of m) store) (holders_after (holders_of m) (place_of due.wish) store)
-  tree-after = keeps-tree m.layout held.layout (words_of m) (holders_of m) held.tree due.wish due.has store at-home
+  tree-after : IsTree m.layout (words_after_store (memory_words m) store) (holders_after (holders_of m) (place_of due.wish) store)
+  tree-after = keeps-tree m.layout held.layout (memory_words m) (holders_of m) held.tree due.wish due.has store at-home
 
-  pub words-held : (f i : ℕ) → words_of (memory_after m store) f i ≡ words_after (words_of m) store f i
+  pub words-held : (f i : ℕ) → memory_words (memory_after m store) f i ≡ words_after_store (memory_words m) store f i
   words-held f i =
       ap (λ (t : Tables). t f i) (list-same m.layout (slice_set m.words (word_index m.layout store.ppn store.index) store.word) (list_after m.layout.base m.holders store.place (pointed (Some store.word))) m.holders)
       ∙ list-stored m.layout m.words m.holders (omega (arith, held.words)) store.ppn store.index word-there store.word f i
@@ -103,7 +103,7 @@ module _ (m : Held) (held : IsMemory m) (store : Store) (due : IsDue m store) wh
     words = length-set m.words (word_index m.layout store.ppn store.index) store.word ∙ held.words;
     holders = length-held (pointed (Some store.word)) ∙ held.holders;
     tree =
-        subst (λ (x : Holders). IsTree m.layout (words_of (memory_after m store)) x) (fun_ext (λ f. ap (λ p. holders_after (holders_of m) p store f) (sym at-home.by) ∙ sym (holders-held f)))
+        subst (λ (x : Holders). IsTree m.layout (memory_words (memory_after m store)) x) (fun_ext (λ f. ap (λ p. holders_after (holders_of m) p store f) (sym at-home.by) ∙ sym (holders-held f)))
         (subst (λ (x : Tables). IsTree m.layout x (holders_after (holders_of m) (place_of due.wish) store)) (fun_ext (λ f. fun_ext (λ i. sym (words-held f i)))) tree-after);
   }
 
@@ -121,7 +121,7 @@ pub record Facts (m now : Held) (store : Store) : Type 0 where
   pub index : word_index m.layout store.ppn store.index < length m.words
   pub table : (t : ℕ) → pointed (Some store.word) ≡ Some t → (m.layout.base ≤ t) × (t - m.layout.base < length m.holders)
   pub memory : IsMemory (memory_after m store)
-  pub words : (f i : ℕ) → words_of (memory_after m store) f i ≡ words_after (words_of now) store f i
+  pub words : (f i : ℕ) → memory_words (memory_after m store) f i ≡ words_after_store (memory_words now) store f i
   pub holders : (f : ℕ) → holders_of (memory_after m store) f ≡ holders_after (holders_of now) store.place store f
 
 pub facts-of : (m now : Held) (store : Store) → m ≡ now → IsMemory m → IsDue now store → Facts m now store
@@ -132,7 +132,7 @@ facts-of m now store is held due =
       index = index-there m held store here;
       table = table-index m held store here;
       memory = memory-held m held store here;
-      words = λ f i. words-held m held store here f i ∙ ap (λ x. words_after (words_of x) store f i) is;
+      words = λ f i. words-held m held store here f i ∙ ap (λ x. words_after_store (memory_words x) store f i) is;
       holders = λ f. holders-held m held store here f ∙ ap (λ x. holders_after (holders_of x) store.place store f) is;
     }
 
@@ -155,8 +155,8 @@ held-leaf base holders place word o is none = ap (list_after base holders place)
 
 -- the word of a list that stands at its place
 pub word-held : (m now : Held) (ppn index at n k : ℕ) (word d : ℕ) → IsMemory m → m ≡ now → is_word now.layout ppn index ≡ true → n ≡ 512 → at ≡ (ppn - m.layout.base) * n + k → k ≡ index
-    → word ≡ get_or m.words at d → words_of now ppn index ≡ Some word
-unfolding words_of
+    → word ≡ get_or m.words at d → memory_words now ppn index ≡ Some word
+unfolding memory_words
 word-held m now ppn index at n k word d held e is n-is at-is k-is got =
     let place : at ≡ word_index m.layout ppn index = at-is ∙ ap (λ x. (ppn - m.layout.base) * x + k) n-is ∙ ap (λ x. (ppn - m.layout.base) * 512 + x) k-is in
     let here = in-memory m.layout ppn index (ap (λ (x : Held). is_word x.layout ppn index) e ∙ is) in

@@ -33,7 +33,7 @@ use Rattle.spaces.specs.Edits.{Store, place_of, is_kernel, path_end}
 use Rattle.spaces.specs.Tree.{start_level, IsTree, IsAtHome}
 use Rattle.walk.specs.Pointers.{pointed, pointed_kind}
 use Rattle.spaces.specs.Accepted.{Accepted, Writes, adds_table, adds_leaf, removes_leaf, changes_leaf}
-use Rattle.spaces.specs.Applied.{words_after, holders_after}
+use Rattle.spaces.specs.Applied.{words_after_store, holders_after}
 use Rattle.spaces.specs.Effects.{IsEdit, IsEnd, HasEffect, IsAbout, RemovesPage}
 use Rattle.spaces.proofs.Trees.{kind-zero}
 use Rattle.spaces.proofs.EntryWords.{kind-stored, pointed-table}
@@ -51,7 +51,7 @@ module _ (l : Layout) (words : Tables) (holders : Holders) (hart : ℕ) (wish : 
   pub at-home : Accepted l words (unused_spare l holders (home_of l (place_of wish))) (home_of l (place_of wish)) wish store
   at-home = subst (λ h. Accepted l words (unused_spare l holders h) h wish store) edit-accepted.home edit-accepted
 
-  pub edit-tree : IsTree l (words_after words store) (holders_after holders (place_of wish) store)
+  pub edit-tree : IsTree l (words_after_store words store) (holders_after holders (place_of wish) store)
   edit-tree = keeps-tree l e.layout words holders e.tree wish e.has store at-home
 
   pub edit-home : IsAtHome l (home_of l (place_of wish)) store.ppn
@@ -61,7 +61,7 @@ effect-by : (l : Layout) (words : Tables) (holders : Holders) (hart : ℕ) (wish
     → (acc : Accepted l words (unused_spare l holders (home_of l (place_of wish))) (home_of l (place_of wish)) wish store)
     → (new : ℕ) → new ≡ store.word → Writes (unused_spare l holders (home_of l (place_of wish))) (start_level l (place_of wish) - acc.depth) acc.old wish new
     → IsLeafStore acc.old store.word ⊎ IsPointerStore l (home_of l (place_of wish)) holders (start_level l (place_of wish) - acc.depth) acc.old store.word
-    → HasEffect l wish store words (words_after words store)
+    → HasEffect l wish store words (words_after_store words store)
 effect-by l words holders hart wish store e acc new is (adds_table place page ppn flags frame above zero-word spare) (inr p) = (
   (λ some. same-maps l e.layout words holders e.tree (Map place page ppn flags) e.has (edit-fits l words (unused_spare l holders hart) hart _ store e.is e.page) store acc p),
   (λ none. absurd (let bad : true ≡ false = ap is_some (sym p.now) ∙ none in cc)),
@@ -86,13 +86,13 @@ effect-by l words holders hart wish store e acc new is (changes_leaf place page 
 effect-by l words holders hart wish store e acc new is (changes_leaf place page flags q f at kind ok) (inr p) =
     absurd (let bad : kinds.Leaf q f ≡ kinds.Invalid = sym kind ∙ ap kind_of p.was ∙ kind-zero in cc)
 
-pub edit-effect : (l : Layout) (words : Tables) (holders : Holders) (hart : ℕ) (wish : Wish) (store : Store) → IsEdit l words holders hart wish store → HasEffect l wish store words (words_after words store)
+pub edit-effect : (l : Layout) (words : Tables) (holders : Holders) (hart : ℕ) (wish : Wish) (store : Store) → IsEdit l words holders hart wish store → HasEffect l wish store words (words_after_store words store)
 edit-effect l words holders hart wish store e =
     let acc = at-home l words holders hart wish store e in
     effect-by l words holders hart wish store e acc store.word refl acc.writes (leaf-or-pointer l e.layout _ _ _ acc.old wish store.word acc.writes)
 
 -- and in any memory whose words are those after the store
-pub effect-in : (l : Layout) (words : Tables) (holders : Holders) (hart : ℕ) (wish : Wish) (store : Store) (new : Tables) → ((ppn i : ℕ) → new ppn i ≡ words_after words store ppn i)
+pub effect-in : (l : Layout) (words : Tables) (holders : Holders) (hart : ℕ) (wish : Wish) (store : Store) (new : Tables) → ((ppn i : ℕ) → new ppn i ≡ words_after_store words store ppn i)
     → IsEdit l words holders hart wish store → HasEffect l wish store words new
 effect-in l words holders hart wish store new same e =
     subst (HasEffect l wish store words) (sym (fun_ext (λ ppn. fun_ext (λ i. same ppn i)))) (edit-effect l words holders hart wish store e)
@@ -134,19 +134,19 @@ end-leads scheme words root va lowest low =
     pointed-none (Some w) not-table = kind-none (kind_of w) not-table
 
 pub unmapped-gone : (l : Layout) (words : Tables) (holders : Holders) (hart : ℕ) (place : Place) (page : Span) (store : Store) → IsEdit l words holders hart (Unmap place page) store
-    → (s number ppn : ℕ) (flags : PteFlags) (global : Bool) → s < length l.homes → IsAbout place page s number → Maps l.scheme (words_after words store) (root_ppn l s) number ppn flags global → ⊥
+    → (s number ppn : ℕ) (flags : PteFlags) (global : Bool) → s < length l.homes → IsAbout place page s number → Maps l.scheme (words_after_store words store) (root_ppn l s) number ppn flags global → ⊥
 unmapped-gone l words holders hart place page store e s number ppn flags global has is-about mapped =
-    let gone : RemovesPage l place page words (words_after words store) = edit-effect l words holders hart (Unmap place page) store e in
+    let gone : RemovesPage l place page words (words_after_store words store) = edit-effect l words holders hart (Unmap place page) store e in
     ((gone s number ppn flags global has).0 mapped).1 is-about
 
 pub map-keeps : (l : Layout) (words : Tables) (holders : Holders) (hart : ℕ) (place : Place) (page : Span) (first : ℕ) (f : PteFlags) (store : Store) → IsEdit l words holders hart (Map place page first f) store
-    → (s number ppn : ℕ) (flags : PteFlags) (global : Bool) → s < length l.homes → Maps l.scheme words (root_ppn l s) number ppn flags global → Maps l.scheme (words_after words store) (root_ppn l s) number ppn flags global
+    → (s number ppn : ℕ) (flags : PteFlags) (global : Bool) → s < length l.homes → Maps l.scheme words (root_ppn l s) number ppn flags global → Maps l.scheme (words_after_store words store) (root_ppn l s) number ppn flags global
 map-keeps l words holders hart place page first f store e s number ppn flags global has mapped = by_pointer (pointed (Some store.word)) refl
   where
-    effect : HasEffect l (Map place page first f) store words (words_after words store)
+    effect : HasEffect l (Map place page first f) store words (words_after_store words store)
     effect = edit-effect l words holders hart (Map place page first f) store e
 
-    by_pointer : (o : Option ℕ) → pointed (Some store.word) ≡ o → Maps l.scheme (words_after words store) (root_ppn l s) number ppn flags global
+    by_pointer : (o : Option ℕ) → pointed (Some store.word) ≡ o → Maps l.scheme (words_after_store words store) (root_ppn l s) number ppn flags global
     by_pointer (Some t) is = (effect.0 (ap is_some is) s number ppn flags global has).1 mapped
     by_pointer None is = (effect.1 (ap is_some is) s number ppn flags global has).1 (inl mapped)
 

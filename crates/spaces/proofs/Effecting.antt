@@ -17,7 +17,7 @@ use Rattle.spaces.specs.Edits.{Store, place_of, page_of, is_kernel}
 use Rattle.spaces.specs.Tree.{start_level, start_table, IsIn, table_on, IsHome, IsTree}
 use Rattle.walk.specs.Pointers.{pointed, pointed_kind, table_below}
 use Rattle.spaces.specs.Accepted.{Accepted}
-use Rattle.spaces.specs.Applied.{words_after, holders_after, seven}
+use Rattle.spaces.specs.Applied.{words_after_store, holders_after, seven}
 use Rattle.spaces.specs.Effects.{HangsBelow, IsPart, IsAbout, SameMaps, AddsPage, RemovesPage, ChangesFlags}
 use Rattle.spaces.proofs.Homes.{home-unique}
 use Rattle.spaces.proofs.Paths.{above, on, some-same, paths-agree, table_below-like, SamePath, vpn-below}
@@ -55,7 +55,7 @@ one-place-in l fits Kernel Kernel s va p q within within' = refl
 
 module _ (l : Layout) (fits : IsLayout l) (words : Tables) (holders : Holders) (tree : IsTree l words holders) (wish : Wish) (has : HasPlace l (place_of wish)) (is-page : IsPageOf l.scheme (page_of wish))
     (store : Store) (acc : Accepted l words (unused_spare l holders (home_of l (place_of wish))) (home_of l (place_of wish)) wish store) where
-  new-tree : IsTree l (words_after words store) (holders_after holders (place_of wish) store)
+  new-tree : IsTree l (words_after_store words store) (holders_after holders (place_of wish) store)
   new-tree = keeps-tree l fits words holders tree wish has store acc
 
   -- a path that reaches the word is the page's, also if it is of another home
@@ -116,22 +116,22 @@ module _ (l : Layout) (fits : IsLayout l) (words : Tables) (holders : Holders) (
         in-same Kernel a b e h = subst (λ v. first_window_slot l ≤ v) (sym e) h
 
     module _ (leaf-store : IsLeafStore acc.old store.word) where
-      same-tables : (place : Place) (va n : ℕ) → table_on l (words_after words store) place va n ≡ table_on l words place va n
+      same-tables : (place : Place) (va n : ℕ) → table_on l (words_after_store words store) place va n ≡ table_on l words place va n
       same-tables place va n =
-          table_below-like words (words_after words store) va (start_level l place) (start_table l place va) n
+          table_below-like words (words_after_store words store) va (start_level l place) (start_table l place va) n
           (pointed-stored words store.ppn store.index store.word (leaf-store.now ∙ sym (ap pointed acc.word ∙ leaf-store.was)))
 
       -- a leaf elsewhere is in both
       new-old : (s va level t entry leaf : ℕ) (flags : PteFlags) → (store.ppn ≡ t → store.index ≡ vpn_of va level → ⊥)
-          → LeafOn l (words_after words store) s va level t entry leaf flags → LeafOn l words s va level t entry leaf flags
+          → LeafOn l (words_after_store words store) s va level t entry leaf flags → LeafOn l words s va level t entry leaf flags
       new-old s va level t entry leaf flags apart o =
-          leaf-carried l (words_after words store) words s va level t entry leaf flags o (sym (same-tables o.place va (start_level l o.place - level)))
+          leaf-carried l (words_after_store words store) words s va level t entry leaf flags o (sym (same-tables o.place va (start_level l o.place - level)))
           (sym (stored-there words store.ppn store.index store.word t (vpn_of va level) apart))
 
       old-new : (s va level t entry leaf : ℕ) (flags : PteFlags) → (store.ppn ≡ t → store.index ≡ vpn_of va level → ⊥)
-          → LeafOn l words s va level t entry leaf flags → LeafOn l (words_after words store) s va level t entry leaf flags
+          → LeafOn l words s va level t entry leaf flags → LeafOn l (words_after_store words store) s va level t entry leaf flags
       old-new s va level t entry leaf flags apart o =
-          leaf-carried l words (words_after words store) s va level t entry leaf flags o (same-tables o.place va (start_level l o.place - level))
+          leaf-carried l words (words_after_store words store) s va level t entry leaf flags o (same-tables o.place va (start_level l o.place - level))
           (stored-there words store.ppn store.index store.word t (vpn_of va level) apart)
 
       -- a leaf of the page in the old words is the one in that word
@@ -164,7 +164,7 @@ module _ (l : Layout) (fits : IsLayout l) (words : Tables) (holders : Holders) (
 
       -- the leaf in that word, for an address of the page
       leaf-here : (s va number entry leaf : ℕ) (flags : PteFlags) → page_number va ≡ number → IsAbout (place_of wish) (page_of wish) s number
-          → entry ≡ store.word → kind_of entry ≡ kinds.Leaf leaf flags → LeafOn l (words_after words store) s va (level_of (page_of wish).size) store.ppn entry leaf flags
+          → entry ≡ store.word → kind_of entry ≡ kinds.Leaf leaf flags → LeafOn l (words_after_store words store) s va (level_of (page_of wish).size) store.ppn entry leaf flags
       leaf-here s va number entry leaf flags of-page is-about is kind =
           let inside = same-path-in s va number of-page is-about.1 in
           let depth : acc.depth ≡ start_level l (place_of wish) - level_of (page_of wish).size = omega (arith, acc.deep) in
@@ -180,7 +180,7 @@ module _ (l : Layout) (fits : IsLayout l) (words : Tables) (holders : Holders) (
           }
 
       -- the entry of a new leaf in that word
-      entry-here : (s va level t entry leaf : ℕ) (flags : PteFlags) → LeafOn l (words_after words store) s va level t entry leaf flags → store.ppn ≡ t → store.index ≡ vpn_of va level → entry ≡ store.word
+      entry-here : (s va level t entry leaf : ℕ) (flags : PteFlags) → LeafOn l (words_after_store words store) s va level t entry leaf flags → store.ppn ≡ t → store.index ≡ vpn_of va level → entry ≡ store.word
       entry-here s va level t entry leaf flags o same-table same-index =
           some-same _ _ (sym o.word ∙ stored-here words store.ppn store.index store.word t (vpn_of va level) same-table same-index)
 
@@ -189,20 +189,20 @@ module _ (l : Layout) (fits : IsLayout l) (words : Tables) (holders : Holders) (
       entry-was s va level t entry leaf flags o same-table same-index =
           some-same _ _ (sym o.word ∙ ap (λ u. word_at words va level u) (sym same-table) ∙ ap (words store.ppn) (sym same-index) ∙ acc.word)
 
-      on-old : (s va level t entry leaf : ℕ) (flags : PteFlags) (o : LeafOn l (words_after words store) s va level t entry leaf flags) → table_on l words o.place va (start_level l o.place - level) ≡ Some t
+      on-old : (s va level t entry leaf : ℕ) (flags : PteFlags) (o : LeafOn l (words_after_store words store) s va level t entry leaf flags) → table_on l words o.place va (start_level l o.place - level) ≡ Some t
       on-old s va level t entry leaf flags o = sym (same-tables o.place va (start_level l o.place - level)) ∙ o.on
 
       -- a leaf in place of 0
       pub adds-page : (first : ℕ) (fl : PteFlags) → acc.old ≡ 0 → kind_of store.word ≡ kinds.Leaf first (seven fl) → first % level_pages (level_of (page_of wish).size) ≡ 0
-          → AddsPage l (place_of wish) (page_of wish) first fl words (words_after words store)
+          → AddsPage l (place_of wish) (page_of wish) first fl words (words_after_store words store)
       unfolding new-old old-new leaf-here
       adds-page first fl zero-old kind aligned s number ppn f global root = (forward, backward)
         where
-          forward : Maps l.scheme (words_after words store) (root_ppn l s) number ppn f global
+          forward : Maps l.scheme (words_after_store words store) (root_ppn l s) number ppn f global
               → Maps l.scheme words (root_ppn l s) number ppn f global
               ⊎ (IsAbout (place_of wish) (page_of wish) s number × (ppn ≡ first + (number - page_number (page_of wish).base)) × (f ≡ seven fl) × (global ≡ is_kernel (place_of wish)))
           forward mapped =
-              let m = member-of l fits (words_after words store) (holders_after holders (place_of wish) store) new-tree s number ppn f global root mapped in
+              let m = member-of l fits (words_after_store words store) (holders_after holders (place_of wish) store) new-tree s number ppn f global root mapped in
               elim (is-word store.ppn store.index m.table (vpn_of m.va m.level)) [
                 | inl same ↦
                     let is-about = about s m.va m.level m.table number m.on.place m.on.hangs m.on.has m.on.within m.on.low (on-old s m.va m.level m.table m.entry m.leaf f m.on) m.canonical m.of_page same.0 same.1 in
@@ -215,12 +215,12 @@ module _ (l : Layout) (fits : IsLayout l) (words : Tables) (holders : Holders) (
                     in
                     inr (is-about.0, m.place ∙ ap (λ n. n + number % level_pages m.level) leaves ∙ ap (λ n. first + n) part, flags-same, m.reach ∙ ap is_kernel is-about.2)
                 | inr apart ↦
-                    inl (maps-of l fits words holders tree s number ppn f global root (moved l (words_after words store) words s number ppn f global m (new-old s m.va m.level m.table m.entry m.leaf f apart m.on) refl))
+                    inl (maps-of l fits words holders tree s number ppn f global root (moved l (words_after_store words store) words s number ppn f global m (new-old s m.va m.level m.table m.entry m.leaf f apart m.on) refl))
               ]
 
           backward : Maps l.scheme words (root_ppn l s) number ppn f global
               ⊎ (IsAbout (place_of wish) (page_of wish) s number × (ppn ≡ first + (number - page_number (page_of wish).base)) × (f ≡ seven fl) × (global ≡ is_kernel (place_of wish)))
-              → Maps l.scheme (words_after words store) (root_ppn l s) number ppn f global
+              → Maps l.scheme (words_after_store words store) (root_ppn l s) number ppn f global
           backward (inl mapped) =
               let m = member-of l fits words holders tree s number ppn f global root mapped in
               let apart : store.ppn ≡ m.table → store.index ≡ vpn_of m.va m.level → ⊥ = λ p q.
@@ -228,10 +228,10 @@ module _ (l : Layout) (fits : IsLayout l) (words : Tables) (holders : Holders) (
               let bad : kinds.Leaf m.leaf f ≡ kinds.Invalid = sym m.on.kind ∙ ap kind_of (is ∙ zero-old) ∙ kind-zero in
               cc
               in
-              maps-of l fits (words_after words store) (holders_after holders (place_of wish) store) new-tree s number ppn f global root (moved l words (words_after words store) s number ppn f global m (old-new s m.va m.level m.table m.entry m.leaf f apart m.on) refl)
+              maps-of l fits (words_after_store words store) (holders_after holders (place_of wish) store) new-tree s number ppn f global root (moved l words (words_after_store words store) s number ppn f global m (old-new s m.va m.level m.table m.entry m.leaf f apart m.on) refl)
           backward (inr new) =
               let part = place-of-part (page_of wish).base (page_of wish).size number is-page.aligned new.0.1 in
-              maps-of l fits (words_after words store) (holders_after holders (place_of wish) store) new-tree s number ppn f global root (record {
+              maps-of l fits (words_after_store words store) (holders_after holders (place_of wish) store) new-tree s number ppn f global root (record {
                 va = number * 4096;
                 level = level_of (page_of wish).size;
                 table = store.ppn;
@@ -246,42 +246,42 @@ module _ (l : Layout) (fits : IsLayout l) (words : Tables) (holders : Holders) (
               })
 
       -- 0 in place of a leaf
-      pub removes-page : store.word ≡ 0 → RemovesPage l (place_of wish) (page_of wish) words (words_after words store)
+      pub removes-page : store.word ≡ 0 → RemovesPage l (place_of wish) (page_of wish) words (words_after_store words store)
       unfolding new-old old-new
       removes-page zero-new s number ppn f global root = (forward, backward)
         where
-          forward : Maps l.scheme (words_after words store) (root_ppn l s) number ppn f global → Maps l.scheme words (root_ppn l s) number ppn f global × (IsAbout (place_of wish) (page_of wish) s number → ⊥)
+          forward : Maps l.scheme (words_after_store words store) (root_ppn l s) number ppn f global → Maps l.scheme words (root_ppn l s) number ppn f global × (IsAbout (place_of wish) (page_of wish) s number → ⊥)
           forward mapped =
-              let m = member-of l fits (words_after words store) (holders_after holders (place_of wish) store) new-tree s number ppn f global root mapped in
+              let m = member-of l fits (words_after_store words store) (holders_after holders (place_of wish) store) new-tree s number ppn f global root mapped in
               let apart : store.ppn ≡ m.table → store.index ≡ vpn_of m.va m.level → ⊥ = λ p q.
               let is = entry-here s m.va m.level m.table m.entry m.leaf f m.on p q in
               let bad : kinds.Leaf m.leaf f ≡ kinds.Invalid = sym m.on.kind ∙ ap kind_of (is ∙ zero-new) ∙ kind-zero in
               cc
               in
               let old = new-old s m.va m.level m.table m.entry m.leaf f apart m.on in (
-                maps-of l fits words holders tree s number ppn f global root (moved l (words_after words store) words s number ppn f global m old refl),
+                maps-of l fits words holders tree s number ppn f global root (moved l (words_after_store words store) words s number ppn f global m old refl),
                 (λ is-about. let same = the-word s m.va m.level m.table m.entry m.leaf number f old m.of_page is-about in apart same.0 same.1),
               )
 
-          backward : Maps l.scheme words (root_ppn l s) number ppn f global × (IsAbout (place_of wish) (page_of wish) s number → ⊥) → Maps l.scheme (words_after words store) (root_ppn l s) number ppn f global
+          backward : Maps l.scheme words (root_ppn l s) number ppn f global × (IsAbout (place_of wish) (page_of wish) s number → ⊥) → Maps l.scheme (words_after_store words store) (root_ppn l s) number ppn f global
           backward (mapped, not-about) =
               let m = member-of l fits words holders tree s number ppn f global root mapped in
               let apart : store.ppn ≡ m.table → store.index ≡ vpn_of m.va m.level → ⊥ = λ p q.
               not-about (about s m.va m.level m.table number m.on.place m.on.hangs m.on.has m.on.within m.on.low m.on.on m.canonical m.of_page p q).0
               in
-              maps-of l fits (words_after words store) (holders_after holders (place_of wish) store) new-tree s number ppn f global root (moved l words (words_after words store) s number ppn f global m (old-new s m.va m.level m.table m.entry m.leaf f apart m.on) refl)
+              maps-of l fits (words_after_store words store) (holders_after holders (place_of wish) store) new-tree s number ppn f global root (moved l words (words_after_store words store) s number ppn f global m (old-new s m.va m.level m.table m.entry m.leaf f apart m.on) refl)
 
       -- a leaf with other flags in place of a leaf
       pub changes-flags : (q : ℕ) (was fl : PteFlags) → kind_of acc.old ≡ kinds.Leaf q was → kind_of store.word ≡ kinds.Leaf q (seven fl)
-          → ChangesFlags l (place_of wish) (page_of wish) fl words (words_after words store)
+          → ChangesFlags l (place_of wish) (page_of wish) fl words (words_after_store words store)
       unfolding new-old old-new leaf-here
       changes-flags q was fl kind-was kind s number ppn f global root = (forward, backward)
         where
-          forward : Maps l.scheme (words_after words store) (root_ppn l s) number ppn f global
+          forward : Maps l.scheme (words_after_store words store) (root_ppn l s) number ppn f global
               → (Maps l.scheme words (root_ppn l s) number ppn f global × (IsAbout (place_of wish) (page_of wish) s number → ⊥))
               ⊎ (IsAbout (place_of wish) (page_of wish) s number × (f ≡ seven fl) × ((w : PteFlags) × Maps l.scheme words (root_ppn l s) number ppn w global))
           forward mapped =
-              let m = member-of l fits (words_after words store) (holders_after holders (place_of wish) store) new-tree s number ppn f global root mapped in
+              let m = member-of l fits (words_after_store words store) (holders_after holders (place_of wish) store) new-tree s number ppn f global root mapped in
               elim (is-word store.ppn store.index m.table (vpn_of m.va m.level)) [
                 | inl same ↦
                     let path = on-old s m.va m.level m.table m.entry m.leaf f m.on in
@@ -328,20 +328,20 @@ module _ (l : Layout) (fits : IsLayout l) (words : Tables) (holders : Holders) (
                 | inr apart ↦
                     let old = new-old s m.va m.level m.table m.entry m.leaf f apart m.on in
                     inl (
-                      maps-of l fits words holders tree s number ppn f global root (moved l (words_after words store) words s number ppn f global m old refl),
+                      maps-of l fits words holders tree s number ppn f global root (moved l (words_after_store words store) words s number ppn f global m old refl),
                       (λ is-about. let same = the-word s m.va m.level m.table m.entry m.leaf number f old m.of_page is-about in apart same.0 same.1),
                     )
               ]
 
           backward : (Maps l.scheme words (root_ppn l s) number ppn f global × (IsAbout (place_of wish) (page_of wish) s number → ⊥))
               ⊎ (IsAbout (place_of wish) (page_of wish) s number × (f ≡ seven fl) × ((w : PteFlags) × Maps l.scheme words (root_ppn l s) number ppn w global))
-              → Maps l.scheme (words_after words store) (root_ppn l s) number ppn f global
+              → Maps l.scheme (words_after_store words store) (root_ppn l s) number ppn f global
           backward (inl (mapped, not-about)) =
               let m = member-of l fits words holders tree s number ppn f global root mapped in
               let apart : store.ppn ≡ m.table → store.index ≡ vpn_of m.va m.level → ⊥ = λ p q.
               not-about (about s m.va m.level m.table number m.on.place m.on.hangs m.on.has m.on.within m.on.low m.on.on m.canonical m.of_page p q).0
               in
-              maps-of l fits (words_after words store) (holders_after holders (place_of wish) store) new-tree s number ppn f global root (moved l words (words_after words store) s number ppn f global m (old-new s m.va m.level m.table m.entry m.leaf f apart m.on) refl)
+              maps-of l fits (words_after_store words store) (holders_after holders (place_of wish) store) new-tree s number ppn f global root (moved l words (words_after_store words store) s number ppn f global m (old-new s m.va m.level m.table m.entry m.leaf f apart m.on) refl)
           backward (inr (is-about, flags-same, mapped)) =
               let m = member-of l fits words holders tree s number ppn mapped.0 global root mapped.1 in
               let same = the-word s m.va m.level m.table m.entry m.leaf number mapped.0 m.on m.of_page is-about in
@@ -350,7 +350,7 @@ module _ (l : Layout) (fits : IsLayout l) (words : Tables) (holders : Holders) (
               let kinds-same : kinds.Leaf m.leaf mapped.0 ≡ kinds.Leaf q was = sym m.on.kind ∙ ap kind_of is ∙ kind-was in
               let leaves : m.leaf ≡ q = cc in
               let kind-new : kind_of store.word ≡ kinds.Leaf m.leaf f = kind ∙ ap (λ n. kinds.Leaf n (seven fl)) (sym leaves) ∙ ap (kinds.Leaf m.leaf) (sym flags-same) in
-              maps-of l fits (words_after words store) (holders_after holders (place_of wish) store) new-tree s number ppn f global root (record {
+              maps-of l fits (words_after_store words store) (holders_after holders (place_of wish) store) new-tree s number ppn f global root (record {
                 va = m.va;
                 level = level_of (page_of wish).size;
                 table = store.ppn;
@@ -365,7 +365,7 @@ module _ (l : Layout) (fits : IsLayout l) (words : Tables) (holders : Holders) (
               })
 
   -- a pointer in place of 0
-  pub same-maps : IsPointerStore l (home_of l (place_of wish)) holders (start_level l (place_of wish) - acc.depth) acc.old store.word → SameMaps l words (words_after words store)
+  pub same-maps : IsPointerStore l (home_of l (place_of wish)) holders (start_level l (place_of wish) - acc.depth) acc.old store.word → SameMaps l words (words_after_store words store)
   same-maps p s number ppn f global root = (forward, backward)
     where
       home-tree : IsHome l words (home_of l (place_of wish)) holders
@@ -378,13 +378,13 @@ module _ (l : Layout) (fits : IsLayout l) (words : Tables) (holders : Holders) (
           → vpn_of va (start_level l place - n) ≡ store.index → n < start_level l place
       up = high l fits words holders tree wish has store acc p.high
 
-      forward : Maps l.scheme (words_after words store) (root_ppn l s) number ppn f global → Maps l.scheme words (root_ppn l s) number ppn f global
+      forward : Maps l.scheme (words_after_store words store) (root_ppn l s) number ppn f global → Maps l.scheme words (root_ppn l s) number ppn f global
       forward mapped =
-          let m = member-of l fits (words_after words store) (holders_after holders (place_of wish) store) new-tree s number ppn f global root mapped in
+          let m = member-of l fits (words_after_store words store) (holders_after holders (place_of wish) store) new-tree s number ppn f global root mapped in
           elim (table_on-pointer l fits words _ _ home-tree (place_of wish) store.ppn store.index store.word place-is p.frame p.room p.now up m.on.place m.va (start_level l m.on.place - m.level) m.table m.on.on) [
             | inr fresh ↦
                 let empty : Some m.entry ≡ Some 0 =
-                sym m.on.word ∙ ap (λ u. word_at (words_after words store) m.va m.level u) fresh
+                sym m.on.word ∙ ap (λ u. word_at (words_after_store words store) m.va m.level u) fresh
                 ∙ fresh-empty l fits words _ _ home-tree (place_of wish) store.ppn store.index store.word place-is p.frame p.room p.now up (vpn_of m.va m.level) (vpn-below m.va m.level)
                 in
                 absurd (let bad : kinds.Leaf m.leaf f ≡ kinds.Invalid = sym m.on.kind ∙ ap kind_of (some-same _ _ empty) ∙ kind-zero in cc)
@@ -394,7 +394,7 @@ module _ (l : Layout) (fits : IsLayout l) (words : Tables) (holders : Holders) (
                 let bad : None ≡ Some p.frame = ap pointed_kind (sym m.on.kind) ∙ ap pointed is ∙ p.now in
                 cc
                 in
-                maps-of l fits words holders tree s number ppn f global root (moved l (words_after words store) words s number ppn f global m (record {
+                maps-of l fits words holders tree s number ppn f global root (moved l (words_after_store words store) words s number ppn f global m (record {
                   place = m.on.place;
                   hangs = m.on.hangs;
                   has = m.on.has;
@@ -406,7 +406,7 @@ module _ (l : Layout) (fits : IsLayout l) (words : Tables) (holders : Holders) (
                 }) refl)
           ]
 
-      backward : Maps l.scheme words (root_ppn l s) number ppn f global → Maps l.scheme (words_after words store) (root_ppn l s) number ppn f global
+      backward : Maps l.scheme words (root_ppn l s) number ppn f global → Maps l.scheme (words_after_store words store) (root_ppn l s) number ppn f global
       backward mapped =
           let m = member-of l fits words holders tree s number ppn f global root mapped in
           let apart : store.ppn ≡ m.table → store.index ≡ vpn_of m.va m.level → ⊥ = λ a b.
@@ -414,7 +414,7 @@ module _ (l : Layout) (fits : IsLayout l) (words : Tables) (holders : Holders) (
           let bad : kinds.Leaf m.leaf f ≡ kinds.Invalid = sym m.on.kind ∙ ap kind_of (some-same _ _ is ∙ p.was) ∙ kind-zero in
           cc
           in
-          maps-of l fits (words_after words store) (holders_after holders (place_of wish) store) new-tree s number ppn f global root (moved l words (words_after words store) s number ppn f global m (record {
+          maps-of l fits (words_after_store words store) (holders_after holders (place_of wish) store) new-tree s number ppn f global root (moved l words (words_after_store words store) s number ppn f global m (record {
             place = m.on.place;
             hangs = m.on.hangs;
             has = m.on.has;

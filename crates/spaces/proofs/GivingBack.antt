@@ -12,7 +12,7 @@ use Rattle.spaces.specs.declared.places.Place.{Place}
 use Rattle.spaces.specs.declared.places.Place.TheVariants.{Space}
 use Rattle.spaces.specs.Layout.{frame_count, is_frame, root_ppn, user_slots}
 use Rattle.spaces.specs.Opening.{is_word}
-use Rattle.spaces.specs.Held.{Held, IsMemory, held_at, holders_of, is_own_at, word_index, words_of}
+use Rattle.spaces.specs.Held.{Held, IsMemory, held_at, holders_of, is_own_at, word_index, memory_words}
 use Rattle.spaces.specs.Holders.{Holders, is_held_for, is_word_of, zero_word, emptied, given_back}
 use Rattle.spaces.specs.Effects.{EmptiesSpace}
 use Rattle.spaces.specs.Tree.{IsTree}
@@ -170,8 +170,8 @@ module _ (m : Held) (ws : List ℕ) (hs : List (Option Place)) (s : ℕ)
   none-same true = refl
   none-same false = refl
 
-  pub words-emptied : (f i : ℕ) → words_of new f i ≡ emptied m.layout (holders_of m) s (words_of m) f i
-  unfolding words_of
+  pub words-emptied : (f i : ℕ) → memory_words new f i ≡ emptied m.layout (holders_of m) s (memory_words m) f i
+  unfolding memory_words
   words-emptied f i = by_word (is_word m.layout f i) refl
     where
       by_word : (b : Bool) → is_word m.layout f i ≡ b
@@ -189,7 +189,7 @@ module _ (m : Held) (ws : List ℕ) (hs : List (Option Place)) (s : ℕ)
       by_frame false = refl
 
   module _ (is : IsMemory m) (has : s < length m.layout.homes) (words-length : length ws ≡ length m.words) (holders-length : length hs ≡ length m.holders) where
-    tables : words_of new ≡ emptied m.layout (holders_of m) s (words_of m)
+    tables : memory_words new ≡ emptied m.layout (holders_of m) s (memory_words m)
     tables = fun_ext (λ f. fun_ext (λ i. words-emptied f i))
 
     pub memory-left : IsMemory new
@@ -198,20 +198,20 @@ module _ (m : Held) (ws : List ℕ) (hs : List (Option Place)) (s : ℕ)
       words = words-length ∙ is.words;
       holders = holders-length ∙ is.holders;
       tree =
-          subst (λ (x : Holders). IsTree m.layout (words_of new) x) (fun_ext (λ f. sym (holders-left f)))
+          subst (λ (x : Holders). IsTree m.layout (memory_words new) x) (fun_ext (λ f. sym (holders-left f)))
           (subst (λ (x : Tables). IsTree m.layout x (λ f. given_back (holders_of m f) s)) (sym tables)
-          (tree-emptied m.layout is.layout (words_of m) (holders_of m) is.tree s has));
+          (tree-emptied m.layout is.layout (memory_words m) (holders_of m) is.tree s has));
     }
 
-    pub space-emptied : EmptiesSpace m.layout s (words_of m) (words_of new)
-    space-emptied = subst (λ (x : Tables). EmptiesSpace m.layout s (words_of m) x) (sym tables) (empties-space m.layout is.layout (words_of m) (holders_of m) is.tree s has)
+    pub space-emptied : EmptiesSpace m.layout s (memory_words m) (memory_words new)
+    space-emptied = subst (λ (x : Tables). EmptiesSpace m.layout s (memory_words m) x) (sym tables) (empties-space m.layout is.layout (memory_words m) (holders_of m) is.tree s has)
 
 -- all of it, where the memory is seen as another value
 pub record Left (m now : Held) (ws : List ℕ) (hs : List (Option Place)) (s : ℕ) : Type 0 where
   pub memory : IsMemory (record { layout = m.layout; words = ws; holders = hs })
-  pub words : (f i : ℕ) → words_of (record { layout = m.layout; words = ws; holders = hs }) f i ≡ emptied now.layout (holders_of now) s (words_of now) f i
+  pub words : (f i : ℕ) → memory_words (record { layout = m.layout; words = ws; holders = hs }) f i ≡ emptied now.layout (holders_of now) s (memory_words now) f i
   pub holders : (f : ℕ) → holders_of (record { layout = m.layout; words = ws; holders = hs }) f ≡ given_back (holders_of now f) s
-  pub empties : EmptiesSpace now.layout s (words_of now) (words_of (record { layout = m.layout; words = ws; holders = hs }))
+  pub empties : EmptiesSpace now.layout s (memory_words now) (memory_words (record { layout = m.layout; words = ws; holders = hs }))
 
 pub left-of : (m now : Held) (ws : List ℕ) (hs : List (Option Place)) (s : ℕ) → m ≡ now → IsMemory m → s < length now.layout.homes
     → length ws ≡ length m.words → length hs ≡ length m.holders
@@ -222,9 +222,9 @@ left-of m now ws hs s e is has lw lh words holders =
     let here : s < length m.layout.homes = subst (λ (x : Held). s < length x.layout.homes) (sym e) has in
     record {
       memory = memory-left m ws hs s words holders is here lw lh;
-      words = λ f i. words-emptied m ws hs s words holders f i ∙ ap (λ (x : Held). emptied x.layout (holders_of x) s (words_of x) f i) e;
+      words = λ f i. words-emptied m ws hs s words holders f i ∙ ap (λ (x : Held). emptied x.layout (holders_of x) s (memory_words x) f i) e;
       holders = λ f. holders-left m ws hs s words holders f ∙ ap (λ (x : Held). given_back (holders_of x f) s) e;
-      empties = subst (λ (x : Held). EmptiesSpace x.layout s (words_of x) (words_of (record { layout = m.layout; words = ws; holders = hs }))) e (space-emptied m ws hs s words holders is here lw lh);
+      empties = subst (λ (x : Held). EmptiesSpace x.layout s (memory_words x) (memory_words (record { layout = m.layout; words = ws; holders = hs }))) e (space-emptied m ws hs s words holders is here lw lh);
     }
 
 -- the same of lists and a number that are equal

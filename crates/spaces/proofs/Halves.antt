@@ -1,4 +1,5 @@
--- Pages of 4 KiB by their numbers: the parts of a page, those of the user's half and of the window, and pages that overlap.
+-- Pages of 4 KiB by their numbers: the parts of a page, those of the user's half and of the window,
+-- and pages that overlap.
 use Rattle.std.proofs.Common.{◌≡◌, ℕ, ◌+◌, ◌-◌, ◌*◌, ◌%◌, ◌^◌, ◌≤◌, ◌<◌, false, inl, inr, arith}
 use Rattle.pte.specs.declared.address.PageSize.{PageSize}
 use Rattle.pte.specs.declared.address.PageSize.TheVariants.{Kib4, Mib2, Gib1, Gib512}

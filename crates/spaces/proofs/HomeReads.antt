@@ -14,7 +14,7 @@ use Rattle.spaces.specs.declared.places.Place.TheVariants.{Space, Kernel}
 use Rattle.spaces.specs.declared.faults.MapFault.{MapFault}
 use Rattle.spaces.specs.declared.edit_walks.Next.TheVariants as next
 use Rattle.spaces.specs.Layout.{Layout, HasPlace, home_of, is_frame, frame_count}
-use Rattle.spaces.specs.Held.{Held, IsLayout, IsMemory, holders_of, words_of}
+use Rattle.spaces.specs.Held.{Held, IsLayout, IsMemory, holders_of, memory_words}
 use Rattle.spaces.specs.Opening.{is_word}
 use Rattle.spaces.specs.Holders.{Holders, unused_spare}
 use Rattle.spaces.specs.Edits.{EditStage, IsStage, Store, edit_of, is_kernel, place_of, page_of, wish_fault}
@@ -170,8 +170,8 @@ module _ (m : Held) (held : IsMemory m) (hart : ℕ) where
   pub starts-home : (wish : Wish) (e : EditStage) → HasPlace m.layout (place_of wish) → Ok e ≡ edit_start m.layout hart wish → WaitsAtHome m.layout hart e
   starts-home wish e has started =
       let b = begun m.layout hart wish e (sym started) in
-      let less : hart < length m.layout.spares = let h = home-there m.layout held.layout (words_of m) (holders_of m) held.tree (place_of wish) has in omega (arith, b.unfaulted.home) in
-      begins m.layout (words_of m) hart (holders_of m) (held.tree hart less) held.layout wish e has (sym started)
+      let less : hart < length m.layout.spares = let h = home-there m.layout held.layout (memory_words m) (holders_of m) held.tree (place_of wish) has in omega (arith, b.unfaulted.home) in
+      begins m.layout (memory_words m) hart (holders_of m) (held.tree hart less) held.layout wish e has (sym started)
 
   pub there : (e : EditStage) (ppn index : ℕ) → WaitsAtHome m.layout hart e → ppn ≡ e.table → index ≡ index_of e → is_word m.layout ppn index ≡ true
   there e ppn index at p i =
@@ -188,6 +188,6 @@ module _ (m : Held) (held : IsMemory m) (hart : ℕ) where
       beyond (x ∷ xs) zero n less = omega arith
       beyond (x ∷ xs) (suc h) n less = let rest = beyond xs h n less in omega arith
 
-  pub stays-home : (e after : EditStage) (word : ℕ) → WaitsAtHome m.layout hart e → words_of m e.table (index_of e) ≡ Some word → Some after ≡ below_of e word → WaitsAtHome m.layout hart after
+  pub stays-home : (e after : EditStage) (word : ℕ) → WaitsAtHome m.layout hart e → memory_words m e.table (index_of e) ≡ Some word → Some after ≡ below_of e word → WaitsAtHome m.layout hart after
   stays-home e after word at read is =
-      below-home m.layout (words_of m) hart (holders_of m) (held.tree hart (hart-there e.table at.home)) e word after at read (sym is)
+      below-home m.layout (memory_words m) hart (holders_of m) (held.tree hart (hart-there e.table at.home)) e word after at read (sym is)

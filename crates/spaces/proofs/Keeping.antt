@@ -19,7 +19,7 @@ use Rattle.spaces.specs.Edits.{Store, place_of, page_of, is_kernel, is_wrong_glo
 use Rattle.spaces.specs.Tree.{start_level, IsIn, table_on, IsAtHome, of_spare, IsOwn, IsEntryOf, IsHome, IsTree}
 use Rattle.walk.specs.Pointers.{pointed, pointed_kind}
 use Rattle.spaces.specs.Accepted.{Accepted, Writes, adds_table, adds_leaf, removes_leaf, changes_leaf}
-use Rattle.spaces.specs.Applied.{words_after, points_at, holders_after, seven}
+use Rattle.spaces.specs.Applied.{words_after_store, points_at, holders_after, seven}
 use Rattle.walk.proofs.FoundMembers.{leaf-ppn}
 use Rattle.spaces.proofs.Homes.{home-unique, sum-within}
 use Rattle.spaces.proofs.Paths.{on, of-place, On, same-path, SamePath}
@@ -160,15 +160,15 @@ module _ (l : Layout) (fits : IsLayout l) (words : Tables) (holders : Holders) (
   holders-pointer : (p : ℕ) → pointed (Some store.word) ≡ Some p → holders_after holders (place_of wish) store ≡ (λ ppn. cond (p == ppn) (Some (place_of wish)) (holders ppn))
   holders-pointer p e = ap (λ o. λ ppn. cond (points_at o ppn) (Some (place_of wish)) (holders ppn)) e
 
-  pub keeps-home : IsHome l (words_after words store) (home_of l (place_of wish)) (holders_after holders (place_of wish) store)
+  pub keeps-home : IsHome l (words_after_store words store) (home_of l (place_of wish)) (holders_after holders (place_of wish) store)
   keeps-home =
       let at = tree _ (home-there l fits words holders tree (place_of wish) has) in
       elim (leaf-or-pointer l fits _ _ _ acc.old wish store.word acc.writes) [
         | inl leaf ↦
-            subst (IsHome l (words_after words store) (home_of l (place_of wish))) (sym (holders-leaf leaf.now))
+            subst (IsHome l (words_after_store words store) (home_of l (place_of wish))) (sym (holders-leaf leaf.now))
             (home-leaf l fits words _ _ at (place_of wish) store.ppn store.index store.word (is-place leaf.was leaf.entry) leaf.now)
         | inr p ↦
-            subst (IsHome l (words_after words store) (home_of l (place_of wish))) (sym (holders-pointer _ p.now))
+            subst (IsHome l (words_after_store words store) (home_of l (place_of wish))) (sym (holders-pointer _ p.now))
             (home-pointer l fits words _ _ at (place_of wish) store.ppn store.index store.word (is-place (ap (λ w. pointed (Some w)) p.was ∙ pointed-zero) p.entry) p.frame p.room p.now (high p.high))
       ]
 
@@ -190,11 +190,11 @@ module _ (l : Layout) (fits : IsLayout l) (words : Tables) (holders : Holders) (
       by_test true e = let same : place_of wish ≡ place = cc in absurd (apart (sym home ∙ ap (home_of l) (sym same)))
       by_test false e = e
 
-  pub keeps-tree : IsTree l (words_after words store) (holders_after holders (place_of wish) store)
+  pub keeps-tree : IsTree l (words_after_store words store) (holders_after holders (place_of wish) store)
   keeps-tree h less = elim (cases_eq h (home_of l (place_of wish))) [
-    | inl same ↦ subst (λ k. IsHome l (words_after words store) k (holders_after holders (place_of wish) store)) (sym same) keeps-home
+    | inl same ↦ subst (λ k. IsHome l (words_after_store words store) k (holders_after holders (place_of wish) store)) (sym same) keeps-home
     | inr apart ↦
-        home-same l fits words (words_after words store) h holders (holders_after holders (place_of wish) store) (tree h less)
+        home-same l fits words (words_after_store words store) h holders (holders_after holders (place_of wish) store) (tree h less)
         (λ f i home'. stored-there words store.ppn store.index store.word f i
         (λ is _. absurd (apart (home-unique l h _ f home' (subst (IsAtHome l (home_of l (place_of wish))) is there.home)))))
         (λ n below. other-kept h n apart below)

@@ -74,7 +74,8 @@ module _ (m : Held) (marks : ℕ → Bool) (marked : AreMarked marks m.holders) 
   spare-is None is = sym (unused-none is)
   spare-is (Some n) is = sym (unused-one n is)
 
--- so the lowest frame that is in use for nothing, among those of a hart, is its lowest unused spare frame
+-- so the lowest frame that is in use for nothing, among those of a hart, is its lowest unused spare
+-- frame
 pub spare-found : (m now : Held) (first count h : ℕ) (found : Option ℕ) → m ≡ now → length m.holders ≡ frame_count m.layout → first + count ≤ frame_count m.layout
     → first ≡ m.layout.window + length m.layout.homes + sum (take h m.layout.spares) → count ≡ slice_index m.layout.spares h
     → IsLowest (is_unused_in m.holders) first (first + count) found → frame-at m.layout.base found ≡ spare_of now h

@@ -14,7 +14,7 @@ use Rattle.spaces.specs.Layout.{Layout, layout_of, frame_count, is_frame}
 use Rattle.spaces.specs.Limits.{MeetsLimits}
 use Rattle.spaces.specs.declared.configuration.TheConstants.{MAX_FRAMES}
 use Rattle.spaces.specs.Opening.{first_word, first_words, is_word, opening}
-use Rattle.spaces.specs.Held.{Held, IsLayout, word_index, words_of}
+use Rattle.spaces.specs.Held.{Held, IsLayout, word_index, memory_words}
 
 pub length-first_words : (l : Layout) (n : ℕ) → length (first_words l n) ≡ n
 length-first_words l zero = refl
@@ -34,8 +34,8 @@ slice_get-first_words l (suc n) k h =
           slice_get-last (first_words l n) _ k (omega arith) ∙ ap (λ m. Some (first_word l (l.base + m / TABLE_LENGTH) (m % TABLE_LENGTH))) last
     ]
 
-pub words-open : (l : Layout) (holders : List (Option Place)) (ppn i : ℕ) → words_of (record { layout = l; words = first_words l (frame_count l * TABLE_LENGTH); holders = holders }) ppn i ≡ opening l ppn i
-unfolding words_of
+pub words-open : (l : Layout) (holders : List (Option Place)) (ppn i : ℕ) → memory_words (record { layout = l; words = first_words l (frame_count l * TABLE_LENGTH); holders = holders }) ppn i ≡ opening l ppn i
+unfolding memory_words
 words-open l holders ppn i = by_test (is_word l ppn i) refl
   where
     there : is_word l ppn i ≡ true → slice_get (first_words l (frame_count l * TABLE_LENGTH)) (word_index l ppn i) ≡ Some (first_word l ppn i)

@@ -15,7 +15,7 @@ use Rattle.spaces.specs.Limits.{MeetsLimits}
 use Rattle.spaces.specs.declared.configuration.TheConstants.{MAX_FRAMES}
 use Rattle.spaces.specs.Holders.{Holders}
 use Rattle.spaces.specs.Opening.{first_word, is_word, opening, root_word}
-use Rattle.spaces.specs.Held.{IsLayout, IsMemory, held_at, holders_of, words_of}
+use Rattle.spaces.specs.Held.{IsLayout, IsMemory, held_at, holders_of, memory_words}
 use Rattle.spaces.specs.Tree.{IsTree, of_window}
 use Rattle.spaces.proofs.Opened.{length-first_words, layout-meets, words-open, opened}
 use Rattle.spaces.proofs.OpeningTree.{frame-is, opening-tree}
@@ -42,7 +42,7 @@ memory-open c h = record {
   words = length-first_words (layout_of c) _;
   holders = length-replicate _ None;
   tree =
-      subst (λ (x : Holders). IsTree (layout_of c) (words_of (opened c)) x) (fun_ext (λ f. sym (holders-open c f)))
+      subst (λ (x : Holders). IsTree (layout_of c) (memory_words (opened c)) x) (fun_ext (λ f. sym (holders-open c f)))
       (subst (λ (x : Tables). IsTree (layout_of c) x (λ _. None)) (fun_ext (λ f. fun_ext (λ i. sym (words-open (layout_of c) _ f i)))) (opening-tree (layout_of c) (layout-meets c h)));
 }
 

@@ -18,7 +18,7 @@ use Rattle.spaces.specs.declared.faults.MapFault.{MapFault}
 use Rattle.spaces.specs.declared.faults.MapFault.TheVariants.{NotHome}
 use Rattle.spaces.specs.declared.edit_walks.Next.TheVariants as next
 use Rattle.spaces.specs.Layout.{Layout, home_of, root_ppn}
-use Rattle.spaces.specs.Held.{Held, IsLayout, IsMemory, holders_of, spare_of, words_of}
+use Rattle.spaces.specs.Held.{Held, IsLayout, IsMemory, holders_of, spare_of, memory_words}
 use Rattle.spaces.specs.Holders.{Holders}
 use Rattle.spaces.specs.Edits.{EditStage, IsStage, Store, is_kernel, place_of, page_of, end_at, path_end, path_root, page_word, upper_word, due_word, store_at, store_due, unless, wish_fault, edit_of}
 use Rattle.spaces.specs.EditStages.{Continues, answer_from, answer_of, at_home_fault, bare_layout, below_of, due_here, edit_next, edit_start, index_of, more_or_end, next_of, path_start, stage_below, start_at_home, table_fault, unless_fault}
@@ -134,9 +134,9 @@ module _ (l : Layout) (fits : IsLayout l) (words : Tables) (holders : Holders) (
 
 -- the same as the steps of a loop
 pub begun-as : (m : Held) → IsMemory m → (hart : ℕ) (wish : Wish) (r : Result EditStage MapFault)
-    → r ≡ edit_start m.layout hart wish → answer_of r (words_of m) (spare_of m hart) ≡ edit_of m.layout (words_of m) (spare_of m hart) hart wish
+    → r ≡ edit_start m.layout hart wish → answer_of r (memory_words m) (spare_of m hart) ≡ edit_of m.layout (memory_words m) (spare_of m hart) hart wish
 begun-as m held hart wish r e =
-    ap (λ x. answer_of x (words_of m) (spare_of m hart)) e ∙ starts m.layout held.layout (words_of m) (holders_of m) held.tree hart wish (spare_of m hart)
+    ap (λ x. answer_of x (memory_words m) (spare_of m hart)) e ∙ starts m.layout held.layout (memory_words m) (holders_of m) held.tree hart wish (spare_of m hart)
 
 module _ (e : EditStage) (words : Tables) (spare : Option ℕ) (word ppn index : ℕ) (stage : IsStage e) (p : ppn ≡ e.table) (i : index ≡ index_of e) (is : words ppn index ≡ Some word) where
   pub read-there : words e.table (index_of e) ≡ Some word

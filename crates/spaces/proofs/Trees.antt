@@ -78,7 +78,8 @@ module _ (l : Layout) (fits : IsLayout l) (words words' : Tables) (h : ℕ) (hol
 upper-apart : (l : Layout) (f i s j : ℕ) → s < length l.homes → IsOwn l f i → user_slots ≤ j → f ≡ root_ppn l s → i ≡ j → ⊥
 upper-apart l f i s j has own from is at = let low : i < user_slots = own (ap (is_root l) is ∙ root-is l s has) in omega arith
 
--- what both kinds of store know of the word that is written: where it stands, and that it is no empty table's
+-- what both kinds of store know of the word that is written: where it stands, and that it is no
+-- empty table's
 pub record IsPlace (l : Layout) (words : Tables) (h : ℕ) (holders : Holders) (place : Place) (f i x : ℕ) : Type 0 where
   pub at : IsAtHome l h f
   pub own : IsOwn l f i

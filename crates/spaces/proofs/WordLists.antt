@@ -11,7 +11,7 @@ use Rattle.walk.specs.Stores.{stored}
 use Rattle.spaces.specs.declared.places.Place.{Place}
 use Rattle.spaces.specs.Layout.{Layout, is_frame, frame_count}
 use Rattle.spaces.specs.Opening.{is_word}
-use Rattle.spaces.specs.Held.{word_index, words_of}
+use Rattle.spaces.specs.Held.{word_index, memory_words}
 use Rattle.spaces.proofs.Lists.{slice_get-front, slice_get-set_same, slice_get-set_other}
 use Rattle.spaces.proofs.Stored.{is-word, stored-here, stored-there}
 
@@ -30,11 +30,11 @@ pub ruleset in_memory = (in-memory)
 
 -- the words of the frames come first in the list, and more words may follow them
 abbrev pub listed : Layout → List ℕ → List (Option Place) → Tables
-listed l ws holders = words_of (record { layout = l; words = ws; holders = holders })
+listed l ws holders = memory_words (record { layout = l; words = ws; holders = holders })
 
 -- the holders say nothing of the words
 pub list-same : (l : Layout) (ws : List ℕ) (holders holders' : List (Option Place)) → listed l ws holders ≡ listed l ws holders'
-unfolding words_of
+unfolding memory_words
 list-same l ws holders holders' = refl
 
 module _ (l : Layout) (ws : List ℕ) (holders : List (Option Place)) (wide : frame_count l * TABLE_LENGTH ≤ length ws) (f i : ℕ) (is : is_word l f i ≡ true) where
@@ -42,12 +42,12 @@ module _ (l : Layout) (ws : List ℕ) (holders : List (Option Place)) (wide : fr
   index-there = let w = in-memory l f i is in omega (arith, wide, w.from, w.to, w.index)
 
   pub list-read : listed l ws holders f i ≡ Some (slice_index ws (word_index l f i))
-  unfolding words_of
+  unfolding memory_words
   list-read = ap (λ b. cond b (slice_get ws (word_index l f i)) None) is ∙ slice_get-get_or ws (word_index l f i) 0 index-there
 
   module _ (x : ℕ) where
     here : listed l (slice_set ws (word_index l f i) x) holders f i ≡ Some x
-    unfolding words_of
+    unfolding memory_words
     here = ap (λ b. cond b (slice_get (slice_set ws (word_index l f i) x) (word_index l f i)) None) is ∙ slice_get-set_same ws (word_index l f i) x index-there
 
     apart-index : (g k : ℕ) → is_word l g k ≡ true → (f ≡ g → i ≡ k → ⊥) → word_index l f i ≡ word_index l g k → ⊥
@@ -58,7 +58,7 @@ module _ (l : Layout) (ws : List ℕ) (holders : List (Option Place)) (wide : fr
         apart same (omega (arith, a.from, a.index, b.from, b.index))
 
     there : (g k : ℕ) → (f ≡ g → i ≡ k → ⊥) → listed l (slice_set ws (word_index l f i) x) holders g k ≡ listed l ws holders g k
-    unfolding words_of
+    unfolding memory_words
     there g k apart = by_test (is_word l g k) refl
       where
         by_test : (b : Bool) → is_word l g k ≡ b → cond b (slice_get (slice_set ws (word_index l f i) x) (word_index l g k)) None ≡ cond b (slice_get ws (word_index l g k)) None
@@ -79,7 +79,7 @@ module _ (l : Layout) (ws : List ℕ) (holders : List (Option Place)) (wide : fr
 
 -- words that follow those of the frames are of no table
 pub list-front : (l : Layout) (ws zs : List ℕ) (holders : List (Option Place)) → length ws ≡ frame_count l * TABLE_LENGTH → (f i : ℕ) → listed l (ws ++ zs) holders f i ≡ listed l ws holders f i
-unfolding words_of
+unfolding memory_words
 list-front l ws zs holders wide f i = by_test (is_word l f i) refl
   where
     by_test : (b : Bool) → is_word l f i ≡ b → cond b (slice_get (ws ++ zs) (word_index l f i)) None ≡ cond b (slice_get ws (word_index l f i)) None
@@ -88,7 +88,7 @@ list-front l ws zs holders wide f i = by_test (is_word l f i) refl
 
 -- and a store to one of them changes no table
 pub list-behind : (l : Layout) (ws : List ℕ) (holders : List (Option Place)) (k x : ℕ) → frame_count l * TABLE_LENGTH ≤ k → (f i : ℕ) → listed l (slice_set ws k x) holders f i ≡ listed l ws holders f i
-unfolding words_of
+unfolding memory_words
 list-behind l ws holders k x behind f i = by_test (is_word l f i) refl
   where
     by_test : (b : Bool) → is_word l f i ≡ b → cond b (slice_get (slice_set ws k x) (word_index l f i)) None ≡ cond b (slice_get ws (word_index l f i)) None

@@ -10,8 +10,8 @@ use Rattle.spaces.specs.Holders.{Holders}
 use Rattle.spaces.specs.Held.{Held, word_index}
 
 -- the words after a store
-abbrev pub words_after : Tables → Store → Tables
-words_after words store = stored words store.ppn store.index store.word
+abbrev pub words_after_store : Tables → Store → Tables
+words_after_store words store = stored words store.ppn store.index store.word
 
 -- a pointer leads to this PPN
 abbrev pub points_at : Option ℕ → ℕ → Bool

@@ -25,8 +25,8 @@ abbrev pub word_index : Layout → ℕ → ℕ → ℕ
 word_index l ppn i = (ppn - l.base) * TABLE_LENGTH + i
 
 -- the words as tables
-unfoldable pub words_of : Held → Tables
-words_of m ppn i =
+unfoldable pub memory_words : Held → Tables
+memory_words m ppn i =
     if is_word m.layout ppn i then slice_get m.words (word_index m.layout ppn i) else None
 
 -- the place that each frame is in use for, by its place in the list
@@ -65,11 +65,11 @@ pub record IsMemory (m : Held) : Type 0 where
   pub layout : IsLayout m.layout
   pub words : length m.words ≡ frame_count m.layout * TABLE_LENGTH
   pub holders : length m.holders ≡ frame_count m.layout
-  pub tree : IsTree m.layout (words_of m) (holders_of m)
+  pub tree : IsTree m.layout (memory_words m) (holders_of m)
 
 -- the store is what some wish takes of this memory
 pub record IsDue (m : Held) (store : Store) : Type 0 where
   pub hart : ℕ
   pub wish : Wish
   pub has : HasPlace m.layout (place_of wish)
-  pub is : edit_of m.layout (words_of m) (spare_of m hart) hart wish ≡ Ok store
+  pub is : edit_of m.layout (memory_words m) (spare_of m hart) hart wish ≡ Ok store

@@ -3,8 +3,8 @@
 ghost use Rattle.std.specs.Prelude.{◌≡◌, ◌<◌, ◌^◌, ◌-◌, ◌≤◌, IfOk, IfSome, ℕ};
 ghost use Rattle.pte.specs.declared.entry.TheConstants.{PPN_BITS};
 ghost use Rattle.spaces.specs.Layout.{HasPlace};
-ghost use Rattle.spaces.specs.Held.{holders_of, IsDue, spare_of, words_of};
-ghost use Rattle.spaces.specs.Applied.{holders_after, words_after};
+ghost use Rattle.spaces.specs.Held.{holders_of, IsDue, spare_of, memory_words};
+ghost use Rattle.spaces.specs.Applied.{holders_after, words_after_store};
 ghost use Rattle.spaces.specs.Effects.{HasEffect, IsEdit};
 ghost use Rattle.spaces.specs.declared.wishes.Wish.{Wish as WishOf};
 ghost use Rattle.spaces.specs.Edits.{edit_of, place_of};
@@ -95,7 +95,8 @@ fn spare_for(memory: &Memory, hart: u8, walk: &EditWalk) -> Option<u64>
 pub fn next_edit(memory: &Memory, hart: u8, wish: &Wish) -> Result<Edit, MapFault>
     requires { HasPlace memory.now.layout (place_of wish.now) }
     ensures outcome { result
-        ≡ edit_of memory.now.layout (words_of memory.now) (spare_of memory.now hart) hart wish.now }
+        ≡ edit_of memory.now.layout (memory_words memory.now) (spare_of memory.now hart) hart
+        wish.now }
     ensures due { IfOk result (IsDue memory.now) }
 {
     let mut walk = memory.begin(hart, wish)?;
@@ -123,7 +124,7 @@ pub fn next_map_edit(
 ) -> Result<Edit, MapFault>
     requires { HasPlace memory.now.layout place }
     ensures outcome { result
-        ≡ edit_of memory.now.layout (words_of memory.now) (spare_of memory.now hart) hart
+        ≡ edit_of memory.now.layout (memory_words memory.now) (spare_of memory.now hart) hart
         (wish.Map place page ppn flags) }
     ensures due { IfOk result (IsDue memory.now) }
 {
@@ -146,7 +147,7 @@ pub fn next_map_edit(
 pub fn unmap_edit(memory: &Memory, hart: u8, place: Place, page: Page) -> Result<Edit, MapFault>
     requires { HasPlace memory.now.layout place }
     ensures outcome { result
-        ≡ edit_of memory.now.layout (words_of memory.now) (spare_of memory.now hart) hart
+        ≡ edit_of memory.now.layout (memory_words memory.now) (spare_of memory.now hart) hart
         (wish.Unmap place page) }
     ensures due { IfOk result (IsDue memory.now) }
 {
@@ -166,7 +167,7 @@ pub fn protect_edit(
 ) -> Result<Edit, MapFault>
     requires { HasPlace memory.now.layout place }
     ensures outcome { result
-        ≡ edit_of memory.now.layout (words_of memory.now) (spare_of memory.now hart) hart
+        ≡ edit_of memory.now.layout (memory_words memory.now) (spare_of memory.now hart) hart
         (wish.Protect place page flags) }
     ensures due { IfOk result (IsDue memory.now) }
 {
@@ -179,13 +180,13 @@ pub fn apply(memory: &mut Memory, edit: Edit)
     requires { IsDue memory.old edit }
     ensures layout { memory.new.layout ≡ memory.old.layout }
     ensures words { (ppn i : ℕ)
-        → words_of memory.new ppn i ≡ words_after (words_of memory.old) edit ppn i }
+        → memory_words memory.new ppn i ≡ words_after_store (memory_words memory.old) edit ppn i }
     ensures holders { (ppn : ℕ)
         → holders_of memory.new ppn ≡ holders_after (holders_of memory.old) edit.place edit ppn }
     // what it does to the mappings of all roots, for what was wished
     ensures maps { (hart : ℕ) (w : WishOf)
-        → IsEdit memory.old.layout (words_of memory.old) (holders_of memory.old) hart w edit
-        → HasEffect memory.old.layout w edit (words_of memory.old) (words_of memory.new) }
+        → IsEdit memory.old.layout (memory_words memory.old) (holders_of memory.old) hart w edit
+        → HasEffect memory.old.layout w edit (memory_words memory.old) (memory_words memory.new) }
 {
     memory.store(edit.place, edit.ppn, edit.index, edit.word);
 }

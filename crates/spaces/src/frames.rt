@@ -8,7 +8,7 @@ ghost use Rattle.spaces.specs.declared.configuration.TheConstants.{MAX_FRAMES};
 ghost use Rattle.spaces.specs.Opening.{first_word, first_words, is_word, opening};
 ghost use Rattle.spaces.specs.Edits.{place_of};
 ghost use Rattle.spaces.specs.EditStages.{edit_start};
-ghost use Rattle.spaces.specs.Held.{holders_of, IsMemory, is_own_at, spare_of, word_index, words_of};
+ghost use Rattle.spaces.specs.Held.{holders_of, IsMemory, is_own_at, spare_of, word_index, memory_words};
 ghost use Rattle.spaces.specs.Holders.{given_back, is_held_for, zero_word};
 ghost use Rattle.spaces.specs.declared.places.Place.TheVariants as place;
 
@@ -134,7 +134,7 @@ impl Memory {
         ensures limits { OnOk result (MeetsLimits MAX_FRAMES config.now) }
         ensures layout { IfOk result (λ memory. memory.layout ≡ layout_of config.now) }
         ensures words { IfOk result (λ memory. (ppn i : ℕ)
-            → words_of memory ppn i ≡ opening (layout_of config.now) ppn i) }
+            → memory_words memory ppn i ≡ opening (layout_of config.now) ppn i) }
         ensures holders { IfOk result (λ memory. (ppn : ℕ) → holders_of memory ppn ≡ None) }
     {
         if !config.check() {
@@ -231,10 +231,10 @@ impl Memory {
 
     /// A word that is there.
     #[inline(always)]
-    #[tactic(auto, using(crate::proofs::WordLists::in_memory), unfolding(crate::specs::Held::words_of))]
+    #[tactic(auto, using(crate::proofs::WordLists::in_memory), unfolding(crate::specs::Held::memory_words))]
     pub(crate) fn word_there(&self, ppn: u64, index: u16) -> u64
         requires { is_word self.now.layout ppn index ≡ true }
-        ensures { words_of self.now ppn index ≡ Some result }
+        ensures { memory_words self.now ppn index ≡ Some result }
     {
         let at = (ppn - self.base) * u64::from(TABLE_LENGTH) + u64::from(index);
         self.words[at as usize]
@@ -261,7 +261,7 @@ impl Memory {
 impl Memory {
     ghost use Rattle.spaces.specs.Edits.{Store};
     ghost use Rattle.spaces.specs.Held.{IsDue};
-    ghost use Rattle.spaces.specs.Applied.{holders_after, words_after};
+    ghost use Rattle.spaces.specs.Applied.{holders_after, words_after_store};
 
     /// Stores one word; the table that it points to, if it does, is in use for the place from now
     /// on.
@@ -270,8 +270,8 @@ impl Memory {
             (record { place = place; ppn = ppn; index = index; word = word }) }
         ensures layout { self.new.layout ≡ self.old.layout }
         ensures words { (f i : ℕ)
-            → words_of self.new f i
-            ≡ words_after (words_of self.old)
+            → memory_words self.new f i
+            ≡ words_after_store (memory_words self.old)
             (record { place = place; ppn = ppn; index = index; word = word }) f i }
         ensures holders { (f : ℕ)
             → holders_of self.new f
@@ -329,12 +329,12 @@ impl Memory {
         requires { space < length self.old.layout.homes }
         ensures layout { self.new.layout ≡ self.old.layout }
         ensures words { (ppn i : ℕ)
-            → words_of self.new ppn i
-            ≡ emptied self.old.layout (holders_of self.old) space (words_of self.old) ppn i }
+            → memory_words self.new ppn i
+            ≡ emptied self.old.layout (holders_of self.old) space (memory_words self.old) ppn i }
         ensures holders { (ppn : ℕ)
             → holders_of self.new ppn ≡ given_back (holders_of self.old ppn) space }
-        ensures empties { EmptiesSpace self.old.layout space (words_of self.old)
-            (words_of self.new) }
+        ensures empties { EmptiesSpace self.old.layout space (memory_words self.old)
+            (memory_words self.new) }
     {
         let root = usize::from(self.window) + usize::from(space);
         empty_words(&mut self.words, self.frames.holders(), root, space);
@@ -343,11 +343,11 @@ impl Memory {
 }
 
 impl Words for Memory {
-    ghost use Rattle.spaces.specs.Held.{words_of};
+    ghost use Rattle.spaces.specs.Held.{memory_words};
 
-    ghost words = { words_of };
+    ghost words = { memory_words };
 
-    #[tactic(auto, unfolding(crate::specs::Held::words_of))]
+    #[tactic(auto, unfolding(crate::specs::Held::memory_words))]
     fn word(&self, ppn: u64, index: u16) -> Option<u64> {
         let at = self.word_index(ppn, index)?;
         self.words.get(at).copied()

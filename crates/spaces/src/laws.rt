@@ -24,7 +24,7 @@ ghost use Rattle.spaces.specs.Tree.{IsAtHome, IsIn, IsTree, start_table};
 ghost use Rattle.spaces.specs.declared.places.Place.TheVariants.{Kernel as kernel};
 ghost use Rattle.pte.specs.declared.address.PageSize.TheVariants.{Kib4};
 ghost use Rattle.spaces.specs.Accepted.{Accepted};
-ghost use Rattle.spaces.specs.Applied.{holders_after, words_after};
+ghost use Rattle.spaces.specs.Applied.{holders_after, words_after_store};
 ghost use Rattle.spaces.specs.Effects.{EmptiesSpace, EmptiesWords, GivesBack, HasEffect, IsAbout, IsEdit, IsEnd, IsLowestUnused, TakesFrame};
 
 /// The test of a configuration's limits, for so many frames, holds exactly where the configuration
@@ -93,7 +93,7 @@ pub fn home_is_one()
 pub fn edit_keeps_tree()
     ensures { (l : Layout) (words : Tables) (holders : Holders) (hart : ℕ) (w : WishOf)
         (store : Store) → IsEdit l words holders hart w store
-        → IsTree l (words_after words store) (holders_after holders (place_of w) store) }
+        → IsTree l (words_after_store words store) (holders_after holders (place_of w) store) }
 {}
 
 /// The store of a pointer changes nothing that any root maps; an edit of a leaf adds its page,
@@ -101,7 +101,7 @@ pub fn edit_keeps_tree()
 pub fn edit_changes_its_page()
     ensures { (l : Layout) (words : Tables) (holders : Holders) (hart : ℕ) (w : WishOf)
         (store : Store) → IsEdit l words holders hart w store
-        → HasEffect l w store words (words_after words store) }
+        → HasEffect l w store words (words_after_store words store) }
 {}
 
 /// After an accepted unmap no root of the place maps any part of the page.
@@ -111,7 +111,7 @@ pub fn unmapped_page_is_gone()
         → IsEdit l words holders hart (wish.Unmap place page) store
         → (s number ppn : ℕ) (flags : PteFlags) (global : Bool) → s < length l.homes
         → IsAbout place page s number
-        → Maps l.scheme (words_after words store) (root_ppn l s) number ppn flags global → ⊥ }
+        → Maps l.scheme (words_after_store words store) (root_ppn l s) number ppn flags global → ⊥ }
 {}
 
 /// An accepted map keeps every mapping of every root.
@@ -121,7 +121,7 @@ pub fn map_keeps_mappings()
         → IsEdit l words holders hart (wish.Map place page first f) store
         → (s number ppn : ℕ) (flags : PteFlags) (global : Bool) → s < length l.homes
         → Maps l.scheme words (root_ppn l s) number ppn flags global
-        → Maps l.scheme (words_after words store) (root_ppn l s) number ppn flags global }
+        → Maps l.scheme (words_after_store words store) (root_ppn l s) number ppn flags global }
 {}
 
 /// In a tree a path of the kernel, of a page that is no top-level one, may be read from the

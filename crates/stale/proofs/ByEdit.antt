@@ -117,7 +117,8 @@ writes_leaf spare level old w new (removes_leaf place page q f at kind) on = rec
 writes_leaf spare level old w new (changes_leaf place page flags q f at kind ok) on =
     record { q = q; f = f; at = at; kind = kind; then_ = kind-stored q flags (leaf-ppn old q f kind) ok.byte ok.leaf }
 
--- what it does to what is mapped: nothing elsewhere, and in its page nothing stays that the leaf mapped, or all
+-- what it does to what is mapped: nothing elsewhere, and in its page nothing stays that the leaf
+-- mapped, or all
 pub record EditDoes (l : Layout) (place : Place) (page : Span) (q : ℕ) (f : PteFlags) (word : ℕ) (old new : Tables) : Type 0 where
   pub kept : (s n ppn : ℕ) (flags : PteFlags) (g : Bool) → s < length l.homes → (IsAbout place page s n → ⊥)
       → Maps l.scheme old (root_ppn l s) n ppn flags g → Maps l.scheme new (root_ppn l s) n ppn flags g

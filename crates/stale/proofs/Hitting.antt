@@ -9,7 +9,7 @@ use Rattle.pte.specs.Address.{IsCanonical, IsPage, is_canonical, pages_of}
 use Rattle.pte.proofs.Schemes.{is_canonical-IsCanonical}
 use Rattle.spaces.specs.Layout.{Layout}
 use Rattle.stepcore.specs.State.{State, hart_at}
-use Rattle.stepcore.specs.Answers.{asid_in}
+use Rattle.stepcore.specs.Answers.{asid_of_hart}
 use Rattle.stepcore.specs.Stands.{Stands}
 use Rattle.stepcore.proofs.HartReplies.{asid_same, layout_same}
 use Rattle.walk.specs.declared.found_or_trap.Why.{Why}
@@ -167,16 +167,16 @@ module _ (C : Setup) (m : State) (H : History) (hart va : ℕ) (access : Access)
   pub hit_canonical : IsCanonical m.memory.layout.scheme va
   hit_canonical = (is_canonical-IsCanonical m.memory.layout.scheme va).0 (ap (λ (l : Layout). is_canonical l.scheme va) (layout_same C m _ st) ∙ by.canonical)
 
-  hit_first : first_match (hart_at m hart).entries (asid_in m (hart_at m hart)) va ≡ Some by.entry
+  hit_first : first_match (hart_at m hart).entries (asid_of_hart m (hart_at m hart)) va ≡ Some by.entry
   hit_first =
-      ap (λ (es : List Entry). first_match es (asid_in m (hart_at m hart)) va) (st.harts hart by.below).entries
+      ap (λ (es : List Entry). first_match es (asid_of_hart m (hart_at m hart)) va) (st.harts hart by.below).entries
       ∙ ap (λ (a : ℕ). first_match (entries_of C H hart) a va) (asid_same C m _ st hart by.below)
       ∙ by.first
 
-  pub no_match : (o : Option Entry) → o ≡ first_match (hart_at m hart).entries (asid_in m (hart_at m hart)) va → o ≡ None → ⊥
+  pub no_match : (o : Option Entry) → o ≡ first_match (hart_at m hart).entries (asid_of_hart m (hart_at m hart)) va → o ≡ None → ⊥
   no_match o is none = let bad : None ≡ Some by.entry = sym none ∙ is ∙ hit_first in cc
 
-  module _ (entry : Entry) (is : Some entry ≡ first_match (hart_at m hart).entries (asid_in m (hart_at m hart)) va) where
+  module _ (entry : Entry) (is : Some entry ≡ first_match (hart_at m hart).entries (asid_of_hart m (hart_at m hart)) va) where
     same : by.entry ≡ entry
     same = let e : Some entry ≡ Some by.entry = is ∙ hit_first in cc
 

@@ -9,7 +9,8 @@ use Rattle.stale.specs.Mapped.{is_reached, IsMappedFrom, IsMappedIn}
 less_or_same : (s n : ℕ) → s < n + 1 → (s < n) ⊎ (s ≡ n)
 less_or_same s n below = elim (cases_lt s n) [ inl less ↦ inl less | inr from ↦ inr (omega (arith, below, from)) ]
 
--- of the spaces below this number: whether it is reached through one, and each through which it is maps it so
+-- of the spaces below this number: whether it is reached through one, and each through which it is
+-- maps it so
 pub record Seen (m : State) (p : Mapping) (number : ℕ) (is_some : Bool) : Type 0 where
   pub some : is_some ≡ true → (s : ℕ) × (is_reached m p.asid s ≡ true)
   pub none : is_some ≡ false → (s : ℕ) → s < number → is_reached m p.asid s ≡ false

@@ -11,7 +11,7 @@ use Rattle.spaces.specs.declared.places.Place.{Place}
 use Rattle.spaces.specs.declared.wishes.Wish.{Wish}
 use Rattle.spaces.specs.declared.wishes.Wish.TheVariants as wish
 use Rattle.spaces.specs.Edits.{Store, page_of, place_of}
-use Rattle.spaces.specs.Applied.{words_after}
+use Rattle.spaces.specs.Applied.{words_after_store}
 use Rattle.spaces.specs.Effects.{RemovesPage, ChangesFlags}
 use Rattle.spaces.proofs.EditLaws.{edit-effect}
 use Rattle.tlb.specs.Mappings.{Mapping, LiesIn, IsMappedBy}
@@ -31,7 +31,7 @@ use Rattle.history.specs.Staleness.{Reaches}
 use Rattle.laws.specs.Kept.{HasPage}
 use Rattle.laws.proofs.Accepted.{EditFound, protect_edit, unmap_edit}
 use Rattle.stepcore.specs.State.{State}
-use Rattle.stepcore.specs.Answers.{asid_of, edit_in}
+use Rattle.stepcore.specs.Answers.{asid_of_place, edit_in}
 use Rattle.stepcore.specs.Stands.{Stands}
 use Rattle.stepcore.proofs.HartReplies.{edit_same, words_same}
 use Rattle.stepcore.proofs.SpaceReplies.{page_asked, place_same}
@@ -49,8 +49,8 @@ opened_is (reply.Opened n) t e = refl
 opened_is _ t e = absurd (cc (e))
 
 module _ (C : Setup) (m : State) (H : History) (st : Stands C m H) where
-  asid_is : (place : Place) (page : Span) → is_place C H place ≡ true → asid_of m place ≡ asid_in C H place
-  asid_is place page there = let e : PageOf page (asid_of m place) ≡ PageOf page (asid_in C H place) = page_asked C m H st place page there in cc
+  asid_is : (place : Place) (page : Span) → is_place C H place ≡ true → asid_of_place m place ≡ asid_in C H place
+  asid_is place page there = let e : PageOf page (asid_of_place m place) ≡ PageOf page (asid_in C H place) = page_asked C m H st place page there in cc
 
   module _ (hart : ℕ) (w : Wish) (found : EditFound C H hart w) (is_page : IsPage (page_of w)) (on : IsOnLeaf w) where
     abbrev Leaf-of : Mapping → Type 0
@@ -93,7 +93,7 @@ module _ (C : Setup) (m : State) (H : History) (st : Stands C m H) where
     leaf_there p is =
         let found_leaf = leaf C st.within H st.lawful st.pages hart w found is_page on in
         let accepted = acc C st.within H st.lawful st.pages hart w found is_page on in (
-          record { reach = asid_of m (place_of w); page = page_of w; ppn = found_leaf.q; flags = found_leaf.f },
+          record { reach = asid_of_place m (place_of w); page = page_of w; ppn = found_leaf.q; flags = found_leaf.f },
           record {
             there = place_same C m H st (place_of w) ∙ found.there;
             reach = refl;
@@ -160,11 +160,11 @@ module _ (C : Setup) (m : State) (H : History) (st : Stands C m H) where
       let r = due C H (Unmap hart place page named) in
       let found = unmap_edit C H hart place page named t r refl opened in
       let found_leaf = leaf C st.within H st.lawful st.pages hart w found is_page tt in
-      let new : words_of C (due_turn C H (Unmap hart place page named) ∷ H) ≡ words_after (words_of C H) found.store =
+      let new : words_of C (due_turn C H (Unmap hart place page named) ∷ H) ≡ words_after_store (words_of C H) found.store =
       as_edited C st.within.layout st.within.homes H (tree C st.within.layout st.within.homes H st.lawful st.pages) (Unmap hart place page named) r refl
       ∙ ap (λ b. cond b (with_store (words_of C H) (edit_at C H hart w)) (words_of C H)) (opened_is r t opened) ∙ ap (with_store (words_of C H)) found.is
       in
-      let effect : RemovesPage C.layout place page (words_of C H) (words_after (words_of C H) found.store) =
+      let effect : RemovesPage C.layout place page (words_of C H) (words_after_store (words_of C H) found.store) =
       edit-effect C.layout (words_of C H) (holder_of H) hart w found.store (edit C st.within H st.lawful st.pages hart w found is_page tt)
       in
       told hart w found is_page tt (Unmap hart place page named) (λ x. refl) (unmap_reach hart place page named)
@@ -179,11 +179,11 @@ module _ (C : Setup) (m : State) (H : History) (st : Stands C m H) where
       let r = due C H (Protect hart place page flags named) in
       let found = protect_edit C H hart place page flags named t r refl opened in
       let found_leaf = leaf C st.within H st.lawful st.pages hart w found is_page tt in
-      let new : words_of C (due_turn C H (Protect hart place page flags named) ∷ H) ≡ words_after (words_of C H) found.store =
+      let new : words_of C (due_turn C H (Protect hart place page flags named) ∷ H) ≡ words_after_store (words_of C H) found.store =
       as_edited C st.within.layout st.within.homes H (tree C st.within.layout st.within.homes H st.lawful st.pages) (Protect hart place page flags named) r refl
       ∙ ap (λ b. cond b (with_store (words_of C H) (edit_at C H hart w)) (words_of C H)) (opened_is r t opened) ∙ ap (with_store (words_of C H)) found.is
       in
-      let effect : ChangesFlags C.layout place page flags (words_of C H) (words_after (words_of C H) found.store) =
+      let effect : ChangesFlags C.layout place page flags (words_of C H) (words_after_store (words_of C H) found.store) =
       edit-effect C.layout (words_of C H) (holder_of H) hart w found.store (edit C st.within H st.lawful st.pages hart w found is_page tt)
       in
       told hart w found is_page tt (Protect hart place page flags named) (λ x. refl) (protect_reach hart place page flags named)

@@ -13,7 +13,7 @@ use Rattle.spaces.specs.Edits.{Store, place_of, page_of}
 use Rattle.tlb.specs.declared.store.Entry.{Entry}
 use Rattle.tlb.specs.Mappings.{Mapping, LiesIn}
 use Rattle.stepcore.specs.State.{State, words_in}
-use Rattle.stepcore.specs.Answers.{asid_of, edit_in, is_place}
+use Rattle.stepcore.specs.Answers.{asid_of_place, edit_in, is_place}
 use Rattle.stale.specs.declared.changes.Change.{Change}
 use Rattle.stale.specs.Mapped.{reach_of}
 
@@ -39,7 +39,7 @@ pub record IsLeafUnder (words : Tables) (store : Store) (page : Span) (ppn : ℕ
 -- the edit is due now, and this is the leaf that it changes
 pub record IsChangeOf (m : State) (hart : ℕ) (wish : Wish) (change : Change) : Type 0 where
   pub there : is_place m (place_of wish) ≡ true
-  pub reach : change.reach ≡ asid_of m (place_of wish)
+  pub reach : change.reach ≡ asid_of_place m (place_of wish)
   pub page : change.page ≡ page_of wish
   pub store : Store
   pub edit : edit_in m hart wish ≡ Ok store

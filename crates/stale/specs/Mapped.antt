@@ -5,7 +5,7 @@ use Rattle.walk.specs.Maps.{Maps}
 use Rattle.spaces.specs.Layout.{root_ppn}
 use Rattle.tlb.specs.declared.store.Entry.{Entry}
 use Rattle.tlb.specs.Mappings.{Mapping}
-use Rattle.spaces.specs.Held.{Held, words_of}
+use Rattle.spaces.specs.Held.{Held, memory_words}
 use Rattle.stepcore.specs.State.{State}
 use Rattle.stepcore.specs.Answers.{asid_of_space}
 
@@ -15,7 +15,14 @@ reach_of e = if e.global then None else Some e.asid
 
 -- the mapping that an entry has of the page of 4 KiB of this number
 abbrev pub mapping_of : Entry → ℕ → Mapping
-mapping_of e page = record { asid = reach_of e; page = page; ppn = e.ppn + page % pages_of e.page.size; flags = e.flags }
+mapping_of e page =
+    record {
+      asid = reach_of e;
+      page = page;
+      ppn = e.ppn
+          + page % pages_of e.page.size;
+      flags = e.flags;
+    }
 
 abbrev pub is_of : ℕ → Option ℕ → Bool
 is_of asid None = false
@@ -33,7 +40,8 @@ is_reached m of space = nat_lt space (length m.memory.layout.homes) && has_asid 
 -- the tables of a space map it so
 abbrev pub IsMappedFrom : Held → ℕ → Mapping → Type 0
 IsMappedFrom memory space p =
-    Maps memory.layout.scheme (words_of memory) (root_ppn memory.layout space) p.page p.ppn p.flags
+    Maps memory.layout.scheme (memory_words memory) (root_ppn memory.layout space) p.page p.ppn
+    p.flags
     (is_none p.asid)
 
 -- there is a space through which it is reached, and each such space maps it so

@@ -5,7 +5,7 @@ ghost use Rattle.pte.specs.declared.flags.PteFlags.{PteFlags as PteFlagsOf};
 ghost use Rattle.pte.specs.Address.{IsPage};
 ghost use Rattle.pte.specs.declared.entry.TheConstants.{PPN_BITS};
 ghost use Rattle.walk.specs.Maps.{page_number};
-ghost use Rattle.spaces.specs.Held.{words_of, spare_of};
+ghost use Rattle.spaces.specs.Held.{memory_words, spare_of};
 ghost use Rattle.spaces.specs.Layout.{HasPlace};
 ghost use Rattle.spaces.specs.Edits.{edit_of};
 ghost use Rattle.tlb.specs.Mappings.{IsMappedBy, Mapping};
@@ -14,7 +14,7 @@ ghost use Rattle.history.specs.Turns.{History, opened_ticket};
 ghost use Rattle.history.specs.Harts.{entries_of};
 ghost use Rattle.history.specs.Due.{due};
 ghost use Rattle.laws.specs.Kept.{HasPage};
-ghost use Rattle.stepcore.specs.Answers.{asid_of, is_place};
+ghost use Rattle.stepcore.specs.Answers.{asid_of_place, is_place};
 ghost use Rattle.stepcore.specs.Stands.{Stands};
 ghost use Rattle.stale.specs.Stale.{BecomesStale};
 ghost use Rattle.stale.specs.Told.{home_in, IsEditOf};
@@ -96,7 +96,7 @@ fn edit_due(
     flags: Option<PteFlags>,
 ) -> Result<Edit, MapFault>
     requires { HasPlace memory.now.layout place }
-    ensures { result ≡ edit_of memory.now.layout (words_of memory.now)
+    ensures { result ≡ edit_of memory.now.layout (memory_words memory.now)
         (spare_of memory.now hart) hart (wish_with place page flags) }
 {
     match flags {
@@ -108,7 +108,7 @@ fn edit_due(
 /// The ASID, or every one, of the pages of a place that is there.
 fn reach_in(machine: &Machine, place: Place) -> Option<Option<u16>>
     ensures some { IfSome result (λ reach. (is_place machine.now place ≡ true)
-        × (reach ≡ asid_of machine.now place)) }
+        × (reach ≡ asid_of_place machine.now place)) }
     ensures there { IfSome result (λ _. HasPlace machine.now.memory.layout place) }
     ensures none { IfNone result (is_place machine.now place ≡ false) }
 {
@@ -124,10 +124,10 @@ fn reach_in(machine: &Machine, place: Place) -> Option<Option<u16>>
 /// The leaf that the edit replaces by something else, if it maps anything.
 fn leaf_under(memory: &Memory, edit: &Edit, page: Page) -> Option<(u64, PteFlags)>
     ensures some { IfSome result (λ leaf. IsLeafUnder
-        (words_of memory.now) edit.now page leaf.0 leaf.1) }
+        (memory_words memory.now) edit.now page leaf.0 leaf.1) }
     ensures range { IfSome result (λ leaf. leaf.0 < 2 ^ PPN_BITS) }
     ensures none { IfNone result ((ppn : ℕ) (flags : PteFlagsOf)
-        → ¬ IsLeafUnder (words_of memory.now) edit.now page ppn flags) }
+        → ¬ IsLeafUnder (memory_words memory.now) edit.now page ppn flags) }
 {
     let word = memory.word(edit.ppn(), edit.index())?;
     let leaf = Pte(word).kind();

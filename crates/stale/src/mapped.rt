@@ -7,7 +7,7 @@ ghost use Rattle.history.specs.Setup.{Setup};
 ghost use Rattle.history.specs.Turns.{History};
 ghost use Rattle.history.specs.Staleness.{IsMappedNow};
 ghost use Rattle.walk.specs.Outcome.{Outcome};
-ghost use Rattle.spaces.specs.Held.{words_of};
+ghost use Rattle.spaces.specs.Held.{memory_words};
 ghost use Rattle.spaces.specs.Layout.{root_ppn};
 ghost use Rattle.stepcore.specs.Stands.{Stands};
 ghost use Rattle.stale.specs.Mapped.{has_asid, is_reached, IsMappedFrom, IsMappedIn, mapping_of, reach_of};
@@ -61,7 +61,7 @@ fn is_found(entry: &Entry, va: VirtAddr, found: &Found) -> bool
 /// What a walk of an access from the root of a space answers.
 fn walked(memory: &Memory, space: u8, va: VirtAddr, access: Access, ctx: Ctx) -> Result<Found, Trap>
     requires { space < length memory.now.layout.homes }
-    ensures { Outcome memory.now.layout.scheme (words_of memory.now)
+    ensures { Outcome memory.now.layout.scheme (memory_words memory.now)
         (root_ppn memory.now.layout space) va access ctx result }
 {
     let root = memory.root(space);

@@ -28,8 +28,8 @@ pub fn acknowledged_page_is_not_stale()
         → (turn : Turn) (history : History) (number hart : ℕ) (of : Option ℕ) (page : Span)
         (m : Mapping) → Lawful setup history → HavePages history
         → HasAnswered setup history number hart (Unmapped of page)
-        → is_mapped_anew setup history number ≡ false → IsForAsid of m → LiesIn page m.page
-        → ¬ UsesStale setup turn history hart m }
+        → is_mapped_anew setup history number ≡ false → IsForAsid of m
+        → LiesIn page m.page → ¬ UsesStale setup turn history hart m }
 {}
 
 /// After a change of flags as after an unmapping, a hart that the order names and that has

@@ -1,7 +1,7 @@
 -- What a machine that stands at a history answers to Post, Take and Close: the reply that is due.
 use Rattle.std.proofs.Common.{◌≡◌, ℕ, ◌<◌, Bool, true, false, cond, not, List, [], ◌∷◌, Option, Some, None, slice_get, refl, ap, ◌∙◌, leb, arith}
 use Rattle.std.specs.Prelude.{is_some}
-use Rattle.shoot.specs.Request.{Message}
+use Rattle.shoot.specs.Request.{Request}
 use Rattle.shoot.specs.HartSet.{contains}
 use Rattle.shoot.specs.Mailbox.{MailboxState, post_fault}
 use Rattle.shoot.specs.Tickets.{TicketTable, tells}
@@ -53,7 +53,7 @@ post_due C H s h (Some k) l f =
     (fault_same (is_closed H s h) (leb C.capacity (outstanding C H s h))))
 
 -- Take
-next_same : (ws : List Message) → next_answer (slice_get ws 0) ≡ next_reply ws
+next_same : (ws : List Request) → next_answer (slice_get ws 0) ≡ next_reply ws
 next_same [] = refl
 next_same (w ∷ ws) = refl
 

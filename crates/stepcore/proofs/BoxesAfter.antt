@@ -6,8 +6,8 @@ use Rattle.std.proofs.lemmas.Bool.Decides.{nat_tests}
 use Rattle.std.proofs.lemmas.List.{append-nil, length-map, drop-append-le}
 use Rattle.pte.specs.declared.address.What.{What}
 use Rattle.spaces.proofs.Lists.{slice_get-set_same, slice_get-set_other}
-use Rattle.shoot.specs.Request.{Message}
-use Rattle.shoot.specs.Mailbox.{MailboxState, empty_mailbox, after_post, after_take, after_release, after_close, can_release, with_message}
+use Rattle.shoot.specs.Request.{Request}
+use Rattle.shoot.specs.Mailbox.{MailboxState, empty_mailbox, after_post, after_take, after_release, after_close, can_release, with_request}
 use Rattle.shoot.specs.Tickets.{TicketTable, tells}
 use Rattle.shoot.specs.declared.TheConstants.{MAX_HARTS}
 use Rattle.shoot.specs.declared.tickets.Ticket.{Ticket}
@@ -38,10 +38,10 @@ use Rattle.stepcore.proofs.Tools.{pair_parts}
 use Rattle.stepcore.proofs.BoxReplies.{hart_below, order_of}
 use Rattle.stepcore.proofs.Places.{place_below, same_place}
 
-abbrev mailbox_with : List Message → ℕ → Bool → ℕ → MailboxState
+abbrev mailbox_with : List Request → ℕ → Bool → ℕ → MailboxState
 mailbox_with waiting outstanding closed capacity = record { waiting = waiting; outstanding = outstanding; closed = closed; capacity = capacity }
 
-abbrev request_of : Sent → Message
+abbrev request_of : Sent → Request
 request_of sent = sent.request
 
 -- the mailbox of a pair in a list of mailboxes
@@ -75,7 +75,7 @@ drop_one zero xs = refl
 drop_one (suc n) [] = refl
 drop_one (suc n) (x ∷ xs) = drop_one n xs
 
-waits_less : (ts : List Message) (x : Message) (xs : List Message) → drop 1 (drop (length ts) xs) ≡ drop (length (ts ++ x ∷ [])) xs
+waits_less : (ts : List Request) (x : Request) (xs : List Request) → drop 1 (drop (length ts) xs) ≡ drop (length (ts ++ x ∷ [])) xs
 waits_less ts x xs = drop_one (length ts) xs ∙ rw (length-append ts (x ∷ []), add-one) refl
 
 module _ (C : Setup) (m : State) (H : History) (st : Stands C m H) (is : IsMachine m) where
@@ -114,7 +114,7 @@ module _ (C : Setup) (m : State) (H : History) (st : Stands C m H) (is : IsMachi
       (λ ea eb. rw (ea, eb) (ap after_take (st.mailboxes s h ls lh)))
       ∙ by_test (λ v. cond v (after_take (mailbox_of C H s h)) (mailbox_of C H s h)
       ≡ mailbox_with (drop (length (cond v (taken H s h ++ x ∷ []) (taken H s h))) (accepted C H s h)) (outstanding C H s h) (is_closed H s h) C.capacity) (are_same a b s h)
-      (λ _. ap (λ (ws : List Message). mailbox_with ws (outstanding C H s h) (is_closed H s h) C.capacity) (waits_less (taken H s h) x (accepted C H s h)))
+      (λ _. ap (λ (ws : List Request). mailbox_with ws (outstanding C H s h) (is_closed H s h) C.capacity) (waits_less (taken H s h) x (accepted C H s h)))
       (λ _. refl)
   take_mailboxes b a _ d s h ls lh =
       st.mailboxes s h ls lh
@@ -122,7 +122,7 @@ module _ (C : Setup) (m : State) (H : History) (st : Stands C m H) (is : IsMachi
       (λ _. rw append-nil refl) (λ _. refl)
 
   -- a post that is accepted finds room
-  posted : (a t b : ℕ) → reply.Ok ≡ due C H (Post a t b) → (x : Message) → after_post (mailbox_of C H a b) x ≡ with_message (mailbox_of C H a b) x
+  posted : (a t b : ℕ) → reply.Ok ≡ due C H (Post a t b) → (x : Request) → after_post (mailbox_of C H a b) x ≡ with_request (mailbox_of C H a b) x
   posted a t b d x =
       let f = post_found C H a t b reply.Ok d refl in
       rw (f.unclosed, not_full C.capacity (outstanding C H a b) f.room) refl
@@ -135,17 +135,17 @@ module _ (C : Setup) (m : State) (H : History) (st : Stands C m H) (is : IsMachi
   post_mailboxes a t b reply.Ok d s h ls lh =
       let p = pair_parts C a b (passed _ NoHart _ reply.Ok (sym d) refl).0 in
       let f = post_found C H a t b reply.Ok d refl in
-      let x : Message = record { ticket = t; what = what_of C H (open_order H a t) } in
+      let x : Request = record { ticket = t; what = what_of C H (open_order H a t) } in
       let new = sent_of C H a t (open_order H a t) in
-      put_stands a b s h (after_post (mailbox_at m a b) (record { ticket = t; what = what_in (tickets_at m a) t })) (with_message (mailbox_of C H s h) x) p.first p.second ls lh
+      put_stands a b s h (after_post (mailbox_at m a b) (record { ticket = t; what = what_in (tickets_at m a) t })) (with_request (mailbox_of C H s h) x) p.first p.second ls lh
       (λ ea eb.
       ap (λ (w : What). after_post (mailbox_at m a b) (record { ticket = t; what = w })) (what_asks a t p.first)
       ∙ ap (λ (mailbox : MailboxState). after_post mailbox x) (st.mailboxes a b p.first p.second)
       ∙ posted a t b d x
       ∙ rw (ea, eb) refl)
-      ∙ by_test (λ v. cond v (with_message (mailbox_of C H s h) x) (mailbox_of C H s h)
+      ∙ by_test (λ v. cond v (with_request (mailbox_of C H s h) x) (mailbox_of C H s h)
       ≡ mailbox_with (drop (length (taken H s h)) (map request_of (cond v (posts C H s h ++ new) (posts C H s h)))) (cond v (outstanding C H s h + 1) (outstanding C H s h)) (is_closed H s h) C.capacity) (are_same a b s h)
-      (λ _. ap (λ (ws : List Message). mailbox_with ws (outstanding C H s h + 1) (is_closed H s h) C.capacity)
+      (λ _. ap (λ (ws : List Request). mailbox_with ws (outstanding C H s h + 1) (is_closed H s h) C.capacity)
       (waits_more C H a t f.order (length (taken H s h)) (posts C H s h) (open_order H a t) f.is (taken_within C H s h st.lawful)))
       (λ _. refl)
       ∙ ap (λ (n : ℕ). mailbox_with (waiting C (with_turn (Post a t b) reply.Ok H) s h) n (is_closed H s h) C.capacity)

@@ -9,10 +9,10 @@ use Rattle.spaces.specs.declared.places.Place.{Place}
 use Rattle.spaces.specs.declared.wishes.Wish.{Wish}
 use Rattle.spaces.specs.declared.wishes.Wish.TheVariants as wish
 use Rattle.spaces.specs.Layout.{HasPlace}
-use Rattle.spaces.specs.Held.{Held, IsMemory, words_of, holders_of, spare_of}
+use Rattle.spaces.specs.Held.{Held, IsMemory, memory_words, holders_of, spare_of}
 use Rattle.spaces.specs.Edits.{Store, place_of, page_of}
 use Rattle.spaces.specs.Accepted.{Accepted}
-use Rattle.spaces.specs.Applied.{points_at, holders_after, words_after}
+use Rattle.spaces.specs.Applied.{points_at, holders_after, words_after_store}
 use Rattle.walk.specs.Leads.{Tables}
 use Rattle.walk.specs.Pointers.{pointed}
 use Rattle.walk.specs.Stores.{stored as stored_words}
@@ -37,17 +37,17 @@ pub record IsStored (m : State) (now : Held) (hart : ℕ) (w : Wish) (store : St
   pub page : IsPage (page_of w)
   pub is : edit_in m hart w ≡ Ok store
   pub layout : now.layout ≡ m.memory.layout
-  pub words : (ppn i : ℕ) → words_of now ppn i ≡ words_after (words_of m.memory) store ppn i
+  pub words : (ppn i : ℕ) → memory_words now ppn i ≡ words_after_store (memory_words m.memory) store ppn i
   pub holders : (ppn : ℕ) → holders_of now ppn ≡ holders_after (holders_of m.memory) store.place store ppn
 
 module _ (m : State) (now : Held) (hart : ℕ) where
-  accepted : (w : Wish) (store : Store) → IsStored m now hart w store → Accepted m.memory.layout (words_of m.memory) (spare_of m.memory hart) hart w store
+  accepted : (w : Wish) (store : Store) → IsStored m now hart w store → Accepted m.memory.layout (memory_words m.memory) (spare_of m.memory hart) hart w store
   accepted w store is =
-      edit-accepted m.memory.layout (words_of m.memory) (holders_in m) hart w store
+      edit-accepted m.memory.layout (memory_words m.memory) (holders_in m) hart w store
       (record { layout = is.memory.layout; tree = is.memory.tree; has = is.has; page = is.page; is = is.is })
 
   -- the words after it are those of its event
-  words : (w : Wish) (store : Store) → IsStored m now hart w store → (new : Tables) → new ≡ stored_words (words_in m) store.ppn store.index store.word → (ppn i : ℕ) → words_of now ppn i ≡ new ppn i
+  words : (w : Wish) (store : Store) → IsStored m now hart w store → (new : Tables) → new ≡ stored_words (words_in m) store.ppn store.index store.word → (ppn i : ℕ) → memory_words now ppn i ≡ new ppn i
   words w store is new same ppn i = is.words ppn i ∙ ap (λ (x : Tables). x ppn i) (sym same)
 
 -- a word that is no pointer leaves the holders

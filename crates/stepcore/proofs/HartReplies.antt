@@ -1,4 +1,5 @@
--- What a machine that stands at a history answers to the events of its harts and tables is what is due.
+-- What a machine that stands at a history answers to the events of its harts and tables is what is
+-- due.
 use Rattle.pte.specs.declared.scheme.Scheme.{Scheme}
 use Rattle.std.proofs.Common.{◌≡◌, ℕ, ◌+◌, ◌<◌, Bool, true, false, cond, not, List, Option, Some, None, refl, ap, ◌∙◌}
 use Rattle.std.specs.Prelude.{is_some, is_none, Result, Ok, Err}
@@ -39,7 +40,7 @@ use Rattle.history.specs.Due.{match_reply, begin_reply, load_reply, end_reply, e
 use Rattle.history.proofs.Passing.{refuse}
 use Rattle.laws.proofs.Tools.{by_test}
 use Rattle.stepcore.specs.State.{State, words_in, holders_in, hart_at, space_at}
-use Rattle.stepcore.specs.Answers.{asid_in, begin_answer, next_of, progress_answer, load_answer, edit_in, open_in, ack_answer, reply_to}
+use Rattle.stepcore.specs.Answers.{asid_of_hart, begin_answer, next_of, progress_answer, load_answer, edit_in, open_in, ack_answer, reply_to}
 use Rattle.stepcore.specs.Stands.{IsStageOf, AreSameWalk, service_with, Stands}
 use Rattle.stepcore.proofs.Tools.{walks_alike, serves_alike, hart_there, harts_there}
 use Rattle.stepcore.proofs.SpaceReplies.{place_there, space_there, retiring_same}
@@ -113,7 +114,7 @@ module _ (C : Setup) (m : State) (H : History) (st : Stands C m H) where
   pub layout_same : m.memory.layout ≡ C.layout
   layout_same = ap (λ (D : Setup). D.layout) st.setup
 
-  pub asid_same : (hart : ℕ) → hart < C.harts → asid_in m (hart_at m hart) ≡ asid_of C H (space_of H hart)
+  pub asid_same : (hart : ℕ) → hart < C.harts → asid_of_hart m (hart_at m hart) ≡ asid_of C H (space_of H hart)
   asid_same hart below =
       ap (λ (space : ℕ). (space_at m space).asid) (st.harts hart below).space ∙ (st.spaces (space_of H hart) (spaces_there C H hart st.within.asids st.lawful)).asid
 
@@ -130,7 +131,7 @@ module _ (C : Setup) (m : State) (H : History) (st : Stands C m H) where
       ≡ refuse (is_some (walk_of H hart)) Walks (refuse (is_some (served C H hart)) Serves (begin_reply C H hart va access ctx))
   begin_at hart va access ctx below =
       begin_form m.memory.layout.scheme C.layout.scheme (is_some (hart_at m hart).walk) (is_some (walk_of H hart)) (is_some (hart_at m hart).serving) (is_some (served C H hart))
-      (asid_in m (hart_at m hart)) (asid_of C H (space_of H hart)) (hart_at m hart).entries (entries_of C H hart) va access ctx
+      (asid_of_hart m (hart_at m hart)) (asid_of C H (space_of H hart)) (hart_at m hart).entries (entries_of C H hart) va access ctx
       (ap (λ (l : Layout). l.scheme) layout_same) (walking_some hart below) (serving_some hart below) (asid_same hart below) (st.harts hart below).entries
 
   -- the events of harts

@@ -19,8 +19,8 @@ use Rattle.tlb.specs.declared.store.Entry.{Entry}
 use Rattle.tlb.specs.Entries.{filled}
 use Rattle.tlb.specs.Answer.{entry_of}
 use Rattle.tlb.specs.Fence.{fenced}
-use Rattle.tlb.specs.Service.{served as with_service}
-use Rattle.shoot.specs.Request.{Message}
+use Rattle.tlb.specs.Service.{after_service as with_service}
+use Rattle.shoot.specs.Request.{Request}
 use Rattle.shoot.specs.Tickets.{TicketTable}
 use Rattle.history.specs.Setup.{Setup}
 use Rattle.history.specs.Spaces.{asid_of}
@@ -44,7 +44,7 @@ use Rattle.laws.proofs.Posts.{posts_known}
 use Rattle.laws.proofs.Tools.{by_test, none_since, All-slice_get}
 use Rattle.stepcore.specs.declared.serving.Serving.{Serving as Service}
 use Rattle.stepcore.specs.State.{State, HartState, words_in, hart_at, tickets_at, idle_hart}
-use Rattle.stepcore.specs.Answers.{asid_in, next_of}
+use Rattle.stepcore.specs.Answers.{asid_of_hart, next_of}
 use Rattle.stepcore.specs.Changes.{what_in, with_progress, with_load, with_taken, with_served, is_accepted, put_hart, harts_after}
 use Rattle.stepcore.specs.Stands.{AreSameWalk, service_with, service_of, HartStands, Stands}
 use Rattle.stepcore.proofs.Placed.{hart_placed}
@@ -134,7 +134,7 @@ fence_left words layout space walk has (Some sent) entries hart some parts =
     (record { space_is = parts.space_is; walk_is = parts.walk_is; serving_is = refl; scheme_is = parts.scheme_is; entries_are = ap (λ (es : List Entry). with_service es sent.request.what) parts.entries_are })
 
 -- the request that a Take takes is that of the first post that waits
-first_post : (xs : List Sent) (n : ℕ) (first : Message) (rest : List Message) → drop n (map (λ (x : Sent). x.request) xs) ≡ first ∷ rest → (x : Sent) × (slice_get xs n ≡ Some x) × (x.request ≡ first)
+first_post : (xs : List Sent) (n : ℕ) (first : Request) (rest : List Request) → drop n (map (λ (x : Sent). x.request) xs) ≡ first ∷ rest → (x : Sent) × (slice_get xs n ≡ Some x) × (x.request ≡ first)
 first_post [] zero first rest e = absurd cc
 first_post [] (suc n) first rest e = absurd cc
 first_post (x ∷ xs) zero first rest e = (x, refl, cc)
@@ -249,7 +249,7 @@ module _ (C : Setup) (m : State) (H : History) (st : Stands C m H) where
       (sym (filled_is r (eqb hart h) fills (entries_of C H h)))
       (placed (λ v x. HartIs (words_of C H) C.layout (space_of H h) (cond v (loaded r (walk_of H h)) (walk_of H h)) (service_of C H h)
       (cond v (cond (is_filled r) fills (entries_of C H h)) (entries_of C H h)) x) hart h (is_accepted r)
-      (λ x. with_load (words_in m) (asid_in m (hart_at m x)) (hart_at m x).walk (hart_at m x)) below
+      (λ x. with_load (words_in m) (asid_of_hart m (hart_at m x)) (hart_at m x).walk (hart_at m x)) below
       (λ a same. let p = (passed _ NoHart _ r (sym d) (accepted_is r a)).1 in
       let made : load_reply C H h (walk_of H h) ≡ r = subst (λ x. load_reply C H x (walk_of H x) ≡ r) same p in
       subst (λ (asid : ℕ). HartIs (words_of C H) C.layout (space_of H h) (loaded r (walk_of H h)) (service_of C H h) (cond (is_filled r) fills (entries_of C H h)) (with_load (words_in m) asid (hart_at m h).walk (hart_at m h)))
@@ -280,7 +280,7 @@ module _ (C : Setup) (m : State) (H : History) (st : Stands C m H) where
         space_is = old.space_is;
         walk_is = old.walk_is;
         serving_is =
-            ap (λ (request : Message). Some (record { from = from; request = request; fenced = false })) (sym post.2)
+            ap (λ (request : Request). Some (record { from = from; request = request; fenced = false })) (sym post.2)
             ∙ ap (λ (s : ℕ). Some (record { from = s; request = post.0.request; fenced = false })) (sym known.sender)
             ∙ ap (service_with false) (sym post.1);
         scheme_is = old.scheme_is;

@@ -7,7 +7,7 @@ use Rattle.std.proofs.lemmas.List.FromFn.{get_or-map-range_with_len, length-map-
 use Rattle.std.proofs.lemmas.List.Elements.{All-replicate}
 use Rattle.std.proofs.lemmas.Option.{unwrap_or-slice_get}
 use Rattle.spaces.specs.declared.configuration.Config.{Config}
-use Rattle.spaces.specs.Held.{words_of, holders_of}
+use Rattle.spaces.specs.Held.{memory_words, holders_of}
 use Rattle.spaces.specs.declared.configuration.Space.{Space}
 use Rattle.stepcore.specs.declared.space_state.SpaceState.{SpaceState}
 use Rattle.spaces.specs.Layout.{layout_of}
@@ -26,7 +26,7 @@ use Rattle.stepcore.specs.Stands.{bare, SpaceStands, Stands}
 pub record IsOpened (c : Config) (m : State) : Type 0 where
   pub meets : MeetsLimits MAX_FRAMES c
   pub layout : m.memory.layout ≡ layout_of c
-  pub words : (ppn i : ℕ) → words_of m.memory ppn i ≡ opening (layout_of c) ppn i
+  pub words : (ppn i : ℕ) → memory_words m.memory ppn i ≡ opening (layout_of c) ppn i
   pub holders : (ppn : ℕ) → holders_of m.memory ppn ≡ None
   pub spaces : m.spaces ≡ map (λ s. live_space s.asid) c.spaces.items
   pub harts : m.harts ≡ replicate c.harts (new_hart c.scheme)

@@ -1,4 +1,5 @@
--- What a list holds once one element is replaced, and what a machine holds for a hart once one was put.
+-- What a list holds once one element is replaced, and what a machine holds for a hart once one was
+-- put.
 use Rattle.std.proofs.Common.{◌≡◌, ℕ, ◌<◌, Bool, true, false, cond, ◌&&◌, List, length, Option, slice_get, slice_set, refl, ap, eqb}
 use Rattle.std.specs.Prelude.{unwrap_or}
 use Rattle.std.proofs.lemmas.Bool.{eqb-true, eqb-false}

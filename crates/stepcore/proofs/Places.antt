@@ -1,4 +1,5 @@
--- The places of the mailboxes: each pair of numbers has its own, and those of the first n harts take the first n * n.
+-- The places of the mailboxes: each pair of numbers has its own, and those of the first n harts
+-- take the first n * n.
 use Rattle.std.proofs.Common.{◌≡◌, ℕ, zero, suc, ◌+◌, ◌*◌, ◌<◌, ◌≤◌, cond, length, refl, ap, inl, inr, ◌⊎◌, arith, le_trans, mul-le-mul_left, mul-le-mul_right, ⊎_elim}
 use Rattle.std.specs.Prelude.{nat_lt}
 use Rattle.std.proofs.lemmas.Bool.{ltb-true, ltb-false}

@@ -1,4 +1,5 @@
--- A Reclaim empties the words of a retiring space: a walk in flight is of a live one, and stays on its path.
+-- A Reclaim empties the words of a retiring space: a walk in flight is of a live one, and stays on
+-- its path.
 use Rattle.std.proofs.Common.{◌≡◌, ℕ, ◌+◌, ◌-◌, ◌<◌, cond, length, Option, Some, sym, ◌∙◌, ap, subst, arith}
 use Rattle.pte.specs.Address.{top_level}
 use Rattle.walk.specs.Leads.{word_at}

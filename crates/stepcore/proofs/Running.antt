@@ -12,7 +12,7 @@ use Rattle.spaces.specs.Layout.{root_ppn, spare_ppn}
 use Rattle.std.proofs.lemmas.List.{drop_all, drop-append-le}
 use Rattle.tlb.specs.declared.store.Entry.{Entry}
 use Rattle.shoot.specs.Mailbox.{MailboxState, empty_mailbox}
-use Rattle.shoot.specs.Request.{Message}
+use Rattle.shoot.specs.Request.{Request}
 use Rattle.history.specs.Setup.{Setup}
 use Rattle.history.specs.declared.event.Event.{Event}
 use Rattle.history.specs.declared.reply.Reply.{Reply}
@@ -114,11 +114,12 @@ module _ (C : Setup) (m : State) (H : History) (st : Stands C m H) where
   entries_are : (h : ℕ) → h < C.harts → entries_in m h ≡ entries_of C H h
   entries_are h l = read_or (λ (hart : HartState). hart.entries) (slice_get m.harts h) idle_hart ∙ (st.harts h l).entries
 
-  -- each mailbox keeps its order: what was accepted is what was taken, followed by what waits in the machine
+  -- each mailbox keeps its order: what was accepted is what was taken, followed by what waits in
+  -- the machine
   pub mailbox_order : (s h : ℕ) → s < C.harts → h < C.harts → accepted C H s h ≡ taken H s h ++ waiting_in m s h
   mailbox_order s h ls lh =
       mailboxes.lawful_order C H st.lawful s h
-      ∙ ap (λ (requests : List Message). taken H s h ++ requests)
+      ∙ ap (λ (requests : List Request). taken H s h ++ requests)
       (sym (read_or (λ (mailbox : MailboxState). mailbox.waiting) (slice_get m.mailboxes (mailbox_index s h)) (empty_mailbox 0) ∙ ap (λ (mailbox : MailboxState). mailbox.waiting) (st.mailboxes s h ls lh)))
 
   pub none_after_close : (s h : ℕ) → NoneAfterClose H s h
@@ -140,7 +141,8 @@ module _ (C : Setup) (m : State) (H : History) (st : Stands C m H) where
       subst (λ (entries : List Entry). Coherent C H entries k h) (sym (entries_are h l))
       (coherent C st.within (user_plain C st.within) (stays_mapped C st.within) (window_shared C st.within) H k h st.lawful st.pages)
 
-  -- nor do they hold what is of an ASID that no space has; harts are in live spaces, and walks at frames in use
+  -- nor do they hold what is of an ASID that no space has; harts are in live spaces, and walks at
+  -- frames in use
   pub used_asids : (h : ℕ) → h < C.harts → HoldsUsedAsids C H (entries_in m h)
   used_asids h l = subst (λ (entries : List Entry). HoldsUsedAsids C H entries) (sym (entries_are h l)) (holds_used C st.within H h st.lawful st.pages)
 

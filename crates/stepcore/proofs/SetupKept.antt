@@ -1,4 +1,5 @@
--- What no event changes: how many harts there are, the capacity of each mailbox, and so the setup; and what every machine keeps.
+-- What no event changes: how many harts there are, the capacity of each mailbox, and so the setup;
+-- and what every machine keeps.
 use Rattle.std.proofs.Common.{◌≡◌, ℕ, zero, suc, ◌*◌, ◌<◌, Bool, true, false, cond, List, [], ◌∷◌, length, Option, Some, None, slice_get, refl, ap, sym, ◌∙◌, arith, ltb}
 use Rattle.std.specs.Prelude.{not, slice_set, unwrap_or, All}
 use Rattle.std.proofs.lemmas.Bool.{and_parts, not-false, ltb-true, ltb-false}
@@ -9,8 +10,8 @@ use Rattle.walk.specs.Stage.{Stage}
 use Rattle.walk.specs.declared.walking.Progress.{Progress}
 use Rattle.walk.specs.declared.walking.Progress.TheVariants as progress
 use Rattle.spaces.specs.Layout.{Layout}
-use Rattle.shoot.specs.Request.{Message}
-use Rattle.shoot.specs.Mailbox.{MailboxState, empty_mailbox, with_message}
+use Rattle.shoot.specs.Request.{Request}
+use Rattle.shoot.specs.Mailbox.{MailboxState, empty_mailbox, with_request}
 use Rattle.shoot.specs.Tickets.{TicketTable}
 use Rattle.history.specs.Setup.{Setup}
 use Rattle.history.specs.declared.event.Event.{Event}
@@ -23,8 +24,8 @@ use Rattle.laws.proofs.Tools.{by_test}
 use Rattle.laws.proofs.Accepted.{passed, ok_accepted}
 use Rattle.stepcore.specs.declared.serving.Serving.{Serving as Service}
 use Rattle.stepcore.specs.State.{State, HartState, IsMachine, idle_hart, setup_in, hart_at, space_at, mailbox_at, mailbox_index, words_in}
-use Rattle.stepcore.specs.Answers.{reply_to, is_free, is_number, is_space, next_of, asid_in}
-use Rattle.stepcore.specs.Changes.{Follows, with_progress, with_load, with_taken, with_served, harts_after, tickets_after, acked_after, mailboxes_after}
+use Rattle.stepcore.specs.Answers.{reply_to, is_free_phase, is_number, is_space, next_of, asid_of_hart}
+use Rattle.stepcore.specs.Changes.{Follows, with_progress, with_load, with_taken, with_served, harts_after, tickets_after, tickets_after_ack, mailboxes_after}
 
 put_length : {A : Type 0} (xs : List A) (i : ℕ) (test : Bool) (x : A) → length (cond test (slice_set xs i x) xs) ≡ length xs
 put_length xs i true x = length-set xs i x
@@ -41,7 +42,7 @@ harts_length m (Ack hart) r = put_length m.harts hart _ _
 harts_length m (AckSelf hart ticket) r = put_length m.harts hart _ _
 harts_length m _ r = refl
 
-acked_length : (m : State) (hart : ℕ) (test : Bool) (serving : Option Service) → length (acked_after m hart test serving) ≡ length m.tickets
+acked_length : (m : State) (hart : ℕ) (test : Bool) (serving : Option Service) → length (tickets_after_ack m hart test serving) ≡ length m.tickets
 acked_length m hart test None = refl
 acked_length m hart test (Some serving) = put_length m.tickets serving.from test _
 
@@ -79,7 +80,7 @@ put_capacity : (xs : List MailboxState) (i j : ℕ) (test : Bool) (v : MailboxSt
 put_capacity xs i j true v e = set_capacity xs i j v e
 put_capacity xs i j false v e = refl
 
-posted_with : (accepted : Bool) (mailbox : MailboxState) (x : Message) → (cond accepted (with_message mailbox x) mailbox).capacity ≡ mailbox.capacity
+posted_with : (accepted : Bool) (mailbox : MailboxState) (x : Request) → (cond accepted (with_request mailbox x) mailbox).capacity ≡ mailbox.capacity
 posted_with true mailbox x = refl
 posted_with false mailbox x = refl
 
@@ -142,13 +143,13 @@ switch_space m hart space r e z =
     let a = ok_accepted r z in
     let p = passed _ NoHart _ r (sym e) a in
     let there = not-false (is_space m space) (passed _ NoSpace _ r p.1 a).0 in
-    ltb-true space (length m.spaces) (and_parts (is_number m space) (not (is_free (space_at m space).phase)) there).0
+    ltb-true space (length m.spaces) (and_parts (is_number m space) (not (is_free_phase (space_at m space).phase)) there).0
 
 spaces_stay : (m : State) (event : Event) (r : Reply) → IsMachine m → r ≡ reply_to m event → All (InSpace (length m.spaces)) (harts_after m event r)
 spaces_stay m (Begin hart va access ctx) r is e = put_in_space _ m.harts hart _ _ is.spaces (λ _ l. hart_in_space _ m.harts hart is.spaces l)
 spaces_stay m (Load hart) r is e =
     put_in_space _ m.harts hart _ _ is.spaces (λ _ l.
-    rw (load_space (words_in m) (asid_in m (hart_at m hart)) (hart_at m hart).walk (hart_at m hart)) (hart_in_space _ m.harts hart is.spaces l))
+    rw (load_space (words_in m) (asid_of_hart m (hart_at m hart)) (hart_at m hart).walk (hart_at m hart)) (hart_in_space _ m.harts hart is.spaces l))
 spaces_stay m (Switch hart space) r is e = put_in_space _ m.harts hart (is_ok r) _ is.spaces (λ z _. switch_space m hart space r e z)
 spaces_stay m (Fence hart rs1 rs2) r is e = put_in_space _ m.harts hart _ _ is.spaces (λ _ l. hart_in_space _ m.harts hart is.spaces l)
 spaces_stay m (Take hart from) r is e =

@@ -1,4 +1,5 @@
--- What a machine that stands at a history answers to the retirement, the reclaim and the creation of a space is what is due.
+-- What a machine that stands at a history answers to the retirement, the reclaim and the creation
+-- of a space is what is due.
 use Rattle.std.proofs.Common.{◌≡◌, ℕ, cond, not, Option, Some, None, refl, ap, sym, subst, ◌∙◌, eqb}
 use Rattle.std.proofs.lemmas.Bool.{eqb-true}
 use Rattle.spaces.specs.declared.places.Place.TheVariants.{Space}
@@ -29,7 +30,7 @@ use Rattle.stepcore.proofs.SpacesFound.{in_use_same, asid_used_same}
 use Rattle.stepcore.proofs.TicketReplies.{open_due}
 use Rattle.stepcore.proofs.TicketsHeld.{done_told}
 use Rattle.stepcore.specs.State.{State, IsMachine, space_at, tickets_at}
-use Rattle.stepcore.specs.Answers.{every_hart, is_asid_used, is_free, is_in_use, is_retiring, open_in, reclaim_answer, reply_to}
+use Rattle.stepcore.specs.Answers.{every_hart, is_asid_used, is_free_phase, is_in_use, is_retiring, open_in, reclaim_answer, reply_to}
 use Rattle.stepcore.specs.declared.space_state.Phase.TheVariants as phase
 use Rattle.stepcore.specs.Stands.{ticket_now, phase_with, tickets_of, Stands}
 
@@ -44,7 +45,8 @@ module _ (C : Setup) (m : State) (H : History) (st : Stands C m H) where
       ∙ ap (λ (r : Reply). refuse (spaces.is_retiring (status_of H space)) Retiring (refuse (due_tests.is_in_use C H space) InUse r))
       (open_due C m H st hart (every_hart m) below ∙ ap (λ v. refuse (not v) HomeNotNamed (opened_reply (least_free H hart MAX_TICKETS 0))) (own_named C m H st hart below)))))
 
-  -- the ticket of a retirement is done exactly if each hart is collected; one that is no longer open was done
+  -- the ticket of a retirement is done exactly if each hart is collected; one that is no longer
+  -- open was done
   reclaim_with : (hart space : ℕ) → hart ≡ home_of C.layout (Space space) → (status : Status) → status_of H space ≡ status
       → reclaim_answer (tickets_of C H hart) (phase_with C H status) ≡ reclaim_reply C H status
   reclaim_with hart space home Live e = refl
@@ -70,6 +72,6 @@ module _ (C : Setup) (m : State) (H : History) (st : Stands C m H) where
   pub create_due : (hart space asid : ℕ) → reply_to m (Create hart space asid) ≡ due C H (Create hart space asid)
   create_due hart space asid =
       hart_there C m hart _ _ st.setup (λ below. number_there C m H st space _ _ (λ there.
-      ap (λ (l : Layout). refuse (not (eqb hart (home_of l (Space space)))) NotHome (refuse (not (is_free (space_at m space).phase)) NotFree (refuse (is_asid_used m asid) AsidInUse reply.Ok))) (layout_same C m H st)
+      ap (λ (l : Layout). refuse (not (eqb hart (home_of l (Space space)))) NotHome (refuse (not (is_free_phase (space_at m space).phase)) NotFree (refuse (is_asid_used m asid) AsidInUse reply.Ok))) (layout_same C m H st)
       ∙ ap (λ v. refuse (not (eqb hart (home_of C.layout (Space space)))) NotHome (refuse (not v) NotFree (refuse (is_asid_used m asid) AsidInUse reply.Ok))) (free_same C m H st space there)
       ∙ ap (λ v. refuse (not (eqb hart (home_of C.layout (Space space)))) NotHome (refuse (not (spaces.is_free (status_of H space))) NotFree (refuse v AsidInUse reply.Ok))) (asid_used_same C m H st asid)))

@@ -1,4 +1,5 @@
--- Which spaces, places and scopes are there and retire, for a machine that stands at a history and for the history alike.
+-- Which spaces, places and scopes are there and retire, for a machine that stands at a history and
+-- for the history alike.
 use Rattle.std.proofs.Common.{◌≡◌, ℕ, ◌<◌, true, ◌&&◌, not, length, Some, refl, ap, ◌∙◌}
 use Rattle.std.specs.Prelude.{nat_lt}
 use Rattle.std.proofs.lemmas.Bool.{and_parts, ltb-true}
@@ -23,7 +24,7 @@ use Rattle.stepcore.specs.Answers as answers
 use Rattle.stepcore.specs.Stands.{phase_with, Stands}
 use Rattle.stepcore.proofs.Tools.{refused_alike}
 
-free_alike : (C : Setup) (H : History) (status : Status) → answers.is_free (phase_with C H status) ≡ spaces.is_free status
+free_alike : (C : Setup) (H : History) (status : Status) → answers.is_free_phase (phase_with C H status) ≡ spaces.is_free status
 free_alike C H Live = refl
 free_alike C H (Retires k) = refl
 free_alike C H Free = refl
@@ -37,16 +38,16 @@ module _ (C : Setup) (m : State) (H : History) (st : Stands C m H) where
   pub number_same : (s : ℕ) → answers.is_number m s ≡ due_tests.is_number C s
   number_same s = ap (nat_lt s) st.count
 
-  pub free_same : (s : ℕ) → s < length C.asids → answers.is_free (space_at m s).phase ≡ spaces.is_free (status_of H s)
-  free_same s below = ap answers.is_free (st.spaces s below).phase_is ∙ free_alike C H (status_of H s)
+  pub free_same : (s : ℕ) → s < length C.asids → answers.is_free_phase (space_at m s).phase ≡ spaces.is_free (status_of H s)
+  free_same s below = ap answers.is_free_phase (st.spaces s below).phase_is ∙ free_alike C H (status_of H s)
 
   pub retiring_same : (s : ℕ) → s < length C.asids → answers.is_retiring (space_at m s).phase ≡ spaces.is_retiring (status_of H s)
   retiring_same s below = ap answers.is_retiring (st.spaces s below).phase_is ∙ retiring_alike C H (status_of H s)
 
   pub space_same : (s : ℕ) → answers.is_space m s ≡ due_tests.is_space C H s
   space_same s =
-      ap (λ b. b && not (answers.is_free (space_at m s).phase)) (number_same s)
-      ∙ by_test (λ v. (v && not (answers.is_free (space_at m s).phase)) ≡ (v && not (spaces.is_free (status_of H s)))) (due_tests.is_number C s)
+      ap (λ b. b && not (answers.is_free_phase (space_at m s).phase)) (number_same s)
+      ∙ by_test (λ v. (v && not (answers.is_free_phase (space_at m s).phase)) ≡ (v && not (spaces.is_free (status_of H s)))) (due_tests.is_number C s)
       (λ there. ap not (free_same s (ltb-true s (length C.asids) there))) (λ _. refl)
 
   pub space_below : (s : ℕ) → due_tests.is_space C H s ≡ true → s < length C.asids
@@ -90,13 +91,13 @@ module _ (C : Setup) (m : State) (H : History) (st : Stands C m H) where
       ap (λ v. refuse (not v) NoSpace r) (number_same s) ∙ refused_alike NoSpace (due_tests.is_number C s) r q (λ there. f (ltb-true s (length C.asids) there))
 
   -- what the harts are asked to drop
-  asid_same : (place : Place) → due_tests.is_place C H place ≡ true → answers.asid_of m place ≡ asid_in C H place
+  asid_same : (place : Place) → due_tests.is_place C H place ≡ true → answers.asid_of_place m place ≡ asid_in C H place
   asid_same (Space s) there = ap Some (st.spaces s (space_below s there)).asid
   asid_same Kernel there = refl
 
   pub page_asked : (place : Place) (page : Span) → due_tests.is_place C H place ≡ true → answers.page_request m place page ≡ PageOf page (asid_in C H place)
   page_asked place page there = ap (PageOf page) (asid_same place there)
 
-  pub scope_asked : (scope : Scope) → due_tests.is_scope C H scope ≡ true → answers.scope_request m scope ≡ orders.scope_request C H scope
+  pub scope_asked : (scope : Scope) → due_tests.is_scope C H scope ≡ true → answers.request_of_scope m scope ≡ orders.scope_request C H scope
   scope_asked (scopes.Space s) there = ap SpaceOf (st.spaces s (space_below s there)).asid
   scope_asked scopes.All there = refl

@@ -47,7 +47,8 @@ never_under true true new old = refl
 never_under true false new old = refl
 never_under false home new old = refl
 
--- an open order, by whether the ticket is the one that is finished and whether the order is the retirement
+-- an open order, by whether the ticket is the one that is finished and whether the order is the
+-- retirement
 finish_some : (j k t ticket : ℕ) (same is : Bool) → eqb ticket t ≡ same → eqb t ticket ≡ same → eqb j k ≡ is
     → cond (is_under (phase.Retiring (cond is (Some t) None)) ticket) (phase.Retiring None) (phase.Retiring (cond is (Some t) None))
     ≡ phase.Retiring (cond (is_order (cond same None (Some j)) k) (Some t) None)
@@ -88,7 +89,8 @@ module _ (C : Setup) (m : State) (H : History) (st : Stands C m H) where
   asid_stands (Finish hart ticket) r s below = asid_by (is_ok r && is_retirement m hart ticket s (space_at m s)) _ (space_at m s) _ (st.spaces s below).asid (st.spaces s below).asid
   asid_stands _ r s below = (st.spaces s below).asid
 
-  -- the order of a retirement keeps its ticket until a Finish; an opening takes a ticket that is not open
+  -- the order of a retirement keeps its ticket until a Finish; an opening takes a ticket that is
+  -- not open
   phase_kept : (event : Event) (r : Reply) → r ≡ due C H event → ((a n : ℕ) → Finishes (turn_of event r) a n → ⊥) → (s : ℕ) (status : Status) → status_of H s ≡ status
       → phase_with C H status ≡ phase_with C (with_turn event r H) status
   phase_kept event r d none s Live e = refl

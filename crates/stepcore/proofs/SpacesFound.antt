@@ -1,4 +1,5 @@
--- Whether some hart is in a space, and whether some space has an ASID, for a machine that stands at a history and for the history alike.
+-- Whether some hart is in a space, and whether some space has an ASID, for a machine that stands at
+-- a history and for the history alike.
 use Rattle.std.proofs.Common.{◌≡◌, ℕ, zero, suc, ◌<◌, Bool, true, false, ◌&&◌, not, List, [], ◌∷◌, length, slice_get, unwrap_or, ap, sym, ◌∙◌, subst, inl, inr, eqb, arith}
 use Rattle.std.specs.List.{list_any}
 use Rattle.std.proofs.lemmas.Bool.{and_parts, and_from, or_cases, or_left, or_right, false≢true, true≢false, cases_Bool, cases_lt, lt-ltb, ltb-true, false_from_ne_true}

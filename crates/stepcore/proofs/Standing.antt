@@ -1,4 +1,5 @@
--- A machine that stands at a history answers what is due, and stands at the history with one more turn.
+-- A machine that stands at a history answers what is due, and stands at the history with one more
+-- turn.
 use Rattle.std.proofs.Common.{◌≡◌, ◌<◌, List, [], ◌∷◌, ◌++◌, Result, unwrap_or, slice_get, ap, sym, subst, ◌∙◌}
 use Rattle.shoot.specs.Mailbox.{MailboxState, empty_mailbox}
 use Rattle.shoot.specs.Tickets.{TicketTable, no_tickets}

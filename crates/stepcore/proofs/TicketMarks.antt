@@ -1,4 +1,5 @@
--- What a turn that posts, acknowledges or collects an order leaves of its ticket, and that it leaves the other tickets.
+-- What a turn that posts, acknowledges or collects an order leaves of its ticket, and that it
+-- leaves the other tickets.
 use Rattle.std.proofs.Common.{◌≡◌, ℕ, ◌<◌, Bool, true, false, cond, ◌&&◌, ◌||◌, List, Option, Some, None, slice_set, refl, ap, sym, ◌∙◌, eqb}
 use Rattle.std.proofs.lemmas.Bool.{eq-eqb, eqb-true, ne_eqb}
 use Rattle.pte.specs.declared.address.What.{What}

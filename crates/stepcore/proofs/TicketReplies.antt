@@ -1,4 +1,5 @@
--- The replies to events on tickets: what a machine that stands at a history answers is what is due there.
+-- The replies to events on tickets: what a machine that stands at a history answers is what is due
+-- there.
 use Rattle.std.proofs.Common.{◌≡◌, ℕ, ◌<◌, true, cond, not, Option, Some, None, refl, ap, ◌∙◌, arith}
 use Rattle.std.specs.Prelude.{is_some, Err}
 use Rattle.shoot.specs.HartSet.{contains, harts_in}

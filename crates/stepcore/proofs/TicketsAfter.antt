@@ -1,4 +1,5 @@
--- The tickets of a machine that stands at a history, after one more event: they are those of the longer history.
+-- The tickets of a machine that stands at a history, after one more event: they are those of the
+-- longer history.
 use Rattle.std.proofs.Common.{◌≡◌, ℕ, ◌<◌, Bool, true, false, cond, ◌&&◌, List, length, not, Option, Some, None, slice_get, slice_set, refl, ap, sym, ◌∙◌, arith, eqb}
 use Rattle.std.specs.Prelude.{is_none, unwrap_or, Result, Ok, Err}
 use Rattle.std.proofs.lemmas.Bool.{ltb-true, eqb-true, eq-eqb, ne_eqb, and_parts, not-false, false≢true, false_from_ne_true}
@@ -47,7 +48,7 @@ use Rattle.laws.proofs.Waiting.{posted_below}
 use Rattle.stepcore.specs.declared.serving.Serving.{Serving as Service}
 use Rattle.stepcore.specs.State.{State, IsMachine, hart_at, tickets_at}
 use Rattle.stepcore.specs.Answers.{opening_answer, acked_by}
-use Rattle.stepcore.specs.Changes.{put_tickets, acked_after, tickets_after}
+use Rattle.stepcore.specs.Changes.{put_tickets, tickets_after_ack, tickets_after}
 use Rattle.stepcore.specs.Stands.{service_with, ticket_with, ticket_held, ticket_of, tickets_of, Stands}
 use Rattle.stepcore.proofs.TicketsHeld.{ticket_for, OpenHere, open_here, names_told, done_told, held_with, held_changed, held_same}
 use Rattle.stepcore.proofs.TicketMarks.{posted_mark, own_mark, acked_mark, collected_mark, mark_off, ticket_parts, ticket_same, one_number, post_others, own_others, collect_others}
@@ -164,7 +165,7 @@ finished_is C H h t r d z = finish_with C H (open_order H h t) r (passed _ NoHar
 ack_served : (C : Setup) (H : History) (b : ℕ) (r : Reply) → r ≡ due C H (Ack b) → is_ok r ≡ true → is_hart C b ≡ true
 ack_served C H b r d z = not-false (is_hart C b) (passed _ NoHart _ r (sym d) (ok_accepted r z)).0
 
-unmoved : (m : State) (b : ℕ) (serving : Option Service) → acked_after m b false serving ≡ m.tickets
+unmoved : (m : State) (b : ℕ) (serving : Option Service) → tickets_after_ack m b false serving ≡ m.tickets
 unmoved m b None = refl
 unmoved m b (Some serving) = refl
 
@@ -309,7 +310,7 @@ module _ (C : Setup) (m : State) (H : History) (st : Stands C m H) (machine : Is
       })
 
   ack_with : (b : ℕ) (o : Option Sent) → served C H b ≡ o → reply.Ok ≡ due C H (Ack b) → (h : ℕ) → h < C.harts
-      → unwrap_or (slice_get (acked_after m b true (service_with (has_fenced H b) o)) h) (no_tickets h) ≡ tickets_of C (with_turn (Ack b) reply.Ok H) h
+      → unwrap_or (slice_get (tickets_after_ack m b true (service_with (has_fenced H b) o)) h) (no_tickets h) ≡ tickets_of C (with_turn (Ack b) reply.Ok H) h
   ack_with b None q d h below =
       let p = passed _ NoHart _ reply.Ok (sym d) refl in
       let s = passed _ NotServing _ reply.Ok p.1 refl in
@@ -335,7 +336,7 @@ module _ (C : Setup) (m : State) (H : History) (st : Stands C m H) (machine : Is
   ack_after : (b : ℕ) (r : Reply) → r ≡ due C H (Ack b) → (h : ℕ) → h < C.harts → IsAfter (Ack b) r h
   ack_after b reply.Ok d h below =
       let inside : b < C.harts = ltb-true b C.harts (ack_served C H b reply.Ok d refl) in
-      ap (λ (x : Option Service). unwrap_or (slice_get (acked_after m b true x) h) (no_tickets h)) (st.harts b inside).serving
+      ap (λ (x : Option Service). unwrap_or (slice_get (tickets_after_ack m b true x) h) (no_tickets h)) (st.harts b inside).serving
       ∙ ack_with b (served C H b) refl d h below
   ack_after b _ d h below =
       ap (λ (x : List TicketTable). unwrap_or (slice_get x h) (no_tickets h)) (unmoved m b (hart_at m b).serving) ∙ st.tickets h below

@@ -1,4 +1,5 @@
--- The tickets that a history leaves: what each tells, and which table stands after a change at one number.
+-- The tickets that a history leaves: what each tells, and which table stands after a change at one
+-- number.
 use Rattle.std.proofs.Common.{subst, ◌≡◌, ℕ, zero, suc, ◌+◌, ◌<◌, ◌≤◌, Bool, true, false, cond, ◌&&◌, not, List, length, map, Option, Some, None, slice_get, slice_set, refl, ap, sym, ◌∙◌, arith, ltb}
 use Rattle.std.specs.Prelude.{is_some, is_none, unwrap_or}
 use Rattle.std.specs.List.{range_with_len, position_from}
@@ -7,7 +8,7 @@ use Rattle.std.proofs.lemmas.Iterator.Adapters.{position_from-zero}
 use Rattle.std.proofs.lemmas.List.FromFn.{length-map-range_with_len}
 use Rattle.pte.specs.declared.address.What.TheVariants.{All}
 use Rattle.shoot.specs.HartSet.{contains, difference, is_empty, byte_of, harts_where}
-use Rattle.shoot.specs.Tickets.{if_open, ticket_at, is_open, names, is_posted, is_acked, is_collected, what_at, with_ticket, with_change, changed, tells, asked, uncollected, is_done, is_done_at, done_with, progress, lowest_free}
+use Rattle.shoot.specs.Tickets.{if_open, ticket_at, is_open, names, ticket_posted, ticket_acked, ticket_collected, what_at, with_ticket, with_change, changed, tells, asked, uncollected, is_done, is_done_at, done_with, progress, lowest_free}
 use Rattle.shoot.specs.declared.TheConstants.{MAX_HARTS, MAX_TICKETS}
 use Rattle.shoot.specs.declared.tickets.Ticket.{Ticket}
 use Rattle.shoot.specs.declared.tickets.Collected.TheVariants as collected
@@ -87,7 +88,8 @@ ticket_told C H s t l =
 pub length_held : (C : Setup) (H : History) (s : ℕ) → length (tickets_of C H s).tickets ≡ MAX_TICKETS
 length_held C H s = length-map-range_with_len (ticket_of C H s) 0 MAX_TICKETS
 
--- the table with one number's ticket replaced is that of a history that leaves this ticket there, and the others as they are
+-- the table with one number's ticket replaced is that of a history that leaves this ticket there,
+-- and the others as they are
 pub held_with : (C : Setup) (H G : History) (s number : ℕ) (ticket : Option Ticket) → ticket_of C G s number ≡ ticket
     → ((t : ℕ) → (t ≡ number → ⊥) → ticket_of C H s t ≡ ticket_of C G s t) → with_ticket (tickets_of C H s) number ticket ≡ tickets_of C G s
 held_with C H G s number ticket is others =
@@ -152,15 +154,15 @@ names_told C H s t k h l e =
     let o = open_here C H s t k l e in
     ap (λ (x : Option Ticket). tells (λ ticket. ticket.named) x h) o.ticket ∙ ap (λ (x : Option Order). due.names x h) (sym o.is)
 
-pub posted_told : (C : Setup) (H : History) (s t k h : ℕ) → Lawful C H → open_order H s t ≡ Some k → h < MAX_HARTS → is_posted (tickets_of C H s) t h ≡ told.is_posted H k h
+pub posted_told : (C : Setup) (H : History) (s t k h : ℕ) → Lawful C H → open_order H s t ≡ Some k → h < MAX_HARTS → ticket_posted (tickets_of C H s) t h ≡ told.is_posted H k h
 posted_told C H s t k h l e below =
     ap (λ (x : Option Ticket). tells (λ ticket. ticket.posted) x h) (open_here C H s t k l e).ticket ∙ contains_where (told.is_posted H k) h below
 
-pub acked_told : (C : Setup) (H : History) (s t k h : ℕ) → Lawful C H → open_order H s t ≡ Some k → h < MAX_HARTS → is_acked (tickets_of C H s) t h ≡ told.is_acked C H k h
+pub acked_told : (C : Setup) (H : History) (s t k h : ℕ) → Lawful C H → open_order H s t ≡ Some k → h < MAX_HARTS → ticket_acked (tickets_of C H s) t h ≡ told.is_acked C H k h
 acked_told C H s t k h l e below =
     ap (λ (x : Option Ticket). tells (λ ticket. ticket.acked) x h) (open_here C H s t k l e).ticket ∙ contains_where (told.is_acked C H k) h below
 
-pub collected_told : (C : Setup) (H : History) (s t k h : ℕ) → Lawful C H → open_order H s t ≡ Some k → h < MAX_HARTS → is_collected (tickets_of C H s) t h ≡ told.is_collected C H k h
+pub collected_told : (C : Setup) (H : History) (s t k h : ℕ) → Lawful C H → open_order H s t ≡ Some k → h < MAX_HARTS → ticket_collected (tickets_of C H s) t h ≡ told.is_collected C H k h
 collected_told C H s t k h l e below =
     ap (λ (x : Option Ticket). tells (λ ticket. ticket.collected) x h) (open_here C H s t k l e).ticket ∙ contains_where (told.is_collected C H k) h below
 

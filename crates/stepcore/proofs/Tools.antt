@@ -1,4 +1,5 @@
--- Small tools: which harts and places are there for a machine and its setup alike, and whether a hart walks or serves.
+-- Small tools: which harts and places are there for a machine and its setup alike, and whether a
+-- hart walks or serves.
 use Rattle.pte.specs.declared.scheme.Scheme.{Scheme}
 use Rattle.std.proofs.Common.{◌≡◌, ℕ, ◌<◌, Bool, true, false, ◌&&◌, not, Option, Some, None, refl, ap, sym, ◌∙◌, eqb}
 use Rattle.std.specs.Prelude.{is_some}

@@ -16,9 +16,9 @@ use Rattle.spaces.specs.declared.faults.MapFault.{MapFault}
 use Rattle.spaces.specs.Edits.{Store, place_of}
 use Rattle.tlb.specs.Entries.{first_match}
 use Rattle.pte.specs.Address.{is_canonical}
-use Rattle.shoot.specs.Request.{Message}
+use Rattle.shoot.specs.Request.{Request}
 use Rattle.shoot.specs.Mailbox.{MailboxState, post_fault, first_waiting}
-use Rattle.shoot.specs.Tickets.{TicketTable, is_open, names, is_posted, is_done_at, open_answer, progress_at, after_acked, after_collect}
+use Rattle.shoot.specs.Tickets.{TicketTable, is_open, names, ticket_posted, is_done_at, open_answer, progress_at, after_acked, after_collect}
 use Rattle.shoot.specs.declared.mailbox.PostFault.{PostFault}
 use Rattle.shoot.specs.declared.mailbox.PostFault.TheVariants as fault
 use Rattle.shoot.specs.declared.tickets.TicketFault.{TicketFault}
@@ -50,9 +50,9 @@ use Rattle.stepcore.specs.declared.space_state.SpaceState.{SpaceState}
 use Rattle.stepcore.specs.State.{State, HartState, setup_in, words_in, holders_in, hart_at, space_at, tickets_at, mailbox_at}
 
 -- the phase of a space, and which spaces, places and scopes are there
-abbrev pub is_free : Phase → Bool
-is_free phase.Free = true
-is_free _ = false
+abbrev pub is_free_phase : Phase → Bool
+is_free_phase phase.Free = true
+is_free_phase _ = false
 
 abbrev pub is_retiring : Phase → Bool
 is_retiring (phase.Retiring ticket) = true
@@ -62,7 +62,7 @@ abbrev pub is_number : State → ℕ → Bool
 is_number m space = nat_lt space (length m.spaces)
 
 abbrev pub is_space : State → ℕ → Bool
-is_space m space = is_number m space && not (is_free (space_at m space).phase)
+is_space m space = is_number m space && not (is_free_phase (space_at m space).phase)
 
 -- the ASID of a space that is there and not free
 abbrev pub asid_of_space : State → ℕ → Option ℕ
@@ -85,20 +85,20 @@ scope_retires m (scope.Space space) = is_retiring (space_at m space).phase
 scope_retires m scope.All = false
 
 -- what the harts are asked to drop for a page and for a scope
-abbrev pub asid_of : State → Place → Option ℕ
-asid_of m (Space space) = Some (space_at m space).asid
-asid_of m Kernel = None
+abbrev pub asid_of_place : State → Place → Option ℕ
+asid_of_place m (Space space) = Some (space_at m space).asid
+asid_of_place m Kernel = None
 
 abbrev pub page_request : State → Place → Span → What
-page_request m place page = PageOf page (asid_of m place)
+page_request m place page = PageOf page (asid_of_place m place)
 
-abbrev pub scope_request : State → Scope → What
-scope_request m (scope.Space space) = SpaceOf (space_at m space).asid
-scope_request m scope.All = All
+abbrev pub request_of_scope : State → Scope → What
+request_of_scope m (scope.Space space) = SpaceOf (space_at m space).asid
+request_of_scope m scope.All = All
 
 -- Begin: the TLB answers, or a walk begins
-abbrev pub asid_in : State → HartState → ℕ
-asid_in m hart = (space_at m hart.space).asid
+abbrev pub asid_of_hart : State → HartState → ℕ
+asid_of_hart m hart = (space_at m hart.space).asid
 
 -- what an access is answered at once, as a reply
 abbrev pub reply_at_once : AtOnce → Reply
@@ -108,7 +108,7 @@ reply_at_once (at_once.Trap trap) = reply.Trap trap
 abbrev pub access_answer : State → HartState → ℕ → Access → Ctx → Reply
 access_answer m hart va access ctx =
     if is_canonical m.memory.layout.scheme va
-    then match_reply va access ctx (first_match hart.entries (asid_in m hart) va)
+    then match_reply va access ctx (first_match hart.entries (asid_of_hart m hart) va)
     else reply.Trap (page_trap access NotCanonical)
 
 abbrev pub begin_answer : State → HartState → ℕ → Access → Ctx → Reply
@@ -172,11 +172,11 @@ post_answer tickets mailbox ticket to =
     first_of (
     when (not (is_open tickets ticket)) NotOpen
     ∷ when (not (names tickets ticket to)) NotNamed
-    ∷ when (is_posted tickets ticket to) AlreadyPosted ∷ [])
+    ∷ when (ticket_posted tickets ticket to) AlreadyPosted ∷ [])
     (box_answer (post_fault mailbox))
 
 -- Take: the first request that waits
-abbrev pub next_answer : Option Message → Reply
+abbrev pub next_answer : Option Request → Reply
 next_answer None = reply.Refused Empty
 next_answer (Some request) = reply.Taken request
 
@@ -206,7 +206,8 @@ progress_reply (collected.Waiting harts) = reply.Waiting harts
 
 -- the tickets once a hart acknowledged one, if it names the hart
 abbrev pub acked_by : TicketTable → ℕ → ℕ → TicketTable
-acked_by tickets ticket hart = if names tickets ticket hart then after_acked tickets ticket hart else tickets
+acked_by tickets ticket hart =
+    if names tickets ticket hart then after_acked tickets ticket hart else tickets
 
 abbrev pub ack_self_answer : HartState → TicketTable → ℕ → ℕ → Reply
 ack_self_answer hart tickets ticket number =
@@ -241,12 +242,13 @@ is_in_use m space = list_any (λ hart. hart.space == space) m.harts
 abbrev pub reclaim_answer : TicketTable → Phase → Reply
 reclaim_answer tickets phase.Live = reply.Refused NotRetiring
 reclaim_answer tickets (phase.Retiring None) = reply.Ok
-reclaim_answer tickets (phase.Retiring (Some ticket)) = first_of (when (not (is_done_at tickets ticket)) NotAcked ∷ []) reply.Ok
+reclaim_answer tickets (phase.Retiring (Some ticket)) =
+    first_of (when (not (is_done_at tickets ticket)) NotAcked ∷ []) reply.Ok
 reclaim_answer tickets phase.Free = reply.Refused NoSpace
 
 -- Create: a space that is not free has the ASID
 abbrev pub has_asid : SpaceState → ℕ → Bool
-has_asid space asid = not (is_free space.phase) && (space.asid == asid)
+has_asid space asid = not (is_free_phase space.phase) && (space.asid == asid)
 
 abbrev pub is_asid_used : State → ℕ → Bool
 is_asid_used m asid = list_any (λ space. has_asid space asid) m.spaces
@@ -254,9 +256,11 @@ is_asid_used m asid = list_any (λ space. has_asid space asid) m.spaces
 -- what an event is answered: NoHart first, then the refusals of the event in order
 abbrev pub reply_to : State → Event → Reply
 reply_to m (Begin hart va access ctx) =
-    first_of (when (not (is_hart (setup_in m) hart)) NoHart ∷ []) (begin_answer m (hart_at m hart) va access ctx)
+    first_of (when (not (is_hart (setup_in m) hart)) NoHart ∷ [])
+    (begin_answer m (hart_at m hart) va access ctx)
 reply_to m (Load hart) =
-    first_of (when (not (is_hart (setup_in m) hart)) NoHart ∷ []) (load_answer (words_in m) (hart_at m hart).walk)
+    first_of (when (not (is_hart (setup_in m) hart)) NoHart ∷ [])
+    (load_answer (words_in m) (hart_at m hart).walk)
 reply_to m (Map hart place page ppn flags) =
     first_of (
     when (not (is_hart (setup_in m) hart)) NoHart
@@ -294,19 +298,26 @@ reply_to m (Fence hart rs1 rs2) =
     ∷ when (is_some (hart_at m hart).walk) Walking ∷ [])
     reply.Ok
 reply_to m (Post hart ticket to) =
-    first_of (when (not (are_pair (setup_in m) hart to)) NoHart ∷ []) (post_answer (tickets_at m hart) (mailbox_at m hart to) ticket to)
+    first_of (when (not (are_pair (setup_in m) hart to)) NoHart ∷ [])
+    (post_answer (tickets_at m hart) (mailbox_at m hart to) ticket to)
 reply_to m (Take hart from) =
-    first_of (when (not (are_pair (setup_in m) hart from)) NoHart ∷ []) (take_answer (hart_at m hart) (mailbox_at m from hart))
+    first_of (when (not (are_pair (setup_in m) hart from)) NoHart ∷ [])
+    (take_answer (hart_at m hart) (mailbox_at m from hart))
 reply_to m (ServeFence hart) =
-    first_of (when (not (is_hart (setup_in m) hart)) NoHart ∷ []) (serve_fence_answer (hart_at m hart))
+    first_of (when (not (is_hart (setup_in m) hart)) NoHart ∷ [])
+    (serve_fence_answer (hart_at m hart))
 reply_to m (Ack hart) =
-    first_of (when (not (is_hart (setup_in m) hart)) NoHart ∷ []) (ack_answer (hart_at m hart).serving)
+    first_of (when (not (is_hart (setup_in m) hart)) NoHart ∷ [])
+    (ack_answer (hart_at m hart).serving)
 reply_to m (AckSelf hart ticket) =
-    first_of (when (not (is_hart (setup_in m) hart)) NoHart ∷ []) (ack_self_answer (hart_at m hart) (tickets_at m hart) ticket hart)
+    first_of (when (not (is_hart (setup_in m) hart)) NoHart ∷ [])
+    (ack_self_answer (hart_at m hart) (tickets_at m hart) ticket hart)
 reply_to m (Collect hart ticket from) =
-    first_of (when (not (are_pair (setup_in m) hart from)) NoHart ∷ []) (collect_answer (tickets_at m hart) ticket from)
+    first_of (when (not (are_pair (setup_in m) hart from)) NoHart ∷ [])
+    (collect_answer (tickets_at m hart) ticket from)
 reply_to m (Finish hart ticket) =
-    first_of (when (not (is_hart (setup_in m) hart)) NoHart ∷ []) (finish_answer (tickets_at m hart) ticket)
+    first_of (when (not (is_hart (setup_in m) hart)) NoHart ∷ [])
+    (finish_answer (tickets_at m hart) ticket)
 reply_to m (Close hart to) =
     first_of (
     when (not (are_pair (setup_in m) hart to)) NoHart
@@ -331,6 +342,6 @@ reply_to m (Create hart space asid) =
     when (not (is_hart (setup_in m) hart)) NoHart
     ∷ when (not (is_number m space)) NoSpace
     ∷ when (not (hart == home_of m.memory.layout (Space space))) NotHome
-    ∷ when (not (is_free (space_at m space).phase)) NotFree
+    ∷ when (not (is_free_phase (space_at m space).phase)) NotFree
     ∷ when (is_asid_used m asid) AsidInUse ∷ [])
     reply.Ok

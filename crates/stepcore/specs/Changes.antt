@@ -10,9 +10,9 @@ use Rattle.spaces.specs.Layout.{root_ppn}
 use Rattle.tlb.specs.Entries.{filled}
 use Rattle.tlb.specs.Answer.{entry_of}
 use Rattle.tlb.specs.Fence.{fenced}
-use Rattle.tlb.specs.Service.{served}
+use Rattle.tlb.specs.Service.{after_service}
 use Rattle.shoot.specs.Mailbox.{MailboxState, can_release, after_post, after_take, after_release, after_close}
-use Rattle.shoot.specs.Tickets.{TicketTable, is_acked, is_collected, what_at, after_open, after_posted, after_collect, after_finish}
+use Rattle.shoot.specs.Tickets.{TicketTable, ticket_acked, ticket_collected, what_at, after_open, after_posted, after_collect, after_finish}
 use Rattle.history.specs.declared.event.Event.{Event}
 use Rattle.history.specs.declared.event.Event.TheVariants.{Begin, Load, Map, Unmap, Protect, Flush, Switch, Fence, Post, Take, ServeFence, Ack, AckSelf, Collect, Finish, Close, Retire, Reclaim, Create}
 use Rattle.history.specs.declared.reply.Reply.{Reply}
@@ -31,7 +31,7 @@ use Rattle.stepcore.specs.declared.space_state.Phase.{Phase}
 use Rattle.stepcore.specs.declared.space_state.Phase.TheVariants as phase
 use Rattle.stepcore.specs.declared.serving.Serving.{Serving as Service}
 use Rattle.stepcore.specs.State.{State, HartState, setup_in, words_in, holders_in, hart_at, space_at, tickets_at, mailbox_at, mailbox_index}
-use Rattle.stepcore.specs.Answers.{reply_to, asid_in, next_of, acked_by, page_request, scope_request, every_hart}
+use Rattle.stepcore.specs.Answers.{reply_to, asid_of_hart, next_of, acked_by, page_request, request_of_scope, every_hart}
 
 -- what a ticket asks
 abbrev pub what_in : TicketTable → ℕ → What
@@ -59,7 +59,7 @@ with_served None hart = hart
 with_served (Some serving) hart =
     record hart {
       serving = Some (record { from = serving.from; request = serving.request; fenced = true });
-      entries = served hart.entries serving.request.what;
+      entries = after_service hart.entries serving.request.what;
     }
 
 -- the reply is no refusal
@@ -81,7 +81,8 @@ harts_after m (Begin hart va access ctx) reply =
     })
 harts_after m (Load hart) reply =
     put_hart m hart (is_accepted reply)
-    (with_load (words_in m) (asid_in m (hart_at m hart)) (hart_at m hart).walk (hart_at m hart))
+    (with_load (words_in m) (asid_of_hart m (hart_at m hart)) (hart_at m hart).walk
+    (hart_at m hart))
 harts_after m (Switch hart space) reply =
     put_hart m hart (is_ok reply) (record (hart_at m hart) { space = space })
 harts_after m (Fence hart rs1 rs2) reply =
@@ -98,7 +99,7 @@ harts_after m (Ack hart) reply =
 harts_after m (AckSelf hart ticket) reply =
     put_hart m hart (is_progress reply)
     (record (hart_at m hart) {
-      entries = served (hart_at m hart).entries (what_in (tickets_at m hart) ticket);
+      entries = after_service (hart_at m hart).entries (what_in (tickets_at m hart) ticket);
     })
 harts_after m _ reply = m.harts
 
@@ -106,9 +107,9 @@ harts_after m _ reply = m.harts
 abbrev pub put_tickets : State → ℕ → Bool → TicketTable → List TicketTable
 put_tickets m hart test tickets = if test then slice_set m.tickets hart tickets else m.tickets
 
-abbrev pub acked_after : State → ℕ → Bool → Option Service → List TicketTable
-acked_after m hart test None = m.tickets
-acked_after m hart test (Some serving) =
+abbrev pub tickets_after_ack : State → ℕ → Bool → Option Service → List TicketTable
+tickets_after_ack m hart test None = m.tickets
+tickets_after_ack m hart test (Some serving) =
     put_tickets m serving.from test
     (acked_by (tickets_at m serving.from) serving.request.ticket hart)
 
@@ -121,13 +122,13 @@ tickets_after m (Protect hart place page flags named) reply =
     (after_open (tickets_at m hart) (page_request m place page) named)
 tickets_after m (Flush hart scope named) reply =
     put_tickets m hart (is_opened reply)
-    (after_open (tickets_at m hart) (scope_request m scope) named)
+    (after_open (tickets_at m hart) (request_of_scope m scope) named)
 tickets_after m (Retire hart space) reply =
     put_tickets m hart (is_opened reply)
     (after_open (tickets_at m hart) (SpaceOf (space_at m space).asid) (every_hart m))
 tickets_after m (Post hart ticket to) reply =
     put_tickets m hart (is_ok reply) (after_posted (tickets_at m hart) ticket to)
-tickets_after m (Ack hart) reply = acked_after m hart (is_ok reply) (hart_at m hart).serving
+tickets_after m (Ack hart) reply = tickets_after_ack m hart (is_ok reply) (hart_at m hart).serving
 tickets_after m (AckSelf hart ticket) reply =
     put_tickets m hart (is_progress reply) (acked_by (tickets_at m hart) ticket hart)
 tickets_after m (Collect hart ticket from) reply =
@@ -166,7 +167,7 @@ put_mailbox m sender receiver test mailbox =
 -- the acknowledgement of a hart is there, and not collected yet
 abbrev pub is_collectable : TicketTable → ℕ → ℕ → Bool
 is_collectable tickets ticket from =
-    is_acked tickets ticket from && not (is_collected tickets ticket from)
+    ticket_acked tickets ticket from && not (ticket_collected tickets ticket from)
 
 abbrev pub mailboxes_after : State → Event → Reply → List MailboxState
 mailboxes_after m (Post hart ticket to) reply =

@@ -5,7 +5,7 @@ use Rattle.pte.specs.declared.scheme.Scheme.{Scheme}
 use Rattle.pte.specs.declared.scheme.Scheme.TheVariants.{Sv39}
 use Rattle.walk.specs.Leads.{Tables}
 use Rattle.walk.specs.Stage.{Stage}
-use Rattle.spaces.specs.Held.{Held, words_of, holders_of}
+use Rattle.spaces.specs.Held.{Held, memory_words, holders_of}
 use Rattle.spaces.specs.Holders.{Holders}
 use Rattle.tlb.specs.declared.store.Entry.{Entry}
 use Rattle.shoot.specs.declared.TheConstants.{MAX_HARTS}
@@ -35,7 +35,7 @@ pub record State : Type 0 where
 
 -- the words of the tables, and for which place each spare frame is in use
 abbrev pub words_in : State → Tables
-words_in m = words_of m.memory
+words_in m = memory_words m.memory
 
 abbrev pub holders_in : State → Holders
 holders_in m = holders_of m.memory

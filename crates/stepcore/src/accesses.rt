@@ -8,7 +8,7 @@ ghost use Rattle.history.specs.Turns.{is_more};
 ghost use Rattle.history.specs.declared.reply.Reply.TheVariants.{More};
 ghost use Rattle.history.specs.declared.event.Event.TheVariants.{Begin, Load, Switch, Fence};
 ghost use Rattle.stepcore.specs.State.{hart_at, words_in};
-ghost use Rattle.stepcore.specs.Answers.{access_answer, reply_at_once, asid_in, next_of, progress_answer};
+ghost use Rattle.stepcore.specs.Answers.{access_answer, reply_at_once, asid_of_hart, next_of, progress_answer};
 ghost use Rattle.stepcore.specs.Runs.{entries_in};
 ghost use Rattle.stepcore.specs.Changes.{Answers, is_accepted, with_progress};
 
@@ -96,7 +96,7 @@ impl Machine {
         requires { hart < length self.old.harts }
         ensures { self.new ≡ record self.old {
           harts = slice_set self.old.harts hart
-              (with_progress (asid_in self.old (hart_at self.old hart)) progress.now
+              (with_progress (asid_of_hart self.old (hart_at self.old hart)) progress.now
               (hart_at self.old hart));
         } }
     {

@@ -2,9 +2,9 @@
 
 ghost use Rattle.std.specs.Prelude.{◌≡◌, ◌<◌, false, true, length, IsTrue, IfOk, IfErr, Ok, OnOk, OnErr, slice_set, ℕ};
 ghost use Rattle.pte.specs.Entry.{kind_of};
-ghost use Rattle.spaces.specs.Applied.{holders_after, words_after};
+ghost use Rattle.spaces.specs.Applied.{holders_after, words_after_store};
 ghost use Rattle.spaces.specs.Edits.{edit_of, page_of, place_of};
-ghost use Rattle.spaces.specs.Held.{IsDue, IsMemory, spare_of, words_of};
+ghost use Rattle.spaces.specs.Held.{IsDue, IsMemory, spare_of, memory_words};
 ghost use Rattle.spaces.specs.Layout.{HasPlace};
 ghost use Rattle.shoot.specs.Tickets.{after_open};
 ghost use Rattle.history.specs.Due.{edit_reply, map_reply, stored_reply};
@@ -13,7 +13,7 @@ ghost use Rattle.history.specs.declared.event.Event.TheVariants.{Map, Flush};
 ghost use Rattle.history.specs.declared.reply.Reply.{Reply as ReplyOf};
 ghost use Rattle.history.specs.declared.reply.Reply.TheVariants as reply;
 ghost use Rattle.stepcore.specs.State.{holders_in, tickets_at, words_in};
-ghost use Rattle.stepcore.specs.Answers.{at_place, edit_in, is_place, is_scope, open_in, page_request, retires, scope_request};
+ghost use Rattle.stepcore.specs.Answers.{at_place, edit_in, is_place, is_scope, open_in, page_request, retires, request_of_scope};
 ghost use Rattle.stepcore.specs.Changes.{Answers, event_of, is_accepted, is_change};
 
 use crate::conditions::refuse;
@@ -59,7 +59,7 @@ impl Machine {
         requires { IsDue self.old.memory edit }
         ensures layout { self.new.memory.layout ≡ self.old.memory.layout }
         ensures words { (ppn i : ℕ)
-            → words_in self.new ppn i ≡ words_after (words_in self.old) edit ppn i }
+            → words_in self.new ppn i ≡ words_after_store (words_in self.old) edit ppn i }
         ensures holders { (ppn : ℕ)
             → holders_in self.new ppn ≡ holders_after (holders_in self.old) edit.place edit ppn }
         ensures others { self.new ≡ record self.old { memory = self.new.memory } }
@@ -163,7 +163,7 @@ impl Machine {
     /// What the harts are asked to drop for a scope.
     fn scope_request(&self, scope: Scope) -> What
         requires { IsTrue (is_scope self.now scope) }
-        ensures { result ≡ scope_request self.now scope }
+        ensures { result ≡ request_of_scope self.now scope }
     {
         match scope {
             Scope::Space(space) => What::SpaceOf(self.space(space).asid),

@@ -4,7 +4,7 @@ ghost use Rattle.std.specs.Prelude.{◌≡◌, ◌↔◌, IsSome, IfSome, IfNone
 ghost use Rattle.tlb.specs.Entries.{first_match};
 ghost use Rattle.tlb.specs.Fence.{fenced};
 ghost use Rattle.tlb.specs.Mappings.{IsMappedBy, Translates};
-ghost use Rattle.tlb.specs.Service.{served};
+ghost use Rattle.tlb.specs.Service.{after_service};
 ghost use Rattle.history.specs.Due.{match_reply};
 ghost use Rattle.history.specs.Turns.{is_more};
 ghost use Rattle.history.specs.declared.reply.Reply.TheVariants.{More};
@@ -192,7 +192,7 @@ impl Hart {
 
     /// Drops what a request asks to drop.
     pub(crate) fn serve(&mut self, what: &What)
-        ensures { self.new ≡ record self.old { entries = served self.old.entries what.now } }
+        ensures { self.new ≡ record self.old { entries = after_service self.old.entries what.now } }
     {
         self.tlb.serve(what);
     }

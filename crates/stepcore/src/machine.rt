@@ -50,7 +50,7 @@ impl Model for Machine {
 impl Machine {
     ghost use Rattle.history.specs.Due.{are_pair, are_harts};
     ghost use Rattle.history.specs.Setup.{is_hart};
-    ghost use Rattle.stepcore.specs.Answers.{asid_in, asid_of_space, is_free, is_number, is_place, is_retiring, is_scope, is_space, retires, scope_retires};
+    ghost use Rattle.stepcore.specs.Answers.{asid_of_hart, asid_of_space, is_free_phase, is_number, is_place, is_retiring, is_scope, is_space, retires, scope_retires};
 
     /// How many harts there are, with numbers from 0 on.
     pub fn harts(&self) -> u8
@@ -218,7 +218,7 @@ impl Machine {
     /// The ASID of the space that a hart runs in.
     pub fn asid(&self, hart: u8) -> u16
         requires { hart < length self.now.harts }
-        ensures { result ≡ asid_in self.now (hart_at self.now hart) }
+        ensures { result ≡ asid_of_hart self.now (hart_at self.now hart) }
     {
         let hart = self.hart(hart);
         self.spaces[usize::from(hart.space())].asid

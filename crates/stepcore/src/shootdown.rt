@@ -3,7 +3,7 @@
 ghost use Rattle.std.specs.Prelude.{◌≡◌, ◌<◌, ◌&&◌, false, true, length, IsTrue, IfOk, IfErr, OnOk, OnErr, IfSome, IfNone, slice_set, None, Some};
 ghost use Rattle.shoot.specs.Mailbox.{can_release, post_fault, first_waiting, after_post, after_take, after_release};
 ghost use Rattle.shoot.specs.Tickets.{is_done_at, is_open, names, progress_at, after_posted, after_collect, after_finish};
-ghost use Rattle.tlb.specs.Service.{served};
+ghost use Rattle.tlb.specs.Service.{after_service};
 ghost use Rattle.history.specs.Turns.{is_progress};
 ghost use Rattle.refusals.specs.declared.refusal.Refusal.TheVariants.{NotDone};
 ghost use Rattle.history.specs.declared.event.Event.TheVariants.{Post, Take, ServeFence, Ack, AckSelf, Collect, Finish, Close};
@@ -242,7 +242,7 @@ impl Machine {
         ensures { self.new ≡ record self.old {
           harts = slice_set self.old.harts hart
               (record (hart_at self.old hart) {
-                entries = served (hart_at self.old hart).entries what.now;
+                entries = after_service (hart_at self.old hart).entries what.now;
               });
         } }
     {

@@ -24,11 +24,11 @@ pub struct SpaceState {
 }
 
 impl Phase {
-    ghost use Rattle.stepcore.specs.Answers.{is_free, is_retiring};
+    ghost use Rattle.stepcore.specs.Answers.{is_free_phase, is_retiring};
 
     /// Whether it is free.
     pub fn is_free(self) -> bool
-        ensures { result ≡ is_free self }
+        ensures { result ≡ is_free_phase self }
     {
         match self {
             Phase::Live => false,

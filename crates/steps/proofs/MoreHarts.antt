@@ -1,4 +1,5 @@
--- Where there are more harts a text says the same, unless it named one that was not there; and then it is a step still.
+-- Where there are more harts a text says the same, unless it named one that was not there; and then
+-- it is a step still.
 use Rattle.pte.specs.declared.scheme.Scheme.{Scheme}
 use Rattle.std.proofs.Common.{◌≡◌, ◌⊎◌, ℕ, ◌<◌, ◌≤◌, Bool, true, false, nat_lt, List, [], ◌∷◌, Option, Some, None, Result, Ok, Err, refl, sym, ◌∙◌, inl, inr, arith, if◌then◌else◌}
 use Rattle.std.proofs.lemmas.Bool.{cases_lt}

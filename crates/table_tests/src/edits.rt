@@ -321,7 +321,8 @@ fn edits_refused_by_what_is_asked(rt: HostRuntime) {
     }
 }
 
-/// Of several refusals the first is told: the home, the half, the flags, the PPN, its alignment, and then the tables.
+/// Of several refusals the first is told: the home, the half, the flags, the PPN, its alignment,
+/// and then the tables.
 #[test]
 fn first_refusal_is_told(rt: HostRuntime) {
     let mut memory = with_large_page(&rt, rt.alloc());
@@ -402,7 +403,8 @@ fn slots_of_the_window(rt: HostRuntime) {
     }
 }
 
-/// Flags that a leaf may have, and some that none has: X alone is a leaf, and U, A and D alone are not.
+/// Flags that a leaf may have, and some that none has: X alone is a leaf, and U, A and D alone are
+/// not.
 #[test]
 fn flags_of_leaves(rt: HostRuntime) {
     let mut memory = with_large_page(&rt, rt.alloc());
@@ -428,8 +430,9 @@ fn flags_of_leaves(rt: HostRuntime) {
     }
 }
 
-/// Two harts with 3 and 2 spare frames, two spaces at home on hart 1 and hart 0, and two slots of the window. So the frames
-/// are: the window's at 0x80000, the roots at 0x80002, hart 0's spares at 0x80004, and hart 1's at 0x80007.
+/// Two harts with 3 and 2 spare frames, two spaces at home on hart 1 and hart 0, and two slots of
+/// the window. So the frames are: the window's at 0x80000, the roots at 0x80002, hart 0's spares at
+/// 0x80004, and hart 1's at 0x80007.
 fn two_homes(rt: &impl Abort, alloc: Global) -> Memory {
     let config = Config {
         window: 2,

@@ -1,4 +1,5 @@
-//! Tables worked by hand from the bits, fields and rules of the RISC-V privileged manual, chapter 4.
+//! Tables worked by hand from the bits, fields and rules of the RISC-V privileged manual, chapter
+//! 4.
 
 use bitflags::Flags;
 use pte::{
@@ -18,7 +19,8 @@ fn are_kinds(rt: &impl Abort, rows: &[(u64, Kind)]) {
     }
 }
 
-/// V clear is invalid, whatever else is set; then a W without R is reserved, and a pointer with U, A or D.
+/// V clear is invalid, whatever else is set; then a W without R is reserved, and a pointer with U,
+/// A or D.
 #[test]
 fn words_of_no_meaning(rt: HostRuntime) {
     are_kinds(
@@ -281,7 +283,8 @@ fn is_canonical(va: u64, in_39: bool, in_48: bool) -> bool {
     is_wide && narrow.is_some() == in_39 && VirtAddr::new(va) == narrow
 }
 
-/// In Sv39 bits 63 to 39 equal bit 38, in Sv48 bits 63 to 48 equal bit 47: an address, and whether it is canonical in each.
+/// In Sv39 bits 63 to 39 equal bit 38, in Sv48 bits 63 to 48 equal bit 47: an address, and whether
+/// it is canonical in each.
 #[test]
 fn canonical_addresses_of_each_scheme(rt: HostRuntime) {
     let rows = [
@@ -324,7 +327,8 @@ fn has_fields(va: VirtAddr, vpns: [u16; 4], offset: u16) -> bool {
     [va.vpn(3), va.vpn(2), va.vpn(1), va.vpn(0)] == vpns && va.offset() == offset
 }
 
-/// VPN[3] is bits 47 to 39, VPN[2] bits 38 to 30, VPN[1] bits 29 to 21, VPN[0] bits 20 to 12, and the offset bits 11 to 0.
+/// VPN[3] is bits 47 to 39, VPN[2] bits 38 to 30, VPN[1] bits 29 to 21, VPN[0] bits 20 to 12, and
+/// the offset bits 11 to 0.
 #[test]
 fn fields_of_an_address(rt: HostRuntime) {
     let rows = [

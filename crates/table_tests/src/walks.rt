@@ -8,8 +8,8 @@ use std::ops::ControlFlow;
 use std::process::Abort;
 use walk::{Found, Progress, Trap, Walk, Why, Words, flags_fault, translate, translate_in};
 
-/// Three frames at 0x80000 to 0x80002: a root and a middle table whose word at index 2 is not 0, and a low table whose
-/// word at index 3 is not. The loads are counted.
+/// Three frames at 0x80000 to 0x80002: a root and a middle table whose word at index 2 is not 0,
+/// and a low table whose word at index 3 is not. The loads are counted.
 #[derive(Drop)]
 struct Memory {
     root: u64,
@@ -153,7 +153,8 @@ fn pages_of_each_size(rt: HostRuntime) {
     }
 }
 
-/// The ends of the two halves, and an address of the high half whose fields but the top one are those of VA.
+/// The ends of the two halves, and an address of the high half whose fields but the top one are
+/// those of VA.
 #[test]
 fn addresses_of_each_half(rt: HostRuntime) {
     let rows = [
@@ -234,7 +235,8 @@ fn accesses_by_permission(rt: HostRuntime) {
     );
 }
 
-/// Permission is tested first, then A, then D for a store: leaves with V, R and U, and with W; W and D; W and A; or X.
+/// Permission is tested first, then A, then D for a store: leaves with V, R and U, and with W; W
+/// and D; W and A; or X.
 #[test]
 fn accesses_by_a_and_d(rt: HostRuntime) {
     let neither = 0x48D_1417;
@@ -491,7 +493,8 @@ fn loads_are_counted(rt: HostRuntime) {
     }
 }
 
-/// What flags alone refuse, as a TLB entry answers: the words are leaves with V, R and U, then with A, W and D too.
+/// What flags alone refuse, as a TLB entry answers: the words are leaves with V, R and U, then with
+/// A, W and D too.
 #[test]
 fn flags_refuse(rt: HostRuntime) {
     let rows = [
@@ -511,8 +514,9 @@ fn flags_refuse(rt: HostRuntime) {
     }
 }
 
-/// Four frames at 0x80000 to 0x80003, for Sv48: a root whose word at index 1 is not 0, two tables whose word at index 2 is
-/// not, and a low table whose word at index 3 is not. The loads are counted.
+/// Four frames at 0x80000 to 0x80003, for Sv48: a root whose word at index 1 is not 0, two tables
+/// whose word at index 2 is not, and a low table whose word at index 3 is not. The loads are
+/// counted.
 #[derive(Drop)]
 struct FourFrames {
     root: u64,
@@ -525,7 +529,8 @@ struct FourFrames {
 impl Words for FourFrames {
     ghost use Rattle.walk.specs.Frames.{four_frames};
 
-    ghost words = { λ memory ppn index. four_frames memory.root memory.upper memory.middle memory.low ppn index };
+    ghost words = { λ memory ppn index. four_frames memory.root memory.upper memory.middle memory.low ppn
+        index };
 
     fn word(&self, ppn: u64, index: u16) -> Option<u64> {
         self.loads.set(self.loads.get().wrapping_add(1));
@@ -604,7 +609,8 @@ fn pages_of_sv48(rt: HostRuntime) {
     }
 }
 
-/// The last page of 512 GiB and of 4 KiB, and words that end a walk of Sv48, with the loads that they take.
+/// The last page of 512 GiB and of 4 KiB, and words that end a walk of Sv48, with the loads that
+/// they take.
 #[test]
 fn hostile_words_of_sv48(rt: HostRuntime) {
     let [root, upper, middle, _] = DEEP_WORDS;
@@ -645,7 +651,8 @@ fn hostile_words_of_sv48(rt: HostRuntime) {
     }
 }
 
-/// The ends of the two halves of each scheme: an address that is not canonical is refused before any word is read.
+/// The ends of the two halves of each scheme: an address that is not canonical is refused before
+/// any word is read.
 #[test]
 fn halves_of_each_scheme(rt: HostRuntime) {
     let rows = [

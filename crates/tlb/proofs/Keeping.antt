@@ -13,7 +13,7 @@ use Rattle.tlb.specs.declared.store.Entry.{Entry}
 use Rattle.tlb.specs.Entries.{filled, IsTlb}
 use Rattle.tlb.specs.declared.store.TheConstants.{TLB_SIZE}
 use Rattle.tlb.specs.Fence.{fenced, is_fenced, is_of_space}
-use Rattle.tlb.specs.Service.{is_served, served}
+use Rattle.tlb.specs.Service.{is_dropped, after_service}
 
 length-filter-le : (p : Entry → Bool) (entries : List Entry) → length (filter p entries) ≤ length entries
 length-filter-le p entries = omega (arith, length-filter p entries, count_by-le-length p entries)
@@ -47,8 +47,8 @@ IsTlb-filled entries e tlb page = record {
 pub AllPass-fenced : (scheme : Scheme) (p : Entry → Bool) (entries : List Entry) (rs1 rs2 : Option ℕ) → AllPass p entries → AllPass p (fenced scheme entries rs1 rs2)
 AllPass-fenced scheme p entries rs1 rs2 all = All-filter (λ e. not (is_fenced scheme rs1 rs2 e)) (λ e. p e ≡ true) entries all
 
-pub AllPass-served : (p : Entry → Bool) (entries : List Entry) (what : What) → AllPass p entries → AllPass p (served entries what)
-AllPass-served p entries what all = All-filter (λ e. not (is_served what e)) (λ e. p e ≡ true) entries all
+pub AllPass-served : (p : Entry → Bool) (entries : List Entry) (what : What) → AllPass p entries → AllPass p (after_service entries what)
+AllPass-served p entries what all = All-filter (λ e. not (is_dropped what e)) (λ e. p e ≡ true) entries all
 
 pub AllPass-filled : (p : Entry → Bool) (entries : List Entry) (e : Entry) → AllPass p entries → IsTrue (p e) → AllPass p (filled entries e)
 AllPass-filled p entries e all new = All-filled (λ x. p x ≡ true) entries e all new
@@ -56,8 +56,8 @@ AllPass-filled p entries e all new = All-filled (λ x. p x ≡ true) entries e a
 pub fenced_are_gone : (scheme : Scheme) (entries : List Entry) (rs1 rs2 : Option ℕ) → AllPass (λ e. not (is_fenced scheme rs1 rs2 e)) (fenced scheme entries rs1 rs2)
 fenced_are_gone scheme entries rs1 rs2 = filter_passes (λ e. not (is_fenced scheme rs1 rs2 e)) entries
 
-pub served_are_gone : (entries : List Entry) (what : What) → AllPass (λ e. not (is_served what e)) (served entries what)
-served_are_gone entries what = filter_passes (λ e. not (is_served what e)) entries
+pub served_are_gone : (entries : List Entry) (what : What) → AllPass (λ e. not (is_dropped what e)) (after_service entries what)
+served_are_gone entries what = filter_passes (λ e. not (is_dropped what e)) entries
 
 -- what is left or filled was there or is new
 pub Contains-filter : (p : Entry → Bool) (entries : List Entry) (e : Entry) → Contains (filter p entries) e → Contains entries e

@@ -13,7 +13,7 @@ use Rattle.tlb.specs.Entries.{filled, holds, is_match}
 use Rattle.tlb.specs.Fence.{fenced, is_fenced}
 use Rattle.pte.specs.declared.TheConstants.{ASID_BITS}
 use Rattle.tlb.specs.Mappings.{Mapping, IsMappingOf, IsMappedBy, Translates, maps_into}
-use Rattle.tlb.specs.Service.{is_served, overlaps, served}
+use Rattle.tlb.specs.Service.{is_dropped, overlaps, after_service}
 use Rattle.tlb.proofs.Keeping.{Contains-filter, Contains-filled, served_are_gone, AllPass-served}
 use Rattle.tlb.proofs.Overlapping.{holds-Holds, overlaps-Overlap}
 use Rattle.tlb.proofs.Translating.{translated_match}
@@ -21,8 +21,8 @@ use Rattle.tlb.proofs.Translating.{translated_match}
 pub IsMappedBy-fenced : (scheme : Scheme) (entries : List Entry) (rs1 rs2 : Option ℕ) (m : Mapping) → IsMappedBy (fenced scheme entries rs1 rs2) m → IsMappedBy entries m
 IsMappedBy-fenced scheme entries rs1 rs2 m by = (by.0, Contains-filter (λ e. not (is_fenced scheme rs1 rs2 e)) entries by.0 by.1, by.2)
 
-pub IsMappedBy-served : (entries : List Entry) (what : What) (m : Mapping) → IsMappedBy (served entries what) m → IsMappedBy entries m
-IsMappedBy-served entries what m by = (by.0, Contains-filter (λ e. not (is_served what e)) entries by.0 by.1, by.2)
+pub IsMappedBy-served : (entries : List Entry) (what : What) (m : Mapping) → IsMappedBy (after_service entries what) m → IsMappedBy entries m
+IsMappedBy-served entries what m by = (by.0, Contains-filter (λ e. not (is_dropped what e)) entries by.0 by.1, by.2)
 
 pub IsMappedBy-filled : (entries : List Entry) (e : Entry) (m : Mapping) → IsMappedBy (filled entries e) m → IsMappedBy entries m ⊎ IsMappingOf e m
 IsMappedBy-filled entries e m by =
@@ -52,18 +52,19 @@ page_is_clear entries page asid va all h t =
     let m = translated_match entries asid va t in
     not_both (maps_into page None) entries m.0 all m.1 (reaches page va m.0 asid h m.2).0
 
-pub served_global_page : (entries : List Entry) (page : Span) → AllPass (λ e. not (maps_into page None e)) (served entries (PageOf page None))
+pub served_global_page : (entries : List Entry) (page : Span) → AllPass (λ e. not (maps_into page None e)) (after_service entries (PageOf page None))
 served_global_page entries page = served_are_gone entries (PageOf page None)
 
--- what is neither global in the page, nor dropped by the service of the page of an ASID, does not map into it for that ASID
+-- what is neither global in the page, nor dropped by the service of the page of an ASID, does not
+-- map into it for that ASID
 not_mapped : (over global : Bool) (own asid : ℕ) → asid < 2 ^ ASID_BITS → IsTrue (not (global && over)) → IsTrue (not (over && (not global && (own == asid % 2 ^ ASID_BITS)))) → IsTrue (not (over && (global || (own == asid))))
 not_mapped false global own asid small a b = refl
 not_mapped true true own asid small a b = absurd (true≢false (sym a))
 not_mapped true false own asid small a b = let same : asid % 2 ^ ASID_BITS ≡ asid = omega arith in ap (λ n. not (own == n)) (sym same) ∙ b
 
-pub served_space_page : (entries : List Entry) (page : Span) (asid : ℕ) → asid < 2 ^ ASID_BITS → AllPass (λ e. not (e.global && overlaps page e.page)) entries → AllPass (λ e. not (maps_into page (Some asid) e)) (served entries (PageOf page (Some asid)))
+pub served_space_page : (entries : List Entry) (page : Span) (asid : ℕ) → asid < 2 ^ ASID_BITS → AllPass (λ e. not (e.global && overlaps page e.page)) entries → AllPass (λ e. not (maps_into page (Some asid) e)) (after_service entries (PageOf page (Some asid)))
 served_space_page entries page asid small all k d below =
-    let e : Entry = slice_index_or (served entries (PageOf page (Some asid))) k d in
+    let e : Entry = slice_index_or (after_service entries (PageOf page (Some asid))) k d in
     not_mapped (overlaps page e.page) e.global e.asid asid small
     (AllPass-served (λ x. not (x.global && overlaps page x.page)) entries (PageOf page (Some asid)) all k d below)
     (served_are_gone entries (PageOf page (Some asid)) k d below)

@@ -13,7 +13,8 @@ use Rattle.tlb.proofs.Overlapping.{holds-Holds, same_row}
 use Rattle.tlb.proofs.Ranking.{age_at}
 
 module _ (b : Banks) (is : IsBanks b) (asid va : ℕ) where
-  -- a slot in use whose entry matches is in the entry's bank, with the tag that the address has there
+  -- a slot in use whose entry matches is in the entry's bank, with the tag that the address has
+  -- there
   pub match_is_tagged : (slot : ℕ) (e : Entry) → slice_get b.held slot ≡ Some e → InUse b slot → is_match asid va e ≡ true → IsIn (bank_of b e.page.size) slot × (slice_index b.tags slot ≡ tag_of va e.page.size)
   match_is_tagged slot e at used on =
       let here = is.slots slot e at in

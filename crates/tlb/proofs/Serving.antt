@@ -12,7 +12,7 @@ use Rattle.tlb.specs.declared.store.Entry.{Entry}
 use Rattle.tlb.specs.Entries.{holds}
 use Rattle.pte.proofs.Schemes.{is_canonical-IsCanonical}
 use Rattle.tlb.specs.Fence.{is_of_address, is_of_space}
-use Rattle.tlb.specs.Service.{overlaps, is_served, served, Goes, IsRequest, Served, Stays}
+use Rattle.tlb.specs.Service.{overlaps, is_dropped, after_service, Goes, IsRequest, Served, Stays}
 use Rattle.tlb.proofs.Overlapping.{holds-Holds, overlaps-Overlap, Holds-canonical}
 
 -- an entry whose page overlaps a page is of some address of it
@@ -25,7 +25,7 @@ overlaps_from_address : (scheme : Scheme) (p : Span) (e : Entry) (va : ℕ) → 
 overlaps_from_address scheme p e va h on =
     (overlaps-Overlap p e.page).1 (va, h, (holds-Holds e.page va).0 (and_parts (is_canonical scheme va) (holds e.page va) on).1)
 
-pub is_served-Goes : (scheme : Scheme) (what : What) (e : Entry) → IsRequest scheme what → IsTrue (is_served what e) ↔ Goes scheme what e
+pub is_served-Goes : (scheme : Scheme) (what : What) (e : Entry) → IsRequest scheme what → IsTrue (is_dropped what e) ↔ Goes scheme what e
 is_served-Goes scheme (PageOf page None) e asked = (
   (λ on. of_some_address scheme page e asked on),
   (λ g. overlaps_from_address scheme page e g.0 g.1 g.2),
@@ -53,21 +53,21 @@ goes_not scheme (PageOf page asid) e on = λ g. true≢false (sym g.2 ∙ not-tr
 goes_not scheme (SpaceOf asid) e on = λ g. true≢false (sym g ∙ not-true _ on)
 goes_not scheme All e on = λ g. true≢false (sym on)
 
-pub not_is_served-Stays : (scheme : Scheme) (what : What) (e : Entry) → IsRequest scheme what → IsTrue (not (is_served what e)) ↔ Stays scheme what e
+pub not_is_served-Stays : (scheme : Scheme) (what : What) (e : Entry) → IsRequest scheme what → IsTrue (not (is_dropped what e)) ↔ Stays scheme what e
 not_is_served-Stays scheme what e asked = (
   (λ on. stays scheme what e (λ g. true≢false (sym ((is_served-Goes scheme what e asked).1 g) ∙ not-true _ on))),
   (λ on. not_from_false _ (false_from_ne_true _ (λ t. goes_not scheme what e on ((is_served-Goes scheme what e asked).0 t)))),
 )
 
-pub served_is_meant : (scheme : Scheme) (old new : List Entry) (what : What) → IsRequest scheme what → new ≡ served old what → Served scheme old what new
-served_is_meant scheme old new what asked e = record { stays = λ e. not (is_served what e); each = λ e. not_is_served-Stays scheme what e asked; left = e }
+pub served_is_meant : (scheme : Scheme) (old new : List Entry) (what : What) → IsRequest scheme what → new ≡ after_service old what → Served scheme old what new
+served_is_meant scheme old new what asked e = record { stays = λ e. not (is_dropped what e); each = λ e. not_is_served-Stays scheme what e asked; left = e }
 
--- what is served is determined
+-- what is after_service is determined
 pub Served-unique : (scheme : Scheme) (old : List Entry) (what : What) (a b : List Entry) → Served scheme old what a → Served scheme old what b → a ≡ b
 Served-unique scheme old what a b p q =
     let same : (e : Entry) → p.stays e ≡ q.stays e =
     λ e. same_bool (p.stays e) (q.stays e) ((λ on. (q.each e).1 ((p.each e).0 on)), (λ on. (p.each e).1 ((q.each e).0 on))) in
     p.left ∙ filter_agree p.stays q.stays same old ∙ sym q.left
 
-pub served-Served : (scheme : Scheme) (entries : List Entry) (what : What) → IsRequest scheme what → Served scheme entries what (served entries what)
-served-Served scheme entries what asked = served_is_meant scheme entries (served entries what) what asked refl
+pub served-Served : (scheme : Scheme) (entries : List Entry) (what : What) → IsRequest scheme what → Served scheme entries what (after_service entries what)
+served-Served scheme entries what asked = served_is_meant scheme entries (after_service entries what) what asked refl

@@ -38,12 +38,12 @@ IsRequest scheme (SpaceOf asid) = ⊤
 IsRequest scheme All = ⊤
 
 -- the same by one test: the request drops the entry
-abbrev pub is_served : What → Entry → Bool
-is_served (PageOf page None) e = overlaps page e.page
-is_served (PageOf page (Some asid)) e = overlaps page e.page && is_of_space asid e
-is_served (SpaceOf asid) e = is_of_space asid e
-is_served All e = true
+abbrev pub is_dropped : What → Entry → Bool
+is_dropped (PageOf page None) e = overlaps page e.page
+is_dropped (PageOf page (Some asid)) e = overlaps page e.page && is_of_space asid e
+is_dropped (SpaceOf asid) e = is_of_space asid e
+is_dropped All e = true
 
 -- the entries that a request leaves
-abbrev pub served : List Entry → What → List Entry
-served entries what = filter (λ e. not (is_served what e)) entries
+abbrev pub after_service : List Entry → What → List Entry
+after_service entries what = filter (λ e. not (is_dropped what e)) entries

@@ -18,7 +18,7 @@ use Rattle.tlb.specs.Answer.{answer_of, entry_of}
 use Rattle.tlb.specs.Banks.{by_age, tag_of}
 use Rattle.tlb.specs.Entries.{filled, first_match}
 use Rattle.tlb.specs.Fence.{fenced}
-use Rattle.tlb.specs.Service.{served}
+use Rattle.tlb.specs.Service.{after_service}
 use Rattle.tlb.specs.Slots.{closed_up}
 
 module _ (ppn : ℕ) (flags : PteFlags) where
@@ -158,16 +158,17 @@ module _ (ppn : ℕ) (flags : PteFlags) where
 
   abbrev pub widest_goes_by_a_part : Type 0
   widest_goes_by_a_part =
-      served (a ∷ widest ∷ beyond ∷ []) (PageOf (page Kib4 0xFFFFFFF000) (Some 1)) ≡ a ∷ beyond ∷ []
+      after_service (a ∷ widest ∷ beyond ∷ []) (PageOf (page Kib4 0xFFFFFFF000) (Some 1))
+      ≡ a ∷ beyond ∷ []
 
   abbrev pub parts_go_by_the_widest : Type 0
   parts_go_by_the_widest =
-      served (entry 1 false (page Kib4 0xFFFFFFF000) ∷ beyond ∷ widest ∷ [])
+      after_service (entry 1 false (page Kib4 0xFFFFFFF000) ∷ beyond ∷ widest ∷ [])
       (PageOf (page Gib512 0x8000000000) (Some 1)) ≡ beyond ∷ []
 
   abbrev pub parts_of_all_spaces_go : Type 0
   parts_of_all_spaces_go =
-      served (entry 2 true (page Gib1 0x8040000000) ∷ beyond ∷ [])
+      after_service (entry 2 true (page Gib1 0x8040000000) ∷ beyond ∷ [])
       (PageOf (page Gib512 0x8000000000) None) ≡ beyond ∷ []
 
   -- all 16 bits of an ASID count
@@ -224,23 +225,23 @@ module _ (ppn : ℕ) (flags : PteFlags) where
   form_4_superpages = fenced Sv39 six (Some 0x401FFF) (Some 1) ≡ B ∷ C ∷ D ∷ F ∷ []
 
   abbrev pub superpage_of_space : Type 0
-  superpage_of_space = served six (PageOf (page Mib2 0x400000) (Some 1)) ≡ C ∷ D ∷ F ∷ []
+  superpage_of_space = after_service six (PageOf (page Mib2 0x400000) (Some 1)) ≡ C ∷ D ∷ F ∷ []
 
   abbrev pub page_of_space : Type 0
-  page_of_space = served six (PageOf (page Kib4 0x401000) (Some 1)) ≡ B ∷ C ∷ D ∷ F ∷ []
+  page_of_space = after_service six (PageOf (page Kib4 0x401000) (Some 1)) ≡ B ∷ C ∷ D ∷ F ∷ []
 
   abbrev pub global_page : Type 0
-  global_page = served six (PageOf (page Kib4 0x401000) None) ≡ B ∷ F ∷ []
+  global_page = after_service six (PageOf (page Kib4 0x401000) None) ≡ B ∷ F ∷ []
 
   -- A and B end where F begins
   abbrev pub page_behind_others : Type 0
-  page_behind_others = served six (PageOf (page Kib4 0x600000) (Some 1)) ≡ A ∷ B ∷ C ∷ D ∷ []
+  page_behind_others = after_service six (PageOf (page Kib4 0x600000) (Some 1)) ≡ A ∷ B ∷ C ∷ D ∷ []
 
   abbrev pub whole_space : Type 0
-  whole_space = served six (SpaceOf 1) ≡ C ∷ D ∷ []
+  whole_space = after_service six (SpaceOf 1) ≡ C ∷ D ∷ []
 
   abbrev pub everything : Type 0
-  everything = served six All ≡ []
+  everything = after_service six All ≡ []
 
   -- the TLB after n fills, of the pages of 4 KiB 1 to n
   abbrev pub pages : ℕ → List Entry
@@ -284,7 +285,7 @@ module _ (ppn : ℕ) (flags : PteFlags) where
 
   abbrev pub one_of_three_stays : Type 0
   one_of_three_stays =
-      served three_sizes (PageOf (page Kib4 0x40000) (Some 1)) ≡ second_of_three ∷ []
+      after_service three_sizes (PageOf (page Kib4 0x40000) (Some 1)) ≡ second_of_three ∷ []
 
   -- the TLB of the entry alone after n fills more, of the pages of 4 KiB 2 to n + 1
   abbrev pub fills_later : ℕ → List Entry

@@ -25,15 +25,15 @@ ghost use Rattle.tlb.specs.Answer.{address_found, answer_of, entry_of};
 ghost use Rattle.tlb.specs.Entries.{filled, first_match, is_match};
 ghost use Rattle.tlb.specs.Fence.{fenced, is_fenced};
 ghost use Rattle.tlb.specs.Mappings.{IsMappedBy, IsMappingOf, Mapping, Translates, maps_into};
-ghost use Rattle.tlb.specs.Service.{Goes, IsRequest, is_served, served, Served};
+ghost use Rattle.tlb.specs.Service.{Goes, IsRequest, is_dropped, after_service, Served};
 
 /// A request drops an entry exactly if some fence that it stands for does; what it leaves is what
 /// stays under all of them, and only that.
 pub fn service_is_its_fences()
     ensures goes { (scheme : Scheme) (what : What) (e : Entry) → IsRequest scheme what
-        → IsTrue (is_served what e) ↔ Goes scheme what e }
+        → IsTrue (is_dropped what e) ↔ Goes scheme what e }
     ensures leaves { (scheme : Scheme) (entries : List Entry) (what : What) → IsRequest scheme what
-        → Served scheme entries what (served entries what) }
+        → Served scheme entries what (after_service entries what) }
     ensures alone { (scheme : Scheme) (entries : List Entry) (what : What) (a b : List Entry)
         → Served scheme entries what a → Served scheme entries what b → a ≡ b }
 {}
@@ -54,7 +54,7 @@ pub fn each_entry_is_kept_or_dropped()
     ensures fence { (scheme : Scheme) (p : Entry → Bool) (entries : List Entry)
         (rs1 rs2 : Option ℕ) → AllPass p entries → AllPass p (fenced scheme entries rs1 rs2) }
     ensures serve { (p : Entry → Bool) (entries : List Entry) (what : What) → AllPass p entries
-        → AllPass p (served entries what) }
+        → AllPass p (after_service entries what) }
     ensures fill { (p : Entry → Bool) (entries : List Entry) (e : Entry) → AllPass p entries
         → IsTrue (p e) → AllPass p (filled entries e) }
 {}
@@ -64,7 +64,7 @@ pub fn what_goes_is_gone()
     ensures fence { (scheme : Scheme) (entries : List Entry) (rs1 rs2 : Option ℕ)
         → AllPass (λ e. not (is_fenced scheme rs1 rs2 e)) (fenced scheme entries rs1 rs2) }
     ensures serve { (entries : List Entry) (what : What)
-        → AllPass (λ e. not (is_served what e)) (served entries what) }
+        → AllPass (λ e. not (is_dropped what e)) (after_service entries what) }
 {}
 
 /// Fences and services only take mappings away, and a fill adds only those of its entry.
@@ -72,7 +72,7 @@ pub fn mappings_come_by_fills()
     ensures fence { (scheme : Scheme) (entries : List Entry) (rs1 rs2 : Option ℕ) (m : Mapping)
         → IsMappedBy (fenced scheme entries rs1 rs2) m → IsMappedBy entries m }
     ensures serve { (entries : List Entry) (what : What) (m : Mapping)
-        → IsMappedBy (served entries what) m → IsMappedBy entries m }
+        → IsMappedBy (after_service entries what) m → IsMappedBy entries m }
     ensures fill { (entries : List Entry) (e : Entry) (m : Mapping)
         → IsMappedBy (filled entries e) m → IsMappedBy entries m ⊎ IsMappingOf e m }
 {}
@@ -98,11 +98,11 @@ pub fn unmapped_page_is_not_translated()
 /// no entry does for that ASID, if no global entry did.
 pub fn served_page_is_not_mapped()
     ensures global { (entries : List Entry) (page : Span)
-        → AllPass (λ e. not (maps_into page None e)) (served entries (PageOf page None)) }
+        → AllPass (λ e. not (maps_into page None e)) (after_service entries (PageOf page None)) }
     ensures space { (entries : List Entry) (page : Span) (asid : ℕ) → asid < 2 ^ ASID_BITS
         → AllPass (λ e. not (e.global && overlaps page e.page)) entries
         → AllPass (λ e. not (maps_into page (Some asid) e))
-        (served entries (PageOf page (Some asid))) }
+        (after_service entries (PageOf page (Some asid))) }
 {}
 
 /// What a walk found gives an entry that matches the address for the walk's ASID, for another

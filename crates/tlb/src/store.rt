@@ -10,7 +10,7 @@ ghost use Rattle.tlb.specs.Answer.{answer_of, entry_of};
 ghost use Rattle.tlb.specs.Entries.{IsTlb, filled, first_match};
 ghost use Rattle.tlb.specs.Fence.{fenced, is_fenced, is_of_space};
 ghost use Rattle.tlb.specs.Mappings.{IsMappedBy, Translates};
-ghost use Rattle.tlb.specs.Service.{is_served, served, Served};
+ghost use Rattle.tlb.specs.Service.{is_dropped, after_service, Served};
 
 use crate::banks::Banks;
 use pte::{ASID_BITS, Access, Ctx, PAGE_BYTES, PPN_LIMIT, Page, PteFlags, Scheme, VirtAddr, What};
@@ -108,7 +108,7 @@ fn is_fenced(entry: &Entry, va: VirtAddr, rs2: Option<u64>) -> bool
 
 // The service of a page takes the entry out.
 fn is_served(entry: &Entry, page: &Page, asid: Option<u16>) -> bool
-    ensures { result ≡ is_served (What.PageOf page.now asid) entry.now }
+    ensures { result ≡ is_dropped (What.PageOf page.now asid) entry.now }
 {
     page.overlaps(&entry.page)
         && match asid {
@@ -152,7 +152,7 @@ fn drop_served(banks: &mut Banks, page: &Page, asid: Option<u16>)
     requires page { IsPage page.now }
     ensures kept { IsBanks banks.new }
     ensures entries { entries_of banks.new
-        ≡ served (entries_of banks.old) (What.PageOf page.now asid) }
+        ≡ after_service (entries_of banks.old) (What.PageOf page.now asid) }
 {
     banks.drop_among(banks.near_page(page), |e| is_served(e, page, asid));
 }
@@ -241,7 +241,8 @@ impl Tlb {
     /// ASID, or all of its space, or all. Where the page is one of the TLB's scheme, these are the
     /// entries that a fence for some address of the page would drop.
     pub fn serve(&mut self, what: &What)
-        ensures list { self.new ≡ record self.old { entries = served self.old.entries what.now } }
+        ensures list { self.new ≡ record self.old
+            { entries = after_service self.old.entries what.now } }
         ensures meaning { IsRequest self.old.scheme what.now
             → Served self.old.scheme self.old.entries what.now self.new.entries }
     {
@@ -255,7 +256,10 @@ impl Tlb {
     // The service of a page: one test an entry, in place of a fence for each address.
     fn serve_page(&mut self, page: &Page, asid: Option<u16>)
         ensures list { self.new
-            ≡ record self.old { entries = served self.old.entries (What.PageOf page.now asid) } }
+            ≡ record self.old {
+              entries = after_service self.old.entries
+                  (What.PageOf page.now asid);
+            } }
         ensures meaning { IsRequest self.old.scheme (What.PageOf page.now asid)
             → Served self.old.scheme self.old.entries (What.PageOf page.now asid) self.new.entries }
     {

@@ -8,21 +8,21 @@ use Rattle.views.specs.declared.view.Cause.TheVariants.{Other}
 use Rattle.views.specs.declared.view.Order.{Order}
 use Rattle.views.specs.declared.view.View.{View}
 use Rattle.views.specs.Orders.{is_in}
-use Rattle.views.specs.OrderTurns.{IsAsking, IsAwaiting, armed, cell_by, collected, for_ticket, fresh, looked, open_order, ordered, with_armed, with_collected, with_look}
+use Rattle.views.specs.OrderTurns.{IsAsking, IsAwaiting, armed, cell_by, collected, for_ticket, fresh, looked, order_of_ticket, ordered, with_armed, with_collected, with_look}
 use Rattle.shoot.specs.Acknowledgement.{acknowledgement}
 
 -- the open order after a change of it
-changed : (t : ℕ) (f : Order → Order) → ((k : Order) → (f k).ticket ≡ k.ticket) → (ks : List Order) (k : Order) → open_order t ks ≡ Some k → open_order t (for_ticket t f ks) ≡ Some (f k)
+changed : (t : ℕ) (f : Order → Order) → ((k : Order) → (f k).ticket ≡ k.ticket) → (ks : List Order) (k : Order) → order_of_ticket t ks ≡ Some k → order_of_ticket t (for_ticket t f ks) ≡ Some (f k)
 changed t f keeps [] k e = absurd (let bad : None ≡ Some k = e in cc)
 changed t f keeps (x ∷ xs) k e = by (x.ticket == t) refl e (λ rest. changed t f keeps xs k rest)
   where
-    by : (q : Bool) → (x.ticket == t) ≡ q → cond q (Some x) (open_order t xs) ≡ Some k → (open_order t xs ≡ Some k → open_order t (for_ticket t f xs) ≡ Some (f k))
-        → open_order t (cond q (f x ∷ xs) (x ∷ for_ticket t f xs)) ≡ Some (f k)
-    by true is e more = ap (λ b. cond b (Some (f x)) (open_order t xs)) (ap (λ n. n == t) (keeps x) ∙ is) ∙ ap (option_map f) e
-    by false is e more = ap (λ b. cond b (Some x) (open_order t (for_ticket t f xs))) is ∙ more e
+    by : (q : Bool) → (x.ticket == t) ≡ q → cond q (Some x) (order_of_ticket t xs) ≡ Some k → (order_of_ticket t xs ≡ Some k → order_of_ticket t (for_ticket t f xs) ≡ Some (f k))
+        → order_of_ticket t (cond q (f x ∷ xs) (x ∷ for_ticket t f xs)) ≡ Some (f k)
+    by true is e more = ap (λ b. cond b (Some (f x)) (order_of_ticket t xs)) (ap (λ n. n == t) (keeps x) ∙ is) ∙ ap (option_map f) e
+    by false is e more = ap (λ b. cond b (Some x) (order_of_ticket t (for_ticket t f xs))) is ∙ more e
 
 pub ordered-asks : (c : Config) (v : View) (t : ℕ) (what : What) → IsAsking c (ordered t what v) t what
-ordered-asks c v t what = record { order = fresh t (Other what); is = ap (λ b. cond b (Some (fresh t (Other what))) (open_order t v.orders)) (eq-eqb t t refl); asks = refl }
+ordered-asks c v t what = record { order = fresh t (Other what); is = ap (λ b. cond b (Some (fresh t (Other what))) (order_of_ticket t v.orders)) (eq-eqb t t refl); asks = refl }
 
 pub armed-awaits : (c : Config) (v : View) (t to : ℕ) (what : What) → IsAsking c v t what → IsAwaiting c (with_armed t to v) t to what
 armed-awaits c v t to what a = record {

@@ -23,7 +23,7 @@ use Rattle.spaces.specs.declared.configuration.TheConstants.{MAX_LIVE_FRAMES}
 use Rattle.spaces.specs.Edits.{is_wrong_half}
 use Rattle.tlb.specs.declared.store.Entry.{Entry}
 use Rattle.tlb.specs.Mappings.{maps_into}
-use Rattle.tlb.specs.Service.{is_served, served}
+use Rattle.tlb.specs.Service.{is_dropped, after_service}
 use Rattle.tlb.proofs.Keeping.{AllPass-served}
 use Rattle.tlb.proofs.Mapped.{served_global_page, served_space_page}
 use Rattle.views.specs.declared.view.Cause.TheVariants.{Unmapped, Other}
@@ -33,9 +33,9 @@ use Rattle.views.specs.Rule.{board_size, cell, memory_of, size, Seated, Tabled}
 use Rattle.shoot.specs.declared.TheConstants.{MAX_TICKETS}
 use Rattle.shoot.specs.Acknowledgement.{IsAskable, acknowledgement}
 use Rattle.shoot.proofs.AcknowledgementWords.{not_zero}
-use Rattle.views.specs.Orders.{asid_for, asid_in, asked, dropping, is_in, IsLive, Misses, IsClean, Kept, IsGlobalInWindow, Ordered}
+use Rattle.views.specs.Orders.{asid_for, asid_of_space, asked, dropping, is_in, IsLive, Misses, IsClean, Kept, IsGlobalInWindow, Ordered}
 use Rattle.views.specs.Board.{Board, Steps}
-use Rattle.views.specs.OrderTurns.{IsAsking, IsAwaiting, acknowledged, armed, cell_by, collected, for_ticket, fresh, looked, open_order, ordered, self_acked, with_armed, with_collected, with_look}
+use Rattle.views.specs.OrderTurns.{IsAsking, IsAwaiting, acknowledged, armed, cell_by, collected, for_ticket, fresh, looked, order_of_ticket, ordered, self_acked, with_armed, with_collected, with_look}
 use Rattle.views.proofs.EditKeeps.{live-layout}
 use Rattle.views.proofs.Fills.{not-global-over}
 use Rattle.views.proofs.Keeps.{keeps-load}
@@ -64,14 +64,14 @@ cell-inside l s t h a b d =
 
 -- an order after a change of the open one of a ticket
 for-ticket : (ticket : ℕ) (f : Order → Order) (ks : List Order) (n : ℕ) (k : Order) → get_elem? (for_ticket ticket f ks) n ≡ some k
-    → (k0 : Order) × (get_elem? ks n ≡ some k0) × ((k0 ≡ k) ⊎ ((k0.ticket ≡ ticket) × (f k0 ≡ k) × (open_order ticket ks ≡ Some k0)))
+    → (k0 : Order) × (get_elem? ks n ≡ some k0) × ((k0 ≡ k) ⊎ ((k0.ticket ≡ ticket) × (f k0 ≡ k) × (order_of_ticket ticket ks ≡ Some k0)))
 for-ticket ticket f [] n k e = absurd (some-ne-none k (sym e))
 for-ticket ticket f (x ∷ xs) n k e = by (x.ticket == ticket) refl n e (λ m at. for-ticket ticket f xs m k at)
   where
     by : (t : Bool) → (x.ticket == ticket) ≡ t → (n : ℕ) → get_elem? (cond t (f x ∷ xs) (x ∷ for_ticket ticket f xs)) n ≡ some k
         → ((m : ℕ) → get_elem? (for_ticket ticket f xs) m ≡ some k
-        → (k0 : Order) × (get_elem? xs m ≡ some k0) × ((k0 ≡ k) ⊎ ((k0.ticket ≡ ticket) × (f k0 ≡ k) × (open_order ticket xs ≡ Some k0))))
-        → (k0 : Order) × (get_elem? (x ∷ xs) n ≡ some k0) × ((k0 ≡ k) ⊎ ((k0.ticket ≡ ticket) × (f k0 ≡ k) × (cond t (Some x) (open_order ticket xs) ≡ Some k0)))
+        → (k0 : Order) × (get_elem? xs m ≡ some k0) × ((k0 ≡ k) ⊎ ((k0.ticket ≡ ticket) × (f k0 ≡ k) × (order_of_ticket ticket xs ≡ Some k0))))
+        → (k0 : Order) × (get_elem? (x ∷ xs) n ≡ some k0) × ((k0 ≡ k) ⊎ ((k0.ticket ≡ ticket) × (f k0 ≡ k) × (cond t (Some x) (order_of_ticket ticket xs) ≡ Some k0)))
     by true is zero at more = (x, refl, inr (eqb-true x.ticket ticket is, some-injective (f x) k at, refl))
     by true is (suc n) at more = (k, at, inl refl)
     by false is zero at more = (x, refl, inl (some-injective x k at))
@@ -145,15 +145,15 @@ module _ (c : Config) (id : ℕ) (v : View) where
 
   -- what is left after a service has no mapping of the page that it was asked for
   dropped-misses : IsLayout (layout_of c) → (entries : List Entry) → All (IsGlobalInWindow (layout_of c)) entries → (what : What) → IsAskable what → (place : Place) (page : Span) → is_wrong_half (layout_of c) place page ≡ false
-      → dropping c place page ≡ what → Misses page (asid_for c place) (served entries what)
-  dropped-misses fits entries window what asks Kernel page half e = subst (λ x. Misses page None (served entries x)) e (served_global_page entries page)
+      → dropping c place page ≡ what → Misses page (asid_for c place) (after_service entries what)
+  dropped-misses fits entries window what asks Kernel page half e = subst (λ x. Misses page None (after_service entries x)) e (served_global_page entries page)
   dropped-misses fits entries window what asks (Space t) page half e =
       let f : IsAskable (dropping c (Space t) page) = subst IsAskable (sym e) asks in
-      subst (λ x. Misses page (Some (asid_in c t)) (served entries x)) e (served_space_page entries page (asid_in c t) f.1 (λ k d below. not-global-over (layout_of c) fits t page f.0 half (slice_index_or entries k d) (window k d below)))
+      subst (λ x. Misses page (Some (asid_of_space c t)) (after_service entries x)) e (served_space_page entries page (asid_of_space c t) f.1 (λ k d below. not-global-over (layout_of c) fits t page f.0 half (slice_index_or entries k d) (window k d below)))
 
-  -- acknowledging: the receiver stores the word of what it served
+  -- acknowledging: the receiver stores the word of what it after_service
   module _ (from ticket : ℕ) (what : What) (small-from : from < length (layout_of c).spares) (small-ticket : ticket < MAX_TICKETS) (asks : IsAskable what)
-      (w : View) (hart : w.hart ≡ v.hart) (memory : memory_of (layout_of c) w ≡ memory_of (layout_of c) v) (entries : w.entries ≡ served v.entries what)
+      (w : View) (hart : w.hart ≡ v.hart) (memory : memory_of (layout_of c) w ≡ memory_of (layout_of c) v) (entries : w.entries ≡ after_service v.entries what)
       (s : State ℕ View) (b : Tabled c s) (o : Ordered c s) (at : get_elem? s.views id ≡ some v) where
     abbrev acked-cell : ℕ
     acked-cell = cell (layout_of c) from ticket v.hart
@@ -181,7 +181,7 @@ module _ (c : Config) (id : ℕ) (v : View) where
     fewer j u at-u n k at-k place page live m = subst (λ es. Misses page (asid_for c place) es) (sym entries) (AllPass-served (λ e. not (maps_into page (asid_for c place) e)) v.entries what m)
 
     window-now : All (IsGlobalInWindow (layout_of c)) w.entries
-    window-now = subst (All (IsGlobalInWindow (layout_of c))) (sym entries) (All-filter (λ e. not (is_served what e)) (IsGlobalInWindow (layout_of c)) v.entries (o.window id v at))
+    window-now = subst (All (IsGlobalInWindow (layout_of c))) (sym entries) (All-filter (λ e. not (is_dropped what e)) (IsGlobalInWindow (layout_of c)) v.entries (o.window id v at))
 
     acked-stands : (n : ℕ) (k : Order) → get_elem? v.orders n ≡ some k → (place : Place) (page : Span) → IsLive k place page → Kept c acked-words acked-views v.hart (memory_of (layout_of c) v) k place page
     acked-stands n k at-k place page live = stands c s b o id v w at hart acked-words fewer acked-cells id v at n k at-k place page live
@@ -243,10 +243,10 @@ module _ (c : Config) (id : ℕ) (v : View) where
     abbrev looked-views : List View
     looked-views = slice_set s.views id looked-view
 
-    collected-order : (k : Order) → k.ticket ≡ ticket → open_order ticket v.orders ≡ Some k → (place : Place) (page : Span) → k.cause ≡ Unmapped place page
+    collected-order : (k : Order) → k.ticket ≡ ticket → order_of_ticket ticket v.orders ≡ Some k → (place : Place) (page : Span) → k.cause ≡ Unmapped place page
         → Kept c s.words looked-views v.hart (memory_of (layout_of c) v) k place page → Kept c s.words looked-views v.hart (memory_of (layout_of c) v) (collected from k) place page
     collected-order k same first place page cause t =
-        let mine : awaits.asking.order ≡ k = some-one awaits.asking.order k (open_order ticket v.orders) awaits.asking.is first in
+        let mine : awaits.asking.order ≡ k = some-one awaits.asking.order k (order_of_ticket ticket v.orders) awaits.asking.is first in
         let armed-for : is_in from k.armed ≡ true = ap (λ (z : Order). is_in from z.armed) (sym mine) ∙ awaits.armed in
         let asks : what ≡ dropping c place page = sym awaits.asking.asks ∙ ap (λ (z : Order). asked c z.cause) mine ∙ ap (asked c) cause in
         let now : slice_index s.words (cell (layout_of c) v.hart k.ticket from) ≡ acknowledgement (dropping c place page) =
@@ -331,12 +331,12 @@ module _ (c : Config) (id : ℕ) (v : View) where
         tt,
       )
     where
-      self-order : (ws : List ℕ) (views : List View) (k : Order) → open_order ticket v.orders ≡ Some k → (place : Place) (page : Span) → k.cause ≡ Unmapped place page
+      self-order : (ws : List ℕ) (views : List View) (k : Order) → order_of_ticket ticket v.orders ≡ Some k → (place : Place) (page : Span) → k.cause ≡ Unmapped place page
           → Kept c ws views v.hart (memory_of (layout_of c) v) k place page
           → (is_wrong_half (layout_of c) place page ≡ false → dropping c place page ≡ what → IsClean views v.hart page (asid_for c place))
           → Kept c ws views v.hart (memory_of (layout_of c) v) (collected v.hart k) place page
       self-order ws views k first place page cause t clean =
-          let mine : asking.order ≡ k = some-one asking.order k (open_order ticket v.orders) asking.is first in
+          let mine : asking.order ≡ k = some-one asking.order k (order_of_ticket ticket v.orders) asking.is first in
           let asked-for : dropping c place page ≡ what = sym (ap (asked c) cause) ∙ ap (λ (z : Order). asked c z.cause) (sym mine) ∙ asking.asks in
           record {
             has = t.has;

@@ -1,6 +1,6 @@
 -- What the rule says of an unmapped page, and of a hart that acknowledged or was collected.
 use Rattle.std.proofs.Common.{ap}
-use Rattle.tlb.specs.Service.{served}
+use Rattle.tlb.specs.Service.{after_service}
 use Rattle.shoot.proofs.AcknowledgementWords.{same_what}
 use Rattle.views.specs.Board.{AcknowledgedIsClean, CollectedIsClean, EqualWordsAskForEqualService, UnmappedStaysUnmapped, own_words, shared_words}
 use Rattle.views.proofs.Fills.{unmapped-shared}
@@ -21,4 +21,4 @@ collected_is_clean c s b i v at n k at-k place page live h small got j w at-w is
     clear c place page w.entries ((b.orders.kept i v at n k at-k place page live).gone h small got j w at-w is) asid va of holds
 
 pub equal_service : EqualWordsAskForEqualService
-equal_service a d x y e entries = ap (served entries) (same_what a d x y e)
+equal_service a d x y e entries = ap (after_service entries) (same_what a d x y e)

@@ -18,7 +18,7 @@ use Rattle.spaces.specs.Limits.{MeetsLimits}
 use Rattle.spaces.specs.declared.configuration.TheConstants.{MAX_FRAMES, MAX_LIVE_FRAMES}
 use Rattle.spaces.specs.Opening.{is_word}
 use Rattle.spaces.specs.Holders.{Holders, unused_spare}
-use Rattle.spaces.specs.Held.{IsDue, IsLayout, holders_of, word_index, words_of}
+use Rattle.spaces.specs.Held.{IsDue, IsLayout, holders_of, word_index, memory_words}
 use Rattle.spaces.specs.Edits.{Store, place_of}
 use Rattle.spaces.specs.Accepted.{Accepted}
 use Rattle.spaces.specs.Applied.{holders_after, memory_after, points_at}
@@ -56,7 +56,7 @@ live-limits c m = record {
 pub live-layout : (c : Config) → MeetsLimits MAX_LIVE_FRAMES c → IsLayout (layout_of c)
 live-layout c m = layout-meets c (live-limits c m)
 
-pub local-home : (l : Layout) (v : View) → Local l v → IsHome l (words_of (memory_of l v)) v.hart (holders_of (memory_of l v))
+pub local-home : (l : Layout) (v : View) → Local l v → IsHome l (memory_words (memory_of l v)) v.hart (holders_of (memory_of l v))
 local-home l v local = local.memory.tree v.hart local.hart
 
 -- a hart has few spare frames
@@ -121,22 +121,22 @@ module _ (l : Layout) (v : View) (local : Local l v) (wish : Wish) (has : HasPla
   due : IsDue (memory_of l v) store
   due = record { hart = v.hart; wish = wish; has = has; is = is }
 
-  pub acc : Accepted l (words_of (memory_of l v)) (unused_spare l (holders_of (memory_of l v)) v.hart) v.hart wish store
-  acc = due-accepted l local.memory.layout (words_of (memory_of l v)) (holders_of (memory_of l v)) local.memory.tree v.hart wish has store is
+  pub acc : Accepted l (memory_words (memory_of l v)) (unused_spare l (holders_of (memory_of l v)) v.hart) v.hart wish store
+  acc = due-accepted l local.memory.layout (memory_words (memory_of l v)) (holders_of (memory_of l v)) local.memory.tree v.hart wish has store is
 
   pub frame-home : IsAtHome l v.hart store.ppn
-  frame-home = written-home l local.memory.layout (words_of (memory_of l v)) (holders_of (memory_of l v)) local.memory.tree v.hart wish has store is
+  frame-home = written-home l local.memory.layout (memory_words (memory_of l v)) (holders_of (memory_of l v)) local.memory.tree v.hart wish has store is
 
   pub word-there : is_word l store.ppn store.index ≡ true
   word-there = stored-word (memory_of l v) local.memory store due
 
-  pub no-pointer : pointed (words_of (memory_of l v) store.ppn store.index) ≡ None
-  no-pointer = was-no-pointer l local.memory.layout (words_of (memory_of l v)) (holders_of (memory_of l v)) local.memory.tree v.hart wish has store is
+  pub no-pointer : pointed (memory_words (memory_of l v) store.ppn store.index) ≡ None
+  no-pointer = was-no-pointer l local.memory.layout (memory_words (memory_of l v)) (holders_of (memory_of l v)) local.memory.tree v.hart wish has store is
 
   pub leads-inside : (g : ℕ) → pointed (Some store.word) ≡ Some g → is_frame l g ≡ true
   leads-inside = table-there (memory_of l v) local.memory store due
 
-  pub words-after : (f i : ℕ) → words_of (memory_after (memory_of l v) store) f i ≡ stored (words_of (memory_of l v)) store.ppn store.index store.word f i
+  pub words-after : (f i : ℕ) → memory_words (memory_after (memory_of l v) store) f i ≡ stored (memory_words (memory_of l v)) store.ppn store.index store.word f i
   words-after = words-held (memory_of l v) local.memory store due
 
   holders-are : (λ f. holders_after (holders_of (memory_of l v)) store.place store f) ≡ holders_of (memory_after (memory_of l v) store)
@@ -155,7 +155,7 @@ module _ (l : Layout) (v : View) (local : Local l v) (wish : Wish) (has : HasPla
     lowest =
         subst (λ (h : Holders). UsesLowest l h v.hart (used_after v.used store)) holders-are
         (uses-by l (holders_of (memory_of l v)) v.hart v.used local.lowest store.place (pointed (Some store.word))
-        (points-to-spare l local.memory.layout (words_of (memory_of l v)) (holders_of (memory_of l v)) local.memory.tree v.hart wish has store is));
+        (points-to-spare l local.memory.layout (memory_words (memory_of l v)) (holders_of (memory_of l v)) local.memory.tree v.hart wish has store is));
   }
 
 -- the step
@@ -177,7 +177,7 @@ edit-keeps c s b id v at wish has store is ks =
       local = edited-local (layout_of c) v t.local wish has store is ks;
       own = λ f i at-home.
           word-stored (layout_of c) s.words (wide-words (layout_of c) s.words b.wide) store.ppn store.index word store.word f i
-          ∙ same-stored (tables_in (layout_of c) s.words) (words_of (memory_of (layout_of c) v)) store.ppn store.index store.word f i (t.own f i at-home)
+          ∙ same-stored (tables_in (layout_of c) s.words) (memory_words (memory_of (layout_of c) v)) store.ppn store.index store.word f i (t.own f i at-home)
           ∙ sym (words-after (layout_of c) v t.local wish has store is f i);
       walk = walk-stays c s b id v (edited (layout_of c) v store ks) at refl refl store.ppn store.index store.word good v.walk v.root v.reads t.walk;
     } in

@@ -1,4 +1,5 @@
--- What a walk finds in the shared words has no mapping in the page of an unmapping that is not marked anew.
+-- What a walk finds in the shared words has no mapping in the page of an unmapping that is not
+-- marked anew.
 use Rattle.std.proofs.Common.{◌≡◌, ◌≢◌, ℕ, ◌-◌, ◌*◌, ◌<◌, ◌≤◌, ◌==◌, ◌&&◌, ◌||◌, not, Bool, true, false, List, [], ◌∷◌, ◌++◌, length, Option, Some, None, Ok, IsTrue, sym, refl, ap, ◌∙◌, subst, arith, ne_eqb}
 use Rattle.std.specs.Prelude.{◌↔◌}
 use Rattle.std.specs.List.{AllPass}
@@ -23,7 +24,7 @@ use Rattle.spaces.specs.declared.configuration.Config.{Config}
 use Rattle.spaces.specs.declared.places.Place.{Place}
 use Rattle.spaces.specs.declared.places.Place.TheVariants.{Space, Kernel}
 use Rattle.spaces.specs.Layout.{Layout, HasPlace, layout_of, home_of, root_ppn, first_window_slot}
-use Rattle.spaces.specs.Held.{IsLayout, holders_of, words_of}
+use Rattle.spaces.specs.Held.{IsLayout, holders_of, memory_words}
 use Rattle.spaces.specs.Edits.{is_wrong_half}
 use Rattle.spaces.specs.Effects.{IsPart, HangsBelow}
 use Rattle.spaces.specs.Tree.{IsIn}
@@ -42,7 +43,7 @@ use Rattle.views.specs.declared.view.Order.{Order}
 use Rattle.views.specs.declared.view.View.{View}
 use Rattle.views.specs.Rule.{memory_of, tables_in, Tabled}
 use Rattle.views.specs.Turns.{asid_at}
-use Rattle.views.specs.Orders.{asid_in, asid_for, dropping, IsLive, IsUnmapped, IsGlobalInWindow, Kept, Ordered}
+use Rattle.views.specs.Orders.{asid_of_space, asid_for, dropping, IsLive, IsUnmapped, IsGlobalInWindow, Kept, Ordered}
 use Rattle.views.proofs.EditKeeps.{live-layout}
 use Rattle.views.proofs.MappedAtHome.{member-place, mapped-in-view}
 use Rattle.views.proofs.RealTree.{holders-all, real-tree}
@@ -75,7 +76,8 @@ page-of c Kernel page f = f
 slot-of : (va level : ℕ) → vpn_of (page_number va * bytes_of Kib4) level ≡ vpn_of va level
 slot-of va level = same_vpn (page_number va * bytes_of Kib4) va 0 level (omega arith) (omega arith)
 
--- an entry that is global exactly in the window is not global over a page that is edited for a space
+-- an entry that is global exactly in the window is not global over a page that is edited for a
+-- space
 pub not-global-over : (l : Layout) → IsLayout l → (s : ℕ) (page : Span) → IsPage page → is_wrong_half l (Space s) page ≡ false → (e : Entry) → IsGlobalInWindow l e
     → IsTrue (not (e.global && overlaps page e.page))
 not-global-over l fits s page is half e window = by e.global refl
@@ -99,11 +101,11 @@ module _ (c : Config) (s : State ℕ View) (b : Tabled c s) (o : Ordered c s) (j
       let is-page : IsPage page = page-of c place page kept.askable in
       let fits = live-layout c b.limits in
       let t = b.each j u at-u in
-      let m = member-place (layout_of c) fits (tables_in (layout_of c) s.words) (words_of (memory_of (layout_of c) u)) (holders-all c s b) (holders_of (memory_of (layout_of c) u)) (real-tree c s b)
+      let m = member-place (layout_of c) fits (tables_in (layout_of c) s.words) (memory_words (memory_of (layout_of c) u)) (holders-all c s b) (holders_of (memory_of (layout_of c) u)) (real-tree c s b)
       t.local.memory.tree u.hart t.local.hart t.own sp number ppn flags global has maps in
       let same : m.on.place ≡ place = place-same (layout_of c) fits place m.on.place page sp number m.va is-page kept.right_half about.0 about.1 m.canonical m.of_page m.on.hangs m.on.within in
       let home : home_of (layout_of c) m.on.place ≡ u.hart = ap (home_of (layout_of c)) same ∙ kept.at_home in
-      let there = mapped-in-view (layout_of c) fits (tables_in (layout_of c) s.words) (words_of (memory_of (layout_of c) u)) (holders-all c s b) (holders_of (memory_of (layout_of c) u)) (real-tree c s b)
+      let there = mapped-in-view (layout_of c) fits (tables_in (layout_of c) s.words) (memory_words (memory_of (layout_of c) u)) (holders-all c s b) (holders_of (memory_of (layout_of c) u)) (real-tree c s b)
       t.local.memory.tree u.hart t.local.hart t.own sp number ppn flags global has maps home in
       kept.unmapped sp number ppn flags global has about there
 
@@ -129,24 +131,24 @@ module _ (c : Config) (s : State ℕ View) (b : Tabled c s) (o : Ordered c s) (s
         entry_is_elsewhere c.scheme (tables_in (layout_of c) s.words) (root_ppn (layout_of c) sp) va access ctx found asid is page (λ at ppn flags global holds maps.
         unmapped-shared c s b o j u at-u n k at-k place page live sp (page_number at) ppn flags global has (hangs, part page (page_number at) (lies_in page at is-page holds)) maps) space
 
-    misses-by : (p : Place) → place ≡ p → (asid : ℕ) → asid ≡ asid_in c sp → IsTrue (not (maps_into page (asid_for c p) (entry_of asid found)))
+    misses-by : (p : Place) → place ≡ p → (asid : ℕ) → asid ≡ asid_of_space c sp → IsTrue (not (maps_into page (asid_for c p) (entry_of asid found)))
     misses-by Kernel e asid a = elsewhere (subst (λ q. HangsBelow q sp) (sym e) tt) asid None
     misses-by (Space t) e asid a = dite (ℕ_discrete t sp)
-        (λ (same : t ≡ sp). elsewhere (subst (λ q. HangsBelow q sp) (sym e) same) asid (Some (asid_in c t)))
+        (λ (same : t ≡ sp). elsewhere (subst (λ q. HangsBelow q sp) (sym e) same) asid (Some (asid_of_space c t)))
         (λ (other : t ≢ sp).
         let there : t < length (layout_of c).homes = subst (λ q. HasPlace (layout_of c) q) e kept.has in
         let count = length-map c.spaces.items (λ s. s.home) in
         let half = subst (λ q. is_wrong_half (layout_of c) q page ≡ false) e kept.right_half in
-        not-into (overlaps page found.page) found.global (asid == asid_in c t)
+        not-into (overlaps page found.page) found.global (asid == asid_of_space c t)
         (not-global-over (layout_of c) (live-layout c b.limits) t page is-page half (entry_of asid found) (window-found asid))
-        (ne_eqb asid (asid_in c t) (λ (q : asid ≡ asid_in c t). other (sym (differ c.spaces.items sp t b.limits.asids (omega (arith, has, count)) (omega (arith, there, count)) (sym a ∙ q))))))
+        (ne_eqb asid (asid_of_space c t) (λ (q : asid ≡ asid_of_space c t). other (sym (differ c.spaces.items sp t b.limits.asids (omega (arith, has, count)) (omega (arith, there, count)) (sym a ∙ q))))))
 
-    pub misses-found : (asid : ℕ) → asid ≡ asid_in c sp → IsTrue (not (maps_into page (asid_for c place) (entry_of asid found)))
+    pub misses-found : (asid : ℕ) → asid ≡ asid_of_space c sp → IsTrue (not (maps_into page (asid_for c place) (entry_of asid found)))
     misses-found asid a = misses-by place refl asid a
 
 -- the ASID of a root
-pub asid-at-root : (c : Config) (sp root : ℕ) → root ≡ root_ppn (layout_of c) sp → asid_at c root ≡ asid_in c sp
-asid-at-root c sp root e = ap (λ (n : ℕ). asid_in c n) (let z : root - root_ppn (layout_of c) 0 ≡ sp = omega (arith, e) in z)
+pub asid-at-root : (c : Config) (sp root : ℕ) → root ≡ root_ppn (layout_of c) sp → asid_at c root ≡ asid_of_space c sp
+asid-at-root c sp root e = ap (λ (n : ℕ). asid_of_space c n) (let z : root - root_ppn (layout_of c) 0 ≡ sp = omega (arith, e) in z)
 
 -- one entry more
 pub one-more : (p : Entry → Bool) (entries : List Entry) (e : Entry) → AllPass p entries → IsTrue (p e) → AllPass p (entries ++ e ∷ [])

@@ -16,7 +16,7 @@ use Rattle.walk.specs.Stage.{Stage, OnPath, IsFor, start_of}
 use Rattle.walk.specs.Step.{flow_of, load_of}
 use Rattle.walk.proofs.Ending.{goes-load, more-points, on_path-start, outcome-same, same-access}
 use Rattle.spaces.specs.Layout.{Layout, user_slots}
-use Rattle.spaces.specs.Held.{holders_of, words_of}
+use Rattle.spaces.specs.Held.{holders_of, memory_words}
 use Rattle.spaces.specs.Tree.{IsAtHome, of_root, IsOwn, IsHome}
 use Rattle.spaces.proofs.Homes.{spare-home, spare-own}
 use Rattle.spaces.proofs.Trees.{pointed-zero}
@@ -28,9 +28,10 @@ use Rattle.views.specs.Walks.{AnswersByLoads, IsHomePath, IsSameHome}
 use Rattle.views.proofs.EditKeeps.{local-home}
 use Rattle.views.proofs.Readings.{has-snoc, snoc-has}
 
--- the words of a walk's path at home are as the view says, and its table is at home; a pointer there is in a slot that edits write
+-- the words of a walk's path at home are as the view says, and its table is at home; a pointer
+-- there is in a slot that edits write
 pub record IsGoingHome (l : Layout) (v w : View) (st : Stage) (word : ℕ) : Type 0 where
-  pub has : Has (words_of (memory_of l v)) w.reads
+  pub has : Has (memory_words (memory_of l v)) w.reads
   pub table : IsAtHome l v.hart st.table
   pub own : (g : ℕ) → pointed (Some word) ≡ Some g → IsOwn l st.table (vpn_of st.va st.level)
 
@@ -62,17 +63,18 @@ module _ (l : Layout) (v : View) (local : Local l v) (root va : ℕ) (access : A
   pub is-start : (st : Stage) → IsCanonical l.scheme va → st ≡ start_of l.scheme root va access ctx → IsStart l.scheme root st
   is-start st canonical is = subst (IsStart l.scheme root) (sym is) (record { canonical = canonical; is = refl })
 
-  tree : IsHome l (words_of (memory_of l v)) v.hart (holders_of (memory_of l v))
+  tree : IsHome l (memory_words (memory_of l v)) v.hart (holders_of (memory_of l v))
   tree = local-home l v local
 
-  -- the root's slots below the window: those of the user's half are written by edits, and the others are 0
-  root-own : (s : ℕ) (own : IsHomePath l v root va s) (word : ℕ) → words_of (memory_of l v) root (vpn_of va (top_level l.scheme)) ≡ Some word
+  -- the root's slots below the window: those of the user's half are written by edits, and the
+  -- others are 0
+  root-own : (s : ℕ) (own : IsHomePath l v root va s) (word : ℕ) → memory_words (memory_of l v) root (vpn_of va (top_level l.scheme)) ≡ Some word
       → (g : ℕ) → pointed (Some word) ≡ Some g → IsOwn l root (vpn_of va (top_level l.scheme))
   root-own s own word read g points = elim (cases_lt (vpn_of va (top_level l.scheme)) user_slots) [
     | inl low ↦ λ _. low
     | inr high ↦
-        let zero-word : words_of (memory_of l v) root (vpn_of va (top_level l.scheme)) ≡ Some 0 =
-        ap (λ f. words_of (memory_of l v) f (vpn_of va (top_level l.scheme))) own.root_is ∙ tree.upper s (vpn_of va (top_level l.scheme)) own.has own.home high own.outside
+        let zero-word : memory_words (memory_of l v) root (vpn_of va (top_level l.scheme)) ≡ Some 0 =
+        ap (λ f. memory_words (memory_of l v) f (vpn_of va (top_level l.scheme))) own.root_is ∙ tree.upper s (vpn_of va (top_level l.scheme)) own.has own.home high own.outside
         in
         absurd (let bad : None ≡ Some g = sym pointed-zero ∙ ap pointed (sym zero-word ∙ read) ∙ points in cc)
   ]
@@ -124,13 +126,13 @@ module _ (l : Layout) (v : View) (local : Local l v) (root va : ℕ) (access : A
     home-on : (next : Stage) (found : ℕ) → progress.More next ≡ load_of st (Some word) → TellsLoad l w next w.reads found → IsGoingHome l v w st word
         → IsGoingHome l v (walked w root next w.reads found) next found
     home-on next found is tells old =
-        let here = going.on (words_of (memory_of l v)) old.has in
+        let here = going.on (memory_words (memory_of l v)) old.has in
         let points = more-points st word next (sym is) in
         let step = tree.closed st.table (vpn_of st.va st.level) next.table old.table (old.own next.table points) (ap pointed here.1 ∙ points) in
         let home = spare-home l v.hart (holders_of (memory_of l v)) step.place next.table step.to in
-        let read = ap (λ m. words_of m next.table (vpn_of next.va next.level)) (sym memory-is) ∙ tells.at_home (subst (λ h. IsAtHome l h next.table) (sym going.home.hart) home) in
+        let read = ap (λ m. memory_words m next.table (vpn_of next.va next.level)) (sym memory-is) ∙ tells.at_home (subst (λ h. IsAtHome l h next.table) (sym going.home.hart) home) in
         record {
-          has = has-snoc (words_of (memory_of l v)) w.reads (read_of next found) old.has read;
+          has = has-snoc (memory_words (memory_of l v)) w.reads (read_of next found) old.has read;
           table = home;
           own = λ g e. subst (λ f. IsOwn l f (vpn_of next.va next.level)) (sym step.to.is) (spare-own l v.hart step.to.number _);
         }
@@ -178,7 +180,7 @@ module _ (l : Layout) (v : View) (local : Local l v) (root va : ℕ) (access : A
       each_memory = λ words has. outcome-same l.scheme words root st va access ctx (Ok found) going.about (goes words has (progress.Found found) is);
       read_back = λ s own.
           let old = going.at_home s own in
-          outcome-same l.scheme (words_of (memory_of l v)) root st va access ctx (Ok found) going.about (goes (words_of (memory_of l v)) old.has (progress.Found found) is);
+          outcome-same l.scheme (memory_words (memory_of l v)) root st va access ctx (Ok found) going.about (goes (memory_words (memory_of l v)) old.has (progress.Found found) is);
       count = going.count;
       few = omega (arith, going.depth);
       entries = going.entries ∙ ap (with_fill (asid_at v.config root) v.entries) (sym is);
@@ -191,7 +193,7 @@ module _ (l : Layout) (v : View) (local : Local l v) (root va : ℕ) (access : A
       each_memory = λ words has. outcome-same l.scheme words root st va access ctx (Err trap) going.about (goes words has (progress.Trap trap) is);
       read_back = λ s own.
           let old = going.at_home s own in
-          outcome-same l.scheme (words_of (memory_of l v)) root st va access ctx (Err trap) going.about (goes (words_of (memory_of l v)) old.has (progress.Trap trap) is);
+          outcome-same l.scheme (memory_words (memory_of l v)) root st va access ctx (Err trap) going.about (goes (memory_words (memory_of l v)) old.has (progress.Trap trap) is);
       count = going.count;
       few = omega (arith, going.depth);
       entries = going.entries ∙ ap (with_fill (asid_at v.config root) v.entries) (sym is);

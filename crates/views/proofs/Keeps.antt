@@ -26,7 +26,8 @@ use Rattle.views.specs.Rule.{tables_in, IsWalk, Sits, seated, waits, Seated, Tab
 use Rattle.views.proofs.Readings.{has-stays}
 use Rattle.views.proofs.TableWords.{wide-words, word-here, word-there, agree}
 
--- a word of a frame at home that is no pointer becomes another word, which leads to a frame if it is a pointer
+-- a word of a frame at home that is no pointer becomes another word, which leads to a frame if it
+-- is a pointer
 pub record IsStore (l : Layout) (words : Tables) (hart f i x : ℕ) : Type 0 where
   pub home : IsAtHome l hart f
   pub word : is_word l f i ≡ true

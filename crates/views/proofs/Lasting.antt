@@ -25,11 +25,11 @@ use Rattle.views.specs.declared.view.Cause.{Cause}
 use Rattle.views.specs.declared.view.Cause.TheVariants.{Unmapped, Other}
 use Rattle.views.specs.declared.view.Order.{Order}
 use Rattle.views.specs.declared.view.View.{View}
-use Rattle.views.specs.Orders.{IsAsidFor, asid_in, is_over}
+use Rattle.views.specs.Orders.{IsAsidFor, asid_of_space, lies_over}
 use Rattle.spaces.specs.Layout.{layout_of}
 use Rattle.views.specs.Rule.{cell}
 use Rattle.shoot.proofs.AcknowledgementWords.{not_zero}
-use Rattle.views.specs.OrderTurns.{armed, last_word, looked, collected, for_ticket, fresh, marked, open_order, noted}
+use Rattle.views.specs.OrderTurns.{armed, last_word, looked, collected, for_ticket, fresh, marked, order_of_ticket, noted}
 use Rattle.views.specs.Lasting.{CellsAreApart, CellsMeet, EditsMarkNothing, IsFor, KernelIsInEverySpace, MarkedByALeafOver, StepsMarkNothing, TranslatesNoneHoldsNone, UnmappingBeginsLive, WalkAnswersAsComputed, WrongAddressChangesNothing, last_cell, unmarked}
 use Rattle.views.proofs.CellKeeps.{cell-inside}
 use Rattle.views.proofs.OrderKeeps.{receiver}
@@ -49,7 +49,7 @@ same-causes ticket f keeps (k ∷ ks) = by (k.ticket == ticket) (same-causes tic
 pub begins_live : UnmappingBeginsLive
 begins_live c place page ticket v store = (fresh ticket (Unmapped place page), by (ticket == ticket) (eq-eqb ticket ticket refl), (refl, refl), refl, refl, refl)
   where
-    by : (t : Bool) → t ≡ true → cond t (Some (fresh ticket (Unmapped place page))) (open_order ticket v.orders) ≡ Some (fresh ticket (Unmapped place page))
+    by : (t : Bool) → t ≡ true → cond t (Some (fresh ticket (Unmapped place page))) (order_of_ticket ticket v.orders) ≡ Some (fresh ticket (Unmapped place page))
     by true is = refl
     by false is = absurd (false≢true is)
 
@@ -79,7 +79,7 @@ same-place (Space s) Kernel is = absurd (false≢true is)
 same-place Kernel (Space t) is = absurd (false≢true is)
 same-place Kernel Kernel is = refl
 
-over-what : (cause : Cause) (place : Place) (page : Span) → is_over cause place page ≡ true → (over : Span) × (cause ≡ Unmapped place over) × Overlap over page
+over-what : (cause : Cause) (place : Place) (page : Span) → lies_over cause place page ≡ true → (over : Span) × (cause ≡ Unmapped place over) × Overlap over page
 over-what (Unmapped p q) place page is =
     let both = and_parts (is_same_place p place) (overlaps q page) is in
     (q, ap (λ (x : Place). Unmapped x q) (sym (same-place p place both.0)), (overlaps-Overlap q page).0 both.1)
@@ -108,8 +108,8 @@ marked-over c v ticket store place page ppn flags n k k' at at' was now = by (is
         let same : k ≡ k' = some-injective k k' (sym at ∙ e) in
         absurd (false≢true (sym was ∙ (ap (λ (x : Order). x.anew) same ∙ now)))
     by false e =
-        let is : (is_over k.cause place page || k.anew) ≡ true = ap (λ (x : Order). x.anew) (at-map (marked place page) v.orders n k k' at e) ∙ now in
-        elim (or_cases (is_over k.cause place page) k.anew is) [
+        let is : (lies_over k.cause place page || k.anew) ≡ true = ap (λ (x : Order). x.anew) (at-map (marked place page) v.orders n k k' at e) ∙ now in
+        elim (or_cases (lies_over k.cause place page) k.anew is) [
           | inl over ↦ over-what k.cause place page over
           | inr before ↦ absurd (false≢true (sym was ∙ before))
         ]
@@ -138,10 +138,10 @@ cells_are_apart l s t h small-s few small-h = (
 -- an ASID of the place that an entry for the place answers
 its-asid : (c : Config) (place : Place) (e : Entry) → IsFor c place e
     → (asid : ℕ) × IsAsidFor c place asid × (((if e.global then None else Some e.asid) ≡ None) ⊎ ((if e.global then None else Some e.asid) ≡ Some asid))
-its-asid c (Space s) e (inl global) = (asid_in c s, refl, inl (ap (λ b. if b then None else Some e.asid) global))
-its-asid c (Space s) e (inr own) = (asid_in c s, refl, by e.global)
+its-asid c (Space s) e (inl global) = (asid_of_space c s, refl, inl (ap (λ b. if b then None else Some e.asid) global))
+its-asid c (Space s) e (inr own) = (asid_of_space c s, refl, by e.global)
   where
-    by : (b : Bool) → ((if b then None else Some e.asid) ≡ None) ⊎ ((if b then None else Some e.asid) ≡ Some (asid_in c s))
+    by : (b : Bool) → ((if b then None else Some e.asid) ≡ None) ⊎ ((if b then None else Some e.asid) ≡ Some (asid_of_space c s))
     by true = inl refl
     by false = inr (ap Some own)
 its-asid c Kernel e is = (e.asid, tt, by e.global)

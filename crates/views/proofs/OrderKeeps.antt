@@ -30,7 +30,8 @@ receiver l s t h s' t' h' few few' lt lt' e =
     let e' : s * length l.spares + h ≡ s' * length l.spares + h' = omega (arith, e, few, few') in
     sym (mod-mul-add s (length l.spares) h lt) ∙ (ap (λ (n : ℕ). n % length l.spares) e' ∙ mod-mul-add s' (length l.spares) h' lt')
 
--- what a step of the seat of this hart, which then has these entries, makes of a cell of the receiver h
+-- what a step of the seat of this hart, which then has these entries, makes of a cell of the
+-- receiver h
 pub data Change (c : Config) (hart h old new : ℕ) (entries : List Entry) : Type 0 where
   stays : new ≡ old → Change c hart h old new entries
   clears : new ≡ 0 → Change c hart h old new entries

@@ -12,7 +12,7 @@ use Rattle.spaces.specs.declared.wishes.Wish.{Wish}
 use Rattle.spaces.specs.Layout.{HasPlace, is_frame, layout_of}
 use Rattle.spaces.specs.Limits.{MeetsLimits}
 use Rattle.spaces.specs.declared.configuration.TheConstants.{MAX_LIVE_FRAMES}
-use Rattle.spaces.specs.Held.{word_index, words_of}
+use Rattle.spaces.specs.Held.{word_index, memory_words}
 use Rattle.spaces.specs.Edits.{Store, place_of}
 use Rattle.spaces.specs.Tree.{IsAtHome}
 use Rattle.views.specs.declared.view.View.{View}
@@ -49,7 +49,7 @@ module _ (c : Config) (id : ℕ) (v : View) where
 
   -- a home's reading of a word of its own
   pub home-reads : (f i : ℕ) → IsAtHome (layout_of c) v.hart f → i < TABLE_LENGTH
-      → Steps c id v (word_index (layout_of c) f i) (λ n. n) (λ _. v) (λ n. words_of (memory_of (layout_of c) v) f i ≡ Some n)
+      → Steps c id v (word_index (layout_of c) f i) (λ n. n) (λ _. v) (λ n. memory_words (memory_of (layout_of c) v) f i ≡ Some n)
   home-reads f i home less s b at fits = (
     record { tables = read-keeps c s b.tables id v at f i home less; orders = read-orders c s b.tables b.orders id v at (word_index (layout_of c) f i) },
     read-tells c s b.tables id v at f i home less,

@@ -8,7 +8,7 @@ use Rattle.spaces.specs.declared.configuration.Config.{Config}
 use Rattle.spaces.specs.declared.places.Place.{Place}
 use Rattle.spaces.specs.Layout.{layout_of, home_of, spare_ppn}
 use Rattle.spaces.specs.Holders.{Holders}
-use Rattle.spaces.specs.Held.{holders_of, words_of}
+use Rattle.spaces.specs.Held.{holders_of, memory_words}
 use Rattle.spaces.specs.Opening.{opening}
 use Rattle.spaces.specs.Tree.{IsHome, IsTree, of_spare}
 use Rattle.spaces.proofs.Homes.{home-unique}
@@ -72,7 +72,7 @@ module _ (c : Config) (s : State ℕ View) (b : Tabled c s) where
   home-own h less (seated j v at is) =
       let t = b.each j v at in
       subst (λ (k : ℕ). IsHome (layout_of c) (tables_in (layout_of c) s.words) k (holders_of (memory_of (layout_of c) v))) is
-      (home-same (layout_of c) (live-layout c b.limits) (words_of (memory_of (layout_of c) v)) (tables_in (layout_of c) s.words) v.hart (holders_of (memory_of (layout_of c) v))
+      (home-same (layout_of c) (live-layout c b.limits) (memory_words (memory_of (layout_of c) v)) (tables_in (layout_of c) s.words) v.hart (holders_of (memory_of (layout_of c) v))
       (holders_of (memory_of (layout_of c) v)) (local-home (layout_of c) v t.local) t.own (λ n less'. refl) (λ f place home e. e))
   home-own h less (waits j v at some' from) =
       let fits = live-layout c b.limits in

@@ -1,4 +1,5 @@
--- The store of an edit keeps what the board says of orders: it adds an order, marks others anew, or maps nothing.
+-- The store of an edit keeps what the board says of orders: it adds an order, marks others anew, or
+-- maps nothing.
 use Rattle.std.proofs.Common.{◌≡◌, ℕ, zero, suc, ◌<◌, ◌||◌, ◌&&◌, Bool, true, false, cond, eqb, List, [], ◌∷◌, length, map, is_some, Some, Ok, sym, refl, ap, ◌∙◌, subst, inl, inr, arith, get_or-set_other}
 use Rattle.std.specs.Prelude.{slice_index, slice_set}
 use Rattle.std.proofs.lemmas.Bool.{and_from, eq-eqb, or_parts, false≢true}
@@ -15,7 +16,7 @@ use Rattle.spaces.specs.declared.places.Place.TheVariants.{Space, Kernel}
 use Rattle.spaces.specs.declared.wishes.Wish.{Wish}
 use Rattle.spaces.specs.declared.wishes.Wish.TheVariants.{Map, Unmap, Protect}
 use Rattle.spaces.specs.Layout.{Layout, HasPlace, home_of, layout_of, root_ppn}
-use Rattle.spaces.specs.Held.{Held, IsLayout, holders_of, word_index, words_of}
+use Rattle.spaces.specs.Held.{Held, IsLayout, holders_of, word_index, memory_words}
 use Rattle.spaces.specs.Holders.{is_same_place, unused_spare}
 use Rattle.spaces.specs.Edits.{Store, edit_of, is_wrong_half, page_of, place_of, store_due, wish_end, wish_fault}
 use Rattle.spaces.specs.Opening.{is_word}
@@ -34,7 +35,7 @@ use Rattle.views.specs.declared.view.View.{View}
 use Rattle.views.specs.Edits.{edit_over}
 use Rattle.views.specs.Rule.{cell, memory_of, Tabled}
 use Rattle.shoot.specs.declared.TheConstants.{MAX_TICKETS}
-use Rattle.views.specs.Orders.{dropping, is_over, IsLive, IsUnmapped, Kept, Ordered}
+use Rattle.views.specs.Orders.{dropping, lies_over, IsLive, IsUnmapped, Kept, Ordered}
 use Rattle.views.specs.OrderTurns.{IsAsked, fresh, marked, noted, orders_after}
 use Rattle.views.proofs.EditKeeps.{acc, live-layout, words-after, word-there}
 use Rattle.views.proofs.Fills.{page-of}
@@ -49,7 +50,7 @@ at_map_back f (x ∷ xs) (suc i) a e = at_map_back f xs i a e
 right-half : (l : Layout) (v : View) (wish : Wish) (store : Store) → edit_over l v wish ≡ Ok store → is_wrong_half l (place_of wish) (page_of wish) ≡ false
 unfolding edit_of
 right-half l v wish store e =
-    (unfaulted l v.hart wish (unless-ok (wish_fault l v.hart wish) (store_due wish (unused_spare l (holders_of (memory_of l v)) v.hart) (wish_end l (words_of (memory_of l v)) wish)) store e).0).half
+    (unfaulted l v.hart wish (unless-ok (wish_fault l v.hart wish) (store_due wish (unused_spare l (holders_of (memory_of l v)) v.hart) (wish_end l (memory_words (memory_of l v)) wish)) store e).0).half
 
 asked-page : (c : Config) (wish : Wish) → IsAsked c wish → IsPage (page_of wish)
 asked-page c (Map place page ppn flags) a = a
@@ -83,21 +84,21 @@ module _ (c : Config) (id : ℕ) (v : View) (wish : Wish) (ticket : ℕ) (store 
   is-word-there : is_word (layout_of c) store.ppn store.index ≡ true
   is-word-there = word-there (layout_of c) v (b.each id v at).local wish has store is
 
-  edit : IsEdit (layout_of c) (words_of memory) (holders_of memory) v.hart wish store
+  edit : IsEdit (layout_of c) (memory_words memory) (holders_of memory) v.hart wish store
   edit = record { layout = fits; tree = (b.each id v at).local.memory.tree; has = has; page = asked-page c wish asked; is = is }
 
-  effect : HasEffect (layout_of c) wish store (words_of memory) (words_of memory-now)
+  effect : HasEffect (layout_of c) wish store (memory_words memory) (memory_words memory-now)
   effect =
-      effect-in (layout_of c) (words_of memory) (holders_of memory) v.hart wish store (words_of memory-now) (λ f i. words-after (layout_of c) v (b.each id v at).local wish has store is f i) edit
+      effect-in (layout_of c) (memory_words memory) (holders_of memory) v.hart wish store (memory_words memory-now) (λ f i. words-after (layout_of c) v (b.each id v at).local wish has store is f i) edit
 
   half : is_wrong_half (layout_of c) (place_of wish) (page_of wish) ≡ false
   half = right-half (layout_of c) v wish store is
 
-  module _ (place : Place) (page : Span) (is-page : IsPage page) (its-half : is_wrong_half (layout_of c) place page ≡ false) (none : IsUnmapped (layout_of c) (words_of memory) place page) where
+  module _ (place : Place) (page : Span) (is-page : IsPage page) (its-half : is_wrong_half (layout_of c) place page ≡ false) (none : IsUnmapped (layout_of c) (memory_words memory) place page) where
     -- a page stays unmapped but for a leaf that is mapped over it
-    unmapped-on : (w : Wish) → HasEffect (layout_of c) w store (words_of memory) (words_of memory-now) → is_wrong_half (layout_of c) (place_of w) (page_of w) ≡ false → IsPage (page_of w)
-        → ((ppn : ℕ) (flags : PteFlags) → w ≡ Map (place_of w) (page_of w) ppn flags → is_some (pointed (Some store.word)) ≡ false → is_over (Unmapped place page) (place_of w) (page_of w) ≡ false)
-        → IsUnmapped (layout_of c) (words_of memory-now) place page
+    unmapped-on : (w : Wish) → HasEffect (layout_of c) w store (memory_words memory) (memory_words memory-now) → is_wrong_half (layout_of c) (place_of w) (page_of w) ≡ false → IsPage (page_of w)
+        → ((ppn : ℕ) (flags : PteFlags) → w ≡ Map (place_of w) (page_of w) ppn flags → is_some (pointed (Some store.word)) ≡ false → lies_over (Unmapped place page) (place_of w) (page_of w) ≡ false)
+        → IsUnmapped (layout_of c) (memory_words memory-now) place page
     unmapped-on (Unmap p q) does h is-q apart r number ppn flags global less about m =
         none r number ppn flags global less about ((does r number ppn flags global less).0 m).0
     unmapped-on (Protect p q f) does h is-q apart r number ppn flags global less about m =
@@ -107,7 +108,7 @@ module _ (c : Config) (id : ℕ) (v : View) (wish : Wish) (ticket : ℕ) (store 
         ]
     unmapped-on (Map p q first f) does h is-q apart r number ppn flags global less about m = by (is_some (pointed (Some store.word))) refl
       where
-        now : Maps c.scheme (words_of memory-now) (root_ppn (layout_of c) r) number ppn flags global
+        now : Maps c.scheme (memory_words memory-now) (root_ppn (layout_of c) r) number ppn flags global
         now = m
 
         by : (t : Bool) → is_some (pointed (Some store.word)) ≡ t → ⊥
@@ -136,17 +137,17 @@ module _ (c : Config) (id : ℕ) (v : View) (wish : Wish) (ticket : ℕ) (store 
   stood n k at-k place page live = stands c s b o id v new-view at refl shared-now (λ j u at-u n k at-k place page live m. m) cells-stay id v at n k at-k place page live
 
   -- an order of before, whatever its mark is now
-  stood-on : (k : Order) (place : Place) (page : Span) (anew : Bool) → Kept c shared-now views-now v.hart memory k place page → IsUnmapped (layout_of c) (words_of memory-now) place page
+  stood-on : (k : Order) (place : Place) (page : Span) (anew : Bool) → Kept c shared-now views-now v.hart memory k place page → IsUnmapped (layout_of c) (memory_words memory-now) place page
       → Kept c shared-now views-now v.hart memory-now (record k { anew = anew }) place page
   stood-on k place page anew t none = record { has = t.has; at_home = t.at_home; right_half = t.right_half; askable = t.askable; unmapped = none; numbered = t.numbered; acked = t.acked; gone = t.gone }
 
-  stood-same : (k : Order) (place : Place) (page : Span) → Kept c shared-now views-now v.hart memory k place page → IsUnmapped (layout_of c) (words_of memory-now) place page
+  stood-same : (k : Order) (place : Place) (page : Span) → Kept c shared-now views-now v.hart memory k place page → IsUnmapped (layout_of c) (memory_words memory-now) place page
       → Kept c shared-now views-now v.hart memory-now k place page
   stood-same k place page t none = record { has = t.has; at_home = t.at_home; right_half = t.right_half; askable = t.askable; unmapped = none; numbered = t.numbered; acked = t.acked; gone = t.gone }
 
   module _ (u : Wish) (e : u ≡ wish) where
-    effect-of : HasEffect (layout_of c) u store (words_of memory) (words_of memory-now)
-    effect-of = subst (λ z. HasEffect (layout_of c) z store (words_of memory) (words_of memory-now)) (sym e) effect
+    effect-of : HasEffect (layout_of c) u store (memory_words memory) (memory_words memory-now)
+    effect-of = subst (λ z. HasEffect (layout_of c) z store (memory_words memory) (memory_words memory-now)) (sym e) effect
 
     half-of : is_wrong_half (layout_of c) (place_of u) (page_of u) ≡ false
     half-of = subst (λ z. is_wrong_half (layout_of c) (place_of z) (page_of z) ≡ false) (sym e) half
@@ -155,12 +156,12 @@ module _ (c : Config) (id : ℕ) (v : View) (wish : Wish) (ticket : ℕ) (store 
     page-is = subst (λ z. IsPage (page_of z)) (sym e) (asked-page c wish asked)
 
     still : (k : Order) (place : Place) (page : Span) → Kept c shared-now views-now v.hart memory k place page
-        → ((ppn : ℕ) (flags : PteFlags) → u ≡ Map (place_of u) (page_of u) ppn flags → is_some (pointed (Some store.word)) ≡ false → is_over (Unmapped place page) (place_of u) (page_of u) ≡ false)
-        → IsUnmapped (layout_of c) (words_of memory-now) place page
+        → ((ppn : ℕ) (flags : PteFlags) → u ≡ Map (place_of u) (page_of u) ppn flags → is_some (pointed (Some store.word)) ≡ false → lies_over (Unmapped place page) (place_of u) (page_of u) ≡ false)
+        → IsUnmapped (layout_of c) (memory_words memory-now) place page
     still k place page t apart = unmapped-on place page (page-of c place page t.askable) t.right_half t.unmapped u effect-of half-of page-is apart
 
-  removes : (p : Place) (q : Span) → Unmap p q ≡ wish → HasEffect (layout_of c) (Unmap p q) store (words_of memory) (words_of memory-now)
-  removes p q e = subst (λ z. HasEffect (layout_of c) z store (words_of memory) (words_of memory-now)) (sym e) effect
+  removes : (p : Place) (q : Span) → Unmap p q ≡ wish → HasEffect (layout_of c) (Unmap p q) store (memory_words memory) (memory_words memory-now)
+  removes p q e = subst (λ z. HasEffect (layout_of c) z store (memory_words memory) (memory_words memory-now)) (sym e) effect
 
   fresh-kept : (p : Place) (q : Span) → Unmap p q ≡ wish → Kept c shared-now views-now v.hart memory-now (fresh ticket (Unmapped p q)) p q
   fresh-kept p q e = record {
@@ -186,10 +187,10 @@ module _ (c : Config) (id : ℕ) (v : View) (wish : Wish) (ticket : ℕ) (store 
           let r = at_map_back (marked p q) v.orders n k here in
           subst (λ (z : Order). IsLive z place page → Kept c shared-now views-now v.hart memory-now z place page) r.2
           (λ live'.
-          let marks = or_parts (is_over r.0.cause p q) r.0.anew live'.1 in
+          let marks = or_parts (lies_over r.0.cause p q) r.0.anew live'.1 in
           let was = stood n r.0 r.1 place page (live'.0, marks.1) in
-          stood-on r.0 place page (is_over r.0.cause p q || r.0.anew) was
-          (still (Map p q first f) e r.0 place page was (λ ppn flags _ no. subst (λ (z : Cause). is_over z p q ≡ false) live'.0 marks.0)))
+          stood-on r.0 place page (lies_over r.0.cause p q || r.0.anew) was
+          (still (Map p q first f) e r.0 place page was (λ ppn flags _ no. subst (λ (z : Cause). lies_over z p q ≡ false) live'.0 marks.0)))
           live
   mine-by (Unmap p q) e zero k at' place page live =
       subst (λ (z : Order). IsLive z place page → Kept c shared-now views-now v.hart memory-now z place page) (some-injective (fresh ticket (Unmapped p q)) k at')

@@ -4,14 +4,14 @@ use Rattle.std.specs.Prelude.{slice_index, slice_set}
 use Rattle.walk.specs.Stores.{AgreeBut, stored}
 use Rattle.spaces.specs.Layout.{Layout}
 use Rattle.spaces.specs.Opening.{is_word}
-use Rattle.spaces.specs.Held.{word_index, words_of}
+use Rattle.spaces.specs.Held.{word_index, memory_words}
 use Rattle.spaces.proofs.Stored.{stored-here, stored-there}
 use Rattle.spaces.proofs.WordLists.{list-read, list-same, list-stored}
 use Rattle.views.specs.declared.view.View.{View}
 use Rattle.views.specs.Rule.{size, board_size, tables_in, memory_of}
 
 -- the words of a view are those of its memory
-pub held-words : (l : Layout) (v : View) → tables_in l v.words ≡ words_of (memory_of l v)
+pub held-words : (l : Layout) (v : View) → tables_in l v.words ≡ memory_words (memory_of l v)
 held-words l v = list-same l v.words [] v.holders
 
 pub wide-words : (l : Layout) (ws : List ℕ) → board_size l ≤ length ws → size l ≤ length ws

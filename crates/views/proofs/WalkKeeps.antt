@@ -18,7 +18,7 @@ use Rattle.walk.proofs.Ending.{goes-load, more-points, on_path-start}
 use Rattle.spaces.specs.declared.configuration.Config.{Config}
 use Rattle.spaces.specs.Layout.{Layout, layout_of, is_frame}
 use Rattle.spaces.specs.Opening.{is_word}
-use Rattle.spaces.specs.Held.{word_index, words_of}
+use Rattle.spaces.specs.Held.{word_index, memory_words}
 use Rattle.spaces.specs.Tree.{IsAtHome}
 use Rattle.spaces.proofs.OpeningTree.{word-is}
 use Rattle.spaces.proofs.Paths.{vpn-below}
@@ -100,7 +100,7 @@ module _ (c : Config) (s : State ℕ View) (b : Tabled c s) (id : ℕ) (v : View
     pub read-keeps : Loaded c s id (word_index (layout_of c) f i) v
     read-keeps = loaded c s id (word_index (layout_of c) f i) v (keeps-load c s b id v v at refl refl (b.each id v at))
 
-    pub read-tells : words_of (memory_of (layout_of c) v) f i ≡ Some (slice_index s.words (word_index (layout_of c) f i))
+    pub read-tells : memory_words (memory_of (layout_of c) v) f i ≡ Some (slice_index s.words (word_index (layout_of c) f i))
     read-tells =
         let t = b.each id v at in
         sym (t.own f i home) ∙ word-read (layout_of c) s.words (wide-words (layout_of c) s.words b.wide) f i (word-is (layout_of c) v.hart f i home less)

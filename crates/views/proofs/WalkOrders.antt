@@ -25,7 +25,7 @@ use Rattle.views.specs.declared.view.Read.{Read}
 use Rattle.views.specs.declared.view.View.{View}
 use Rattle.views.specs.Rule.{IsRoot, IsWalk, Tabled, tables_in}
 use Rattle.views.specs.Turns.{asid_at, walked, with_fill}
-use Rattle.views.specs.Orders.{asid_in, asid_for, IsLive, Misses, IsGlobalInWindow, Ordered}
+use Rattle.views.specs.Orders.{asid_of_space, asid_for, IsLive, Misses, IsGlobalInWindow, Ordered}
 use Rattle.views.proofs.Fills.{window-found, misses-found, asid-at-root, one-more}
 use Rattle.views.proofs.OrderKeeps.{idle-orders, stays, stands, keeps-orders}
 use Rattle.views.proofs.WalkKeeps.{load-goes}
@@ -46,7 +46,7 @@ module _ (c : Config) (s : State ℕ View) (b : Tabled c s) (o : Ordered c s) (i
     abbrev word : ℕ
     word = slice_index s.words place
 
-    asid-is : asid_at v.config root ≡ asid_in c is.0
+    asid-is : asid_at v.config root ≡ asid_of_space c is.0
     asid-is = ap (λ k. asid_at k root) (b.each id v at).config ∙ asid-at-root c is.0 root is.2
 
     found-there : (found : Found) → GoesOn c.scheme (tables_in (layout_of c) s.words) root st (progress.Found found)

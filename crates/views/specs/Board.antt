@@ -16,10 +16,10 @@ use Rattle.spaces.specs.declared.places.Place.{Place}
 use Rattle.spaces.specs.Effects.{HangsBelow}
 use Rattle.spaces.specs.Layout.{Layout, first_window_slot, layout_of, root_ppn}
 use Rattle.spaces.specs.Opening.{opening}
-use Rattle.spaces.specs.Held.{words_of}
+use Rattle.spaces.specs.Held.{memory_words}
 use Rattle.tlb.specs.declared.store.Entry.{Entry}
 use Rattle.tlb.specs.Mappings.{IsMappedBy, Mapping, Translates}
-use Rattle.tlb.specs.Service.{served}
+use Rattle.tlb.specs.Service.{after_service}
 use Rattle.shoot.specs.Acknowledgement.{IsAskable, acknowledgement}
 use Rattle.views.specs.declared.view.Order.{Order}
 use Rattle.views.specs.declared.view.View.{View}
@@ -51,7 +51,7 @@ UnmappedStaysUnmapped words_at =
 
 -- the words as the home's view has them, and the shared words
 abbrev pub own_words : Config → State ℕ View → View → Tables
-own_words c s v = words_of (memory_of (layout_of c) v)
+own_words c s v = memory_words (memory_of (layout_of c) v)
 
 abbrev pub shared_words : Config → State ℕ View → View → Tables
 shared_words c s v = tables_in (layout_of c) s.words
@@ -119,11 +119,11 @@ MappingsAreGlobalInWindow =
 abbrev pub EqualWordsAskForEqualService : Type 0
 EqualWordsAskForEqualService =
     (a d : What) → IsAskable a → IsAskable d → acknowledgement a ≡ acknowledgement d
-    → (entries : List Entry) → served entries a ≡ served entries d
+    → (entries : List Entry) → after_service entries a ≡ after_service entries d
 
 -- a word of a frame is as the view of this hart says, or as at the opening
 abbrev pub IsAsSaid : Config → State ℕ View → ℕ → ℕ → ℕ → Type 0
 IsAsSaid c s h f i =
     ((j : ℕ) × (v : View) × (get_elem? s.views j ≡ some v) × (v.hart ≡ h)
-    × (tables_in (layout_of c) s.words f i ≡ words_of (memory_of (layout_of c) v) f i))
+    × (tables_in (layout_of c) s.words f i ≡ memory_words (memory_of (layout_of c) v) f i))
     ⊎ (tables_in (layout_of c) s.words f i ≡ opening (layout_of c) f i)

@@ -34,8 +34,8 @@ use Rattle.views.specs.declared.view.Read.{Read}
 use Rattle.views.specs.declared.view.View.{View}
 use Rattle.views.specs.Rule.{Has, cell, size, board_size}
 use Rattle.shoot.specs.declared.TheConstants.{MAX_TICKETS}
-use Rattle.views.specs.Orders.{IsAsidFor, IsLive, asid_for, asid_in}
-use Rattle.views.specs.OrderTurns.{acknowledged, last_word, looked, noted, open_order, ordered, self_acked, with_armed}
+use Rattle.views.specs.Orders.{IsAsidFor, IsLive, asid_for, asid_of_space}
+use Rattle.views.specs.OrderTurns.{acknowledged, last_word, looked, noted, order_of_ticket, ordered, self_acked, with_armed}
 use Rattle.views.specs.Turns.{walked}
 use Rattle.views.specs.Walks.{AnswersByLoads, Walked}
 use Rattle.views.specs.Board.{TranslatesNone}
@@ -49,7 +49,7 @@ causes v = map (λ k. (k.ticket, k.cause, k.anew)) v.orders
 abbrev pub UnmappingBeginsLive : Type 0
 UnmappingBeginsLive =
     (c : Config) (place : Place) (page : Span) (ticket : ℕ) (v : View) (store : Store) → (k : Order)
-    × (open_order ticket (noted c (Unmap place page) ticket v store).orders ≡ Some k)
+    × (order_of_ticket ticket (noted c (Unmap place page) ticket v store).orders ≡ Some k)
     × IsLive k place page × (k.armed ≡ []) × (k.collected ≡ [])
     × ((noted c (Unmap place page) ticket v store).orders ≡ k ∷ v.orders)
 
@@ -101,12 +101,12 @@ MarkedByALeafOver =
 abbrev pub KernelIsInEverySpace : Type 0
 KernelIsInEverySpace =
     (c : Config) (asid : ℕ) → IsAsidFor c Kernel asid
-    × ((s : ℕ) → IsAsidFor c (Space s) asid ↔ (asid ≡ asid_in c s))
+    × ((s : ℕ) → IsAsidFor c (Space s) asid ↔ (asid ≡ asid_of_space c s))
 
 -- an entry that is for some address space of the place: a global one, one of the space's own ASID,
 -- or for the kernel any
 abbrev pub IsFor : Config → Place → Entry → Type 0
-IsFor c (Space s) e = (e.global ≡ true) ⊎ (e.asid ≡ asid_in c s)
+IsFor c (Space s) e = (e.global ≡ true) ⊎ (e.asid ≡ asid_of_space c s)
 IsFor c Kernel e = Unit {0}
 
 -- where a hart's entries translate no address of a page of a place, none of them overlaps the page

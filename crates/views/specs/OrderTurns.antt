@@ -9,7 +9,7 @@ use Rattle.spaces.specs.declared.wishes.Wish.TheVariants.{Map, Unmap, Protect}
 use Rattle.spaces.specs.declared.configuration.Config.{Config}
 use Rattle.spaces.specs.Layout.{layout_of}
 use Rattle.spaces.specs.Edits.{Store}
-use Rattle.tlb.specs.Service.{served}
+use Rattle.tlb.specs.Service.{after_service}
 use Rattle.shoot.specs.Acknowledgement.{IsAskable, acknowledgement}
 use Rattle.views.specs.declared.view.Cause.{Cause}
 use Rattle.views.specs.declared.view.Cause.TheVariants.{Unmapped, Other}
@@ -18,12 +18,12 @@ use Rattle.views.specs.declared.view.CellStep.TheVariants.{Found, Stored}
 use Rattle.views.specs.declared.view.Order.{Order}
 use Rattle.views.specs.declared.view.View.{View}
 use Rattle.views.specs.Rule.{cell}
-use Rattle.views.specs.Orders.{asked, dropping, is_in, is_over}
+use Rattle.views.specs.Orders.{asked, dropping, is_in, lies_over}
 use Rattle.views.specs.Turns.{edited}
 
 -- a leaf that is mapped over the page of an unmapping marks it anew
 abbrev pub marked : Place → Span → Order → Order
-marked place page k = record k { anew = is_over k.cause place page || k.anew }
+marked place page k = record k { anew = lies_over k.cause place page || k.anew }
 
 -- an order that begins
 abbrev pub fresh : ℕ → Cause → Order
@@ -77,7 +77,7 @@ with_armed ticket to v =
 abbrev pub acknowledged : ℕ → ℕ → What → View → View
 acknowledged from ticket what v =
     record v {
-      entries = served v.entries what;
+      entries = after_service v.entries what;
       cell_steps = Stored (cell_by v from ticket v.hart) (acknowledgement what) ∷ v.cell_steps;
     }
 
@@ -108,20 +108,20 @@ last_word (Stored at word ∷ steps) = word
 -- the sender is the receiver: it drops what is asked, and is collected
 abbrev pub self_acked : ℕ → What → View → View
 self_acked ticket what v = record v {
-  entries = served v.entries what;
+  entries = after_service v.entries what;
   orders = for_ticket ticket (collected v.hart) v.orders;
   cell_steps = Stored (cell_by v v.hart ticket v.hart) (acknowledgement what) ∷ v.cell_steps;
 }
 
 -- the open order of a ticket
-abbrev pub open_order : ℕ → List Order → Option Order
-open_order ticket [] = None
-open_order ticket (k ∷ ks) = if k.ticket == ticket then Some k else open_order ticket ks
+abbrev pub order_of_ticket : ℕ → List Order → Option Order
+order_of_ticket ticket [] = None
+order_of_ticket ticket (k ∷ ks) = if k.ticket == ticket then Some k else order_of_ticket ticket ks
 
 -- the open order of the ticket asks for this
 pub record IsAsking (c : Config) (v : View) (ticket : ℕ) (what : What) : Type 0 where
   pub order : Order
-  pub is : open_order ticket v.orders ≡ Some order
+  pub is : order_of_ticket ticket v.orders ≡ Some order
   pub asks : asked c order.cause ≡ what
 
 -- and the cell of this hart was armed for it

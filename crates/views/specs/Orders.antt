@@ -15,7 +15,7 @@ use Rattle.spaces.specs.declared.configuration.Config.{Config}
 use Rattle.spaces.specs.declared.places.Place.{Place}
 use Rattle.spaces.specs.declared.places.Place.TheVariants.{Space, Kernel}
 use Rattle.spaces.specs.Layout.{Layout, HasPlace, home_of, layout_of, root_ppn, first_window_slot}
-use Rattle.spaces.specs.Held.{Held, words_of}
+use Rattle.spaces.specs.Held.{Held, memory_words}
 use Rattle.spaces.specs.Holders.{is_same_place}
 use Rattle.spaces.specs.Edits.{is_wrong_half}
 use Rattle.spaces.specs.Effects.{IsAbout}
@@ -30,17 +30,17 @@ use Rattle.views.specs.declared.view.View.{View}
 use Rattle.views.specs.Rule.{cell, memory_of}
 use Rattle.shoot.specs.declared.TheConstants.{MAX_TICKETS}
 
-abbrev pub asid_in : Config → ℕ → ℕ
-asid_in c s = slice_index (map (λ s. s.asid) c.spaces.items) s
+abbrev pub asid_of_space : Config → ℕ → ℕ
+asid_of_space c s = slice_index (map (λ s. s.asid) c.spaces.items) s
 
 -- the ASID of a place; the kernel is in every address space
 abbrev pub asid_for : Config → Place → Option ℕ
-asid_for c (Space s) = Some (asid_in c s)
+asid_for c (Space s) = Some (asid_of_space c s)
 asid_for c Kernel = None
 
 -- an ASID of the address spaces that the place is in
 abbrev pub IsAsidFor : Config → Place → ℕ → Type 0
-IsAsidFor c (Space s) asid = asid ≡ asid_in c s
+IsAsidFor c (Space s) asid = asid ≡ asid_of_space c s
 IsAsidFor c Kernel asid = Unit {0}
 
 -- what the harts are asked to drop of a page of a place
@@ -60,9 +60,9 @@ abbrev pub IsLive : Order → Place → Span → Type 0
 IsLive k place page = (k.cause ≡ Unmapped place page) × (k.anew ≡ false)
 
 -- a leaf that is mapped here lies over the page of an unmapping
-abbrev pub is_over : Cause → Place → Span → Bool
-is_over (Unmapped place page) other span = is_same_place place other && overlaps page span
-is_over (Other what) other span = false
+abbrev pub lies_over : Cause → Place → Span → Bool
+lies_over (Unmapped place page) other span = is_same_place place other && overlaps page span
+lies_over (Other what) other span = false
 
 -- no entry maps into the page, for the ASID or for any
 abbrev pub Misses : Span → Option ℕ → List Entry → Type 0
@@ -87,7 +87,7 @@ pub record Kept (c : Config) (words : List ℕ) (views : List View) (hart : ℕ)
   pub at_home : home_of (layout_of c) place ≡ hart
   pub right_half : is_wrong_half (layout_of c) place page ≡ false
   pub askable : IsAskable (dropping c place page)
-  pub unmapped : IsUnmapped (layout_of c) (words_of own) place page
+  pub unmapped : IsUnmapped (layout_of c) (memory_words own) place page
   -- cells are armed for tickets of a hart, which are numbered from 0
   pub numbered : (h : ℕ) → is_in h k.armed ≡ true → k.ticket < MAX_TICKETS
   -- once a cell that was armed for it has its word, the receiver has no mapping of it

@@ -18,7 +18,7 @@ use Rattle.spaces.specs.Limits.{MeetsLimits}
 use Rattle.spaces.specs.declared.configuration.TheConstants.{MAX_LIVE_FRAMES}
 use Rattle.spaces.specs.Opening.{first_words, opening}
 use Rattle.spaces.specs.Holders.{Holders}
-use Rattle.spaces.specs.Held.{Held, IsMemory, holders_of, words_of}
+use Rattle.spaces.specs.Held.{Held, IsMemory, holders_of, memory_words}
 use Rattle.spaces.specs.Tree.{IsAtHome}
 use Rattle.views.specs.declared.view.Read.{Read}
 use Rattle.views.specs.declared.view.View.{View}
@@ -44,7 +44,7 @@ IsRoot l root = (s : ℕ) × (s < length l.homes) × (root ≡ root_ppn l s)
 
 -- the shared words as tables, frame by frame
 abbrev pub tables_in : Layout → List ℕ → Tables
-tables_in l ws = words_of (record { layout = l; words = ws; holders = [] })
+tables_in l ws = memory_words (record { layout = l; words = ws; holders = [] })
 
 -- table memory as a hart knows it
 abbrev pub memory_of : Layout → View → Held
@@ -89,7 +89,7 @@ pub record Seated (c : Config) (words : Tables) (v : View) : Type 0 where
   pub config : v.config ≡ c
   pub local : Local (layout_of c) v
   pub own : (f i : ℕ) → IsAtHome (layout_of c) v.hart f
-      → words f i ≡ words_of (memory_of (layout_of c) v) f i
+      → words f i ≡ memory_words (memory_of (layout_of c) v) f i
   pub walk : IfSome v.walk (IsWalk c.scheme words v.root v.reads)
 
 -- a hart has a seat, or waits for one

@@ -11,7 +11,7 @@ use Rattle.walk.specs.Step.{load_of}
 use Rattle.spaces.specs.declared.configuration.Config.{Config}
 use Rattle.spaces.specs.Layout.{Layout, is_frame, layout_of, root_ppn}
 use Rattle.spaces.specs.Edits.{Store}
-use Rattle.spaces.specs.Held.{words_of}
+use Rattle.spaces.specs.Held.{memory_words}
 use Rattle.spaces.specs.Applied.{memory_after}
 use Rattle.spaces.specs.Tree.{IsAtHome}
 use Rattle.tlb.specs.declared.store.Entry.{Entry}
@@ -60,7 +60,7 @@ pub record TellsLoad (l : Layout) (v : View) (st : Stage) (reads : List Read) (n
   pub frame : TellsFrame l st n
   pub some_memory : (words : Tables) × Has words (reads ++ read_of st n ∷ [])
   pub at_home : IsAtHome l v.hart st.table
-      → words_of (memory_of l v) st.table (vpn_of st.va st.level) ≡ Some n
+      → memory_words (memory_of l v) st.table (vpn_of st.va st.level) ≡ Some n
 
 -- a walk that waits for a word of its root
 pub record IsStart (scheme : Scheme) (root : ℕ) (st : Stage) : Type 0 where

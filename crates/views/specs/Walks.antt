@@ -10,7 +10,7 @@ use Rattle.walk.specs.Answer.{page_trap}
 use Rattle.walk.specs.Leads.{Tables}
 use Rattle.walk.specs.Outcome.{Outcome}
 use Rattle.spaces.specs.Layout.{Layout, first_window_slot, root_ppn}
-use Rattle.spaces.specs.Held.{words_of}
+use Rattle.spaces.specs.Held.{memory_words}
 use Rattle.tlb.specs.declared.store.Entry.{Entry}
 use Rattle.tlb.specs.Answer.{entry_of}
 use Rattle.views.specs.declared.view.View.{View}
@@ -50,7 +50,7 @@ pub record AnswersByLoads (l : Layout) (v : View) (root va : ℕ) (access : Acce
   pub each_memory : (words : Tables) → Has words w.reads
       → Outcome l.scheme words root va access ctx answer
   pub read_back : (s : ℕ) → IsHomePath l v root va s
-      → Outcome l.scheme (words_of (memory_of l v)) root va access ctx answer
+      → Outcome l.scheme (memory_words (memory_of l v)) root va access ctx answer
   pub count : w.loads ≡ v.loads + length w.reads
   pub few : length w.reads ≤ level_count l.scheme
   pub entries : w.entries ≡ with_found (asid_at v.config root) v.entries answer

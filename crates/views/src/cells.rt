@@ -7,7 +7,7 @@ ghost use Rattle.pte.specs.declared.address.What.{What as Asked};
 ghost use Rattle.spaces.specs.Layout.{layout_of};
 ghost use Rattle.spaces.specs.Limits.{MeetsLimits};
 ghost use Rattle.spaces.specs.declared.configuration.TheConstants.{MAX_LIVE_FRAMES};
-ghost use Rattle.tlb.specs.Service.{is_served};
+ghost use Rattle.tlb.specs.Service.{is_dropped};
 ghost use Rattle.views.specs.Rule.{board_size, cell, IsFit};
 ghost use Rattle.shoot.specs.declared.TheConstants.{MAX_TICKETS};
 ghost use Rattle.views.specs.Board.{Steps};
@@ -128,7 +128,7 @@ pub fn acknowledge(
     requires fit { IsFit words.now.table_id words.now.key config.now seat.old }
     requires hart { seat.old.me.0.hart ≡ hart }
     requires from { from < length (layout_of config.now).spares }
-    requires served { AllPass (λ e. not (is_served request.now.what e)) tlb.now.entries }
+    requires served { AllPass (λ e. not (is_dropped request.now.what e)) tlb.now.entries }
     ensures fit { IsFit words.now.table_id words.now.key config.now seat.new }
     ensures view { seat.new.me.0
         ≡ acknowledged from request.now.ticket request.now.what seat.old.me.0 }
@@ -172,7 +172,7 @@ pub fn acknowledge_self(
     requires fit { IsFit words.now.table_id words.now.key config.now seat.old }
     requires hart { seat.old.me.0.hart ≡ hart }
     requires asks { IsAsking config.now seat.old.me.0 request.now.ticket request.now.what }
-    requires served { AllPass (λ e. not (is_served request.now.what e)) tlb.now.entries }
+    requires served { AllPass (λ e. not (is_dropped request.now.what e)) tlb.now.entries }
     ensures fit { IsFit words.now.table_id words.now.key config.now seat.new }
     ensures view { seat.new.me.0 ≡ self_acked request.now.ticket request.now.what seat.old.me.0 }
 {

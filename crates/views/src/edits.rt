@@ -3,7 +3,7 @@
 ghost use Rattle.std.specs.Prelude.{◌≡◌, is_some, MatchResult, Ok, Some};
 ghost use Rattle.walk.specs.Pointers.{pointed};
 ghost use Rattle.spaces.specs.declared.places.Place.TheVariants as place;
-ghost use Rattle.views.specs.Orders.{asid_in};
+ghost use Rattle.views.specs.Orders.{asid_of_space};
 ghost use Rattle.spaces.specs.Layout.{HasPlace, layout_of};
 ghost use Rattle.spaces.specs.Edits.{place_of};
 ghost use Rattle.views.specs.Rule.{IsFit};
@@ -53,7 +53,7 @@ pub fn decide(
 /// The ASID of a space.
 fn asid_in(config: &Config, space: u8) -> u16
     requires { HasPlace (layout_of config.now) (place.Space space) }
-    ensures { result ≡ asid_in config.now space }
+    ensures { result ≡ asid_of_space config.now space }
 {
     config.spaces[usize::from(space)].asid
 }

@@ -2,7 +2,7 @@
 
 ghost use Rattle.std.specs.Prelude.{◌≡◌, ◌<◌, length};
 ghost use Rattle.spaces.specs.Layout.{layout_of};
-ghost use Rattle.tlb.specs.Service.{served};
+ghost use Rattle.tlb.specs.Service.{after_service};
 ghost use Rattle.views.specs.Rule.{IsFit};
 ghost use Rattle.views.specs.OrderTurns.{IsAsking, acknowledged, self_acked};
 
@@ -29,7 +29,8 @@ pub fn serve(
     ensures fit { IsFit words.now.table_id words.now.key config.now seat.new }
     ensures view { seat.new.me.0
         ≡ acknowledged from request.now.ticket request.now.what seat.old.me.0 }
-    ensures tlb { tlb.new ≡ record tlb.old { entries = served tlb.old.entries request.now.what } }
+    ensures tlb { tlb.new ≡ record tlb.old
+        { entries = after_service tlb.old.entries request.now.what } }
 {
     tlb.serve(&request.what);
     acknowledge(words, seat, config, hart, from, request, tlb)
@@ -50,7 +51,8 @@ pub fn serve_self(
     requires asks { IsAsking config.now seat.old.me.0 request.now.ticket request.now.what }
     ensures fit { IsFit words.now.table_id words.now.key config.now seat.new }
     ensures view { seat.new.me.0 ≡ self_acked request.now.ticket request.now.what seat.old.me.0 }
-    ensures tlb { tlb.new ≡ record tlb.old { entries = served tlb.old.entries request.now.what } }
+    ensures tlb { tlb.new ≡ record tlb.old
+        { entries = after_service tlb.old.entries request.now.what } }
 {
     let asked = request.what;
     tlb.serve(&asked);

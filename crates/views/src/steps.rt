@@ -3,7 +3,7 @@
 ghost use Rattle.std.specs.Prelude.{◌≡◌, ℕ, ◌^◌, ◌<◌, [], true, Some, Ok};
 ghost use Rattle.spaces.specs.Layout.{HasPlace, is_frame, layout_of};
 ghost use Rattle.spaces.specs.Edits.{place_of};
-ghost use Rattle.spaces.specs.Held.{word_index, words_of};
+ghost use Rattle.spaces.specs.Held.{word_index, memory_words};
 ghost use Rattle.spaces.specs.Opening.{is_word};
 ghost use Rattle.spaces.specs.Tree.{IsAtHome};
 ghost use Rattle.views.specs.Rule.{IsFit, IsRoot, memory_of, size};
@@ -91,7 +91,7 @@ pub fn read_home(words: &Words, seat: &mut Place, config: &Config, table: u64, i
     requires index { index < TABLE_LENGTH }
     ensures fit { IsFit words.now.table_id words.now.key config.now seat.new }
     ensures view { seat.new.me.0 ≡ seat.old.me.0 }
-    ensures word { words_of (memory_of (layout_of config.now) seat.old.me.0) table index
+    ensures word { memory_words (memory_of (layout_of config.now) seat.old.me.0) table index
         ≡ Some result }
 {
     let at = word_index(config, table, index);

@@ -1,4 +1,5 @@
--- A page has one member of Maps at most; a leaf that leads gives the members of its page, and nothing else does.
+-- A page has one member of Maps at most; a leaf that leads gives the members of its page, and
+-- nothing else does.
 use Rattle.std.proofs.Common.{◌≡◌, ℕ, ◌+◌, ◌/◌, ◌%◌, ◌≤◌, Bool, Option, Some, IsTrue, ap, sym, ◌∙◌, subst, refl, inl, inr, arith}
 use Rattle.std.specs.Prelude.{◌↔◌}
 use Rattle.std.proofs.lemmas.Bool.{cases_lt}

@@ -69,7 +69,8 @@ module _ (scheme : Scheme) (old new : Tables) (root va table index : ℕ) (but :
   place : (words : Tables) (k t : ℕ) → (t ≡ table) × (vpn_of va k ≡ index) → Leads scheme words root va k t (word_at words va k t) → Leads scheme words root va k table (words table index)
   place words k t here path = subst (λ n. Leads scheme words root va k table (words table n)) here.1 (subst (λ m. Leads scheme words root va k m (word_at words va k m)) here.0 path)
 
-  -- from the top down to level k the words on a path are the same, or it passes through the word that differs
+  -- from the top down to level k the words on a path are the same, or it passes through the word
+  -- that differs
   agree_or_pass : (d i k t : ℕ) (w : Option ℕ) → k + d ≡ top_level scheme + 1 → i ≤ k → (path : Leads scheme old root va i t w) → Agree scheme old new root va path.tables k ⊎ PassesThrough scheme old new root va i table index
   agree_or_pass zero i k t w at from path = inl (λ j above below. absurd (omega arith))
   agree_or_pass (suc d) i k t w at from path =

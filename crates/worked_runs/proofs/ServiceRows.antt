@@ -1,4 +1,5 @@
--- The worked runs of what a service and an own acknowledgement leave, computed from the definitions alone.
+-- The worked runs of what a service and an own acknowledgement leave, computed from the definitions
+-- alone.
 use Rattle.std.proofs.Common.{refl}
 use Rattle.pte.specs.Entry.{kind_of}
 use Rattle.spaces.specs.Edits.{wish_fault, path_end, edit_of}

@@ -1,4 +1,5 @@
--- What hart 1 holds of the superpage of the worked shootdown, before and after its service of the request.
+-- What hart 1 holds of the superpage of the worked shootdown, before and after its service of the
+-- request.
 use Rattle.std.proofs.Common.{◌≡◌, ℕ, ◌+◌, ◌*◌, ◌<◌, false, List, [], ◌∷◌, refl, sym, subst, arith, inl}
 use Rattle.std.proofs.lemmas.Bool.{and_from}
 use Rattle.pte.specs.declared.address.PageSize.TheVariants.{Kib4, Mib2}

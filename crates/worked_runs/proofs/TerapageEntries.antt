@@ -1,4 +1,5 @@
--- What hart 1 holds of the page of 512 GiB of the worked shootdown, before and after its service of the request.
+-- What hart 1 holds of the page of 512 GiB of the worked shootdown, before and after its service of
+-- the request.
 use Rattle.std.proofs.Common.{◌≡◌, ℕ, ◌+◌, ◌*◌, ◌<◌, ◌⊎◌, ◌||◌, ◌==◌, false, List, [], ◌∷◌, Some, IsTrue, refl, sym, subst, arith, inl, inr}
 use Rattle.std.proofs.lemmas.Bool.{and_parts, and_from}
 use Rattle.pte.specs.declared.address.PageSize.TheVariants.{Kib4, Gib512}

@@ -1,4 +1,5 @@
--- Worked runs of edits: each refusal of Map and Unmap, and a fill that drops the oldest entry of a full TLB.
+-- Worked runs of edits: each refusal of Map and Unmap, and a fill that drops the oldest entry of a
+-- full TLB.
 use Rattle.std.specs.Prelude.{ℕ, zero, suc, ◌+◌, ◌*◌, List, [], ◌∷◌, ◌++◌}
 use Rattle.pte.specs.Address.{Span}
 use Rattle.pte.specs.declared.address.PageSize.TheVariants.{Gib1}
@@ -18,15 +19,27 @@ abbrev pub refused_edits : List Step
 refused_edits =
     (Map 1 (Space 0) (small_page 0x1000) 0x100 (flags (R + U + A + D)), refused NotHome)
     ∷ (Map 0 (Space 5) (small_page 0x1000) 0x100 (flags (R + U + A + D)), refused NoSpace)
-    ∷ (Map 0 (Space 0) (small_page 0xffffffffc0000000) 0x100 (flags (R + U + A + D)), refused WrongHalf)
+    ∷ (
+      Map 0 (Space 0) (small_page 0xffffffffc0000000) 0x100 (flags (R + U + A + D)),
+      refused
+          WrongHalf,
+    )
     ∷ (Map 0 (Space 0) (small_page 0x1000) 0x100 (flags (W + X + U + A + D)), refused BadFlags)
     ∷ (Map 0 Kernel (small_page 0xffffffffc0000000) 0x100 (flags (R + A + D)), refused BadFlags)
-    ∷ (Map 0 (Space 0) (small_page 0x1000) 0x100000000000 (flags (R + U + A + D)), refused PpnTooLarge)
+    ∷ (
+      Map 0 (Space 0) (small_page 0x1000) 0x100000000000 (flags (R + U + A + D)),
+      refused
+          PpnTooLarge,
+    )
     ∷ (Map 0 (Space 0) (large_page 0x600000) 0x201 (flags (R + U + A + D)), refused Misaligned)
     ∷ (Map 0 (Space 0) (large_page 0x400000) 0x400 (flags (R + U + A + D)), refused AlreadyMapped)
     ∷ (Map 0 (Space 0) (small_page 0x401000) 0x100 (flags (R + U + A + D)), refused LeafInWay)
     ∷ (Map 0 (Space 0) (huge_page 0x0) 0x40000 (flags (R + U + A + D)), refused TableInWay)
-    ∷ (Map 0 Kernel (huge_page 0xffffffffc0000000) 0x40000 (flags (R + G + A + D)), refused TableInWay)
+    ∷ (
+      Map 0 Kernel (huge_page 0xffffffffc0000000) 0x40000 (flags (R + G + A + D)),
+      refused
+          TableInWay,
+    )
     ∷ (Unmap 0 (Space 0) (small_page 0x401000) hart_0, refused WrongSize)
     ∷ (Unmap 0 (Space 0) (small_page 0x1000) hart_0, refused NotMapped)
     ∷ (Unmap 0 (Space 0) (large_page 0x400000) hart_1, refused HomeNotNamed)
@@ -45,7 +58,9 @@ spare_frames_run_out =
 -- so many pages of 4 KiB are mapped, and walked to, from page k on: page k goes to PPN 0x100 + k
 abbrev pub leaves : ℕ → ℕ → List Step
 leaves zero k = []
-leaves (suc n) k = (Map 0 (Space 0) (small_page (k * 0x1000)) (0x100 + k) (flags (R + U + A + D)), Leaf) ∷ leaves n (k + 1)
+leaves (suc n) k =
+    (Map 0 (Space 0) (small_page (k * 0x1000)) (0x100 + k) (flags (R + U + A + D)), Leaf)
+    ∷ leaves n (k + 1)
 
 abbrev pub fills : ℕ → ℕ → List Step
 fills zero k = []

@@ -1,5 +1,6 @@
--- Worked runs of single harts: what a switch, a fence of a hart's own and its own acknowledgement do to its TLB, which spare
--- frames its tables get, and what it may do while it serves a request or walks.
+-- Worked runs of single harts: what a switch, a fence of a hart's own and its own acknowledgement
+-- do to its TLB, which spare frames its tables get, and what it may do while it serves a request or
+-- walks.
 use Rattle.std.specs.Prelude.{◌+◌, List, [], ◌∷◌, ◌++◌, Some, None}
 use Rattle.pte.specs.declared.address.What.TheVariants.{All}
 use Rattle.pte.specs.declared.permission.Access.TheVariants as access
@@ -20,14 +21,16 @@ spaces_of_other_asids = two_spaces (0 ∷ 0 ∷ []) (9 ∷ 4 ∷ [])
 -- hart 0 finds the user's page, by a walk of three loads, and a kernel page
 abbrev pub user_page_filled : List Step
 user_page_filled =
-    (Begin 0 0x1004 access.Load user, More) ∷ (Load 0, More) ∷ (Load 0, More) ∷ (Load 0, Filled 0x100004) ∷ []
+    (Begin 0 0x1004 access.Load user, More) ∷ (Load 0, More) ∷ (Load 0, More)
+    ∷ (Load 0, Filled 0x100004) ∷ []
 
 abbrev pub user_page_hit : List Step
 user_page_hit = (Begin 0 0x1004 access.Load user, Hit 0x100004) ∷ []
 
 abbrev pub kernel_page_filled : List Step
 kernel_page_filled =
-    (Begin 0 0xffffffffc0000008 access.Load supervisor, More) ∷ (Load 0, More) ∷ (Load 0, More) ∷ (Load 0, Filled 0x300008) ∷ []
+    (Begin 0 0xffffffffc0000008 access.Load supervisor, More) ∷ (Load 0, More) ∷ (Load 0, More)
+    ∷ (Load 0, Filled 0x300008) ∷ []
 
 abbrev pub kernel_page_hit : List Step
 kernel_page_hit = (Begin 0 0xffffffffc0000008 access.Load supervisor, Hit 0x300008) ∷ []
@@ -37,7 +40,11 @@ both_pages_filled =
     (Map 0 (Space 0) (small_page 0x1000) 0x100 (flags (R + U + A + D)), Table 0x80003)
     ∷ (Map 0 (Space 0) (small_page 0x1000) 0x100 (flags (R + U + A + D)), Table 0x80004)
     ∷ (Map 0 (Space 0) (small_page 0x1000) 0x100 (flags (R + U + A + D)), Leaf)
-    ∷ (Map 0 Kernel (small_page 0xffffffffc0000000) 0x300 (flags (R + W + G + A + D)), Table 0x80005)
+    ∷ (
+      Map 0 Kernel (small_page 0xffffffffc0000000) 0x300 (flags (R + W + G + A + D)),
+      Table
+          0x80005,
+    )
     ∷ (Map 0 Kernel (small_page 0xffffffffc0000000) 0x300 (flags (R + W + G + A + D)), Leaf)
     ∷ user_page_filled
     ++ kernel_page_filled
@@ -92,7 +99,8 @@ own_acknowledgement =
     ∷ (Load 0, trap 13 Invalid)
     ∷ []
 
--- each home has spare frames of its own, those of hart 0 first: 8 from 0x80003 on, and then the 8 of hart 1
+-- each home has spare frames of its own, those of hart 0 first: 8 from 0x80003 on, and then the 8
+-- of hart 1
 abbrev pub spare_frames_of_each_home : List Step
 spare_frames_of_each_home =
     (Map 0 (Space 0) (small_page 0x1000) 0x100 (flags (R + U + A + D)), Table 0x80003)
@@ -112,7 +120,11 @@ at_work_while_serving =
     ∷ (Take 0 1, taken 0 All)
     ∷ (Map 0 (Space 0) (small_page 0x1000) 0x100 (flags (R + U + A + D)), Table 0x80003)
     ∷ (Map 0 (Space 0) (small_page 0x1000) 0x100 (flags (R + U + A + D)), Leaf)
-    ∷ (Protect 0 (Space 0) (large_page 0x400000) (flags (R + U + A + D)) (hart_0 + hart_1), Opened 0)
+    ∷ (
+      Protect 0 (Space 0) (large_page 0x400000) (flags (R + U + A + D)) (hart_0 + hart_1),
+      Opened
+          0,
+    )
     ∷ (Unmap 0 (Space 0) (large_page 0x400000) (hart_0 + hart_2), Opened 1)
     ∷ (Flush 0 scope.All hart_0, Opened 2)
     ∷ (Post 0 0 1, Ok)

@@ -1,4 +1,5 @@
--- Worked runs of kernel pages: their entries are global, so fences and requests for one address space let them stand.
+-- Worked runs of kernel pages: their entries are global, so fences and requests for one address
+-- space let them stand.
 use Rattle.std.specs.Prelude.{◌+◌, List, [], ◌∷◌, ◌++◌, Some, None}
 use Rattle.pte.specs.declared.address.What.TheVariants.{PageOf, SpaceOf}
 use Rattle.pte.specs.declared.permission.Access.TheVariants as access

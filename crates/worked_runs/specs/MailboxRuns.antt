@@ -1,4 +1,5 @@
--- Worked runs of mailboxes and tickets: the bound and the order of a mailbox, its close, and the numbers of the tickets.
+-- Worked runs of mailboxes and tickets: the bound and the order of a mailbox, its close, and the
+-- numbers of the tickets.
 use Rattle.std.specs.Prelude.{ℕ, zero, suc, ◌+◌, List, [], ◌∷◌, ◌++◌}
 use Rattle.pte.specs.declared.address.What.TheVariants.{SpaceOf, All}
 use Rattle.spaces.specs.declared.places.Place.TheVariants.{Space}
@@ -11,10 +12,11 @@ use Rattle.worked_runs.specs.WorkedRuns.{Step, one_space, small_page, hart_0, ha
 
 -- two harts whose mailboxes hold 2 requests
 abbrev pub mailboxes_of_two : Setup
-mailboxes_of_two = record { harts = 2; capacity = 2; asids = 1 ∷ []; layout = one_space (8 ∷ 8 ∷ []) }
+mailboxes_of_two =
+    record { harts = 2; capacity = 2; asids = 1 ∷ []; layout = one_space (8 ∷ 8 ∷ []) }
 
--- a full mailbox takes no more when a request is taken out or acknowledged, only when the acknowledgement is collected; a
--- closed one takes no more at all, and what waits is taken in order
+-- a full mailbox takes no more when a request is taken out or acknowledged, only when the
+-- acknowledgement is collected; a closed one takes no more at all, and what waits is taken in order
 abbrev pub two_requests_wait : List Step
 two_requests_wait =
     (Flush 0 scope.All (hart_0 + hart_1), Opened 0)
@@ -48,7 +50,8 @@ bound_order_and_close =
     ∷ (Take 1 0, refused Empty)
     ∷ []
 
--- a mailbox is closed in the middle of a shootdown: the posted order is finished, the other stays open for good
+-- a mailbox is closed in the middle of a shootdown: the posted order is finished, the other stays
+-- open for good
 abbrev pub close_in_mid_shootdown : List Step
 close_in_mid_shootdown =
     (Flush 0 scope.All (hart_0 + hart_1), Opened 0)
@@ -69,7 +72,8 @@ close_in_mid_shootdown =
     ∷ (Take 1 0, refused Empty)
     ∷ []
 
--- harts 1 and 2 ask hart 0: each pair has a mailbox of its own, and a service is of the mailbox that it was taken from
+-- harts 1 and 2 ask hart 0: each pair has a mailbox of its own, and a service is of the mailbox
+-- that it was taken from
 abbrev pub two_senders : List Step
 two_senders =
     (Flush 1 scope.All (hart_0 + hart_1), Opened 0)
@@ -92,8 +96,8 @@ two_senders =
     ∷ (Take 0 2, taken 0 All)
     ∷ []
 
--- Post asks in this order: whether the order names the hart, whether it was posted, whether the mailbox is closed, whether it
--- is full
+-- Post asks in this order: whether the order names the hart, whether it was posted, whether the
+-- mailbox is closed, whether it is full
 abbrev pub refused_posts : List Step
 refused_posts =
     (Flush 0 scope.All hart_0, Opened 0)

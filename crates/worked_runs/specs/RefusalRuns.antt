@@ -1,4 +1,5 @@
--- Worked runs of refusals: where several apply, the first in the order of docs/PROTOCOL.md is answered, and nothing changes.
+-- Worked runs of refusals: where several apply, the first in the order of docs/PROTOCOL.md is
+-- answered, and nothing changes.
 use Rattle.std.specs.Prelude.{◌+◌, List, [], ◌∷◌, ◌++◌, None}
 use Rattle.pte.specs.declared.address.What.TheVariants.{All}
 use Rattle.pte.specs.declared.permission.Access.TheVariants as access
@@ -46,7 +47,8 @@ nothing_there =
     ∷ (Take 0 1, refused Empty)
     ∷ []
 
--- an access of an address that is not canonical begins no walk; what hart 0 may not do while it walks, and what it may
+-- an access of an address that is not canonical begins no walk; what hart 0 may not do while it
+-- walks, and what it may
 abbrev pub while_walking : List Step
 while_walking =
     (Begin 0 0x4000000000 access.Load user, trap 13 NotCanonical)
@@ -72,7 +74,8 @@ while_walking =
     ∷ (AckSelf 0 0, refused NotOpen)
     ∷ []
 
--- what hart 0 may not do while it serves a request of hart 1, and what it may; a fence of its own is no service
+-- what hart 0 may not do while it serves a request of hart 1, and what it may; a fence of its own
+-- is no service
 abbrev pub while_serving : List Step
 while_serving =
     (Flush 1 scope.All (hart_0 + hart_1), Opened 0)
@@ -100,9 +103,12 @@ while_serving =
 -- the refusals in the order of their numbers, from 1 on
 abbrev pub numbered_refusals : List Refusal
 numbered_refusals =
-    NoHart ∷ NoSpace ∷ NotHome ∷ WrongHalf ∷ BadFlags ∷ PpnTooLarge ∷ Misaligned ∷ AlreadyMapped ∷ LeafInWay ∷ TableInWay ∷ NoFrame
-    ∷ NotMapped ∷ WrongSize ∷ HomeNotNamed ∷ NoTicket ∷ NotOpen ∷ NotNamed ∷ AlreadyPosted ∷ Closed ∷ Full ∷ Empty ∷ Walking ∷ NotWalking
-    ∷ Serving ∷ NotServing ∷ NotFenced ∷ NotDone ∷ Retiring ∷ InUse ∷ NotAcked ∷ NotRetiring ∷ NotFree ∷ AsidInUse ∷ []
+    NoHart ∷ NoSpace ∷ NotHome ∷ WrongHalf ∷ BadFlags ∷ PpnTooLarge ∷ Misaligned ∷ AlreadyMapped
+    ∷ LeafInWay ∷ TableInWay ∷ NoFrame
+    ∷ NotMapped ∷ WrongSize ∷ HomeNotNamed ∷ NoTicket ∷ NotOpen ∷ NotNamed ∷ AlreadyPosted ∷ Closed
+    ∷ Full ∷ Empty ∷ Walking ∷ NotWalking
+    ∷ Serving ∷ NotServing ∷ NotFenced ∷ NotDone ∷ Retiring ∷ InUse ∷ NotAcked ∷ NotRetiring
+    ∷ NotFree ∷ AsidInUse ∷ []
 
 abbrev pub refusals_in_order : List Step
 refusals_in_order = nothing_there ++ while_walking ++ while_serving

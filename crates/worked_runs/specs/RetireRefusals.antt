@@ -1,5 +1,6 @@
--- Worked runs of refusals of Retire, Reclaim and Create, and of what else speaks of a space that is retiring or free: each on its
--- own right after the same history, the first that applies in the order of docs/PROTOCOL.md.
+-- Worked runs of refusals of Retire, Reclaim and Create, and of what else speaks of a space that is
+-- retiring or free: each on its own right after the same history, the first that applies in the
+-- order of docs/PROTOCOL.md.
 use Rattle.std.specs.Prelude.{ℕ, ◌+◌, List, [], ◌∷◌, ◌++◌}
 use Rattle.pte.specs.declared.scheme.Scheme.TheVariants.{Sv39}
 use Rattle.pte.specs.declared.address.What.TheVariants.{SpaceOf}
@@ -19,7 +20,14 @@ three_spaces = record {
   harts = 2;
   capacity = 4;
   asids = 1 ∷ 2 ∷ 3 ∷ [];
-  layout = record { scheme = Sv39; window = 1; base = 0x80000; homes = 0 ∷ 0 ∷ 0 ∷ []; spares = 8 ∷ 8 ∷ [] };
+  layout = record {
+    scheme = Sv39;
+    window = 1;
+    base = 0x80000;
+    homes = 0 ∷ 0 ∷ 0 ∷ [];
+    spares = 8
+        ∷ 8 ∷ [];
+  };
 }
 
 -- all spaces are live, and both harts in space 0
@@ -46,7 +54,9 @@ abbrev pub no_ticket_left : List Step
 no_ticket_left = openings 64 0
 
 abbrev pub without_ticket : List Step
-without_ticket = (Retire 0 0, refused InUse) ∷ (Retire 0 1, refused NoTicket) ∷ (Retire 1 1, refused NotHome) ∷ []
+without_ticket =
+    (Retire 0 0, refused InUse) ∷ (Retire 0 1, refused NoTicket) ∷ (Retire 1 1, refused NotHome)
+    ∷ []
 
 -- space 1 is retiring, and hart 0 has no ticket left
 abbrev pub retired_with_the_last_ticket : List Step
@@ -78,7 +88,11 @@ while_retiring =
     ∷ (Unmap 0 Kernel (small_page 0xffffffffc0000000) hart_0, refused NotMapped)
     ∷ (Protect 1 (Space 1) (small_page 0x1000) (flags W) hart_2, refused NoHart)
     ∷ (Protect 1 (Space 1) (small_page 0x1000) (flags W) hart_0, refused Retiring)
-    ∷ (Protect 0 Kernel (small_page 0xffffffffc0000000) (flags (R + G + A + D)) hart_0, refused NotMapped)
+    ∷ (
+      Protect 0 Kernel (small_page 0xffffffffc0000000) (flags (R + G + A + D)) hart_0,
+      refused
+          NotMapped,
+    )
     ∷ (Flush 0 (scope.Space 1) hart_2, refused NoHart)
     ∷ (Flush 0 (scope.Space 1) hart_1, refused Retiring)
     ∷ (Flush 1 (scope.Space 1) hart_1, refused Retiring)
@@ -93,7 +107,8 @@ while_retiring =
 
 -- hart 1 serves the request of ticket 0 of hart 0
 abbrev pub acknowledged_by_1 : ℕ → List Step
-acknowledged_by_1 asid = (Post 0 0 1, Ok) ∷ (Take 1 0, taken 0 (SpaceOf asid)) ∷ (ServeFence 1, Ok) ∷ (Ack 1, Ok) ∷ []
+acknowledged_by_1 asid =
+    (Post 0 0 1, Ok) ∷ (Take 1 0, taken 0 (SpaceOf asid)) ∷ (ServeFence 1, Ok) ∷ (Ack 1, Ok) ∷ []
 
 -- a Reclaim needs each hart collected, whether the ticket is open or finished
 abbrev pub collected_hart_by_hart : List Step
@@ -160,7 +175,8 @@ while_free =
     ∷ (Map 0 (Space 2) (small_page 0x1000) 0x100 (flags (R + U + A + D)), refused Retiring)
     ∷ []
 
--- the ASID of a free space is that of no space: another free one is created with it. A refused Create changes no ASID
+-- the ASID of a free space is that of no space: another free one is created with it. A refused
+-- Create changes no ASID
 abbrev pub free_asid_to_another_space : List Step
 free_asid_to_another_space =
     (Create 0 0 9, refused NotFree)

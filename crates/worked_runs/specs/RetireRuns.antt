@@ -37,9 +37,11 @@ abbrev pub retired_until_acknowledged : List Step
 retired_until_acknowledged = retired_until_service ++ (ServeFence 1, Ok) ∷ (Ack 1, Ok) ∷ []
 
 abbrev pub retired_and_given_back : List Step
-retired_and_given_back = retired_until_acknowledged ++ (Collect 0 0 1, Done) ∷ (Finish 0 0, Ok) ∷ (Reclaim 0 1, Ok) ∷ []
+retired_and_given_back =
+    retired_until_acknowledged ++ (Collect 0 0 1, Done) ∷ (Finish 0 0, Ok) ∷ (Reclaim 0 1, Ok) ∷ []
 
--- it is created anew with the same ASID: the page is mapped to another PPN in the same two frames, and hart 1 walks to it
+-- it is created anew with the same ASID: the page is mapped to another PPN in the same two frames,
+-- and hart 1 walks to it
 abbrev pub retired_and_created_anew : List Step
 retired_and_created_anew =
     retired_and_given_back
@@ -77,7 +79,8 @@ given_back =
     ∷ (Reclaim 0 1, Ok)
     ∷ []
 
--- the lowest frame that was given back goes to another space first, and what that space mapped before stays
+-- the lowest frame that was given back goes to another space first, and what that space mapped
+-- before stays
 abbrev pub frames_used_again : List Step
 frames_used_again =
     given_back
@@ -97,8 +100,9 @@ frames_used_again =
     ∷ (Load 1, Filled 0x101004)
     ∷ []
 
--- a page of ASID 2 is unmapped, and its space given back; ASID 2 goes to space 0 of the same home once that was given back
--- too: a hart that acknowledged the unmapping holds the page of the new space, which was mapped in it
+-- a page of ASID 2 is unmapped, and its space given back; ASID 2 goes to space 0 of the same home
+-- once that was given back too: a hart that acknowledged the unmapping holds the page of the new
+-- space, which was mapped in it
 abbrev pub asid_used_again : List Step
 asid_used_again =
     (Map 0 (Space 1) (small_page 0x1000) 0x100 (flags (R + U + A + D)), Table 0x80003)
@@ -136,8 +140,9 @@ asid_used_again =
     ∷ (Load 0, Filled 0x101004)
     ∷ []
 
--- before its retirement space 1 of ASID 2 is flushed, and its page at 0x1000 unmapped; it is created anew with ASID 7 before
--- hart 1 serves these two requests, which are for ASID 2 still: hart 1 keeps the page of ASID 7
+-- before its retirement space 1 of ASID 2 is flushed, and its page at 0x1000 unmapped; it is
+-- created anew with ASID 7 before hart 1 serves these two requests, which are for ASID 2 still:
+-- hart 1 keeps the page of ASID 7
 abbrev pub orders_keep_their_asid : List Step
 orders_keep_their_asid =
     (Map 0 (Space 1) (small_page 0x1000) 0x100 (flags (R + U + A + D)), Table 0x80003)
@@ -200,7 +205,8 @@ orders_of_the_new_asid =
     ∷ (Take 1 0, taken 4 (PageOf (small_page 0x1000) (Some 7)))
     ∷ []
 
--- the tables of the kernel's window outlive the space: their frame is not given back, and their page is found as before
+-- the tables of the kernel's window outlive the space: their frame is not given back, and their
+-- page is found as before
 abbrev pub kernel_frames_stay : List Step
 kernel_frames_stay =
     (Map 0 Kernel (small_page 0xffffffffc0000000) 0x300 (flags (R + G + A + D)), Table 0x80003)
@@ -224,7 +230,8 @@ kernel_frames_stay =
     ∷ (Load 1, Filled 0x300004)
     ∷ []
 
--- space 1 is at home on hart 1, which alone retires it, gives it back and creates it, with frames of its own
+-- space 1 is at home on hart 1, which alone retires it, gives it back and creates it, with frames
+-- of its own
 abbrev pub retired_by_its_home : List Step
 retired_by_its_home =
     (Map 1 (Space 1) (small_page 0x1000) 0x100 (flags (R + U + A + D)), Table 0x8000b)
@@ -246,4 +253,5 @@ retired_by_its_home =
 
 -- then the page of ASID 2 is unmapped once more, in the space that has the ASID now
 abbrev pub unmapped_by_the_new_asid : List Step
-unmapped_by_the_new_asid = asid_used_again ++ (Unmap 0 (Space 0) (small_page 0x1000) hart_0, Opened 3) ∷ []
+unmapped_by_the_new_asid =
+    asid_used_again ++ (Unmap 0 (Space 0) (small_page 0x1000) hart_0, Opened 3) ∷ []

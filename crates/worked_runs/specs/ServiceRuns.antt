@@ -1,5 +1,6 @@
--- Worked runs of what stays: a hart holds two pages of a space, a page of another space and a kernel page, and acknowledges
--- a request for one of them, for a space, for the kernel page or for all. What the request does not name it still hits.
+-- Worked runs of what stays: a hart holds two pages of a space, a page of another space and a
+-- kernel page, and acknowledges a request for one of them, for a space, for the kernel page or for
+-- all. What the request does not name it still hits.
 use Rattle.std.specs.Prelude.{ℕ, ◌+◌, List, [], ◌∷◌, ◌++◌, Some, None}
 use Rattle.pte.specs.declared.address.What.{What}
 use Rattle.pte.specs.declared.address.What.TheVariants.{PageOf, SpaceOf, All}
@@ -13,7 +14,8 @@ use Rattle.refusals.specs.declared.refusal.Refusal.TheVariants.{HomeNotNamed, No
 use Rattle.history.specs.declared.reply.Reply.TheVariants.{Hit, More, Filled, Table, Leaf, Opened, Ok, Done, Waiting}
 use Rattle.worked_runs.specs.WorkedRuns.{Step, small_page, flags, R, W, U, G, A, D, user, supervisor, hart_0, hart_1, hart_2, refused, trap, taken}
 
--- pages at 0x1000 and 0x2000 of space 0, at 0x1000 of space 1, and a kernel page; the spaces have ASIDs 9 and 4
+-- pages at 0x1000 and 0x2000 of space 0, at 0x1000 of space 1, and a kernel page; the spaces have
+-- ASIDs 9 and 4
 abbrev pub four_pages : List Step
 four_pages =
     (Map 0 (Space 0) (small_page 0x1000) 0x100 (flags (R + U + A + D)), Table 0x80003)
@@ -23,19 +25,27 @@ four_pages =
     ∷ (Map 0 (Space 1) (small_page 0x1000) 0x102 (flags (R + U + A + D)), Table 0x80005)
     ∷ (Map 0 (Space 1) (small_page 0x1000) 0x102 (flags (R + U + A + D)), Table 0x80006)
     ∷ (Map 0 (Space 1) (small_page 0x1000) 0x102 (flags (R + U + A + D)), Leaf)
-    ∷ (Map 0 Kernel (small_page 0xffffffffc0000000) 0x300 (flags (R + W + G + A + D)), Table 0x80007)
+    ∷ (
+      Map 0 Kernel (small_page 0xffffffffc0000000) 0x300 (flags (R + W + G + A + D)),
+      Table
+          0x80007,
+    )
     ∷ (Map 0 Kernel (small_page 0xffffffffc0000000) 0x300 (flags (R + W + G + A + D)), Leaf)
     ∷ []
 
 -- the hart finds the page by a walk of three loads, or hits it, or finds that nothing is mapped
 abbrev pub walks_to : ℕ → ℕ → Ctx → ℕ → List Step
-walks_to hart va ctx pa = (Begin hart va access.Load ctx, More) ∷ (Load hart, More) ∷ (Load hart, More) ∷ (Load hart, Filled pa) ∷ []
+walks_to hart va ctx pa =
+    (Begin hart va access.Load ctx, More) ∷ (Load hart, More) ∷ (Load hart, More)
+    ∷ (Load hart, Filled pa) ∷ []
 
 abbrev pub hits : ℕ → ℕ → Ctx → ℕ → List Step
 hits hart va ctx pa = (Begin hart va access.Load ctx, Hit pa) ∷ []
 
 abbrev pub finds_nothing : ℕ → ℕ → Ctx → List Step
-finds_nothing hart va ctx = (Begin hart va access.Load ctx, More) ∷ (Load hart, More) ∷ (Load hart, More) ∷ (Load hart, trap 13 Invalid) ∷ []
+finds_nothing hart va ctx =
+    (Begin hart va access.Load ctx, More) ∷ (Load hart, More) ∷ (Load hart, More)
+    ∷ (Load hart, trap 13 Invalid) ∷ []
 
 -- the four by a walk, the page of space 1 last: the hart is in space 1 then
 abbrev pub walks_to_four : ℕ → List Step
@@ -52,9 +62,11 @@ four_held = four_pages ++ walks_to 0 0x1004 user 0x100004 ++ walks_to_four 1
 
 -- hart 1 takes the request of ticket 0, fences and acknowledges
 abbrev pub served_by_1 : What → List Step
-served_by_1 what = (Post 0 0 1, Ok) ∷ (Take 1 0, taken 0 what) ∷ (ServeFence 1, Ok) ∷ (Ack 1, Ok) ∷ []
+served_by_1 what =
+    (Post 0 0 1, Ok) ∷ (Take 1 0, taken 0 what) ∷ (ServeFence 1, Ok) ∷ (Ack 1, Ok) ∷ []
 
--- a request for the page at 0x1000 of space 0 drops that page alone, of the hart that serves it alone
+-- a request for the page at 0x1000 of space 0 drops that page alone, of the hart that serves it
+-- alone
 abbrev pub service_of_a_page : List Step
 service_of_a_page =
     four_held

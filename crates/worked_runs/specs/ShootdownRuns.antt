@@ -1,4 +1,5 @@
--- Worked runs of shootdowns: a page of a space is unmapped, or a space is flushed, while another hart holds what goes.
+-- Worked runs of shootdowns: a page of a space is unmapped, or a space is flushed, while another
+-- hart holds what goes.
 use Rattle.std.specs.Prelude.{◌+◌, List, [], ◌∷◌, ◌++◌, Some}
 use Rattle.pte.specs.declared.address.What.{What}
 use Rattle.pte.specs.declared.address.What.TheVariants.{PageOf, SpaceOf}
@@ -39,7 +40,8 @@ superpage_until_service =
 abbrev pub superpage_until_acknowledged : List Step
 superpage_until_acknowledged = superpage_until_service ++ (ServeFence 1, Ok) ∷ (Ack 1, Ok) ∷ []
 
--- then no address of the page is translated, and the ticket is finished once both harts are collected
+-- then no address of the page is translated, and the ticket is finished once both harts are
+-- collected
 abbrev pub superpage_shootdown : List Step
 superpage_shootdown =
     superpage_until_acknowledged
@@ -56,7 +58,8 @@ superpage_shootdown =
 abbrev pub ticket_used_again : List Step
 ticket_used_again = superpage_shootdown ++ (Flush 0 scope.All (hart_0 + hart_1), Opened 0) ∷ []
 
--- the superpage is unmapped between two loads of a walk: the last load sees it, and the hart takes no request before
+-- the superpage is unmapped between two loads of a walk: the last load sees it, and the hart takes
+-- no request before
 abbrev pub unmapped_in_mid_walk : List Step
 unmapped_in_mid_walk =
     map_superpage
@@ -77,7 +80,8 @@ unmapped_in_mid_walk =
 abbrev pub page_of_space : What
 page_of_space = PageOf (small_page 0x1000) (Some 1)
 
--- hart 2 holds the old translation of a page that was unmapped and mapped anew, until it serves the request
+-- hart 2 holds the old translation of a page that was unmapped and mapped anew, until it serves the
+-- request
 abbrev pub mapped_anew_until_service : List Step
 mapped_anew_until_service =
     (Map 0 (Space 0) (small_page 0x1000) 0x100 (flags (R + U + A + D)), Table 0x80002)
@@ -99,7 +103,9 @@ mapped_anew_until_service =
     ∷ []
 
 abbrev pub mapped_anew_until_acknowledged : List Step
-mapped_anew_until_acknowledged = mapped_anew_until_service ++ (Take 2 0, taken 0 page_of_space) ∷ (ServeFence 2, Ok) ∷ (Ack 2, Ok) ∷ []
+mapped_anew_until_acknowledged =
+    mapped_anew_until_service ++ (Take 2 0, taken 0 page_of_space) ∷ (ServeFence 2, Ok)
+    ∷ (Ack 2, Ok) ∷ []
 
 abbrev pub mapped_anew_before_service : List Step
 mapped_anew_before_service =
@@ -117,12 +123,18 @@ read_only_until_service =
     ++ (Begin 1 0x400000 access.Store user, More)
     ∷ (Load 1, More)
     ∷ (Load 1, Filled 0x200000)
-    ∷ (Protect 0 (Space 0) (large_page 0x400000) (flags (R + U + A + D)) (hart_0 + hart_1), Opened 0)
+    ∷ (
+      Protect 0 (Space 0) (large_page 0x400000) (flags (R + U + A + D)) (hart_0 + hart_1),
+      Opened
+          0,
+    )
     ∷ (Begin 1 0x400000 access.Store user, Hit 0x200000)
     ∷ []
 
 abbrev pub read_only_until_acknowledged : List Step
-read_only_until_acknowledged = read_only_until_service ++ (Post 0 0 1, Ok) ∷ (Take 1 0, taken 0 superpage_of_space) ∷ (ServeFence 1, Ok) ∷ (Ack 1, Ok) ∷ []
+read_only_until_acknowledged =
+    read_only_until_service ++ (Post 0 0 1, Ok) ∷ (Take 1 0, taken 0 superpage_of_space)
+    ∷ (ServeFence 1, Ok) ∷ (Ack 1, Ok) ∷ []
 
 abbrev pub superpage_made_read_only : List Step
 superpage_made_read_only =

@@ -1,5 +1,6 @@
--- Worked runs in which a hart still translates a page that was unmapped or changed, and may: it is not named, the page was
--- changed once more or mapped anew, or what it holds is the page of another space.
+-- Worked runs in which a hart still translates a page that was unmapped or changed, and may: it is
+-- not named, the page was changed once more or mapped anew, or what it holds is the page of another
+-- space.
 use Rattle.std.specs.Prelude.{◌+◌, List, [], ◌∷◌, ◌++◌}
 use Rattle.pte.specs.declared.permission.Access.TheVariants as access
 use Rattle.spaces.specs.declared.places.Place.TheVariants.{Space}
@@ -22,9 +23,12 @@ unnamed_hart =
     ∷ (Begin 1 0x400000 access.Load user, Hit 0x200000)
     ∷ []
 
--- a small page is mapped in the superpage that was unmapped: first the pointer to its table, then its leaf
+-- a small page is mapped in the superpage that was unmapped: first the pointer to its table, then
+-- its leaf
 abbrev pub pointer_stored : List Step
-pointer_stored = superpage_until_acknowledged ++ (Map 0 (Space 0) (small_page 0x401000) 0x100 (flags (R + U + A + D)), Table 0x80003) ∷ []
+pointer_stored =
+    superpage_until_acknowledged
+    ++ (Map 0 (Space 0) (small_page 0x401000) 0x100 (flags (R + U + A + D)), Table 0x80003) ∷ []
 
 abbrev pub small_page_mapped_anew : List Step
 small_page_mapped_anew =
@@ -36,16 +40,22 @@ small_page_mapped_anew =
     ∷ (Load 1, Filled 0x100004)
     ∷ []
 
--- what is refused changes nothing: the superpage is neither mapped anew nor unmapped or changed once more
+-- what is refused changes nothing: the superpage is neither mapped anew nor unmapped or changed
+-- once more
 abbrev pub refused_changes : List Step
 refused_changes =
     superpage_until_acknowledged
     ++ (Map 0 (Space 0) (large_page 0x400000) 0x201 (flags (R + U + A + D)), refused Misaligned)
     ∷ (Unmap 0 (Space 0) (large_page 0x400000) (hart_0 + hart_1), refused NotMapped)
-    ∷ (Protect 0 (Space 0) (large_page 0x400000) (flags (R + U + A + D)) (hart_0 + hart_1), refused NotMapped)
+    ∷ (
+      Protect 0 (Space 0) (large_page 0x400000) (flags (R + U + A + D)) (hart_0 + hart_1),
+      refused
+          NotMapped,
+    )
     ∷ []
 
--- the page at 0x1000 is unmapped in space 0: hart 1 keeps that of space 1, also when this one is unmapped and mapped anew
+-- the page at 0x1000 is unmapped in space 0: hart 1 keeps that of space 1, also when this one is
+-- unmapped and mapped anew
 abbrev pub same_page_until_acknowledged : List Step
 same_page_until_acknowledged =
     held_in_both_spaces
@@ -67,7 +77,9 @@ same_page_of_another_space =
 
 -- the superpage lost W, and hart 1 has acknowledged it and holds the page again
 abbrev pub held_read_only : List Step
-held_read_only = read_only_until_acknowledged ++ (Begin 1 0x400000 access.Load user, More) ∷ (Load 1, More) ∷ (Load 1, Filled 0x200000) ∷ []
+held_read_only =
+    read_only_until_acknowledged
+    ++ (Begin 1 0x400000 access.Load user, More) ∷ (Load 1, More) ∷ (Load 1, Filled 0x200000) ∷ []
 
 -- then it loses U too, or is unmapped
 abbrev pub protected_once_more : List Step
@@ -79,4 +91,5 @@ protected_once_more =
 
 abbrev pub unmapped_once_more : List Step
 unmapped_once_more =
-    held_read_only ++ (Unmap 0 (Space 0) (large_page 0x400000) (hart_0 + hart_1), Opened 1) ∷ (Begin 1 0x400000 access.Load user, Hit 0x200000) ∷ []
+    held_read_only ++ (Unmap 0 (Space 0) (large_page 0x400000) (hart_0 + hart_1), Opened 1)
+    ∷ (Begin 1 0x400000 access.Load user, Hit 0x200000) ∷ []

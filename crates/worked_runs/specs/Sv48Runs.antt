@@ -1,4 +1,5 @@
--- Worked runs with Sv48: four levels, pages of 512 GiB, and a window whose slots point to tables of level 2 (privileged manual
+-- Worked runs with Sv48: four levels, pages of 512 GiB, and a window whose slots point to tables of
+-- level 2 (privileged manual
 -- 4.5.1).
 use Rattle.std.specs.Prelude.{ℕ, ◌+◌, List, [], ◌∷◌, ◌++◌, Some, None}
 use Rattle.pte.specs.Address.{Span}
@@ -34,7 +35,8 @@ terapage base = record { base = base; size = Gib512 }
 
 -- 512 GiB at 0x8000000000, mapped to PPN 0x10000000: one leaf of the root
 abbrev pub map_terapage : List Step
-map_terapage = (Map 0 (Space 0) (terapage 0x8000000000) 0x10000000 (flags (R + W + U + A + D)), Leaf) ∷ []
+map_terapage =
+    (Map 0 (Space 0) (terapage 0x8000000000) 0x10000000 (flags (R + W + U + A + D)), Leaf) ∷ []
 
 -- hart 1 holds the page when hart 0 unmaps it, and may use all of it until it serves the request
 abbrev pub terapage_until_service : List Step
@@ -96,8 +98,8 @@ shootdown_over_four_levels =
     ∷ (Finish 0 0, Ok)
     ∷ []
 
--- a kernel page of 1 GiB is one leaf of the window's table: hart 1 fills it in space 0, finds it in space 1 and after a fence
--- for an ASID, and drops it for the request
+-- a kernel page of 1 GiB is one leaf of the window's table: hart 1 fills it in space 0, finds it in
+-- space 1 and after a fence for an ASID, and drops it for the request
 abbrev pub kernel_gigapage_shootdown : List Step
 kernel_gigapage_shootdown =
     (Map 0 Kernel (huge_page 0xffffffffc0000000) 0x40000 (flags (R + W + G + A + D)), Leaf)
@@ -135,19 +137,38 @@ fences_in_sv48 =
 
 -- each of these on its own, once the page of 512 GiB is mapped
 abbrev pub edits_in_sv48 : List Step
-edits_in_sv48 =
-    (Map 0 Kernel (terapage 0xffffff8000000000) 0x10000000 (flags (R + G + A + D)), refused TableInWay)
+edits_in_sv48 = (
+  Map 0 Kernel (terapage 0xffffff8000000000) 0x10000000 (flags (R + G + A + D)),
+  refused
+      TableInWay,
+)
     ∷ (Unmap 0 Kernel (terapage 0xffffff8000000000) hart_0, refused WrongSize)
     ∷ (Map 0 Kernel (huge_page 0xffffffffc0000000) 0x40000 (flags (R + G + A + D)), Leaf)
     ∷ (Map 0 Kernel (large_page 0xffffffffc0000000) 0x40000 (flags (R + G + A + D)), Table 0x80002)
-    ∷ (Map 0 Kernel (huge_page 0xffffff7fc0000000) 0x40000 (flags (R + G + A + D)), refused WrongHalf)
-    ∷ (Map 0 (Space 0) (terapage 0x8000000000) 0x18000000 (flags (R + U + A + D)), refused AlreadyMapped)
+    ∷ (
+      Map 0 Kernel (huge_page 0xffffff7fc0000000) 0x40000 (flags (R + G + A + D)),
+      refused
+          WrongHalf,
+    )
+    ∷ (
+      Map 0 (Space 0) (terapage 0x8000000000) 0x18000000 (flags (R + U + A + D)),
+      refused
+          AlreadyMapped,
+    )
     ∷ (Map 0 (Space 0) (huge_page 0xffc0000000) 0x40000 (flags (R + U + A + D)), refused LeafInWay)
     ∷ (Unmap 0 (Space 0) (small_page 0xfffffff000) hart_0, refused WrongSize)
-    ∷ (Map 0 (Space 0) (terapage 0x10000000000) 0x14000000 (flags (R + U + A + D)), refused Misaligned)
+    ∷ (
+      Map 0 (Space 0) (terapage 0x10000000000) 0x14000000 (flags (R + U + A + D)),
+      refused
+          Misaligned,
+    )
     ∷ (Unmap 0 (Space 0) (terapage 0x10000000000) hart_0, refused NotMapped)
     ∷ (Map 0 (Space 0) (terapage 0x7f8000000000) 0x10000000 (flags (R + U + A + D)), Leaf)
-    ∷ (Map 0 (Space 0) (terapage 0xffff800000000000) 0x10000000 (flags (R + U + A + D)), refused WrongHalf)
+    ∷ (
+      Map 0 (Space 0) (terapage 0xffff800000000000) 0x10000000 (flags (R + U + A + D)),
+      refused
+          WrongHalf,
+    )
     ∷ (Map 0 (Space 0) (small_page 0x800000000000) 0x100 (flags (R + U + A + D)), refused WrongHalf)
     ∷ []
 
@@ -157,7 +178,11 @@ pages_that_do_not_fit =
     (Map 0 (Space 0) (terapage 0x0) 0x10000000 (flags (R + U + A + D)), refused WrongHalf)
     ∷ (Unmap 0 (Space 0) (terapage 0x0) hart_0, refused WrongHalf)
     ∷ (Protect 0 (Space 0) (terapage 0x0) (flags (R + U + A + D)) hart_0, refused WrongHalf)
-    ∷ (Map 0 Kernel (terapage 0xffffff8000000000) 0x10000000 (flags (R + G + A + D)), refused WrongHalf)
+    ∷ (
+      Map 0 Kernel (terapage 0xffffff8000000000) 0x10000000 (flags (R + G + A + D)),
+      refused
+          WrongHalf,
+    )
     ∷ (Map 0 (Space 0) (small_page 0x4000000000) 0x100 (flags (R + U + A + D)), refused WrongHalf)
     ∷ (Map 0 (Space 0) (huge_page 0x8000000000) 0x40000 (flags (R + U + A + D)), refused WrongHalf)
     ∷ []

@@ -1,5 +1,6 @@
--- Worked runs of accesses: a leaf of each size filled and hit, fetches, SUM and MXR, and traps by the flags of a match
--- (privileged manual 4.1.1.2, SUM and MXR; 4.3.2, steps 5 to 8; 4.4.1, the sizes of pages; 4.5.1, Sv48).
+-- Worked runs of accesses: a leaf of each size filled and hit, fetches, SUM and MXR, and traps by
+-- the flags of a match (privileged manual 4.1.1.2, SUM and MXR; 4.3.2, steps 5 to 8; 4.4.1, the
+-- sizes of pages; 4.5.1, Sv48).
 use Rattle.std.specs.Prelude.{ℕ, ◌+◌, true, false, List, [], ◌∷◌, None}
 use Rattle.pte.specs.declared.scheme.Scheme.TheVariants.{Sv48}
 use Rattle.pte.specs.Address.{Span}
@@ -29,8 +30,8 @@ supervisor_mxr = record { mode = Super; sum = false; mxr = true }
 abbrev pub supervisor_both : Ctx
 supervisor_both = record { mode = Super; sum = true; mxr = true }
 
--- a page of 1 GiB is one leaf in the root: one load fills it, by its last byte, and each address of it hits, of this hart and
--- no other; the addresses right before and right behind it do not
+-- a page of 1 GiB is one leaf in the root: one load fills it, by its last byte, and each address of
+-- it hits, of this hart and no other; the addresses right before and right behind it do not
 abbrev pub page_of_one_gib : List Step
 page_of_one_gib =
     (Map 0 (Space 0) (huge_page 0x40000000) 0x80000 (flags (R + W + U + A + D)), Leaf)
@@ -47,8 +48,9 @@ page_of_one_gib =
     ∷ (Load 1, trap 13 Invalid)
     ∷ []
 
--- code that a user may execute and nothing else: a fetch walks to it and fills it. Then the flags of the match answer: they
--- refuse at once, without a walk, or with MXR let a load through; a fetch of S-mode they refuse, with SUM too
+-- code that a user may execute and nothing else: a fetch walks to it and fills it. Then the flags
+-- of the match answer: they refuse at once, without a walk, or with MXR let a load through; a fetch
+-- of S-mode they refuse, with SUM too
 abbrev pub code_fetched : List Step
 code_fetched =
     (Map 0 (Space 0) (large_page 0x400000) 0x200 (flags (X + U + A)), Table 0x80002)
@@ -86,7 +88,8 @@ code_loaded =
     ∷ (Begin 0 0x40000000 access.Fetch user, Hit 0x80000000)
     ∷ []
 
--- data of a user: S-mode reaches it with SUM, by a walk and by a match, and not without. A store finds D clear in the match
+-- data of a user: S-mode reaches it with SUM, by a walk and by a match, and not without. A store
+-- finds D clear in the match
 abbrev pub user_data_by_supervisor : List Step
 user_data_by_supervisor =
     (Map 0 (Space 0) (large_page 0x400000) 0x200 (flags (R + W + U + A)), Table 0x80002)
@@ -122,15 +125,24 @@ page_not_accessed =
     ∷ (Begin 0 0x40000000 access.Load user, More)
     ∷ []
 
--- one hart in one space under Sv48: the window's table is frame 0x80000, the root 0x80001, and the first spare frame 0x80002
+-- one hart in one space under Sv48: the window's table is frame 0x80000, the root 0x80001, and the
+-- first spare frame 0x80002
 abbrev pub one_hart_of_sv48 : Setup
 one_hart_of_sv48 =
-    record { harts = 1; capacity = 4; asids = 1 ∷ []; layout = record { scheme = Sv48; window = 1; base = 0x80000; homes = 0 ∷ []; spares = 8 ∷ [] } }
+    record {
+      harts = 1;
+      capacity = 4;
+      asids = 1
+          ∷ [];
+      layout =
+          record { scheme = Sv48; window = 1; base = 0x80000; homes = 0 ∷ []; spares = 8 ∷ [] };
+    }
 
 abbrev pub largest_page : ℕ → Span
 largest_page base = record { base = base; size = Gib512 }
 
--- a page of 512 GiB is one leaf in the root, a page of 4 KiB lies below three tables; bits 63 to 47 of an address are alike
+-- a page of 512 GiB is one leaf in the root, a page of 4 KiB lies below three tables; bits 63 to 47
+-- of an address are alike
 abbrev pub pages_of_sv48 : List Step
 pages_of_sv48 =
     (Map 0 (Space 0) (largest_page 0x8000000000) 0x10000000 (flags (R + W + U + A + D)), Leaf)
@@ -154,8 +166,8 @@ pages_of_sv48 =
     ∷ (Begin 0 0x1fff access.Load user, Hit 0x100fff)
     ∷ []
 
--- the page at 0x1000 of two spaces: an accepted switch moves its own hart and no other, a refused one none; and a fence that is
--- refused drops nothing
+-- the page at 0x1000 of two spaces: an accepted switch moves its own hart and no other, a refused
+-- one none; and a fence that is refused drops nothing
 abbrev pub spaces_of_each_hart : List Step
 spaces_of_each_hart =
     (Map 0 (Space 0) (small_page 0x1000) 0x100 (flags (R + U + A + D)), Table 0x80003)
@@ -191,7 +203,8 @@ spaces_of_each_hart =
     ∷ (Begin 1 0x1004 access.Load user, Hit 0x101004)
     ∷ []
 
--- two harts walk to one page at once: what the one fills the other does not hold, and it finds the page unmapped
+-- two harts walk to one page at once: what the one fills the other does not hold, and it finds the
+-- page unmapped
 abbrev pub walks_of_two_harts : List Step
 walks_of_two_harts =
     (Map 0 (Space 0) (large_page 0x400000) 0x200 (flags (R + W + U + A + D)), Table 0x80002)

@@ -1,5 +1,6 @@
--- Runs with replies that are not due: mailboxes that give out what they should not, or accept what they should refuse; spaces that
--- are given back or created too early; and, to compare, one whose replies are due.
+-- Runs with replies that are not due: mailboxes that give out what they should not, or accept what
+-- they should refuse; spaces that are given back or created too early; and, to compare, one whose
+-- replies are due.
 use Rattle.std.specs.Prelude.{◌+◌, List, [], ◌∷◌, ◌++◌}
 use Rattle.pte.specs.declared.address.What.TheVariants.{All}
 use Rattle.pte.specs.declared.permission.Access.TheVariants as access
@@ -10,7 +11,9 @@ use Rattle.history.specs.declared.reply.Reply.TheVariants.{More, Table, Leaf, Op
 use Rattle.worked_runs.specs.WorkedRuns.{Step, small_page, flags, R, U, A, D, user, hart_0, hart_1, taken}
 
 abbrev pub two_orders : List Step
-two_orders = (Flush 0 scope.All (hart_0 + hart_1), Opened 0) ∷ (Flush 0 scope.All (hart_0 + hart_1), Opened 1) ∷ []
+two_orders =
+    (Flush 0 scope.All (hart_0 + hart_1), Opened 0)
+    ∷ (Flush 0 scope.All (hart_0 + hart_1), Opened 1) ∷ []
 
 abbrev pub two_posts : List Step
 two_posts = two_orders ++ (Post 0 0 1, Ok) ∷ (Post 0 1 1, Ok) ∷ []
@@ -30,24 +33,29 @@ abbrev pub posted_after_close : List Step
 posted_after_close = two_orders ++ (Post 0 0 1, Ok) ∷ (Close 0 1, Ok) ∷ (Post 0 1 1, Ok) ∷ []
 
 abbrev pub posted_after_close_and_taken : List Step
-posted_after_close_and_taken = posted_after_close ++ (Take 1 0, taken 0 All) ∷ (Take 1 0, taken 1 All) ∷ []
+posted_after_close_and_taken =
+    posted_after_close ++ (Take 1 0, taken 0 All) ∷ (Take 1 0, taken 1 All) ∷ []
 
 -- a Close of the mailbox in the other direction is no Close of this one
 abbrev pub posted_after_close_of_the_other : List Step
-posted_after_close_of_the_other = two_orders ++ (Close 1 0, Ok) ∷ (Post 0 0 1, Ok) ∷ (Post 0 1 1, Ok) ∷ []
+posted_after_close_of_the_other =
+    two_orders ++ (Close 1 0, Ok) ∷ (Post 0 0 1, Ok) ∷ (Post 0 1 1, Ok) ∷ []
 
 -- a Post from hart 1 to hart 0 is accepted after the Close of that pair
 abbrev pub posted_after_close_from_1 : List Step
-posted_after_close_from_1 = (Flush 1 scope.All (hart_0 + hart_1), Opened 0) ∷ (Close 1 0, Ok) ∷ (Post 1 0 0, Ok) ∷ []
+posted_after_close_from_1 =
+    (Flush 1 scope.All (hart_0 + hart_1), Opened 0) ∷ (Close 1 0, Ok) ∷ (Post 1 0 0, Ok) ∷ []
 
 -- of two spaces of one home: space 1 is retired, or given back, while hart 1 walks in it
 abbrev pub retired_in_mid_walk : List Step
-retired_in_mid_walk = (Switch 1 1, Ok) ∷ (Begin 1 0x1000 access.Load user, More) ∷ (Retire 0 1, Opened 0) ∷ []
+retired_in_mid_walk =
+    (Switch 1 1, Ok) ∷ (Begin 1 0x1000 access.Load user, More) ∷ (Retire 0 1, Opened 0) ∷ []
 
 abbrev pub given_back_in_mid_walk : List Step
 given_back_in_mid_walk = retired_in_mid_walk ++ (Reclaim 0 1, Ok) ∷ []
 
--- a new table of each of two spaces is the frame 0x80003, which is given back with space 1; hart 1 walks to it in space 0
+-- a new table of each of two spaces is the frame 0x80003, which is given back with space 1; hart 1
+-- walks to it in space 0
 abbrev pub one_frame_for_two_spaces : List Step
 one_frame_for_two_spaces =
     (Map 0 (Space 0) (small_page 0x1000) 0x100 (flags (R + U + A + D)), Table 0x80003)

@@ -6,13 +6,24 @@ use Rattle.worked_runs.specs.WorkedRuns.{flags, R, W, U, A, D}
 
 -- an entry of a page for an ASID, with W and without, and one for every ASID
 abbrev pub entry : ℕ → Span → ℕ → Entry
-entry asid page ppn = record { asid = asid; global = false; page = page; ppn = ppn; flags = flags (R + W + U + A + D) }
+entry asid page ppn =
+    record {
+      asid = asid;
+      global = false;
+      page = page;
+      ppn = ppn;
+      flags = flags
+          (R + W + U + A + D);
+    }
 
 abbrev pub read_only_entry : ℕ → Span → ℕ → Entry
-read_only_entry asid page ppn = record { asid = asid; global = false; page = page; ppn = ppn; flags = flags (R + U + A + D) }
+read_only_entry asid page ppn =
+    record { asid = asid; global = false; page = page; ppn = ppn; flags = flags (R + U + A + D) }
 
 abbrev pub global_entry : Span → ℕ → Entry
-global_entry page ppn = record { asid = 0; global = true; page = page; ppn = ppn; flags = flags (R + W + U + A + D) }
+global_entry page ppn =
+    record { asid = 0; global = true; page = page; ppn = ppn; flags = flags (R + W + U + A + D) }
 
 abbrev pub global_read_only_entry : Span → ℕ → Entry
-global_read_only_entry page ppn = record { asid = 0; global = true; page = page; ppn = ppn; flags = flags (R + U + A + D) }
+global_read_only_entry page ppn =
+    record { asid = 0; global = true; page = page; ppn = ppn; flags = flags (R + U + A + D) }

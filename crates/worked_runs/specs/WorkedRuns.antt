@@ -1,5 +1,6 @@
--- Worked runs: steps of harts, each with the reply that the manual and the rules of docs/PROTOCOL.md give by hand. Here is
--- what a worked run is, and the harts, pages and accesses of which the runs speak.
+-- Worked runs: steps of harts, each with the reply that the manual and the rules of
+-- docs/PROTOCOL.md give by hand. Here is what a worked run is, and the harts, pages and accesses of
+-- which the runs speak.
 use Rattle.pte.specs.declared.scheme.Scheme.TheVariants.{Sv39}
 use Rattle.std.specs.Prelude.{ℕ, ◌≡◌, false, List, [], ◌∷◌, map}
 use Rattle.pte.specs.Address.{Span}
@@ -46,13 +47,15 @@ history_of steps = history_after [] steps
 unfoldable pub IsEachDueAfter : Setup → List Step → List Step → Type 0
 IsEachDueAfter C before steps = map (due C (history_of before)) (events steps) ≡ replies steps
 
--- one space, of ASID 1, at home on hart 0, one slot of window, and 8 spare frames for each hart: the window's table is frame
--- 0x80000, the root 0x80001, and the first spare frame 0x80002
+-- one space, of ASID 1, at home on hart 0, one slot of window, and 8 spare frames for each hart:
+-- the window's table is frame 0x80000, the root 0x80001, and the first spare frame 0x80002
 abbrev pub one_space : List ℕ → Layout
-one_space spares = record { scheme = Sv39; window = 1; base = 0x80000; homes = 0 ∷ []; spares = spares }
+one_space spares =
+    record { scheme = Sv39; window = 1; base = 0x80000; homes = 0 ∷ []; spares = spares }
 
 abbrev pub with_spares : ℕ → List ℕ → Setup
-with_spares harts spares = record { harts = harts; capacity = 4; asids = 1 ∷ []; layout = one_space spares }
+with_spares harts spares =
+    record { harts = harts; capacity = 4; asids = 1 ∷ []; layout = one_space spares }
 
 abbrev pub one_hart : Setup
 one_hart = with_spares 1 (8 ∷ [])
@@ -73,10 +76,17 @@ pub record IsOfThreeHarts (c : Config) : Type 0 where
   pub base : c.base ≡ 0x80000
   pub spares : c.spares.items ≡ 8 ∷ 8 ∷ 8 ∷ []
 
--- two harts and two spaces, with these homes and ASIDs: the roots are frames 0x80001 and 0x80002, the first spare is 0x80003
+-- two harts and two spaces, with these homes and ASIDs: the roots are frames 0x80001 and 0x80002,
+-- the first spare is 0x80003
 abbrev pub two_spaces : List ℕ → List ℕ → Setup
 two_spaces homes asids =
-    record { harts = 2; capacity = 4; asids = asids; layout = record { scheme = Sv39; window = 1; base = 0x80000; homes = homes; spares = 8 ∷ 8 ∷ [] } }
+    record {
+      harts = 2;
+      capacity = 4;
+      asids = asids;
+      layout =
+          record { scheme = Sv39; window = 1; base = 0x80000; homes = homes; spares = 8 ∷ 8 ∷ [] };
+    }
 
 -- pages by their first address
 abbrev pub small_page : ℕ → Span

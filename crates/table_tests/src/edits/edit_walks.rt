@@ -1,5 +1,5 @@
-//! Edits that are fed by hand, word by word. The words are the manual's (privileged manual 4.4.1): a PPN times 1024, the flags,
-//! and V.
+//! Edits that are fed by hand, word by word. The words are the manual's (privileged manual 4.4.1):
+//! a PPN times 1024, the flags, and V.
 
 use super::{A, D, G, KERNEL, R, U, W, X, page, user_flags};
 use pte::{Page, PageSize, PteFlags, Scheme};
@@ -28,8 +28,9 @@ fn config_of(scheme: Scheme) -> Config {
     }
 }
 
-/// Begins an edit of hart 0, feeds it the words, each of which it is to wait for at the table and the index that stand before
-/// it, and tells what it ends with, at the last of them. The lowest unused spare frame is at 0x80005, or there is none.
+/// Begins an edit of hart 0, feeds it the words, each of which it is to wait for at the table and
+/// the index that stand before it, and tells what it ends with, at the last of them. The lowest
+/// unused spare frame is at 0x80005, or there is none.
 fn fed(
     rt: &impl Abort,
     scheme: Scheme,

@@ -8,7 +8,8 @@ use spaces::{Config, MapFault, Memory, Place};
 use std::process::Abort;
 use walk::{Words, translate_in};
 
-/// The default configuration for Sv48: the window's table is 0x80000, the root 0x80001, and spares begin at 0x80002.
+/// The default configuration for Sv48: the window's table is 0x80000, the root 0x80001, and spares
+/// begin at 0x80002.
 fn of_sv48() -> Config {
     Config {
         scheme: Scheme::Sv48,
@@ -25,7 +26,8 @@ fn edits(rt: &impl Abort, memory: &mut Memory, rows: &[EditRow]) {
     }
 }
 
-/// What a load reaches from the root of space 0: the physical address, the size, and whether it is global.
+/// What a load reaches from the root of space 0: the physical address, the size, and whether it is
+/// global.
 fn loaded(rt: &impl Abort, memory: &Memory, va: u64, mode: Mode) -> Option<(u64, PageSize, bool)> {
     assert!(rt; memory.has(Place::Space(0)), "the space is there");
     let ctx = Ctx {
@@ -104,7 +106,8 @@ fn table_of_words_of_sv48(rt: HostRuntime) {
     );
 }
 
-/// Under Sv48 a window's slot points to a table of level 2: there a kernel page may have 1 GiB, and none 512 GiB.
+/// Under Sv48 a window's slot points to a table of level 2: there a kernel page may have 1 GiB, and
+/// none 512 GiB.
 #[test]
 fn window_of_sv48(rt: HostRuntime) {
     let mut memory = opened(&rt, rt.alloc(), &of_sv48());
@@ -152,7 +155,8 @@ fn window_of_sv48(rt: HostRuntime) {
     );
 }
 
-/// Two slots of the window: slots 510 and 511 of the root at 0x80002 point to the tables 0x80000 and 0x80001.
+/// Two slots of the window: slots 510 and 511 of the root at 0x80002 point to the tables 0x80000
+/// and 0x80001.
 #[test]
 fn two_window_slots_of_sv48(rt: HostRuntime) {
     let config = Config {
@@ -202,8 +206,8 @@ fn slots_of_a_space_of_sv48(rt: HostRuntime) {
     );
 }
 
-/// Pages of Sv48 alone, by their size or by their base, whose slots in a root of Sv39 would be the place's own: they are
-/// refused there, after the home and before the flags, whatever is asked.
+/// Pages of Sv48 alone, by their size or by their base, whose slots in a root of Sv39 would be the
+/// place's own: they are refused there, after the home and before the flags, whatever is asked.
 #[test]
 fn pages_that_do_not_fit(rt: HostRuntime) {
     let mut memory = opened(&rt, rt.alloc(), &two_harts(&[(0, 1)]));

@@ -6,7 +6,8 @@ use Rattle.harts.specs.declared.live_reply.LiveReply.{LiveReply}
 use Rattle.harts.specs.Scripts.{are_answered}
 use Rattle.harts.proofs.live_threads.join_all.Given as goal
 
--- what answers the scripts of the threads that are left, answers all scripts after the answers so far
+-- what answers the scripts of the threads that are left, answers all scripts after the answers so
+-- far
 abbrev pub invariant-loop-handle : goal.invariant-loop-handle
 invariant-loop-handle g l = record {
   same : map name_of l.ports.items ++ map (λ handle. name_of handle.promise.port.value) (into_iter_items l.handle-iterator) ≡ map (λ handle. name_of handle.promise.port.value) l.fn.handles.items;

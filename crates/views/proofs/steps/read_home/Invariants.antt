@@ -1,11 +1,11 @@
 use Rattle.std.proofs.Common.{◌≡◌, Some}
 use Rattle.spaces.specs.Layout.{layout_of}
-use Rattle.spaces.specs.Held.{words_of}
+use Rattle.spaces.specs.Held.{memory_words}
 use Rattle.views.specs.Rule.{memory_of}
 use Rattle.views.proofs.steps.read_home.Given as goal
 
 abbrev pub ghosts-read_as : goal.ghosts-read_as
 ghosts-read_as a = record {
   after = λ _. a.seat.now.me.0;
-  tells = λ n. words_of (memory_of (layout_of a.words.now.key) a.seat.now.me.0) a._table a._index ≡ Some n;
+  tells = λ n. memory_words (memory_of (layout_of a.words.now.key) a.seat.now.me.0) a._table a._index ≡ Some n;
 }

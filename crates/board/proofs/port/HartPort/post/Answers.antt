@@ -1,6 +1,6 @@
 use Rattle.std.proofs.Common.{rules, sym, subst, false, ◌≡◌, ◌≢◌, ◌∙◌}
 use Rattle.std.specs.Prelude.{IsTrue}
-use Rattle.shoot.specs.Tickets.{is_posted, names}
+use Rattle.shoot.specs.Tickets.{ticket_posted, names}
 use Rattle.board.specs.Ports.{PortState}
 use Rattle.std.specs.Arc.{arc_value}
 use Rattle.board.proofs.Ties.{counted_posted, tied_armed, tied_posted}
@@ -25,7 +25,7 @@ invariant_of-self-2 c =
     let orders = c.self.inside.seat.me.0.orders in
     let tickets = c.self.inside.tickets in
     let named : IsTrue (names tickets c.args.ticket c.args.to) = subst (λ (p : PortState). IsTrue (names p.tickets c.args.ticket c.args.to)) (sym c.self.view_is) c.in_ok-request.ensures.names in
-    let unposted : is_posted tickets c.args.ticket c.args.to ≡ false = subst (λ (p : PortState). is_posted p.tickets c.args.ticket c.args.to ≡ false) (sym c.self.view_is) c.in_ok-request.ensures.unposted in
+    let unposted : ticket_posted tickets c.args.ticket c.args.to ≡ false = subst (λ (p : PortState). ticket_posted p.tickets c.args.ticket c.args.to ≡ false) (sym c.self.view_is) c.in_ok-request.ensures.unposted in
     let other : c.args.to ≢ c.self.inside.hart = subst (λ (p : PortState). c.args.to ≢ p.hart) (sym c.self.view_is) c.in_ok-request.ensures.other in (
       i.0,
       search rules,

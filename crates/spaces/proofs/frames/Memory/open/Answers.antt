@@ -2,7 +2,7 @@ use Rattle.std.proofs.Common.{◌≡◌, sym, ◌∙◌, ap, subst, map, replica
 use Rattle.spaces.specs.Limits.{MeetsLimits}
 use Rattle.spaces.specs.declared.configuration.TheConstants.{MAX_FRAMES}
 use Rattle.spaces.specs.Layout.{layout_of}
-use Rattle.spaces.specs.Held.{IsMemory, holders_of, words_of}
+use Rattle.spaces.specs.Held.{IsMemory, holders_of, memory_words}
 use Rattle.spaces.proofs.Opened.{made, words-open, opened, opened-is}
 use Rattle.spaces.proofs.OpenedMemory.{memory-open, holders-open}
 use Rattle.spaces.proofs.frames.Memory.open.Goals as goal
@@ -22,7 +22,7 @@ invariant_of-result c = subst IsMemory (sym (is_opened c)) (memory-open c.args.c
 
 pub returns-clause-words : goal.returns-clause-words
 returns-clause-words c ppn i =
-    ap (λ m. words_of m ppn i) (is_opened c) ∙ words-open (layout_of c.args.config.now) _ ppn i
+    ap (λ m. memory_words m ppn i) (is_opened c) ∙ words-open (layout_of c.args.config.now) _ ppn i
 
 pub returns-clause-holders : goal.returns-clause-holders
 returns-clause-holders c ppn = ap (λ m. holders_of m ppn) (is_opened c) ∙ holders-open c.args.config.now ppn

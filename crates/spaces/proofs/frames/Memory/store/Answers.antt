@@ -1,5 +1,5 @@
 use Rattle.std.proofs.Common.{◌<◌, ◌-◌, sym, ◌∙◌, ap, subst, arith}
-use Rattle.spaces.specs.Held.{IsMemory, holders_of, words_of}
+use Rattle.spaces.specs.Held.{IsMemory, holders_of, memory_words}
 use Rattle.spaces.proofs.Applying.{facts-of, held-by, at-index, product-bound, sum-bound, held-pointer, held-leaf}
 use Rattle.spaces.proofs.frames.Memory.store.Goals as goal
 
@@ -52,7 +52,7 @@ invariant_of-self-in_default c =
 pub returns-in-Some-clause-words : goal.returns-in-Some-clause-words
 returns-in-Some-clause-words c f i =
     let fact = facts-of _ _ _ c.self.view_is c.self.invariant c.requires in
-    ap (λ h. words_of h f i) (held-by _ (record { place = c.args.place; ppn = c.args.ppn; index = c.args.index; word = c.args.word }) _ _ (at-index c.self.inside.base c.args.ppn c.args.index c.from.result c.from-2.result c.from.ensures c.from-2.ensures)
+    ap (λ h. memory_words h f i) (held-by _ (record { place = c.args.place; ppn = c.args.ppn; index = c.args.index; word = c.args.word }) _ _ (at-index c.self.inside.base c.args.ppn c.args.index c.from.result c.from-2.result c.from.ensures c.from-2.ensures)
     (held-pointer c.self.inside.base c.self.inside.frames _ c.args.place c.args.word c.in-Some.table c.target.result c.target.ensures c.in-Some.is c.take.ensures)) ∙ fact.words f i
 
 pub returns-in-Some-clause-holders : goal.returns-in-Some-clause-holders
@@ -65,5 +65,5 @@ returns-in-Some-clause-holders c f =
 pub returns-in_default-clause-words : goal.returns-in_default-clause-words
 returns-in_default-clause-words c f i =
     let fact = facts-of _ _ _ c.self.view_is c.self.invariant c.requires in
-    ap (λ h. words_of h f i) (held-by _ (record { place = c.args.place; ppn = c.args.ppn; index = c.args.index; word = c.args.word }) _ _ (at-index c.self.inside.base c.args.ppn c.args.index c.from.result c.from-2.result c.from.ensures c.from-2.ensures)
+    ap (λ h. memory_words h f i) (held-by _ (record { place = c.args.place; ppn = c.args.ppn; index = c.args.index; word = c.args.word }) _ _ (at-index c.self.inside.base c.args.ppn c.args.index c.from.result c.from-2.result c.from.ensures c.from-2.ensures)
     (held-leaf c.self.inside.base c.self.inside.frames c.args.place c.args.word c.target.result c.target.ensures c.in_default.is)) ∙ fact.words f i

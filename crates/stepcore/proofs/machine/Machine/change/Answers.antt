@@ -1,5 +1,5 @@
 use Rattle.std.proofs.Common.{rules, ap, ◌∙◌}
-use Rattle.spaces.specs.Applied.{holders_after, words_after}
+use Rattle.spaces.specs.Applied.{holders_after, words_after_store}
 use Rattle.stepcore.specs.State.{State, words_in, holders_in}
 use Rattle.stepcore.proofs.Edits.{change_answers, change_follows}
 use Rattle.stepcore.proofs.machine.Machine.change.Goals as goal
@@ -18,7 +18,7 @@ returns c =
       page = search rules;
       is = c.in_ok-edit.ensures.is;
       layout = c.store.ensures.layout ∙ ap (λ (s : State). s.memory.layout) opens;
-      words = λ ppn i. c.store.ensures.words ppn i ∙ ap (λ (s : State). words_after (words_in s) edit ppn i) opens;
+      words = λ ppn i. c.store.ensures.words ppn i ∙ ap (λ (s : State). words_after_store (words_in s) edit ppn i) opens;
       holders = λ p. c.store.ensures.holders p ∙ ap (λ (s : State). holders_after (holders_in s) edit.place edit p) opens;
     }))
     (search rules)
