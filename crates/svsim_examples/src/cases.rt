@@ -4,37 +4,58 @@ use std::sync::Wait;
 use std::thread::Threads;
 use std::{fs, io};
 
-/// A command and the name of its file, the file of what is printed, which is nothing if there is
-/// none, the line on standard error, and the status.
-pub type Case = (
-    &'static str,
-    &'static str,
-    Option<&'static str>,
-    &'static str,
-    u8,
-);
+/// Words for the program, and what it answers.
+#[derive(Clone, Copy)]
+pub struct Case {
+    pub command: &'static str,
+    /// A file in the folder `cases`.
+    pub file: &'static str,
+    /// The file of what is printed. Nothing is if there is none.
+    printed: Option<&'static str>,
+    /// The line on standard error.
+    err: &'static str,
+    status: u8,
+}
 
 pub const CASES: [Case; 5] = [
-    ("run", "run.toml", Some("cases/run.out"), "", 0),
-    ("live", "live.toml", Some("cases/live.out"), "", 0),
+    Case {
+        command: "run",
+        file: "run.toml",
+        printed: Some("cases/run.out"),
+        err: "",
+        status: 0,
+    },
+    Case {
+        command: "live",
+        file: "live.toml",
+        printed: Some("cases/live.out"),
+        err: "",
+        status: 0,
+    },
     // a mapping is stale
-    ("stale", "stale.toml", Some("cases/stale.out"), "", 1),
+    Case {
+        command: "stale",
+        file: "stale.toml",
+        printed: Some("cases/stale.out"),
+        err: "",
+        status: 1,
+    },
     // there is no such command
-    (
-        "translate",
-        "run.toml",
-        None,
-        "svsim: usage: svsim COMMAND FILE\n",
-        2,
-    ),
+    Case {
+        command: "translate",
+        file: "run.toml",
+        printed: None,
+        err: "svsim: usage: svsim COMMAND FILE\n",
+        status: 2,
+    },
     // there is no such file
-    (
-        "run",
-        "other.toml",
-        None,
-        "svsim: cannot read other.toml\n",
-        2,
-    ),
+    Case {
+        command: "run",
+        file: "other.toml",
+        printed: None,
+        err: "svsim: cannot read other.toml\n",
+        status: 2,
+    },
 ];
 
 /// Whether the program answers so.
@@ -43,15 +64,14 @@ pub fn is_answered<T: Threads + Wait + Sync>(
     threads: &T,
     case: Case,
 ) -> io::Result<bool> {
-    let (command, file, printed, err, status) = case;
-    let out = match printed {
+    let out = match case.printed {
         Some(path) => fs::read_to_string(rt, path)?,
         None => String::new(rt.alloc()),
     };
-    let outcome = answer(rt, threads, "cases", command, file)?;
+    let outcome = answer(rt, threads, "cases", case.command, case.file)?;
     Ok(
-        outcome.status == status
+        outcome.status == case.status
             && outcome.out.as_slice() == out.as_bytes()
-            && outcome.err.as_slice() == err.as_bytes(),
+            && outcome.err.as_slice() == case.err.as_bytes(),
     )
 }

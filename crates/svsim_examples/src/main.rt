@@ -150,8 +150,7 @@ fn main(rt: HostRuntime) -> ExitCode {
         if told != "as expected" {
             status = 1;
         }
-        let (command, file, ..) = case;
-        let _ = println!(rt; "{command} {file}: {told}");
+        let _ = println!(rt; "{} {}: {told}", case.command, case.file);
     }
     ExitCode::from(status)
 }
