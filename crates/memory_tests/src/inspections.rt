@@ -5,7 +5,7 @@ use scenario::{Inspection, inspect_command};
 use std::alloc::Global;
 
 /// A page of 2 MiB that hart 1 holds is unmapped, and hart 1 uses it.
-const STALE_USED: &str = r#"harts = 2
+pub const STALE_USED: &str = r#"harts = 2
 steps = [
     "0 map 0 2M:0x400000 0x200 rwuad", "0 map 0 2M:0x400000 0x200 rwuad",
     "1 begin u load 0x5fffff", "1 load", "1 load",
@@ -17,7 +17,7 @@ steps = [
 const FAULTY: &str = "harts = 2\nsteps = [\"0 load\", \"1 laod\"]";
 
 /// Room for all that is written, so that no writer asks for memory.
-const ROOM: usize = 65536;
+pub const ROOM: usize = 65536;
 
 /// How a command ends with ample memory: the status, the beginning and the end of the output, and
 /// the line on standard error.

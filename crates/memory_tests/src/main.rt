@@ -9,6 +9,7 @@ mod live;
 mod locked;
 mod machines;
 mod shootdown;
+mod texts;
 mod verdict;
 
 use std::process::ExitCode;
@@ -24,6 +25,8 @@ fn main(rt: HostRuntime) -> ExitCode {
         ("ends", live::two_ends(alloc)),
         ("Board::open", live::board(alloc)),
         ("run_live", live::run(&rt, alloc)),
+        ("walk_text", texts::walk(alloc)),
+        ("run_text", texts::run(alloc)),
         ("inspect_command Stale", inspections::stale(alloc)),
         ("inspect_command Show", inspections::show(alloc)),
         ("inspect_command Draw", inspections::draw(alloc)),
