@@ -133,7 +133,7 @@ after_no_post port ticket to =
     if is_none (post_refusal port ticket to)
     then record port { view = with_armed ticket to port.view } else port
 
--- a TLB once a request was after_service
+-- a TLB once a request was served
 abbrev pub tlb_served : TlbState → What → TlbState
 tlb_served tlb what = record tlb { entries = after_service tlb.entries what }
 

@@ -5,7 +5,7 @@ use Rattle.rings.specs.Ends.{OutboxState, InboxState, count_of}
 use Rattle.board.specs.Ports.{PortState, cell}
 use Rattle.board.specs.declared.report.PairReport.{PairReport}
 
--- what an end accepted_between, and what an end took
+-- what an end accepted, and what an end took
 abbrev pub accepted_by : Option OutboxState → List Request
 accepted_by None = []
 accepted_by (Some outbox) = outbox.accepted
@@ -14,7 +14,7 @@ abbrev pub taken_by : Option InboxState → List Request
 taken_by None = []
 taken_by (Some inbox) = inbox.taken
 
--- what one of the ports accepted_between to another hart, and what that hart's port took of it
+-- what one of the ports accepted to another hart, and what that hart's port took of it
 abbrev pub accepted_between : List PortState → ℕ → ℕ → List Request
 accepted_between ports sender receiver =
     accepted_by (cell (map (λ port. port.outboxes) ports) sender receiver)
@@ -33,7 +33,7 @@ abbrev pub pairs_of : ℕ → ℕ → List (ℕ × ℕ)
 pairs_of harts zero = []
 pairs_of harts (suc sender) = pairs_of harts sender ++ pairs_to sender harts
 
--- accepted_between is taken_between, followed by what waits, and the counts are their lengths
+-- what was accepted is what was taken, followed by what waits, and the counts are their lengths
 pub record IsReportOf (ports : List PortState) (pair : PairReport) : Type 0 where
   pub order : accepted_between ports pair.sender pair.receiver
       ≡ taken_between ports pair.sender pair.receiver ++ pair.waiting.items

@@ -13,7 +13,7 @@ pub data MailboxCall : Type 0 where
   Release : MailboxCall
   Close : MailboxCall
 
--- the requests that were accepted_by_calls, in the order of their posts
+-- the requests that were accepted, in the order of their posts
 abbrev pub accepted_by : MailboxCall → List Request
 accepted_by (Post request (Ok done)) = request ∷ []
 accepted_by turn = []
@@ -22,7 +22,7 @@ abbrev pub accepted_by_calls : List MailboxCall → List Request
 accepted_by_calls [] = []
 accepted_by_calls (turn ∷ earlier) = accepted_by_calls earlier ++ accepted_by turn
 
--- the requests that were taken_by_calls, in that order
+-- the requests that were taken, in that order
 abbrev pub taken_by : MailboxCall → List Request
 taken_by (Take (Some request)) = request ∷ []
 taken_by turn = []

@@ -33,7 +33,7 @@ pub record MeetsLimits (frames : ℕ) (c : Config) : Type 0 where
 abbrev pub is_from_one : ℕ → ℕ → Bool
 is_from_one most n = nat_le 1 n && nat_le n most
 
--- the same as a test (law `limits_are_tested`)
+-- the same as a test (law `limits_are_checked`)
 unfoldable pub is_within_limits : ℕ → Config → Bool
 is_within_limits frames c =
     is_from_one MAX_HARTS c.harts

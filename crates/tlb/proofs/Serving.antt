@@ -62,7 +62,7 @@ not_is_served-Stays scheme what e asked = (
 pub served_is_meant : (scheme : Scheme) (old new : List Entry) (what : What) → IsRequest scheme what → new ≡ after_service old what → Served scheme old what new
 served_is_meant scheme old new what asked e = record { stays = λ e. not (is_dropped what e); each = λ e. not_is_served-Stays scheme what e asked; left = e }
 
--- what is after_service is determined
+-- what is served is determined
 pub Served-unique : (scheme : Scheme) (old : List Entry) (what : What) (a b : List Entry) → Served scheme old what a → Served scheme old what b → a ≡ b
 Served-unique scheme old what a b p q =
     let same : (e : Entry) → p.stays e ≡ q.stays e =

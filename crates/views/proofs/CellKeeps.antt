@@ -151,7 +151,7 @@ module _ (c : Config) (id : ℕ) (v : View) where
       let f : IsAskable (dropping c (Space t) page) = subst IsAskable (sym e) asks in
       subst (λ x. Misses page (Some (asid_of_space c t)) (after_service entries x)) e (served_space_page entries page (asid_of_space c t) f.1 (λ k d below. not-global-over (layout_of c) fits t page f.0 half (slice_index_or entries k d) (window k d below)))
 
-  -- acknowledging: the receiver stores the word of what it after_service
+  -- acknowledging: the receiver stores the word of what it served
   module _ (from ticket : ℕ) (what : What) (small-from : from < length (layout_of c).spares) (small-ticket : ticket < MAX_TICKETS) (asks : IsAskable what)
       (w : View) (hart : w.hart ≡ v.hart) (memory : memory_of (layout_of c) w ≡ memory_of (layout_of c) v) (entries : w.entries ≡ after_service v.entries what)
       (s : State ℕ View) (b : Tabled c s) (o : Ordered c s) (at : get_elem? s.views id ≡ some v) where
