@@ -7,17 +7,11 @@ ghost use Rattle.pte.specs.Address.{top_level};
 use crate::columns::pad;
 use crate::entries::push_flags;
 use lines::size_word;
-use pte::{Kind, PageSize, Pte, PteFlags, Scheme, TABLE_LENGTH};
+use pte::{Kind, LEVEL_BITS, OFFSET_BITS, PageSize, Pte, PteFlags, Scheme, TABLE_LENGTH};
 use spaces::Memory;
 use std::alloc::{AllocError, Global};
 use stepcore::Machine;
 use walk::Words;
-
-/// How many bits of an address lie below the index in a table of level 0.
-const OFFSET_BITS: u32 = 12;
-
-/// How many bits of an address are the index in one table.
-const LEVEL_BITS: u32 = 9;
 
 /// A table: its PPN, its level, and the bits of its addresses above those that it translates.
 #[derive(Clone, Copy, PartialEq, Eq, Debug)]
