@@ -18,8 +18,8 @@ cd "$own" || exit 2
 passed=0
 failed=0
 
-# Whether a run ended so: its status, its line on standard error without `svsim: ` (or none), and its output: the file
-# WANTED, nothing, or a beginning of the file.
+# Whether a run ended so: its status, its line on standard error without `svsim: ` (or none), and its output: that of a file,
+# `none`, or `any`.
 judge() {
     local name=$1 status=$2 want_status=$3 want_line=$4 want_out=$5 why=
     [ "$status" = "$want_status" ] || why="status $status for $want_status"
@@ -191,6 +191,23 @@ for ((size = 1000; size <= 40000; size += 1000)); do
     limited "a long run with $size KiB of memory" long.lines
 done
 echo "$unloaded runs were not loaded, for lack of memory"
+
+# No thread: a user who may have one process. A limit of processes does not hold for root, who becomes another user.
+alone() {
+    ulimit -u 1
+    [ "$(id -u)" != 0 ] || exec setpriv --reuid 61234 --regid 61234 --clear-groups "$@"
+    exec "$@"
+}
+chmod 755 .
+cp "$svsim" alone
+for which in $all; do
+    (alone ./alone $which $which.toml >out 2>err); status=$?
+    if [ $which = live ]; then
+        judge 'live without threads' $status 5 'no thread' none
+    else
+        judge "$which without threads" $status 0 '' $which.lines
+    fi
+done
 
 # Small stacks: 80 nested keys, the most that a document may have, need more than all else
 { head -c 158 /dev/zero | tr '\0' 'a' | sed 's/aa/a./g'; echo 'a = 1'; } >dotted.toml

@@ -1,8 +1,8 @@
 //! The files of the folder `examples`, in which it is run, each by the whole program over memory.
 //! It prints a line for each `NAME.toml`, in the order of their names: `as expected` if its command
-//! prints what stands in `NAME.out`, `draw` of a file for `run` what stands in `NAME.svg`, and
-//! `check` that it is ok; else what is amiss. A line for each row of `cases` follows. The status is
-//! 1 unless each is as expected.
+//! prints what stands in `NAME.out`, `draw` and `stale` of a file for `run` what stands in
+//! `NAME.svg` and `NAME.stale`, and `check` that it is ok; else what is amiss. A line for each row
+//! of `cases` follows. The status is 1 unless each is as expected.
 #![tactic(auto)]
 
 mod cases;
@@ -95,6 +95,40 @@ fn prints_live<T: Threads + Wait + Sync>(
     Ok(true)
 }
 
+/// Whether `stale` tells this of `NAME.toml`, with status 1 if a stale mapping is used.
+fn tells_stale<T: Threads + Wait + Sync>(
+    rt: &HostRuntime,
+    threads: &T,
+    name: &str,
+    text: &str,
+) -> io::Result<bool> {
+    let file = format!(in rt.alloc(); "{name}.toml")?;
+    let outcome = answer(rt, threads, ".", "stale", file.as_str())?;
+    let status = if text.ends_with(" used 0\n") { 0 } else { 1 };
+    Ok(
+        outcome.status == status
+            && outcome.err.is_empty()
+            && outcome.out.as_slice() == text.as_bytes(),
+    )
+}
+
+/// What is amiss with the picture of a file for `run`, or with what `stale` tells of it.
+fn amiss_of_run<T: Threads + Wait + Sync>(
+    rt: &HostRuntime,
+    threads: &T,
+    name: &str,
+) -> io::Result<Option<&'static str>> {
+    let picture = fs::read_to_string(rt, format!(in rt.alloc(); "{name}.svg")?.as_str())?;
+    if !prints(rt, threads, "draw", name, picture.as_str())? {
+        return Ok(Some("another picture"));
+    }
+    let stale = fs::read_to_string(rt, format!(in rt.alloc(); "{name}.stale")?.as_str())?;
+    if !tells_stale(rt, threads, name, stale.as_str())? {
+        return Ok(Some("other stale mappings"));
+    }
+    Ok(None)
+}
+
 /// What is amiss with a file, if anything.
 fn amiss<T: Threads + Wait + Sync>(
     rt: &HostRuntime,
@@ -113,9 +147,9 @@ fn amiss<T: Threads + Wait + Sync>(
         return Ok(Some("other lines"));
     }
     if command == "run" {
-        let picture = fs::read_to_string(rt, format!(in alloc; "{name}.svg")?.as_str())?;
-        if !prints(rt, threads, "draw", name, picture.as_str())? {
-            return Ok(Some("another picture"));
+        let amiss = amiss_of_run(rt, threads, name)?;
+        if amiss.is_some() {
+            return Ok(amiss);
         }
     }
     let ok = format!(in alloc; "file for {command}\nok\n")?;
