@@ -233,5 +233,30 @@ for which in walk run live; do
         judge "$which, one of 200 at once" "$(cat status.$i)" 0 '' $which.lines
     done
 done
+
+# How many ways 8 harts that race come out: seven translate the page that hart 0 unmaps and maps anew, and serve. None finds the
+# old frame once it has served.
+translate='"translate u load 0x1000"'
+{
+    echo 'harts = 8'
+    echo 'turns = 100000'
+    echo 'setup = ["0 map 0 4K:0x1000 0x100 ruad", "0 map 0 4K:0x1000 0x100 ruad", "0 map 0 4K:0x1000 0x100 ruad"]'
+    echo 'scripts = ['
+    echo '["unmap 0 4K:0x1000 0,1,2,3,4,5,6,7", "post 0 1", "post 0 2", "post 0 3", "post 0 4", "post 0 5", "post 0 6", "post 0 7",'
+    echo '"ackself 0", "wait 0", "map 0 4K:0x1000 0x101 ruad", "finish 0"],'
+    for hart in 1 2 3 4 5 6 7; do
+        printf '['
+        for ((i = 0; i < 40; i++)); do printf '%s, "serve 0", ' "$translate"; done
+        echo "$translate],"
+    done
+    echo ']'
+} >races.toml
+for ((i = 0; i < 1000; i++)); do
+    "$svsim" live races.toml >out 2>err; status=$?
+    awk '$3 == "taken" { served[$1] = 1 } $3 == "pa" && $4 == "0x100000" && served[$1] { exit 1 }' out || status='stale once it had served'
+    judge 'harts that race' "$status" 0 '' any
+    cksum <out >>races.sums
+done
+echo "harts that race: $(sort -u races.sums | wc -l) different outputs of 1000 runs"
 echo "$passed passed, $failed failed"
 [ "$failed" = 0 ]
