@@ -9,17 +9,20 @@ use Rattle.history.specs.Staleness.{Clear, Coherent, HoldsUsedAsids}
 
 -- Clear is false of each TLB that holds the entry, whatever else it holds
 abbrev pub ClearForbids : Setup → History → ℕ → ℕ → Entry → Type 0
-ClearForbids C H k h e = (entries : List Entry) → Contains entries e → ¬ Clear C H entries k h
+ClearForbids setup history order hart e =
+    (entries : List Entry) → Contains entries e → ¬ Clear setup history entries order hart
 
 -- Clear says nothing: it is so whatever the TLB holds
 abbrev pub ClearAllowsAll : Setup → History → ℕ → ℕ → Type 0
-ClearAllowsAll C H k h = (entries : List Entry) → Clear C H entries k h
+ClearAllowsAll setup history order hart = (entries : List Entry) → Clear setup history entries order hart
 
 abbrev pub CoherentForbids : Setup → History → ℕ → ℕ → Entry → Type 0
-CoherentForbids C H k h e = (entries : List Entry) → Contains entries e → ¬ Coherent C H entries k h
+CoherentForbids setup history order hart e =
+    (entries : List Entry) → Contains entries e → ¬ Coherent setup history entries order hart
 
 abbrev pub CoherentAllowsAll : Setup → History → ℕ → ℕ → Type 0
-CoherentAllowsAll C H k h = (entries : List Entry) → Coherent C H entries k h
+CoherentAllowsAll setup history order hart =
+    (entries : List Entry) → Coherent setup history entries order hart
 
 -- the request of a ticket that asks for everything
 abbrev pub request_of : ℕ → Request
@@ -27,4 +30,5 @@ request_of ticket = record { ticket = ticket; what = All }
 
 -- no TLB that holds the entry holds used ASIDs alone
 abbrev pub UsedAsidsForbid : Setup → History → Entry → Type 0
-UsedAsidsForbid C H e = (entries : List Entry) → Contains entries e → ¬ HoldsUsedAsids C H entries
+UsedAsidsForbid setup history e =
+    (entries : List Entry) → Contains entries e → ¬ HoldsUsedAsids setup history entries

@@ -10,7 +10,7 @@ use Rattle.history.specs.Orders.{open_order, is_order}
 use Rattle.history.specs.Mailboxes.{Sent, posts}
 use Rattle.history.specs.Service.{served, is_served}
 
--- a Post of the order's ticket to h was accepted while the order was open
+-- a Post of the order's ticket to the hart was accepted while the order was open
 abbrev pub posted_after : Event → Reply → History → ℕ → ℕ → Bool → Bool
 posted_after (Post sender ticket to) reply history order hart old =
     (is_ok reply && ((to == hart) && is_order (open_order history sender ticket) order)) || old
@@ -21,8 +21,8 @@ is_posted [] order hart = false
 is_posted (turn ∷ history) order hart =
     posted_after turn.event turn.reply history order hart (is_posted history order hart)
 
--- an Ack by h was accepted while h served the order, or an AckSelf of the order's ticket by its
--- sender h while it was open
+-- an Ack by the hart was accepted while it served the order, or an AckSelf of the order's ticket by
+-- the hart, its sender, while it was open
 abbrev pub acked_after : Setup → Event → Reply → History → ℕ → ℕ → Bool → Bool
 acked_after setup (Ack by) reply history order hart old =
     (is_ok reply && ((by == hart) && is_served (served setup history by) order)) || old
@@ -35,7 +35,7 @@ is_acked setup [] order hart = false
 is_acked setup (turn ∷ history) order hart =
     acked_after setup turn.event turn.reply history order hart (is_acked setup history order hart)
 
--- a Collect from h was accepted once h had acknowledged the open order; its sender's own
+-- a Collect from the hart was accepted once it had acknowledged the open order; its sender's own
 -- acknowledgement counts at once
 abbrev pub collected_after : Setup → Event → Reply → History → ℕ → ℕ → Bool → Bool
 collected_after setup (AckSelf by ticket) reply history order hart old =
@@ -57,7 +57,7 @@ abbrev pub count_where : {A : Type 0} → (A → Bool) → List A → ℕ
 count_where test [] = 0
 count_where test (x ∷ xs) = (if test x then 1 else 0) + count_where test xs
 
--- how many orders are posted from s to h and not collected from h
+-- how many orders are posted from the sender to the receiver and not collected from it
 abbrev pub outstanding : Setup → History → ℕ → ℕ → ℕ
 outstanding setup history sender receiver =
     count_where (λ (sent : Sent). not (is_collected setup history sent.order receiver))

@@ -12,7 +12,7 @@ use Rattle.history.specs.Orders.{Order, Unmapped, open_order, order_at}
 use Rattle.history.specs.Staleness.{IsAsidOf, is_mapped_anew}
 use Rattle.history.specs.Occurrences.{Sometime}
 
--- an AckSelf or a Collect of the ticket under which order k was open was answered Done
+-- an AckSelf or a Collect of the ticket under which the order was open was answered Done
 pub record IsDoneAt (number : ℕ) (turn : Turn) (before : History) : Type 0 where
   pub sender : ℕ
   pub ticket : ℕ
@@ -21,7 +21,8 @@ pub record IsDoneAt (number : ℕ) (turn : Turn) (before : History) : Type 0 whe
   pub told : turn.reply ≡ reply.Done
   pub order : open_order before sender ticket ≡ Some number
 
--- the unmapping k of this page of an ASID, or of every one, was answered Done, and it names h
+-- the order follows an unmapping of this page of an ASID, or of every one; it names the hart, and
+-- was answered Done
 pub record IsDoneFor (setup : Setup) (history : History) (number hart : ℕ) (of : Option ℕ)
     (page : Span) : Type 0 where
   pub order : Order
@@ -30,9 +31,9 @@ pub record IsDoneFor (setup : Setup) (history : History) (number hart : ℕ) (of
   pub named : contains order.named hart ≡ true
   pub done : Sometime (IsDoneAt number) history
 
--- ClearOnceDone: once the unmapping k was answered Done, these entries of the TLB of each hart h
--- that it names translate no address of the page in its address space, until the page is mapped
--- anew
+-- ClearOnceDone: once the order of an unmapping was answered Done, these entries of the TLB of each
+-- hart that it names translate no address of the page in its address space, until the page is
+-- mapped anew
 abbrev pub ClearOnceDone : Setup → History → List Entry → ℕ → ℕ → Type 0
 ClearOnceDone setup history entries order hart =
     (of : Option ℕ) (page : Span) → IsDoneFor setup history order hart of page

@@ -49,7 +49,7 @@ pub record Since (Happens Ends : Turn → History → Type 0) (history : History
   pub none_since : (newer : History) (next : Turn) (between : History)
       → later ≡ newer ++ next ∷ between → ¬ Ends next (between ++ turn ∷ earlier)
 
--- a Post to h was accepted of the ticket under which order k was open
+-- a Post to the hart was accepted of the ticket under which the order was open
 pub record IsPost (number hart : ℕ) (turn : Turn) (before : History) : Type 0 where
   pub sender : ℕ
   pub ticket : ℕ
@@ -61,7 +61,7 @@ pub record IsPost (number hart : ℕ) (turn : Turn) (before : History) : Type 0 
 abbrev pub IsProgress : Reply → Type 0
 IsProgress answer = (answer ≡ reply.Done) ⊎ ((left : ℕ) × (answer ≡ reply.Waiting left))
 
--- an Ack by h was accepted while h served order k
+-- an Ack by the hart was accepted while it served the order
 pub record IsAck (setup : Setup) (number hart : ℕ) (turn : Turn) (before : History) : Type 0 where
   pub sent : Sent
   pub event : turn.event ≡ Ack hart
@@ -69,7 +69,7 @@ pub record IsAck (setup : Setup) (number hart : ℕ) (turn : Turn) (before : His
   pub serving : served setup before hart ≡ Some sent
   pub order : sent.order ≡ number
 
--- an AckSelf by h was accepted of the own ticket under which order k was open
+-- an AckSelf by the hart was accepted of its own ticket, under which the order was open
 pub record IsAckSelf (number hart : ℕ) (turn : Turn) (before : History) : Type 0 where
   pub ticket : ℕ
   pub event : turn.event ≡ AckSelf hart ticket
@@ -80,8 +80,8 @@ abbrev pub Acknowledges : Setup → ℕ → ℕ → Turn → History → Type 0
 Acknowledges setup order hart turn before =
     IsAck setup order hart turn before ⊎ IsAckSelf order hart turn before
 
--- a Collect from h was accepted of the ticket under which order k was open, once h had acknowledged
--- k
+-- a Collect from the hart was accepted of the ticket under which the order was open, once the hart
+-- had acknowledged it
 pub record IsCollect (setup : Setup) (number hart : ℕ) (turn : Turn)
     (before : History) : Type 0 where
   pub sender : ℕ
@@ -95,7 +95,7 @@ abbrev pub Collects : Setup → ℕ → ℕ → Turn → History → Type 0
 Collects setup order hart turn before =
     IsCollect setup order hart turn before ⊎ IsAckSelf order hart turn before
 
--- the turns before have an order k, and it followed an Unmap or a Protect of a page of the ASID
+-- the turns before have this order, and it followed an Unmap or a Protect of a page of the ASID
 -- that overlaps this page
 pub record IsOfPage (setup : Setup) (number : ℕ) (of : Option ℕ) (page : Span)
     (before : History) : Type 0 where
@@ -105,7 +105,7 @@ pub record IsOfPage (setup : Setup) (number : ℕ) (of : Option ℕ) (page : Spa
   pub cause : IsChange order.cause of changed
   pub over : overlaps changed page ≡ true
 
--- after order k a Map over its page stored its leaf
+-- after the order a Map over its page stored its leaf
 pub record IsMapOver (setup : Setup) (order : ℕ) (turn : Turn) (before : History) : Type 0 where
   pub hart : ℕ
   pub place : Place
@@ -116,7 +116,7 @@ pub record IsMapOver (setup : Setup) (order : ℕ) (turn : Turn) (before : Histo
   pub stored : turn.reply ≡ reply.Leaf
   pub of_page : IsOfPage setup order (asid_in setup before place) page before
 
--- after order k an Unmap over its page was accepted
+-- after the order an Unmap over its page was accepted
 pub record IsUnmapOver (setup : Setup) (order : ℕ) (turn : Turn) (before : History) : Type 0 where
   pub hart : ℕ
   pub place : Place
@@ -127,7 +127,7 @@ pub record IsUnmapOver (setup : Setup) (order : ℕ) (turn : Turn) (before : His
   pub accepted : turn.reply ≡ reply.Opened ticket
   pub of_page : IsOfPage setup order (asid_in setup before place) page before
 
--- after order k a Protect over its page was accepted
+-- after the order a Protect over its page was accepted
 pub record IsProtectOver (setup : Setup) (order : ℕ) (turn : Turn) (before : History) : Type 0 where
   pub hart : ℕ
   pub place : Place
@@ -158,7 +158,7 @@ pub record IsPostAfterClose (sender receiver : ℕ) (turn : Turn) (before : Hist
 abbrev pub NoneAfterClose : History → ℕ → ℕ → Type 0
 NoneAfterClose history sender receiver = ¬ Sometime (IsPostAfterClose sender receiver) history
 
--- the turn with k turns before it opened this order
+-- the turn with so many turns before it opened this order
 pub record OpensAt (setup : Setup) (number : ℕ) (order : Order) (turn : Turn)
     (before : History) : Type 0 where
   pub place : length before ≡ number
@@ -182,7 +182,7 @@ pub record IsFinish (sender ticket : ℕ) (turn : Turn) (before : History) : Typ
   pub event : turn.event ≡ Finish sender ticket
   pub accepted : turn.reply ≡ reply.Ok
 
--- the turn with k turns before it opened the sender's ticket
+-- the turn with so many turns before it opened the sender's ticket
 abbrev pub OpensOrder : ℕ → ℕ → ℕ → Turn → History → Type 0
 OpensOrder sender ticket order turn before =
     Opens sender ticket turn before × (length before ≡ order)
@@ -370,7 +370,7 @@ EachIsDue setup history =
     (later : History) (turn : Turn) (earlier : History) → history ≡ later ++ turn ∷ earlier
     → turn.reply ≡ due setup earlier turn.event
 
--- a Retire of the space was accepted, with k turns before it
+-- a Retire of the space was accepted, with so many turns before it
 pub record IsRetire (space order : ℕ) (turn : Turn) (before : History) : Type 0 where
   pub hart : ℕ
   pub ticket : ℕ

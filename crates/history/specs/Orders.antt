@@ -94,7 +94,7 @@ open_order (turn ∷ history) sender ticket =
     open_after turn.event turn.reply (length history) sender ticket
     (open_order history sender ticket)
 
--- the open order is k
+-- the open order is this one
 abbrev pub is_order : Option ℕ → ℕ → Bool
 is_order number order = unwrap_or (option_map (λ place. place == order) number) false
 

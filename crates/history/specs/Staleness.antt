@@ -69,7 +69,7 @@ is_superseded setup (turn ∷ history) order =
 abbrev pub IsAsidOf : Option ℕ → ℕ → Type 0
 IsAsidOf of asid = IfSome of (λ a. asid ≡ a)
 
--- h is named by the order k, and has acknowledged it
+-- the order has this cause, names the hart, and was acknowledged by it
 pub record HasAnswered (setup : Setup) (history : History) (number hart : ℕ)
     (cause : Cause) : Type 0 where
   pub order : Order
@@ -78,8 +78,8 @@ pub record HasAnswered (setup : Setup) (history : History) (number hart : ℕ)
   pub named : contains order.named hart ≡ true
   pub acked : is_acked setup history number hart ≡ true
 
--- Clear: once h has acknowledged the unmapping k, these entries of its TLB translate no address of
--- the page in its address space, until the page is mapped anew
+-- Clear: once the hart has acknowledged the order of an unmapping, these entries of its TLB
+-- translate no address of the page in its address space, until the page is mapped anew
 abbrev pub Clear : Setup → History → List Entry → ℕ → ℕ → Type 0
 Clear setup history entries order hart =
     (of : Option ℕ) (page : Span) → HasAnswered setup history order hart (Unmapped of page)
@@ -115,12 +115,13 @@ pub record IsMappedNow (setup : Setup) (history : History) (of : Option ℕ)
   pub some : (s : ℕ) × Reaches setup history of s
   pub each : (s : ℕ) → Reaches setup history of s → IsMapped setup history s m
 
--- Coherent: once h has acknowledged the unmapping or the change k, each mapping of the page that
--- these entries of its TLB hold for its address space is mapped now, until the page is unmapped or
--- changed once more
+-- an unmapping or a change of flags of the page
 abbrev pub IsChange : Cause → Option ℕ → Span → Type 0
 IsChange cause of page = (cause ≡ Unmapped of page) ⊎ (cause ≡ Protected of page)
 
+-- Coherent: once the hart has acknowledged the order of an unmapping or a change, each mapping of
+-- the page that these entries of its TLB hold for its address space is mapped now, until the page
+-- is unmapped or changed once more
 abbrev pub Coherent : Setup → History → List Entry → ℕ → ℕ → Type 0
 Coherent setup history entries order hart =
     (cause : Cause) (of : Option ℕ) (page : Span) → IsChange cause of page

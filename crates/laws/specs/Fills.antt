@@ -10,7 +10,8 @@ use Rattle.history.specs.Turns.{Turn, History, is_filled}
 use Rattle.history.specs.Harts.{Walking, walk_of, space_of, outcome_of}
 use Rattle.history.specs.Acknowledgements.{is_acked}
 
--- the turn is a Load of h that finds a leaf in the words of now, and the entry is what it fills
+-- the turn is a Load of the hart that finds a leaf in the words of now, and the entry is what it
+-- fills
 pub record Fills (setup : Setup) (hart : ℕ) (e : Entry) (turn : Turn)
     (before : History) : Type 0 where
   pub walk : Walking
@@ -21,7 +22,7 @@ pub record Fills (setup : Setup) (hart : ℕ) (e : Entry) (turn : Turn)
   pub finds : outcome_of setup before (space_of before hart) walk ≡ Ok found
   pub is : e ≡ entry_of (asid_of setup before (space_of before hart)) found
 
--- the same, once h had acknowledged the order k
+-- the same, once the hart had acknowledged the order
 abbrev pub FillsAcked : Setup → ℕ → ℕ → Entry → Turn → History → Type 0
 FillsAcked setup order hart e turn before =
     (is_acked setup before order hart ≡ true) × Fills setup hart e turn before

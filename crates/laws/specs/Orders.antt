@@ -15,7 +15,7 @@ pub record IsOrder (history : History) (number : ℕ) (order : Order) : Type 0 w
   pub names_sender : order.sender < MAX_HARTS → contains order.named order.sender ≡ true
   pub names_harts : (hart : ℕ) → contains order.named hart ≡ true → hart < MAX_HARTS
 
--- the order k was opened by this sender under this ticket
+-- the order was opened by this sender under this ticket
 pub record IsOpenedBy (setup : Setup) (history : History) (s t number : ℕ) : Type 0 where
   pub order : Order
   pub is : order_at setup history number ≡ Some order

@@ -8,8 +8,8 @@ use Rattle.history.specs.Acknowledgements.{is_posted, is_acked}
 use Rattle.history.specs.Due.{names}
 use Rattle.laws.specs.Orders.{IsOpenedBy}
 
--- a post from s to h: it is of an order of s, under its ticket, that asks what the request asks,
--- names h, and is posted to it
+-- a post from s to the hart: it is of an order of s, under its ticket, that asks what the request
+-- asks, names the hart, and is posted to it
 pub record IsAcceptedPost (setup : Setup) (history : History) (s hart : ℕ)
     (post : Sent) : Type 0 where
   pub sender : post.sender ≡ s
@@ -19,7 +19,7 @@ pub record IsAcceptedPost (setup : Setup) (history : History) (s hart : ℕ)
   pub named : names (order_at setup history post.order) hart ≡ true
   pub posted : is_posted history post.order hart ≡ true
 
--- the order of the post is open under its ticket, and h has not acknowledged it
+-- the order of the post is open under its ticket, and the hart has not acknowledged it
 pub record IsLive (setup : Setup) (history : History) (hart : ℕ) (post : Sent) : Type 0 where
   pub is_open : open_order history post.sender post.request.ticket ≡ Some post.order
   pub unacked : is_acked setup history post.order hart ≡ false
@@ -37,13 +37,13 @@ IsOfOther order post = order ≢ post.order
 abbrev pub AreOfDifferent : Sent → Sent → Type 0
 AreOfDifferent a b = IsOfOther a.order b
 
--- h opened the order k
+-- the hart opened the order
 pub record IsOwn (setup : Setup) (history : History) (number hart : ℕ) : Type 0 where
   pub order : Order
   pub is : order_at setup history number ≡ Some order
   pub sender : order.sender ≡ hart
 
--- a post of the order k stands in the list
+-- a post of the order stands in the list
 pub record StandsIn (posts : List Sent) (order : ℕ) : Type 0 where
   pub post : Sent
   pub member : Contains posts post

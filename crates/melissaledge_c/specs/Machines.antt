@@ -54,24 +54,27 @@ Closes (Some machine) result new = (result ≡ pos 0) × (new ≡ None)
 
 -- all that is proved of a step: for every history at which the machine stood
 pub record IsStep (old : State) (event : Event) (reply : Reply) (new : State) : Type 0 where
-  pub stands : (C : Setup) (H : History) → Stands C old H → Stands C new (with_turn event reply H)
-  pub due_is : (C : Setup) (H : History) → Stands C old H → reply ≡ due C H event
+  pub stands : (setup : Setup) (history : History) → Stands setup old history
+      → Stands setup new (with_turn event reply history)
+  pub due_is : (setup : Setup) (history : History) → Stands setup old history
+      → reply ≡ due setup history event
   pub refused : is_accepted reply ≡ false → new ≡ old
-  pub mailboxes : (C : Setup) (H : History) → Stands C old H
-      → MailboxesKeepOrder C (with_turn event reply H) new
-  pub closed : (C : Setup) (H : History) → Stands C old H
-      → NothingAfterCloses C (with_turn event reply H)
-  pub clear : (C : Setup) (H : History) → Stands C old H → IsClear C (with_turn event reply H) new
-  pub done : (C : Setup) (H : History) → Stands C old H
-      → IsClearOnceDone C (with_turn event reply H) new
-  pub coherent : (C : Setup) (H : History) → Stands C old H
-      → IsCoherent C (with_turn event reply H) new
-  pub asids : (C : Setup) (H : History) → Stands C old H
-      → TlbsHoldUsedAsids C (with_turn event reply H) new
-  pub spaces : (C : Setup) (H : History) → Stands C old H
-      → HartsAreInLiveSpaces C (with_turn event reply H) new
-  pub frames : (C : Setup) (H : History) → Stands C old H
-      → WalksHoldUsedFrames C (with_turn event reply H) new
+  pub mailboxes : (setup : Setup) (history : History) → Stands setup old history
+      → MailboxesKeepOrder setup (with_turn event reply history) new
+  pub closed : (setup : Setup) (history : History) → Stands setup old history
+      → NothingAfterCloses setup (with_turn event reply history)
+  pub clear : (setup : Setup) (history : History) → Stands setup old history
+      → IsClear setup (with_turn event reply history) new
+  pub done : (setup : Setup) (history : History) → Stands setup old history
+      → IsClearOnceDone setup (with_turn event reply history) new
+  pub coherent : (setup : Setup) (history : History) → Stands setup old history
+      → IsCoherent setup (with_turn event reply history) new
+  pub asids : (setup : Setup) (history : History) → Stands setup old history
+      → TlbsHoldUsedAsids setup (with_turn event reply history) new
+  pub spaces : (setup : Setup) (history : History) → Stands setup old history
+      → HartsAreInLiveSpaces setup (with_turn event reply history) new
+  pub frames : (setup : Setup) (history : History) → Stands setup old history
+      → WalksHoldUsedFrames setup (with_turn event reply history) new
 
 -- the machine makes a step to the next, and C is told the reply
 pub record IsStepped (old : State) (event : Event) (next : State) (told : ReplyGiven) : Type 0 where
