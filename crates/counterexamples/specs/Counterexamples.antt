@@ -14,7 +14,8 @@ ClearForbids setup history order hart e =
 
 -- Clear says nothing: it is so whatever the TLB holds
 abbrev pub ClearAllowsAll : Setup → History → ℕ → ℕ → Type 0
-ClearAllowsAll setup history order hart = (entries : List Entry) → Clear setup history entries order hart
+ClearAllowsAll setup history order hart =
+    (entries : List Entry) → Clear setup history entries order hart
 
 abbrev pub CoherentForbids : Setup → History → ℕ → ℕ → Entry → Type 0
 CoherentForbids setup history order hart e =
