@@ -51,7 +51,7 @@ pub fn equal_words_ask_for_equal_service()
     ensures { EqualWordsAskForEqualService }
 {}
 
-/// Each table word is as its home's view says, or as at the opening while its home has no seat yet.
+/// Each table word is as its home's view says, or as at the opening where its home has no seat yet.
 pub fn each_table_word_is_as_its_home_says()
     ensures { (c : Config) (s : State ℕ View) → Board c s → (h f i : ℕ) → IsAtHome (layout_of c) h f
         → IsAsSaid c s h f i }
