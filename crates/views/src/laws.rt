@@ -33,7 +33,8 @@ pub fn window_is_global()
     ensures mappings { MappingsAreGlobalInWindow }
 {}
 
-/// That nothing in a page is mapped is that no leaf leads at an address of the page.
+/// That nothing in a page is mapped is that no aligned leaf leads at an address of the page. A leaf
+/// that is not aligned raises a page fault, and maps nothing.
 pub fn unmapped_is_where_no_leaf_leads()
     ensures { UnmappedIsWhereNoLeafLeads }
 {}
