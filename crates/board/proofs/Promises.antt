@@ -19,7 +19,7 @@ use Rattle.views.specs.Orders.{IsLive}
 use Rattle.views.proofs.Lasting.{begins_live, none_held}
 use Rattle.board.specs.Answers.{answer_or}
 use Rattle.board.specs.Tables.{after_opened, after_store, due_store, named_refusal, opened_if}
-use Rattle.board.specs.Promises.{AcceptedUnmappingIsLive, DoneIsClean, TranslateNoneHoldsNone}
+use Rattle.board.specs.Promises.{AcceptedUnmappingIsLive, CollectedStaysClean, DoneIsClean, TranslateNoneHoldsNone}
 
 -- the open order is one of the orders
 find-order : (ticket : ℕ) (ks : List Order) (k : Order) → order_of_ticket ticket ks ≡ Some k → (n : ℕ) × (get_elem? ks n ≡ some k)
@@ -39,11 +39,15 @@ more-translate few many asid va within t = record {
   page = t.page;
 }
 
-pub done_is_clean : DoneIsClean
-done_is_clean c s board i port at ticket k open-order place page live all j other at-other low named within asid va of holds t =
-    let n = find-order ticket port.view.orders k open-order in
-    collected_is_clean c s board i port.view at n.0 k n.1 place page live other.view.hart low (all k open-order other.view.hart named) j other.view at-other refl asid va of holds
+pub collected_stays_clean : CollectedStaysClean
+collected_stays_clean c s board i port at n k at-k place page live j other at-other low got within asid va of holds t =
+    collected_is_clean c s board i port.view at n k at-k place page live other.view.hart low got j other.view at-other refl asid va of holds
     (more-translate other.tlb.entries other.view.entries asid va within t)
+
+pub done_is_clean : DoneIsClean
+done_is_clean c s board i port at ticket k open-order place page live all j other at-other low named within =
+    let n = find-order ticket port.view.orders k open-order in
+    collected_stays_clean c s board i port at n.0 k n.1 place page live j other at-other low (all k open-order other.view.hart named) within
 
 -- what is refused opens no ticket
 no-ticket : (refusal : Option Refusal) (why : Refusal) (ticket : ℕ) → answer_or refusal (Err why) ≡ Ok ticket → ⊥

@@ -14,7 +14,7 @@ use Rattle.spaces.specs.Layout.{layout_of}
 use Rattle.views.specs.declared.view.Order.{Order}
 use Rattle.views.specs.declared.view.View.{View}
 use Rattle.views.specs.Board.{Board}
-use Rattle.views.specs.Orders.{IsAsidFor, IsLive}
+use Rattle.views.specs.Orders.{IsAsidFor, IsLive, is_in}
 use Rattle.views.specs.OrderTurns.{order_of_ticket}
 use Rattle.views.specs.Lasting.{IsFor}
 use Rattle.board.specs.Ports.{PortState}
@@ -40,6 +40,20 @@ DoneIsClean =
     → (j : ℕ) (other : PortState) → get_elem? s.views j ≡ some other.view
     → other.view.hart < length (layout_of c).spares
     → names port.tickets ticket other.view.hart ≡ true
+    → IsWithin other.tlb.entries other.view.entries → TranslateNone c other.tlb.entries place page
+
+-- Of any order of a port's view, open or finished, that follows an unmapping and is not marked
+-- anew: the TLB of a hart that was collected for it translates no address of the page. `port` and
+-- `other` are ports whose views are those of two seats now, the sender's and that of the hart.
+abbrev pub CollectedStaysClean : Type 0
+CollectedStaysClean =
+    (c : Config) (s : State ℕ View) → Board c s → (i : ℕ) (port : PortState)
+    → get_elem? s.views i ≡ some port.view
+    → (n : ℕ) (k : Order) → get_elem? port.view.orders n ≡ some k
+    → (place : Place) (page : Span) → IsLive k place page
+    → (j : ℕ) (other : PortState) → get_elem? s.views j ≡ some other.view
+    → other.view.hart < length (layout_of c).spares
+    → is_in other.view.hart k.collected ≡ true
     → IsWithin other.tlb.entries other.view.entries → TranslateNone c other.tlb.entries place page
 
 -- An unmapping that is accepted leaves under its ticket an open order that is live, of that page of

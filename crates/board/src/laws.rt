@@ -2,7 +2,7 @@
 //! clause is the fact.
 
 ghost use Rattle.std.specs.Prelude.{◌≡◌, [], ◌∷◌};
-ghost use Rattle.board.specs.Promises.{AcceptedUnmappingIsLive, DoneIsClean, TranslateNoneHoldsNone};
+ghost use Rattle.board.specs.Promises.{AcceptedUnmappingIsLive, CollectedStaysClean, DoneIsClean, TranslateNoneHoldsNone};
 ghost use Rattle.board.specs.Reports.{pairs_of};
 
 /// The pairs of three harts, in the order of a report.
@@ -15,6 +15,14 @@ pub fn pairs_of_three_harts()
 /// place, until the home maps a leaf over it.
 pub fn done_is_clean()
     ensures { DoneIsClean }
+{}
+
+/// Once a hart was collected for an unmapping, its TLB translates no address of the page in any
+/// address space of the place, until the home maps a leaf over it. It stays so when the ticket is
+/// finished and used again: the hart stays collected for that order (law
+/// `views::orders_are_kept`).
+pub fn collected_stays_clean()
+    ensures { CollectedStaysClean }
 {}
 
 /// An unmapping that is accepted leaves under its ticket an open order that is live, of that page

@@ -5,7 +5,8 @@ ghost use mathlib.Core.List.{IsPrefix};
 ghost use Rattle.std.specs.Option.{option_map};
 ghost use Rattle.rings.specs.Ends.{after_close};
 ghost use Rattle.shoot.specs.declared.TheConstants.{MAX_TICKETS};
-ghost use Rattle.shoot.specs.Tickets.{is_open};
+ghost use Rattle.shoot.specs.Tickets.{is_open, what_at};
+ghost use Rattle.views.specs.OrderTurns.{IsAwaiting};
 ghost use Rattle.board.specs.Ports.{element, end_of_outbox, end_of_inbox};
 ghost use Rattle.board.specs.Answers.{acked_by, outbox_refusal, outbox_with, inbox_with, known_room, known_waiting, is_closed_to};
 
@@ -86,8 +87,15 @@ fn request(ticket: u32, what: &What) -> Request
     }
 }
 
-/// Posts to an end, if it is there.
-fn post_to(outbox: &mut Option<Outbox>, request: Request) -> Result<(), Refusal>
+/// Posts to the end of a hart, if it is there. The hart's cell is armed for the request.
+fn post_to(
+    outbox: &mut Option<Outbox>,
+    seat: &Seat,
+    config: &Config,
+    to: u8,
+    request: Request,
+) -> Result<(), Refusal>
+    requires armed { IsAwaiting config.now seat.now.me.0 request.ticket to request.what }
     ensures refused { (refusal : Refusal) → outbox_refusal outbox.old ≡ Some refusal
         → result ≡ Err refusal }
     ensures full { outbox_refusal outbox.old ≡ None
@@ -97,6 +105,9 @@ fn post_to(outbox: &mut Option<Outbox>, request: Request) -> Result<(), Refusal>
     ensures unchanged { OnErr result (outbox.new ≡ outbox.old) }
     ensures same { option_map end_of_outbox outbox.new ≡ option_map end_of_outbox outbox.old }
 {
+    let _seat = seat;
+    let _config = config;
+    let _to = to;
     let Some(outbox) = outbox else {
         return Err(Refusal::NoHart);
     };
@@ -142,10 +153,17 @@ fn is_closed(outbox: &Option<Outbox>) -> bool
     }
 }
 
-/// Posts to one of the ends.
+/// Posts to one of the ends. The cell of its hart is armed for the request.
 #[tactic(auto, using(crate::proofs::Counts::outboxes_kept, crate::proofs::Counts::there_set, crate::proofs::Counts::put_back))]
-fn post_at(outboxes: &mut Vec<Option<Outbox>>, to: u8, request: Request) -> Result<(), Refusal>
-    requires { to < length outboxes.old.items }
+fn post_at(
+    outboxes: &mut Vec<Option<Outbox>>,
+    seat: &Seat,
+    config: &Config,
+    to: u8,
+    request: Request,
+) -> Result<(), Refusal>
+    requires there { to < length outboxes.old.items }
+    requires armed { IsAwaiting config.now seat.now.me.0 request.ticket to request.what }
     ensures refused { (refusal : Refusal)
         → outbox_refusal (element outboxes.old.items to) ≡ Some refusal → result ≡ Err refusal }
     ensures full { outbox_refusal (element outboxes.old.items to) ≡ None
@@ -160,7 +178,7 @@ fn post_at(outboxes: &mut Vec<Option<Outbox>>, to: u8, request: Request) -> Resu
         ≡ map (option_map end_of_outbox) outboxes.old.items }
 {
     let outbox = &mut outboxes[usize::from(to)];
-    post_to(outbox, request)
+    post_to(outbox, seat, config, to, request)
 }
 
 /// Why an end refuses a post, whatever its ring has room for.
@@ -439,6 +457,9 @@ impl HartPort {
         ensures request { ticket_refusal self.now ticket to ≡ None
             → result ≡ Ok (request_of self.now.tickets ticket) }
         ensures allowed { OnOk result (ticket_refusal self.now ticket to ≡ None) }
+        ensures ticket { IfOk result (λ request. request.ticket ≡ ticket) }
+        ensures what { IfOk result (λ request. what_at self.now.tickets ticket
+            ≡ Some request.what) }
         ensures names { OnOk result (IsTrue (names self.now.tickets ticket to)) }
         ensures there { OnOk result (to < length self.now.outboxes) }
         ensures spare { OnOk result (to < length self.now.setup.layout.spares) }
@@ -492,7 +513,7 @@ impl HartPort {
             ..
         } = self;
         arm(&memory.shared, seat, config, *hart, ticket, to);
-        post_at(outboxes, to, request)?;
+        post_at(outboxes, seat, config, to, request)?;
         tickets.posted(ticket, to);
         Ok(())
     }

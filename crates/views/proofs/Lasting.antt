@@ -1,5 +1,5 @@
 -- What each step leaves of the orders, and where the cells stand.
-use Rattle.std.proofs.Common.{◌≡◌, ℕ, zero, suc, ◌+◌, ◌*◌, ◌<◌, ◌||◌, ◌==◌, ◌/◌, Bool, true, false, cond, List, [], ◌∷◌, length, map, is_some, Some, sym, refl, ap, ◌∙◌, inl, inr, arith}
+use Rattle.std.proofs.Common.{◌≡◌, ℕ, zero, suc, ◌+◌, ◌*◌, ◌<◌, ◌||◌, ◌==◌, ◌/◌, Bool, true, false, cond, List, [], ◌∷◌, length, map, is_some, Some, subst, sym, refl, ap, ◌∙◌, inl, inr, arith}
 use Rattle.std.proofs.lemmas.Bool.{and_parts, eq-eqb, eqb-true, or_cases, false≢true}
 use Rattle.std.proofs.lemmas.Nat.{div-mul-add}
 use Rattle.std.specs.Prelude.{Contains, ◌⊎◌, ◌%◌, None, if◌then◌else◌}
@@ -25,12 +25,12 @@ use Rattle.views.specs.declared.view.Cause.{Cause}
 use Rattle.views.specs.declared.view.Cause.TheVariants.{Unmapped, Other}
 use Rattle.views.specs.declared.view.Order.{Order}
 use Rattle.views.specs.declared.view.View.{View}
-use Rattle.views.specs.Orders.{IsAsidFor, asid_of_space, lies_over}
+use Rattle.views.specs.Orders.{IsAsidFor, asid_of_space, is_in, lies_over}
 use Rattle.spaces.specs.Layout.{layout_of}
 use Rattle.views.specs.Rule.{cell}
 use Rattle.shoot.proofs.AcknowledgementWords.{not_zero}
 use Rattle.views.specs.OrderTurns.{armed, last_word, looked, collected, for_ticket, fresh, marked, order_of_ticket, noted}
-use Rattle.views.specs.Lasting.{CellsAreApart, CellsMeet, EditsMarkNothing, IsFor, KernelIsInEverySpace, MarkedByALeafOver, StepsMarkNothing, TranslatesNoneHoldsNone, UnmappingBeginsLive, WalkAnswersAsComputed, WrongAddressChangesNothing, last_cell, unmarked}
+use Rattle.views.specs.Lasting.{AreKept, CellsAreApart, CellsMeet, EditsKeepOrders, EditsMarkNothing, Follows, IsFor, KernelIsInEverySpace, MarkedByALeafOver, StepsKeepOrders, StepsMarkNothing, TranslatesNoneHoldsNone, UnmappingBeginsLive, WalkAnswersAsComputed, WrongAddressChangesNothing, last_cell, unmarked}
 use Rattle.views.proofs.CellKeeps.{cell-inside}
 use Rattle.views.proofs.OrderKeeps.{receiver}
 
@@ -117,6 +117,83 @@ marked-over c v ticket store place page ppn flags n k k' at at' was now = by (is
 pub marked_by_a_leaf_over : MarkedByALeafOver
 marked_by_a_leaf_over c v ticket store place page ppn flags =
     (kept-by-a-map place page v.orders (is_some (pointed (Some store.word))), λ n k k' at at' was now. marked-over c v ticket store place page ppn flags n k k' at at' was now)
+
+follows-itself : (k : Order) → Follows k k
+follows-itself k = (refl, refl, (λ h is. is), λ h is. is)
+
+-- a hart that is among some is among one more
+still-in : (h to : ℕ) (hs : List ℕ) → is_in h hs ≡ true → is_in h (to ∷ hs) ≡ true
+still-in h to hs is = by (to == h)
+  where
+    by : (t : Bool) → (t || is_in h hs) ≡ true
+    by true = refl
+    by false = is
+
+armed-follows : (to : ℕ) (k : Order) → Follows k (armed to k)
+armed-follows to k = (refl, refl, (λ h is. still-in h to k.armed is), λ h is. is)
+
+collected-follows : (from : ℕ) (k : Order) → Follows k (collected from k)
+collected-follows from k = (refl, refl, (λ h is. is), λ h is. still-in h from k.collected is)
+
+-- an order that follows stands there
+abbrev FollowsAt : List Order → ℕ → Order → Type 0
+FollowsAt later m k = (k' : Order) × (get_elem? later m ≡ some k') × Follows k k'
+
+-- each order stands where it stood, or one place further down
+in-place : (ks later : List Order) → ((n : ℕ) (k : Order) → get_elem? ks n ≡ some k → FollowsAt later n k) → AreKept 0 ks later
+in-place ks later each n k at =
+    let same : n ≡ 0 + n = omega arith in
+    subst (λ (m : ℕ). FollowsAt later m k) same (each n k at)
+
+further-down : (x : Order) (ks : List Order) → AreKept 1 ks (x ∷ ks)
+further-down x ks n k at =
+    let next : suc n ≡ 1 + n = omega arith in
+    subst (λ (m : ℕ). FollowsAt (x ∷ ks) m k) next (k, at, follows-itself k)
+
+all-kept : (ks : List Order) → AreKept 0 ks ks
+all-kept ks = in-place ks ks (λ n k at. (k, at, follows-itself k))
+
+-- a change of the open order of a ticket, where the order changed follows it, keeps all orders
+ticket-kept : (ticket : ℕ) (f : Order → Order) → ((k : Order) → Follows k (f k)) → (ks : List Order) (n : ℕ) (k : Order) → get_elem? ks n ≡ some k → FollowsAt (for_ticket ticket f ks) n k
+ticket-kept ticket f follows [] n k at = absurd (some-ne-none k (sym at))
+ticket-kept ticket f follows (x ∷ xs) n k at = by (x.ticket == ticket) n at (ticket-kept ticket f follows xs)
+  where
+    by : (t : Bool) (m : ℕ) → get_elem? (x ∷ xs) m ≡ some k → ((m : ℕ) (k : Order) → get_elem? xs m ≡ some k → FollowsAt (for_ticket ticket f xs) m k)
+        → FollowsAt (cond t (f x ∷ xs) (x ∷ for_ticket ticket f xs)) m k
+    by true zero here more = (f x, refl, subst (λ (y : Order). Follows y (f x)) (some-injective x k here) (follows x))
+    by true (suc m) there more = (k, there, follows-itself k)
+    by false zero here more = (k, here, follows-itself k)
+    by false (suc m) there more = more m k there
+
+-- and so does a mark
+marks-kept : (place : Place) (page : Span) (ks : List Order) (n : ℕ) (k : Order) → get_elem? ks n ≡ some k → FollowsAt (map (marked place page) ks) n k
+marks-kept place page [] n k at = absurd (some-ne-none k (sym at))
+marks-kept place page (x ∷ xs) zero k at = (marked place page x, refl, subst (λ (y : Order). Follows y (marked place page x)) (some-injective x k at) (refl, refl, (λ h is. is), λ h is. is))
+marks-kept place page (x ∷ xs) (suc n) k at = marks-kept place page xs n k at
+
+pub steps_keep_orders : StepsKeepOrders
+steps_keep_orders v ticket hart word what is_found root st reads = (
+  with-change (armed hart) (armed-follows hart),
+  all-kept v.orders,
+  look is_found,
+  with-change (collected v.hart) (collected-follows v.hart),
+  all-kept v.orders,
+  further-down _ v.orders,
+)
+  where
+    with-change : (f : Order → Order) → ((k : Order) → Follows k (f k)) → AreKept 0 v.orders (for_ticket ticket f v.orders)
+    with-change f follows = in-place v.orders (for_ticket ticket f v.orders) (ticket-kept ticket f follows v.orders)
+
+    look : (t : Bool) → AreKept 0 v.orders (cond t (record v { orders = for_ticket ticket (collected hart) v.orders }) v).orders
+    look true = with-change (collected hart) (collected-follows hart)
+    look false = all-kept v.orders
+
+pub edits_keep_orders : EditsKeepOrders
+edits_keep_orders c v ticket store place page ppn flags = (by (is_some (pointed (Some store.word))), further-down _ v.orders, further-down _ v.orders)
+  where
+    by : (t : Bool) → AreKept 0 v.orders (cond t v.orders (map (marked place page) v.orders))
+    by true = all-kept v.orders
+    by false = in-place v.orders (map (marked place page) v.orders) (marks-kept place page v.orders)
 
 pub kernel_is_in_every_space : KernelIsInEverySpace
 kernel_is_in_every_space c asid = (tt, λ s. (λ is. is, λ is. is))

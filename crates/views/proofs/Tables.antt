@@ -1,5 +1,5 @@
 -- What the rule says of the table words.
-use Rattle.std.proofs.Common.{◌≡◌, ℕ, Some, refl, subst, sym, inl, inr}
+use Rattle.std.proofs.Common.{◌≡◌, ℕ, Some, refl, subst, sym, inl, inr, arith}
 use mathlib.Core.Option.{some}
 use lib.ListN.{get_elem?}
 use Rattle.atomic_table.specs.Table.{State}
@@ -17,7 +17,10 @@ as-said c s b h f i home = by (b.every h)
   where
     by : Sits s.views h → IsAsSaid c s h f i
     by (seated j v at is) = let t = b.each j v at in inl (j, v, at, is, t.own f i (subst (λ k. IsAtHome (layout_of c) k f) (sym is) home))
-    by (waits j v at some' from) = inr (b.undealt j v at some' h f i from home)
+    by (waits j v at some' from) = inr (
+      (λ k w at-w is. let less = (b.deals j k v w at at-w some').0 in omega (arith, less, from, is)),
+      b.undealt j v at some' h f i from home,
+    )
 
 pub walk-leads : (c : Config) (s : State ℕ View) → Tabled c s → (j : ℕ) (v : View) (st : Stage) → get_elem? s.views j ≡ some v → v.walk ≡ Some st
     → IsWalk c.scheme (tables_in (layout_of c) s.words) v.root v.reads st

@@ -121,9 +121,11 @@ EqualWordsAskForEqualService =
     (a d : What) → IsAskable a → IsAskable d → acknowledgement a ≡ acknowledgement d
     → (entries : List Entry) → after_service entries a ≡ after_service entries d
 
--- a word of a frame is as the view of this hart says, or as at the opening
+-- a word of a frame is as the view of this hart says, or as at the opening where no view is this
+-- hart's
 abbrev pub IsAsSaid : Config → State ℕ View → ℕ → ℕ → ℕ → Type 0
 IsAsSaid c s h f i =
     ((j : ℕ) × (v : View) × (get_elem? s.views j ≡ some v) × (v.hart ≡ h)
     × (tables_in (layout_of c) s.words f i ≡ memory_words (memory_of (layout_of c) v) f i))
-    ⊎ (tables_in (layout_of c) s.words f i ≡ opening (layout_of c) f i)
+    ⊎ (((j : ℕ) (v : View) → get_elem? s.views j ≡ some v → ¬ (v.hart ≡ h))
+    × (tables_in (layout_of c) s.words f i ≡ opening (layout_of c) f i))

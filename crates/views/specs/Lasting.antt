@@ -34,7 +34,7 @@ use Rattle.views.specs.declared.view.Read.{Read}
 use Rattle.views.specs.declared.view.View.{View}
 use Rattle.views.specs.Rule.{Has, cell, size, board_size}
 use Rattle.shoot.specs.declared.TheConstants.{MAX_TICKETS}
-use Rattle.views.specs.Orders.{IsAsidFor, IsLive, asid_for, asid_of_space}
+use Rattle.views.specs.Orders.{IsAsidFor, IsLive, asid_for, asid_of_space, is_in}
 use Rattle.views.specs.OrderTurns.{acknowledged, last_word, looked, noted, order_of_ticket, ordered, self_acked, with_armed}
 use Rattle.views.specs.Turns.{walked}
 use Rattle.views.specs.Walks.{AnswersByLoads, Walked}
@@ -96,6 +96,42 @@ MarkedByALeafOver =
     → get_elem? (noted c (Map place page ppn flags) ticket v store).orders n ≡ some k'
     → k.anew ≡ false → k'.anew ≡ true
     → (over : Span) × (k.cause ≡ Unmapped place over) × Overlap over page)
+
+-- an order later: of the same ticket, after the same cause, and with no hart taken from those whose
+-- cells were armed for it or from those that were collected
+abbrev pub Follows : Order → Order → Type 0
+Follows k later =
+    (later.ticket ≡ k.ticket) × (later.cause ≡ k.cause)
+    × ((h : ℕ) → is_in h k.armed ≡ true → is_in h later.armed ≡ true)
+    × ((h : ℕ) → is_in h k.collected ≡ true → is_in h later.collected ≡ true)
+
+-- so many orders began; each that stood before stands that many places further down, as it is later
+abbrev pub AreKept : ℕ → List Order → List Order → Type 0
+AreKept begun ks later =
+    (n : ℕ) (k : Order) → get_elem? ks n ≡ some k
+    → (k' : Order) × (get_elem? later (begun + n) ≡ some k') × Follows k k'
+
+-- arming, serving, looking for an acknowledgement, acknowledging oneself and walking keep each
+-- order where it stands, and an order that follows no store begins before them
+abbrev pub StepsKeepOrders : Type 0
+StepsKeepOrders =
+    (v : View) (ticket hart word : ℕ) (what : What) (is_found : Bool) (root : ℕ) (st : Stage)
+    (reads : List Read) →
+    AreKept 0 v.orders (with_armed ticket hart v).orders
+    × AreKept 0 v.orders (acknowledged hart ticket what v).orders
+    × AreKept 0 v.orders (looked ticket hart is_found word v).orders
+    × AreKept 0 v.orders (self_acked ticket what v).orders
+    × AreKept 0 v.orders (walked v root st reads word).orders
+    × AreKept 1 v.orders (ordered ticket what v).orders
+
+-- so does the store of an edit: a map begins no order, and each other edit one
+abbrev pub EditsKeepOrders : Type 0
+EditsKeepOrders =
+    (c : Config) (v : View) (ticket : ℕ) (store : Store) (place : Place) (page : Span) (ppn : ℕ)
+    (flags : PteFlags) →
+    AreKept 0 v.orders (noted c (Map place page ppn flags) ticket v store).orders
+    × AreKept 1 v.orders (noted c (Unmap place page) ticket v store).orders
+    × AreKept 1 v.orders (noted c (Protect place page flags) ticket v store).orders
 
 -- the kernel is in the address spaces of all ASIDs, and a space in that of its own alone
 abbrev pub KernelIsInEverySpace : Type 0

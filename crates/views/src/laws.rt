@@ -12,7 +12,7 @@ ghost use Rattle.spaces.specs.Tree.{IsAtHome, IsTree};
 ghost use Rattle.views.specs.declared.view.View.{View};
 ghost use Rattle.views.specs.Rule.{Has, tables_in};
 ghost use Rattle.views.specs.Board.{AcknowledgedIsClean, Board, CollectedIsClean, EqualWordsAskForEqualService, IsAsSaid, LeavesAreGlobalInWindow, MappingsAreGlobalInWindow, UnmappedIsWhereNoLeafLeads, UnmappedStaysUnmapped, own_words, shared_words};
-ghost use Rattle.views.specs.Lasting.{CellsAreApart, CellsMeet, EachEditIsOneStore, EditsMarkNothing, KernelIsInEverySpace, MarkedByALeafOver, StepsMarkNothing, TranslatesNoneHoldsNone, UnmappingBeginsLive, WalkAnswersAsComputed, WrongAddressChangesNothing};
+ghost use Rattle.views.specs.Lasting.{CellsAreApart, CellsMeet, EachEditIsOneStore, EditsKeepOrders, EditsMarkNothing, KernelIsInEverySpace, MarkedByALeafOver, StepsKeepOrders, StepsMarkNothing, TranslatesNoneHoldsNone, UnmappingBeginsLive, WalkAnswersAsComputed, WrongAddressChangesNothing};
 
 /// Once a hart was collected for an unmapping whose page is not mapped anew, what it filled
 /// translates no address of the page in any address space of the place.
@@ -33,7 +33,8 @@ pub fn window_is_global()
     ensures mappings { MappingsAreGlobalInWindow }
 {}
 
-/// That nothing in a page is mapped is that no leaf leads at an address of the page.
+/// That nothing in a page is mapped is that no aligned leaf leads at an address of the page. A leaf
+/// that is not aligned raises a page fault, and maps nothing.
 pub fn unmapped_is_where_no_leaf_leads()
     ensures { UnmappedIsWhereNoLeafLeads }
 {}
@@ -51,7 +52,7 @@ pub fn equal_words_ask_for_equal_service()
     ensures { EqualWordsAskForEqualService }
 {}
 
-/// Each table word is as its home's view says, or as at the opening while its home has no seat yet.
+/// Each table word is as its home's view says, or as at the opening where its home has no seat yet.
 pub fn each_table_word_is_as_its_home_says()
     ensures { (c : Config) (s : State ℕ View) → Board c s → (h f i : ℕ) → IsAtHome (layout_of c) h f
         → IsAsSaid c s h f i }
@@ -91,6 +92,14 @@ pub fn only_a_leaf_over_the_page_marks_anew()
     ensures steps { StepsMarkNothing }
     ensures edits { EditsMarkNothing }
     ensures leaf { MarkedByALeafOver }
+{}
+
+/// No step drops an order: each stays where it stands, or one place further down where an order
+/// begins. Its ticket and its cause stay, and none takes a hart from those whose cells were armed
+/// for it or from those that were collected, also when the ticket is used again.
+pub fn orders_are_kept()
+    ensures steps { StepsKeepOrders }
+    ensures edits { EditsKeepOrders }
 {}
 
 /// A page of the kernel is in the address space of every ASID, and one of a space in that of its

@@ -1,10 +1,16 @@
-use Rattle.std.proofs.Common.{rules, sym, subst, false, ◌≡◌, ◌≢◌, ◌∙◌}
+use Rattle.std.proofs.Common.{rules, sym, subst, Some, false, ◌≡◌, ◌≢◌, ◌∙◌}
 use Rattle.std.specs.Prelude.{IsTrue}
-use Rattle.shoot.specs.Tickets.{ticket_posted, names}
+use Rattle.shoot.specs.Tickets.{ticket_posted, names, what_at}
 use Rattle.board.specs.Ports.{PortState}
 use Rattle.std.specs.Arc.{arc_value}
-use Rattle.board.proofs.Ties.{counted_posted, tied_armed, tied_posted}
+use Rattle.board.proofs.Ties.{asking, counted_posted, tied_armed, tied_posted}
 use Rattle.board.proofs.port.HartPort.post.Goals as goal
+
+pub post_at-requires-clause-armed : goal.post_at-requires-clause-armed
+post_at-requires-clause-armed c =
+    let what = subst (λ (p : PortState). what_at p.tickets c.args.ticket ≡ Some c.in_ok-request.request.what) (sym c.self.view_is) c.in_ok-request.ensures.what in
+    let asks = asking (arc_value c.self.inside.config) c.self.inside.seat.me.0 c.self.inside.tickets c.args.ticket c.in_ok-request.request.what what c.self.invariant.4 in
+    rw (c.deref-3.ensures, sym c.deref-2.ensures, c.in_ok-request.ensures.ticket) (c.arm.ensures.awaits c.in_ok-request.request.what (rw c.deref-2.ensures asks))
 
 pub invariant_of-self : goal.invariant_of-self
 invariant_of-self c =
