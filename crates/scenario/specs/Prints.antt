@@ -75,7 +75,7 @@ IsUnprinted TooLarge read = ⊥
 IsUnprinted NoThread read = fault_in read ≡ None
 IsUnprinted (Refused fault) read = Fails fault read
 
--- what `stale` prints: a line for each step that makes mappings stale and each access that one
+-- what `stale` prints: lines of the mappings that become stale and of the accesses that a stale one
 -- answers, in the order of the steps
 abbrev pub PrintsStale : RunPlan → List ℕ → Type 0
 PrintsStale plan lines = (used : Bool) × PrintsItems (setup_of plan.config) plan.events lines used

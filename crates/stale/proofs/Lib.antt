@@ -6,6 +6,7 @@ pub mod Acked
 pub mod Telling
 pub mod Unmapping
 pub mod Adding
+pub mod Ordering
 pub mod Changed
 pub mod NoEdit
 pub mod UnderLeaf

@@ -1,6 +1,6 @@
 -- What is told of a run: the mappings that become stale step by step, and the stale ones that are
 -- used.
-use Rattle.std.specs.Prelude.{ℕ, Bool, false, ◌≡◌, ◌+◌, ◌<◌, List, length, Option, Some, None, slice_get, Contains}
+use Rattle.std.specs.Prelude.{ℕ, Bool, false, ◌≡◌, ◌+◌, ◌<◌, ◌≤◌, List, length, Option, Some, None, slice_get, All, AllPairs, Contains}
 use Rattle.tlb.specs.declared.store.Entry.{Entry}
 use Rattle.tlb.specs.Mappings.{Mapping, LiesIn, IsMappingOf}
 use Rattle.history.specs.Setup.{Setup}
@@ -54,6 +54,15 @@ IsToldUse items n hart m = IsAmong items n (λ item. TellsUse item hart m)
 
 abbrev pub IsToldOrder : List StaleAt → ℕ → ℕ → ℕ → Type 0
 IsToldOrder items n home ticket = IsAmong items n (λ item. TellsOrder item home ticket)
+
+-- the steps of the items never decrease
+abbrev pub InOrder : List StaleAt → Type 0
+InOrder items = AllPairs (λ earlier later. earlier.step ≤ later.step) items
+
+-- and none is after this one
+pub record InOrderTo (items : List StaleAt) (last : ℕ) : Type 0 where
+  pub in_order : InOrder items
+  pub to : All (λ item. item.step ≤ last) items
 
 -- event n, from 0 on, makes the mapping of the hart stale
 pub record BecomesAt (setup : Setup) (history : History) (events : List Event) (n hart : ℕ)

@@ -11,7 +11,7 @@ ghost use Rattle.stepcore.specs.Stands.{Stands};
 ghost use Rattle.stale.specs.declared.items.StaleAt.{StaleAt as StaleAtOf};
 ghost use Rattle.stale.specs.Stale.{BecomesStale, UsesStale};
 ghost use Rattle.stale.specs.UseRuns.{due_turn};
-ghost use Rattle.stale.specs.Told.{home_in, BecomesBy, IsEditOf, IsOfChange, IsOfEntries, IsOfEntry, IsOfHarts, IsOfUse, IsToldBecoming, IsToldOrder, IsToldUse, OpensBy, UsedBy};
+ghost use Rattle.stale.specs.Told.{home_in, BecomesBy, InOrder, InOrderTo, IsEditOf, IsOfChange, IsOfEntries, IsOfEntry, IsOfHarts, IsOfUse, IsToldBecoming, IsToldOrder, IsToldUse, OpensBy, UsedBy};
 
 use crate::changes::{Change, change_of, is_held, smaller};
 use crate::hits::{StaleUse, stale_use};
@@ -37,8 +37,10 @@ fn tell_entry(
     items: &mut Vec<StaleAt>,
 ) -> Result<(), AllocError>
     requires { opening.now.change.ppn < 2 ^ PPN_BITS }
-    ensures { OnOk result ((item : StaleAtOf) → Contains items.new.items item
+    ensures told { OnOk result ((item : StaleAtOf) → Contains items.new.items item
         ↔ (Contains items.old.items item ⊎ IsOfEntry opening.now hart entry item)) }
+    ensures in_order { OnOk result (InOrderTo items.old.items opening.now.step
+        → InOrderTo items.new.items opening.now.step) }
 {
     let Some(entry) = entry else {
         return Ok(());
@@ -67,9 +69,11 @@ fn tell_tlb(
     items: &mut Vec<StaleAt>,
 ) -> Result<(), AllocError>
     requires { opening.now.change.ppn < 2 ^ PPN_BITS }
-    ensures { OnOk result ((item : StaleAtOf) → Contains items.new.items item
+    ensures told { OnOk result ((item : StaleAtOf) → Contains items.new.items item
         ↔ (Contains items.old.items item ⊎ IsOfEntries opening.now hart tlb.now.entries
         (length tlb.now.entries) item)) }
+    ensures in_order { OnOk result (InOrderTo items.old.items opening.now.step
+        → InOrderTo items.new.items opening.now.step) }
 {
     for age in 0..tlb.len() {
         tell_entry(opening, hart, tlb.entry(age), items)?;
@@ -84,9 +88,11 @@ fn tell_tlbs(
     items: &mut Vec<StaleAt>,
 ) -> Result<(), AllocError>
     requires { opening.now.change.ppn < 2 ^ PPN_BITS }
-    ensures { OnOk result ((item : StaleAtOf) → Contains items.new.items item
+    ensures told { OnOk result ((item : StaleAtOf) → Contains items.new.items item
         ↔ (Contains items.old.items item ⊎ IsOfHarts machine.now opening.now
         (length machine.now.harts) item)) }
+    ensures in_order { OnOk result (InOrderTo items.old.items opening.now.step
+        → InOrderTo items.new.items opening.now.step) }
 {
     for hart in 0..machine.harts() {
         tell_tlb(opening, hart, machine.hart(hart).tlb(), items)?;
@@ -115,9 +121,11 @@ fn tell_change(
     items: &mut Vec<StaleAt>,
 ) -> Result<(), AllocError>
     requires { IfSome change (λ change. change.ppn < 2 ^ PPN_BITS) }
-    ensures { OnOk result ((item : StaleAtOf) → Contains items.new.items item
+    ensures told { OnOk result ((item : StaleAtOf) → Contains items.new.items item
         ↔ (Contains items.old.items item ⊎ IsOfChange machine.now change home step
         (opened_ticket reply.now) item)) }
+    ensures in_order { OnOk result (InOrderTo items.old.items step
+        → InOrderTo items.new.items step) }
 {
     let Some(change) = change else {
         return Ok(());
@@ -136,8 +144,10 @@ fn tell_change(
 
 /// Tells a use, if there is one.
 fn tell_use(used: Option<StaleUse>, step: usize, items: &mut Vec<StaleAt>) -> Result<(), AllocError>
-    ensures { OnOk result ((item : StaleAtOf) → Contains items.new.items item
+    ensures told { OnOk result ((item : StaleAtOf) → Contains items.new.items item
         ↔ (Contains items.old.items item ⊎ IsOfUse used step item)) }
+    ensures in_order { OnOk result (InOrderTo items.old.items step
+        → InOrderTo items.new.items step) }
 {
     if let Some(used) = used {
         items.push(StaleAt {
@@ -176,6 +186,8 @@ pub fn step_stale(
         → Stands setup machine.old history → IsToldOrder items.new.items n home ticket
         → IsToldOrder items.old.items n home ticket ⊎ ((n ≡ step) × IsEditOf home event
         × (opened_ticket (due setup history event) ≡ Some ticket))) }
+    ensures in_order { OnOk result (InOrderTo items.old.items step
+        → InOrderTo items.new.items step) }
 {
     let change = change_of(machine, &event);
     let reply = machine.step(event);
@@ -185,8 +197,8 @@ pub fn step_stale(
     Ok(reply)
 }
 
-/// Does the events in order, and tells step by step what becomes stale and what stale mappings are
-/// used. An error comes only if there is no memory for it.
+/// Does the events in order, and tells what becomes stale and what stale mappings are used: items
+/// in the order of the steps. An error comes only if there is no memory for it.
 pub fn stale_report(
     alloc: Global,
     machine: &mut Machine,
@@ -203,6 +215,7 @@ pub fn stale_report(
         (number home ticket : ℕ) → Stands setup machine.old history
         → IsToldOrder items.items number home ticket
         → OpensBy setup history events.now number home ticket) }
+    ensures in_order { IfOk result (λ items. InOrder items.items) }
 {
     let mut items = Vec::new(alloc);
     let mut step = 0;

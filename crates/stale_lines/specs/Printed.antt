@@ -4,14 +4,16 @@ use Rattle.tlb.specs.Mappings.{Mapping}
 use Rattle.history.specs.Setup.{Setup}
 use Rattle.history.specs.declared.event.Event.{Event}
 use Rattle.stale.specs.declared.items.StaleAt.{StaleAt}
-use Rattle.stale.specs.Told.{BecomesBy, IsToldBecoming, IsToldOrder, IsToldUse, OpensBy, UsedBy}
+use Rattle.stale.specs.Told.{BecomesBy, InOrder, IsToldBecoming, IsToldOrder, IsToldUse, OpensBy, UsedBy}
 use Rattle.stale_lines.specs.StaleLines.{stale_lines, uses_in}
 
 -- the lines are those of items that tell each mapping that becomes stale and each stale one that is
--- used, and no other, by the number of the step; and `used` says whether one is
+-- used, and no other, by the number of the step and in the order of the steps; and `used` says
+-- whether one is
 pub record Prints (C : Setup) (events : List Event) (lines : List ℕ) (used : Bool) : Type 0 where
   pub items : List StaleAt
   pub are : lines ≡ stale_lines items
+  pub in_order : InOrder items
   pub some_used : IsTrue used ↔ (0 < uses_in items)
   pub becoming : (number h : ℕ) (m : Mapping) → BecomesBy C [] events number h m
       ↔ IsToldBecoming items number h m

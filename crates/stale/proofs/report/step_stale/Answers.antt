@@ -21,8 +21,8 @@ returns-clause-became c = λ C H n h m st.
     let is_due = c.step-reply.ensures.due C H st in
     let after : Stands C now (with_turn event (due C H event) H) = subst (λ (r : Reply). Stands C now (with_turn event r H)) is_due (c.step-reply.ensures.stands C H st) in
     let all = among c.args.items.now.items c.tell_change.new.items.items c.tell_use.new.items.items (IsOfChange now change home step (opened_ticket (due C H event))) (IsOfUse c.stale_use-used.result step)
-    (λ item. subst (λ (r : Reply). Contains c.tell_change.new.items.items item ↔ (Contains c.args.items.now.items item ⊎ IsOfChange now change home step (opened_ticket r) item)) is_due (c.in_ok-tell_change.ensures item))
-    c.in_ok-tell_use.ensures n (λ item. TellsBecoming item h m)
+    (λ item. subst (λ (r : Reply). Contains c.tell_change.new.items.items item ↔ (Contains c.args.items.now.items item ⊎ IsOfChange now change home step (opened_ticket r) item)) is_due (c.in_ok-tell_change.ensures.told item))
+    c.in_ok-tell_use.ensures.told n (λ item. TellsBecoming item h m)
     in
     let by = becoming_by C H event step now after change c.change_of-change.ensures.page home (λ t k p opened. c.change_of-change.ensures.changed C H t k p st after.pages.1 opened) change
     (opened_ticket (due C H event)) refl refl (edit_ticket event (due C H event)) after.pages.1 n h m
@@ -44,8 +44,8 @@ returns-clause-used c = λ C H n h m st.
     let used = c.stale_use-used.result in
     let is_due = c.step-reply.ensures.due C H st in
     let all = among c.args.items.now.items c.tell_change.new.items.items c.tell_use.new.items.items (IsOfChange now change home step (opened_ticket (due C H event))) (IsOfUse used step)
-    (λ item. subst (λ (r : Reply). Contains c.tell_change.new.items.items item ↔ (Contains c.args.items.now.items item ⊎ IsOfChange now change home step (opened_ticket r) item)) is_due (c.in_ok-tell_change.ensures item))
-    c.in_ok-tell_use.ensures n (λ item. TellsUse item h m)
+    (λ item. subst (λ (r : Reply). Contains c.tell_change.new.items.items item ↔ (Contains c.args.items.now.items item ⊎ IsOfChange now change home step (opened_ticket r) item)) is_due (c.in_ok-tell_change.ensures.told item))
+    c.in_ok-tell_use.ensures.told n (λ item. TellsUse item h m)
     in
     let by = use_steps used step n h m in
     let uses : UsesStale C (record { event = event; reply = due C H event }) H h m ↔ Tells used h m =
@@ -70,8 +70,8 @@ returns-clause-orders c = λ C H n home ticket st t.
     let is_due = c.step-reply.ensures.due C H st in
     let all = among c.args.items.now.items c.tell_change.new.items.items c.tell_use.new.items.items (IsOfChange now change c.home_of.result step (opened_ticket (due C H event))) (IsOfUse c.stale_use-used.result step)
     (λ item. subst (λ (r : Reply). Contains c.tell_change.new.items.items item ↔ (Contains c.args.items.now.items item ⊎ IsOfChange now change c.home_of.result step (opened_ticket r) item)) is_due
-    (c.in_ok-tell_change.ensures item))
-    c.in_ok-tell_use.ensures n (λ item. TellsOrder item home ticket)
+    (c.in_ok-tell_change.ensures.told item))
+    c.in_ok-tell_use.ensures.told n (λ item. TellsOrder item home ticket)
     in
     elim (all.0 t) [
       | inl old ↦ inl old

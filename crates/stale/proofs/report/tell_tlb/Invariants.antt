@@ -1,5 +1,9 @@
+use Rattle.stale.specs.Told.{InOrderTo}
 use Rattle.stale.proofs.Adding.{ToldEntries}
 use Rattle.stale.proofs.report.tell_tlb.Given as goal
 
 abbrev pub invariant-loop-age : goal.invariant-loop-age
-invariant-loop-age l = ToldEntries l.opening l.fn.items.items l.hart l.tlb.entries l.age l.items.items
+invariant-loop-age l = record {
+  told : ToldEntries l.opening l.fn.items.items l.hart l.tlb.entries l.age l.items.items;
+  in_order : InOrderTo l.fn.items.items l.opening.step → InOrderTo l.items.items l.opening.step;
+}

@@ -16,6 +16,7 @@ returns-clause-prints c =
     record {
       items = items;
       are = c.in_ok-text.ensures ∙ ap stale_lines c.as_slice-2.ensures.value;
+      in_order = c.in_ok-items.ensures.in_order;
       some_used = (λ t. subst (λ n. 0 < n) same (ltb-true 0 c.uses_in.result t), λ less. lt-ltb 0 c.uses_in.result (subst (λ n. 0 < n) (sym same) less));
       becoming = λ number h m. subst (λ (es : List Event). BecomesBy C [] es number h m ↔ IsToldBecoming items number h m) events
           (c.in_ok-items.ensures.became C [] number h m c.in-Ok.ensures.ok);
