@@ -150,6 +150,7 @@ pub fn nth_taken_is_an_answered_take()
 
 /// A Load goes on exactly if the address leads to one more table below the level that the walk has
 /// come to.
+#[tactic(auto, using(crate::proofs::Walks::goes_on_by))]
 pub fn load_goes_on_over_a_pointer()
     ensures { (setup : Setup) (history : History) (hart : ℕ) (walk : Walking)
         → (goes_on setup history hart walk ≡ true)
@@ -187,6 +188,7 @@ pub fn service_is_from_take_to_ack()
 {}
 
 /// A hart has fenced exactly if a ServeFence by it was accepted and it took no request since.
+#[tactic(auto, using(crate::proofs::Lasting::fences))]
 pub fn fenced_is_since_the_last_take()
     ensures { (history : History) (hart : ℕ) → (has_fenced history hart ≡ true)
         ↔ Since (IsServeFence hart) (IsTake hart) history }

@@ -78,6 +78,7 @@ pub fn load_answers_the_outcome()
 {}
 
 /// Each Load that is answered Filled ended a walk that found a leaf.
+#[tactic(auto, using(crate::proofs::Answering::filled_found))]
 pub fn filled_is_of_what_was_found()
     ensures { (setup : Setup) (history : History) (hart pa : ℕ)
         → Lawful setup (with_turn (Load hart) (reply.Filled pa) history)
@@ -96,6 +97,7 @@ pub fn load_fills_what_was_found()
 {}
 
 /// A fence leaves exactly the entries that SFENCE.VMA with its registers does not take out.
+#[tactic(auto, using(crate::proofs::Leaving::fence_leaves))]
 pub fn fence_leaves_what_it_does_not_name()
     ensures { (setup : Setup) (history : History) (hart : ℕ) (rs1 rs2 : Option ℕ)
         → entries_of setup (with_turn (Fence hart rs1 rs2) reply.Ok history) hart
@@ -104,6 +106,7 @@ pub fn fence_leaves_what_it_does_not_name()
 
 /// The service of a request, of a page of the scheme, leaves exactly the entries that stay under
 /// each fence that the request stands for, in the same order.
+#[tactic(auto, using(crate::proofs::Leaving::service_leaves))]
 pub fn service_leaves_what_stays()
     ensures { (setup : Setup) (history : History) (hart : ℕ) (post : Sent)
         → served setup history hart ≡ Some post → IsRequest setup.layout.scheme post.request.what
@@ -113,6 +116,7 @@ pub fn service_leaves_what_stays()
 
 /// A hart's acknowledgement of its own order, of a page of the scheme, leaves exactly the entries
 /// that stay under each fence that the order stands for, in the same order.
+#[tactic(auto, using(crate::proofs::Leaving::own_leaves))]
 pub fn own_acknowledgement_leaves_what_stays()
     ensures { (setup : Setup) (history : History) (hart ticket number : ℕ) (order : Order)
         (answer : Reply) → open_order history hart ticket ≡ Some number
@@ -124,6 +128,7 @@ pub fn own_acknowledgement_leaves_what_stays()
 
 /// No other turn changes an entry of the hart's TLB: no other event, nothing that is refused, and
 /// no event of another hart.
+#[tactic(auto, using(crate::proofs::Leaving::untouched))]
 pub fn nothing_else_touches_a_tlb()
     ensures { (setup : Setup) (history : History) (hart : ℕ) (turn : Turn)
         → (¬ TouchesTlb hart turn) → entries_of setup (turn ∷ history) hart

@@ -23,6 +23,7 @@ ghost use Rattle.laws.specs.Kept.{HavePages, IsSetup};
 
 /// Once an AckSelf or a Collect was answered Done, each hart that the order names has acknowledged
 /// it.
+#[tactic(auto, using(crate::proofs::Completed::done_acked))]
 pub fn done_order_is_acknowledged_by_each()
     ensures { (setup : Setup) (history : History) (order hart : ℕ) → Lawful setup history
         → Sometime (IsDoneAt order) history → names (order_at setup history order) hart ≡ true
@@ -50,6 +51,7 @@ pub fn order_cut_off_stays_open()
 
 /// A service leaves exactly the entries that stay under each fence that the request stands for, in
 /// the same order.
+#[tactic(auto, using(crate::proofs::Requested::service_stays))]
 pub fn service_leaves_what_its_fences_leave()
     ensures { (setup : Setup) (history : History) (hart : ℕ) (post : Sent) → Lawful setup history
         → HavePages history → served setup history hart ≡ Some post
@@ -59,6 +61,7 @@ pub fn service_leaves_what_its_fences_leave()
 
 /// A hart's acknowledgement of its own order leaves exactly the entries that stay under each fence
 /// that the order stands for, in the same order.
+#[tactic(auto, using(crate::proofs::Requested::own_stays))]
 pub fn own_acknowledgement_leaves_what_its_fences_leave()
     ensures { (setup : Setup) (history : History) (hart ticket number : ℕ) (order : Order)
         (answer : Reply) → Lawful setup history → HavePages history

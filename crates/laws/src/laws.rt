@@ -45,6 +45,7 @@ pub fn orders_are_known()
 {}
 
 /// An order's record never changes.
+#[tactic(auto, using(crate::proofs::Orders::orders_stay))]
 pub fn orders_stay()
     ensures { (setup : Setup) (later earlier : History) (order : ℕ) → order < length earlier
         → order_at setup (later ++ earlier) order ≡ order_at setup earlier order }
@@ -52,6 +53,7 @@ pub fn orders_stay()
 
 /// What is open under a ticket of a hart is an order that this hart opened under this ticket. So
 /// two open orders of a hart have different tickets.
+#[tactic(auto, using(crate::proofs::Orders::open_known))]
 pub fn open_orders_are_of_their_ticket()
     ensures { (setup : Setup) (history : History) (s t order : ℕ) → Lawful setup history
         → open_order history s t ≡ Some order → IsOpenedBy setup history s t order }
@@ -65,6 +67,7 @@ pub fn orders_stay_open_until_finished()
 {}
 
 /// A ticket is finished only once each hart that its order names is collected.
+#[tactic(auto, using(crate::proofs::Live::finished_collected))]
 pub fn finished_ticket_is_collected()
     ensures { (setup : Setup) (turn : Turn) (history : History) (s t order hart : ℕ)
         → Lawful setup (turn ∷ history) → Finishes turn s t → open_order history s t ≡ Some order
@@ -74,12 +77,14 @@ pub fn finished_ticket_is_collected()
 
 /// Each accepted post is of an order of its sender that names the receiver, another hart, and asks
 /// what the request asks.
+#[tactic(auto, using(crate::proofs::Posts::posts_known))]
 pub fn posts_are_of_their_order()
     ensures { (setup : Setup) (history : History) (s hart : ℕ) → Lawful setup history
         → All (IsAcceptedPost setup history s hart) (posts setup history s hart) }
 {}
 
 /// No two accepted posts of a pair are of one order.
+#[tactic(auto, using(crate::proofs::Posts::posts_differ))]
 pub fn posts_of_a_pair_differ()
     ensures { (setup : Setup) (history : History) (s hart : ℕ) → Lawful setup history
         → AllPairs AreOfDifferent (posts setup history s hart) }
@@ -133,12 +138,14 @@ pub fn what_is_served_is_live()
 
 /// A hart that serves a request has no walk in flight: it neither takes in the middle of a walk nor
 /// begins one while it serves.
+#[tactic(auto, using(crate::proofs::Serving::idle))]
 pub fn serving_hart_is_not_walking()
     ensures { (setup : Setup) (history : History) (hart : ℕ) (post : Sent) → Lawful setup history
         → served setup history hart ≡ Some post → walk_of history hart ≡ None }
 {}
 
 /// A hart that has fenced for the request that it serves holds no entry that the request drops.
+#[tactic(auto, using(crate::proofs::Serving::fenced))]
 pub fn fenced_hart_holds_nothing_of_the_request()
     ensures { (setup : Setup) (history : History) (hart : ℕ) (post : Sent) → Lawful setup history
         → served setup history hart ≡ Some post → has_fenced history hart ≡ true
@@ -148,6 +155,7 @@ pub fn fenced_hart_holds_nothing_of_the_request()
 /// The number of posted orders of a pair that are not collected: an accepted Post adds one, a
 /// Collect that finds an acknowledgement that was not collected takes one away, and no other event
 /// changes it.
+#[tactic(auto, using(crate::proofs::Outstanding::counts))]
 pub fn outstanding_counts_posts_and_collects()
     ensures { (setup : Setup) (turn : Turn) (history : History) (s hart : ℕ)
         → Lawful setup (turn ∷ history)
@@ -175,6 +183,7 @@ pub fn collected_request_was_taken()
 {}
 
 /// Each entry of a TLB was filled by a Load of its hart.
+#[tactic(auto, using(crate::proofs::Filling::entries_filled))]
 pub fn entries_were_filled()
     ensures { (setup : Setup) (history : History) (hart : ℕ)
         → All (λ e. Sometime (Fills setup hart e) history) (entries_of setup history hart) }
@@ -190,6 +199,7 @@ pub fn filled_pages_are_mapped()
 {}
 
 /// The turn by which a hart acknowledges an order leaves no entry in its TLB that the order drops.
+#[tactic(auto, using(crate::proofs::Filling::acknowledged))]
 pub fn acknowledgement_leaves_nothing_of_the_request()
     ensures { (setup : Setup) (turn : Turn) (history : History) (order hart : ℕ)
         → Lawful setup (turn ∷ history) → is_acked setup history order hart ≡ false
@@ -199,6 +209,7 @@ pub fn acknowledgement_leaves_nothing_of_the_request()
 {}
 
 /// Of what an order drops, a hart that has acknowledged it holds only entries that it filled since.
+#[tactic(auto, using(crate::proofs::Filling::acknowledged_since))]
 pub fn acknowledged_hart_holds_only_what_it_filled_since()
     ensures { (setup : Setup) (history : History) (order hart : ℕ) → Lawful setup history
         → is_acked setup history order hart ≡ true
@@ -208,6 +219,7 @@ pub fn acknowledged_hart_holds_only_what_it_filled_since()
 
 /// A configuration within the limits, with ASIDs of 16 bits, makes a setup such as the laws of the
 /// tables, of Clear and of Coherent ask for.
+#[tactic(auto, using(crate::proofs::Setups::setup))]
 pub fn limits_give_setup()
     ensures { (c : Configuration) → MeetsLimits MAX_FRAMES c
         → All (λ s. s.asid < 2 ^ ASID_BITS) c.spaces.items → IsSetup (setup_of c) }
@@ -261,6 +273,7 @@ pub fn changed_page_stays_coherent()
 /// The table words are a tree after every lawful history whose events speak of pages, with the
 /// spare frames in use that Maps answered with a new table, but for those of spaces that were
 /// reclaimed since.
+#[tactic(auto, using(crate::proofs::TreeKept::tree))]
 pub fn tables_stay_a_tree()
     ensures { (setup : Setup) → IsLayout setup.layout
         → length setup.asids ≡ length setup.layout.homes
@@ -269,6 +282,7 @@ pub fn tables_stay_a_tree()
 {}
 
 /// An accepted edit makes the store that was due to it, and no other.
+#[tactic(auto, using(crate::proofs::DueStores::due_store_made))]
 pub fn accepted_edit_makes_its_due_store()
     ensures { (setup : Setup) (turn : Turn) (history : History) (hart : ℕ) (wanted : Wish)
         → IsSetup setup → Lawful setup (turn ∷ history) → HavePages history
