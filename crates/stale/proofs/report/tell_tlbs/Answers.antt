@@ -10,9 +10,9 @@ use Rattle.stale.proofs.report.tell_tlbs.Goals as goal
 pub loop-hart-preserved : goal.loop-hart-preserved
 loop-hart-preserved c = record {
   told = next_hart c.args.opening.now c.args.items.now.items c.args.machine.now c.loop-hart.hart c.loop-hart.items.items c.tell_tlb.new.items.items c.loop-hart.invariant.told
-    (λ item. subst (λ (es : List Entry). Contains c.tell_tlb.new.items.items item ↔ (Contains c.loop-hart.items.items item ⊎ IsOfEntries c.args.opening.now c.loop-hart.hart es (length es) item))
-    (ap (λ (t : TlbState). t.entries) c.tlb.ensures ∙ ap (λ (h : HartState). h.entries) c.hart.ensures)
-    (c.in_ok-tell_tlb.ensures.told item));
+      (λ item. subst (λ (es : List Entry). Contains c.tell_tlb.new.items.items item ↔ (Contains c.loop-hart.items.items item ⊎ IsOfEntries c.args.opening.now c.loop-hart.hart es (length es) item))
+      (ap (λ (t : TlbState). t.entries) c.tlb.ensures ∙ ap (λ (h : HartState). h.entries) c.hart.ensures)
+      (c.in_ok-tell_tlb.ensures.told item));
   in_order = λ old. c.in_ok-tell_tlb.ensures.in_order (c.loop-hart.invariant.in_order old);
 }
 
