@@ -15,3 +15,4 @@ pub mod ToldEdit
 pub mod Overlaps
 pub mod Stepping
 pub mod Reporting
+mod Differing

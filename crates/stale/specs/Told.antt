@@ -1,6 +1,6 @@
 -- What is told of a run: the mappings that become stale step by step, and the stale ones that are
 -- used.
-use Rattle.std.specs.Prelude.{ℕ, Bool, false, ◌≡◌, ◌+◌, ◌<◌, ◌≤◌, List, length, Option, Some, None, slice_get, All, AllPairs, Contains}
+use Rattle.std.specs.Prelude.{ℕ, Bool, false, ◌≡◌, ◌≢◌, ◌+◌, ◌<◌, ◌≤◌, List, length, Option, Some, None, slice_get, All, AllPairs, Contains}
 use Rattle.tlb.specs.declared.store.Entry.{Entry}
 use Rattle.tlb.specs.Mappings.{Mapping, LiesIn, IsMappingOf}
 use Rattle.history.specs.Setup.{Setup}
@@ -63,6 +63,10 @@ InOrder items = AllPairs (λ earlier later. earlier.step ≤ later.step) items
 pub record InOrderTo (items : List StaleAt) (last : ℕ) : Type 0 where
   pub in_order : InOrder items
   pub to : All (λ item. item.step ≤ last) items
+
+-- no element of the list is there twice
+abbrev pub AreDifferent : {X : Type 0} → List X → Type 0
+AreDifferent xs = AllPairs (λ a b. a ≢ b) xs
 
 -- event n, from 0 on, makes the mapping of the hart stale
 pub record BecomesAt (setup : Setup) (history : History) (events : List Event) (n hart : ℕ)
