@@ -16,3 +16,4 @@ pub mod Overlaps
 pub mod Stepping
 pub mod Reporting
 mod Differing
+mod Once

@@ -102,7 +102,7 @@ use_tells_no_order (Some use_) step n home ticket one = subst (λ (x : StaleAt).
 
 -- ---- entries
 
-some_entry : (opening : Opening) (hart : ℕ) (item : StaleAt) (o : Option Entry) → IsOfEntry opening hart o item → (e : Entry) × (o ≡ Some e) × IsHeld opening.change e × (item ≡ became_of opening hart e)
+pub some_entry : (opening : Opening) (hart : ℕ) (item : StaleAt) (o : Option Entry) → IsOfEntry opening hart o item → (e : Entry) × (o ≡ Some e) × IsHeld opening.change e × (item ≡ became_of opening hart e)
 some_entry opening hart item None of = absurd of
 some_entry opening hart item (Some e) of = (e, refl, of.held, of.is)
 

@@ -164,3 +164,17 @@ IsOfChange m (Some change) home step ticket item = IsOfTicket m change home step
 abbrev pub IsOfUse : Option StaleUse → ℕ → StaleAt → Type 0
 IsOfUse None step item = ⊥
 IsOfUse (Some use_) step item = item ≡ record { step = step; item = Used use_ }
+
+-- each item of this kind is added to what is told: where it tells nothing twice and has none of
+-- them, nothing is told twice afterwards
+abbrev pub AddsOnce : (StaleAt → Type 0) → List StaleAt → List StaleAt → Type 0
+AddsOnce IsNew old new =
+    AreDifferent old → ((item : StaleAt) → IsNew item → ¬ Contains old item) → AreDifferent new
+
+-- no TLB holds an entry twice
+abbrev pub HoldOnce : State → Type 0
+HoldOnce m = (hart : ℕ) → hart < length m.harts → AreDifferent (hart_at m hart).entries
+
+-- each item is of a step before this one
+abbrev pub AreBefore : List StaleAt → ℕ → Type 0
+AreBefore items step = All (λ item. item.step < step) items

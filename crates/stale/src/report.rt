@@ -11,7 +11,7 @@ ghost use Rattle.stepcore.specs.Stands.{Stands};
 ghost use Rattle.stale.specs.declared.items.StaleAt.{StaleAt as StaleAtOf};
 ghost use Rattle.stale.specs.Stale.{BecomesStale, UsesStale};
 ghost use Rattle.stale.specs.UseRuns.{due_turn};
-ghost use Rattle.stale.specs.Told.{home_in, BecomesBy, InOrder, InOrderTo, IsEditOf, IsOfChange, IsOfEntries, IsOfEntry, IsOfHarts, IsOfUse, IsToldBecoming, IsToldOrder, IsToldUse, OpensBy, UsedBy};
+ghost use Rattle.stale.specs.Told.{home_in, AddsOnce, AreBefore, AreDifferent, BecomesBy, HoldOnce, InOrder, InOrderTo, IsEditOf, IsOfChange, IsOfEntries, IsOfEntry, IsOfHarts, IsOfUse, IsToldBecoming, IsToldOrder, IsToldUse, OpensBy, UsedBy};
 
 use crate::changes::{Change, change_of, is_held, smaller};
 use crate::hits::{StaleUse, stale_use};
@@ -41,6 +41,8 @@ fn tell_entry(
         ↔ (Contains items.old.items item ⊎ IsOfEntry opening.now hart entry item)) }
     ensures in_order { OnOk result (InOrderTo items.old.items opening.now.step
         → InOrderTo items.new.items opening.now.step) }
+    ensures once { OnOk result (AddsOnce (λ item. IsOfEntry opening.now hart entry item)
+        items.old.items items.new.items) }
 {
     let Some(entry) = entry else {
         return Ok(());
@@ -74,6 +76,9 @@ fn tell_tlb(
         (length tlb.now.entries) item)) }
     ensures in_order { OnOk result (InOrderTo items.old.items opening.now.step
         → InOrderTo items.new.items opening.now.step) }
+    ensures once { OnOk result (AreDifferent tlb.now.entries
+        → AddsOnce (λ item. IsOfEntries opening.now hart tlb.now.entries
+        (length tlb.now.entries) item) items.old.items items.new.items) }
 {
     for age in 0..tlb.len() {
         tell_entry(opening, hart, tlb.entry(age), items)?;
@@ -93,6 +98,9 @@ fn tell_tlbs(
         (length machine.now.harts) item)) }
     ensures in_order { OnOk result (InOrderTo items.old.items opening.now.step
         → InOrderTo items.new.items opening.now.step) }
+    ensures once { OnOk result (HoldOnce machine.now
+        → AddsOnce (λ item. IsOfHarts machine.now opening.now (length machine.now.harts) item)
+        items.old.items items.new.items) }
 {
     for hart in 0..machine.harts() {
         tell_tlb(opening, hart, machine.hart(hart).tlb(), items)?;
@@ -126,6 +134,9 @@ fn tell_change(
         (opened_ticket reply.now) item)) }
     ensures in_order { OnOk result (InOrderTo items.old.items step
         → InOrderTo items.new.items step) }
+    ensures once { OnOk result (HoldOnce machine.now
+        → AddsOnce (λ item. IsOfChange machine.now change home step (opened_ticket reply.now) item)
+        items.old.items items.new.items) }
 {
     let Some(change) = change else {
         return Ok(());
@@ -148,6 +159,8 @@ fn tell_use(used: Option<StaleUse>, step: usize, items: &mut Vec<StaleAt>) -> Re
         ↔ (Contains items.old.items item ⊎ IsOfUse used step item)) }
     ensures in_order { OnOk result (InOrderTo items.old.items step
         → InOrderTo items.new.items step) }
+    ensures once { OnOk result (AddsOnce (λ item. IsOfUse used step item)
+        items.old.items items.new.items) }
 {
     if let Some(used) = used {
         items.push(StaleAt {
@@ -188,6 +201,9 @@ pub fn step_stale(
         × (opened_ticket (due setup history event) ≡ Some ticket))) }
     ensures in_order { OnOk result (InOrderTo items.old.items step
         → InOrderTo items.new.items step) }
+    ensures once { OnOk result ((setup : Setup) (history : History)
+        → Stands setup machine.old history → AreBefore items.old.items step
+        → AreDifferent items.old.items → AreDifferent items.new.items) }
 {
     let change = change_of(machine, &event);
     let reply = machine.step(event);
@@ -198,7 +214,7 @@ pub fn step_stale(
 }
 
 /// Does the events in order, and tells what becomes stale and what stale mappings are used: items
-/// in the order of the steps. An error comes only if there is no memory for it.
+/// in the order of the steps, none of them twice. An error comes only if there is no memory for it.
 pub fn stale_report(
     alloc: Global,
     machine: &mut Machine,
@@ -216,6 +232,8 @@ pub fn stale_report(
         → IsToldOrder items.items number home ticket
         → OpensBy setup history events.now number home ticket) }
     ensures in_order { IfOk result (λ items. InOrder items.items) }
+    ensures once { IfOk result (λ items. (setup : Setup) (history : History)
+        → Stands setup machine.old history → AreDifferent items.items) }
 {
     let mut items = Vec::new(alloc);
     let mut step = 0;

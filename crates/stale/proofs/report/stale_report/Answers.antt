@@ -7,6 +7,7 @@ use Rattle.stepcore.specs.Stands.{Stands}
 use Rattle.stale.specs.Stale.{BecomesStale, UsesStale}
 use Rattle.stale.specs.Told.{IsEditOf, IsToldBecoming, IsToldOrder, IsToldUse}
 use Rattle.stale.specs.UseRuns.{due_turn, history_at}
+use Rattle.stale.proofs.Once.{before_next}
 use Rattle.stale.proofs.Ordering.{in_order_later}
 use Rattle.stale.proofs.Reporting.{all_becoming, all_uses, next_becoming, next_orders, next_uses}
 use Rattle.stale.proofs.Telling.{history_more}
@@ -33,6 +34,8 @@ loop-event-preserved c =
           (λ n h m. subst (λ k. IsToldUse new n h m ↔ (IsToldUse old n h m ⊎ ((n ≡ k) × UsesStale C (due_turn C (history_at C H events i) event) (history_at C H events i) h m))) number
           (c.in_ok-_reply.ensures.used C (history_at C H events i) n h m (c.loop-event.invariant.stands C H st)));
       in_order = c.in_ok-_reply.ensures.in_order (in_order_later old c.loop-event.step (c.loop-event.step + 1) (omega arith) c.loop-event.invariant.in_order);
+      once = λ C H st. c.in_ok-_reply.ensures.once C (history_at C H events i) (c.loop-event.invariant.stands C H st) (before_next old c.loop-event.step c.loop-event.invariant.in_order)
+          (c.loop-event.invariant.once C H st);
       orders = λ C H st. next_orders C H events i event at old new (c.loop-event.invariant.orders C H st)
           (λ n home ticket. subst (λ k. IsToldOrder new n home ticket → IsToldOrder old n home ticket
           ⊎ ((n ≡ k) × IsEditOf home event × (opened_ticket (due C (history_at C H events i) event) ≡ Some ticket))) number

@@ -9,6 +9,7 @@ use Rattle.stale.specs.Stale.{UsesStale}
 use Rattle.stale.specs.Told.{home_in, IsEditOf, IsOfChange, IsOfUse, TellsBecoming, TellsOrder, TellsUse}
 use Rattle.stale.specs.Uses.{Tells}
 use Rattle.stale.proofs.Stepping.{among, becoming_by, change_tells_no_use, change_tells_order, edit_ticket, use_steps, use_tells_no_change, use_tells_no_order}
+use Rattle.stale.proofs.Once.{hold_once, step_once}
 use Rattle.stale.proofs.report.step_stale.Goals as goal
 
 pub returns-clause-became : goal.returns-clause-became
@@ -82,3 +83,10 @@ returns-clause-orders c = λ C H n home ticket st t.
         | inr b ↦ absurd (use_tells_no_order c.stale_use-used.result step n home ticket b)
       ]
     ]
+
+pub returns-clause-once : goal.returns-clause-once
+returns-clause-once c = λ C H st.
+    let now = c.step-reply.new.self in
+    step_once now c.change_of-change.result c.home_of.result c.args.step (opened_ticket c.step-reply.result) c.stale_use-used.result c.args.items.now.items c.tell_change.new.items.items c.tell_use.new.items.items
+    c.in_ok-tell_change.ensures.told c.in_ok-tell_change.ensures.once c.in_ok-tell_use.ensures.once
+    (hold_once C now (with_turn c.args.event c.step-reply.result H) (c.step-reply.ensures.stands C H st))
