@@ -1,7 +1,7 @@
 -- Nothing is told twice: the entries of a TLB differ, and so do its harts, the steps, and what
 -- becomes stale from what is used.
-use Rattle.std.proofs.Common.{◌≡◌, ℕ, ◌+◌, ◌<◌, ◌≤◌, Bool, true, false, List, [], ◌∷◌, ◌++◌, length, Option, Some, None, slice_get, ap, sym, ◌∙◌, subst, ◌⊎◌, inl, inr, arith}
-use Rattle.std.specs.Prelude.{◌≢◌, ◌↔◌, Contains}
+use Rattle.std.proofs.Common.{◌≡◌, ℕ, ◌+◌, ◌<◌, ◌≤◌, Bool, true, false, List, [], get_or, ◌∷◌, ◌++◌, length, Option, Some, None, slice_get, ap, sym, ◌∙◌, subst, ◌⊎◌, inl, inr, arith}
+use Rattle.std.specs.Prelude.{All, ◌↔◌, Contains}
 use Rattle.std.proofs.lemmas.Bool.{false≢true}
 use Rattle.std.proofs.lemmas.Option.{slice_get_within, get_or_from_slice_get}
 use Rattle.std.proofs.lemmas.List.Elements.{All-contains, All-weaker, Contains-get_or}
@@ -18,60 +18,59 @@ use Rattle.stale.specs.declared.items.StaleItem.{StaleItem}
 use Rattle.stale.specs.declared.items.StaleItem.TheVariants.{Became, Used}
 use Rattle.stale.specs.declared.report.Opening.{Opening}
 use Rattle.stale.specs.Leaves.{IsHeld}
-use Rattle.stale.specs.Told.{became_of, AddsOnce, AreBefore, AreDifferent, HoldOnce, InOrderTo, IsOfChange, IsOfEntries, IsOfEntry, IsOfHarts, IsOfUse}
+use Rattle.stale.specs.Told.{became_of, AddsOnce, AreBefore, AreDifferent, AreOfOne, AreOfOneStep, HoldOnce, InOrderTo, IsOfChange, IsOfEntries, IsOfEntry, IsOfHarts, IsOfUse, TellsOnce}
 use Rattle.stale.proofs.Adding.{ToldEntries, ToldHarts}
 use Rattle.stale.proofs.Differing.{entries_differ}
 use Rattle.stale.proofs.Stepping.{some_entry}
 
 pub once_push : (IsNew : StaleAt → Type 0) (xs ys : List StaleAt) (x : StaleAt) → ys ≡ xs ++ x ∷ [] → IsNew x → AddsOnce IsNew xs ys
-once_push IsNew xs ys x is made = λ different none.
-    subst (λ (zs : List StaleAt). AreDifferent zs) (sym is)
-    (all_pairs_push (λ a b. a ≢ b) xs x different (λ k d within same. none x made (subst (λ (y : StaleAt). Contains xs y) same (Contains-get_or xs k d within))))
+once_push IsNew xs ys x is made = λ once none.
+    subst (λ (zs : List StaleAt). TellsOnce zs) (sym is) (all_pairs_push (λ a b. ¬ AreOfOneStep a b) xs x once (none x made))
 
 pub of_entry : (opening : Opening) (hart : ℕ) (e : Entry) (o : Option Entry) (x : StaleAt) → o ≡ Some e → IsHeld opening.change e → x ≡ became_of opening hart e → IsOfEntry opening hart o x
 of_entry opening hart e o x some held made = subst (λ (v : Option Entry). IsOfEntry opening hart v x) (sym some) (record { held = held; is = made })
 
--- what an item tells of
-abbrev entry_in : StaleItem → Entry → Entry
-entry_in (Became became) other = became.entry
-entry_in (Used use_) other = other
+-- what two items of one entry of a hart tell of
+of_one : (opening : Opening) (a b : ℕ) (e f : Entry) (x y : StaleAt) → x ≡ became_of opening a e → y ≡ became_of opening b f → AreOfOneStep x y → (a ≡ b) × (e ≡ f)
+of_one opening a b e f x y is_x is_y one = subst (λ (z : StaleAt). AreOfOne (became_of opening a e).item z.item) is_y (subst (λ (z : StaleAt). AreOfOne z.item y.item) is_x one.1)
 
-abbrev hart_in : StaleItem → ℕ
-hart_in (Became became) = became.hart
-hart_in (Used use_) = use_.hart
+-- what holds of each element holds of all
+All-where : {X : Type 0} (P : X → Type 0) (xs : List X) → ((x : X) → Contains xs x → P x) → All P xs
+All-where P xs each k d within = each (get_or xs k d) (Contains-get_or xs k d within)
 
 module _ (opening : Opening) (old : List StaleAt) where
   pub next_entry_once : (hart : ℕ) (entries : List Entry) (n : ℕ) (now next : List StaleAt) → ToldEntries opening old hart entries n now
       → (AreDifferent entries → AddsOnce (λ item. IsOfEntries opening hart entries (length entries) item) old now) → AddsOnce (λ item. IsOfEntry opening hart (slice_get entries n) item) now next
       → AreDifferent entries → AddsOnce (λ item. IsOfEntries opening hart entries (length entries) item) old next
-  next_entry_once hart entries n now next told first step differ different none =
-      step (first differ different none)
-      (λ item of among.
+  next_entry_once hart entries n now next told first step differ once none =
+      step (first differ once none)
+      (λ item of.
       let e = some_entry opening hart item (slice_get entries n) of in
       let within = slice_get_within entries n e.0 e.1 in
-      elim ((told item).0 among) [
-        | inl before ↦ none item (n, within, of) before
+      All-where (λ x. ¬ AreOfOneStep x item) now (λ x among one. elim ((told x).0 among) [
+        | inl before ↦ All-contains (λ y. ¬ AreOfOneStep y item) old x (none item (n, within, of)) before one
         | inr earlier ↦
-            let f = some_entry opening hart item (slice_get entries earlier.0) earlier.2 in
-            let same : f.0 ≡ e.0 = ap (λ (x : StaleAt). entry_in x.item e.0) (sym f.3 ∙ e.3) in
+            let f = some_entry opening hart x (slice_get entries earlier.0) earlier.2 in
+            let same : f.0 ≡ e.0 = (of_one opening hart hart f.0 e.0 x item f.3 e.3 one).1 in
             differ earlier.0 n e.0 earlier.1 within (get_or_from_slice_get entries earlier.0 f.0 e.0 f.1 ∙ same ∙ sym (get_or_from_slice_get entries n e.0 e.0 e.1))
-      ])
+      ]))
 
   pub next_hart_once : (m : State) (n : ℕ) (now next : List StaleAt) → n < length m.harts → ToldHarts opening old m n now
       → (HoldOnce m → AddsOnce (λ item. IsOfHarts m opening (length m.harts) item) old now)
       → (AreDifferent (hart_at m n).entries → AddsOnce (λ item. IsOfEntries opening n (hart_at m n).entries (length (hart_at m n).entries) item) now next)
       → HoldOnce m → AddsOnce (λ item. IsOfHarts m opening (length m.harts) item) old next
-  next_hart_once m n now next within told first step hold different none =
-      step (hold n within) (first hold different none)
-      (λ item of among. elim ((told item).0 among) [
-        | inl before ↦ none item (n, within, of) before
+  next_hart_once m n now next within told first step hold once none =
+      step (hold n within) (first hold once none)
+      (λ item of.
+      let e = some_entry opening n item (slice_get (hart_at m n).entries of.0) of.2 in
+      All-where (λ x. ¬ AreOfOneStep x item) now (λ x among one. elim ((told x).0 among) [
+        | inl before ↦ All-contains (λ y. ¬ AreOfOneStep y item) old x (none item (n, within, of)) before one
         | inr earlier ↦
-            let e = some_entry opening n item (slice_get (hart_at m n).entries of.0) of.2 in
-            let f = some_entry opening earlier.0 item (slice_get (hart_at m earlier.0).entries earlier.2.0) earlier.2.2 in
-            let same : earlier.0 ≡ n = ap (λ (x : StaleAt). hart_in x.item) (sym f.3 ∙ e.3) in
+            let f = some_entry opening earlier.0 x (slice_get (hart_at m earlier.0).entries earlier.2.0) earlier.2.2 in
+            let same = (of_one opening earlier.0 n f.0 e.0 x item f.3 e.3 one).0 in
             let less = earlier.1 in
             omega (arith, same, less)
-      ])
+      ]))
 
 -- the entries of each TLB of a machine differ
 pub hold_once : (C : Setup) (m : State) (H : History) → Stands C m H → HoldOnce m
@@ -100,19 +99,26 @@ not_before old step item before among is =
     let less = All-contains (λ (x : StaleAt). x.step < step) old item before among in
     omega (arith, less, is)
 
+use_no_change : (a b : StaleItem) → is_used a ≡ false → is_used b ≡ true → AreOfOne a b → ⊥
+use_no_change (Became a) (Became b) is_a is_b one = false≢true is_b
+use_no_change (Became a) (Used b) is_a is_b one = one
+use_no_change (Used a) b is_a is_b one = false≢true (sym is_a)
+
 -- a step tells nothing twice
 pub step_once : (m : State) (o : Option Change) (home step : ℕ) (ticket : Option ℕ) (used : Option StaleUse) (old mid new : List StaleAt)
     → ((item : StaleAt) → Contains mid item ↔ (Contains old item ⊎ IsOfChange m o home step ticket item))
     → (HoldOnce m → AddsOnce (λ item. IsOfChange m o home step ticket item) old mid) → AddsOnce (λ item. IsOfUse used step item) mid new
-    → HoldOnce m → AreBefore old step → AreDifferent old → AreDifferent new
-step_once m o home step ticket used old mid new told first second hold before different =
-    second (first hold different (λ item of among. not_before old step item before among (of_change m o home step ticket item of).0))
-    (λ item of among.
+    → HoldOnce m → AreBefore old step → TellsOnce old → TellsOnce new
+step_once m o home step ticket used old mid new told first second hold before once =
+    second
+    (first hold once
+    (λ item of. All-where (λ x. ¬ AreOfOneStep x item) old (λ x among one. not_before old step x before among (one.0 ∙ (of_change m o home step ticket item of).0))))
+    (λ item of.
     let u = of_use used step item of in
-    elim ((told item).0 among) [
-      | inl earlier ↦ not_before old step item before earlier u.0
-      | inr change ↦ false≢true (sym (of_change m o home step ticket item change).1 ∙ u.1)
-    ])
+    All-where (λ x. ¬ AreOfOneStep x item) mid (λ x among one. elim ((told x).0 among) [
+      | inl earlier ↦ not_before old step x before earlier (one.0 ∙ u.0)
+      | inr change ↦ use_no_change x.item item.item (of_change m o home step ticket x change).1 u.1 one.1
+    ]))
 
 -- what is told up to a step is before the next one
 pub before_next : (items : List StaleAt) (last : ℕ) → InOrderTo items last → AreBefore items (last + 1)

@@ -1,6 +1,6 @@
 -- What is told of a run: the mappings that become stale step by step, and the stale ones that are
 -- used.
-use Rattle.std.specs.Prelude.{ℕ, Bool, false, ◌≡◌, ◌≢◌, ◌+◌, ◌<◌, ◌≤◌, List, length, Option, Some, None, slice_get, All, AllPairs, Contains}
+use Rattle.std.specs.Prelude.{⊤, ℕ, Bool, false, ◌≡◌, ◌≢◌, ◌+◌, ◌<◌, ◌≤◌, List, length, Option, Some, None, slice_get, All, AllPairs, Contains}
 use Rattle.tlb.specs.declared.store.Entry.{Entry}
 use Rattle.tlb.specs.Mappings.{Mapping, LiesIn, IsMappingOf}
 use Rattle.history.specs.Setup.{Setup}
@@ -67,6 +67,19 @@ pub record InOrderTo (items : List StaleAt) (last : ℕ) : Type 0 where
 -- no element of the list is there twice
 abbrev pub AreDifferent : {X : Type 0} → List X → Type 0
 AreDifferent xs = AllPairs (λ a b. a ≢ b) xs
+
+-- two items are of one entry of one hart, or both are uses; and they are of one step
+abbrev pub AreOfOne : StaleItem → StaleItem → Type 0
+AreOfOne (Became a) (Became b) = (a.hart ≡ b.hart) × (a.entry ≡ b.entry)
+AreOfOne (Used a) (Used b) = ⊤
+AreOfOne _ _ = ⊥
+
+abbrev pub AreOfOneStep : StaleAt → StaleAt → Type 0
+AreOfOneStep a b = (a.step ≡ b.step) × AreOfOne a.item b.item
+
+-- nothing is told twice: no step tells an entry of a hart twice, and none tells two uses
+abbrev pub TellsOnce : List StaleAt → Type 0
+TellsOnce items = AllPairs (λ a b. ¬ AreOfOneStep a b) items
 
 -- event n, from 0 on, makes the mapping of the hart stale
 pub record BecomesAt (setup : Setup) (history : History) (events : List Event) (n hart : ℕ)
@@ -165,11 +178,13 @@ abbrev pub IsOfUse : Option StaleUse → ℕ → StaleAt → Type 0
 IsOfUse None step item = ⊥
 IsOfUse (Some use_) step item = item ≡ record { step = step; item = Used use_ }
 
--- each item of this kind is added to what is told: where it tells nothing twice and has none of
--- them, nothing is told twice afterwards
+-- items of this kind are added: where nothing is told twice, and nothing of such an item is told,
+-- nothing is told twice afterwards
 abbrev pub AddsOnce : (StaleAt → Type 0) → List StaleAt → List StaleAt → Type 0
 AddsOnce IsNew old new =
-    AreDifferent old → ((item : StaleAt) → IsNew item → ¬ Contains old item) → AreDifferent new
+    TellsOnce old
+    → ((item : StaleAt) → IsNew item → All (λ told. ¬ AreOfOneStep told item) old)
+    → TellsOnce new
 
 -- no TLB holds an entry twice
 abbrev pub HoldOnce : State → Type 0

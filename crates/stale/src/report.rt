@@ -11,7 +11,7 @@ ghost use Rattle.stepcore.specs.Stands.{Stands};
 ghost use Rattle.stale.specs.declared.items.StaleAt.{StaleAt as StaleAtOf};
 ghost use Rattle.stale.specs.Stale.{BecomesStale, UsesStale};
 ghost use Rattle.stale.specs.UseRuns.{due_turn};
-ghost use Rattle.stale.specs.Told.{home_in, AddsOnce, AreBefore, AreDifferent, BecomesBy, HoldOnce, InOrder, InOrderTo, IsEditOf, IsOfChange, IsOfEntries, IsOfEntry, IsOfHarts, IsOfUse, IsToldBecoming, IsToldOrder, IsToldUse, OpensBy, UsedBy};
+ghost use Rattle.stale.specs.Told.{home_in, AddsOnce, AreBefore, AreDifferent, BecomesBy, HoldOnce, InOrder, InOrderTo, IsEditOf, IsOfChange, IsOfEntries, IsOfEntry, IsOfHarts, IsOfUse, IsToldBecoming, IsToldOrder, IsToldUse, OpensBy, TellsOnce, UsedBy};
 
 use crate::changes::{Change, change_of, is_held, smaller};
 use crate::hits::{StaleUse, stale_use};
@@ -203,7 +203,7 @@ pub fn step_stale(
         → InOrderTo items.new.items step) }
     ensures once { OnOk result ((setup : Setup) (history : History)
         → Stands setup machine.old history → AreBefore items.old.items step
-        → AreDifferent items.old.items → AreDifferent items.new.items) }
+        → TellsOnce items.old.items → TellsOnce items.new.items) }
 {
     let change = change_of(machine, &event);
     let reply = machine.step(event);
@@ -233,7 +233,7 @@ pub fn stale_report(
         → OpensBy setup history events.now number home ticket) }
     ensures in_order { IfOk result (λ items. InOrder items.items) }
     ensures once { IfOk result (λ items. (setup : Setup) (history : History)
-        → Stands setup machine.old history → AreDifferent items.items) }
+        → Stands setup machine.old history → TellsOnce items.items) }
 {
     let mut items = Vec::new(alloc);
     let mut step = 0;
