@@ -1,13 +1,14 @@
 -- What is told of a run: the mappings that become stale step by step, and the stale ones that are
 -- used.
-use Rattle.std.specs.Prelude.{⊤, ℕ, Bool, false, ◌≡◌, ◌≢◌, ◌+◌, ◌<◌, ◌≤◌, List, length, Option, Some, None, slice_get, All, AllPairs, Contains}
+use Rattle.std.specs.Prelude.{⊤, ℕ, Bool, false, ◌≡◌, ◌≢◌, ◌+◌, ◌<◌, ◌≤◌, List, ◌∷◌, length, Option, Some, None, slice_get, All, AllPairs, Contains}
 use Rattle.tlb.specs.declared.store.Entry.{Entry}
 use Rattle.tlb.specs.Mappings.{Mapping, LiesIn, IsMappingOf}
 use Rattle.history.specs.Setup.{Setup}
 use Rattle.history.specs.declared.event.Event.{Event}
 use Rattle.history.specs.declared.event.Event.TheVariants.{Unmap, Protect}
 use Rattle.history.specs.declared.reply.Reply.{Reply}
-use Rattle.history.specs.Turns.{History, is_opened, opened_ticket}
+use Rattle.history.specs.Turns.{Turn, History, is_opened, opened_ticket}
+use Rattle.history.specs.Harts.{entries_of}
 use Rattle.history.specs.Due.{due}
 use Rattle.stepcore.specs.State.{State, hart_at}
 use Rattle.stale.specs.declared.changes.Change.{Change}
@@ -36,6 +37,11 @@ TellsUse (Used use_) hart m = Tells (Some use_) hart m
 abbrev pub TellsOrder : StaleItem → ℕ → ℕ → Type 0
 TellsOrder (Became became) home ticket = (home ≡ became.home) × (ticket ≡ became.ticket)
 TellsOrder (Used use_) home ticket = ⊥
+
+-- or tells of this entry of a hart
+abbrev pub TellsEntry : StaleItem → ℕ → Entry → Type 0
+TellsEntry (Became became) hart e = (hart ≡ became.hart) × (e ≡ became.entry)
+TellsEntry (Used use_) hart e = ⊥
 
 -- some item of the step tells it
 pub record IsAmong (items : List StaleAt) (n : ℕ) (T : StaleItem → Type 0) : Type 0 where
@@ -81,6 +87,10 @@ AreOfOneStep a b = (a.step ≡ b.step) × AreOfOne a.item b.item
 abbrev pub TellsOnce : List StaleAt → Type 0
 TellsOnce items = AllPairs (λ a b. ¬ AreOfOneStep a b) items
 
+-- and that some mapping of this entry of the hart becomes stale by event n
+abbrev pub IsToldEntry : List StaleAt → ℕ → ℕ → Entry → Type 0
+IsToldEntry items n hart e = IsAmong items n (λ item. TellsEntry item hart e)
+
 -- event n, from 0 on, makes the mapping of the hart stale
 pub record BecomesAt (setup : Setup) (history : History) (events : List Event) (n hart : ℕ)
     (m : Mapping) : Type 0 where
@@ -88,6 +98,22 @@ pub record BecomesAt (setup : Setup) (history : History) (events : List Event) (
   pub is : slice_get events n ≡ Some event
   pub becomes : BecomesStale setup (due_turn setup (history_at setup history events n) event)
       (history_at setup history events n) hart m
+
+-- the turn makes some mapping of this entry stale, which the TLB of the hart holds
+pub record EntryBecomesStale (setup : Setup) (turn : Turn) (history : History) (hart : ℕ)
+    (e : Entry) : Type 0 where
+  pub held : Contains (entries_of setup (turn ∷ history) hart) e
+  pub mapping : Mapping
+  pub is : IsMappingOf e mapping
+  pub becomes : BecomesStale setup turn history hart mapping
+
+-- event n, from 0 on, does so
+pub record EntryBecomesAt (setup : Setup) (history : History) (events : List Event) (n hart : ℕ)
+    (e : Entry) : Type 0 where
+  pub event : Event
+  pub is : slice_get events n ≡ Some event
+  pub becomes : EntryBecomesStale setup (due_turn setup (history_at setup history events n) event)
+      (history_at setup history events n) hart e
 
 -- the turn is an unmapping or a change of flags, and opens an order
 abbrev pub is_edit : Event → Reply → Bool
@@ -114,6 +140,10 @@ pub record OpensAt (setup : Setup) (history : History) (events : List Event)
 abbrev pub BecomesBy : Setup → History → List Event → ℕ → ℕ → Mapping → Type 0
 BecomesBy setup history events number hart m =
     (n : ℕ) × (number ≡ n + 1) × BecomesAt setup history events n hart m
+
+abbrev pub EntryBecomesBy : Setup → History → List Event → ℕ → ℕ → Entry → Type 0
+EntryBecomesBy setup history events number hart e =
+    (n : ℕ) × (number ≡ n + 1) × EntryBecomesAt setup history events n hart e
 
 abbrev pub UsedBy : Setup → History → List Event → ℕ → ℕ → Mapping → Type 0
 UsedBy setup history events number hart m =

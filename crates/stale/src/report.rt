@@ -6,12 +6,13 @@ ghost use Rattle.history.specs.Setup.{Setup};
 ghost use Rattle.history.specs.Turns.{History, opened_ticket};
 ghost use Rattle.history.specs.Due.{due};
 ghost use Rattle.history.specs.Runs.{with_turn};
+ghost use Rattle.tlb.specs.declared.store.Entry.{Entry as EntryOf};
 ghost use Rattle.tlb.specs.Mappings.{Mapping};
 ghost use Rattle.stepcore.specs.Stands.{Stands};
 ghost use Rattle.stale.specs.declared.items.StaleAt.{StaleAt as StaleAtOf};
 ghost use Rattle.stale.specs.Stale.{BecomesStale, UsesStale};
 ghost use Rattle.stale.specs.UseRuns.{due_turn};
-ghost use Rattle.stale.specs.Told.{home_in, AddsOnce, AreBefore, AreDifferent, BecomesBy, HoldOnce, InOrder, InOrderTo, IsEditOf, IsOfChange, IsOfEntries, IsOfEntry, IsOfHarts, IsOfUse, IsToldBecoming, IsToldOrder, IsToldUse, OpensBy, TellsOnce, UsedBy};
+ghost use Rattle.stale.specs.Told.{home_in, AddsOnce, AreBefore, AreDifferent, BecomesBy, EntryBecomesBy, EntryBecomesStale, HoldOnce, InOrder, InOrderTo, IsEditOf, IsOfChange, IsOfEntries, IsOfEntry, IsOfHarts, IsOfUse, IsToldBecoming, IsToldEntry, IsToldOrder, IsToldUse, OpensBy, TellsOnce, UsedBy};
 
 use crate::changes::{Change, change_of, is_held, smaller};
 use crate::hits::{StaleUse, stale_use};
@@ -195,6 +196,11 @@ pub fn step_stale(
         → IsToldUse items.new.items n hart m
         ↔ (IsToldUse items.old.items n hart m
         ⊎ ((n ≡ step) × UsesStale setup (due_turn setup history event) history hart m))) }
+    ensures entries { OnOk result ((setup : Setup) (history : History) (n hart : ℕ) (e : EntryOf)
+        → Stands setup machine.old history
+        → IsToldEntry items.new.items n hart e
+        ↔ (IsToldEntry items.old.items n hart e ⊎ ((n ≡ step)
+        × EntryBecomesStale setup (due_turn setup history event) history hart e))) }
     ensures orders { OnOk result ((setup : Setup) (history : History) (n home ticket : ℕ)
         → Stands setup machine.old history → IsToldOrder items.new.items n home ticket
         → IsToldOrder items.old.items n home ticket ⊎ ((n ≡ step) × IsEditOf home event
@@ -227,6 +233,10 @@ pub fn stale_report(
     ensures used { IfOk result (λ items. (setup : Setup) (history : History) (number hart : ℕ)
         (m : Mapping) → Stands setup machine.old history
         → UsedBy setup history events.now number hart m ↔ IsToldUse items.items number hart m) }
+    ensures entries { IfOk result (λ items. (setup : Setup) (history : History)
+        (number hart : ℕ) (e : EntryOf) → Stands setup machine.old history
+        → EntryBecomesBy setup history events.now number hart e
+        ↔ IsToldEntry items.items number hart e) }
     ensures orders { IfOk result (λ items. (setup : Setup) (history : History)
         (number home ticket : ℕ) → Stands setup machine.old history
         → IsToldOrder items.items number home ticket
