@@ -1,6 +1,6 @@
 -- Nothing is told twice: the entries of a TLB differ, and so do its harts, the steps, and what
 -- becomes stale from what is used.
-use Rattle.std.proofs.Common.{◌≡◌, ℕ, ◌+◌, ◌<◌, ◌≤◌, Bool, true, false, List, [], get_or, ◌∷◌, ◌++◌, length, Option, Some, None, slice_get, ap, sym, ◌∙◌, subst, ◌⊎◌, inl, inr, arith}
+use Rattle.std.proofs.Common.{refl, ◌≡◌, ℕ, ◌+◌, ◌<◌, ◌≤◌, Bool, true, false, List, [], get_or, ◌∷◌, ◌++◌, length, Option, Some, None, slice_get, ap, sym, ◌∙◌, subst, ◌⊎◌, inl, inr, arith}
 use Rattle.std.specs.Prelude.{All, ◌↔◌, Contains}
 use Rattle.std.proofs.lemmas.Bool.{false≢true}
 use Rattle.std.proofs.lemmas.Option.{slice_get_within, get_or_from_slice_get}
@@ -26,6 +26,9 @@ use Rattle.stale.proofs.Stepping.{some_entry}
 pub once_push : (IsNew : StaleAt → Type 0) (xs ys : List StaleAt) (x : StaleAt) → ys ≡ xs ++ x ∷ [] → IsNew x → AddsOnce IsNew xs ys
 once_push IsNew xs ys x is made = λ once none.
     subst (λ (zs : List StaleAt). TellsOnce zs) (sym is) (all_pairs_push (λ a b. ¬ AreOfOneStep a b) xs x once (none x made))
+
+pub once_use : (used : StaleUse) (step : ℕ) (xs ys : List StaleAt) → ys ≡ xs ++ record { step = step; item = Used used } ∷ [] → AddsOnce (λ item. IsOfUse (Some used) step item) xs ys
+once_use used step xs ys is = once_push (λ item. IsOfUse (Some used) step item) xs ys (record { step = step; item = Used used }) is refl
 
 pub of_entry : (opening : Opening) (hart : ℕ) (e : Entry) (o : Option Entry) (x : StaleAt) → o ≡ Some e → IsHeld opening.change e → x ≡ became_of opening hart e → IsOfEntry opening hart o x
 of_entry opening hart e o x some held made = subst (λ (v : Option Entry). IsOfEntry opening hart v x) (sym some) (record { held = held; is = made })

@@ -155,6 +155,7 @@ fn tell_change(
 }
 
 /// Tells a use, if there is one.
+#[tactic(auto, using(crate::proofs::Once::once_use))]
 fn tell_use(used: Option<StaleUse>, step: usize, items: &mut Vec<StaleAt>) -> Result<(), AllocError>
     ensures told { OnOk result ((item : StaleAtOf) → Contains items.new.items item
         ↔ (Contains items.old.items item ⊎ IsOfUse used step item)) }
