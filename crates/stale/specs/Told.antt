@@ -61,6 +61,10 @@ IsToldUse items n hart m = IsAmong items n (λ item. TellsUse item hart m)
 abbrev pub IsToldOrder : List StaleAt → ℕ → ℕ → ℕ → Type 0
 IsToldOrder items n home ticket = IsAmong items n (λ item. TellsOrder item home ticket)
 
+-- and that some mapping of this entry of the hart becomes stale there
+abbrev pub IsToldEntry : List StaleAt → ℕ → ℕ → Entry → Type 0
+IsToldEntry items n hart e = IsAmong items n (λ item. TellsEntry item hart e)
+
 -- the steps of the items never decrease
 abbrev pub InOrder : List StaleAt → Type 0
 InOrder items = AllPairs (λ earlier later. earlier.step ≤ later.step) items
@@ -74,22 +78,19 @@ pub record InOrderTo (items : List StaleAt) (last : ℕ) : Type 0 where
 abbrev pub AreDifferent : {X : Type 0} → List X → Type 0
 AreDifferent xs = AllPairs (λ a b. a ≢ b) xs
 
--- two items are of one entry of one hart, or both are uses; and they are of one step
+-- two items are of one entry of a hart, or both are uses
 abbrev pub AreOfOne : StaleItem → StaleItem → Type 0
 AreOfOne (Became a) (Became b) = (a.hart ≡ b.hart) × (a.entry ≡ b.entry)
 AreOfOne (Used a) (Used b) = ⊤
 AreOfOne _ _ = ⊥
 
+-- and of one step
 abbrev pub AreOfOneStep : StaleAt → StaleAt → Type 0
 AreOfOneStep a b = (a.step ≡ b.step) × AreOfOne a.item b.item
 
--- nothing is told twice: no step tells an entry of a hart twice, and none tells two uses
+-- nothing is told twice: no step has two items of one entry of a hart, or two uses
 abbrev pub TellsOnce : List StaleAt → Type 0
 TellsOnce items = AllPairs (λ a b. ¬ AreOfOneStep a b) items
-
--- and that some mapping of this entry of the hart becomes stale by event n
-abbrev pub IsToldEntry : List StaleAt → ℕ → ℕ → Entry → Type 0
-IsToldEntry items n hart e = IsAmong items n (λ item. TellsEntry item hart e)
 
 -- event n, from 0 on, makes the mapping of the hart stale
 pub record BecomesAt (setup : Setup) (history : History) (events : List Event) (n hart : ℕ)
@@ -99,7 +100,7 @@ pub record BecomesAt (setup : Setup) (history : History) (events : List Event) (
   pub becomes : BecomesStale setup (due_turn setup (history_at setup history events n) event)
       (history_at setup history events n) hart m
 
--- the turn makes some mapping of this entry stale, which the TLB of the hart holds
+-- the turn makes some mapping of this entry stale, and the TLB of the hart holds the entry
 pub record EntryBecomesStale (setup : Setup) (turn : Turn) (history : History) (hart : ℕ)
     (e : Entry) : Type 0 where
   pub held : Contains (entries_of setup (turn ∷ history) hart) e
