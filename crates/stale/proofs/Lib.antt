@@ -15,3 +15,5 @@ pub mod ToldEdit
 pub mod Overlaps
 pub mod Stepping
 pub mod Reporting
+mod Differing
+mod Once

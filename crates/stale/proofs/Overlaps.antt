@@ -75,7 +75,7 @@ place_from b k n is at_k at_n order =
 -- frames that agree at the first page of 4 KiB of the smaller page agree at each one, and so the
 -- other way round
 module _ (a b : Span) (is_a : IsPage a) (is_b : IsPage b) (over : Overlap a b) (p q : ℕ) where
-  is_small : IsPage (smaller a b)
+  pub is_small : IsPage (smaller a b)
   is_small = elim (cases_Bool (nat_le (level_of a.size) (level_of b.size))) [ inl t ↦ rw t is_a | inr f ↦ rw f is_b ]
 
   module _ (n : ℕ) (at : LiesIn (smaller a b) n) where

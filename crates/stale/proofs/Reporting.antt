@@ -3,6 +3,7 @@ use Rattle.std.proofs.Common.{◌≡◌, ℕ, ◌+◌, ◌<◌, ◌≤◌, List,
 use Rattle.std.specs.Prelude.{◌↔◌}
 use Rattle.std.proofs.lemmas.Bool.{cases_lt}
 use Rattle.std.proofs.lemmas.Option.{slice_get_within}
+use Rattle.tlb.specs.declared.store.Entry.{Entry}
 use Rattle.tlb.specs.Mappings.{Mapping}
 use Rattle.history.specs.Setup.{Setup}
 use Rattle.history.specs.declared.event.Event.{Event}
@@ -11,7 +12,7 @@ use Rattle.history.specs.Due.{due}
 use Rattle.stale.specs.declared.items.StaleAt.{StaleAt}
 use Rattle.stale.specs.declared.items.StaleItem.{StaleItem}
 use Rattle.stale.specs.Stale.{BecomesStale, UsesStale}
-use Rattle.stale.specs.Told.{BecomesAt, IsAmong, IsEditOf, IsToldBecoming, IsToldOrder, IsToldUse, OpensAt}
+use Rattle.stale.specs.Told.{BecomesAt, EntryBecomesAt, EntryBecomesStale, IsAmong, IsEditOf, IsToldBecoming, IsToldEntry, IsToldOrder, IsToldUse, OpensAt}
 use Rattle.stale.specs.UseRuns.{due_turn, history_at, UsedAt}
 
 -- event n of the first i, and its number
@@ -47,6 +48,9 @@ module _ (C : Setup) (H : History) (events : List Event) where
   abbrev pub ToldBecoming : ℕ → List StaleAt → Type 0
   ToldBecoming i items = (h : ℕ) (m : Mapping) (number : ℕ) → IsToldBecoming items number h m ↔ Below (λ n. BecomesAt C H events n h m) i number
 
+  abbrev pub ToldEntry : ℕ → List StaleAt → Type 0
+  ToldEntry i items = (h : ℕ) (e : Entry) (number : ℕ) → IsToldEntry items number h e ↔ Below (λ n. EntryBecomesAt C H events n h e) i number
+
   abbrev pub ToldUses : ℕ → List StaleAt → Type 0
   ToldUses i items = (h : ℕ) (m : Mapping) (number : ℕ) → IsToldUse items number h m ↔ Below (λ n. UsedAt C H events n h m) i number
 
@@ -60,6 +64,14 @@ module _ (C : Setup) (H : History) (events : List Event) where
       λ b. let both : Some b.event ≡ Some event = sym b.is ∙ at in
           let same : b.event ≡ event = cc in
           subst (λ (e : Event). BecomesStale C (due_turn C (history_at C H events i) e) (history_at C H events i) h m) same b.becomes,
+    )
+
+    entry_here : (h : ℕ) (e : Entry) → EntryBecomesStale C (due_turn C (history_at C H events i) event) (history_at C H events i) h e ↔ EntryBecomesAt C H events i h e
+    entry_here h e = (
+      λ b. record { event = event; is = at; becomes = b },
+      λ b. let both : Some b.event ≡ Some event = sym b.is ∙ at in
+          let same : b.event ≡ event = cc in
+          subst (λ (x : Event). EntryBecomesStale C (due_turn C (history_at C H events i) x) (history_at C H events i) h e) same b.becomes,
     )
 
     used_here : (h : ℕ) (m : Mapping) → UsesStale C (due_turn C (history_at C H events i) event) (history_at C H events i) h m ↔ UsedAt C H events i h m
@@ -76,6 +88,15 @@ module _ (C : Setup) (H : History) (events : List Event) where
     next_becoming old new told step h m number =
         next_both (λ n. BecomesAt C H events n h m) i (λ k. IsToldBecoming old k h m) (λ k. IsToldBecoming new k h m) (BecomesStale C (due_turn C (history_at C H events i) event) (history_at C H events i) h m)
         (told h m) (λ k. step k h m) (becomes_here h m) number
+
+    pub next_entries : (old new : List StaleAt) → ToldEntry i old
+        → ((n h : ℕ) (e : Entry) → IsToldEntry new n h e
+        ↔ (IsToldEntry old n h e ⊎ ((n ≡ i + 1) × EntryBecomesStale C (due_turn C (history_at C H events i) event) (history_at C H events i) h e)))
+        → ToldEntry (i + 1) new
+    next_entries old new told step h e number =
+        next_both (λ n. EntryBecomesAt C H events n h e) i (λ k. IsToldEntry old k h e) (λ k. IsToldEntry new k h e)
+        (EntryBecomesStale C (due_turn C (history_at C H events i) event) (history_at C H events i) h e)
+        (told h e) (λ k. step k h e) (entry_here h e) number
 
     pub next_uses : (old new : List StaleAt) → ToldUses i old
         → ((n h : ℕ) (m : Mapping) → IsToldUse new n h m ↔ (IsToldUse old n h m ⊎ ((n ≡ i + 1) × UsesStale C (due_turn C (history_at C H events i) event) (history_at C H events i) h m)))
@@ -98,6 +119,13 @@ module _ (C : Setup) (H : History) (events : List Event) where
   all_becoming items i all told number h m = (
     λ b. (told h m number).1 (b.0, b.1, (let within = slice_get_within events b.0 b.2.event b.2.is in omega (arith, within, all)), b.2),
     λ t. let b = (told h m number).0 t in (b.0, b.1, b.3),
+  )
+
+  pub all_entries : (items : List StaleAt) (i : ℕ) → length events ≤ i → ToldEntry i items → (number h : ℕ) (e : Entry)
+      → ((n : ℕ) × (number ≡ n + 1) × EntryBecomesAt C H events n h e) ↔ IsToldEntry items number h e
+  all_entries items i all told number h e = (
+    λ b. (told h e number).1 (b.0, b.1, (let within = slice_get_within events b.0 b.2.event b.2.is in omega (arith, within, all)), b.2),
+    λ t. let b = (told h e number).0 t in (b.0, b.1, b.3),
   )
 
   pub all_uses : (items : List StaleAt) (i : ℕ) → length events ≤ i → ToldUses i items → (number h : ℕ) (m : Mapping)

@@ -6,6 +6,7 @@ use Rattle.std.proofs.lemmas.Option.{slice_get-get_or, slice_get_within, get_or_
 use Rattle.std.proofs.lemmas.List.Elements.{All-contains}
 use Rattle.pte.specs.Address.{IsPage, Overlap, level_of}
 use Rattle.pte.proofs.Schemes.{page_in_widest}
+use Rattle.walk.specs.Maps.{page_number}
 use Rattle.tlb.specs.declared.store.Entry.{Entry}
 use Rattle.tlb.specs.Mappings.{Mapping, LiesIn, IsMappingOf, IsMappedBy}
 use Rattle.tlb.specs.Answer.{entry_of}
@@ -42,12 +43,13 @@ use Rattle.stale.specs.declared.items.StaleItem.{StaleItem}
 use Rattle.stale.specs.declared.items.StaleItem.TheVariants.{Used}
 use Rattle.stale.specs.declared.report.Opening.{Opening}
 use Rattle.stale.specs.Leaves.{smaller, IsChanged, IsHeld, IsOfLeaf}
+use Rattle.stale.specs.Mapped.{mapping_of}
 use Rattle.stale.specs.Stale.{BecomesStale}
-use Rattle.stale.specs.Told.{became_of, is_edit, IsAmong, IsOfChange, IsOfEntry, IsOfHarts, IsOfUse, TellsBecoming, TellsOrder, TellsUse}
+use Rattle.stale.specs.Told.{became_of, is_edit, EntryBecomesStale, IsAmong, IsOfChange, IsOfEntry, IsOfHarts, IsOfUse, TellsBecoming, TellsEntry, TellsOrder, TellsUse}
 use Rattle.stale.specs.Uses.{Tells}
 use Rattle.stale.specs.UseRuns.{due_turn}
 use Rattle.stale.proofs.NoEdit.{nothing_becomes}
-use Rattle.stale.proofs.Overlaps.{frames_agree, frames_first, lies_within, smaller_within}
+use Rattle.stale.proofs.Overlaps.{first_lies, frames_agree, frames_first, is_small, lies_within, smaller_within}
 
 -- what is held was found by a walk, so its page is one
 pub held_pages : (C : Setup) (H : History) (h : ℕ) (e : Entry) → Lawful C H → Contains (entries_of C H h) e → IsPage e.page
@@ -96,13 +98,17 @@ pub use_tells_no_change : (used : Option StaleUse) (step n h : ℕ) (m : Mapping
 use_tells_no_change None step n h m one = one.1
 use_tells_no_change (Some use_) step n h m one = subst (λ (x : StaleAt). TellsBecoming x.item h m) one.1 one.3
 
+pub use_tells_no_entry : (used : Option StaleUse) (step n h : ℕ) (e : Entry) → One (IsOfUse used step) n (λ item. TellsEntry item h e) → ⊥
+use_tells_no_entry None step n h e one = one.1
+use_tells_no_entry (Some use_) step n h e one = subst (λ (x : StaleAt). TellsEntry x.item h e) one.1 one.3
+
 pub use_tells_no_order : (used : Option StaleUse) (step n home ticket : ℕ) → One (IsOfUse used step) n (λ item. TellsOrder item home ticket) → ⊥
 use_tells_no_order None step n home ticket one = one.1
 use_tells_no_order (Some use_) step n home ticket one = subst (λ (x : StaleAt). TellsOrder x.item home ticket) one.1 one.3
 
 -- ---- entries
 
-some_entry : (opening : Opening) (hart : ℕ) (item : StaleAt) (o : Option Entry) → IsOfEntry opening hart o item → (e : Entry) × (o ≡ Some e) × IsHeld opening.change e × (item ≡ became_of opening hart e)
+pub some_entry : (opening : Opening) (hart : ℕ) (item : StaleAt) (o : Option Entry) → IsOfEntry opening hart o item → (e : Entry) × (o ≡ Some e) × IsHeld opening.change e × (item ≡ became_of opening hart e)
 some_entry opening hart item None of = absurd of
 some_entry opening hart item (Some e) of = (e, refl, of.held, of.is)
 
@@ -138,6 +144,20 @@ module _ (c : Change) (e : Entry) (m : Mapping) (is_e : IsPage e.page) (is_c : I
         },
         at,
       )
+
+-- an entry that holds the leaf has one of its mappings
+some_mapping : (c : Change) (e : Entry) → IsPage e.page → IsPage c.page → IsHeld c e → (m : Mapping) × IsMappingOf e m × IsOfLeaf c m
+some_mapping c e is_e is_c held =
+    let small = smaller e.page c.page in
+    let first : LiesIn small (page_number small.base) = first_lies small (is_small e.page c.page is_e is_c held.overlap e.ppn c.ppn) in
+    let one = mapping_of e (page_number small.base) in
+    let of : IsMappingOf e one = record {
+      asid = refl;
+      page = lies_within small e.page (page_number small.base) (smaller_within e.page c.page is_e is_c held.overlap).0 first;
+      ppn = refl;
+      flags = refl;
+    } in
+    (one, of, of_leaf c e one is_e is_c held of first)
 
 -- ---- changes
 
@@ -189,6 +209,66 @@ module _ (C : Setup) (H : History) (event : Event) (step : ℕ) (now : State) (s
           (h, less, (at.0, at.1, subst (λ (o : Option Entry). IsOfEntry opening h o (became_of opening h e)) (sym at.2) (record { held = held.0; is = refl }))),
           refl,
           (refl, by.2, held.1),
+        )
+
+    told_entry : (c : Change) (t n h : ℕ) (e : Entry) → One (IsOfHarts now (record { step = step; home = home; ticket = t; change = c }) (length now.harts)) n (λ item. TellsEntry item h e)
+        → (n ≡ step) × Contains (entries_of C (with_turn event (due C H event) H) h) e × IsHeld c e
+    told_entry c t n h e one =
+        let opening : Opening = record { step = step; home = home; ticket = t; change = c } in
+        let hart = one.1.0 in
+        let some = some_entry opening hart one.0 (slice_get (hart_at now hart).entries one.1.2.0) one.1.2.2 in
+        let tells : (h ≡ hart) × (e ≡ some.0) = subst (λ (x : StaleAt). TellsEntry x.item h e) some.3 one.3 in
+        let below : hart < C.harts = (let b = one.1.1 in let s = harts_same in omega (arith, b, s)) in
+        let at : Contains (entries_of C (with_turn event (due C H event) H) hart) some.0 =
+        subst (λ (es : List Entry). Contains es some.0) (hart_entries hart below) (contained (hart_at now hart).entries one.1.2.0 some.0 some.1)
+        in (
+          sym one.2 ∙ ap (λ (x : StaleAt). x.step) some.3,
+          subst (λ k. Contains (entries_of C (with_turn event (due C H event) H) k) e) (sym tells.0)
+              (subst (λ (x : Entry). Contains (entries_of C (with_turn event (due C H event) H) hart) x) (sym tells.1) at),
+          subst (λ (x : Entry). IsHeld c x) (sym tells.1) some.2,
+        )
+
+    tells_entry : (c : Change) (t h : ℕ) (e : Entry) → Contains (entries_of C (with_turn event (due C H event) H) h) e → IsHeld c e
+        → One (IsOfHarts now (record { step = step; home = home; ticket = t; change = c }) (length now.harts)) step (λ item. TellsEntry item h e)
+    tells_entry c t h e among held =
+        let opening : Opening = record { step = step; home = home; ticket = t; change = c } in
+        let below = there h e among in
+        let at = aged (hart_at now h).entries e (subst (λ (es : List Entry). Contains es e) (sym (hart_entries h below)) among) in
+        let less : h < length now.harts = (let s = harts_same in omega (arith, below, s)) in (
+          became_of opening h e,
+          (h, less, (at.0, at.1, subst (λ (o : Option Entry). IsOfEntry opening h o (became_of opening h e)) (sym at.2) (record { held = held; is = refl }))),
+          refl,
+          (refl, refl),
+        )
+
+    pub entry_by : (o : Option Change) (ticket : Option ℕ) → o ≡ change → ticket ≡ opened_ticket (due C H event) → (is_edit event (due C H event) ≡ true → (t : ℕ) × (ticket ≡ Some t)) → HasPage event → (n h : ℕ) (e : Entry)
+        → One (IsOfChange now o home step ticket) n (λ item. TellsEntry item h e) ↔ ((n ≡ step) × EntryBecomesStale C (due_turn C H event) H h e)
+    entry_by o None same opened edit has n h e = (
+      λ one. absurd (never o one.0 one.1),
+      λ b. absurd (nothing_becomes C st.within (due_turn C H event) H st.lawful st.pages (plain (is_edit event (due C H event)) refl) h b.1.mapping b.1.becomes),
+    )
+      where
+        never : (o : Option Change) (item : StaleAt) → IsOfChange now o home step None item → ⊥
+        never None item of = of
+        never (Some c) item of = of
+
+        plain : (v : Bool) → is_edit event (due C H event) ≡ v → is_edit event (due C H event) ≡ false
+        plain true e = let t = edit e in absurd (cc (t.1))
+        plain false e = e
+    entry_by None (Some t) same opened edit has n h e = (
+      λ one. absurd one.1,
+      λ b. absurd (subst (λ (x : Option Change). IsChanged x b.1.mapping) (sym same) ((changed t h b.1.mapping (sym opened)).0 b.1.becomes).1),
+    )
+    entry_by (Some c) (Some t) same opened edit has n h e =
+        let is_c : IsPage c.page = subst (λ (x : Option Change). IfSome x (λ y. IsPage y.page)) (sym same) is_page in (
+          λ one. let by = told_entry c t n h e one in
+              let m = some_mapping c e (held_pages C (with_turn event (due C H event) H) h e st.lawful by.1) is_c by.2 in
+              (by.0, record { held = by.1; mapping = m.0; is = m.1; becomes = (changed t h m.0 (sym opened)).1 ((e, by.1, m.1), subst (λ (x : Option Change). IsChanged x m.0) same m.2) }),
+          λ b. let both = (changed t h b.1.mapping (sym opened)).0 b.1.becomes in
+              let leaf : IsOfLeaf c b.1.mapping = subst (λ (x : Option Change). IsChanged x b.1.mapping) (sym same) both.1 in
+              let held = (held_leaf c e b.1.mapping (held_pages C (with_turn event (due C H event) H) h e st.lawful b.1.held) is_c b.1.is leaf).0 in
+              subst (λ k. One (IsOfHarts now (record { step = step; home = home; ticket = t; change = c }) (length now.harts)) k (λ item. TellsEntry item h e)) (sym b.0)
+              (tells_entry c t h e b.1.held held),
         )
 
     pub becoming_by : (o : Option Change) (ticket : Option ℕ) → o ≡ change → ticket ≡ opened_ticket (due C H event) → (is_edit event (due C H event) ≡ true → (t : ℕ) × (ticket ≡ Some t)) → HasPage event → (n h : ℕ) (m : Mapping)

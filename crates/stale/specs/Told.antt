@@ -1,13 +1,14 @@
 -- What is told of a run: the mappings that become stale step by step, and the stale ones that are
 -- used.
-use Rattle.std.specs.Prelude.{ℕ, Bool, false, ◌≡◌, ◌+◌, ◌<◌, ◌≤◌, List, length, Option, Some, None, slice_get, All, AllPairs, Contains}
+use Rattle.std.specs.Prelude.{⊤, ℕ, Bool, false, ◌≡◌, ◌≢◌, ◌+◌, ◌<◌, ◌≤◌, List, ◌∷◌, length, Option, Some, None, slice_get, All, AllPairs, Contains}
 use Rattle.tlb.specs.declared.store.Entry.{Entry}
 use Rattle.tlb.specs.Mappings.{Mapping, LiesIn, IsMappingOf}
 use Rattle.history.specs.Setup.{Setup}
 use Rattle.history.specs.declared.event.Event.{Event}
 use Rattle.history.specs.declared.event.Event.TheVariants.{Unmap, Protect}
 use Rattle.history.specs.declared.reply.Reply.{Reply}
-use Rattle.history.specs.Turns.{History, is_opened, opened_ticket}
+use Rattle.history.specs.Turns.{Turn, History, is_opened, opened_ticket}
+use Rattle.history.specs.Harts.{entries_of}
 use Rattle.history.specs.Due.{due}
 use Rattle.stepcore.specs.State.{State, hart_at}
 use Rattle.stale.specs.declared.changes.Change.{Change}
@@ -37,6 +38,11 @@ abbrev pub TellsOrder : StaleItem → ℕ → ℕ → Type 0
 TellsOrder (Became became) home ticket = (home ≡ became.home) × (ticket ≡ became.ticket)
 TellsOrder (Used use_) home ticket = ⊥
 
+-- or tells of this entry of a hart
+abbrev pub TellsEntry : StaleItem → ℕ → Entry → Type 0
+TellsEntry (Became became) hart e = (hart ≡ became.hart) × (e ≡ became.entry)
+TellsEntry (Used use_) hart e = ⊥
+
 -- some item of the step tells it
 pub record IsAmong (items : List StaleAt) (n : ℕ) (T : StaleItem → Type 0) : Type 0 where
   pub told : StaleAt
@@ -55,6 +61,10 @@ IsToldUse items n hart m = IsAmong items n (λ item. TellsUse item hart m)
 abbrev pub IsToldOrder : List StaleAt → ℕ → ℕ → ℕ → Type 0
 IsToldOrder items n home ticket = IsAmong items n (λ item. TellsOrder item home ticket)
 
+-- and that some mapping of this entry of the hart becomes stale there
+abbrev pub IsToldEntry : List StaleAt → ℕ → ℕ → Entry → Type 0
+IsToldEntry items n hart e = IsAmong items n (λ item. TellsEntry item hart e)
+
 -- the steps of the items never decrease
 abbrev pub InOrder : List StaleAt → Type 0
 InOrder items = AllPairs (λ earlier later. earlier.step ≤ later.step) items
@@ -64,6 +74,24 @@ pub record InOrderTo (items : List StaleAt) (last : ℕ) : Type 0 where
   pub in_order : InOrder items
   pub to : All (λ item. item.step ≤ last) items
 
+-- no element of the list is there twice
+abbrev pub AreDifferent : {X : Type 0} → List X → Type 0
+AreDifferent xs = AllPairs (λ a b. a ≢ b) xs
+
+-- two items are of one entry of a hart, or both are uses
+abbrev pub AreOfOne : StaleItem → StaleItem → Type 0
+AreOfOne (Became a) (Became b) = (a.hart ≡ b.hart) × (a.entry ≡ b.entry)
+AreOfOne (Used a) (Used b) = ⊤
+AreOfOne _ _ = ⊥
+
+-- and of one step
+abbrev pub AreOfOneStep : StaleAt → StaleAt → Type 0
+AreOfOneStep a b = (a.step ≡ b.step) × AreOfOne a.item b.item
+
+-- nothing is told twice: no step has two items of one entry of a hart, or two uses
+abbrev pub TellsOnce : List StaleAt → Type 0
+TellsOnce items = AllPairs (λ a b. ¬ AreOfOneStep a b) items
+
 -- event n, from 0 on, makes the mapping of the hart stale
 pub record BecomesAt (setup : Setup) (history : History) (events : List Event) (n hart : ℕ)
     (m : Mapping) : Type 0 where
@@ -71,6 +99,22 @@ pub record BecomesAt (setup : Setup) (history : History) (events : List Event) (
   pub is : slice_get events n ≡ Some event
   pub becomes : BecomesStale setup (due_turn setup (history_at setup history events n) event)
       (history_at setup history events n) hart m
+
+-- the turn makes some mapping of this entry stale, and the TLB of the hart holds the entry
+pub record EntryBecomesStale (setup : Setup) (turn : Turn) (history : History) (hart : ℕ)
+    (e : Entry) : Type 0 where
+  pub held : Contains (entries_of setup (turn ∷ history) hart) e
+  pub mapping : Mapping
+  pub is : IsMappingOf e mapping
+  pub becomes : BecomesStale setup turn history hart mapping
+
+-- event n, from 0 on, does so
+pub record EntryBecomesAt (setup : Setup) (history : History) (events : List Event) (n hart : ℕ)
+    (e : Entry) : Type 0 where
+  pub event : Event
+  pub is : slice_get events n ≡ Some event
+  pub becomes : EntryBecomesStale setup (due_turn setup (history_at setup history events n) event)
+      (history_at setup history events n) hart e
 
 -- the turn is an unmapping or a change of flags, and opens an order
 abbrev pub is_edit : Event → Reply → Bool
@@ -97,6 +141,10 @@ pub record OpensAt (setup : Setup) (history : History) (events : List Event)
 abbrev pub BecomesBy : Setup → History → List Event → ℕ → ℕ → Mapping → Type 0
 BecomesBy setup history events number hart m =
     (n : ℕ) × (number ≡ n + 1) × BecomesAt setup history events n hart m
+
+abbrev pub EntryBecomesBy : Setup → History → List Event → ℕ → ℕ → Entry → Type 0
+EntryBecomesBy setup history events number hart e =
+    (n : ℕ) × (number ≡ n + 1) × EntryBecomesAt setup history events n hart e
 
 abbrev pub UsedBy : Setup → History → List Event → ℕ → ℕ → Mapping → Type 0
 UsedBy setup history events number hart m =
@@ -160,3 +208,19 @@ IsOfChange m (Some change) home step ticket item = IsOfTicket m change home step
 abbrev pub IsOfUse : Option StaleUse → ℕ → StaleAt → Type 0
 IsOfUse None step item = ⊥
 IsOfUse (Some use_) step item = item ≡ record { step = step; item = Used use_ }
+
+-- items of this kind are added: where nothing is told twice, and nothing of such an item is told,
+-- nothing is told twice afterwards
+abbrev pub AddsOnce : (StaleAt → Type 0) → List StaleAt → List StaleAt → Type 0
+AddsOnce IsNew old new =
+    TellsOnce old
+    → ((item : StaleAt) → IsNew item → All (λ told. ¬ AreOfOneStep told item) old)
+    → TellsOnce new
+
+-- no TLB holds an entry twice
+abbrev pub HoldOnce : State → Type 0
+HoldOnce m = (hart : ℕ) → hart < length m.harts → AreDifferent (hart_at m hart).entries
+
+-- each item is of a step before this one
+abbrev pub AreBefore : List StaleAt → ℕ → Type 0
+AreBefore items step = All (λ item. item.step < step) items

@@ -14,8 +14,8 @@ pub use hits::{StaleUse, stale_use};
 pub use items::{BecameStale, StaleAt, StaleItem};
 pub use mapped::is_mapped_now;
 pub use promises::{
-    acknowledged_page_is_not_stale, changed_page_is_not_stale, only_edits_make_stale,
-    unmapping_makes_stale,
+    acknowledged_page_is_not_stale, changed_page_is_not_stale, entries_differ,
+    only_edits_make_stale, unmapping_makes_stale,
 };
 pub use report::{stale_report, step_stale};
 pub use runs::{UseAt, stale_uses};

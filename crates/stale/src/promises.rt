@@ -13,7 +13,7 @@ ghost use Rattle.history.specs.Due.{Lawful};
 ghost use Rattle.history.specs.Staleness.{HasAnswered, is_mapped_anew, is_superseded, IsChange, IsForAsid};
 ghost use Rattle.laws.specs.Kept.{HavePages, IsSetup};
 ghost use Rattle.stale.specs.Stale.{BecomesStale, Stale, unmapping, UsesStale};
-ghost use Rattle.stale.specs.Told.{is_edit};
+ghost use Rattle.stale.specs.Told.{is_edit, AreDifferent};
 
 /// A hart that an unmapping names and that has acknowledged it neither holds nor uses a stale
 /// mapping of the page in its address space, until the page is mapped anew.
@@ -58,6 +58,14 @@ pub fn unmapping_makes_stale()
         → IsMappedBy (entries_of setup history holder) m → m.asid ≡ asid_in setup history place
         → LiesIn page m.page
         → Stale setup (unmapping hart place page named ticket ∷ history) holder m }
+{}
+
+/// No two entries of a TLB are equal: a walk begins only where no entry matches its address, and
+/// until it ends none comes to match it, but what it fills does.
+#[tactic(auto, using(crate::proofs::Differing::entries_differ))]
+pub fn entries_differ()
+    ensures { (setup : Setup) → IsSetup setup → (history : History) (hart : ℕ)
+        → Lawful setup history → AreDifferent (entries_of setup history hart) }
 {}
 
 /// No step but an unmapping or a change of flags that opens an order makes a mapping stale: no

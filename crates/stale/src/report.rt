@@ -6,12 +6,13 @@ ghost use Rattle.history.specs.Setup.{Setup};
 ghost use Rattle.history.specs.Turns.{History, opened_ticket};
 ghost use Rattle.history.specs.Due.{due};
 ghost use Rattle.history.specs.Runs.{with_turn};
+ghost use Rattle.tlb.specs.declared.store.Entry.{Entry as EntryOf};
 ghost use Rattle.tlb.specs.Mappings.{Mapping};
 ghost use Rattle.stepcore.specs.Stands.{Stands};
 ghost use Rattle.stale.specs.declared.items.StaleAt.{StaleAt as StaleAtOf};
 ghost use Rattle.stale.specs.Stale.{BecomesStale, UsesStale};
 ghost use Rattle.stale.specs.UseRuns.{due_turn};
-ghost use Rattle.stale.specs.Told.{home_in, BecomesBy, InOrder, InOrderTo, IsEditOf, IsOfChange, IsOfEntries, IsOfEntry, IsOfHarts, IsOfUse, IsToldBecoming, IsToldOrder, IsToldUse, OpensBy, UsedBy};
+ghost use Rattle.stale.specs.Told.{home_in, AddsOnce, AreBefore, AreDifferent, BecomesBy, EntryBecomesBy, EntryBecomesStale, HoldOnce, InOrder, InOrderTo, IsEditOf, IsOfChange, IsOfEntries, IsOfEntry, IsOfHarts, IsOfUse, IsToldBecoming, IsToldEntry, IsToldOrder, IsToldUse, OpensBy, TellsOnce, UsedBy};
 
 use crate::changes::{Change, change_of, is_held, smaller};
 use crate::hits::{StaleUse, stale_use};
@@ -41,6 +42,8 @@ fn tell_entry(
         ↔ (Contains items.old.items item ⊎ IsOfEntry opening.now hart entry item)) }
     ensures in_order { OnOk result (InOrderTo items.old.items opening.now.step
         → InOrderTo items.new.items opening.now.step) }
+    ensures once { OnOk result (AddsOnce (λ item. IsOfEntry opening.now hart entry item)
+        items.old.items items.new.items) }
 {
     let Some(entry) = entry else {
         return Ok(());
@@ -74,6 +77,9 @@ fn tell_tlb(
         (length tlb.now.entries) item)) }
     ensures in_order { OnOk result (InOrderTo items.old.items opening.now.step
         → InOrderTo items.new.items opening.now.step) }
+    ensures once { OnOk result (AreDifferent tlb.now.entries
+        → AddsOnce (λ item. IsOfEntries opening.now hart tlb.now.entries
+        (length tlb.now.entries) item) items.old.items items.new.items) }
 {
     for age in 0..tlb.len() {
         tell_entry(opening, hart, tlb.entry(age), items)?;
@@ -93,6 +99,9 @@ fn tell_tlbs(
         (length machine.now.harts) item)) }
     ensures in_order { OnOk result (InOrderTo items.old.items opening.now.step
         → InOrderTo items.new.items opening.now.step) }
+    ensures once { OnOk result (HoldOnce machine.now
+        → AddsOnce (λ item. IsOfHarts machine.now opening.now (length machine.now.harts) item)
+        items.old.items items.new.items) }
 {
     for hart in 0..machine.harts() {
         tell_tlb(opening, hart, machine.hart(hart).tlb(), items)?;
@@ -126,6 +135,9 @@ fn tell_change(
         (opened_ticket reply.now) item)) }
     ensures in_order { OnOk result (InOrderTo items.old.items step
         → InOrderTo items.new.items step) }
+    ensures once { OnOk result (HoldOnce machine.now
+        → AddsOnce (λ item. IsOfChange machine.now change home step (opened_ticket reply.now) item)
+        items.old.items items.new.items) }
 {
     let Some(change) = change else {
         return Ok(());
@@ -143,11 +155,14 @@ fn tell_change(
 }
 
 /// Tells a use, if there is one.
+#[tactic(auto, using(crate::proofs::Once::once_use))]
 fn tell_use(used: Option<StaleUse>, step: usize, items: &mut Vec<StaleAt>) -> Result<(), AllocError>
     ensures told { OnOk result ((item : StaleAtOf) → Contains items.new.items item
         ↔ (Contains items.old.items item ⊎ IsOfUse used step item)) }
     ensures in_order { OnOk result (InOrderTo items.old.items step
         → InOrderTo items.new.items step) }
+    ensures once { OnOk result (AddsOnce (λ item. IsOfUse used step item)
+        items.old.items items.new.items) }
 {
     if let Some(used) = used {
         items.push(StaleAt {
@@ -182,12 +197,20 @@ pub fn step_stale(
         → IsToldUse items.new.items n hart m
         ↔ (IsToldUse items.old.items n hart m
         ⊎ ((n ≡ step) × UsesStale setup (due_turn setup history event) history hart m))) }
+    ensures entries { OnOk result ((setup : Setup) (history : History) (n hart : ℕ) (e : EntryOf)
+        → Stands setup machine.old history
+        → IsToldEntry items.new.items n hart e
+        ↔ (IsToldEntry items.old.items n hart e ⊎ ((n ≡ step)
+        × EntryBecomesStale setup (due_turn setup history event) history hart e))) }
     ensures orders { OnOk result ((setup : Setup) (history : History) (n home ticket : ℕ)
         → Stands setup machine.old history → IsToldOrder items.new.items n home ticket
         → IsToldOrder items.old.items n home ticket ⊎ ((n ≡ step) × IsEditOf home event
         × (opened_ticket (due setup history event) ≡ Some ticket))) }
     ensures in_order { OnOk result (InOrderTo items.old.items step
         → InOrderTo items.new.items step) }
+    ensures once { OnOk result ((setup : Setup) (history : History)
+        → Stands setup machine.old history → AreBefore items.old.items step
+        → TellsOnce items.old.items → TellsOnce items.new.items) }
 {
     let change = change_of(machine, &event);
     let reply = machine.step(event);
@@ -198,7 +221,7 @@ pub fn step_stale(
 }
 
 /// Does the events in order, and tells what becomes stale and what stale mappings are used: items
-/// in the order of the steps. An error comes only if there is no memory for it.
+/// in the order of the steps, none of them twice. An error comes only if there is no memory for it.
 pub fn stale_report(
     alloc: Global,
     machine: &mut Machine,
@@ -211,11 +234,17 @@ pub fn stale_report(
     ensures used { IfOk result (λ items. (setup : Setup) (history : History) (number hart : ℕ)
         (m : Mapping) → Stands setup machine.old history
         → UsedBy setup history events.now number hart m ↔ IsToldUse items.items number hart m) }
+    ensures entries { IfOk result (λ items. (setup : Setup) (history : History)
+        (number hart : ℕ) (e : EntryOf) → Stands setup machine.old history
+        → EntryBecomesBy setup history events.now number hart e
+        ↔ IsToldEntry items.items number hart e) }
     ensures orders { IfOk result (λ items. (setup : Setup) (history : History)
         (number home ticket : ℕ) → Stands setup machine.old history
         → IsToldOrder items.items number home ticket
         → OpensBy setup history events.now number home ticket) }
     ensures in_order { IfOk result (λ items. InOrder items.items) }
+    ensures once { IfOk result (λ items. (setup : Setup) (history : History)
+        → Stands setup machine.old history → TellsOnce items.items) }
 {
     let mut items = Vec::new(alloc);
     let mut step = 0;

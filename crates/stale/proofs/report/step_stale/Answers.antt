@@ -6,9 +6,10 @@ use Rattle.history.specs.Runs.{with_turn}
 use Rattle.history.specs.declared.reply.Reply.{Reply}
 use Rattle.stepcore.specs.Stands.{Stands}
 use Rattle.stale.specs.Stale.{UsesStale}
-use Rattle.stale.specs.Told.{home_in, IsEditOf, IsOfChange, IsOfUse, TellsBecoming, TellsOrder, TellsUse}
+use Rattle.stale.specs.Told.{home_in, IsEditOf, IsOfChange, IsOfUse, TellsBecoming, TellsEntry, TellsOrder, TellsUse}
 use Rattle.stale.specs.Uses.{Tells}
-use Rattle.stale.proofs.Stepping.{among, becoming_by, change_tells_no_use, change_tells_order, edit_ticket, use_steps, use_tells_no_change, use_tells_no_order}
+use Rattle.stale.proofs.Stepping.{among, becoming_by, change_tells_no_use, change_tells_order, edit_ticket, entry_by, use_steps, use_tells_no_change, use_tells_no_entry, use_tells_no_order}
+use Rattle.stale.proofs.Once.{hold_once, step_once}
 use Rattle.stale.proofs.report.step_stale.Goals as goal
 
 pub returns-clause-became : goal.returns-clause-became
@@ -30,6 +31,29 @@ returns-clause-became c = λ C H n h m st.
       λ t. elim (all.0 t) [
         | inl old ↦ inl old
         | inr more ↦ elim more [ inl a ↦ inr (by.0 a) | inr b ↦ absurd (use_tells_no_change c.stale_use-used.result step n h m b) ]
+      ],
+      λ cases. all.1 (elim cases [ inl old ↦ inl old | inr b ↦ inr (inl (by.1 b)) ]),
+    )
+
+pub returns-clause-entries : goal.returns-clause-entries
+returns-clause-entries c = λ C H n h e st.
+    let event = c.args.event in
+    let step = c.args.step in
+    let now = c.step-reply.new.self in
+    let change = c.change_of-change.result in
+    let home = c.home_of.result in
+    let is_due = c.step-reply.ensures.due C H st in
+    let after : Stands C now (with_turn event (due C H event) H) = subst (λ (r : Reply). Stands C now (with_turn event r H)) is_due (c.step-reply.ensures.stands C H st) in
+    let all = among c.args.items.now.items c.tell_change.new.items.items c.tell_use.new.items.items (IsOfChange now change home step (opened_ticket (due C H event))) (IsOfUse c.stale_use-used.result step)
+    (λ item. subst (λ (r : Reply). Contains c.tell_change.new.items.items item ↔ (Contains c.args.items.now.items item ⊎ IsOfChange now change home step (opened_ticket r) item)) is_due (c.in_ok-tell_change.ensures.told item))
+    c.in_ok-tell_use.ensures.told n (λ item. TellsEntry item h e)
+    in
+    let by = entry_by C H event step now after change c.change_of-change.ensures.page home (λ t k p opened. c.change_of-change.ensures.changed C H t k p st after.pages.1 opened) change
+    (opened_ticket (due C H event)) refl refl (edit_ticket event (due C H event)) after.pages.1 n h e
+    in (
+      λ t. elim (all.0 t) [
+        | inl old ↦ inl old
+        | inr more ↦ elim more [ inl a ↦ inr (by.0 a) | inr b ↦ absurd (use_tells_no_entry c.stale_use-used.result step n h e b) ]
       ],
       λ cases. all.1 (elim cases [ inl old ↦ inl old | inr b ↦ inr (inl (by.1 b)) ]),
     )
@@ -82,3 +106,10 @@ returns-clause-orders c = λ C H n home ticket st t.
         | inr b ↦ absurd (use_tells_no_order c.stale_use-used.result step n home ticket b)
       ]
     ]
+
+pub returns-clause-once : goal.returns-clause-once
+returns-clause-once c = λ C H st.
+    let now = c.step-reply.new.self in
+    step_once now c.change_of-change.result c.home_of.result c.args.step (opened_ticket c.step-reply.result) c.stale_use-used.result c.args.items.now.items c.tell_change.new.items.items c.tell_use.new.items.items
+    c.in_ok-tell_change.ensures.told c.in_ok-tell_change.ensures.once c.in_ok-tell_use.ensures.once
+    (hold_once C now (with_turn c.args.event c.step-reply.result H) (c.step-reply.ensures.stands C H st))
