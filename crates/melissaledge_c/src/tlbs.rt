@@ -3,7 +3,7 @@
 ghost use Rattle.std.specs.Prelude.{◌≡◌, pos};
 ghost use Rattle.melissaledge_c.specs.Requests.{asked_of, entry_of, rs1_of, rs2_of, what_of};
 ghost use Rattle.melissaledge_c.specs.Codes.{scheme_of};
-ghost use Rattle.melissaledge_c.specs.Tlbs.{Answers, Changes, Closes, LooksUp, Opens, dropped, fenced_by, with_entry};
+ghost use Rattle.melissaledge_c.specs.Tlbs.{Answers, Changes, Closes, LooksUp, Opens, dropped, fenced_by, found_at, with_entry};
 
 use crate::codes::{Fault, scheme_of};
 use crate::requests::{
@@ -13,7 +13,7 @@ use crate::tlb_handle::TlbHandle;
 use crate::translations::Answer;
 use pte::{Scheme, VirtAddr, tests_are_facts};
 use std::alloc::Global;
-use tlb::Tlb;
+use tlb::{Entry, Tlb};
 
 /// Opens an empty TLB of a scheme, as `Tlb::new_in` has it. Refused with `Scheme`, `AlreadyOpen` or
 /// `NoMemory`, in this order, and then nothing has changed.
@@ -48,6 +48,17 @@ pub extern "C" fn melissaledge_tlb_close(alloc: Global, tlb: &mut TlbHandle) -> 
     }
 }
 
+/// The oldest entry that matches an address for an ASID, none if the address is not canonical.
+fn found_at(tlb: &Tlb, asid: u16, va: u64) -> Option<Entry>
+    ensures { result ≡ found_at tlb.now asid va }
+{
+    tests_are_facts();
+    match VirtAddr::new_in(Scheme::Sv48, va) {
+        Some(va) => tlb.lookup(asid, va),
+        None => None,
+    }
+}
+
 /// The oldest entry that matches an address for an ASID, as `Tlb::lookup` has it: 0 with the entry,
 /// or 2 if there is none, which is also so if the address is not canonical. Refused with `NotOpen`.
 #[unsafe(no_mangle)]
@@ -61,14 +72,10 @@ pub extern "C" fn melissaledge_tlb_lookup(
     ensures looked_up { LooksUp tlb.old.held asid va result entry.old entry.new }
     ensures kept { tlb.new.held ≡ tlb.old.held }
 {
-    tests_are_facts();
     let Some(open) = tlb.take(alloc) else {
         return Fault::NotOpen.code();
     };
-    let found = match VirtAddr::new_in(Scheme::Sv48, va) {
-        Some(va) => open.lookup(asid, va),
-        None => None,
-    };
+    let found = found_at(&open, asid, va);
     tlb.put(open);
     match found {
         Some(found) => {

@@ -155,11 +155,15 @@ with_first line (Some request) = with_request line request
 abbrev pub closed_text : Bool → List ℕ
 closed_text closed = if closed then codes "closed" else codes "open"
 
+abbrev pub with_state : List ℕ → MailboxState → ℕ → List ℕ
+with_state line mailbox capacity =
+    upto 19 (upto 10 line ++ closed_text mailbox.closed)
+    ++ (decimal mailbox.outstanding ++ codes " of " ++ decimal capacity)
+
 abbrev pub mailbox_line : ℕ → ℕ → MailboxState → ℕ → List ℕ
 mailbox_line sender receiver mailbox capacity =
-    end_line (with_first (upto 19
-    (upto 10 (upto 6 (decimal sender) ++ decimal receiver) ++ closed_text mailbox.closed)
-    ++ (decimal mailbox.outstanding ++ codes " of " ++ decimal capacity)) (first_waiting mailbox))
+    end_line (with_first (with_state (upto 6 (decimal sender) ++ decimal receiver) mailbox capacity)
+    (first_waiting mailbox))
 
 abbrev pub waiting_line : Request → List ℕ
 waiting_line request = end_line (with_request [] request)

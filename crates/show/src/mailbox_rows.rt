@@ -2,7 +2,7 @@
 
 ghost use Rattle.std.specs.Prelude.{◌≡◌, ◌++◌, ◌<◌, length, IfOk, OnOk, string_bytes};
 ghost use Rattle.show.specs.Sheet.{mailbox_rows, mailbox_rows_from, mailbox_rows_if, mailboxes_text, waiting_row};
-ghost use Rattle.show.specs.Rows.{mailbox_line, waiting_line, with_request};
+ghost use Rattle.show.specs.Rows.{mailbox_line, waiting_line, with_first, with_request, with_state};
 
 use crate::columns::{pad, push_table};
 use lines::push_what;
@@ -25,6 +25,36 @@ fn push_request(line: &mut String, request: Request) -> Result<(), AllocError>
     push_what(line, request.what)
 }
 
+/// Adds whether a mailbox is open, and how many of its requests are outstanding.
+fn push_state(line: &mut String, mailbox: &Mailbox, capacity: u16) -> Result<(), AllocError>
+    ensures ok { OnOk result (string_bytes line.new
+        ≡ with_state (string_bytes line.old) mailbox.now capacity) }
+{
+    let outstanding = mailbox.outstanding();
+    pad(line, 10)?;
+    line.push_str(if mailbox.is_closed() {
+        "closed"
+    } else {
+        "open"
+    })?;
+    pad(line, 19)?;
+    write!(line, "{outstanding} of {capacity}")
+}
+
+/// Adds the columns of the oldest request that waits, if there is one.
+fn push_first(line: &mut String, first: Option<Request>) -> Result<(), AllocError>
+    ensures ok { OnOk result (string_bytes line.new
+        ≡ with_first (string_bytes line.old) first) }
+{
+    match first {
+        Some(request) => push_request(line, request),
+        None => {
+            pad(line, 32)?;
+            line.push_str("-")
+        }
+    }
+}
+
 /// The line of a mailbox, with the oldest request that waits.
 fn mailbox_line(
     alloc: Global,
@@ -36,25 +66,11 @@ fn mailbox_line(
     ensures { IfOk result (λ line. string_bytes line ≡ mailbox_line from to mailbox.now capacity) }
 {
     let mut line = String::new(alloc);
-    let outstanding = mailbox.outstanding();
     write!(line, "{from}")?;
     pad(&mut line, 6)?;
     write!(line, "{to}")?;
-    pad(&mut line, 10)?;
-    line.push_str(if mailbox.is_closed() {
-        "closed"
-    } else {
-        "open"
-    })?;
-    pad(&mut line, 19)?;
-    write!(line, "{outstanding} of {capacity}")?;
-    match mailbox.first_waiting() {
-        Some(request) => push_request(&mut line, request)?,
-        None => {
-            pad(&mut line, 32)?;
-            line.push_str("-")?;
-        }
-    }
+    push_state(&mut line, mailbox, capacity)?;
+    push_first(&mut line, mailbox.first_waiting())?;
     line.push_str("\n")?;
     Ok(line)
 }
