@@ -63,12 +63,12 @@ Tells None result old new = (result ≡ pos 2) × (new ≡ old)
 Tells (Some entry) result old new = (result ≡ pos 0) × (new ≡ entry_given entry)
 
 -- the oldest entry that matches, of an address that is canonical
-abbrev pub found_at : TlbState → ℕ → ℕ → Option Entry
-found_at tlb asid va = if is_canonical widest va then first_match tlb.entries asid va else None
+abbrev pub matched_at : TlbState → ℕ → ℕ → Option Entry
+matched_at tlb asid va = if is_canonical widest va then first_match tlb.entries asid va else None
 
 abbrev pub LooksUp : Held → ℕ → ℕ → ℤ → EntryGiven → EntryGiven → Type 0
 LooksUp None asid va result old new = (result ≡ code_of fault.NotOpen) × (new ≡ old)
-LooksUp (Some tlb) asid va result old new = Tells (found_at tlb asid va) result old new
+LooksUp (Some tlb) asid va result old new = Tells (matched_at tlb asid va) result old new
 
 abbrev pub IsAnswer : Entry → Result ℕ Trap → ℤ → Answer → Type 0
 IsAnswer entry (Ok pa) result new = (result ≡ pos 0) × (new ≡ hit_answer pa entry)

@@ -3,7 +3,7 @@
 ghost use Rattle.std.specs.Prelude.{◌≡◌, pos};
 ghost use Rattle.melissaledge_c.specs.Requests.{asked_of, entry_of, rs1_of, rs2_of, what_of};
 ghost use Rattle.melissaledge_c.specs.Codes.{scheme_of};
-ghost use Rattle.melissaledge_c.specs.Tlbs.{Answers, Changes, Closes, LooksUp, Opens, dropped, fenced_by, found_at, with_entry};
+ghost use Rattle.melissaledge_c.specs.Tlbs.{Answers, Changes, Closes, LooksUp, Opens, dropped, fenced_by, matched_at, with_entry};
 
 use crate::codes::{Fault, scheme_of};
 use crate::requests::{
@@ -49,8 +49,8 @@ pub extern "C" fn melissaledge_tlb_close(alloc: Global, tlb: &mut TlbHandle) -> 
 }
 
 /// The oldest entry that matches an address for an ASID, none if the address is not canonical.
-fn found_at(tlb: &Tlb, asid: u16, va: u64) -> Option<Entry>
-    ensures { result ≡ found_at tlb.now asid va }
+fn matched_at(tlb: &Tlb, asid: u16, va: u64) -> Option<Entry>
+    ensures { result ≡ matched_at tlb.now asid va }
 {
     tests_are_facts();
     match VirtAddr::new_in(Scheme::Sv48, va) {
@@ -75,7 +75,7 @@ pub extern "C" fn melissaledge_tlb_lookup(
     let Some(open) = tlb.take(alloc) else {
         return Fault::NotOpen.code();
     };
-    let found = found_at(&open, asid, va);
+    let found = matched_at(&open, asid, va);
     tlb.put(open);
     match found {
         Some(found) => {
