@@ -1,6 +1,6 @@
 //! Accesses: walks and loads, switches of the space, and fences.
 
-ghost use Rattle.std.specs.Prelude.{◌≡◌, ◌<◌, ◌↔◌, IsTrue, false, true, length, IfOk, IfErr, slice_set};
+ghost use Rattle.std.specs.Prelude.{◌≡◌, ◌<◌, ◌↔◌, IsTrue, Some, false, true, length, IfOk, IfErr, slice_set};
 ghost use Rattle.walk.specs.Stage.{start_of};
 ghost use Rattle.spaces.specs.Layout.{root_ppn};
 ghost use Rattle.tlb.specs.Mappings.{IsMappedBy, Translates};
@@ -10,7 +10,7 @@ ghost use Rattle.history.specs.declared.event.Event.TheVariants.{Begin, Load, Sw
 ghost use Rattle.stepcore.specs.State.{hart_at, words_in};
 ghost use Rattle.stepcore.specs.Answers.{access_answer, reply_at_once, asid_of_hart, next_of, progress_answer};
 ghost use Rattle.stepcore.specs.Runs.{entries_in};
-ghost use Rattle.stepcore.specs.Changes.{Answers, is_accepted, with_progress};
+ghost use Rattle.stepcore.specs.Changes.{Answers, is_accepted, put_hart, with_progress};
 
 use crate::conditions::refuse;
 use crate::hart::AtOnce;
@@ -57,6 +57,31 @@ impl Machine {
         }
     }
 
+    /// Begins the walk of an access of a hart that is there, if it is not answered at once.
+    #[inline(always)]
+    fn access(&mut self, hart: u8, va: u64, access: Access, ctx: Ctx) -> Reply
+        requires { hart < length self.old.harts }
+        ensures reply { result ≡ access_answer self.old (hart_at self.old hart) va access ctx }
+        ensures accepted { is_accepted result ≡ true }
+        ensures after { self.new ≡ record self.old {
+          harts = put_hart self.old hart (is_more result)
+              (record (hart_at self.old hart) {
+                walk = Some (start_of self.old.memory.layout.scheme
+                    (root_ppn self.old.memory.layout (hart_at self.old hart).space) va access ctx);
+              });
+        } }
+    {
+        match self.first_walk(hart, va, access, ctx) {
+            Ok(walk) => {
+                let this = &mut self.harts[usize::from(hart)];
+                this.begin(walk);
+                Reply::More
+            }
+            Err(AtOnce::Hit(pa)) => Reply::Hit(pa),
+            Err(AtOnce::Trap(trap)) => Reply::Trap(trap),
+        }
+    }
+
     /// Begins an access.
     #[inline(always)]
     pub(crate) fn begin(
@@ -72,15 +97,7 @@ impl Machine {
         let this = self.hart(hart);
         refuse(this.is_walking(), Refusal::Walking)?;
         refuse(this.is_serving(), Refusal::Serving)?;
-        match self.first_walk(hart, va, access, ctx) {
-            Ok(walk) => {
-                let this = &mut self.harts[usize::from(hart)];
-                this.begin(walk);
-                Ok(Reply::More)
-            }
-            Err(AtOnce::Hit(pa)) => Ok(Reply::Hit(pa)),
-            Err(AtOnce::Trap(trap)) => Ok(Reply::Trap(trap)),
-        }
+        Ok(self.access(hart, va, access, ctx))
     }
 
     /// What the next word makes of a walk.

@@ -141,15 +141,28 @@ impl Machine {
         Ok(Reply::Ok)
     }
 
-    /// Makes a free space live under an ASID.
-    pub(crate) fn create(&mut self, hart: u8, space: u8, asid: u16) -> Result<Reply, Refusal>
-        ensures { Answers self.old (Create hart space asid) result self.new }
+    /// Whether a hart may make a space live under an ASID.
+    fn may_create(&self, hart: u8, space: u8, asid: u16) -> Result<(), Refusal>
+        ensures reply { OnOk result (reply_to self.now (Create hart space asid) ≡ reply.Ok) }
+        ensures space { OnOk result (space < length self.now.spaces) }
+        ensures refused { IfErr result (λ refusal.
+            reply_to self.now (Create hart space asid) ≡ reply.Refused refusal) }
     {
         self.needs_hart(hart)?;
         refuse(!self.is_number(space), Refusal::NoSpace)?;
         refuse(!self.is_home(hart, space), Refusal::NotHome)?;
         refuse(!self.space(space).phase.is_free(), Refusal::NotFree)?;
-        refuse(is_asid_used(&self.spaces, asid), Refusal::AsidInUse)?;
+        if is_asid_used(&self.spaces, asid) {
+            return Err(Refusal::AsidInUse);
+        }
+        Ok(())
+    }
+
+    /// Makes a free space live under an ASID.
+    pub(crate) fn create(&mut self, hart: u8, space: u8, asid: u16) -> Result<Reply, Refusal>
+        ensures { Answers self.old (Create hart space asid) result self.new }
+    {
+        self.may_create(hart, space, asid)?;
         let phase = Phase::Live;
         self.put_space(space, SpaceState { asid, phase });
         Ok(Reply::Ok)

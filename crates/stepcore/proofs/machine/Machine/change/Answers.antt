@@ -22,3 +22,9 @@ returns c =
       holders = λ p. c.store.ensures.holders p ∙ ap (λ (s : State). holders_after (holders_in s) edit.place edit p) opens;
     }))
     (search rules)
+
+pub returns-in_err-edit : goal.returns-in_err-edit
+returns-in_err-edit c = record { reply = search rules; follows = search rules; refused = search rules; page = search rules }
+
+pub returns-in_err-ticket : goal.returns-in_err-ticket
+returns-in_err-ticket c = record { reply = search rules; follows = search rules; refused = search rules; page = search rules }
