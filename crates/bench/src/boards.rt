@@ -1,11 +1,14 @@
 //! Harts with ports of one board, each in a thread of its own: hart 0 makes one shootdown after
 //! another, and 1 to 3 others serve.
 //!
-//! | part | hart 0, each time | the others, meanwhile |
-//! |---|---|---|
-//! | `flush1` to `flush3` | opens a ticket for everything, posts it to each other hart, serves it itself, collects until all are done, and finishes | serve |
-//! | `shootdown1` to `shootdown3` | the same with a page, which it unmaps, and maps again in the end | serve, and use the page after each service |
-//! | `ports1` to `ports3` | the same with the next of 24 pages | translate addresses of these pages, and serve after each 32 |
+//! What hart 0 does each time, and the others meanwhile:
+//!
+//! - `flush1` to `flush3`: opens a ticket for everything, posts it to each other hart, serves it
+//!   itself, collects until all are done, and finishes; the others serve;
+//! - `shootdown1` to `shootdown3`: the same with a page, which it unmaps, and maps again in the
+//!   end; the others serve, and use the page after each service;
+//! - `ports1` to `ports3`: the same with the next of 24 pages; the others translate addresses of
+//!   these pages, and serve after each 32.
 //!
 //! So what is timed of the second is a whole shootdown of a page that each of the others has in its
 //! TLB. Of the addresses of the third seven of eight are of the first 12 pages, and those not

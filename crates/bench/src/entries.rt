@@ -4,15 +4,18 @@
 //! the one of number 5 global. Entry k begins at k + 1 times the size of its page: 1 GiB where k is
 //! 7 or 15, 2 MiB where k is 3 or 11, else 4 KiB. No two overlap.
 //!
-//! | kind | each time | what is counted |
-//! |---|---|---|
-//! | oldest, middle, youngest | a look-up in the page of entry 0, 8 or 15 | the look-ups that find it, which are all |
-//! | miss | a look-up at 128 GiB, where no entry is | the look-ups that find one, which are none |
-//! | fill | a fill of the next of 64 pages of 4 KiB | the pages that are there at the end: the last 16 |
-//! | serve | such a fill, and the service of the page that was filled 8 fills before | the last 8 |
-//! | fence_page, fence_page_of_space | such a fill, and a fence of an address of that page, for any ASID or for 1 | the last 8 |
-//! | fence_space | such a fill, and a fence of the ASID 1 | the one of the global entry |
-//! | fence_all | such a fill, and a fence of all | none |
+//! What each kind makes each time, and what is counted:
+//!
+//! - `oldest`, `middle`, `youngest`: a look-up in the page of entry 0, 8 or 15; the look-ups that
+//!   find it, which are all;
+//! - `miss`: a look-up at 128 GiB, where no entry is; the look-ups that find one, which are none;
+//! - `fill`: a fill of the next of 64 pages of 4 KiB; the pages that are there at the end, which
+//!   are the last 16;
+//! - `serve`: such a fill, and the service of the page that was filled 8 fills before; the last 8;
+//! - `fence_page`, `fence_page_of_space`: such a fill, and a fence of an address of that page, for
+//!   any ASID or for 1; the last 8;
+//! - `fence_space`: such a fill, and a fence of the ASID 1; the one of the global entry;
+//! - `fence_all`: such a fill, and a fence of all; none.
 //!
 //! These are the counts of 64 times or more. The 64 pages are those from the address 0 on. While
 //! nothing is dropped, which is during the first 8 fills, each fill takes out the oldest entry, so

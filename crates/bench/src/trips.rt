@@ -1,10 +1,11 @@
 //! Shootdowns between two harts, each in a thread of its own, and what bounds them.
 //!
-//! | part | what goes there and back |
-//! |---|---|
-//! | `rings` | hart 0 opens a ticket, posts its request to hart 1, serves it itself, and finishes it once hart 1 has served it too; hart 1 tells so by posting the request back |
-//! | `lock` | the same on a machine under one lock: hart 1 acknowledges, and hart 0 collects |
-//! | `words` | a number, in two words that the threads poll: no request can be quicker |
+//! What goes there and back:
+//!
+//! - `rings`: hart 0 opens a ticket, posts its request to hart 1, serves it itself, and finishes it
+//!   once hart 1 has served it too; hart 1 tells so by posting the request back;
+//! - `lock`: the same on a machine under one lock: hart 1 acknowledges, and hart 0 collects;
+//! - `words`: a number, in two words that the threads poll: no request can be quicker.
 
 use crate::pause::pause;
 use pte::{Scheme, What};

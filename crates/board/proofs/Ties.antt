@@ -6,7 +6,8 @@ use Rattle.std.proofs.lemmas.List.Quantifiers.{position-Some}
 use Rattle.shoot.specs.declared.tickets.TicketFault.TheVariants.{HomeNotNamed}
 use Rattle.spaces.proofs.Lists.{slice_get-set_same, slice_get-set_other}
 use Rattle.shoot.proofs.HartSets.{by_test, contains_where}
-use Rattle.shoot.specs.declared.TheConstants.{MAX_HARTS, MAX_TICKETS}
+use Rattle.pte.specs.declared.TheConstants.{MAX_HARTS}
+use Rattle.shoot.specs.declared.TheConstants.{MAX_TICKETS}
 use Rattle.pte.specs.Address.{Span}
 use Rattle.spaces.specs.declared.places.Place.{Place}
 use Rattle.std.specs.Option.{option_map}
@@ -14,7 +15,7 @@ use Rattle.std.proofs.lemmas.Bool.{cases_eq, cases_lt, eq-eqb, eqb-true, ne_eqb,
 use Rattle.pte.specs.declared.address.What.{What}
 use Rattle.shoot.specs.HartSet.{contains, harts_in, no_harts}
 use Rattle.shoot.specs.declared.tickets.Ticket.{Ticket}
-use Rattle.shoot.specs.Tickets.{TicketTable, ticket_at, if_open, with_ticket, with_change, changed, after_acked, after_finish, after_open, after_posted, asked as asked_of, done_with, is_done_at, is_open, ticket_posted, names, new_ticket, lowest_free, no_tickets, open_answer, opened, tells, what_at, with_acked, with_collected, with_posted}
+use Rattle.shoot.specs.Tickets.{TicketTable, ticket_at, if_open, with_ticket, with_change, acked_by, changed, after_acked, after_finish, after_open, after_posted, asked as asked_of, done_with, is_done_at, is_open, ticket_posted, names, new_ticket, lowest_free, no_tickets, open_answer, opened, tells, what_at, with_acked, with_collected, with_posted}
 use Rattle.rings.specs.Ends.{OutboxState, after_close, after_release}
 use Rattle.spaces.specs.declared.configuration.Config.{Config}
 use Rattle.views.specs.declared.view.Cause.{Cause}
@@ -22,7 +23,7 @@ use Rattle.views.specs.declared.view.Order.{Order}
 use Rattle.views.specs.Orders.{asked, dropping, is_in}
 use Rattle.views.specs.OrderTurns.{IsAsking, IsAwaiting, armed, collected, for_ticket, fresh, marked, order_of_ticket, orders_after}
 use Rattle.views.specs.declared.view.View.{View}
-use Rattle.board.specs.Answers.{acked_by, collected_by, outbox_with}
+use Rattle.board.specs.Answers.{collected_by, outbox_with}
 use Rattle.shoot.specs.Request.{Request}
 use Rattle.shoot.proofs.HartBytes.{done}
 use Rattle.board.specs.Ports.{End, element, end_of_outbox}

@@ -11,7 +11,7 @@ use Rattle.shoot.specs.declared.mailbox.PostFault.TheVariants as fault
 use Rattle.shoot.specs.declared.tickets.TicketFault.{TicketFault}
 use Rattle.shoot.specs.declared.tickets.TicketFault.TheVariants as ticket_fault
 use Rattle.shoot.specs.declared.tickets.Collected.{Collected}
-use Rattle.shoot.specs.Tickets.{TicketTable, is_open, names, ticket_posted, is_done_at, what_at, open_answer, progress_at, after_open, after_posted, after_acked, after_collect, after_finish}
+use Rattle.shoot.specs.Tickets.{TicketTable, is_open, names, ticket_posted, is_done_at, what_at, open_answer, progress_at, after_open, acked_by, after_acked, after_posted, after_collect, after_finish}
 use Rattle.refusals.specs.declared.refusal.Refusal.{Refusal}
 use Rattle.refusals.specs.declared.refusal.Refusal.TheVariants.{NoHart, NoSpace, HomeNotNamed, NoTicket, NotOpen, NotNamed, AlreadyPosted, Closed, Full, NotDone}
 use Rattle.history.specs.declared.event.Scope.{Scope}
@@ -34,8 +34,8 @@ answer_or None rest = rest
 
 -- the space of the scope is there; those of a board stay as they were opened
 abbrev pub is_there : Setup → Scope → Bool
-is_there C (scope.Space s) = is_number C s
-is_there C scope.All = true
+is_there setup (scope.Space s) = is_number setup s
+is_there setup scope.All = true
 
 -- Flush
 abbrev pub flush_refusal : PortState → Scope → ℕ → Option Refusal
@@ -147,10 +147,6 @@ after_serve port from request known = record port {
 }
 
 -- AckSelf: the hart acknowledges its own ticket, if that names it, and is collected in the view too
-abbrev pub acked_by : TicketTable → ℕ → ℕ → TicketTable
-acked_by tickets ticket hart =
-    if names tickets ticket hart then after_acked tickets ticket hart else tickets
-
 abbrev pub ack_self_answer : PortState → ℕ → Result Collected Refusal
 ack_self_answer port ticket =
     if is_open port.tickets ticket

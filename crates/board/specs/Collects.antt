@@ -53,5 +53,5 @@ pub record IsCollected (port : PortState) (ticket bound : ℕ) (after : PortStat
 -- each hart that the ticket names is collected for its open order in the view
 abbrev pub AreAllCollected : PortState → ℕ → Type 0
 AreAllCollected port ticket =
-    (k : Order) → order_of_ticket ticket port.view.orders ≡ Some k → (h : ℕ)
-    → names port.tickets ticket h ≡ true → is_in h k.collected ≡ true
+    (order : Order) → order_of_ticket ticket port.view.orders ≡ Some order → (hart : ℕ)
+    → names port.tickets ticket hart ≡ true → is_in hart order.collected ≡ true

@@ -35,8 +35,8 @@ abbrev pub DoneIsClean : Type 0
 DoneIsClean =
     (c : Config) (s : State ℕ View) → Board c s → (i : ℕ) (port : PortState)
     → get_elem? s.views i ≡ some port.view
-    → (ticket : ℕ) (k : Order) → order_of_ticket ticket port.view.orders ≡ Some k
-    → (place : Place) (page : Span) → IsLive k place page → AreAllCollected port ticket
+    → (ticket : ℕ) (order : Order) → order_of_ticket ticket port.view.orders ≡ Some order
+    → (place : Place) (page : Span) → IsLive order place page → AreAllCollected port ticket
     → (j : ℕ) (other : PortState) → get_elem? s.views j ≡ some other.view
     → other.view.hart < length (layout_of c).spares
     → names port.tickets ticket other.view.hart ≡ true
@@ -49,11 +49,11 @@ abbrev pub CollectedStaysClean : Type 0
 CollectedStaysClean =
     (c : Config) (s : State ℕ View) → Board c s → (i : ℕ) (port : PortState)
     → get_elem? s.views i ≡ some port.view
-    → (n : ℕ) (k : Order) → get_elem? port.view.orders n ≡ some k
-    → (place : Place) (page : Span) → IsLive k place page
+    → (n : ℕ) (order : Order) → get_elem? port.view.orders n ≡ some order
+    → (place : Place) (page : Span) → IsLive order place page
     → (j : ℕ) (other : PortState) → get_elem? s.views j ≡ some other.view
     → other.view.hart < length (layout_of c).spares
-    → is_in other.view.hart k.collected ≡ true
+    → is_in other.view.hart order.collected ≡ true
     → IsWithin other.tlb.entries other.view.entries → TranslateNone c other.tlb.entries place page
 
 -- An unmapping that is accepted leaves under its ticket an open order that is live, of that page of
@@ -62,9 +62,9 @@ CollectedStaysClean =
 abbrev pub AcceptedUnmappingIsLive : Type 0
 AcceptedUnmappingIsLive =
     (port : PortState) (place : Place) (page : Span) (named ticket : ℕ)
-    → edit_answer port (Unmap place page) named ≡ Ok ticket → (k : Order)
-    × (order_of_ticket ticket (after_edit port (Unmap place page) named).view.orders ≡ Some k)
-    × IsLive k place page × (k.armed ≡ []) × (k.collected ≡ [])
+    → edit_answer port (Unmap place page) named ≡ Ok ticket → (order : Order)
+    × (order_of_ticket ticket (after_edit port (Unmap place page) named).view.orders ≡ Some order)
+    × IsLive order place page × (order.armed ≡ []) × (order.collected ≡ [])
 
 -- where no address of a page of a place is translated, no entry overlaps the page that is for the
 -- place

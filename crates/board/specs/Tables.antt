@@ -79,8 +79,8 @@ pub record IsMissed (port : PortState) (va : ℕ) (access : Access) (ctx : Ctx)
 
 -- Edits: the place is there
 abbrev pub has_place : Setup → Place → Bool
-has_place C (Space s) = is_number C s
-has_place C Kernel = true
+has_place setup (Space s) = is_number setup s
+has_place setup Kernel = true
 
 -- the store that a wish takes over the home's view, or why none is due
 abbrev pub due_store : PortState → Wish → Result Store MapFault
@@ -139,7 +139,7 @@ edit_answer port wish named =
 -- what the harts drop for a page is that of its space's ASID, and for a kernel page that of every
 -- one
 abbrev pub page_request : Setup → Wish → What
-page_request C wish = PageOf (page_of wish) (asid_in C [] (place_of wish))
+page_request setup wish = PageOf (page_of wish) (asid_in setup [] (place_of wish))
 
 -- a port once an edit was accepted: the ticket is open, and the one word is stored
 abbrev pub after_opened : PortState → Wish → ℕ → Result ℕ Refusal → PortState

@@ -3,7 +3,7 @@
 use Rattle.std.specs.Prelude.{ℕ, ◌≡◌, ◌≢◌, ◌+◌, ◌&&◌, Bool, true, false, not, List, [], ◌∷◌, length, Option, Some, None, Contains, if◌then◌else◌}
 use Rattle.tlb.specs.declared.store.Entry.{Entry}
 use Rattle.shoot.specs.HartSet.{contains}
-use Rattle.shoot.specs.declared.TheConstants.{MAX_HARTS}
+use Rattle.pte.specs.declared.TheConstants.{MAX_HARTS}
 use Rattle.shoot.specs.declared.tickets.Ticket.{Ticket}
 use Rattle.shoot.specs.Tickets.{TicketTable, ticket_at}
 use Rattle.rings.specs.Ends.{OutboxState}
@@ -16,11 +16,11 @@ use Rattle.board.specs.Ports.{element}
 -- the order under an open ticket asks for what the ticket asks; the cell of each hart that the
 -- ticket was posted to was armed for it; and of the named harts it has collected just those that
 -- the ticket has
-pub record IsOrderOf (c : Config) (ticket : Ticket) (k : Order) : Type 0 where
-  pub asks : asked c k.cause ≡ ticket.what
-  pub armed : (h : ℕ) → contains ticket.posted h ≡ true → is_in h k.armed ≡ true
-  pub collected : (h : ℕ) → contains ticket.named h ≡ true
-      → is_in h k.collected ≡ contains ticket.collected h
+pub record IsOrderOf (c : Config) (ticket : Ticket) (order : Order) : Type 0 where
+  pub asks : asked c order.cause ≡ ticket.what
+  pub armed : (hart : ℕ) → contains ticket.posted hart ≡ true → is_in hart order.armed ≡ true
+  pub collected : (hart : ℕ) → contains ticket.named hart ≡ true
+      → is_in hart order.collected ≡ contains ticket.collected hart
 
 -- the ticket's sets are sets of harts; it was posted to harts that it names alone, and a hart other
 -- than its own is collected only where it was posted to
@@ -29,15 +29,15 @@ pub record IsWhole (home : ℕ) (ticket : Ticket) : Type 0 where
   pub posted_harts : length ticket.posted ≡ MAX_HARTS
   pub acked_harts : length ticket.acked ≡ MAX_HARTS
   pub collected_harts : length ticket.collected ≡ MAX_HARTS
-  pub posted : (h : ℕ) → contains ticket.posted h ≡ true → contains ticket.named h ≡ true
-  pub collected : (h : ℕ) → h ≢ home → contains ticket.collected h ≡ true
-      → contains ticket.posted h ≡ true
+  pub posted : (hart : ℕ) → contains ticket.posted hart ≡ true → contains ticket.named hart ≡ true
+  pub collected : (hart : ℕ) → hart ≢ home → contains ticket.collected hart ≡ true
+      → contains ticket.posted hart ≡ true
 
 -- the ticket of a number, if it is open, has this open order
 abbrev pub IsTied : Config → ℕ → Option Ticket → Option Order → Type 0
 IsTied c home None order = Unit {0}
 IsTied c home (Some ticket) None = ⊥
-IsTied c home (Some ticket) (Some k) = IsWhole home ticket × IsOrderOf c ticket k
+IsTied c home (Some ticket) (Some order) = IsWhole home ticket × IsOrderOf c ticket order
 
 -- so it is with each ticket
 pub record AreTied (c : Config) (orders : List Order) (tickets : TicketTable) : Type 0 where

@@ -1,6 +1,6 @@
 //! The board: how ports are opened.
 
-ghost use Rattle.std.specs.Prelude.{◌≡◌, ◌<◌, ◌↔◌, Err, IfOk, length, map};
+ghost use Rattle.std.specs.Prelude.{◌≡◌, ◌<◌, ◌↔◌, Err, IfOk, OnOk, length, map};
 ghost use Rattle.std.specs.Arc.{arc_value};
 ghost use Rattle.spaces.specs.Limits.{MeetsLimits};
 ghost use Rattle.spaces.specs.declared.configuration.TheConstants.{MAX_LIVE_FRAMES};
@@ -16,8 +16,8 @@ use crate::port::HartPort;
 use crate::receiver::Receiver;
 use crate::report::{PairReport, Report};
 use crate::seats::open_seats;
+use pte::MAX_HARTS;
 use rings::Outbox;
-use shoot::MAX_HARTS;
 use spaces::{Config, OpenFault};
 use std::alloc::{AllocError, Global};
 use std::marker::Model;
@@ -109,7 +109,7 @@ pub struct Board {
 impl Model for Board {
     ghost use Rattle.std.specs.Prelude.{◌≡◌, ◌≤◌, ◌*◌, [], vec_capacity};
     ghost use Rattle.std.specs.Arc.{arc_value};
-    ghost use Rattle.shoot.specs.declared.TheConstants.{MAX_HARTS};
+    ghost use Rattle.pte.specs.declared.TheConstants.{MAX_HARTS};
     ghost use Rattle.spaces.specs.Limits.{MeetsLimits};
     ghost use Rattle.spaces.specs.declared.configuration.TheConstants.{MAX_LIVE_FRAMES};
     ghost use Rattle.history.specs.Setup.{Setup, setup_of};
@@ -147,6 +147,7 @@ impl Board {
     pub fn open(alloc: Global, config: &Config) -> Result<(Board, Vec<HartPort>), OpenFault>
         ensures bad_layout { (result ≡ Err OpenFault.BadLayout)
             ↔ (¬ MeetsLimits MAX_LIVE_FRAMES config.now) }
+        ensures limits { OnOk result (MeetsLimits MAX_LIVE_FRAMES config.now) }
         ensures board { IfOk result (λ r. r.0 ≡ setup_of config.now) }
         ensures ports { IfOk result (λ r. ArePorts (setup_of config.now) (map name_of r.1.items)) }
         ensures new { IfOk result (λ r. AreNew r.1.items) }

@@ -3,39 +3,19 @@
 ghost use Rattle.std.specs.Prelude.{◌≡◌, Ok, IsTrue, [], true, false};
 ghost use Rattle.pte.specs.Entry.{kind_of};
 ghost use Rattle.spaces.specs.declared.wishes.Wish.TheVariants as wish;
-ghost use Rattle.spaces.specs.Edits.{page_of, place_of};
+ghost use Rattle.spaces.specs.Edits.{place_of};
 ghost use Rattle.spaces.specs.Layout.{HasPlace};
-ghost use Rattle.history.specs.Refusal.{refusal_of};
 ghost use Rattle.history.specs.Spaces.{asid_in};
 ghost use Rattle.board.specs.Ports.{name_of};
 ghost use Rattle.board.specs.Tables.{after_edit, after_map, after_store, due_store, edit_answer, has_place, is_map, map_answer, mapped_by};
 
 use crate::mapped::Mapped;
 use crate::port::HartPort;
-use history::Refusal;
+use history::{Refusal, edit_refusal};
 use pte::{Kind, Page, Pte, PteFlags, What};
 use shoot::TicketFault;
 use spaces::{Edit, MapFault, Place, Wish};
 use views::{decide, store};
-
-/// The refusal that an edit's fault is.
-fn refusal(fault: MapFault) -> Refusal
-    ensures { result ≡ refusal_of fault }
-{
-    match fault {
-        MapFault::NotHome => Refusal::NotHome,
-        MapFault::WrongHalf => Refusal::WrongHalf,
-        MapFault::BadFlags => Refusal::BadFlags,
-        MapFault::PpnTooLarge => Refusal::PpnTooLarge,
-        MapFault::Misaligned => Refusal::Misaligned,
-        MapFault::AlreadyMapped => Refusal::AlreadyMapped,
-        MapFault::LeafInWay => Refusal::LeafInWay,
-        MapFault::TableInWay => Refusal::TableInWay,
-        MapFault::NoFrame => Refusal::NoFrame,
-        MapFault::NotMapped => Refusal::NotMapped,
-        MapFault::WrongSize => Refusal::WrongSize,
-    }
-}
 
 /// What a step of mapping stored, by its word.
 fn mapped(word: u64) -> Mapped
@@ -134,17 +114,15 @@ impl HartPort {
         };
         let edit = match self.due(&wish) {
             Ok(edit) => edit,
-            Err(fault) => return Err(refusal(fault)),
+            Err(fault) => return Err(edit_refusal(fault)),
         };
         self.store_map(&edit, &wish);
         Ok(mapped(edit.word()))
     }
 
     /// Opens a ticket for a page and makes the one store of an edit of it.
-    fn edit(&mut self, wish: &Wish, place: Place, page: Page, named: u8) -> Result<u32, Refusal>
+    fn edit(&mut self, wish: &Wish, named: u8) -> Result<u32, Refusal>
         requires no_map { is_map wish.now ≡ false }
-        requires place { place ≡ place_of wish.now }
-        requires page { page ≡ page_of wish.now }
         ensures answer { result ≡ edit_answer self.old wish.now named }
         ensures after { self.new ≡ after_edit self.old wish.now named }
         ensures same { name_of self.new ≡ name_of self.old }
@@ -152,14 +130,15 @@ impl HartPort {
         let Some(harts) = self.named_harts(named) else {
             return Err(Refusal::NoHart);
         };
+        let place = wish.place();
         if !self.has(place) {
             return Err(Refusal::NoSpace);
         }
         let edit = match self.due(wish) {
             Ok(edit) => edit,
-            Err(fault) => return Err(refusal(fault)),
+            Err(fault) => return Err(edit_refusal(fault)),
         };
-        let what = self.page_request(place, page);
+        let what = self.page_request(place, wish.page());
         let HartPort {
             config,
             memory,
@@ -186,7 +165,7 @@ impl HartPort {
         ensures same { name_of self.new ≡ name_of self.old }
     {
         let wish = Wish::Unmap { place, page };
-        self.edit(&wish, place, page, named)
+        self.edit(&wish, named)
     }
 
     /// Stores other flags on the leaf of a page, and opens a ticket for the page. Bit h of `named`
@@ -204,6 +183,6 @@ impl HartPort {
         ensures same { name_of self.new ≡ name_of self.old }
     {
         let wish = Wish::Protect { place, page, flags };
-        self.edit(&wish, place, page, named)
+        self.edit(&wish, named)
     }
 }

@@ -5,10 +5,10 @@ ghost use mathlib.Core.List.{IsPrefix};
 ghost use Rattle.std.specs.Option.{option_map};
 ghost use Rattle.rings.specs.Ends.{after_close};
 ghost use Rattle.shoot.specs.declared.TheConstants.{MAX_TICKETS};
-ghost use Rattle.shoot.specs.Tickets.{is_open, what_at};
+ghost use Rattle.shoot.specs.Tickets.{acked_by, is_open, what_at};
 ghost use Rattle.views.specs.OrderTurns.{IsAwaiting};
 ghost use Rattle.board.specs.Ports.{element, end_of_outbox, end_of_inbox};
-ghost use Rattle.board.specs.Answers.{acked_by, outbox_refusal, outbox_with, inbox_with, known_room, known_waiting, is_closed_to};
+ghost use Rattle.board.specs.Answers.{outbox_refusal, outbox_with, inbox_with, known_room, known_waiting, is_closed_to};
 
 use crate::receiver::Receiver;
 use arrayvec::ArrayVec;

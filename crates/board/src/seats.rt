@@ -43,7 +43,8 @@ pub(crate) fn open_seats(
     requires { MeetsLimits MAX_LIVE_FRAMES config.now }
     ensures count { IfOk result (λ t. length t.1.items ≡ config.now.harts) }
     ensures seats { IfOk result (λ t.
-        AreSeats (arc_value t.0).shared.table_id (arc_value t.0).shared.key config.now 0 t.1.items) }
+        AreSeats (arc_value t.0).shared.table_id (arc_value t.0).shared.key config.now 0
+        t.1.items) }
 {
     let (memory, first) = open(alloc, config)?;
     let seats = deal_seats(alloc, &memory.shared, first, config)?;

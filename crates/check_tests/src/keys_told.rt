@@ -1,6 +1,7 @@
 //! Keys and limits: a wrong one alone in each file.
 use crate::files_told::fault_line;
 use checks::check_text;
+use std::alloc::Global;
 use std::test::Fail;
 
 /// A text, its one fault as it is told, and the line of its command.
@@ -298,15 +299,24 @@ const OTHERS: [(&str, &str, &str, &str); 18] = [
     ),
 ];
 
+/// What is told of a text that has one fault, for its command, and the line of that command.
+fn told_alone(
+    alloc: Global,
+    text: &str,
+    command: &str,
+    told: &str,
+) -> Result<(bool, String), Fail> {
+    let checked = check_text(alloc, text)?;
+    let lines = format!(in alloc; "file for {command}\n{told}\n1 fault\n")?;
+    let same = checked.text.as_str() == lines.as_str() && checked.lines.len() == 1;
+    Ok((same, fault_line(alloc, &checked)?))
+}
+
 #[test]
 fn others(rt: HostRuntime) -> Result<(), Fail> {
     for (text, command, told, fault) in OTHERS {
-        let checked = check_text(rt.alloc(), text)?;
-        let lines = format!(in rt.alloc(); "file for {command}\n{told}\n1 fault\n")?;
-        let printed = checked.text.as_str();
-        assert!(rt; printed == lines.as_str(), "{text}\n{printed}");
-        assert!(rt; checked.lines.len() == 1);
-        let line = fault_line(rt.alloc(), &checked)?;
+        let (same, line) = told_alone(rt.alloc(), text, command, told)?;
+        assert!(rt; same, "{text}\n{told}");
         assert!(rt; line.as_str() == fault, "{text}\n{line}");
     }
     Ok(())

@@ -16,7 +16,7 @@ use crate::report::{MOST_TOLD, Report};
 use crate::step_texts::{List, Reader};
 use crate::tables_told::tell_tables;
 use crate::values::{Document, kind};
-use files::{MOST_STEPS, read_live, read_run, read_walk};
+use files::{DEFAULT_TURNS, MOST_STEPS, read_live, read_run, read_walk};
 use hints::Place;
 use keys::Fault;
 use pte::Scheme;
@@ -251,7 +251,12 @@ fn tell_live(report: &mut Report, document: &Document<'_>) -> Result<(), AllocEr
     let alloc = document.alloc;
     let setup = document.texts(report, "setup", "an array of texts")?;
     let scripts = scripts(report, document, harts)?;
-    let _turns = document.whole(report, "turns", (1, 4_294_967_295), 1_000_000)?;
+    let _turns = document.whole(
+        report,
+        "turns",
+        (1, i64::from(u32::MAX)),
+        i64::from(DEFAULT_TURNS),
+    )?;
     let scheme = document.mode(report)?.unwrap_or(Scheme::Sv48);
     tell_many(report, count_all(setup.as_ref(), scripts.as_slice()))?;
     let reader = Reader {

@@ -7,9 +7,10 @@ use Rattle.history.specs.Completion.{ClearOnceDone}
 
 -- ClearOnceDone is false of each TLB that holds the entry, whatever else it holds
 abbrev pub DoneForbids : Setup → History → ℕ → ℕ → Entry → Type 0
-DoneForbids C H k h e =
-    (entries : List Entry) → Contains entries e → ¬ ClearOnceDone C H entries k h
+DoneForbids setup history order hart e =
+    (entries : List Entry) → Contains entries e → ¬ ClearOnceDone setup history entries order hart
 
 -- ClearOnceDone says nothing: it is so whatever the TLB holds
 abbrev pub DoneAllowsAll : Setup → History → ℕ → ℕ → Type 0
-DoneAllowsAll C H k h = (entries : List Entry) → ClearOnceDone C H entries k h
+DoneAllowsAll setup history order hart =
+    (entries : List Entry) → ClearOnceDone setup history entries order hart

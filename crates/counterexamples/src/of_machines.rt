@@ -106,8 +106,9 @@ pub fn nothing_is_accepted_after_any_close()
 /// each with its own reply, on top of the turns before, whatever replies stood in the list before.
 /// Events without a reply add none.
 pub fn run_adds_a_turn_for_each_reply()
-    ensures { (steps more : List Step) (old : List Reply) (H : History)
-        → after_run (events (steps ++ more)) old (old ++ replies steps) H ≡ history_after H steps }
+    ensures { (steps more : List Step) (old : List Reply) (history : History)
+        → after_run (events (steps ++ more)) old (old ++ replies steps) history
+        ≡ history_after history steps }
 {}
 
 /// Of two events that are refused, each for a reason of its own, both replies are due in their

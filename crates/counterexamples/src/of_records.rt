@@ -64,10 +64,10 @@ pub fn what_is_not_live()
 
 /// A Load after which the walk goes on fills nothing, and one of another hart nothing of this hart.
 pub fn what_fills_nothing()
-    ensures other_hart { (C : Setup) (e : Entry) (pa : ℕ) (before : History)
-        → ¬ Fills C 1 e (record { event = Load 0; reply = Filled pa }) before }
-    ensures goes_on { (C : Setup) (h : ℕ) (e : Entry) (before : History)
-        → ¬ Fills C h e (record { event = Load h; reply = More }) before }
+    ensures other_hart { (setup : Setup) (e : Entry) (pa : ℕ) (before : History)
+        → ¬ Fills setup 1 e (record { event = Load 0; reply = Filled pa }) before }
+    ensures goes_on { (setup : Setup) (hart : ℕ) (e : Entry) (before : History)
+        → ¬ Fills setup hart e (record { event = Load hart; reply = More }) before }
 {}
 
 /// Two spaces that are not free have different ASIDs, and a free one maps nothing: each is false of

@@ -19,7 +19,7 @@ pub use frames::TableFrames;
 pub use keys::Fault;
 pub use known_keys::{LIVE_KEYS, RUN_KEYS, WALK_KEYS};
 pub use limits::{MOST_FRAMES, MOST_STEPS};
-pub use live_file::read_live;
+pub use live_file::{DEFAULT_TURNS, read_live};
 pub use plan::{LiveScenario, RunScenario, WalkScenario};
 pub use run_file::read_run;
 pub use walk_file::read_walk;

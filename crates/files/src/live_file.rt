@@ -20,7 +20,7 @@ use steps::{live_step_among, setup_step_among};
 use toml::{Table, Value};
 
 /// The turns of a wait where no key says how many.
-const DEFAULT_TURNS: u32 = 1_000_000;
+pub const DEFAULT_TURNS: u32 = 1_000_000;
 
 /// A whole number from 1 to 2^32 - 1.
 fn positive(value: &Value) -> Option<u32>

@@ -10,8 +10,8 @@ use Rattle.laws.specs.Kept.{HavePages}
 
 -- what is kept, on top of a history; and as a history of its own
 abbrev pub kept_on : List (Event × Reply) → History → History
-kept_on [] H = H
-kept_on (turn ∷ turns) H = kept_on turns (with_turn turn.0 turn.1 H)
+kept_on [] history = history
+kept_on (turn ∷ turns) history = kept_on turns (with_turn turn.0 turn.1 history)
 
 abbrev pub history_of : List (Event × Reply) → History
 history_of turns = kept_on turns []

@@ -29,9 +29,6 @@ fn open(alloc: Global, config: &Config) -> Result<(Board, Vec<HartPort>), LiveFa
     ensures ports { IfOk result (λ r. ArePorts (setup_of config.now) (map name_of r.1.items)) }
     ensures count { IfOk result (λ r. length r.1.items ≡ config.now.harts) }
 {
-    if !config.check_live() {
-        return Err(LiveFault::BadLayout);
-    }
     let opened = Board::open(alloc, config)?;
     Ok(opened)
 }

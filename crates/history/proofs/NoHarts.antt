@@ -4,7 +4,7 @@ use Rattle.std.proofs.lemmas.Bool.{and_parts, and_from, eqb-true, not-true}
 use Rattle.std.proofs.lemmas.Bool.Decides.{nat_tests}
 use Rattle.std.specs.List.{list_all, range_with_len}
 use Rattle.shoot.specs.HartSet.{harts_where, is_empty}
-use Rattle.shoot.specs.declared.TheConstants.{MAX_HARTS}
+use Rattle.pte.specs.declared.TheConstants.{MAX_HARTS}
 use Rattle.shoot.proofs.HartSets.{by_test}
 
 none_in_range : (f : ℕ → Bool) (from n h : ℕ) → list_all (λ member. not member) (map f (range_with_len from n)) ≡ true → from ≤ h → h < from + n → f h ≡ false

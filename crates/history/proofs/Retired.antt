@@ -4,7 +4,7 @@ use Rattle.std.specs.Prelude.{◌≢◌}
 use Rattle.std.proofs.lemmas.Bool.{cases_eq, eq-eqb, ne_eqb, ltb-true, lt-ltb}
 use Rattle.spaces.proofs.Given.{words-emptied, frames-left}
 use Rattle.shoot.specs.HartSet.{contains, harts_where}
-use Rattle.shoot.specs.declared.TheConstants.{MAX_HARTS}
+use Rattle.pte.specs.declared.TheConstants.{MAX_HARTS}
 use Rattle.shoot.proofs.HartSets.{contains_where}
 use Rattle.history.specs.Setup.{Setup, is_hart}
 use Rattle.history.specs.Turns.{History, are_same}

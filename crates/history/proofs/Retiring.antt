@@ -5,7 +5,8 @@ use Rattle.std.proofs.lemmas.Bool.{and_parts, and_from, eqb-true, eq-eqb, ne_eqb
 use Rattle.spaces.specs.Layout.{home_of}
 use Rattle.spaces.specs.declared.places.Place.TheVariants.{Space}
 use Rattle.shoot.specs.HartSet.{harts_where, is_empty}
-use Rattle.shoot.specs.declared.TheConstants.{MAX_HARTS, MAX_TICKETS}
+use Rattle.pte.specs.declared.TheConstants.{MAX_HARTS}
+use Rattle.shoot.specs.declared.TheConstants.{MAX_TICKETS}
 use Rattle.history.specs.Setup.{Setup, is_hart}
 use Rattle.history.specs.declared.event.Event.TheVariants.{Retire, Reclaim, Create}
 use Rattle.refusals.specs.declared.refusal.Refusal.{Refusal}

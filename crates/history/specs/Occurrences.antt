@@ -1,7 +1,7 @@
 -- When something happened: facts about one turn of a history and the turns before it, in plain
 -- words. The laws of src/occurrences.rt say that what a history leaves is read off such turns.
 use Rattle.pte.specs.declared.scheme.Scheme.{Scheme}
-use Rattle.std.specs.Prelude.{ℕ, suc, ◌-◌, ◌<◌, ◌≡◌, ◌⊎◌, Bool, true, false, ◌==◌, ◌&&◌, ◌∷◌, ◌++◌, length, slice_get, Option, Some, None}
+use Rattle.std.specs.Prelude.{ℕ, suc, ◌-◌, ◌<◌, ◌≡◌, ◌⊎◌, Bool, true, false, ◌==◌, ◌&&◌, ◌∷◌, ◌++◌, length, slice_get, IsSomeAnd, Option, Some, None}
 use Rattle.pte.specs.Address.{Span, top_level, vpn_of}
 use Rattle.pte.specs.declared.flags.PteFlags.{PteFlags}
 use Rattle.walk.specs.declared.found_or_trap.Trap.{Trap}
@@ -22,7 +22,7 @@ use Rattle.history.specs.declared.reply.Reply.{Reply}
 use Rattle.history.specs.declared.reply.Reply.TheVariants as reply
 use Rattle.history.specs.Turns.{Turn, History, is_more}
 use Rattle.history.specs.Spaces.{asid_in, holder_of}
-use Rattle.history.specs.Orders.{Order, open_order, opened_order, order_at, what_of}
+use Rattle.history.specs.Orders.{Order, open_order, opened_order, opener_of, order_at, what_of}
 use Rattle.history.specs.Mailboxes.{Sent, posts, taken}
 use Rattle.history.specs.Service.{served}
 use Rattle.history.specs.Tables.{Written, words_of, written}
@@ -166,11 +166,7 @@ pub record OpensAt (setup : Setup) (number : ℕ) (order : Order) (turn : Turn)
 
 -- an Unmap, a Protect, a Flush or a Retire by the hart
 abbrev pub IsOrderBy : ℕ → Event → Type 0
-IsOrderBy sender (Unmap hart place page named) = hart ≡ sender
-IsOrderBy sender (Protect hart place page flags named) = hart ≡ sender
-IsOrderBy sender (Flush hart scope named) = hart ≡ sender
-IsOrderBy sender (Retire hart space) = hart ≡ sender
-IsOrderBy sender _ = ⊥
+IsOrderBy sender event = IsSomeAnd (opener_of event) (λ hart. hart ≡ sender)
 
 -- the turn opened the sender's ticket
 pub record Opens (sender ticket : ℕ) (turn : Turn) (before : History) : Type 0 where

@@ -69,24 +69,30 @@ order_at setup (turn ∷ history) order =
     order_or (opened_order setup turn.event turn.reply history) (length history) order
     (order_at setup history order)
 
+-- the hart whose event opens an order, where it is answered by a ticket
+abbrev pub opener_of : Event → Option ℕ
+opener_of (Unmap hart place page named) = Some hart
+opener_of (Protect hart place page flags named) = Some hart
+opener_of (Flush hart scope named) = Some hart
+opener_of (Retire hart space) = Some hart
+opener_of _ = None
+
 -- the open order of a sender under a ticket: the last one opened, until an accepted Finish
 abbrev pub held_after : Option ℕ → ℕ → ℕ → ℕ → ℕ → Option ℕ → Option ℕ
 held_after None hart sender ticket place old = old
 held_after (Some number) hart sender ticket place old =
     if are_same hart number sender ticket then Some place else old
 
+abbrev pub held_by : Option ℕ → Reply → ℕ → ℕ → ℕ → Option ℕ → Option ℕ
+held_by None reply order sender ticket old = old
+held_by (Some hart) reply order sender ticket old =
+    held_after (opened_ticket reply) hart sender ticket order old
+
 abbrev pub open_after : Event → Reply → ℕ → ℕ → ℕ → Option ℕ → Option ℕ
-open_after (Unmap hart place page named) reply order sender ticket old =
-    held_after (opened_ticket reply) hart sender ticket order old
-open_after (Protect hart place page flags named) reply order sender ticket old =
-    held_after (opened_ticket reply) hart sender ticket order old
-open_after (Flush hart scope named) reply order sender ticket old =
-    held_after (opened_ticket reply) hart sender ticket order old
-open_after (Retire hart space) reply order sender ticket old =
-    held_after (opened_ticket reply) hart sender ticket order old
 open_after (Finish hart number) reply order sender ticket old =
     if is_ok reply && are_same hart number sender ticket then None else old
-open_after _ reply order sender ticket old = old
+open_after event reply order sender ticket old =
+    held_by (opener_of event) reply order sender ticket old
 
 abbrev pub open_order : History → ℕ → ℕ → Option ℕ
 open_order [] sender ticket = None

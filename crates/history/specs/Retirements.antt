@@ -7,7 +7,7 @@ use Rattle.spaces.specs.Layout.{home_of}
 use Rattle.spaces.specs.Effects.{EmptiesWords, GivesBack}
 use Rattle.spaces.specs.declared.places.Place.TheVariants.{Space}
 use Rattle.shoot.specs.HartSet.{contains}
-use Rattle.shoot.specs.declared.TheConstants.{MAX_HARTS}
+use Rattle.pte.specs.declared.TheConstants.{MAX_HARTS}
 use Rattle.history.specs.Setup.{Setup}
 use Rattle.history.specs.declared.event.Event.TheVariants.{Retire, Reclaim, Create}
 use Rattle.history.specs.declared.reply.Reply.TheVariants as reply

@@ -3,6 +3,7 @@
 #![tactic(auto)]
 
 mod event;
+mod faults;
 mod live_step;
 pub mod occurrences;
 mod reply;
@@ -10,6 +11,7 @@ pub mod retirements;
 pub mod translations;
 
 pub use event::{Event, Scope};
+pub use faults::edit_refusal;
 pub use live_step::LiveStep;
 pub use refusals::Refusal;
 pub use reply::Reply;

@@ -2,7 +2,7 @@
 //! are accepted, and what they leave. Each function does nothing, and its contract is the law.
 
 ghost use Rattle.std.specs.Prelude.{ℕ, ◌≡◌, ◌↔◌, ◌≤◌, slice_index};
-ghost use Rattle.shoot.specs.declared.TheConstants.{MAX_HARTS};
+ghost use Rattle.pte.specs.declared.TheConstants.{MAX_HARTS};
 ghost use Rattle.history.specs.declared.event.Event.TheVariants.{Create, Reclaim, Retire};
 ghost use Rattle.history.specs.declared.reply.Reply.TheVariants.{Ok, Opened};
 ghost use Rattle.history.specs.Setup.{Setup};

@@ -5,7 +5,7 @@ use Rattle.toml.specs.Data.{Data, as_str, as_integer, as_array, Members, get_mem
 use Rattle.std.specs.Str.{bytes_eq}
 use Rattle.pte.specs.declared.scheme.Scheme.{Scheme}
 use Rattle.pte.specs.declared.scheme.Scheme.TheVariants.{Sv39, Sv48}
-use Rattle.pte.specs.declared.TheConstants.{MAX_HARTS}
+use Rattle.pte.specs.declared.TheConstants.{ASID_BITS, MAX_HARTS}
 use Rattle.spaces.specs.declared.configuration.Config.{Config}
 use Rattle.spaces.specs.declared.configuration.Space.{Space}
 use Rattle.spaces.specs.declared.configuration.TheConstants.{MAX_SPACES}
@@ -72,7 +72,7 @@ space home asid = record { home = home; asid = asid }
 abbrev pub space_of_words : List (List ℕ) → Option Space
 space_of_words (home ∷ asid ∷ []) =
     option_and_then
-    (λ h. option_map (λ a. space h a) (option_and_then (below (2 ^ 16)) (num_of asid)))
+    (λ h. option_map (λ a. space h a) (option_and_then (below (2 ^ ASID_BITS)) (num_of asid)))
     (option_and_then (below (2 ^ 8)) (num_of home))
 space_of_words _ = None
 

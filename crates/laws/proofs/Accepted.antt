@@ -17,7 +17,8 @@ use Rattle.shoot.specs.Request.{Request}
 use Rattle.shoot.specs.HartSet.{contains, harts_in, harts_where}
 use Rattle.shoot.proofs.HartSets.{contains_where}
 use Rattle.std.specs.Int.{bit_at}
-use Rattle.shoot.specs.declared.TheConstants.{MAX_HARTS, MAX_TICKETS}
+use Rattle.pte.specs.declared.TheConstants.{MAX_HARTS}
+use Rattle.shoot.specs.declared.TheConstants.{MAX_TICKETS}
 use Rattle.history.specs.Setup.{Setup, is_hart}
 use Rattle.history.specs.Spaces.{Status, Live, Retires, Free, status_of, is_free, is_retiring}
 use Rattle.history.specs.declared.event.Event.TheVariants.{Begin, Unmap, Protect, Flush, Post, Take, Ack, Collect, Finish, Retire, Reclaim, Create}

@@ -7,10 +7,9 @@ use Rattle.std.proofs.lemmas.Bool.{and_parts, and_from, eqb-true, eq-eqb, ne_eqb
 use Rattle.std.proofs.lemmas.List.Elements.{All-nil, All-weaker}
 use Rattle.pte.specs.declared.address.What.TheVariants.{SpaceOf}
 use Rattle.shoot.specs.HartSet.{contains, harts_where, is_empty}
-use Rattle.shoot.specs.declared.TheConstants.{MAX_HARTS}
+use Rattle.pte.specs.declared.TheConstants.{ASID_BITS, MAX_HARTS}
 use Rattle.shoot.proofs.HartSets.{contains_where}
 use Rattle.tlb.specs.declared.store.Entry.{Entry}
-use Rattle.pte.specs.declared.TheConstants.{ASID_BITS}
 use Rattle.tlb.specs.Service.{is_dropped}
 use Rattle.spaces.specs.declared.places.Place.TheVariants.{Space}
 use Rattle.spaces.specs.Layout.{home_of}

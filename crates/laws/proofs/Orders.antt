@@ -3,7 +3,8 @@ use Rattle.std.proofs.Common.{◌≡◌, ℕ, ◌<◌, Bool, true, cond, ◌&&�
 use Rattle.std.proofs.lemmas.Bool.{and_parts, eqb-true, eq-eqb}
 use Rattle.pte.specs.declared.address.What.{What}
 use Rattle.shoot.specs.HartSet.{contains, harts_in, harts_where}
-use Rattle.shoot.specs.declared.TheConstants.{MAX_HARTS, MAX_TICKETS}
+use Rattle.pte.specs.declared.TheConstants.{MAX_HARTS}
+use Rattle.shoot.specs.declared.TheConstants.{MAX_TICKETS}
 use Rattle.history.specs.Setup.{Setup, is_hart}
 use Rattle.history.specs.Spaces.{asid_of, asid_in}
 use Rattle.pte.specs.declared.address.What.TheVariants.{PageOf, SpaceOf}

@@ -5,7 +5,7 @@ use Rattle.std.proofs.lemmas.Bool.{or_cases, false≢true, ltb-true, ltb-false}
 use Rattle.std.proofs.lemmas.Option.{slice_get_past}
 use Rattle.std.proofs.lemmas.List.Elements.{All-head, All-tail}
 use Rattle.shoot.specs.HartSet.{contains, harts_where}
-use Rattle.shoot.specs.declared.TheConstants.{MAX_HARTS}
+use Rattle.pte.specs.declared.TheConstants.{MAX_HARTS}
 pub use Rattle.shoot.proofs.HartSets.{by_test}
 pub use Rattle.history.proofs.Occurred.{and3, none_by}
 pub use Rattle.history.proofs.NoHarts.{none_where}

@@ -10,11 +10,10 @@ use Rattle.spaces.specs.declared.places.Place.TheVariants.{Space, Kernel}
 use Rattle.spaces.specs.Layout.{root_ppn}
 use Rattle.spaces.specs.Held.{IsLayout}
 use Rattle.spaces.specs.Edits.{Store, is_wrong_half}
-use Rattle.pte.specs.declared.TheConstants.{ASID_BITS}
+use Rattle.pte.specs.declared.TheConstants.{ASID_BITS, MAX_HARTS}
 use Rattle.tlb.specs.Mappings.{LiesIn}
 use Rattle.history.specs.Setup.{Setup}
 use Rattle.history.specs.Spaces.{status_of, is_free, asid_of, holder_of}
-use Rattle.shoot.specs.declared.TheConstants.{MAX_HARTS}
 use Rattle.history.specs.declared.event.Event.{Event}
 use Rattle.history.specs.declared.event.Event.TheVariants.{Map, Unmap, Protect, Create}
 use Rattle.history.specs.Turns.{Turn, History}

@@ -1,7 +1,8 @@
 -- What is known of an order, and of the number under which it is open.
 use Rattle.std.specs.Prelude.{ℕ, ◌≡◌, ◌<◌, true, length, Some}
 use Rattle.shoot.specs.HartSet.{contains}
-use Rattle.shoot.specs.declared.TheConstants.{MAX_HARTS, MAX_TICKETS}
+use Rattle.pte.specs.declared.TheConstants.{MAX_HARTS}
+use Rattle.shoot.specs.declared.TheConstants.{MAX_TICKETS}
 use Rattle.history.specs.Setup.{Setup}
 use Rattle.history.specs.Turns.{Turn, History, is_ok}
 use Rattle.history.specs.declared.event.Event.TheVariants.{Finish}

@@ -5,8 +5,8 @@ ghost use Rattle.lines.specs.ReplyLines.{harts_text, next_text, page_text, reach
 use crate::answers::{size_word, why_word};
 use crate::numbers::{push_decimal, push_hexadecimal};
 use history::{Refusal, Reply};
-use pte::{Page, What};
-use shoot::{HartSet, MAX_HARTS, Request};
+use pte::{MAX_HARTS, Page, What};
+use shoot::{HartSet, Request};
 use std::alloc::{AllocError, Global};
 
 fn refusal_word(refusal: Refusal) -> &'static str

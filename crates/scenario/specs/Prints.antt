@@ -92,6 +92,6 @@ TellsFaults text first lines = (told : List (List ℕ))
 
 -- a stale mapping answers some access of the scenario
 abbrev pub UsesOf : Result RunPlan Failure → Type 0
-UsesOf (Ok plan) = (number h : ℕ) × (m : Mapping)
-    × UsedBy (setup_of plan.config) [] plan.events number h m
+UsesOf (Ok plan) = (number hart : ℕ) × (m : Mapping)
+    × UsedBy (setup_of plan.config) [] plan.events number hart m
 UsesOf (Err e) = ⊥

@@ -7,7 +7,7 @@ use Rattle.std.specs.List.{range_with_len, list_all}
 use Rattle.std.specs.Int.{bit_at}
 use Rattle.shoot.specs.HartSet.{all_harts, contains, harts_where, harts_in, byte_of, difference}
 use Rattle.shoot.specs.Tickets.{is_done}
-use Rattle.shoot.specs.declared.TheConstants.{MAX_HARTS}
+use Rattle.pte.specs.declared.TheConstants.{MAX_HARTS}
 use Rattle.shoot.specs.declared.tickets.Ticket.{Ticket}
 use Rattle.shoot.proofs.HartSets.{by_test, contains_where}
 

@@ -4,7 +4,8 @@ use Rattle.std.proofs.Common.{◌≡◌, ◌≢◌, ◌∙◌, sym, ap, refl, su
 use Rattle.pte.specs.declared.address.What.{What}
 use Rattle.shoot.specs.HartSet.{contains}
 use Rattle.shoot.specs.Tickets.{TicketTable, IsSound, AreSound, no_tickets, if_open, ticket_at, with_ticket, with_change, changed, ticket_for, with_posted, with_acked, with_collected, answer_for, with_opened, after_acked, after_collect, after_finish, after_open_for, after_posted, is_done_at, done_with, tells, names, ticket_acked}
-use Rattle.shoot.specs.declared.TheConstants.{MAX_HARTS, MAX_TICKETS}
+use Rattle.pte.specs.declared.TheConstants.{MAX_HARTS}
+use Rattle.shoot.specs.declared.TheConstants.{MAX_TICKETS}
 use Rattle.shoot.specs.declared.tickets.Ticket.{Ticket}
 use Rattle.shoot.specs.declared.tickets.TicketFault.{TicketFault}
 use Rattle.shoot.proofs.HartBytes.{done}

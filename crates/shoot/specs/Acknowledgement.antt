@@ -3,6 +3,7 @@
 -- to 36 the ASID, and 35 to 0 are bits 47 to 12 of the page's address. A field that a kind does not
 -- have is 0, as are bits 62 to 56.
 use Rattle.std.specs.Prelude.{⊤, ℕ, ◌+◌, ◌*◌, ◌/◌, ◌%◌, ◌^◌, ◌<◌, Some, None}
+use Rattle.pte.specs.declared.TheConstants.{ASID_BITS}
 use Rattle.pte.specs.declared.address.PageSize.TheVariants.{Kib4}
 use Rattle.pte.specs.declared.address.What.{What}
 use Rattle.pte.specs.declared.address.What.TheVariants.{PageOf, SpaceOf, All}
@@ -25,7 +26,7 @@ acknowledgement All = word_with 3 0 0 0
 
 -- what can be asked: the page is one, and an ASID has 16 bits
 abbrev pub IsAskable : What → Type 0
-IsAskable (PageOf page (Some asid)) = IsPage page × (asid < 2 ^ 16)
+IsAskable (PageOf page (Some asid)) = IsPage page × (asid < 2 ^ ASID_BITS)
 IsAskable (PageOf page None) = IsPage page
-IsAskable (SpaceOf asid) = asid < 2 ^ 16
+IsAskable (SpaceOf asid) = asid < 2 ^ ASID_BITS
 IsAskable All = ⊤

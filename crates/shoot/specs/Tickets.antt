@@ -2,7 +2,8 @@
 use Rattle.std.specs.Prelude.{◌≡◌, ◌<◌, ℕ, Bool, true, false, List, Option, Some, None, is_some, is_none, Result, Ok, Err, IfSome, IsTrue, ◌==◌, slice_get, slice_set, length, position, replicate, if◌then◌else◌}
 use Rattle.pte.specs.declared.address.What.{What}
 use Rattle.shoot.specs.HartSet.{contains, difference, is_empty, byte_of, harts_in, no_harts}
-use Rattle.shoot.specs.declared.TheConstants.{MAX_HARTS, MAX_TICKETS}
+use Rattle.pte.specs.declared.TheConstants.{MAX_HARTS}
+use Rattle.shoot.specs.declared.TheConstants.{MAX_TICKETS}
 use Rattle.shoot.specs.declared.tickets.Ticket.{Ticket}
 use Rattle.shoot.specs.declared.tickets.Collected.{Collected}
 use Rattle.shoot.specs.declared.tickets.Collected.TheVariants.{Done, Waiting}
@@ -147,6 +148,11 @@ after_posted table number to = with_change table number (with_posted to)
 
 abbrev pub after_acked : TicketTable → ℕ → ℕ → TicketTable
 after_acked table number from = with_change table number (with_acked table.hart from)
+
+-- the table once a hart acknowledged a ticket, if the ticket names it
+abbrev pub acked_by : TicketTable → ℕ → ℕ → TicketTable
+acked_by table number hart =
+    if names table number hart then after_acked table number hart else table
 
 abbrev pub after_collect : TicketTable → ℕ → ℕ → TicketTable
 after_collect table number from = with_change table number (with_collected from)

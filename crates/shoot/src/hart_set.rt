@@ -2,7 +2,7 @@
 
 ghost use Rattle.std.specs.Prelude.{◌≡◌, ◌<◌, ◌≤◌, ◌^◌, ◌&&◌, not, slice_set, true};
 
-use crate::MAX_HARTS;
+use pte::MAX_HARTS;
 use std::marker::Model;
 
 /// A set of harts, by their numbers.

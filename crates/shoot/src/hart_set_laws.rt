@@ -4,7 +4,7 @@ ghost use Rattle.std.specs.Prelude.{◌≡◌, ◌<◌, ◌^◌, ◌==◌, ◌&&
 ghost use Rattle.std.specs.Int.{bit_at};
 ghost use Rattle.shoot.specs.HartSet.{byte_of, contains, difference, harts_in, harts_where};
 
-use crate::MAX_HARTS;
+use pte::MAX_HARTS;
 
 /// Bit h of the byte of a set tells whether hart h is in the set, and a byte is
 /// the byte of the set that it stands for.

@@ -25,6 +25,7 @@ pub use mailbox_laws::{
     mailbox_accepts_nothing_after_close, mailbox_counts_what_is_not_collected, mailbox_keeps_order,
     mailbox_refuses_when_closed_or_full, mailbox_stands_at_its_calls,
 };
+pub use pte::MAX_HARTS;
 pub use request::Request;
 pub use ticket_laws::{
     done_tickets_were_acknowledged, lowest_free_number_is_opened, one_ticket_changes,
@@ -35,9 +36,6 @@ pub use worked_rows::{
     worked_acknowledgements, worked_bytes, worked_mailboxes, worked_marks, worked_numbers,
     worked_tickets,
 };
-
-/// A machine has at most this many harts, with numbers from 0 on.
-pub const MAX_HARTS: usize = pte::MAX_HARTS;
 
 /// The largest capacity of a mailbox.
 pub const MAX_CAPACITY: usize = pte::MAX_CAPACITY as usize;

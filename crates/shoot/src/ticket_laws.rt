@@ -5,8 +5,8 @@ ghost use Rattle.pte.specs.declared.address.What.{What};
 ghost use Rattle.shoot.specs.HartSet.{contains, harts_in};
 ghost use Rattle.shoot.specs.Tickets.{AreSound, TicketTable, after_acked, after_collect, after_finish, after_open_for, after_posted, ticket_acked, is_done, is_done_at, is_open, names, no_tickets, open_answer, ticket_at, with_ticket};
 
-use crate::MAX_HARTS;
 use crate::tickets::{Ticket, TicketFault};
+use pte::MAX_HARTS;
 
 /// There are 64 numbers, and each hart that is collected has acknowledged: it is so of new tickets,
 /// and stays so at each call.

@@ -3,10 +3,10 @@
 ghost use Rattle.std.specs.Prelude.{◌≡◌, ◌<◌, IsTrue, IsSome, IfSome, IfOk};
 ghost use Rattle.std.specs.Option.{option_copied, option_map};
 
+use crate::MAX_TICKETS;
 use crate::free_tickets::FreeTickets;
 use crate::hart_set::HartSet;
-use crate::{MAX_HARTS, MAX_TICKETS};
-use pte::What;
+use pte::{MAX_HARTS, What};
 use std::marker::Model;
 use thiserror::Error;
 
@@ -67,7 +67,7 @@ pub struct Tickets {
 impl Model for Tickets {
     ghost use Rattle.std.specs.Prelude.{◌≡◌, ◌<◌, map, is_none};
     ghost use Rattle.shoot.specs.Tickets.{TicketTable};
-    ghost use Rattle.shoot.specs.declared.TheConstants.{MAX_HARTS};
+    ghost use Rattle.pte.specs.declared.TheConstants.{MAX_HARTS};
 
     ghost Value = { TicketTable };
 

@@ -44,7 +44,8 @@ scheme_text Sv48 = codes "sv48"
 
 abbrev pub first_line : ℕ → Config → List ℕ
 first_line steps config =
-    end_line (codes "after " ++ decimal steps ++ codes " steps: " ++ scheme_text config.scheme ++ codes ", harts " ++ decimal config.harts
+    end_line (codes "after " ++ decimal steps ++ codes " steps: " ++ scheme_text config.scheme
+    ++ codes ", harts " ++ decimal config.harts
     ++ codes ", window " ++ decimal config.window ++ codes ", capacity " ++ decimal config.capacity)
 
 -- ---- spaces
@@ -103,8 +104,9 @@ letter_if is_set letter = if is_set then letter else []
 -- the letters of the flags that are set, but for V, which each leaf has
 abbrev pub flags_text : PteFlags → List ℕ
 flags_text flags =
-    letter_if (may_read flags.0) (codes "r") ++ letter_if (may_write flags.0) (codes "w") ++ letter_if (may_execute flags.0) (codes "x")
-    ++ letter_if (is_user flags.0) (codes "u") ++ letter_if (is_global flags.0) (codes "g") ++ letter_if (is_accessed flags.0) (codes "a")
+    letter_if (may_read flags.0) (codes "r") ++ letter_if (may_write flags.0) (codes "w")
+    ++ letter_if (may_execute flags.0) (codes "x") ++ letter_if (is_user flags.0) (codes "u")
+    ++ letter_if (is_global flags.0) (codes "g") ++ letter_if (is_accessed flags.0) (codes "a")
     ++ letter_if (is_dirty flags.0) (codes "d")
 
 abbrev pub owner_text : Entry → List ℕ
@@ -179,8 +181,11 @@ global_mark global = if global then codes " g" else []
 
 abbrev pub pointer_line : ℕ → ℕ → ℕ → ℕ → Bool → List ℕ
 pointer_line depth index ppn level global =
-    end_line (indexed depth index ++ (codes "table " ++ hex ppn ++ codes " level " ++ decimal level) ++ global_mark global)
+    end_line (indexed depth index
+    ++ (codes "table " ++ hex ppn ++ codes " level " ++ decimal level) ++ global_mark global)
 
 abbrev pub leaf_line : ℕ → ℕ → PageSize → ℕ → ℕ → PteFlags → List ℕ
 leaf_line depth index size va ppn flags =
-    end_line (upto 53 (upto 38 (indexed depth index ++ (size_text size ++ codes ":" ++ hex va)) ++ hex ppn) ++ flags_text flags)
+    end_line (upto 53
+    (upto 38 (indexed depth index ++ (size_text size ++ codes ":" ++ hex va)) ++ hex ppn)
+    ++ flags_text flags)

@@ -8,4 +8,4 @@ use Rattle.stepcore.specs.Runs.{with_turns}
 
 -- the history once these events, from the first on, had their due replies
 abbrev pub due_history : Setup → List Event → History
-due_history C events = with_turns events (due_replies C [] events) []
+due_history setup events = with_turns events (due_replies setup [] events) []

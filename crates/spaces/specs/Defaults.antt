@@ -3,11 +3,12 @@ use Rattle.std.specs.Prelude.{ℕ, List, [], ◌∷◌, replicate, take}
 use Rattle.pte.specs.declared.TheConstants.{MAX_HARTS}
 use Rattle.pte.specs.declared.scheme.Scheme.TheVariants.{Sv39}
 use Rattle.spaces.specs.declared.configuration.Config.{Config}
+use Rattle.spaces.specs.declared.configuration.TheConstants.{DEFAULT_SPARES}
 use Rattle.spaces.specs.declared.configuration.Space.{Space}
 
--- 8 spare frames for each hart
+-- the same number of spare frames for each hart
 abbrev pub default_spares : ℕ → List ℕ
-default_spares harts = take harts (replicate MAX_HARTS 8)
+default_spares harts = take harts (replicate MAX_HARTS DEFAULT_SPARES)
 
 -- one space, of hart 0, with ASID 1
 abbrev pub default_spaces : List Space

@@ -14,7 +14,7 @@ use crate::faults::MapFault;
 use crate::places::Place;
 use crate::wishes::{PathEnd, Wish};
 use bitflags::Flags;
-use pte::{PPN_BITS, PteFlags, Scheme, TABLE_LENGTH};
+use pte::{PPN_BITS, PPN_SHIFT, PteFlags, Scheme, TABLE_LENGTH};
 use std::marker::Model;
 
 /// How many of a root's slots are the user's half.
@@ -65,8 +65,13 @@ pub(crate) fn target(word: u64) -> Option<u64>
 {
     let global = u64::from(PteFlags::G.bits());
     let flags = word % 256;
-    let is_pointer = word >> (10 + PPN_BITS) == 0 && (flags == VALID || flags == VALID + global);
-    if is_pointer { Some(word >> 10) } else { None }
+    let is_pointer = word >> (PPN_SHIFT + PPN_BITS) == 0
+        && (flags == VALID || flags == VALID + global);
+    if is_pointer {
+        Some(word >> PPN_SHIFT)
+    } else {
+        None
+    }
 }
 
 impl EditWalk {

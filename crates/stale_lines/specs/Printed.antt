@@ -13,17 +13,18 @@ use Rattle.stale_lines.specs.StaleLines.{stale_lines, uses_in}
 -- is one item for each entry of a hart some of whose mappings become stale, and at most one use; so
 -- the numbers in the last line are those of such entries, step by step, and of uses; and `used`
 -- says whether one is used
-pub record Prints (C : Setup) (events : List Event) (lines : List ℕ) (used : Bool) : Type 0 where
+pub record Prints (setup : Setup) (events : List Event) (lines : List ℕ)
+    (used : Bool) : Type 0 where
   pub items : List StaleAt
   pub are : lines ≡ stale_lines items
   pub in_order : InOrder items
   pub once : TellsOnce items
   pub some_used : IsTrue used ↔ (0 < uses_in items)
-  pub becoming : (number h : ℕ) (m : Mapping) → BecomesBy C [] events number h m
-      ↔ IsToldBecoming items number h m
-  pub entries : (number h : ℕ) (e : Entry) → EntryBecomesBy C [] events number h e
-      ↔ IsToldEntry items number h e
-  pub uses : (number h : ℕ) (m : Mapping) → UsedBy C [] events number h m
-      ↔ IsToldUse items number h m
+  pub becoming : (number hart : ℕ) (m : Mapping) → BecomesBy setup [] events number hart m
+      ↔ IsToldBecoming items number hart m
+  pub entries : (number hart : ℕ) (e : Entry) → EntryBecomesBy setup [] events number hart e
+      ↔ IsToldEntry items number hart e
+  pub uses : (number hart : ℕ) (m : Mapping) → UsedBy setup [] events number hart m
+      ↔ IsToldUse items number hart m
   pub orders : (number home ticket : ℕ) → IsToldOrder items number home ticket
-      → OpensBy C [] events number home ticket
+      → OpensBy setup [] events number home ticket

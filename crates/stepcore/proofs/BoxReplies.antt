@@ -5,7 +5,7 @@ use Rattle.shoot.specs.Request.{Request}
 use Rattle.shoot.specs.HartSet.{contains}
 use Rattle.shoot.specs.Mailbox.{MailboxState, post_fault}
 use Rattle.shoot.specs.Tickets.{TicketTable, tells}
-use Rattle.shoot.specs.declared.TheConstants.{MAX_HARTS}
+use Rattle.pte.specs.declared.TheConstants.{MAX_HARTS}
 use Rattle.shoot.specs.declared.mailbox.PostFault.TheVariants as fault
 use Rattle.shoot.specs.declared.tickets.Ticket.{Ticket}
 use Rattle.shoot.proofs.HartSets.{contains_where}

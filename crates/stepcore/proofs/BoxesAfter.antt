@@ -9,7 +9,7 @@ use Rattle.spaces.proofs.Lists.{slice_get-set_same, slice_get-set_other}
 use Rattle.shoot.specs.Request.{Request}
 use Rattle.shoot.specs.Mailbox.{MailboxState, empty_mailbox, after_post, after_take, after_release, after_close, can_release, with_request}
 use Rattle.shoot.specs.Tickets.{TicketTable, tells}
-use Rattle.shoot.specs.declared.TheConstants.{MAX_HARTS}
+use Rattle.pte.specs.declared.TheConstants.{MAX_HARTS}
 use Rattle.shoot.specs.declared.tickets.Ticket.{Ticket}
 use Rattle.shoot.proofs.HartSets.{contains_where}
 use Rattle.history.specs.Setup.{Setup}

@@ -3,7 +3,7 @@ use Rattle.std.proofs.Common.{◌≡◌, ℕ, zero, suc, ◌-◌, ◌^◌, ◌<�
 use Rattle.std.specs.Prelude.{nat_lt}
 use Rattle.std.proofs.lemmas.Bool.{lt-ltb}
 use Rattle.shoot.specs.HartSet.{contains, harts_in, harts_where}
-use Rattle.shoot.specs.declared.TheConstants.{MAX_HARTS}
+use Rattle.pte.specs.declared.TheConstants.{MAX_HARTS}
 use Rattle.shoot.proofs.HartSets.{contains_where}
 use Rattle.history.specs.Setup.{Setup, is_hart}
 use Rattle.history.specs.Turns.{History}

@@ -5,7 +5,7 @@ use Rattle.std.proofs.lemmas.Bool.{eq-eqb, eqb-true, ne_eqb}
 use Rattle.pte.specs.declared.address.What.{What}
 use Rattle.shoot.specs.HartSet.{contains, harts_where}
 use Rattle.shoot.specs.Tickets.{with_posted, with_acked, with_collected}
-use Rattle.shoot.specs.declared.TheConstants.{MAX_HARTS}
+use Rattle.pte.specs.declared.TheConstants.{MAX_HARTS}
 use Rattle.shoot.specs.declared.tickets.Ticket.{Ticket}
 use Rattle.shoot.proofs.HartSets.{by_test, where_with, where_agree, contains_where, passes}
 use Rattle.history.specs.Setup.{Setup}

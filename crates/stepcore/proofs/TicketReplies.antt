@@ -3,8 +3,9 @@
 use Rattle.std.proofs.Common.{◌≡◌, ℕ, ◌<◌, true, cond, not, Option, Some, None, refl, ap, ◌∙◌, arith}
 use Rattle.std.specs.Prelude.{is_some, Err}
 use Rattle.shoot.specs.HartSet.{contains, harts_in}
-use Rattle.shoot.specs.Tickets.{TicketTable, ticket_at, is_open, names, opened, lowest_free, open_answer, with_change, with_acked, with_collected, changed, tells, progress_with, progress_at, after_collect}
-use Rattle.shoot.specs.declared.TheConstants.{MAX_HARTS, MAX_TICKETS}
+use Rattle.shoot.specs.Tickets.{TicketTable, acked_by, ticket_at, is_open, names, opened, lowest_free, open_answer, with_change, with_acked, with_collected, changed, tells, progress_with, progress_at, after_collect}
+use Rattle.pte.specs.declared.TheConstants.{MAX_HARTS}
+use Rattle.shoot.specs.declared.TheConstants.{MAX_TICKETS}
 use Rattle.shoot.specs.declared.tickets.Ticket.{Ticket}
 use Rattle.shoot.specs.declared.tickets.TicketFault.TheVariants as ticket_fault
 use Rattle.shoot.proofs.HartSets.{by_test}
@@ -23,7 +24,7 @@ use Rattle.history.proofs.Passing.{refuse, ack_self_reply, collect_reply, finish
 use Rattle.history.specs.Due as due_tests
 use Rattle.history.specs.Runs.{with_turn}
 use Rattle.stepcore.specs.State.{State, HartState, hart_at}
-use Rattle.stepcore.specs.Answers.{opening_answer, open_in, progress_reply, acked_by, ack_self_answer, collect_answer, finish_answer, reply_to}
+use Rattle.stepcore.specs.Answers.{opening_answer, open_in, progress_reply, ack_self_answer, collect_answer, finish_answer, reply_to}
 use Rattle.stepcore.specs.Stands.{tickets_of, Stands}
 use Rattle.stepcore.proofs.Tools.{walks_alike, hart_there, harts_there, pair_there}
 use Rattle.stepcore.proofs.SpaceReplies.{scope_there}

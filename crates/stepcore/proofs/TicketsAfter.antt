@@ -11,7 +11,7 @@ use Rattle.spaces.specs.declared.places.Place.{Place}
 use Rattle.spaces.specs.Edits.{Store}
 use Rattle.spaces.proofs.Lists.{slice_get-set_same, slice_get-set_other}
 use Rattle.shoot.specs.HartSet.{harts_in, no_harts}
-use Rattle.shoot.specs.Tickets.{TicketTable, no_tickets, names, open_answer, after_open, with_opened, new_ticket, after_posted, after_acked, after_collect, after_finish, is_done_at, with_ticket, with_posted, with_acked, with_collected, changed}
+use Rattle.shoot.specs.Tickets.{TicketTable, acked_by, no_tickets, names, open_answer, after_open, with_opened, new_ticket, after_posted, after_acked, after_collect, after_finish, is_done_at, with_ticket, with_posted, with_acked, with_collected, changed}
 use Rattle.shoot.specs.declared.tickets.Ticket.{Ticket}
 use Rattle.shoot.specs.declared.tickets.TicketFault.{TicketFault}
 use Rattle.shoot.specs.declared.tickets.TicketFault.TheVariants as ticket_fault
@@ -47,7 +47,7 @@ use Rattle.laws.proofs.Tools.{and3}
 use Rattle.laws.proofs.Waiting.{posted_below}
 use Rattle.stepcore.specs.declared.serving.Serving.{Serving as Service}
 use Rattle.stepcore.specs.State.{State, IsMachine, hart_at, tickets_at}
-use Rattle.stepcore.specs.Answers.{opening_answer, acked_by}
+use Rattle.stepcore.specs.Answers.{opening_answer}
 use Rattle.stepcore.specs.Changes.{put_tickets, tickets_after_ack, tickets_after}
 use Rattle.stepcore.specs.Stands.{service_with, ticket_with, ticket_held, ticket_of, tickets_of, Stands}
 use Rattle.stepcore.proofs.TicketsHeld.{ticket_for, OpenHere, open_here, names_told, done_told, held_with, held_changed, held_same}

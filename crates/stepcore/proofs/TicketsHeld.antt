@@ -9,7 +9,8 @@ use Rattle.std.proofs.lemmas.List.FromFn.{length-map-range_with_len}
 use Rattle.pte.specs.declared.address.What.TheVariants.{All}
 use Rattle.shoot.specs.HartSet.{contains, difference, is_empty, byte_of, harts_where}
 use Rattle.shoot.specs.Tickets.{if_open, ticket_at, is_open, names, ticket_posted, ticket_acked, ticket_collected, what_at, with_ticket, with_change, changed, tells, asked, uncollected, is_done, is_done_at, done_with, progress, lowest_free}
-use Rattle.shoot.specs.declared.TheConstants.{MAX_HARTS, MAX_TICKETS}
+use Rattle.pte.specs.declared.TheConstants.{MAX_HARTS}
+use Rattle.shoot.specs.declared.TheConstants.{MAX_TICKETS}
 use Rattle.shoot.specs.declared.tickets.Ticket.{Ticket}
 use Rattle.shoot.specs.declared.tickets.Collected.TheVariants as collected
 use Rattle.shoot.proofs.HartSets.{by_test, where_agree, contains_where}

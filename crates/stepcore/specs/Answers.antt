@@ -18,7 +18,7 @@ use Rattle.tlb.specs.Entries.{first_match}
 use Rattle.pte.specs.Address.{is_canonical}
 use Rattle.shoot.specs.Request.{Request}
 use Rattle.shoot.specs.Mailbox.{MailboxState, post_fault, first_waiting}
-use Rattle.shoot.specs.Tickets.{TicketTable, is_open, names, ticket_posted, is_done_at, open_answer, progress_at, after_acked, after_collect}
+use Rattle.shoot.specs.Tickets.{TicketTable, is_open, names, ticket_posted, is_done_at, open_answer, progress_at, acked_by, after_collect}
 use Rattle.shoot.specs.declared.mailbox.PostFault.{PostFault}
 use Rattle.shoot.specs.declared.mailbox.PostFault.TheVariants as fault
 use Rattle.shoot.specs.declared.tickets.TicketFault.{TicketFault}
@@ -205,10 +205,6 @@ progress_reply collected.Done = reply.Done
 progress_reply (collected.Waiting harts) = reply.Waiting harts
 
 -- the tickets once a hart acknowledged one, if it names the hart
-abbrev pub acked_by : TicketTable → ℕ → ℕ → TicketTable
-acked_by tickets ticket hart =
-    if names tickets ticket hart then after_acked tickets ticket hart else tickets
-
 abbrev pub ack_self_answer : HartState → TicketTable → ℕ → ℕ → Reply
 ack_self_answer hart tickets ticket number =
     first_of (

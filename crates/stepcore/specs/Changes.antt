@@ -12,7 +12,7 @@ use Rattle.tlb.specs.Answer.{entry_of}
 use Rattle.tlb.specs.Fence.{fenced}
 use Rattle.tlb.specs.Service.{after_service}
 use Rattle.shoot.specs.Mailbox.{MailboxState, can_release, after_post, after_take, after_release, after_close}
-use Rattle.shoot.specs.Tickets.{TicketTable, ticket_acked, ticket_collected, what_at, after_open, after_posted, after_collect, after_finish}
+use Rattle.shoot.specs.Tickets.{TicketTable, acked_by, ticket_acked, ticket_collected, what_at, after_open, after_posted, after_collect, after_finish}
 use Rattle.history.specs.declared.event.Event.{Event}
 use Rattle.history.specs.declared.event.Event.TheVariants.{Begin, Load, Map, Unmap, Protect, Flush, Switch, Fence, Post, Take, ServeFence, Ack, AckSelf, Collect, Finish, Close, Retire, Reclaim, Create}
 use Rattle.history.specs.declared.reply.Reply.{Reply}
@@ -31,7 +31,7 @@ use Rattle.stepcore.specs.declared.space_state.Phase.{Phase}
 use Rattle.stepcore.specs.declared.space_state.Phase.TheVariants as phase
 use Rattle.stepcore.specs.declared.serving.Serving.{Serving as Service}
 use Rattle.stepcore.specs.State.{State, HartState, setup_in, words_in, holders_in, hart_at, space_at, tickets_at, mailbox_at, mailbox_index}
-use Rattle.stepcore.specs.Answers.{reply_to, asid_of_hart, next_of, acked_by, page_request, request_of_scope, every_hart}
+use Rattle.stepcore.specs.Answers.{reply_to, asid_of_hart, next_of, page_request, request_of_scope, every_hart}
 
 -- what a ticket asks
 abbrev pub what_in : TicketTable → ℕ → What

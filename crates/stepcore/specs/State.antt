@@ -8,7 +8,7 @@ use Rattle.walk.specs.Stage.{Stage}
 use Rattle.spaces.specs.Held.{Held, memory_words, holders_of}
 use Rattle.spaces.specs.Holders.{Holders}
 use Rattle.tlb.specs.declared.store.Entry.{Entry}
-use Rattle.shoot.specs.declared.TheConstants.{MAX_HARTS}
+use Rattle.pte.specs.declared.TheConstants.{MAX_HARTS}
 use Rattle.shoot.specs.Mailbox.{MailboxState, empty_mailbox}
 use Rattle.shoot.specs.Tickets.{TicketTable, no_tickets}
 use Rattle.history.specs.Setup.{Setup}

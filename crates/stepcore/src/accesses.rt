@@ -19,18 +19,6 @@ use history::{Refusal, Reply};
 use pte::{Access, Ctx, VirtAddr};
 use walk::{Progress, Trap, Walk, Why, Words};
 
-/// What a load answers.
-fn progress_reply(progress: &Progress) -> Reply
-    ensures reply { result ≡ progress_answer progress.now }
-    ensures accepted { is_accepted result ≡ true }
-{
-    match progress {
-        Progress::More(_) => Reply::More,
-        Progress::Found(found) => Reply::Filled(found.pa),
-        Progress::Trap(trap) => Reply::Trap(*trap),
-    }
-}
-
 impl Machine {
     /// The walk that an access of a hart that is there begins, or what it is answered at once.
     fn first_walk(&self, hart: u8, va: u64, access: Access, ctx: Ctx) -> Result<Walk, AtOnce>
@@ -108,10 +96,12 @@ impl Machine {
         walk.load(self.memory.word(table, index))
     }
 
-    /// Goes on as a load of the hart's walk says.
-    fn go_on(&mut self, hart: u8, progress: &Progress)
+    /// Goes on as a load of the hart's walk says, which it answers.
+    fn go_on(&mut self, hart: u8, progress: &Progress) -> Reply
         requires { hart < length self.old.harts }
-        ensures { self.new ≡ record self.old {
+        ensures reply { result ≡ progress_answer progress.now }
+        ensures accepted { is_accepted result ≡ true }
+        ensures after { self.new ≡ record self.old {
           harts = slice_set self.old.harts hart
               (with_progress (asid_of_hart self.old (hart_at self.old hart)) progress.now
               (hart_at self.old hart));
@@ -119,7 +109,7 @@ impl Machine {
     {
         let asid = self.asid(hart);
         let this = &mut self.harts[usize::from(hart)];
-        this.load(asid, progress);
+        this.load(asid, progress)
     }
 
     /// Loads the next word of the hart's walk.
@@ -132,8 +122,7 @@ impl Machine {
             return Err(Refusal::NotWalking);
         };
         let progress = self.next(walk);
-        self.go_on(hart, &progress);
-        Ok(progress_reply(&progress))
+        Ok(self.go_on(hart, &progress))
     }
 
     /// Goes to another space.

@@ -8,7 +8,6 @@ ghost use Rattle.spaces.specs.Held.{IsDue, IsMemory, spare_of, memory_words};
 ghost use Rattle.spaces.specs.Layout.{HasPlace};
 ghost use Rattle.shoot.specs.Tickets.{after_open};
 ghost use Rattle.history.specs.Due.{edit_reply, map_reply, stored_reply};
-ghost use Rattle.history.specs.Refusal.{refusal_of};
 ghost use Rattle.history.specs.declared.event.Event.TheVariants.{Map, Flush};
 ghost use Rattle.history.specs.declared.reply.Reply.{Reply as ReplyOf};
 ghost use Rattle.history.specs.declared.reply.Reply.TheVariants as reply;
@@ -18,29 +17,10 @@ ghost use Rattle.stepcore.specs.Changes.{Answers, event_of, is_accepted, is_chan
 
 use crate::conditions::refuse;
 use crate::machine::Machine;
-use history::{Refusal, Reply, Scope};
+use history::{Refusal, Reply, Scope, edit_refusal};
 use pte::{Kind, Page, Pte, PteFlags, What};
 use shoot::TicketFault;
-use spaces::{Edit, MapFault, Place, Wish, apply, next_edit};
-
-/// An edit's fault as a refusal.
-fn refusal(fault: MapFault) -> Refusal
-    ensures { result ≡ refusal_of fault }
-{
-    match fault {
-        MapFault::NotHome => Refusal::NotHome,
-        MapFault::WrongHalf => Refusal::WrongHalf,
-        MapFault::BadFlags => Refusal::BadFlags,
-        MapFault::PpnTooLarge => Refusal::PpnTooLarge,
-        MapFault::Misaligned => Refusal::Misaligned,
-        MapFault::LeafInWay => Refusal::LeafInWay,
-        MapFault::NoFrame => Refusal::NoFrame,
-        MapFault::AlreadyMapped => Refusal::AlreadyMapped,
-        MapFault::TableInWay => Refusal::TableInWay,
-        MapFault::NotMapped => Refusal::NotMapped,
-        MapFault::WrongSize => Refusal::WrongSize,
-    }
-}
+use spaces::{Edit, Place, Wish, apply, next_edit};
 
 /// What the store of a Map is answered: whether the word is a pointer.
 fn stored_reply(word: u64) -> Reply
@@ -86,7 +66,10 @@ impl Machine {
         let place = wish.place();
         refuse(!self.is_place(place), Refusal::NoSpace)?;
         refuse(self.retires(place), Refusal::Retiring)?;
-        next_edit(&self.memory, hart, wish).map_err(refusal)
+        match next_edit(&self.memory, hart, wish) {
+            Ok(edit) => Ok(edit),
+            Err(fault) => Err(edit_refusal(fault)),
+        }
     }
 
     /// Makes the one store that is due next to map a page.

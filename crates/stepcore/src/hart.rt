@@ -1,6 +1,6 @@
 //! A hart.
 
-ghost use Rattle.std.specs.Prelude.{◌≡◌, ◌↔◌, IsSome, IfSome, IfNone, Some, None, false, is_some};
+ghost use Rattle.std.specs.Prelude.{◌≡◌, ◌↔◌, IsSome, IfSome, IfNone, Some, None, false, true, is_some};
 ghost use Rattle.tlb.specs.Entries.{first_match};
 ghost use Rattle.tlb.specs.Fence.{fenced};
 ghost use Rattle.tlb.specs.Mappings.{IsMappedBy, Translates};
@@ -9,10 +9,11 @@ ghost use Rattle.history.specs.Due.{match_reply};
 ghost use Rattle.history.specs.Turns.{is_more};
 ghost use Rattle.history.specs.declared.reply.Reply.TheVariants.{More};
 ghost use Rattle.stepcore.specs.State.{new_hart};
-ghost use Rattle.stepcore.specs.Answers.{reply_at_once};
-ghost use Rattle.stepcore.specs.Changes.{with_progress, with_served};
+ghost use Rattle.stepcore.specs.Answers.{progress_answer, reply_at_once};
+ghost use Rattle.stepcore.specs.Changes.{is_accepted, with_progress, with_served};
 
 use crate::serving::Serving;
+use history::Reply;
 use pte::{Access, Ctx, Scheme, VirtAddr, What};
 use shoot::Request;
 use std::marker::Model;
@@ -137,17 +138,27 @@ impl Hart {
         self.walk = Some(walk);
     }
 
-    /// Goes on as a load of the walk says: what it found goes into the TLB, for an ASID.
-    pub(crate) fn load(&mut self, asid: u16, progress: &Progress)
-        ensures { self.new ≡ with_progress asid progress.now self.old }
+    /// Goes on as a load of the walk says, which it answers: what the walk found goes into the TLB,
+    /// for an ASID.
+    pub(crate) fn load(&mut self, asid: u16, progress: &Progress) -> Reply
+        ensures reply { result ≡ progress_answer progress.now }
+        ensures accepted { is_accepted result ≡ true }
+        ensures after { self.new ≡ with_progress asid progress.now self.old }
     {
         match progress {
-            Progress::More(walk) => self.walk = Some(*walk),
+            Progress::More(walk) => {
+                self.walk = Some(*walk);
+                Reply::More
+            }
             Progress::Found(found) => {
                 self.walk = None;
                 self.tlb.fill(Entry::found(asid, found));
+                Reply::Filled(found.pa)
             }
-            Progress::Trap(_) => self.walk = None,
+            Progress::Trap(trap) => {
+                self.walk = None;
+                Reply::Trap(*trap)
+            }
         }
     }
 

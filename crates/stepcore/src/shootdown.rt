@@ -2,14 +2,14 @@
 
 ghost use Rattle.std.specs.Prelude.{◌≡◌, ◌<◌, ◌&&◌, false, true, length, IsTrue, IfOk, IfErr, OnOk, OnErr, IfSome, IfNone, slice_set, None, Some};
 ghost use Rattle.shoot.specs.Mailbox.{can_release, post_fault, first_waiting, after_post, after_take, after_release};
-ghost use Rattle.shoot.specs.Tickets.{is_done_at, is_open, names, progress_at, after_posted, after_collect, after_finish};
+ghost use Rattle.shoot.specs.Tickets.{acked_by, is_done_at, is_open, names, progress_at, after_posted, after_collect, after_finish};
 ghost use Rattle.tlb.specs.Service.{after_service};
 ghost use Rattle.history.specs.Turns.{is_progress};
 ghost use Rattle.refusals.specs.declared.refusal.Refusal.TheVariants.{NotDone};
 ghost use Rattle.history.specs.declared.event.Event.TheVariants.{Post, Take, ServeFence, Ack, AckSelf, Collect, Finish, Close};
 ghost use Rattle.history.specs.declared.reply.Reply.TheVariants as reply;
 ghost use Rattle.stepcore.specs.State.{hart_at, tickets_at, mailbox_at, mailbox_index};
-ghost use Rattle.stepcore.specs.Answers.{reply_to, box_answer, next_answer, progress_reply, acked_by};
+ghost use Rattle.stepcore.specs.Answers.{reply_to, box_answer, next_answer, progress_reply};
 ghost use Rattle.stepcore.specs.Changes.{Answers, is_accepted, is_collectable, put_mailbox, what_in};
 
 use crate::conditions::refuse;

@@ -5,7 +5,7 @@ use Rattle.std.specs.Str.{bytes_eq}
 use Rattle.std.proofs.lemmas.Bool.Decides.{nat_tests}
 use Rattle.std.proofs.lemmas.List.{length-set, set_past}
 use Rattle.shoot.specs.HartSet.{byte_of, no_harts}
-use Rattle.shoot.specs.declared.TheConstants.{MAX_HARTS}
+use Rattle.pte.specs.declared.TheConstants.{MAX_HARTS}
 use Rattle.steps.specs.declared.fault.StepFault.{StepFault}
 use Rattle.steps.specs.declared.fault.StepFault.TheVariants.{NoSuchHart}
 use Rattle.steps.specs.declared.fields.NamedHarts.{NamedHarts}

@@ -4,6 +4,7 @@ use Rattle.std.specs.List.{fold, slice_split}
 use Rattle.std.specs.Option.{option_or}
 use Rattle.std.specs.Str.{bytes_eq}
 use Rattle.pte.specs.Address.{bytes_of, is_canonical, level_of, Span, top_level}
+use Rattle.pte.specs.declared.TheConstants.{ASID_BITS, MAX_HARTS}
 use Rattle.pte.specs.declared.address.PageSize.{PageSize}
 use Rattle.pte.specs.declared.address.PageSize.TheVariants.{Kib4, Mib2, Gib1, Gib512}
 use Rattle.pte.specs.declared.scheme.Scheme.{Scheme}
@@ -11,7 +12,6 @@ use Rattle.pte.specs.declared.flags.PteFlags.{PteFlags}
 use Rattle.spaces.specs.declared.places.Place.{Place}
 use Rattle.spaces.specs.declared.places.Place.TheVariants as places
 use Rattle.shoot.specs.HartSet.{byte_of, no_harts}
-use Rattle.shoot.specs.declared.TheConstants.{MAX_HARTS}
 use Rattle.history.specs.declared.event.Scope.{Scope}
 use Rattle.history.specs.declared.event.Scope.TheVariants as scopes
 use Rattle.steps.specs.declared.fault.StepFault.{StepFault}
@@ -34,7 +34,7 @@ abbrev pub space_of : List ℕ → Option ℕ
 space_of word = number_below (2 ^ 8) word
 
 abbrev pub asid_of : List ℕ → Option ℕ
-asid_of word = number_below (2 ^ 16) word
+asid_of word = number_below (2 ^ ASID_BITS) word
 
 -- ---- a number, or a name in its place
 

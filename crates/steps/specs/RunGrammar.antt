@@ -2,6 +2,7 @@
 use Rattle.std.specs.Prelude.{ℕ, ◌≡◌, ◌⊎◌, ◌<◌, ◌^◌, ◌==◌, false, bit_and, bit_or, codes, List, [], ◌∷◌, ◌++◌, length, Option, Some, None}
 use Rattle.std.specs.List.{AllByRecursion}
 use Rattle.pte.specs.Address.{IsPageOf, Span}
+use Rattle.pte.specs.declared.TheConstants.{ASID_BITS}
 use Rattle.pte.specs.declared.address.PageSize.{PageSize}
 use Rattle.pte.specs.declared.address.PageSize.TheVariants.{Kib4, Mib2, Gib1, Gib512}
 use Rattle.pte.specs.declared.scheme.Scheme.{Scheme}
@@ -29,7 +30,7 @@ abbrev pub WritesSpace : List ℕ → ℕ → Type 0
 WritesSpace word space = WritesBelow (2 ^ 8) word space
 
 abbrev pub WritesAsid : List ℕ → ℕ → Type 0
-WritesAsid word asid = WritesBelow (2 ^ 16) word asid
+WritesAsid word asid = WritesBelow (2 ^ ASID_BITS) word asid
 
 -- ---- a number, or a name in its place
 

@@ -5,7 +5,7 @@ use Rattle.std.specs.Result.{result_ok}
 use Rattle.pte.specs.declared.scheme.Scheme.{Scheme}
 use Rattle.history.specs.declared.event.Event.{Event}
 use Rattle.history.specs.declared.event.Event.TheVariants as events
-use Rattle.shoot.specs.declared.TheConstants.{MAX_HARTS}
+use Rattle.pte.specs.declared.TheConstants.{MAX_HARTS}
 use Rattle.steps.specs.declared.fault.StepFault.{StepFault}
 use Rattle.steps.specs.declared.fault.StepFault.TheVariants.{NotStep}
 use Rattle.steps.specs.declared.spelled.Spelled.{Spelled}

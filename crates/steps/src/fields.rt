@@ -6,8 +6,8 @@ use crate::fault::StepFault;
 use crate::numbers::num;
 use bitflags::Flags;
 use history::Scope;
-use pte::{Page, PageSize, PteFlags, Scheme, VirtAddr};
-use shoot::{HartSet, MAX_HARTS};
+use pte::{ASID_BITS, MAX_HARTS, Page, PageSize, PteFlags, Scheme, VirtAddr};
+use shoot::HartSet;
 use spaces::Place;
 
 /// A size and an address that is a page's base, or not.
@@ -55,7 +55,7 @@ pub fn asid(word: &[u8]) -> Option<u16>
     ensures { result ≡ asid_of word.now }
 {
     let asid = num(word)?;
-    if asid < 1 << 16 {
+    if asid < 1 << ASID_BITS {
         Some(asid as u16)
     } else {
         None

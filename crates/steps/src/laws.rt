@@ -4,7 +4,7 @@ ghost use Rattle.pte.specs.declared.scheme.Scheme.{Scheme};
 ghost use Rattle.pte.specs.declared.scheme.Scheme.TheVariants.{Sv39, Sv48};
 ghost use Rattle.history.specs.declared.event.Event.{Event};
 ghost use Rattle.history.specs.declared.live_step.LiveStep.{LiveStep};
-ghost use Rattle.shoot.specs.declared.TheConstants.{MAX_HARTS};
+ghost use Rattle.pte.specs.declared.TheConstants.{MAX_HARTS};
 ghost use Rattle.steps.specs.declared.fault.StepFault.TheVariants.{NoSuchHart, NotStep};
 ghost use Rattle.steps.specs.declared.step.WalkStep.{WalkStep};
 ghost use Rattle.steps.specs.Grammar.{WritesNumber, WritesStep};

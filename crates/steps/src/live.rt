@@ -123,10 +123,10 @@ fn setup_step_by(
 /// `512G`:
 ///
 /// ```text
-/// translate M A VA       map PL PAGE PPN FLAGS    unmap PL PAGE NAMED    protect PL PAGE FLAGS NAMED
-/// flush SCOPE NAMED      switch S                 fence R R              post T G
-/// serve G                ackself T                collect T              finish T
-/// close G                wait T
+/// translate M A VA       map PL PAGE PPN FLAGS        post T G        ackself T
+/// switch S               unmap PL PAGE NAMED          serve G         collect T
+/// fence R R              protect PL PAGE FLAGS NAMED  close G         finish T
+/// flush SCOPE NAMED      wait T
 /// ```
 ///
 /// `StepFault::NotStep`: the words are none of them. `NoSuchHart`: they are, and name a hart that

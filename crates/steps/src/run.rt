@@ -8,8 +8,7 @@ use crate::numbers::num;
 use crate::spelled::{EditStep, PairStep, Spelled, spelled_in};
 use crate::text::next_word;
 use history::Event;
-use pte::Scheme;
-use shoot::MAX_HARTS;
+use pte::{MAX_HARTS, Scheme};
 
 /// The edit of a hart that is there.
 fn edit_event(scheme: Scheme, harts: u8, hart: u8, step: EditStep) -> Result<Event, StepFault>
@@ -128,11 +127,11 @@ fn run_step_by(scheme: Scheme, harts: u8, hart: u64, step: Spelled) -> Result<Ev
 /// `2M`, `1G`, and in Sv48 `512G`:
 ///
 /// ```text
-/// H begin M A VA         H load                 H map PL PAGE PPN FLAGS    H unmap PL PAGE NAMED
-/// H flush SCOPE NAMED    H switch S             H fence R R                H protect PL PAGE FLAGS NAMED
-/// H post T G             H take G               H servefence               H ack
-/// H ackself T            H collect T G          H finish T                 H close G
-/// H retire S             H reclaim S            H create S N
+/// H begin M A VA         H map PL PAGE PPN FLAGS        H post T G        H ackself T
+/// H load                 H unmap PL PAGE NAMED          H take G          H collect T G
+/// H switch S             H protect PL PAGE FLAGS NAMED  H servefence      H finish T
+/// H fence R R            H flush SCOPE NAMED            H ack             H close G
+/// H retire S             H reclaim S                    H create S N
 /// ```
 ///
 /// `StepFault::NotStep`: the words are none of them. `NoSuchHart`: they are, and name a hart that
@@ -150,7 +149,7 @@ pub fn run_step_among(scheme: Scheme, harts: u8, text: &str) -> Result<Event, St
 }
 
 /// The step of `run` in a scheme that a text writes where there are 8 harts, as many as there may
-/// be (`shoot::MAX_HARTS`); `None` where it has a fault.
+/// be (`pte::MAX_HARTS`); `None` where it has a fault.
 pub fn run_step(scheme: Scheme, text: &str) -> Option<Event>
     ensures { result ≡ run_step_of scheme text.now }
 {

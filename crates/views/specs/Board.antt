@@ -45,8 +45,8 @@ Steps c id v i f after tells =
 abbrev pub UnmappedStaysUnmapped : (Config → State ℕ View → View → Tables) → Type 0
 UnmappedStaysUnmapped words_at =
     (c : Config) (s : State ℕ View) → Board c s → (i : ℕ) (v : View) → get_elem? s.views i ≡ some v
-    → (n : ℕ) (k : Order)
-    → get_elem? v.orders n ≡ some k → (place : Place) (page : Span) → IsLive k place page
+    → (n : ℕ) (order : Order)
+    → get_elem? v.orders n ≡ some order → (place : Place) (page : Span) → IsLive order place page
     → IsUnmapped (layout_of c) (words_at c s v) place page
 
 -- the words as the home's view has them, and the shared words
@@ -73,8 +73,8 @@ UnmappedIsWhereNoLeafLeads =
 
 -- the entries of the hart translate no address of the page of a place
 abbrev pub TranslatesNone : Config → List View → ℕ → Place → Span → Type 0
-TranslatesNone c views h place page =
-    (j : ℕ) (w : View) → get_elem? views j ≡ some w → w.hart ≡ h → (asid va : ℕ)
+TranslatesNone c views hart place page =
+    (j : ℕ) (w : View) → get_elem? views j ≡ some w → w.hart ≡ hart → (asid va : ℕ)
     → IsAsidFor c place asid → Holds page va → ¬ Translates (IsMappedBy w.entries) asid va
 
 -- once a cell that was armed for an unmapping has the word of what it asks, the receiver translates
@@ -82,20 +82,20 @@ TranslatesNone c views h place page =
 abbrev pub AcknowledgedIsClean : Type 0
 AcknowledgedIsClean =
     (c : Config) (s : State ℕ View) → Board c s → (i : ℕ) (v : View) → get_elem? s.views i ≡ some v
-    → (n : ℕ) (k : Order) → get_elem? v.orders n ≡ some k
-    → (place : Place) (page : Span) → IsLive k place page → (h : ℕ)
-    → h < length (layout_of c).spares → is_in h k.armed ≡ true
-    → slice_index s.words (cell (layout_of c) v.hart k.ticket h)
-    ≡ acknowledgement (dropping c place page) → TranslatesNone c s.views h place page
+    → (n : ℕ) (order : Order) → get_elem? v.orders n ≡ some order
+    → (place : Place) (page : Span) → IsLive order place page → (receiver : ℕ)
+    → receiver < length (layout_of c).spares → is_in receiver order.armed ≡ true
+    → slice_index s.words (cell (layout_of c) v.hart order.ticket receiver)
+    ≡ acknowledgement (dropping c place page) → TranslatesNone c s.views receiver place page
 
 -- so it is once the hart was collected, also when the ticket is used again
 abbrev pub CollectedIsClean : Type 0
 CollectedIsClean =
     (c : Config) (s : State ℕ View) → Board c s → (i : ℕ) (v : View) → get_elem? s.views i ≡ some v
-    → (n : ℕ) (k : Order) → get_elem? v.orders n ≡ some k
-    → (place : Place) (page : Span) → IsLive k place page → (h : ℕ)
-    → h < length (layout_of c).spares → is_in h k.collected ≡ true
-    → TranslatesNone c s.views h place page
+    → (n : ℕ) (order : Order) → get_elem? v.orders n ≡ some order
+    → (place : Place) (page : Span) → IsLive order place page → (hart : ℕ)
+    → hart < length (layout_of c).spares → is_in hart order.collected ≡ true
+    → TranslatesNone c s.views hart place page
 
 -- what the shared words map from a root is global exactly in the window
 abbrev pub LeavesAreGlobalInWindow : Type 0
@@ -124,8 +124,8 @@ EqualWordsAskForEqualService =
 -- a word of a frame is as the view of this hart says, or as at the opening where no view is this
 -- hart's
 abbrev pub IsAsSaid : Config → State ℕ View → ℕ → ℕ → ℕ → Type 0
-IsAsSaid c s h f i =
-    ((j : ℕ) × (v : View) × (get_elem? s.views j ≡ some v) × (v.hart ≡ h)
+IsAsSaid c s hart f i =
+    ((j : ℕ) × (v : View) × (get_elem? s.views j ≡ some v) × (v.hart ≡ hart)
     × (tables_in (layout_of c) s.words f i ≡ memory_words (memory_of (layout_of c) v) f i))
-    ⊎ (((j : ℕ) (v : View) → get_elem? s.views j ≡ some v → ¬ (v.hart ≡ h))
+    ⊎ (((j : ℕ) (v : View) → get_elem? s.views j ≡ some v → ¬ (v.hart ≡ hart))
     × (tables_in (layout_of c) s.words f i ≡ opening (layout_of c) f i))

@@ -42,16 +42,17 @@ use Rattle.views.specs.Board.{TranslatesNone}
 
 -- of each order its ticket, what it follows, and whether it was marked anew
 abbrev pub causes : View → List (ℕ × Cause × Bool)
-causes v = map (λ k. (k.ticket, k.cause, k.anew)) v.orders
+causes v = map (λ order. (order.ticket, order.cause, order.anew)) v.orders
 
 -- an unmapping begins an order that is live, with no cell armed and no hart collected; those before
 -- stay
 abbrev pub UnmappingBeginsLive : Type 0
 UnmappingBeginsLive =
-    (c : Config) (place : Place) (page : Span) (ticket : ℕ) (v : View) (store : Store) → (k : Order)
-    × (order_of_ticket ticket (noted c (Unmap place page) ticket v store).orders ≡ Some k)
-    × IsLive k place page × (k.armed ≡ []) × (k.collected ≡ [])
-    × ((noted c (Unmap place page) ticket v store).orders ≡ k ∷ v.orders)
+    (c : Config) (place : Place) (page : Span) (ticket : ℕ) (v : View) (store : Store)
+    → (order : Order)
+    × (order_of_ticket ticket (noted c (Unmap place page) ticket v store).orders ≡ Some order)
+    × IsLive order place page × (order.armed ≡ []) × (order.collected ≡ [])
+    × ((noted c (Unmap place page) ticket v store).orders ≡ order ∷ v.orders)
 
 -- arming, serving, looking for an acknowledgement, acknowledging oneself and walking change of no
 -- order what it follows, and mark none
@@ -81,7 +82,7 @@ EditsMarkNothing =
 
 -- an order but for its mark
 abbrev pub unmarked : Order → Order
-unmarked k = record k { anew = false }
+unmarked order = record order { anew = false }
 
 -- A map opens no order and drops none: each stands where it stood, and all of it but its mark
 -- stays. It marks only what follows an unmapping in the same place of a page that it overlaps, and
@@ -92,24 +93,24 @@ MarkedByALeafOver =
     (flags : PteFlags)
     → (map unmarked (noted c (Map place page ppn flags) ticket v store).orders
     ≡ map unmarked v.orders)
-    × ((n : ℕ) (k k' : Order) → get_elem? v.orders n ≡ some k
-    → get_elem? (noted c (Map place page ppn flags) ticket v store).orders n ≡ some k'
-    → k.anew ≡ false → k'.anew ≡ true
-    → (over : Span) × (k.cause ≡ Unmapped place over) × Overlap over page)
+    × ((n : ℕ) (order later : Order) → get_elem? v.orders n ≡ some order
+    → get_elem? (noted c (Map place page ppn flags) ticket v store).orders n ≡ some later
+    → order.anew ≡ false → later.anew ≡ true
+    → (over : Span) × (order.cause ≡ Unmapped place over) × Overlap over page)
 
 -- an order later: of the same ticket, after the same cause, and with no hart taken from those whose
 -- cells were armed for it or from those that were collected
 abbrev pub Follows : Order → Order → Type 0
-Follows k later =
-    (later.ticket ≡ k.ticket) × (later.cause ≡ k.cause)
-    × ((h : ℕ) → is_in h k.armed ≡ true → is_in h later.armed ≡ true)
-    × ((h : ℕ) → is_in h k.collected ≡ true → is_in h later.collected ≡ true)
+Follows order later =
+    (later.ticket ≡ order.ticket) × (later.cause ≡ order.cause)
+    × ((hart : ℕ) → is_in hart order.armed ≡ true → is_in hart later.armed ≡ true)
+    × ((hart : ℕ) → is_in hart order.collected ≡ true → is_in hart later.collected ≡ true)
 
 -- so many orders began; each that stood before stands that many places further down, as it is later
 abbrev pub AreKept : ℕ → List Order → List Order → Type 0
-AreKept begun ks later =
-    (n : ℕ) (k : Order) → get_elem? ks n ≡ some k
-    → (k' : Order) × (get_elem? later (begun + n) ≡ some k') × Follows k k'
+AreKept begun orders later =
+    (n : ℕ) (order : Order) → get_elem? orders n ≡ some order
+    → (kept : Order) × (get_elem? later (begun + n) ≡ some kept) × Follows order kept
 
 -- arming, serving, looking for an acknowledgement, acknowledging oneself and walking keep each
 -- order where it stands, and an order that follows no store begins before them
@@ -149,9 +150,9 @@ IsFor c Kernel e = Unit {0}
 -- that is for the place
 abbrev pub TranslatesNoneHoldsNone : Type 0
 TranslatesNoneHoldsNone =
-    (c : Config) (views : List View) (h : ℕ) (place : Place) (page : Span)
-    → TranslatesNone c views h place page
-    → (j : ℕ) (w : View) → get_elem? views j ≡ some w → w.hart ≡ h → (e : Entry)
+    (c : Config) (views : List View) (hart : ℕ) (place : Place) (page : Span)
+    → TranslatesNone c views hart place page
+    → (j : ℕ) (w : View) → get_elem? views j ≡ some w → w.hart ≡ hart → (e : Entry)
     → Contains w.entries e → IsPage e.page → IsFor c place e → ¬ Overlap page e.page
 
 -- the cells lie behind the words of the tables, and no two senders, tickets or receivers share one

@@ -56,7 +56,8 @@ IsAsked c (Protect place page flags) = IsPage page
 -- the open order of a ticket, which is the last one under it, becomes another
 abbrev pub for_ticket : ℕ → (Order → Order) → List Order → List Order
 for_ticket ticket f [] = []
-for_ticket ticket f (k ∷ ks) = if k.ticket == ticket then f k ∷ ks else k ∷ for_ticket ticket f ks
+for_ticket ticket f (order ∷ orders) =
+    if order.ticket == ticket then f order ∷ orders else order ∷ for_ticket ticket f orders
 
 -- the cell of a ticket between two harts, on a view's board
 abbrev pub cell_by : View → ℕ → ℕ → ℕ → ℕ
@@ -64,7 +65,7 @@ cell_by v sender ticket receiver = cell (layout_of v.config) sender ticket recei
 
 -- the sender stored 0 to the cell of a hart
 abbrev pub armed : ℕ → Order → Order
-armed to k = record k { armed = to ∷ k.armed }
+armed to order = record order { armed = to ∷ order.armed }
 
 abbrev pub with_armed : ℕ → ℕ → View → View
 with_armed ticket to v =
@@ -83,7 +84,7 @@ acknowledged from ticket what v =
 
 -- a hart is collected
 abbrev pub collected : ℕ → Order → Order
-collected from k = record k { collected = from ∷ k.collected }
+collected from order = record order { collected = from ∷ order.collected }
 
 abbrev pub with_collected : ℕ → ℕ → View → View
 with_collected ticket from v = record v { orders = for_ticket ticket (collected from) v.orders }
@@ -116,7 +117,8 @@ self_acked ticket what v = record v {
 -- the open order of a ticket
 abbrev pub order_of_ticket : ℕ → List Order → Option Order
 order_of_ticket ticket [] = None
-order_of_ticket ticket (k ∷ ks) = if k.ticket == ticket then Some k else order_of_ticket ticket ks
+order_of_ticket ticket (order ∷ orders) =
+    if order.ticket == ticket then Some order else order_of_ticket ticket orders
 
 -- the open order of the ticket asks for this
 pub record IsAsking (c : Config) (v : View) (ticket : ℕ) (what : What) : Type 0 where

@@ -53,11 +53,11 @@ asked c (Unmapped place page) = dropping c place page
 asked c (Other what) = what
 
 abbrev pub is_in : ℕ → List ℕ → Bool
-is_in h hs = list_any (λ x. x == h) hs
+is_in hart harts = list_any (λ x. x == hart) harts
 
 -- an unmapping that is not marked anew
 abbrev pub IsLive : Order → Place → Span → Type 0
-IsLive k place page = (k.cause ≡ Unmapped place page) × (k.anew ≡ false)
+IsLive order place page = (order.cause ≡ Unmapped place page) × (order.anew ≡ false)
 
 -- a leaf that is mapped here lies over the page of an unmapping
 abbrev pub lies_over : Cause → Place → Span → Bool
@@ -68,10 +68,10 @@ lies_over (Other what) other span = false
 abbrev pub Misses : Span → Option ℕ → List Entry → Type 0
 Misses page space entries = AllPass (λ e. not (maps_into page space e)) entries
 
--- the hart h has no mapping in the page
+-- the hart has no mapping in the page
 abbrev pub IsClean : List View → ℕ → Span → Option ℕ → Type 0
-IsClean views h page space =
-    (j : ℕ) (w : View) → get_elem? views j ≡ some w → w.hart ≡ h → Misses page space w.entries
+IsClean views hart page space =
+    (j : ℕ) (w : View) → get_elem? views j ≡ some w → w.hart ≡ hart → Misses page space w.entries
 
 -- nothing that the words map from a root of the place lies in the page
 abbrev pub IsUnmapped : Layout → Tables → Place → Span → Type 0
@@ -108,6 +108,6 @@ IsGlobalInWindow l e =
 pub record Ordered (c : Config) (s : State ℕ View) : Type 0 where
   pub window : (j : ℕ) (v : View) → get_elem? s.views j ≡ some v
       → All (IsGlobalInWindow (layout_of c)) v.entries
-  pub kept : (j : ℕ) (v : View) → get_elem? s.views j ≡ some v → (n : ℕ) (k : Order)
-      → get_elem? v.orders n ≡ some k → (place : Place) (page : Span) → IsLive k place page
-      → Kept c s.words s.views v.hart (memory_of (layout_of c) v) k place page
+  pub kept : (j : ℕ) (v : View) → get_elem? s.views j ≡ some v → (n : ℕ) (order : Order)
+      → get_elem? v.orders n ≡ some order → (place : Place) (page : Span) → IsLive order place page
+      → Kept c s.words s.views v.hart (memory_of (layout_of c) v) order place page

@@ -93,9 +93,10 @@ pub record Seated (c : Config) (words : Tables) (v : View) : Type 0 where
   pub walk : IfSome v.walk (IsWalk c.scheme words v.root v.reads)
 
 -- a hart has a seat, or waits for one
-pub data Sits (views : List View) (h : ℕ) : Type 0 where
-  seated : (j : ℕ) (v : View) → get_elem? views j ≡ some v → v.hart ≡ h → Sits views h
-  waits : (j : ℕ) (v : View) → get_elem? views j ≡ some v → 0 < v.next → v.next ≤ h → Sits views h
+pub data Sits (views : List View) (hart : ℕ) : Type 0 where
+  seated : (j : ℕ) (v : View) → get_elem? views j ≡ some v → v.hart ≡ hart → Sits views hart
+  waits : (j : ℕ) (v : View) → get_elem? views j ≡ some v → 0 < v.next → v.next ≤ hart
+      → Sits views hart
 
 -- What is kept of table words: each is as its home's view says, and each walk in flight stands
 -- where the words lead.
@@ -109,13 +110,13 @@ pub record Tabled (c : Config) (s : State ℕ View) : Type 0 where
   -- each hart has one seat
   pub one : (i j : ℕ) (v w : View) → get_elem? s.views i ≡ some v → get_elem? s.views j ≡ some w
       → v.hart ≡ w.hart → i ≡ j
-  pub every : (h : ℕ) → Sits s.views h
+  pub every : (hart : ℕ) → Sits s.views hart
   -- one seat deals the others: its next hart, and those after it, have none yet, and their words
   -- are as at the opening
   pub deals : (i j : ℕ) (v w : View) → get_elem? s.views i ≡ some v → get_elem? s.views j ≡ some w
       → 0 < v.next → (w.hart < v.next) × (0 < w.next → i ≡ j)
-  pub undealt : (j : ℕ) (v : View) → get_elem? s.views j ≡ some v → 0 < v.next → (h f i : ℕ)
-      → v.next ≤ h → IsAtHome (layout_of c) h f
+  pub undealt : (j : ℕ) (v : View) → get_elem? s.views j ≡ some v → 0 < v.next → (hart f i : ℕ)
+      → v.next ≤ hart → IsAtHome (layout_of c) hart f
       → tables_in (layout_of c) s.words f i ≡ opening (layout_of c) f i
   pub each : (j : ℕ) (v : View) → get_elem? s.views j ≡ some v
       → Seated c (tables_in (layout_of c) s.words) v

@@ -116,7 +116,7 @@ fn acknowledge_as<T: Turn>(
 
 /// The store of a request's word to the sender's cell, by its receiver, whose TLB has nothing left
 /// that the request drops.
-pub fn acknowledge(
+pub(crate) fn acknowledge(
     words: &Words,
     seat: &mut Place,
     config: &Config,
@@ -161,7 +161,7 @@ fn acknowledge_self_as<T: Turn>(
 }
 
 /// The same where the sender is the receiver, which is then collected.
-pub fn acknowledge_self(
+pub(crate) fn acknowledge_self(
     words: &Words,
     seat: &mut Place,
     config: &Config,

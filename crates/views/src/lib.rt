@@ -12,7 +12,7 @@ mod steps;
 mod view;
 mod walks;
 
-pub use cells::{acknowledge, acknowledge_self, arm, collect, open_order};
+pub use cells::{arm, collect, open_order};
 pub use edits::{decide, edit, store};
 pub use laws::{
     acknowledged_is_clean, cells_are_apart, cells_meet, collected_is_clean, each_edit_is_one_store,

@@ -16,8 +16,8 @@ invariant_of-self-2 c =
     let named = c.in-Some.ensures.some.1 in
     let opened = sym (c.open_for.ensures.answer ∙ ap (answer_for c.self.inside.tickets) named) ∙ c.in-Ok-open_for.is in
     let asked : c.page_request-what.result ≡ PageOf (page_of wish) (asid_in (setup_of config) [] (place_of wish)) =
-    c.page_request-what.ensures ∙ (ap (λ p. PageOf c.args.page (asid_in p.setup [] c.args.place)) (sym c.self.view_is)
-    ∙ (ap (λ page. PageOf page (asid_in (setup_of config) [] c.args.place)) c.requires.page ∙ ap (λ place. PageOf (page_of wish) (asid_in (setup_of config) [] place)) c.requires.place)) in (
+    c.page_request-what.ensures ∙ (ap (λ p. PageOf c.page.result (asid_in p.setup [] c.place-place.result)) (sym c.self.view_is)
+    ∙ (ap (λ page. PageOf page (asid_in (setup_of config) [] c.place-place.result)) c.page.ensures ∙ ap (λ place. PageOf (page_of wish) (asid_in (setup_of config) [] place)) c.place-place.ensures)) in (
       i.0,
       search rules,
       i.2,
