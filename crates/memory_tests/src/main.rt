@@ -1,41 +1,63 @@
 //! `memory_tests`: makes each call of the libraries that takes memory, and prints a line for each:
 //! whether it answered as usual, found no memory, or answered anything else. The status is 5 if one
 //! of them found no memory, else 0. `scripts/refuse_memory.sh` runs it once for each of its
-//! requests for memory, which is then refused.
+//! requests for memory, which is then refused. With the word `scarce` it makes each call anew with
+//! ever more memory, from none on, until it answers as usual.
 #![tactic(auto)]
 
+mod calls;
 mod inspections;
 mod live;
 mod locked;
 mod machines;
+mod scarce;
 mod shootdown;
 mod texts;
 mod verdict;
 
+use calls::Call;
+use scarce::Hoard;
+use std::alloc::Global;
+use std::env;
 use std::process::ExitCode;
+use std::sync::Wait;
+use std::thread::Threads;
 use verdict::Verdict;
+
+/// What became of each call, with all memory that there is. Whether none lacked memory.
+fn with_all<R: Print + Threads + Wait + Sync>(rt: &R, alloc: Global) -> bool {
+    let mut is_ample = true;
+    for call in Call::ALL {
+        let verdict = call.make(rt, alloc);
+        is_ample &= verdict != Verdict::NoMemory;
+        let _ = println!(rt; "{}: {}", call.name(), verdict.told());
+    }
+    is_ample
+}
+
+/// What became of each call while memory ended ever later.
+fn with_little<R: Print + Threads + Wait + Sync>(rt: &R, alloc: Global) {
+    let Some(mut hoard) = Hoard::open(alloc) else {
+        let _ = println!(rt; "there is no end of memory here");
+        return;
+    };
+    for call in Call::ALL {
+        let told = hoard.tell(rt, alloc, call);
+        let _ = println!(rt; "{}, as memory ends: {}", call.name(), told.words());
+    }
+}
 
 fn main(rt: HostRuntime) -> ExitCode {
     let alloc = rt.alloc();
-    let mut status = 0;
-    for (name, verdict) in [
-        ("Machine::open", machines::open(alloc)),
-        ("Machine::run", machines::run(alloc)),
-        ("Locked::call", locked::calls(&rt, alloc)),
-        ("ends", live::two_ends(alloc)),
-        ("Board::open", live::board(alloc)),
-        ("run_live", live::run(&rt, alloc)),
-        ("walk_text", texts::walk(alloc)),
-        ("run_text", texts::run(alloc)),
-        ("inspect_command Stale", inspections::stale(alloc)),
-        ("inspect_command Show", inspections::show(alloc)),
-        ("inspect_command Draw", inspections::draw(alloc)),
-        ("inspect_command Check", inspections::check(alloc)),
-    ] {
-        if verdict == Verdict::NoMemory {
-            status = 5;
-        }
-        let _ = println!(rt; "{name}: {}", verdict.told());
+    let (verdict, words) = match env::args(&rt) {
+        Ok(words) => (Verdict::Usual, words.count()),
+        Err(_) => (Verdict::NoMemory, 0),
+    };
+    let _ = println!(rt; "env::args: {}", verdict.told());
+    let is_ample = with_all(&rt, alloc) & (verdict == Verdict::Usual);
+    // its name and one word
+    if words == 2 {
+        with_little(&rt, alloc);
     }
-    ExitCode::from(status)
+    ExitCode::from(if is_ample { 0 } else { 5 })
 }

@@ -1,0 +1,78 @@
+//! The calls that take memory.
+
+use crate::verdict::Verdict;
+use crate::{inspections, live, locked, machines, texts};
+use std::alloc::Global;
+use std::sync::Wait;
+use std::thread::Threads;
+
+/// A call that takes memory.
+#[derive(Clone, Copy, Debug, PartialEq, Eq)]
+pub enum Call {
+    MachineOpen,
+    MachineRun,
+    LockedCall,
+    Ends,
+    BoardOpen,
+    RunLive,
+    WalkText,
+    RunText,
+    Stale,
+    Show,
+    Draw,
+    Check,
+}
+
+impl Call {
+    /// All of them, in the order of their lines.
+    pub const ALL: [Call; 12] = [
+        Call::MachineOpen,
+        Call::MachineRun,
+        Call::LockedCall,
+        Call::Ends,
+        Call::BoardOpen,
+        Call::RunLive,
+        Call::WalkText,
+        Call::RunText,
+        Call::Stale,
+        Call::Show,
+        Call::Draw,
+        Call::Check,
+    ];
+
+    /// Its name on its line.
+    pub fn name(self) -> &'static str {
+        match self {
+            Call::MachineOpen => "Machine::open",
+            Call::MachineRun => "Machine::run",
+            Call::LockedCall => "Locked::call",
+            Call::Ends => "ends",
+            Call::BoardOpen => "Board::open",
+            Call::RunLive => "run_live",
+            Call::WalkText => "walk_text",
+            Call::RunText => "run_text",
+            Call::Stale => "inspect_command Stale",
+            Call::Show => "inspect_command Show",
+            Call::Draw => "inspect_command Draw",
+            Call::Check => "inspect_command Check",
+        }
+    }
+
+    /// Makes the call, and says what became of it.
+    pub fn make<R: Threads + Wait + Sync>(self, rt: &R, alloc: Global) -> Verdict {
+        match self {
+            Call::MachineOpen => machines::open(alloc),
+            Call::MachineRun => machines::run(alloc),
+            Call::LockedCall => locked::calls(rt, alloc),
+            Call::Ends => live::two_ends(alloc),
+            Call::BoardOpen => live::board(alloc),
+            Call::RunLive => live::run(rt, alloc),
+            Call::WalkText => texts::walk(alloc),
+            Call::RunText => texts::run(alloc),
+            Call::Stale => inspections::stale(alloc),
+            Call::Show => inspections::show(alloc),
+            Call::Draw => inspections::draw(alloc),
+            Call::Check => inspections::check(alloc),
+        }
+    }
+}
