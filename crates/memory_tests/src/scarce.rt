@@ -2,6 +2,7 @@
 
 use crate::calls::Call;
 use crate::verdict::Verdict;
+use arrayvec::ArrayVec;
 use std::alloc::{AllocError, Global};
 use std::sync::Wait;
 use std::thread::Threads;
@@ -27,8 +28,6 @@ const ROOM_BLOCK: usize = 1 << 16;
 
 /// So many bytes of the stack are used before memory ends, since a stack can't grow after that.
 const STACK: usize = 1 << 20;
-
-const STACK_BYTE: u8 = 0xA5;
 
 /// How often a call is made at most. What is left free grows by a grain from one to the next, and
 /// where it is large by a 128th.
@@ -61,10 +60,18 @@ impl Told {
     }
 }
 
-/// Fills so much of the stack. Whether what was written stands there.
+/// Writes to so much of the stack. Whether what was written stands there. What it used lies below
+/// its caller, where the calls to come have theirs.
+#[inline(never)]
 fn is_stack_there() -> bool {
-    let bytes = [STACK_BYTE; STACK];
-    bytes.iter().all(|byte| *byte == STACK_BYTE)
+    let mut bytes = ArrayVec::<u8, STACK>::new();
+    for at in 0..STACK {
+        // all values of a byte in turn, which no compiler knows without the bytes
+        if bytes.try_push((at % 256) as u8).is_err() {
+            return false;
+        }
+    }
+    bytes.iter().filter(|byte| **byte == 0).count() == STACK / 256
 }
 
 /// Blocks of memory that nobody uses.
