@@ -12,7 +12,7 @@ use Rattle.pte.specs.declared.permission.Ctx.{Ctx}
 use Rattle.walk.specs.declared.found_or_trap.Found.{Found}
 use Rattle.walk.specs.declared.found_or_trap.Trap.{Trap}
 use Rattle.walk.specs.Leads.{Tables}
-use Rattle.walk.specs.Maps.{Maps, page_number}
+use Rattle.walk.specs.Maps.{Maps, page_number, LiesIn}
 use Rattle.walk.specs.Answer.{flags_fault, found_unless}
 use Rattle.walk.specs.Stage.{start_of}
 use Rattle.walk.specs.Loads.{answer_after}
@@ -21,7 +21,7 @@ use Rattle.walk.proofs.Unique.{level_count_loads}
 use Rattle.tlb.specs.declared.store.Entry.{Entry}
 use Rattle.tlb.specs.Entries.{is_match}
 use Rattle.tlb.specs.Answer.{address_found}
-use Rattle.tlb.specs.Mappings.{Mapping, LiesIn, IsMappingOf, IsMappedBy, Translates}
+use Rattle.tlb.specs.Mappings.{Mapping, IsMappingOf, IsMappedBy, Translates}
 use Rattle.tlb.proofs.Translating.{match_translates, translated_match}
 use Rattle.history.specs.Setup.{Setup}
 use Rattle.history.specs.Turns.{History}

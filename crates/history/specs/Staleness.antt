@@ -3,7 +3,7 @@
 -- until the page is changed once more (Coherent).
 use Rattle.std.specs.Prelude.{ℕ, Bool, true, false, ◌≡◌, ◌+◌, ◌<◌, ◌⊎◌, ◌==◌, ◌&&◌, ◌||◌, List, [], ◌∷◌, length, Option, Some, None, is_none, All, slice_index, IfSome}
 use Rattle.pte.specs.Address.{Span, Holds}
-use Rattle.walk.specs.Maps.{Maps}
+use Rattle.walk.specs.Maps.{Maps, LiesIn}
 use Rattle.history.specs.Setup.{Setup}
 use Rattle.spaces.specs.Layout.{root_ppn, spare_ppn}
 use Rattle.walk.specs.Pointers.{table_after}
@@ -11,7 +11,7 @@ use Rattle.history.specs.Harts.{Walking, walk_of, space_of}
 use Rattle.shoot.specs.HartSet.{contains}
 use Rattle.tlb.specs.declared.store.Entry.{Entry}
 use Rattle.tlb.specs.Service.{overlaps}
-use Rattle.tlb.specs.Mappings.{Mapping, LiesIn, IsMappedBy, Translates}
+use Rattle.tlb.specs.Mappings.{Mapping, IsMappedBy, Translates}
 use Rattle.history.specs.declared.event.Event.{Event}
 use Rattle.history.specs.declared.event.Event.TheVariants.{Map, Unmap, Protect}
 use Rattle.history.specs.declared.reply.Reply.{Reply}

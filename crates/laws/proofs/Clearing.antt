@@ -2,11 +2,11 @@
 use Rattle.std.proofs.Common.{◌≡◌, ℕ, Option, refl, Bool, false, ◌&&◌, [], ◌∷◌, ◌++◌, Some, ap, sym, ◌∙◌, subst}
 use Rattle.std.proofs.lemmas.Bool.{or_parts}
 use Rattle.pte.specs.Address.{Span}
-use Rattle.walk.specs.Maps.{page_number}
+use Rattle.walk.specs.Maps.{page_number, LiesIn}
 use Rattle.history.specs.Spaces.{asid_in}
 use Rattle.spaces.specs.Layout.{root_ppn}
 use Rattle.tlb.specs.declared.store.Entry.{Entry}
-use Rattle.tlb.specs.Mappings.{Mapping, LiesIn}
+use Rattle.tlb.specs.Mappings.{Mapping}
 use Rattle.tlb.proofs.Overlapping.{overlaps-Overlap}
 use Rattle.history.specs.Setup.{Setup}
 use Rattle.history.specs.declared.event.Event.{Event}

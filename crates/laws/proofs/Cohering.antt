@@ -4,11 +4,11 @@ use Rattle.std.specs.Prelude.{is_none, if◌then◌else◌}
 use Rattle.std.proofs.lemmas.Bool.{or_parts}
 use Rattle.pte.specs.Address.{Span, bytes_of}
 use Rattle.pte.specs.declared.address.PageSize.TheVariants.{Kib4}
-use Rattle.walk.specs.Maps.{Maps}
+use Rattle.walk.specs.Maps.{Maps, LiesIn}
 use Rattle.spaces.specs.declared.places.Place.{Place}
 use Rattle.spaces.specs.declared.places.Place.TheVariants.{Space, Kernel}
 use Rattle.spaces.specs.Layout.{root_ppn}
-use Rattle.tlb.specs.Mappings.{Mapping, LiesIn}
+use Rattle.tlb.specs.Mappings.{Mapping}
 use Rattle.tlb.proofs.Overlapping.{overlaps-Overlap}
 use Rattle.history.specs.Setup.{Setup}
 use Rattle.history.specs.Spaces.{asid_in}

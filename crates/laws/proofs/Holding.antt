@@ -6,14 +6,14 @@ use Rattle.std.proofs.lemmas.Bool.{eq-eqb, false≢true, cases_Bool}
 use Rattle.std.proofs.lemmas.List.Elements.{All-contains}
 use Rattle.pte.specs.Address.{Span, IsPage}
 use Rattle.pte.specs.declared.address.What.TheVariants.{PageOf}
-use Rattle.walk.specs.Maps.{Maps}
+use Rattle.walk.specs.Maps.{Maps, LiesIn}
 use Rattle.spaces.specs.declared.places.Place.{Place}
 use Rattle.spaces.specs.declared.places.Place.TheVariants.{Space, Kernel}
 use Rattle.spaces.specs.Layout.{root_ppn}
 use Rattle.spaces.specs.Edits.{is_wrong_half}
 use Rattle.tlb.specs.declared.store.Entry.{Entry}
 use Rattle.pte.specs.declared.TheConstants.{ASID_BITS}
-use Rattle.tlb.specs.Mappings.{Mapping, LiesIn, IsMappingOf}
+use Rattle.tlb.specs.Mappings.{Mapping, IsMappingOf}
 use Rattle.tlb.specs.Service.{overlaps, is_dropped}
 use Rattle.history.specs.Setup.{Setup}
 use Rattle.history.specs.Spaces.{is_free}

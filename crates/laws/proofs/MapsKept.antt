@@ -7,11 +7,11 @@ use Rattle.pte.specs.declared.address.PageSize.TheVariants.{Kib4}
 use Rattle.pte.specs.declared.address.What.{What}
 use Rattle.pte.specs.declared.flags.PteFlags.{PteFlags}
 use Rattle.walk.specs.Leads.{Tables}
-use Rattle.walk.specs.Maps.{Maps}
+use Rattle.walk.specs.Maps.{Maps, LiesIn}
 use Rattle.spaces.specs.declared.places.Place.{Place}
 use Rattle.spaces.specs.declared.places.Place.TheVariants.{Space, Kernel}
 use Rattle.spaces.specs.Layout.{first_window_slot, root_ppn, user_slots}
-use Rattle.spaces.specs.Effects.{IsPart, IsAbout, RemovesPage, EmptiesSpace, IsOfUser}
+use Rattle.spaces.specs.Effects.{IsAbout, RemovesPage, EmptiesSpace, IsOfUser}
 use Rattle.spaces.specs.Edits.{is_wrong_half}
 use Rattle.pte.specs.declared.address.What.TheVariants.{PageOf, SpaceOf}
 use Rattle.shoot.specs.HartSet.{harts_in, harts_where}
@@ -38,7 +38,7 @@ use Rattle.laws.proofs.Causes.{IsAsked, IsAt, IsOfPlace, follows, follows_change
 use Rattle.laws.proofs.TreeKept.{tree}
 use Rattle.laws.proofs.Clearing.{anew_step}
 use Rattle.spaces.proofs.Halves.{half_end, in_user, in_window, low_slot, high_slot}
-use Rattle.laws.proofs.Halves.{part, about_over}
+use Rattle.laws.proofs.Halves.{about_over}
 use Rattle.laws.proofs.Changing.{IsEdited, Changes, keeps, adds, removes, changes_flags, empties, opening_maps_nothing, unmap_removes, reclaim_empties, changes}
 
 opened_is : (r : Reply) (t : ℕ) → opened_ticket r ≡ Some t → is_opened r ≡ true
@@ -73,7 +73,7 @@ module _ (C : Setup) (setup : IsSetup C) where
   -- no page of the user's half is global: what is global is in the window
   pub user_plain : (H : History) → Lawful C H → HavePages H → UserPagesAreNotGlobal C H
   user_plain H l has = λ s space page n ppn flags is half there at m.
-      let low = low_slot C.layout setup.layout s page n is half (part page n at) in
+      let low = low_slot C.layout setup.layout s page n is half at in
       let high : first_window_slot C.layout ≤ vpn_of (n * bytes_of Kib4) (top_level C.layout.scheme) =
       (global-window C.layout (words_of C H) (holder_of H) setup.layout (tree C setup.layout setup.homes H l has) space n ppn flags true (in_layout space there) m).0 refl in
       omega (arith, setup.layout.window, low, high)
@@ -110,13 +110,13 @@ module _ (C : Setup) (setup : IsSetup C) where
   window_shared [] l has = λ page s t n ppn flags global is half there_s there_t at m.
       absurd (opening_maps_nothing C.layout setup.layout (root_ppn C.layout s) n ppn flags global m)
   window_shared (turn ∷ H) l has = λ page s t n ppn flags global is half there_s there_t at.
-      shared_step s t n (in_layout s there_s) (in_layout t there_t) (in_window C.layout setup.layout page n is half (part page n at)) (high_slot C.layout setup.layout page n is half (part page n at)) H turn.event turn.reply (words_of C H) (words_of C (turn ∷ H))
+      shared_step s t n (in_layout s there_s) (in_layout t there_t) (in_window C.layout setup.layout page n is half at) (high_slot C.layout setup.layout page n is half at) H turn.event turn.reply (words_of C H) (words_of C (turn ∷ H))
       (changes C setup H l.0 has.0 turn.event turn.reply l.1 has.1)
       (λ ppn flags global. window_shared H l.0 has.0 page s t n ppn flags global is half there_s there_t at) ppn flags global
 
   -- a page of an order, until an edit is over it
   module _ (H : History) (k : ℕ) (order : Order) (of : Option ℕ) (page : Span) (s n : ℕ) (is : order_at C H k ≡ Some order) (change : IsChange order.cause of page)
-      (asked : IsOfPlace C of page order.what) (there : s < length C.layout.homes) (reach : Reaches C H of s) (at : IsPart page n) where
+      (asked : IsOfPlace C of page order.what) (there : s < length C.layout.homes) (reach : Reaches C H of s) (at : LiesIn page n) where
     untouched : (other : Place) (span : Span) (b old : Bool) → IsEdited C H other span → b ≡ true → ((b && is_over_order (order_at C H k) (asid_in C H other) span) || old) ≡ false
         → IsAbout other span s n → ⊥
     untouched other span b old e t fresh about =
@@ -173,7 +173,7 @@ module _ (C : Setup) (setup : IsSetup C) where
       let there = reach_there H of reached.0 reached.1 in
       let same_root : Reaches C (turn ∷ H) of reached.0 = same_reach H turn of after.0 reached.0 (reach_there (turn ∷ H) of after.0 after.1) there (sym after.2 ∙ reached.2) after.1 in
       subst (λ (x : ℕ). Maps C.layout.scheme (words_of C (turn ∷ H)) x n ppn flags global) (sym reached.2)
-      (mapped_step H k order of page reached.0 n is change asked there reached.1 (part page n at) turn.event turn.reply (words_of C H) (words_of C (turn ∷ H))
+      (mapped_step H k order of page reached.0 n is change asked there reached.1 at turn.event turn.reply (words_of C H) (words_of C (turn ∷ H))
       (changes C setup H l.0 has.0 turn.event turn.reply l.1 has.1) fresh same_root ppn flags global
       (subst (λ (x : ℕ). Maps C.layout.scheme (words_of C H) x n ppn flags global) reached.2 m))
     where
@@ -214,7 +214,7 @@ module _ (C : Setup) (setup : IsSetup C) where
   pub free_maps_nothing : (H : History) → Lawful C H → HavePages H → FreeMapsNothing C H
   free_maps_nothing [] l has = λ s page n ppn flags global there free. absurd (false≢true free)
   free_maps_nothing (turn ∷ H) l has = λ s page n ppn flags global there free is half at m.
-      let low = low_slot C.layout setup.layout s page n is half (part page n at) in
+      let low = low_slot C.layout setup.layout s page n is half at in
       elim (free_cases turn.event turn.reply H s free) [
         | inl old ↦ free_step H s n (in_layout s there) old low turn.event turn.reply (words_of C H) (words_of C (turn ∷ H)) (changes C setup H l.0 has.0 turn.event turn.reply l.1 has.1)
             (λ ppn flags global was. free_maps_nothing H l.0 has.0 s page n ppn flags global there old is half at was) ppn flags global m
@@ -230,7 +230,7 @@ module _ (C : Setup) (setup : IsSetup C) where
 
   -- the turn that unmaps a page leaves nothing of it
   removed : (place : Place) (page : Span) (H : History) (old new : Tables) (s : ℕ) → Lawful C H → is_place C H place ≡ true → RemovesPage C.layout place page old new → Reaches C H (asid_in C H place) s
-      → (n ppn : ℕ) (flags : PteFlags) (global : Bool) → IsPart page n → ¬ Maps C.layout.scheme new (root_ppn C.layout s) n ppn flags global
+      → (n ppn : ℕ) (flags : PteFlags) (global : Bool) → LiesIn page n → ¬ Maps C.layout.scheme new (root_ppn C.layout s) n ppn flags global
   removed (Space t) page H old new s l there does reach n ppn flags global at m =
       let has_t = space_is C H t there in
       let same : t ≡ s = asids_differ C setup H l t s has_t.0 reach.there has_t.1 reach.kept (sym reach.same) in
@@ -239,7 +239,7 @@ module _ (C : Setup) (setup : IsSetup C) where
 
   gone : (event : Event) (r : Reply) (H : History) (order : Order) (of : Option ℕ) (page : Span) → Lawful C H → HavePages H → r ≡ due C H event → HasPage event
       → opened_order C event r H ≡ Some order → order.cause ≡ Unmapped of page
-      → (s n ppn : ℕ) (flags : PteFlags) (global : Bool) → Reaches C (turn_of event r ∷ H) of s → IsPart page n → ¬ Maps C.layout.scheme (words_of C (turn_of event r ∷ H)) (root_ppn C.layout s) n ppn flags global
+      → (s n ppn : ℕ) (flags : PteFlags) (global : Bool) → Reaches C (turn_of event r ∷ H) of s → LiesIn page n → ¬ Maps C.layout.scheme (words_of C (turn_of event r ∷ H)) (root_ppn C.layout s) n ppn flags global
   gone (Unmap hart other span named) r H order of page l pages d has is cause s n ppn flags global reach at =
       let w = with_cause hart (harts_in named) (PageOf span (asid_in C H other)) (Unmapped (asid_in C H other) span) (opened_ticket r) order is in
       let z = opened_is r w.0 w.1 in
@@ -247,7 +247,7 @@ module _ (C : Setup) (setup : IsSetup C) where
       let same : Unmapped (asid_in C H other) span ≡ Unmapped of page = w.2 ∙ cause in
       let same_of : of ≡ asid_in C H other = cc in
       let same_page : span ≡ page = cc in
-      let part_of : IsPart span n = subst (λ (p : Span). IsPart p n) (sym same_page) at in
+      let part_of : LiesIn span n = subst (λ (p : Span). LiesIn p n) (sym same_page) at in
       let reached : Reaches C H (asid_in C H other) s = subst (λ (o : Option ℕ). Reaches C H o s) same_of (unmap_reach of reach) in
       removed other span H (words_of C H) (words_of C (turn_of (Unmap hart other span named) r ∷ H)) s l u.0.1 u.1 reached n ppn flags global part_of
     where
@@ -289,7 +289,7 @@ module _ (C : Setup) (setup : IsSetup C) where
   stays_unmapped [] l has = λ k order of page is. absurd (let bad : None ≡ Some order = is in cc)
   stays_unmapped (turn ∷ H) l has = λ k order of page is cause fresh root n ppn flags global reached at.
       elim (order_cases (opened_order C turn.event turn.reply H) (length H) k (order_at C H k) order is) [
-        | inl new ↦ λ m. gone turn.event turn.reply H order of page l.0 has.0 l.1 has.1 new.1 cause reached.0 n ppn flags global reached.1 (part page n at)
+        | inl new ↦ λ m. gone turn.event turn.reply H order of page l.0 has.0 l.1 has.1 new.1 cause reached.0 n ppn flags global reached.1 at
             (subst (λ (x : ℕ). Maps C.layout.scheme (words_of C (turn ∷ H)) x n ppn flags global) reached.2 m)
         | inr old ↦
             let asked = follows_change C order.cause of page order.what (inl cause) (follows C setup.homes H k order l.0 has.0 old) in
@@ -297,7 +297,7 @@ module _ (C : Setup) (setup : IsSetup C) where
             let before = anew_step C turn.event turn.reply H k (is_mapped_anew C H k) fresh in
             λ m. let here : Maps C.layout.scheme (words_of C (turn ∷ H)) (root_ppn C.layout reached.0) n ppn flags global = subst (λ (x : ℕ). Maps C.layout.scheme (words_of C (turn ∷ H)) x n ppn flags global) reached.2 m in
             elim (reached_cases turn.event turn.reply H of reached.0 l.1 reached.1) [
-              | inl reach ↦ unmapped_step H k order of page reached.0 n old (inl cause) asked there reach (part page n at) turn.event turn.reply (words_of C H) (words_of C (turn ∷ H))
+              | inl reach ↦ unmapped_step H k order of page reached.0 n old (inl cause) asked there reach at turn.event turn.reply (words_of C H) (words_of C (turn ∷ H))
                   (changes C setup H l.0 has.0 turn.event turn.reply l.1 has.1) fresh
                   (λ ppn flags global w. stays_unmapped H l.0 has.0 k order of page old cause before (root_ppn C.layout reached.0) n ppn flags global (reached.0, reach, refl) at w)
                   ppn flags global here

@@ -3,7 +3,7 @@
 use Rattle.std.specs.Prelude.{ℕ, ◌≡◌, ◌<◌, ◌≤◌, ◌^◌, Bool, true, false, [], ◌∷◌, length, Option, Some, Ok}
 use Rattle.pte.specs.Address.{Span, IsPage}
 use Rattle.pte.specs.declared.flags.PteFlags.{PteFlags}
-use Rattle.walk.specs.Maps.{Maps}
+use Rattle.walk.specs.Maps.{Maps, LiesIn}
 use Rattle.walk.specs.Stores.{stored}
 use Rattle.spaces.specs.declared.wishes.Wish.{Wish}
 use Rattle.spaces.specs.declared.places.Place.TheVariants.{Space, Kernel}
@@ -11,7 +11,6 @@ use Rattle.spaces.specs.Layout.{root_ppn}
 use Rattle.spaces.specs.Held.{IsLayout}
 use Rattle.spaces.specs.Edits.{Store, is_wrong_half}
 use Rattle.pte.specs.declared.TheConstants.{ASID_BITS, MAX_HARTS}
-use Rattle.tlb.specs.Mappings.{LiesIn}
 use Rattle.history.specs.Setup.{Setup}
 use Rattle.history.specs.Spaces.{status_of, is_free, asid_of, holder_of}
 use Rattle.history.specs.declared.event.Event.{Event}

@@ -6,7 +6,7 @@ use Rattle.pte.specs.declared.entry.Kind.TheVariants as kinds
 use Rattle.pte.specs.Address.{IsCanonical, IsPageOf, top_level, level_of, level_pages, vpn_of}
 use Rattle.pte.specs.Entry.{kind_of}
 use Rattle.walk.specs.Leads.{Tables, word_at}
-use Rattle.walk.specs.Maps.{Maps, page_number}
+use Rattle.walk.specs.Maps.{Maps, page_number, LiesIn}
 use Rattle.spaces.specs.declared.places.Place.{Place}
 use Rattle.spaces.specs.declared.places.Place.TheVariants.{Space, Kernel}
 use Rattle.spaces.specs.declared.wishes.Wish.{Wish}
@@ -18,7 +18,7 @@ use Rattle.spaces.specs.Tree.{start_level, start_table, IsIn, table_on, IsHome, 
 use Rattle.walk.specs.Pointers.{pointed, pointed_kind, table_below}
 use Rattle.spaces.specs.Accepted.{Accepted}
 use Rattle.spaces.specs.Applied.{words_after_store, holders_after, seven}
-use Rattle.spaces.specs.Effects.{HangsBelow, IsPart, IsAbout, SameMaps, AddsPage, RemovesPage, ChangesFlags}
+use Rattle.spaces.specs.Effects.{HangsBelow, IsAbout, SameMaps, AddsPage, RemovesPage, ChangesFlags}
 use Rattle.spaces.proofs.Homes.{home-unique}
 use Rattle.spaces.proofs.Paths.{above, on, some-same, paths-agree, table_below-like, SamePath, vpn-below}
 use Rattle.spaces.proofs.Stored.{is-word, stored-here, stored-there, pointed-stored}
@@ -92,7 +92,7 @@ module _ (l : Layout) (fits : IsLayout l) (words : Tables) (holders : Holders) (
         ((subst (λ p. HangsBelow p s) path.same_place hangs, part), at, path.same_place)
 
     -- an address of the page has its path
-    same-path-in : (s va number : ℕ) → page_number va ≡ number → IsPart (page_of wish) number
+    same-path-in : (s va number : ℕ) → page_number va ≡ number → LiesIn (page_of wish) number
         → (table_on l words (place_of wish) va acc.depth ≡ Some store.ppn) × (store.index ≡ vpn_of va (level_of (page_of wish).size)) × IsIn l (place_of wish) va
     same-path-in s va number of-page part =
         let quotient = of-part (page_of wish).base (page_of wish).size va number is-page.aligned of-page part in

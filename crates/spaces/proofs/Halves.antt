@@ -5,43 +5,25 @@ use Rattle.pte.specs.declared.address.PageSize.{PageSize}
 use Rattle.pte.specs.declared.address.PageSize.TheVariants.{Kib4, Mib2, Gib1, Gib512}
 use Rattle.pte.specs.declared.scheme.Scheme.{Scheme}
 use Rattle.pte.specs.declared.scheme.Scheme.TheVariants.{Sv39, Sv48}
-use Rattle.pte.specs.Address.{Span, Holds, Overlap, IsPage, IsPageOf, IsCanonical, address_bits, level_of, top_level, bytes_of, pages_of, vpn_of}
-use Rattle.walk.specs.Maps.{page_number}
+use Rattle.pte.specs.Address.{Span, Holds, Overlap, IsPage, IsPageOf, IsCanonical, address_bits, level_of, top_level, bytes_of, vpn_of}
+use Rattle.walk.specs.Maps.{page_number, LiesIn}
 use Rattle.spaces.specs.declared.places.Place.TheVariants.{Space, Kernel}
 use Rattle.spaces.specs.Layout.{Layout, user_slots}
 use Rattle.spaces.specs.Held.{IsLayout}
 use Rattle.spaces.specs.Edits.{is_wrong_half}
-use Rattle.spaces.specs.Effects.{IsPart}
 use Rattle.spaces.proofs.Accepting.{fit-page, within}
 
--- what lies in a page is a part of it
-lies_part : (base : ℕ) (size : PageSize) (n : ℕ) → base ≤ n * bytes_of Kib4 → (n + 1) * bytes_of Kib4 ≤ base + bytes_of size → IsPart (record { base = base; size = size }) n
-lies_part base Kib4 n from to = record { from = omega arith; below = omega arith }
-lies_part base Mib2 n from to = record { from = omega arith; below = omega arith }
-lies_part base Gib1 n from to = record { from = omega arith; below = omega arith }
-lies_part base Gib512 n from to = record { from = omega arith; below = omega arith }
-
-pub inside_part : (page : Span) (n : ℕ) → page.base ≤ n * bytes_of Kib4 → (n + 1) * bytes_of Kib4 ≤ page.base + bytes_of page.size → IsPart page n
-inside_part page n from to = lies_part page.base page.size n from to
-
 -- the page holds the first address of each part
-part_bounds : (base : ℕ) (size : PageSize) (n : ℕ) → base % bytes_of size ≡ 0 → page_number base ≤ n → n < page_number base + pages_of size
-    → (base ≤ n * bytes_of Kib4) × (n * bytes_of Kib4 < base + bytes_of size)
-part_bounds base Kib4 n aligned from below = (omega arith, omega arith)
-part_bounds base Mib2 n aligned from below = (omega arith, omega arith)
-part_bounds base Gib1 n aligned from below = (omega arith, omega arith)
-part_bounds base Gib512 n aligned from below = (omega arith, omega arith)
-
-pub holds_part : (page : Span) (n : ℕ) → IsPage page → IsPart page n → Holds page (n * bytes_of Kib4)
-holds_part page n is at = let b = part_bounds page.base page.size n is.aligned at.from at.below in record { from = b.0; below = b.1 }
+pub holds_part : (page : Span) (n : ℕ) → LiesIn page n → Holds page (n * bytes_of Kib4)
+holds_part page n at = let from = at.from in let to = at.to in record { from = from; below = omega (arith, to) }
 
 -- two pages with a part in common overlap
-pub common_part : (p q : Span) (n : ℕ) → IsPage p → IsPage q → IsPart p n → IsPart q n → Overlap p q
-common_part p q n is_p is_q at_p at_q = (n * bytes_of Kib4, holds_part p n is_p at_p, holds_part q n is_q at_q)
+pub common_part : (p q : Span) (n : ℕ) → LiesIn p n → LiesIn q n → Overlap p q
+common_part p q n at_p at_q = (n * bytes_of Kib4, holds_part p n at_p, holds_part q n at_q)
 
 -- each part is in the page's slot of the root
 slot_by : (scheme : Scheme) (base : ℕ) (size : PageSize) (n : ℕ) → level_of size ≤ top_level scheme → base % bytes_of size ≡ 0
-    → page_number base ≤ n → n < page_number base + pages_of size → vpn_of (n * bytes_of Kib4) (top_level scheme) ≡ vpn_of base (top_level scheme)
+    → base ≤ n * bytes_of Kib4 → (n + 1) * bytes_of Kib4 ≤ base + bytes_of size → vpn_of (n * bytes_of Kib4) (top_level scheme) ≡ vpn_of base (top_level scheme)
 slot_by Sv39 base Kib4 n level aligned from below = omega arith
 slot_by Sv39 base Mib2 n level aligned from below = omega arith
 slot_by Sv39 base Gib1 n level aligned from below = omega arith
@@ -51,15 +33,15 @@ slot_by Sv48 base Mib2 n level aligned from below = omega arith
 slot_by Sv48 base Gib1 n level aligned from below = omega arith
 slot_by Sv48 base Gib512 n level aligned from below = omega arith
 
-part_slot : (scheme : Scheme) (page : Span) (n : ℕ) → IsPageOf scheme page → IsPart page n → vpn_of (n * bytes_of Kib4) (top_level scheme) ≡ vpn_of page.base (top_level scheme)
-part_slot scheme page n is at = slot_by scheme page.base page.size n is.level is.aligned at.from at.below
+part_slot : (scheme : Scheme) (page : Span) (n : ℕ) → IsPageOf scheme page → LiesIn page n → vpn_of (n * bytes_of Kib4) (top_level scheme) ≡ vpn_of page.base (top_level scheme)
+part_slot scheme page n is at = slot_by scheme page.base page.size n is.level is.aligned at.from at.to
 
 -- the pages of the user's half have lower numbers than those of the window
 abbrev pub half_end : Scheme → ℕ
 half_end scheme = page_number (2 ^ (address_bits scheme - 1))
 
 low_part : (scheme : Scheme) (base : ℕ) (size : PageSize) (n : ℕ) → level_of size ≤ top_level scheme → IsCanonical scheme base → base % bytes_of size ≡ 0
-    → vpn_of base (top_level scheme) < user_slots → n < page_number base + pages_of size → n < half_end scheme
+    → vpn_of base (top_level scheme) < user_slots → (n + 1) * bytes_of Kib4 ≤ base + bytes_of size → n < half_end scheme
 low_part Sv39 base Kib4 n level (inl low) aligned slot below = omega arith
 low_part Sv39 base Mib2 n level (inl low) aligned slot below = omega arith
 low_part Sv39 base Gib1 n level (inl low) aligned slot below = omega arith
@@ -71,7 +53,7 @@ low_part Sv48 base Gib1 n level (inl low) aligned slot below = omega arith
 low_part Sv48 base Gib512 n level (inl low) aligned slot below = omega arith
 low_part Sv48 base size n level (inr high) aligned slot below = absurd (omega (arith, high.0, high.1))
 
-high_part : (scheme : Scheme) (base n : ℕ) → IsCanonical scheme base → user_slots ≤ vpn_of base (top_level scheme) → page_number base ≤ n → half_end scheme ≤ n
+high_part : (scheme : Scheme) (base n : ℕ) → IsCanonical scheme base → user_slots ≤ vpn_of base (top_level scheme) → base ≤ n * bytes_of Kib4 → half_end scheme ≤ n
 high_part Sv39 base n (inl low) slot from = absurd (omega arith)
 high_part Sv39 base n (inr high) slot from = omega (arith, high.0, high.1)
 high_part Sv48 base n (inl low) slot from = absurd (omega arith)
@@ -91,18 +73,18 @@ high_address Sv48 va n (inl low) e slot = absurd (omega (arith, low, e, slot))
 high_address Sv48 va n (inr high) e slot = omega (arith, high.0, high.1, e, slot)
 
 -- the parts of a page of the user's half
-low_page : (scheme : Scheme) (page : Span) (n : ℕ) → IsPageOf scheme page → vpn_of page.base (top_level scheme) < user_slots → IsPart page n → n < half_end scheme
-low_page scheme page n of low at = low_part scheme page.base page.size n of.level of.canonical of.aligned low at.below
+low_page : (scheme : Scheme) (page : Span) (n : ℕ) → IsPageOf scheme page → vpn_of page.base (top_level scheme) < user_slots → LiesIn page n → n < half_end scheme
+low_page scheme page n of low at = low_part scheme page.base page.size n of.level of.canonical of.aligned low at.to
 
-pub low_part_slot : (scheme : Scheme) (page : Span) (n : ℕ) → IsPageOf scheme page → vpn_of page.base (top_level scheme) < user_slots → IsPart page n
+pub low_part_slot : (scheme : Scheme) (page : Span) (n : ℕ) → IsPageOf scheme page → vpn_of page.base (top_level scheme) < user_slots → LiesIn page n
     → vpn_of (n * bytes_of Kib4) (top_level scheme) < user_slots
 low_part_slot scheme page n of low at = let slot = part_slot scheme page n of at in omega (arith, slot, low)
 
 module _ (l : Layout) (layout : IsLayout l) where
-  pub in_user : (s : ℕ) (page : Span) (n : ℕ) → IsPage page → is_wrong_half l (Space s) page ≡ false → IsPart page n → n < half_end l.scheme
+  pub in_user : (s : ℕ) (page : Span) (n : ℕ) → IsPage page → is_wrong_half l (Space s) page ≡ false → LiesIn page n → n < half_end l.scheme
   in_user s page n is half at = low_page l.scheme page n (fit-page l (Space s) page half is) (within l (Space s) page half) at
 
-  pub in_window : (page : Span) (n : ℕ) → IsPage page → is_wrong_half l Kernel page ≡ false → IsPart page n → half_end l.scheme ≤ n
+  pub in_window : (page : Span) (n : ℕ) → IsPage page → is_wrong_half l Kernel page ≡ false → LiesIn page n → half_end l.scheme ≤ n
   in_window page n is half at =
       let of = fit-page l Kernel page half is in
       let slot = within l Kernel page half in
@@ -110,14 +92,14 @@ module _ (l : Layout) (layout : IsLayout l) where
 
   -- no page is in both
   pub apart : (s : ℕ) (page window : Span) (n : ℕ) → IsPage page → IsPage window → is_wrong_half l (Space s) page ≡ false → is_wrong_half l Kernel window ≡ false
-      → IsPart page n → IsPart window n → ⊥
+      → LiesIn page n → LiesIn window n → ⊥
   apart s page window n is is' half half' at at' =
       let low = in_user s page n is half at in let high = in_window window n is' half' at' in omega arith
 
-  pub low_slot : (s : ℕ) (page : Span) (n : ℕ) → IsPage page → is_wrong_half l (Space s) page ≡ false → IsPart page n → vpn_of (n * bytes_of Kib4) (top_level l.scheme) < user_slots
+  pub low_slot : (s : ℕ) (page : Span) (n : ℕ) → IsPage page → is_wrong_half l (Space s) page ≡ false → LiesIn page n → vpn_of (n * bytes_of Kib4) (top_level l.scheme) < user_slots
   low_slot s page n is half at = low_part_slot l.scheme page n (fit-page l (Space s) page half is) (within l (Space s) page half) at
 
-  pub high_slot : (page : Span) (n : ℕ) → IsPage page → is_wrong_half l Kernel page ≡ false → IsPart page n → user_slots ≤ vpn_of (n * bytes_of Kib4) (top_level l.scheme)
+  pub high_slot : (page : Span) (n : ℕ) → IsPage page → is_wrong_half l Kernel page ≡ false → LiesIn page n → user_slots ≤ vpn_of (n * bytes_of Kib4) (top_level l.scheme)
   high_slot page n is half at =
       let slot = part_slot l.scheme page n (fit-page l Kernel page half is) at in
       let from = within l Kernel page half in

@@ -7,8 +7,7 @@ use Rattle.std.proofs.Common.{◌≡◌, ℕ, zero, suc, ap, sym, ◌∙◌, sub
 use Rattle.pte.specs.declared.address.PageSize.{PageSize}
 use Rattle.pte.specs.declared.address.PageSize.TheVariants.{Kib4, Mib2, Gib1, Gib512}
 use Rattle.pte.specs.Address.{IsCanonical, top_level, level_bytes, level_pages, level_of, bytes_of, vpn_of}
-use Rattle.walk.specs.Maps.{page_number}
-use Rattle.spaces.specs.Effects.{IsPart}
+use Rattle.walk.specs.Maps.{page_number, LiesIn}
 
 -- the indices of a canonical address tell it: at the top level, as no two addresses differ above it
 -- alone
@@ -45,30 +44,30 @@ pub same-page : (scheme : Scheme) (a b : ℕ) (size : PageSize) → level_of siz
 same-page scheme a b size low ca cb same = same-from scheme a b (top_level scheme - level_of size) (level_of size) (omega arith) ca cb same
 
 -- a part of a page, and the addresses in it
-pub part-of : (base : ℕ) (size : PageSize) (va number : ℕ) → base % bytes_of size ≡ 0 → page_number va ≡ number → va / bytes_of size ≡ base / bytes_of size → IsPart (record { base = base; size = size }) number
-part-of base Kib4 va number aligned is e = record { from = omega arith; below = omega arith }
-part-of base Mib2 va number aligned is e = record { from = omega arith; below = omega arith }
-part-of base Gib1 va number aligned is e = record { from = omega arith; below = omega arith }
-part-of base Gib512 va number aligned is e = record { from = omega arith; below = omega arith }
+pub part-of : (base : ℕ) (size : PageSize) (va number : ℕ) → base % bytes_of size ≡ 0 → page_number va ≡ number → va / bytes_of size ≡ base / bytes_of size → LiesIn (record { base = base; size = size }) number
+part-of base Kib4 va number aligned is e = record { from = omega arith; to = omega arith }
+part-of base Mib2 va number aligned is e = record { from = omega arith; to = omega arith }
+part-of base Gib1 va number aligned is e = record { from = omega arith; to = omega arith }
+part-of base Gib512 va number aligned is e = record { from = omega arith; to = omega arith }
 
-pub of-part : (base : ℕ) (size : PageSize) (va number : ℕ) → base % bytes_of size ≡ 0 → page_number va ≡ number → IsPart (record { base = base; size = size }) number → va / bytes_of size ≡ base / bytes_of size
-of-part base Kib4 va number aligned is part = omega (arith, part.from, part.below)
-of-part base Mib2 va number aligned is part = omega (arith, part.from, part.below)
-of-part base Gib1 va number aligned is part = omega (arith, part.from, part.below)
-of-part base Gib512 va number aligned is part = omega (arith, part.from, part.below)
+pub of-part : (base : ℕ) (size : PageSize) (va number : ℕ) → base % bytes_of size ≡ 0 → page_number va ≡ number → LiesIn (record { base = base; size = size }) number → va / bytes_of size ≡ base / bytes_of size
+of-part base Kib4 va number aligned is part = omega (arith, part.from, part.to)
+of-part base Mib2 va number aligned is part = omega (arith, part.from, part.to)
+of-part base Gib1 va number aligned is part = omega (arith, part.from, part.to)
+of-part base Gib512 va number aligned is part = omega (arith, part.from, part.to)
 
 -- its place in the page
-pub place-of-part : (base : ℕ) (size : PageSize) (number : ℕ) → base % bytes_of size ≡ 0 → IsPart (record { base = base; size = size }) number → number % level_pages (level_of size) ≡ number - page_number base
-place-of-part base Kib4 number aligned part = omega (arith, part.from, part.below)
-place-of-part base Mib2 number aligned part = omega (arith, part.from, part.below)
-place-of-part base Gib1 number aligned part = omega (arith, part.from, part.below)
-place-of-part base Gib512 number aligned part = omega (arith, part.from, part.below)
+pub place-of-part : (base : ℕ) (size : PageSize) (number : ℕ) → base % bytes_of size ≡ 0 → LiesIn (record { base = base; size = size }) number → number % level_pages (level_of size) ≡ number - page_number base
+place-of-part base Kib4 number aligned part = omega (arith, part.from, part.to)
+place-of-part base Mib2 number aligned part = omega (arith, part.from, part.to)
+place-of-part base Gib1 number aligned part = omega (arith, part.from, part.to)
+place-of-part base Gib512 number aligned part = omega (arith, part.from, part.to)
 
 pub number-part : (number : ℕ) → page_number (number * 4096) ≡ number
 number-part number = omega arith
 
 -- the first address of a part is canonical
 pub canonical-part : (scheme : Scheme) (base : ℕ) (size : PageSize) (number : ℕ) → level_of size ≤ top_level scheme → IsCanonical scheme base → base % bytes_of size ≡ 0
-    → IsPart (record { base = base; size = size }) number → IsCanonical scheme (number * 4096)
+    → LiesIn (record { base = base; size = size }) number → IsCanonical scheme (number * 4096)
 canonical-part scheme base size number low canonical aligned part =
     same_canonical scheme base (number * 4096) (level_of size) low (sym (of-part base size (number * 4096) number aligned (number-part number) part)) canonical

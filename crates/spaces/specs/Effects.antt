@@ -2,10 +2,10 @@
 use Rattle.std.specs.Prelude.{ℕ, Bool, ◌≡◌, ◌≢◌, ◌+◌, ◌*◌, ◌-◌, ◌<◌, ◌≤◌, ◌⊎◌, ◌↔◌, length, slice_index, Option, Some, None, IsSome, IsNone, Ok, unwrap_or}
 use Rattle.pte.specs.declared.flags.PteFlags.{PteFlags}
 use Rattle.pte.specs.declared.scheme.Scheme.{Scheme}
-use Rattle.pte.specs.Address.{Span, IsPage, bytes_of, pages_of, top_level, vpn_of}
+use Rattle.pte.specs.Address.{Span, IsPage, bytes_of, top_level, vpn_of}
 use Rattle.pte.specs.declared.address.PageSize.TheVariants.{Kib4}
 use Rattle.walk.specs.Leads.{Tables, Leads, word_at}
-use Rattle.walk.specs.Maps.{Maps, page_number}
+use Rattle.walk.specs.Maps.{LiesIn, Maps, page_number}
 use Rattle.spaces.specs.declared.places.Place.{Place}
 use Rattle.spaces.specs.declared.places.Place.TheVariants.{Space, Kernel}
 use Rattle.spaces.specs.declared.wishes.PathEnd.{PathEnd}
@@ -24,14 +24,9 @@ abbrev pub HangsBelow : Place → ℕ → Type 0
 HangsBelow (Space s') s = s' ≡ s
 HangsBelow Kernel s = Unit {0}
 
--- the page of 4 KiB with this number is a part of the page
-pub record IsPart (page : Span) (number : ℕ) : Type 0 where
-  pub from : page_number page.base ≤ number
-  pub below : number < page_number page.base + pages_of page.size
-
 -- the page of 4 KiB with this number, in the root of this space, is one that the edit is about
 abbrev pub IsAbout : Place → Span → ℕ → ℕ → Type 0
-IsAbout place page s number = HangsBelow place s × IsPart page number
+IsAbout place page s number = HangsBelow place s × LiesIn page number
 
 -- every root maps what it mapped
 abbrev pub SameMaps : Layout → Tables → Tables → Type 0

@@ -9,7 +9,7 @@ use Rattle.pte.specs.declared.entry.Kind.{Kind}
 use Rattle.pte.specs.declared.entry.Kind.TheVariants as kinds
 use Rattle.pte.specs.Entry.{kind_of}
 use Rattle.walk.specs.Leads.{Tables}
-use Rattle.walk.specs.Maps.{Maps}
+use Rattle.walk.specs.Maps.{Maps, LiesIn}
 use Rattle.walk.proofs.FoundMembers.{leaf-ppn}
 use Rattle.spaces.specs.declared.places.Place.{Place}
 use Rattle.spaces.specs.declared.places.Place.TheVariants.{Space, Kernel}
@@ -24,11 +24,9 @@ use Rattle.spaces.specs.Holders.{unused_spare}
 use Rattle.spaces.specs.Tree.{start_level}
 use Rattle.spaces.proofs.EditLaws.{edit-accepted}
 use Rattle.spaces.proofs.EntryWords.{kind-stored}
-use Rattle.spaces.proofs.Halves.{holds_part}
 use Rattle.spaces.proofs.Trees.{kind-zero}
 use Rattle.tlb.specs.declared.store.Entry.{Entry}
-use Rattle.tlb.specs.Mappings.{Mapping, LiesIn, IsMappedBy}
-use Rattle.tlb.proofs.Translating.{lies_in}
+use Rattle.tlb.specs.Mappings.{Mapping, IsMappedBy}
 use Rattle.history.specs.Setup.{Setup}
 use Rattle.history.specs.Turns.{Turn, History}
 use Rattle.history.specs.Tables.{words_of}
@@ -39,8 +37,6 @@ use Rattle.history.specs.Staleness.{HasAsid, Reaches, IsMappedNow}
 use Rattle.laws.specs.Kept.{HavePages, IsSetup}
 use Rattle.laws.proofs.Accepted.{EditFound, space_is}
 use Rattle.laws.proofs.Asids.{asids_differ}
-use Rattle.laws.proofs.Fresh.{numbered}
-use Rattle.laws.proofs.Halves.{part}
 use Rattle.laws.proofs.TreeKept.{tree, is_edit as edit_is}
 use Rattle.stale.specs.Stale.{BecomesStale}
 use Rattle.stale.proofs.NoEdit.{reach_there}
@@ -85,11 +81,8 @@ hangs : (place : Place) (s : ℕ) → HangsBelow place s ⊎ (HangsBelow place s
 hangs (Space u) s = same_nat u s
 hangs Kernel s = inl tt
 
-about : (place : Place) (page : Span) → IsPage page → (s n : ℕ) → IsAbout place page s n ⊎ (IsAbout place page s n → ⊥)
-about place page is s n = elim (both (HangsBelow place s) (LiesIn page n) (hangs place s) (lies page n)) [
-  | inl e ↦ inl (e.0, part page n e.1)
-  | inr not_so ↦ inr (λ e. not_so (e.0, subst (LiesIn page) (numbered n) (lies_in page (n * bytes_of Kib4) is (holds_part page n is e.1))))
-]
+about : (place : Place) (page : Span) (s n : ℕ) → IsAbout place page s n ⊎ (IsAbout place page s n → ⊥)
+about place page s n = both (HangsBelow place s) (LiesIn page n) (hangs place s) (lies page n)
 
 -- ---- what an edit writes on a leaf
 
@@ -223,7 +216,7 @@ module _ (C : Setup) (setup : IsSetup C) (H : History) (l : Lawful C H) (pages :
           let by = by_leaf C.layout (words_of C H) (holder_of H) hart w found.store edit acc leaf.q leaf.f leaf.at leaf.kind s m.page m.ppn m.flags (is_none m.asid) there is_about.0 is_about.1 maps in
           record {
             asid = asid_about C H (place_of w) m.asid s is_about.0 reach by.global_is;
-            page = subst (LiesIn (page_of w)) (numbered m.page) (lies_in (page_of w) (m.page * bytes_of Kib4) is_page (holds_part (page_of w) m.page is_page is_about.1));
+            page = is_about.1;
             ppn = by.ppn_is;
             flags = by.flags_are;
             aligned = by.aligned;
@@ -244,7 +237,7 @@ module _ (C : Setup) (setup : IsSetup C) (H : History) (l : Lawful C H) (pages :
             let reach = (same_reach m.asid s).1 reached in
             let there = reach_there C setup H m.asid s reach in
             let maps : Maps C.layout.scheme (words_of C H) (root_ppn C.layout s) m.page m.ppn m.flags (is_none m.asid) = now.each s reach in
-            elim (about (place_of w) (page_of w) is_page s m.page) [
+            elim (about (place_of w) (page_of w) s m.page) [
               | inr not_about ↦ does.kept s m.page m.ppn m.flags (is_none m.asid) there not_about maps
               | inl is_about ↦ elim does.either [
                 | inl other ↦ absurd (not_so (of_leaf m s there reach is_about maps other))
@@ -274,7 +267,7 @@ module _ (C : Setup) (setup : IsSetup C) (H : History) (l : Lawful C H) (pages :
             some = (some.0, subst (λ (o : Option ℕ). Reaches C H o some.0) (sym is.asid) some.1);
             each = λ s reached.
                 let maps = leaf_maps C.layout (words_of C H) (holder_of H) hart w found.store edit acc leaf.q leaf.f leaf.at leaf.kind s m.page (reach_there C setup H m.asid s reached)
-                (hangs_by (place_of w) found.there m.asid is.asid s reached) (part (page_of w) m.page is.page) is.aligned
+                (hangs_by (place_of w) found.there m.asid is.asid s reached) is.page is.aligned
                 in
                 subst (λ (p : ℕ). Maps C.layout.scheme (words_of C H) (root_ppn C.layout s) m.page p m.flags (is_none m.asid)) (sym is.ppn)
                 (subst (λ (f : PteFlags). Maps C.layout.scheme (words_of C H) (root_ppn C.layout s) m.page (leaf.q + m.page % pages_of (page_of w).size) f (is_none m.asid)) (sym is.flags)
@@ -291,7 +284,7 @@ module _ (C : Setup) (setup : IsSetup C) (H : History) (l : Lawful C H) (pages :
               let reach = (same_reach m.asid s).1 now.some.1 in
               let maps : Maps C.layout.scheme (words_of C (turn ∷ H)) (root_ppn C.layout s) m.page m.ppn m.flags (is_none m.asid) = now.each s now.some.1 in
               does.gone is.other s m.page m.ppn (is_none m.asid) (reach_there C setup H m.asid s reach)
-              (hangs_by (place_of w) found.there m.asid is.asid s reach, part (page_of w) m.page is.page)
+              (hangs_by (place_of w) found.there m.asid is.asid s reach, is.page)
               (subst (λ (f : PteFlags). Maps C.layout.scheme (words_of C (turn ∷ H)) (root_ppn C.layout s) m.page m.ppn f (is_none m.asid)) is.flags maps);
         };
         before = λ stale. stale.unmapped (was_mapped m is);

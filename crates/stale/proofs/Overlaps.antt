@@ -4,10 +4,8 @@ use Rattle.std.proofs.lemmas.Bool.{cases_Bool, leb-false, leb-true}
 use Rattle.pte.specs.Address.{Span, IsPage, Overlap, bytes_of, level_of, pages_of}
 use Rattle.pte.specs.declared.address.PageSize.{PageSize}
 use Rattle.pte.specs.declared.address.PageSize.TheVariants.{Kib4, Mib2, Gib1, Gib512}
-use Rattle.walk.specs.Maps.{page_number}
+use Rattle.walk.specs.Maps.{page_number, LiesIn}
 use Rattle.spaces.proofs.Numbers.{place-of-part}
-use Rattle.tlb.specs.Mappings.{LiesIn}
-use Rattle.laws.proofs.Halves.{part}
 use Rattle.stale.specs.Leaves.{smaller}
 
 -- of two pages that overlap the smaller lies in the other
@@ -67,9 +65,9 @@ first_lies a is = first a.base a.size is.aligned
 -- the place of a page of 4 KiB in a page, counted from that of another one that does not come later
 place_from : (b : Span) (k n : ℕ) → IsPage b → LiesIn b k → LiesIn b n → k ≤ n → n % pages_of b.size ≡ k % pages_of b.size + (n - k)
 place_from b k n is at_k at_n order =
-    let first = place-of-part b.base b.size k is.aligned (part b k at_k) in
-    let then_ = place-of-part b.base b.size n is.aligned (part b n at_n) in
-    let low = (part b k at_k).from in
+    let first = place-of-part b.base b.size k is.aligned at_k in
+    let then_ = place-of-part b.base b.size n is.aligned at_n in
+    let from = at_k.from in let low : page_number b.base ≤ k = omega (arith, from) in
     omega (arith, first, then_, low, order)
 
 -- frames that agree at the first page of 4 KiB of the smaller page agree at each one, and so the
@@ -80,7 +78,7 @@ module _ (a b : Span) (is_a : IsPage a) (is_b : IsPage b) (over : Overlap a b) (
 
   module _ (n : ℕ) (at : LiesIn (smaller a b) n) where
     order : page_number (smaller a b).base ≤ n
-    order = (part (smaller a b) n at).from
+    order = let from = at.from in omega (arith, from)
 
     in_a : n % pages_of a.size ≡ page_number (smaller a b).base % pages_of a.size + (n - page_number (smaller a b).base)
     in_a =

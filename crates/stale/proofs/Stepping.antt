@@ -6,9 +6,9 @@ use Rattle.std.proofs.lemmas.Option.{slice_get-get_or, slice_get_within, get_or_
 use Rattle.std.proofs.lemmas.List.Elements.{All-contains}
 use Rattle.pte.specs.Address.{IsPage, Overlap, level_of}
 use Rattle.pte.proofs.Schemes.{page_in_widest}
-use Rattle.walk.specs.Maps.{page_number}
+use Rattle.walk.specs.Maps.{page_number, LiesIn}
 use Rattle.tlb.specs.declared.store.Entry.{Entry}
-use Rattle.tlb.specs.Mappings.{Mapping, LiesIn, IsMappingOf, IsMappedBy}
+use Rattle.tlb.specs.Mappings.{Mapping, IsMappingOf, IsMappedBy}
 use Rattle.tlb.specs.Answer.{entry_of}
 use Rattle.tlb.proofs.Translating.{held_by}
 use Rattle.tlb.proofs.Walked.{entry_matches}

@@ -14,7 +14,8 @@ use Rattle.spaces.specs.Edits.{Store, page_of, place_of}
 use Rattle.spaces.specs.Applied.{words_after_store}
 use Rattle.spaces.specs.Effects.{RemovesPage, ChangesFlags}
 use Rattle.spaces.proofs.EditLaws.{edit-effect}
-use Rattle.tlb.specs.Mappings.{Mapping, LiesIn, IsMappedBy}
+use Rattle.walk.specs.Maps.{LiesIn}
+use Rattle.tlb.specs.Mappings.{Mapping, IsMappedBy}
 use Rattle.history.specs.Setup.{Setup}
 use Rattle.history.specs.declared.event.Event.{Event}
 use Rattle.history.specs.declared.event.Event.TheVariants.{Unmap, Protect}

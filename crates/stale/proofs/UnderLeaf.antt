@@ -8,7 +8,7 @@ use Rattle.pte.specs.declared.flags.PteFlags.{PteFlags}
 use Rattle.pte.specs.declared.entry.Kind.TheVariants as kinds
 use Rattle.pte.specs.Entry.{kind_of}
 use Rattle.walk.specs.Leads.{Tables, Leads, word_at}
-use Rattle.walk.specs.Maps.{Maps, page_number}
+use Rattle.walk.specs.Maps.{Maps, page_number, LiesIn}
 use Rattle.walk.specs.Pointers.{pointed, pointed_kind, table_below}
 use Rattle.walk.proofs.Pages.{leads_page, same_vpn}
 use Rattle.walk.proofs.Unique.{same_bool}
@@ -18,7 +18,7 @@ use Rattle.spaces.specs.declared.wishes.Wish.{Wish}
 use Rattle.spaces.specs.Layout.{Layout, root_ppn, first_window_slot, user_slots}
 use Rattle.spaces.specs.Edits.{Store, is_kernel, page_of, place_of}
 use Rattle.spaces.specs.Accepted.{Accepted}
-use Rattle.spaces.specs.Effects.{HangsBelow, IsEdit, IsPart}
+use Rattle.spaces.specs.Effects.{HangsBelow, IsEdit}
 use Rattle.spaces.specs.Holders.{Holders, unused_spare}
 use Rattle.spaces.specs.Tree.{start_level, table_on, IsIn}
 use Rattle.spaces.proofs.Accepting.{edit-fits}
@@ -86,7 +86,7 @@ module _ (l : Layout) (words : Tables) (holders : Holders) (hart : ℕ) (w : Wis
       })
 
   -- for each address of the page
-  module _ (s va n : ℕ) (has : s < length l.homes) (hangs : HangsBelow (place_of w) s) (of_page : page_number va ≡ n) (part : IsPart (page_of w) n) where
+  module _ (s va n : ℕ) (has : s < length l.homes) (hangs : HangsBelow (place_of w) s) (of_page : page_number va ≡ n) (part : LiesIn (page_of w) n) where
     row : va / bytes_of (page_of w).size ≡ (page_of w).base / bytes_of (page_of w).size
     row = of-part (page_of w).base (page_of w).size va n fitting.aligned of_page part
 
@@ -97,7 +97,7 @@ module _ (l : Layout) (words : Tables) (holders : Holders) (hart : ℕ) (w : Wis
     within_there : IsIn l (place_of w) va
     within_there = in_same l (place_of w) va (page_of w).base (same_vpn va (page_of w).base (level_of (page_of w).size) (top_level l.scheme) fitting.level row) acc.within
 
-  pub by_leaf : (s n ppn : ℕ) (flags : PteFlags) (global : Bool) → s < length l.homes → HangsBelow (place_of w) s → IsPart (page_of w) n
+  pub by_leaf : (s n ppn : ℕ) (flags : PteFlags) (global : Bool) → s < length l.homes → HangsBelow (place_of w) s → LiesIn (page_of w) n
       → Maps l.scheme words (root_ppn l s) n ppn flags global → IsByLeaf (place_of w) (page_of w) q f n ppn flags global
   by_leaf s n ppn flags global has hangs part m =
       let lv = level_of (page_of w).size in
@@ -114,7 +114,7 @@ module _ (l : Layout) (words : Tables) (holders : Holders) (hart : ℕ) (w : Wis
         global_is = same_bool global (is_kernel (place_of w)) (λ h. global_in.1 (m.is_global.0 h), λ h. m.is_global.1 (global_in.0 h));
       }
 
-  pub leaf_maps : (s n : ℕ) → s < length l.homes → HangsBelow (place_of w) s → IsPart (page_of w) n → q % pages_of (page_of w).size ≡ 0
+  pub leaf_maps : (s n : ℕ) → s < length l.homes → HangsBelow (place_of w) s → LiesIn (page_of w) n → q % pages_of (page_of w).size ≡ 0
       → Maps l.scheme words (root_ppn l s) n (q + n % pages_of (page_of w).size) f (is_kernel (place_of w))
   leaf_maps s n has hangs part aligned =
       let within = within_there s (n * bytes_of Kib4) n has hangs (number-part n) part in

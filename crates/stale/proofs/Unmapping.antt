@@ -2,12 +2,12 @@
 use Rattle.std.proofs.Common.{◌≡◌, ℕ, ◌<◌, ◌∷◌, true, length, Option, Some, None, refl, sym, subst}
 use Rattle.std.specs.Prelude.{is_none}
 use Rattle.pte.specs.Address.{Span}
-use Rattle.walk.specs.Maps.{Maps}
+use Rattle.walk.specs.Maps.{Maps, LiesIn}
 use Rattle.spaces.specs.declared.places.Place.{Place}
 use Rattle.spaces.specs.declared.places.Place.TheVariants.{Space, Kernel}
 use Rattle.spaces.specs.Effects.{HangsBelow}
 use Rattle.spaces.specs.Layout.{root_ppn}
-use Rattle.tlb.specs.Mappings.{Mapping, LiesIn, IsMappedBy}
+use Rattle.tlb.specs.Mappings.{Mapping, IsMappedBy}
 use Rattle.history.specs.Setup.{Setup}
 use Rattle.history.specs.Turns.{History}
 use Rattle.history.specs.declared.reply.Reply.TheVariants as reply
@@ -20,7 +20,6 @@ use Rattle.laws.specs.Kept.{HavePages, IsSetup}
 use Rattle.laws.proofs.Accepted.{space_is}
 use Rattle.laws.proofs.Asids.{asids_differ}
 use Rattle.laws.proofs.Changing.{unmap_removes}
-use Rattle.laws.proofs.Halves.{part}
 use Rattle.stale.specs.Stale.{Stale, unmapping}
 
 module _ (C : Setup) (setup : IsSetup C) (H : History) (hart : ℕ) (place : Place) (page : Span) (named ticket h : ℕ) (m : Mapping)
@@ -47,5 +46,5 @@ module _ (C : Setup) (setup : IsSetup C) (H : History) (hart : ℕ) (place : Pla
             let maps : Maps C.layout.scheme (words_of C (unmapping hart place page named ticket ∷ H)) (root_ppn C.layout s) m.page m.ppn m.flags (is_none m.asid) =
             now.each s reach in
             let gone = ((removes.1 s m.page m.ppn m.flags (is_none m.asid) (there m.asid s reach)).0 maps).1 in
-            gone (hangs place removes.0.1 m.asid of s reach, part page m.page lies);
+            gone (hangs place removes.0.1 m.asid of s reach, lies);
       }

@@ -5,13 +5,13 @@ use Rattle.pte.specs.declared.entry.Kind.TheVariants.{Leaf}
 use Rattle.pte.specs.Address.{Span, Overlap, level_of, pages_of}
 use Rattle.pte.specs.Entry.{kind_of}
 use Rattle.walk.specs.Leads.{Tables}
-use Rattle.walk.specs.Maps.{page_number}
+use Rattle.walk.specs.Maps.{page_number, LiesIn}
 use Rattle.spaces.specs.declared.places.Place.{Place}
 use Rattle.spaces.specs.declared.wishes.Wish.{Wish}
 use Rattle.spaces.specs.declared.wishes.Wish.TheVariants.{Unmap, Protect}
 use Rattle.spaces.specs.Edits.{Store, place_of, page_of}
 use Rattle.tlb.specs.declared.store.Entry.{Entry}
-use Rattle.tlb.specs.Mappings.{Mapping, LiesIn}
+use Rattle.tlb.specs.Mappings.{Mapping}
 use Rattle.stepcore.specs.State.{State, words_in}
 use Rattle.stepcore.specs.Answers.{asid_of_place, edit_in, is_place}
 use Rattle.stale.specs.declared.changes.Change.{Change}

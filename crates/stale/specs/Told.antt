@@ -2,7 +2,8 @@
 -- used.
 use Rattle.std.specs.Prelude.{⊤, ℕ, Bool, false, ◌≡◌, ◌≢◌, ◌+◌, ◌<◌, ◌≤◌, List, ◌∷◌, length, Option, Some, None, slice_get, All, AllPairs, Contains}
 use Rattle.tlb.specs.declared.store.Entry.{Entry}
-use Rattle.tlb.specs.Mappings.{Mapping, LiesIn, IsMappingOf}
+use Rattle.walk.specs.Maps.{LiesIn}
+use Rattle.tlb.specs.Mappings.{Mapping, IsMappingOf}
 use Rattle.history.specs.Setup.{Setup}
 use Rattle.history.specs.declared.event.Event.{Event}
 use Rattle.history.specs.declared.event.Event.TheVariants.{Unmap, Protect}

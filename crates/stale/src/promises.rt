@@ -2,7 +2,8 @@
 
 ghost use Rattle.std.specs.Prelude.{ℕ, ◌≡◌, ◌∷◌, Option, false};
 ghost use Rattle.pte.specs.Address.{Span};
-ghost use Rattle.tlb.specs.Mappings.{IsMappedBy, LiesIn, Mapping};
+ghost use Rattle.walk.specs.Maps.{LiesIn};
+ghost use Rattle.tlb.specs.Mappings.{IsMappedBy, Mapping};
 ghost use Rattle.spaces.specs.declared.places.Place.{Place};
 ghost use Rattle.history.specs.Harts.{entries_of};
 ghost use Rattle.history.specs.Spaces.{asid_in};

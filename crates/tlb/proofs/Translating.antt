@@ -8,10 +8,10 @@ use Rattle.std.proofs.lemmas.Option.{none-some}
 use Rattle.pte.specs.declared.address.PageSize.{PageSize}
 use Rattle.pte.specs.declared.address.PageSize.TheVariants.{Kib4, Mib2, Gib1, Gib512}
 use Rattle.pte.specs.Address.{Span, IsPage, Holds, bytes_of, pages_of}
-use Rattle.walk.specs.Maps.{page_number}
+use Rattle.walk.specs.Maps.{page_number, LiesIn}
 use Rattle.tlb.specs.declared.store.Entry.{Entry}
 use Rattle.tlb.specs.Entries.{holds, is_match, first_match}
-use Rattle.tlb.specs.Mappings.{Mapping, LiesIn, IsMappedBy, Translates}
+use Rattle.tlb.specs.Mappings.{Mapping, IsMappedBy, Translates}
 use Rattle.tlb.proofs.Overlapping.{holds-Holds}
 
 -- what is found is an element that passes

@@ -1,10 +1,9 @@
 -- A TLB as a set of mappings of 4 KiB pages, and which addresses it translates.
-use Rattle.std.specs.Prelude.{ℕ, Bool, ◌≡◌, ◌+◌, ◌*◌, ◌%◌, ◌≤◌, ◌⊎◌, ◌==◌, ◌&&◌, ◌||◌}
+use Rattle.std.specs.Prelude.{ℕ, Bool, ◌≡◌, ◌+◌, ◌%◌, ◌⊎◌, ◌==◌, ◌&&◌, ◌||◌}
 use Rattle.std.specs.Prelude.{if◌then◌else◌, Option, Some, None, List, Contains}
 use Rattle.pte.specs.declared.flags.PteFlags.{PteFlags}
-use Rattle.pte.specs.declared.address.PageSize.TheVariants.{Kib4}
-use Rattle.pte.specs.Address.{Span, bytes_of, overlaps, pages_of}
-use Rattle.walk.specs.Maps.{page_number}
+use Rattle.pte.specs.Address.{Span, overlaps, pages_of}
+use Rattle.walk.specs.Maps.{page_number, LiesIn}
 use Rattle.tlb.specs.declared.store.Entry.{Entry}
 
 -- the mapping of one page of 4 KiB, by its number, for one ASID or, with None, for every one
@@ -13,11 +12,6 @@ pub record Mapping : Type 0 where
   pub page : ℕ
   pub ppn : ℕ
   pub flags : PteFlags
-
--- the page of 4 KiB with this number lies in the page
-pub record LiesIn (page : Span) (number : ℕ) : Type 0 where
-  pub from : page.base ≤ number * bytes_of Kib4
-  pub to : (number + 1) * bytes_of Kib4 ≤ page.base + bytes_of page.size
 
 -- the entry has the mapping: the PPN is the entry's and the page's place in the entry's page
 pub record IsMappingOf (e : Entry) (m : Mapping) : Type 0 where

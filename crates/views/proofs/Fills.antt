@@ -16,7 +16,7 @@ use Rattle.pte.specs.declared.permission.Ctx.{Ctx}
 use Rattle.pte.specs.declared.address.PageSize.TheVariants.{Kib4}
 use Rattle.pte.specs.Address.{Span, IsPage, IsCanonical, bytes_of, top_level, vpn_of}
 use Rattle.walk.specs.declared.found_or_trap.Found.{Found}
-use Rattle.walk.specs.Maps.{page_number}
+use Rattle.walk.specs.Maps.{page_number, LiesIn}
 use Rattle.walk.specs.Outcome.{Outcome}
 use Rattle.walk.proofs.FoundMembers.{found_page_member}
 use Rattle.walk.proofs.Pages.{same_vpn}
@@ -26,14 +26,14 @@ use Rattle.spaces.specs.declared.places.Place.TheVariants.{Space, Kernel}
 use Rattle.spaces.specs.Layout.{Layout, HasPlace, layout_of, home_of, root_ppn, first_window_slot}
 use Rattle.spaces.specs.Held.{IsLayout, holders_of, memory_words}
 use Rattle.spaces.specs.Edits.{is_wrong_half}
-use Rattle.spaces.specs.Effects.{IsPart, HangsBelow}
+use Rattle.spaces.specs.Effects.{HangsBelow}
 use Rattle.spaces.specs.Tree.{IsIn}
 use Rattle.spaces.proofs.DistinctAsids.{differ}
 use Rattle.spaces.proofs.EditLaws.{global-window}
-use Rattle.spaces.proofs.Halves.{inside_part, low_slot, in_user, in_window, low_address, high_address}
+use Rattle.spaces.proofs.Halves.{low_slot, in_user, in_window, low_address, high_address}
 use Rattle.tlb.specs.declared.store.Entry.{Entry}
 use Rattle.tlb.specs.Answer.{entry_of}
-use Rattle.tlb.specs.Mappings.{LiesIn, maps_into}
+use Rattle.tlb.specs.Mappings.{maps_into}
 use Rattle.tlb.specs.Service.{overlaps}
 use Rattle.tlb.proofs.Overlapping.{overlaps-Overlap}
 use Rattle.tlb.proofs.Translating.{lies_in}
@@ -48,12 +48,8 @@ use Rattle.views.proofs.EditKeeps.{live-layout}
 use Rattle.views.proofs.MappedAtHome.{member-place, mapped-in-view}
 use Rattle.views.proofs.RealTree.{holders-all, real-tree}
 
--- what lies in a page is a part of it
-part : (page : Span) (n : ℕ) → LiesIn page n → IsPart page n
-part page n l = inside_part page n l.from l.to
-
 -- the place in which a page of 4 KiB hangs is that of the page that it is a part of
-place-same : (l : Layout) → IsLayout l → (place other : Place) (page : Span) (s number va : ℕ) → IsPage page → is_wrong_half l place page ≡ false → HangsBelow place s → IsPart page number
+place-same : (l : Layout) → IsLayout l → (place other : Place) (page : Span) (s number va : ℕ) → IsPage page → is_wrong_half l place page ≡ false → HangsBelow place s → LiesIn page number
     → IsCanonical l.scheme va → page_number va ≡ number → HangsBelow other s → IsIn l other va → other ≡ place
 place-same l fits (Space t) (Space u) page s number va is half hangs at can of hangs' inside = ap Space (hangs' ∙ sym hangs)
 place-same l fits (Space t) Kernel page s number va is half hangs at can of hangs' inside =
@@ -88,7 +84,7 @@ not-global-over l fits s page is half e window = by e.global refl
         ap not (false_from_ne_true (overlaps page e.page) (λ on.
         let both = (overlaps-Overlap page e.page).0 on in
         let high : first_window_slot l ≤ vpn_of both.0 (top_level l.scheme) = (window both.0 both.2).0 q in
-        let low = low_slot l fits s page (page_number both.0) is half (part page (page_number both.0) (lies_in page both.0 is both.1)) in
+        let low = low_slot l fits s page (page_number both.0) is half (lies_in page both.0 is both.1) in
         let same = slot-of both.0 (top_level l.scheme) in
         omega (arith, fits.window, low, high, same)))
 
@@ -129,7 +125,7 @@ module _ (c : Config) (s : State ℕ View) (b : Tabled c s) (o : Ordered c s) (s
     elsewhere : HangsBelow place sp → (asid : ℕ) (space : Option ℕ) → IsTrue (not (maps_into page space (entry_of asid found)))
     elsewhere hangs asid space =
         entry_is_elsewhere c.scheme (tables_in (layout_of c) s.words) (root_ppn (layout_of c) sp) va access ctx found asid is page (λ at ppn flags global holds maps.
-        unmapped-shared c s b o j u at-u n k at-k place page live sp (page_number at) ppn flags global has (hangs, part page (page_number at) (lies_in page at is-page holds)) maps) space
+        unmapped-shared c s b o j u at-u n k at-k place page live sp (page_number at) ppn flags global has (hangs, lies_in page at is-page holds) maps) space
 
     misses-by : (p : Place) → place ≡ p → (asid : ℕ) → asid ≡ asid_of_space c sp → IsTrue (not (maps_into page (asid_for c p) (entry_of asid found)))
     misses-by Kernel e asid a = elsewhere (subst (λ q. HangsBelow q sp) (sym e) tt) asid None

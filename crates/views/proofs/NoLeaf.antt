@@ -1,18 +1,14 @@
 -- What maps nothing of a page is where no leaf leads at an address of the page.
-use Rattle.std.proofs.Common.{◌≡◌, ℕ, zero, suc, ◌+◌, ◌-◌, ◌%◌, ◌||◌, Bool, true, false, Some, subst, refl, arith}
+use Rattle.std.proofs.Common.{◌≡◌, ℕ, zero, suc, ◌+◌, ◌-◌, ◌%◌, ◌||◌, Bool, true, false, Some, subst, sym, refl, arith}
 use Rattle.std.specs.Prelude.{◌↔◌, IsTrue}
 use Rattle.pte.specs.declared.scheme.Scheme.{Scheme}
-use Rattle.pte.specs.declared.address.PageSize.{PageSize}
-use Rattle.pte.specs.declared.address.PageSize.TheVariants.{Gib1, Gib512, Kib4, Mib2}
-use Rattle.pte.specs.Address.{Holds, bytes_of, level_pages, top_level}
+use Rattle.pte.specs.Address.{level_pages, top_level}
 use Rattle.pte.specs.Entry.{is_global}
 use Rattle.walk.specs.Leads.{IsGlobalAt, Leads, Tables}
-use Rattle.walk.specs.Maps.{page_number}
+use Rattle.walk.specs.Maps.{page_number, LiesIn}
 use Rattle.walk.proofs.Paths.{global-here, leads-above, none_above}
-use Rattle.spaces.specs.Effects.{IsPart}
 use Rattle.spaces.specs.Layout.{root_ppn}
-use Rattle.spaces.proofs.Halves.{inside_part}
-use Rattle.tlb.proofs.Translating.{lies_in}
+use Rattle.tlb.proofs.Translating.{held_by, lies_in}
 use Rattle.views.specs.Board.{UnmappedIsWhereNoLeafLeads}
 
 -- whether G stands on a word that leads at a level, or above it
@@ -31,19 +27,11 @@ global-found scheme words root va (suc d) i t entry at path =
     let r = global-found scheme words root va d (i + 1) (path.tables (i + 1)) p.entry (omega arith) (subst (λ w. Leads scheme words root va (i + 1) (path.tables (i + 1)) w) p.is up) in
     (r.0 || is_global entry, global-here scheme words root va i t entry r.0 path r.1)
 
--- a page holds the addresses of its parts
-holds-of : (base : ℕ) (size : PageSize) (va number : ℕ) → base % bytes_of size ≡ 0 → page_number va ≡ number → IsPart (record { base = base; size = size }) number → Holds (record { base = base; size = size }) va
-holds-of base Kib4 va number aligned is part = record { from = omega (arith, part.from, part.below); below = omega (arith, part.from, part.below) }
-holds-of base Mib2 va number aligned is part = record { from = omega (arith, part.from, part.below); below = omega (arith, part.from, part.below) }
-holds-of base Gib1 va number aligned is part = record { from = omega (arith, part.from, part.below); below = omega (arith, part.from, part.below) }
-holds-of base Gib512 va number aligned is part = record { from = omega (arith, part.from, part.below); below = omega (arith, part.from, part.below) }
-
 pub no_leaf_leads : UnmappedIsWhereNoLeafLeads
 no_leaf_leads l words place page is-page = (
   (λ none s va level table entry leaf flags less hangs holds canonical leads kind aligned.
       let g = global-found l.scheme words (root_ppn l s) va (top_level l.scheme - level) level table entry (omega (arith, leads.level)) leads in
-      let in-page = lies_in page va is-page holds in
-      none s (page_number va) (leaf + page_number va % level_pages level) flags g.0 less (hangs, inside_part page (page_number va) in-page.from in-page.to) (record {
+      none s (page_number va) (leaf + page_number va % level_pages level) flags g.0 less (hangs, lies_in page va is-page holds) (record {
         va = va;
         level = level;
         table = table;
@@ -58,5 +46,5 @@ no_leaf_leads l words place page is-page = (
         is_global = g.1;
       })),
   (λ none s number ppn flags global less about m.
-      none s m.va m.level m.table m.entry m.leaf flags less about.0 (holds-of page.base page.size m.va number is-page.aligned m.of_page about.1) m.canonical m.leads m.kind m.aligned),
+      none s m.va m.level m.table m.entry m.leaf flags less about.0 (held_by page m.va (subst (LiesIn page) (sym m.of_page) about.1)) m.canonical m.leads m.kind m.aligned),
 )

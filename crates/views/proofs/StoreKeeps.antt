@@ -8,7 +8,7 @@ use lib.ListN.{get_elem?}
 use Rattle.atomic_table.specs.Table.{State}
 use Rattle.pte.specs.declared.flags.PteFlags.{PteFlags}
 use Rattle.pte.specs.Address.{Span, IsPage}
-use Rattle.walk.specs.Maps.{Maps}
+use Rattle.walk.specs.Maps.{Maps, LiesIn}
 use Rattle.walk.specs.Pointers.{pointed}
 use Rattle.spaces.specs.declared.configuration.Config.{Config}
 use Rattle.spaces.specs.declared.places.Place.{Place}
@@ -20,7 +20,7 @@ use Rattle.spaces.specs.Held.{Held, IsLayout, holders_of, word_index, memory_wor
 use Rattle.spaces.specs.Holders.{is_same_place, unused_spare}
 use Rattle.spaces.specs.Edits.{Store, edit_of, is_wrong_half, page_of, place_of, store_due, wish_end, wish_fault}
 use Rattle.spaces.specs.Opening.{is_word}
-use Rattle.spaces.specs.Effects.{HangsBelow, HasEffect, IsAbout, IsEdit, IsPart}
+use Rattle.spaces.specs.Effects.{HangsBelow, HasEffect, IsAbout, IsEdit}
 use Rattle.spaces.specs.Applied.{memory_after}
 use Rattle.spaces.proofs.Accepting.{unfaulted, unless-ok}
 use Rattle.spaces.proofs.EditLaws.{effect-in}
@@ -59,12 +59,12 @@ asked-page c (Protect place page flags) a = a
 
 -- where an edit is about a part of a page in a root of the page's place, it is over the page
 about-over : (l : Layout) → IsLayout l → (place other : Place) (page span : Span) (s n : ℕ) → IsPage page → IsPage span → is_wrong_half l place page ≡ false → is_wrong_half l other span ≡ false
-    → HangsBelow place s → IsPart page n → IsAbout other span s n → (is_same_place place other && overlaps page span) ≡ true
+    → HangsBelow place s → LiesIn page n → IsAbout other span s n → (is_same_place place other && overlaps page span) ≡ true
 about-over l fits (Space t) (Space u) page span s n a b p q hangs at about =
-    and_from (eqb t u) (overlaps page span) (eq-eqb t u (hangs ∙ sym about.0)) ((overlaps-Overlap page span).1 (common_part page span n a b at about.1))
+    and_from (eqb t u) (overlaps page span) (eq-eqb t u (hangs ∙ sym about.0)) ((overlaps-Overlap page span).1 (common_part page span n at about.1))
 about-over l fits (Space t) Kernel page span s n a b p q hangs at about = absurd (apart l fits t page span n a b p q at about.1)
 about-over l fits Kernel (Space u) page span s n a b p q hangs at about = absurd (apart l fits u span page n b a q p about.1 at)
-about-over l fits Kernel Kernel page span s n a b p q hangs at about = (overlaps-Overlap page span).1 (common_part page span n a b at about.1)
+about-over l fits Kernel Kernel page span s n a b p q hangs at about = (overlaps-Overlap page span).1 (common_part page span n at about.1)
 
 module _ (c : Config) (id : ℕ) (v : View) (wish : Wish) (ticket : ℕ) (store : Store) (has : HasPlace (layout_of c) (place_of wish)) (asked : IsAsked c wish)
     (is : edit_over (layout_of c) v wish ≡ Ok store)
