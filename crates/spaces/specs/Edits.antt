@@ -123,18 +123,13 @@ path_of l words place page =
 
 -- the word that is due at the page's own level, by what stands there
 abbrev pub page_word : Wish → Kind → Result ℕ MapFault
-page_word (Map place page ppn flags) kinds.Invalid = Ok (leaf_word ppn flags)
-page_word (Map place page ppn flags) kinds.Reserved = Ok (leaf_word ppn flags)
-page_word (Map place page ppn flags) (kinds.Table q g) = Err TableInWay
 page_word (Map place page ppn flags) (kinds.Leaf q f) = Err AlreadyMapped
-page_word (Unmap place page) kinds.Invalid = Err NotMapped
-page_word (Unmap place page) kinds.Reserved = Err NotMapped
-page_word (Unmap place page) (kinds.Table q g) = Err WrongSize
+page_word (Map place page ppn flags) (kinds.Table q g) = Err TableInWay
+page_word (Map place page ppn flags) _ = Ok (leaf_word ppn flags)
 page_word (Unmap place page) (kinds.Leaf q f) = Ok 0
-page_word (Protect place page flags) kinds.Invalid = Err NotMapped
-page_word (Protect place page flags) kinds.Reserved = Err NotMapped
-page_word (Protect place page flags) (kinds.Table q g) = Err WrongSize
 page_word (Protect place page flags) (kinds.Leaf q f) = Ok (leaf_word q flags)
+page_word _ (kinds.Table q g) = Err WrongSize
+page_word _ _ = Err NotMapped
 
 -- a pointer to the lowest unused spare frame
 abbrev pub pointer_word : Place → Option ℕ → Result ℕ MapFault
@@ -144,17 +139,9 @@ pointer_word place None = Err NoFrame
 -- the word that is due above the page's level, by what stands there
 abbrev pub upper_word : Wish → Option ℕ → Kind → Result ℕ MapFault
 upper_word (Map place page ppn flags) spare (kinds.Leaf q f) = Err LeafInWay
-upper_word (Map place page ppn flags) spare kinds.Invalid = pointer_word place spare
-upper_word (Map place page ppn flags) spare kinds.Reserved = pointer_word place spare
-upper_word (Map place page ppn flags) spare (kinds.Table q g) = pointer_word place spare
-upper_word (Unmap place page) spare (kinds.Leaf q f) = Err WrongSize
-upper_word (Unmap place page) spare kinds.Invalid = Err NotMapped
-upper_word (Unmap place page) spare kinds.Reserved = Err NotMapped
-upper_word (Unmap place page) spare (kinds.Table q g) = Err NotMapped
-upper_word (Protect place page flags) spare (kinds.Leaf q f) = Err WrongSize
-upper_word (Protect place page flags) spare kinds.Invalid = Err NotMapped
-upper_word (Protect place page flags) spare kinds.Reserved = Err NotMapped
-upper_word (Protect place page flags) spare (kinds.Table q g) = Err NotMapped
+upper_word (Map place page ppn flags) spare _ = pointer_word place spare
+upper_word _ spare (kinds.Leaf q f) = Err WrongSize
+upper_word _ spare _ = Err NotMapped
 
 -- the word that is due where the path of the page ends, or why there is none
 abbrev pub due_word : Wish → Option ℕ → PathEnd → Result ℕ MapFault
