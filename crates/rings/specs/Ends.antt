@@ -1,12 +1,12 @@
 -- What contracts see of the two ends of a ring: the sender's, which posts requests, and the
 -- receiver's, which takes them.
-use Rattle.std.specs.Prelude.{ℕ, ◌+◌, ◌-◌, Bool, true, false, List, [], ◌∷◌, ◌++◌, length, min, ◌^◌, Option, Some, None, nat_le, if◌then◌else◌}
+use Rattle.std.specs.Prelude.{ℕ, ◌+◌, ◌-◌, Bool, true, false, List, [], ◌∷◌, ◌++◌, length, min, ◌^◌, Option}
 use Rattle.std.specs.Global.{Global}
 use denote.RawPtr.{Ptr}
 use Rattle.rtrb.specs.Shared.{Names}
+use Rattle.shoot.specs.Mailbox.{fault_of}
 use Rattle.shoot.specs.Request.{Request}
 use Rattle.shoot.specs.declared.mailbox.PostFault.{PostFault}
-use Rattle.shoot.specs.declared.mailbox.PostFault.TheVariants.{Closed, Full}
 
 -- which ring an end is of: where its words and its places lie, their names in proofs, and where
 -- their memory is from
@@ -50,12 +50,9 @@ new_outbox ring capacity =
 abbrev pub new_inbox : Ring → ℕ → InboxState
 new_inbox ring capacity = record { ring = ring; taken = []; known = []; capacity = capacity }
 
--- why a post is refused before it reaches the ring: the first that applies
+-- why a post is refused before it reaches the ring
 abbrev pub post_fault : OutboxState → Option PostFault
-post_fault outbox =
-    if outbox.closed then Some Closed
-    else if nat_le outbox.capacity outbox.outstanding then Some Full
-    else None
+post_fault outbox = fault_of outbox.closed outbox.outstanding outbox.capacity
 
 -- the sender's end with one more request, which is outstanding, and which knows of so many free
 -- places

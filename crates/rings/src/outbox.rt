@@ -1,6 +1,6 @@
 //! The sender's end.
 
-ghost use Rattle.std.specs.Prelude.{◌≡◌, ◌+◌, ◌<◌, ◌≤◌, Some, None, Err, IfErr, IsOk, OnOk, OnErr, true};
+ghost use Rattle.std.specs.Prelude.{◌≡◌, ◌+◌, ◌<◌, ◌≤◌, Some, None, Err, IfErr, OnOk, OnErr, true};
 
 use rtrb::{Producer, PushError};
 use shoot::{PostFault, Request};
@@ -53,13 +53,7 @@ impl Outbox {
     pub fn post_fault(&self) -> Option<PostFault>
         ensures { result ≡ post_fault self.now }
     {
-        if self.closed {
-            Some(PostFault::Closed)
-        } else if self.outstanding >= self.capacity {
-            Some(PostFault::Full)
-        } else {
-            None
-        }
+        PostFault::of(self.closed, self.outstanding, self.capacity)
     }
 
     /// Posts a request. Refused with `Closed`, else with `Full`, it comes back, and nothing

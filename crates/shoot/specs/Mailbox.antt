@@ -24,12 +24,14 @@ abbrev pub empty_mailbox : ℕ → MailboxState
 empty_mailbox capacity =
     record { waiting = []; outstanding = 0; closed = false; capacity = capacity }
 
--- why a post is refused: the first that applies
+-- why a post is refused, by whether the mailbox is closed, how many requests are outstanding, and
+-- the capacity: the first that applies
+abbrev pub fault_of : Bool → ℕ → ℕ → Option PostFault
+fault_of closed outstanding capacity =
+    if closed then Some Closed else if nat_le capacity outstanding then Some Full else None
+
 abbrev pub post_fault : MailboxState → Option PostFault
-post_fault mailbox =
-    if mailbox.closed then Some Closed
-    else if nat_le mailbox.capacity mailbox.outstanding then Some Full
-    else None
+post_fault mailbox = fault_of mailbox.closed mailbox.outstanding mailbox.capacity
 
 -- a refused request comes back
 abbrev pub answer_with : Option PostFault → Request → Result (Unit {0}) (PostFault × Request)

@@ -19,6 +19,24 @@ pub enum PostFault {
     Full,
 }
 
+impl PostFault {
+    ghost use Rattle.shoot.specs.Mailbox.{fault_of};
+
+    /// Why an end refuses a post that is closed, or has this many requests outstanding of at most
+    /// `capacity`: the first that applies.
+    pub fn of(closed: bool, outstanding: usize, capacity: usize) -> Option<PostFault>
+        ensures { result ≡ fault_of closed outstanding capacity }
+    {
+        if closed {
+            Some(PostFault::Closed)
+        } else if outstanding >= capacity {
+            Some(PostFault::Full)
+        } else {
+            None
+        }
+    }
+}
+
 /// The requests from one hart to another, in the order of their posts.
 ///
 /// The capacity bounds the requests that were accepted and whose
@@ -73,13 +91,7 @@ impl Mailbox {
     pub fn post_fault(&self) -> Option<PostFault>
         ensures { result ≡ post_fault self.now }
     {
-        if self.closed {
-            Some(PostFault::Closed)
-        } else if self.outstanding >= self.capacity {
-            Some(PostFault::Full)
-        } else {
-            None
-        }
+        PostFault::of(self.closed, self.outstanding, self.capacity)
     }
 
     /// Puts a request behind those that wait. Refused with `Closed`, else with
