@@ -7,17 +7,16 @@ use Rattle.tlb.specs.Entries.{TlbState}
 use Rattle.tlb.specs.Service.{after_service}
 use Rattle.shoot.specs.Request.{Request}
 use Rattle.shoot.specs.declared.mailbox.PostFault.{PostFault}
-use Rattle.shoot.specs.declared.mailbox.PostFault.TheVariants as fault
 use Rattle.shoot.specs.declared.tickets.TicketFault.{TicketFault}
-use Rattle.shoot.specs.declared.tickets.TicketFault.TheVariants as ticket_fault
 use Rattle.shoot.specs.declared.tickets.Collected.{Collected}
 use Rattle.shoot.specs.Tickets.{TicketTable, is_open, names, ticket_posted, is_done_at, what_at, open_answer, progress_at, after_open, acked_by, after_acked, after_posted, after_collect, after_finish}
 use Rattle.refusals.specs.declared.refusal.Refusal.{Refusal}
-use Rattle.refusals.specs.declared.refusal.Refusal.TheVariants.{NoHart, NoSpace, HomeNotNamed, NoTicket, NotOpen, NotNamed, AlreadyPosted, Closed, Full, NotDone}
+use Rattle.refusals.specs.declared.refusal.Refusal.TheVariants.{NoHart, NoSpace, NotOpen, NotNamed, AlreadyPosted, Closed, NotDone}
 use Rattle.history.specs.declared.event.Scope.{Scope}
 use Rattle.history.specs.Due.{are_pair, are_harts, is_number}
 use Rattle.history.specs.declared.event.Scope.TheVariants as scope
 use Rattle.history.specs.Orders.{scope_request}
+use Rattle.history.specs.Refusal.{opening_refusal, posting_refusal}
 use Rattle.history.specs.Setup.{Setup}
 use Rattle.rings.specs.Ends.{OutboxState, InboxState, post_fault, with_accepted, with_taken, after_close}
 use Rattle.views.specs.OrderTurns.{acknowledged, ordered, self_acked, with_armed}
@@ -45,8 +44,7 @@ flush_refusal port scope named =
 
 abbrev pub opened : Result ℕ TicketFault → Result ℕ Refusal
 opened (Ok ticket) = Ok ticket
-opened (Err ticket_fault.HomeNotNamed) = Err HomeNotNamed
-opened (Err ticket_fault.NoTicket) = Err NoTicket
+opened (Err fault) = Err (opening_refusal fault)
 
 abbrev pub flush_answer : PortState → Scope → ℕ → Result ℕ Refusal
 flush_answer port scope named =
@@ -71,8 +69,7 @@ after_flush port scope named =
 -- Post: what the ticket and the two harts say, and then what the mailbox says
 abbrev pub box_refusal : Option PostFault → Option Refusal
 box_refusal None = None
-box_refusal (Some fault.Closed) = Some Closed
-box_refusal (Some fault.Full) = Some Full
+box_refusal (Some fault) = Some (posting_refusal fault)
 
 abbrev pub outbox_refusal : Option OutboxState → Option Refusal
 outbox_refusal None = Some NoHart

@@ -11,9 +11,8 @@ ghost use Rattle.board.specs.Tables.{after_edit, after_map, after_store, due_sto
 
 use crate::mapped::Mapped;
 use crate::port::HartPort;
-use history::{Refusal, edit_refusal};
+use history::{Refusal, edit_refusal, opening_refusal};
 use pte::{Kind, Page, Pte, PteFlags, What};
-use shoot::TicketFault;
 use spaces::{Edit, MapFault, Place, Wish};
 use views::{decide, store};
 
@@ -149,8 +148,7 @@ impl HartPort {
         } = self;
         let ticket = match tickets.open_for(what, &harts) {
             Ok(ticket) => ticket,
-            Err(TicketFault::HomeNotNamed) => return Err(Refusal::HomeNotNamed),
-            Err(TicketFault::NoTicket) => return Err(Refusal::NoTicket),
+            Err(fault) => return Err(opening_refusal(fault)),
         };
         store(&memory.shared, seat, config, used, &edit, wish, ticket);
         Ok(ticket)

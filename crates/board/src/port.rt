@@ -12,10 +12,10 @@ ghost use Rattle.board.specs.Answers.{outbox_refusal, outbox_with, inbox_with, k
 
 use crate::receiver::Receiver;
 use arrayvec::ArrayVec;
-use history::{Refusal, Scope};
+use history::{Refusal, Scope, opening_refusal, posting_refusal};
 use pte::What;
 use rings::Outbox;
-use shoot::{Collected, HartSet, NotDone, PostFault, Request, TicketFault, Tickets};
+use shoot::{Collected, HartSet, NotDone, Request, Tickets};
 use spaces::Config;
 use std::alloc::Global;
 use std::marker::Model;
@@ -113,8 +113,7 @@ fn post_to(
     };
     match outbox.post(request) {
         Ok(()) => Ok(()),
-        Err((PostFault::Closed, _)) => Err(Refusal::Closed),
-        Err((PostFault::Full, _)) => Err(Refusal::Full),
+        Err((fault, _)) => Err(posting_refusal(fault)),
     }
 }
 
@@ -189,8 +188,7 @@ fn refusal_of_end(outbox: &Option<Outbox>) -> Option<Refusal>
         return Some(Refusal::NoHart);
     };
     match outbox.post_fault() {
-        Some(PostFault::Closed) => Some(Refusal::Closed),
-        Some(PostFault::Full) => Some(Refusal::Full),
+        Some(fault) => Some(posting_refusal(fault)),
         None => None,
     }
 }
@@ -397,8 +395,7 @@ impl HartPort {
         } = self;
         let ticket = match tickets.open_for(what, &harts) {
             Ok(ticket) => ticket,
-            Err(TicketFault::HomeNotNamed) => return Err(Refusal::HomeNotNamed),
-            Err(TicketFault::NoTicket) => return Err(Refusal::NoTicket),
+            Err(fault) => return Err(opening_refusal(fault)),
         };
         let request = request(ticket, &what);
         open_order(&memory.shared, seat, config, *hart, &request);

@@ -11,7 +11,7 @@ pub mod retirements;
 pub mod translations;
 
 pub use event::{Event, Scope};
-pub use faults::edit_refusal;
+pub use faults::{edit_refusal, opening_refusal, posting_refusal};
 pub use live_step::LiveStep;
 pub use refusals::Refusal;
 pub use reply::Reply;

@@ -14,7 +14,6 @@ use Rattle.shoot.specs.HartSet.{harts_in, no_harts}
 use Rattle.shoot.specs.Tickets.{TicketTable, acked_by, no_tickets, names, open_answer, after_open, with_opened, new_ticket, after_posted, after_acked, after_collect, after_finish, is_done_at, with_ticket, with_posted, with_acked, with_collected, changed}
 use Rattle.shoot.specs.declared.tickets.Ticket.{Ticket}
 use Rattle.shoot.specs.declared.tickets.TicketFault.{TicketFault}
-use Rattle.shoot.specs.declared.tickets.TicketFault.TheVariants as ticket_fault
 use Rattle.shoot.proofs.HartSets.{by_test, where_agree}
 use Rattle.history.proofs.Occurred.{same_from}
 use Rattle.history.specs.declared.event.Event.{Event}
@@ -120,8 +119,7 @@ opening_others C H G a n new l o s t other =
 
 opened_is : (x : Result ℕ TicketFault) (n : ℕ) → opening_answer x ≡ reply.Opened n → x ≡ Ok n
 opened_is (Ok t) n e = let same : t ≡ n = cc in ap Ok same
-opened_is (Err ticket_fault.HomeNotNamed) n e = absurd (cc (e))
-opened_is (Err ticket_fault.NoTicket) n e = absurd (cc (e))
+opened_is (Err fault) n e = absurd (cc (e))
 
 edit_opens : (store : Result Store MapFault) (opening : Reply) (n : ℕ) → edit_reply store opening ≡ reply.Opened n → opening ≡ reply.Opened n
 edit_opens (Ok store) opening n e = e

@@ -20,17 +20,16 @@ use Rattle.shoot.specs.Request.{Request}
 use Rattle.shoot.specs.Mailbox.{MailboxState, post_fault, first_waiting}
 use Rattle.shoot.specs.Tickets.{TicketTable, is_open, names, ticket_posted, is_done_at, open_answer, progress_at, acked_by, after_collect}
 use Rattle.shoot.specs.declared.mailbox.PostFault.{PostFault}
-use Rattle.shoot.specs.declared.mailbox.PostFault.TheVariants as fault
 use Rattle.shoot.specs.declared.tickets.TicketFault.{TicketFault}
-use Rattle.shoot.specs.declared.tickets.TicketFault.TheVariants as ticket_fault
 use Rattle.shoot.specs.declared.tickets.Collected.{Collected}
 use Rattle.shoot.specs.declared.tickets.Collected.TheVariants as collected
 use Rattle.history.specs.declared.event.Event.{Event}
 use Rattle.history.specs.declared.event.Event.TheVariants.{Begin, Load, Map, Unmap, Protect, Flush, Switch, Fence, Post, Take, ServeFence, Ack, AckSelf, Collect, Finish, Close, Retire, Reclaim, Create}
-use Rattle.refusals.specs.declared.refusal.Refusal.TheVariants.{NoHart, NoSpace, HomeNotNamed, NoTicket, NotOpen, NotNamed, AlreadyPosted, Closed, Full, Empty, Walking, NotWalking, Serving, NotServing, NotFenced, NotDone, NotHome, Retiring, InUse, NotAcked, NotRetiring, NotFree, AsidInUse}
+use Rattle.refusals.specs.declared.refusal.Refusal.TheVariants.{NoHart, NoSpace, NotOpen, NotNamed, AlreadyPosted, Closed, Empty, Walking, NotWalking, Serving, NotServing, NotFenced, NotDone, NotHome, Retiring, InUse, NotAcked, NotRetiring, NotFree, AsidInUse}
 use Rattle.history.specs.declared.reply.Reply.{Reply}
 use Rattle.history.specs.declared.reply.Reply.TheVariants as reply
 use Rattle.history.specs.Tables.{edit_due}
+use Rattle.history.specs.Refusal.{opening_refusal, posting_refusal}
 use Rattle.history.specs.Setup.{is_hart}
 use Rattle.history.specs.Due.{when, first_of, are_pair, are_harts, match_reply, map_reply, edit_reply}
 use Rattle.history.specs.declared.event.Scope.{Scope}
@@ -138,8 +137,7 @@ edit_in m hart w = edit_due (setup_in m) (words_in m) (holders_in m) hart w
 -- what opening a ticket of a hart is answered
 abbrev pub opening_answer : Result ℕ TicketFault → Reply
 opening_answer (Ok ticket) = reply.Opened ticket
-opening_answer (Err ticket_fault.HomeNotNamed) = reply.Refused HomeNotNamed
-opening_answer (Err ticket_fault.NoTicket) = reply.Refused NoTicket
+opening_answer (Err fault) = reply.Refused (opening_refusal fault)
 
 abbrev pub open_in : State → ℕ → ℕ → Reply
 open_in m hart named = opening_answer (open_answer (tickets_at m hart) named)
@@ -164,8 +162,7 @@ change_answer m hart w named =
 -- Post
 abbrev pub box_answer : Option PostFault → Reply
 box_answer None = reply.Ok
-box_answer (Some fault.Closed) = reply.Refused Closed
-box_answer (Some fault.Full) = reply.Refused Full
+box_answer (Some fault) = reply.Refused (posting_refusal fault)
 
 abbrev pub post_answer : TicketTable → MailboxState → ℕ → ℕ → Reply
 post_answer tickets mailbox ticket to =

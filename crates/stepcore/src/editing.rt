@@ -3,8 +3,8 @@
 ghost use Rattle.std.specs.Prelude.{◌≡◌, ◌<◌, false, true, length, IsTrue, IfOk, IfErr, Ok, OnOk, OnErr, slice_set, ℕ};
 ghost use Rattle.pte.specs.Entry.{kind_of};
 ghost use Rattle.spaces.specs.Applied.{holders_after, words_after_store};
-ghost use Rattle.spaces.specs.Edits.{edit_of, page_of, place_of};
-ghost use Rattle.spaces.specs.Held.{IsDue, IsMemory, spare_of, memory_words};
+ghost use Rattle.spaces.specs.Edits.{place_of};
+ghost use Rattle.spaces.specs.Held.{IsDue, IsMemory};
 ghost use Rattle.spaces.specs.Layout.{HasPlace};
 ghost use Rattle.shoot.specs.Tickets.{after_open};
 ghost use Rattle.history.specs.Due.{edit_reply, map_reply, stored_reply};
@@ -17,9 +17,8 @@ ghost use Rattle.stepcore.specs.Changes.{Answers, event_of, is_accepted, is_chan
 
 use crate::conditions::refuse;
 use crate::machine::Machine;
-use history::{Refusal, Reply, Scope, edit_refusal};
+use history::{Refusal, Reply, Scope, edit_refusal, opening_refusal};
 use pte::{Kind, Page, Pte, PteFlags, What};
-use shoot::TicketFault;
 use spaces::{Edit, Place, Wish, apply, next_edit};
 
 /// What the store of a Map is answered: whether the word is a pointer.
@@ -34,7 +33,7 @@ fn stored_reply(word: u64) -> Reply
 }
 
 impl Machine {
-    /// Makes a store that is due.
+    /// Makes a store that is due, and leaves all but the table memory.
     fn store(&mut self, edit: Edit)
         requires { IsDue self.old.memory edit }
         ensures layout { self.new.memory.layout ≡ self.old.memory.layout }
@@ -122,8 +121,7 @@ impl Machine {
         let tickets = &mut self.tickets[usize::from(hart)];
         match tickets.open(what, named) {
             Ok(ticket) => Ok(ticket),
-            Err(TicketFault::HomeNotNamed) => Err(Refusal::HomeNotNamed),
-            Err(TicketFault::NoTicket) => Err(Refusal::NoTicket),
+            Err(fault) => Err(opening_refusal(fault)),
         }
     }
 

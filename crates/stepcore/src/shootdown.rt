@@ -15,9 +15,9 @@ ghost use Rattle.stepcore.specs.Changes.{Answers, is_accepted, is_collectable, p
 use crate::conditions::refuse;
 use crate::machine::Machine;
 use crate::serving::Serving;
-use history::{Refusal, Reply};
+use history::{Refusal, Reply, posting_refusal};
 use pte::What;
-use shoot::{Collected, PostFault, Request, Tickets};
+use shoot::{Collected, Request, Tickets};
 
 /// How far a ticket is, as a reply.
 fn progress_reply(collected: Collected) -> Reply
@@ -73,8 +73,7 @@ impl Machine {
         let mailbox = &mut self.mailboxes[place];
         match mailbox.post(request) {
             Ok(()) => Ok(()),
-            Err((PostFault::Closed, _)) => Err(Refusal::Closed),
-            Err((PostFault::Full, _)) => Err(Refusal::Full),
+            Err((fault, _)) => Err(posting_refusal(fault)),
         }
     }
 
