@@ -32,6 +32,7 @@ machine_of of_0 of_1 from_0 from_1 = record {
   harts = hart_holding of_0 ∷ hart_holding of_1 ∷ [];
   tickets = no_tickets 0 ∷ no_tickets 1 ∷ [];
   mailboxes = empty_mailbox 4 ∷ mailbox_with from_0 ∷ mailbox_with from_1 ∷ empty_mailbox 4 ∷ [];
+  capacity = 4;
 }
 
 abbrev pub machine_holding : List Entry → List Entry → State

@@ -716,7 +716,10 @@ fn machines_are_opened(rt: HostRuntime) {
     ];
     for (config, is_within) in rows {
         match Machine::open(rt.alloc(), &config) {
-            Ok(machine) => { assert!(rt; is_within && u16::from(machine.harts()) == config.harts) }
+            Ok(machine) => {
+                assert!(rt; is_within && u16::from(machine.harts()) == config.harts);
+                assert!(rt; machine.capacity() == usize::from(config.capacity));
+            }
             Err(fault) => assert!(rt; !is_within && fault == OpenFault::BadLayout),
         }
     }

@@ -70,6 +70,7 @@ module _ (m new : State) (hart : ℕ) (others : new ≡ record m { memory = new.
     harts = ap (λ (s : State). s.harts) others;
     tickets = ap (λ (s : State). s.tickets) others;
     mailboxes = ap (λ (s : State). s.mailboxes) others;
+    capacity = ap (λ (s : State). s.capacity) others;
   }
 
 -- the store of a change is no pointer
@@ -107,6 +108,7 @@ module _ (m mid new : State) (hart named t : ℕ) (what : What)
     harts = ap (λ (s : State). s.harts) others ∙ ap (λ (s : State). s.harts) opens;
     tickets = tickets (wish.Unmap place page) asks;
     mailboxes = ap (λ (s : State). s.mailboxes) others ∙ ap (λ (s : State). s.mailboxes) opens;
+    capacity = ap (λ (s : State). s.capacity) others ∙ ap (λ (s : State). s.capacity) opens;
   }
   change_follows (wish.Protect place page flags) store e asks is = record {
     layout = is.layout;
@@ -118,6 +120,7 @@ module _ (m mid new : State) (hart named t : ℕ) (what : What)
     harts = ap (λ (s : State). s.harts) others ∙ ap (λ (s : State). s.harts) opens;
     tickets = tickets (wish.Protect place page flags) asks;
     mailboxes = ap (λ (s : State). s.mailboxes) others ∙ ap (λ (s : State). s.mailboxes) opens;
+    capacity = ap (λ (s : State). s.capacity) others ∙ ap (λ (s : State). s.capacity) opens;
   }
 
 -- a change answers its event
@@ -145,6 +148,7 @@ change_refused m new hart named w why same e is told =
       harts = refl;
       tickets = refl;
       mailboxes = refl;
+      capacity = refl;
     }
     stays (wish.Protect place page flags) e = record {
       layout = refl;
@@ -155,4 +159,5 @@ change_refused m new hart named w why same e is told =
       harts = refl;
       tickets = refl;
       mailboxes = refl;
+      capacity = refl;
     }

@@ -32,6 +32,7 @@ pub record IsOpened (c : Config) (m : State) : Type 0 where
   pub harts : m.harts ≡ replicate c.harts (new_hart c.scheme)
   pub tickets : m.tickets ≡ map no_tickets (range_with_len 0 c.harts)
   pub mailboxes : m.mailboxes ≡ replicate (c.harts * c.harts) (empty_mailbox c.capacity)
+  pub capacity : m.capacity ≡ c.capacity
 
 module _ (c : Config) (m : State) (is : IsOpened c m) where
   hart : (h : ℕ) → h < c.harts → hart_at m h ≡ new_hart c.scheme
@@ -48,11 +49,8 @@ module _ (c : Config) (m : State) (is : IsOpened c m) where
       (unwrap_or-slice_get (replicate (c.harts * c.harts) (empty_mailbox c.capacity)) (mailbox_index s h) (empty_mailbox 0)
       ∙ get_or-replicate (c.harts * c.harts) (mailbox_index s h) (empty_mailbox c.capacity) (empty_mailbox 0) (place_below c.harts s h less less'))
 
-  some : 0 < c.harts
-  some = omega (arith, is.meets.some_hart)
-
   same_setup : setup_in m ≡ bare (setup_of c)
-  same_setup = rw (mailbox 0 0 some some, is.layout, is.harts, length-replicate c.harts (new_hart c.scheme)) refl
+  same_setup = rw (is.capacity, is.layout, is.harts, length-replicate c.harts (new_hart c.scheme)) refl
 
   count : length m.spaces ≡ length (setup_of c).asids
   count = rw is.spaces (length-map c.spaces.items (λ s. live_space s.asid) ∙ sym (length-map c.spaces.items (λ s. s.asid)))

@@ -54,6 +54,7 @@ module _ (m : State) (space t : ℕ) where
         ∙ (ap (λ (x : SpaceState). slice_set m.tickets hart (after_open (tickets_at m hart) (SpaceOf x.asid) named)) e
         ∙ ap (λ (n : ℕ). slice_set m.tickets hart (after_open (tickets_at m hart) (SpaceOf (space_at m space).asid) n)) f));
     mailboxes = ap (λ (s : State). s.mailboxes) puts ∙ ap (λ (s : State). s.mailboxes) opens;
+    capacity = ap (λ (s : State). s.capacity) puts ∙ ap (λ (s : State). s.capacity) opens;
   }
 
 later : (n at : ℕ) → (at ≡ n → ⊥) → nat_lt n at ≡ nat_lt n (at + 1)

@@ -1,5 +1,4 @@
--- What no event changes: how many harts there are, the capacity of each mailbox, and so the setup;
--- and what every machine keeps.
+-- What no event changes: how many harts there are, and so the setup; and what every machine keeps.
 use Rattle.std.proofs.Common.{◌≡◌, ℕ, zero, suc, ◌*◌, ◌<◌, Bool, true, false, cond, List, [], ◌∷◌, length, Option, Some, None, slice_get, refl, ap, sym, ◌∙◌, arith, ltb}
 use Rattle.std.specs.Prelude.{not, slice_set, unwrap_or, All}
 use Rattle.std.proofs.lemmas.Bool.{and_parts, not-false, ltb-true, ltb-false}
@@ -10,8 +9,7 @@ use Rattle.walk.specs.Stage.{Stage}
 use Rattle.walk.specs.declared.walking.Progress.{Progress}
 use Rattle.walk.specs.declared.walking.Progress.TheVariants as progress
 use Rattle.spaces.specs.Layout.{Layout}
-use Rattle.shoot.specs.Request.{Request}
-use Rattle.shoot.specs.Mailbox.{MailboxState, empty_mailbox, with_request}
+use Rattle.shoot.specs.Mailbox.{MailboxState}
 use Rattle.shoot.specs.Tickets.{TicketTable}
 use Rattle.history.specs.Setup.{Setup}
 use Rattle.history.specs.declared.event.Event.{Event}
@@ -23,7 +21,7 @@ use Rattle.history.specs.Turns.{is_ok}
 use Rattle.laws.proofs.Tools.{by_test}
 use Rattle.laws.proofs.Accepted.{passed, ok_accepted}
 use Rattle.stepcore.specs.declared.serving.Serving.{Serving as Service}
-use Rattle.stepcore.specs.State.{State, HartState, IsMachine, idle_hart, setup_in, hart_at, space_at, mailbox_at, mailbox_index, words_in}
+use Rattle.stepcore.specs.State.{State, HartState, IsMachine, idle_hart, setup_in, hart_at, space_at, words_in}
 use Rattle.stepcore.specs.Answers.{reply_to, is_free_phase, is_number, is_space, next_of, asid_of_hart}
 use Rattle.stepcore.specs.Changes.{Follows, with_progress, with_load, with_taken, with_served, harts_after, tickets_after, tickets_after_ack, mailboxes_after}
 
@@ -65,32 +63,6 @@ mailboxes_length m (Collect hart ticket from) r = put_length m.mailboxes _ _ _
 mailboxes_length m (Close hart to) r = put_length m.mailboxes _ _ _
 mailboxes_length m _ r = refl
 
--- the capacity of the mailbox at a place
-abbrev capacity_at : List MailboxState → ℕ → ℕ
-capacity_at xs i = (unwrap_or (slice_get xs i) (empty_mailbox 0)).capacity
-
-set_capacity : (xs : List MailboxState) (i j : ℕ) (v : MailboxState) → v.capacity ≡ capacity_at xs i → capacity_at (slice_set xs i v) j ≡ capacity_at xs j
-set_capacity [] i j v e = refl
-set_capacity (x ∷ xs) zero zero v e = e
-set_capacity (x ∷ xs) zero (suc j) v e = refl
-set_capacity (x ∷ xs) (suc i) zero v e = refl
-set_capacity (x ∷ xs) (suc i) (suc j) v e = set_capacity xs i j v e
-
-put_capacity : (xs : List MailboxState) (i j : ℕ) (test : Bool) (v : MailboxState) → v.capacity ≡ capacity_at xs i → capacity_at (cond test (slice_set xs i v) xs) j ≡ capacity_at xs j
-put_capacity xs i j true v e = set_capacity xs i j v e
-put_capacity xs i j false v e = refl
-
-posted_with : (accepted : Bool) (mailbox : MailboxState) (x : Request) → (cond accepted (with_request mailbox x) mailbox).capacity ≡ mailbox.capacity
-posted_with true mailbox x = refl
-posted_with false mailbox x = refl
-
-pub capacity_kept : (m : State) (event : Event) (r : Reply) (s h : ℕ) → (unwrap_or (slice_get (mailboxes_after m event r) (mailbox_index s h)) (empty_mailbox 0)).capacity ≡ (mailbox_at m s h).capacity
-capacity_kept m (Post hart ticket to) r s h = put_capacity m.mailboxes (mailbox_index hart to) (mailbox_index s h) _ _ (posted_with _ (mailbox_at m hart to) _)
-capacity_kept m (Take hart from) r s h = put_capacity m.mailboxes (mailbox_index from hart) (mailbox_index s h) _ _ refl
-capacity_kept m (Collect hart ticket from) r s h = put_capacity m.mailboxes (mailbox_index hart from) (mailbox_index s h) _ _ refl
-capacity_kept m (Close hart to) r s h = put_capacity m.mailboxes (mailbox_index hart to) (mailbox_index s h) _ _ refl
-capacity_kept m _ r s h = refl
-
 -- the setup stays
 abbrev setup_with : ℕ → ℕ → Layout → Setup
 setup_with harts capacity layout = record { harts = harts; capacity = capacity; asids = []; layout = layout }
@@ -98,10 +70,9 @@ setup_with harts capacity layout = record { harts = harts; capacity = capacity; 
 pub setup_stays : (m n : State) (event : Event) (r : Reply) → Follows m event r n → setup_in n ≡ setup_in m
 setup_stays m n event r f =
     let harts : length n.harts ≡ length m.harts = ap (λ (xs : List HartState). length xs) f.harts ∙ harts_length m event r in
-    let capacity : (mailbox_at n 0 0).capacity ≡ (mailbox_at m 0 0).capacity = ap (λ xs. capacity_at xs (mailbox_index 0 0)) f.mailboxes ∙ capacity_kept m event r 0 0 in
-    ap (λ k. setup_with k (mailbox_at n 0 0).capacity n.memory.layout) harts
-    ∙ ap (λ k. setup_with (length m.harts) k n.memory.layout) capacity
-    ∙ ap (setup_with (length m.harts) (mailbox_at m 0 0).capacity) f.layout
+    ap (λ k. setup_with k n.capacity n.memory.layout) harts
+    ∙ ap (λ k. setup_with (length m.harts) k n.memory.layout) f.capacity
+    ∙ ap (setup_with (length m.harts) m.capacity) f.layout
 
 -- each hart stays in a space that is there
 abbrev InSpace : ℕ → HartState → Type 0

@@ -198,6 +198,7 @@ pub record Follows (old : State) (event : Event) (reply : Reply) (new : State) :
   pub harts : new.harts ≡ harts_after old event reply
   pub tickets : new.tickets ≡ tickets_after old event reply
   pub mailboxes : new.mailboxes ≡ mailboxes_after old event reply
+  pub capacity : new.capacity ≡ old.capacity
 
 -- what an event is answered, as a reply
 abbrev pub reply_of : Result Reply Refusal → Reply

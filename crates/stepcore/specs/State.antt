@@ -25,13 +25,14 @@ pub record HartState : Type 0 where
   pub serving : Option Serving
   pub entries : List Entry
 
--- what it keeps of the spaces stands by their numbers
+-- what it keeps of the spaces stands by their numbers; the mailboxes are all of one capacity
 pub record State : Type 0 where
   pub memory : Held
   pub spaces : List SpaceState
   pub harts : List HartState
   pub tickets : List TicketTable
   pub mailboxes : List MailboxState
+  pub capacity : ℕ
 
 -- the words of the tables, and for which place each spare frame is in use
 abbrev pub words_in : State → Tables
@@ -77,12 +78,11 @@ abbrev pub mailbox_at : State → ℕ → ℕ → MailboxState
 mailbox_at m sender receiver =
     unwrap_or (slice_get m.mailboxes (mailbox_index sender receiver)) (empty_mailbox 0)
 
--- what the machine was opened with, as numbers; the mailboxes are all of one capacity, and the
--- first ASIDs are forgotten
+-- what the machine was opened with, as numbers; the first ASIDs are forgotten
 abbrev pub setup_in : State → Setup
 setup_in m = record {
   harts = length m.harts;
-  capacity = (mailbox_at m 0 0).capacity;
+  capacity = m.capacity;
   asids = [];
   layout = m.memory.layout;
 }

@@ -23,6 +23,8 @@ pub struct Machine {
     pub(crate) tickets: Vec<Tickets>,
     // those between the first n harts stand before all others
     pub(crate) mailboxes: Vec<Mailbox>,
+    // of each mailbox
+    pub(crate) capacity: usize,
 }
 
 impl Model for Machine {
@@ -36,6 +38,7 @@ impl Model for Machine {
       harts = m.harts.items;
       tickets = m.tickets.items;
       mailboxes = m.mailboxes.items;
+      capacity = m.capacity;
     } };
 
     ghost invariant = { λ m. IsMachine (record {
@@ -44,19 +47,27 @@ impl Model for Machine {
       harts = m.harts.items;
       tickets = m.tickets.items;
       mailboxes = m.mailboxes.items;
+      capacity = m.capacity;
     }) };
 }
 
 impl Machine {
     ghost use Rattle.history.specs.Due.{are_pair, are_harts};
     ghost use Rattle.history.specs.Setup.{is_hart};
-    ghost use Rattle.stepcore.specs.Answers.{asid_of_hart, asid_of_space, is_free_phase, is_number, is_place, is_retiring, is_scope, is_space, retires, scope_retires};
+    ghost use Rattle.stepcore.specs.Answers.{asid_of_hart, asid_of_space, is_number, is_place, is_retiring, is_scope, is_space, retires, scope_retires};
 
     /// How many harts there are, with numbers from 0 on.
     pub fn harts(&self) -> u8
         ensures { result ≡ length self.now.harts }
     {
         self.harts.len() as u8
+    }
+
+    /// How many requests a mailbox may hold whose acknowledgement was not collected yet.
+    pub fn capacity(&self) -> usize
+        ensures { result ≡ self.now.capacity }
+    {
+        self.capacity
     }
 
     /// Table memory.

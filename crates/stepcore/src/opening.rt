@@ -101,7 +101,8 @@ impl Machine {
         let count = config.harts as u8;
         let harts = idle_harts(alloc, config.scheme, count)?;
         let tickets = free_tickets(alloc, count)?;
-        let mailboxes = empty_mailboxes(alloc, count, usize::from(config.capacity))?;
+        let capacity = usize::from(config.capacity);
+        let mailboxes = empty_mailboxes(alloc, count, capacity)?;
         limits_give_setup();
         Ok(Machine {
             memory,
@@ -109,6 +110,7 @@ impl Machine {
             harts,
             tickets,
             mailboxes,
+            capacity,
         })
     }
 }

@@ -13,6 +13,7 @@ is_opened : (c : goal.After-limits_give_setup) → IsOpened c.args.config.now (r
   harts = c.in_ok-harts.harts.items;
   tickets = c.in_ok-tickets.tickets.items;
   mailboxes = c.in_ok-mailboxes.mailboxes.items;
+  capacity = c.from-capacity.result;
 })
 is_opened c = record {
   meets = search rules;
@@ -22,7 +23,8 @@ is_opened c = record {
   spaces = c.live_spaces-spaces.ensures.spaces ∙ ap (map (λ (s : Space). live_space s.asid)) c.deref.ensures.0;
   harts = c.in_ok-harts.ensures;
   tickets = c.in_ok-tickets.ensures;
-  mailboxes = c.in_ok-mailboxes.ensures ∙ ap (λ (n : ℕ). replicate (c.args.config.now.harts * c.args.config.now.harts) (empty_mailbox n)) c.from.ensures;
+  mailboxes = c.in_ok-mailboxes.ensures ∙ ap (λ (n : ℕ). replicate (c.args.config.now.harts * c.args.config.now.harts) (empty_mailbox n)) c.from-capacity.ensures;
+  capacity = c.from-capacity.ensures;
 }
 
 pub invariant_of-result : goal.invariant_of-result
