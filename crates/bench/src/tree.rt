@@ -9,7 +9,10 @@ ghost use Rattle.std.specs.Prelude.{◌≢◌, ◌≤◌};
 
 use crate::Failure;
 use arrayvec::ArrayVec;
-use pte::{Access, Ctx, Kind, Mode, PAGE_BYTES, Page, PageSize, Pte, PteFlags, Scheme, VirtAddr};
+use pte::{
+    Access, Ctx, Kind, Mode, PAGE_BYTES, Page, PageSize, Pte, PteFlags, Scheme, TABLE_LENGTH,
+    VirtAddr,
+};
 use spaces::{Config, Memory, OpenFault, Place, Space, apply, next_map_edit};
 use std::alloc::{AllocError, Global};
 use walk::translate_in;
@@ -28,8 +31,8 @@ fn middles(scheme: Scheme) -> u64
 /// How many tables stand below each of these.
 const LOWS: u64 = 33;
 
-/// How many leaves each of these has.
-const LEAVES: u64 = 512;
+/// How many leaves each of these has: all that a table has room for.
+const LEAVES: u64 = TABLE_LENGTH as u64;
 
 /// How many addresses are picked. They are translated again and again, at other offsets of their
 /// pages.
@@ -67,7 +70,7 @@ fn config(scheme: Scheme) -> Config {
 
 /// The address of a leaf.
 fn address(middle: u64, low: u64, leaf: u64) -> u64 {
-    (middle % 512) << 30 | (low % 512) << 21 | (leaf % 512) << 12
+    (middle % LEAVES) << 30 | (low % LEAVES) << 21 | (leaf % LEAVES) << 12
 }
 
 /// How many pages are mapped.
