@@ -219,10 +219,8 @@ fn in_two_threads(
 
 #[test]
 fn requests_cross_threads(rt: HostRuntime) -> Result<(), Fail> {
-    let opened = Board::open(rt.alloc(), &two_harts(Scheme::Sv39, 2)).ok();
-    assert!(&rt; opened.is_some());
-    let Some((board, ports)) = opened else {
-        return Ok(());
+    let Ok((board, ports)) = Board::open(rt.alloc(), &two_harts(Scheme::Sv39, 2)) else {
+        return Err(Fail::new("no board"));
     };
     let (posted, served, report) = in_two_threads(&rt, board, ports)?;
     assert!(&rt; posted);
