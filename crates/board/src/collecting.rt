@@ -129,7 +129,8 @@ impl HartPort {
     /// Looks at the cell of each other hart that an open ticket was posted to and that is not
     /// collected, the lowest first, with one load each. A hart is collected exactly if the word of
     /// the request is found, and then its mailbox has room for one more. How far the ticket is
-    /// then: it is done exactly if each named hart is collected in the view.
+    /// then: it is done exactly if each named hart is collected in the view. Refused with
+    /// `NotOpen`, nothing changes.
     pub fn collect(&mut self, ticket: u32) -> Result<Collected, Refusal>
         ensures not_open { is_open self.old.tickets ticket ≡ false
             → (result ≡ Err Refusal.NotOpen) × (self.new ≡ self.old) }

@@ -373,7 +373,9 @@ impl HartPort {
         }
     }
 
-    /// Opens a ticket for a space or for everything. Bit h of `named` stands for hart h.
+    /// Opens a ticket for a space or for everything. Bit h of `named` stands for hart h. Refused
+    /// with `NoHart`, `NoSpace`, `HomeNotNamed` or `NoTicket`, the first that applies, nothing
+    /// changes.
     pub fn flush(&mut self, scope: Scope, named: u8) -> Result<u32, Refusal>
         ensures answer { result ≡ flush_answer self.old scope named }
         ensures after { self.new ≡ after_flush self.old scope named }
@@ -402,7 +404,8 @@ impl HartPort {
         Ok(ticket)
     }
 
-    /// Frees the number of a ticket whose named harts are all collected.
+    /// Frees the number of a ticket whose named harts are all collected. Refused with `NotOpen`,
+    /// or with `NotDone` while one is not collected, nothing changes.
     pub fn finish(&mut self, ticket: u32) -> Result<(), Refusal>
         ensures answer { result ≡ finish_answer self.old ticket }
         ensures after { self.new ≡ after_finish_of self.old ticket }
@@ -418,7 +421,8 @@ impl HartPort {
     }
 
     /// Serves an own ticket's request on the own TLB, and counts as collected. How far the ticket
-    /// is then: it is done exactly if each named hart is collected in the view.
+    /// is then: it is done exactly if each named hart is collected in the view. Refused with
+    /// `NotOpen`, nothing changes.
     pub fn ack_self(&mut self, ticket: u32) -> Result<Collected, Refusal>
         ensures answer { result ≡ ack_self_answer self.old ticket }
         ensures after { self.new ≡ after_ack_self self.old ticket }
@@ -482,8 +486,10 @@ impl HartPort {
     }
 
     /// Arms the cell of another hart that an open ticket names, and then posts the ticket's request
-    /// to it. `Full` also where the ring between the harts has no place that this end knows to be
-    /// free; then the cell is armed nonetheless.
+    /// to it. Refused with `NoHart` (also for this hart), `NotOpen`, `NotNamed`, `AlreadyPosted`,
+    /// `Closed` or `Full`, the first that applies, nothing changes. `Full` also where the ring
+    /// between the harts has no place that this end knows to be free; then the cell is armed
+    /// nonetheless.
     #[tactic(auto, using(crate::proofs::Counts::outboxes_kept))]
     pub fn post(&mut self, ticket: u32, to: u8) -> Result<(), Refusal>
         ensures refused { (refusal : Refusal) → post_refusal self.old ticket to ≡ Some refusal
@@ -516,8 +522,8 @@ impl HartPort {
     }
 
     /// Takes the oldest request of another hart that came through, drops what it names from the own
-    /// TLB, and then stores the acknowledgement. `Empty` only where this end knew of no request
-    /// that waits.
+    /// TLB, and then stores the acknowledgement. Refused with `NoHart` (also for this hart), or
+    /// with `Empty`, nothing changes; `Empty` only where this end knew of no request that waits.
     #[tactic(auto, using(crate::proofs::Counts::inboxes_kept))]
     pub fn serve(&mut self, from: u8) -> Result<Request, Refusal>
         ensures no_hart { are_pair self.old.setup self.old.hart from ≡ false
@@ -550,7 +556,9 @@ impl HartPort {
         Ok(request)
     }
 
-    /// Closes the mailbox to another hart: later posts are refused, and what waits stays.
+    /// Closes the mailbox to another hart: later posts are refused, and what waits stays. Refused
+    /// with `NoHart` (also for this hart), or with `Closed` if it was closed before, nothing
+    /// changes.
     #[tactic(auto, using(crate::proofs::Counts::outboxes_kept))]
     pub fn close_to(&mut self, to: u8) -> Result<(), Refusal>
         ensures answer { result ≡ close_answer self.old to }

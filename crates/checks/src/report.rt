@@ -19,6 +19,7 @@ pub struct Report {
 }
 
 impl Report {
+    /// A report with no lines.
     pub fn new(alloc: Global) -> Report
         ensures { result.lines.items ≡ [] }
     {

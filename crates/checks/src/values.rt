@@ -31,6 +31,7 @@ pub fn kind(value: &Value) -> &'static str {
 }
 
 impl<'a> Document<'a> {
+    /// The value at a key.
     pub fn value(&self, key: &str) -> Option<&'a Value> {
         self.table.get(key)
     }

@@ -219,7 +219,8 @@ fn scenario(alloc: Global, table: &Table) -> Result<LiveScenario, Fault>
     })
 }
 
-/// The scenario that a text is.
+/// The scenario that a text is, or the first of its faults in the order of checking
+/// (docs/FORMAT.md). `NoMemory` if there is not enough memory.
 #[tactic(auto, unfolding(crate::specs::LiveFile::live_scenario_of))]
 pub fn read_live(alloc: Global, text: &str) -> Result<LiveScenario, Fault>
     ensures { Gives live_view result (live_scenario_of text.now) }

@@ -47,7 +47,8 @@ fn scenario(alloc: Global, table: &Table) -> Result<RunScenario, Fault>
     Ok(RunScenario { config, events })
 }
 
-/// The scenario that a text is.
+/// The scenario that a text is, or the first of its faults in the order of checking
+/// (docs/FORMAT.md). `NoMemory` if there is not enough memory.
 #[tactic(auto, unfolding(crate::specs::RunFile::run_scenario_of))]
 pub fn read_run(alloc: Global, text: &str) -> Result<RunScenario, Fault>
     ensures { Gives run_view result (run_scenario_of text.now) }

@@ -175,7 +175,8 @@ fn scenario(alloc: Global, table: &Table) -> Result<WalkScenario, Fault>
     })
 }
 
-/// The scenario that a text is.
+/// The scenario that a text is, or the first of its faults in the order of checking
+/// (docs/FORMAT.md). `NoMemory` if there is not enough memory.
 #[tactic(auto, unfolding(crate::specs::WalkFile::walk_scenario_of))]
 pub fn read_walk(alloc: Global, text: &str) -> Result<WalkScenario, Fault>
     ensures { Gives plan_view result (walk_scenario_of text.now) }

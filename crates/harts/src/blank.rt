@@ -38,7 +38,7 @@ impl Model for Blank {
 }
 
 impl Blank {
-    /// As many empty lists.
+    /// As many empty lists. `AllocError` if there is not enough memory.
     pub fn new(alloc: Global, count: u8) -> Result<Blank, AllocError>
         ensures { IfOk result (λ blank. length blank ≡ count) }
     {

@@ -17,7 +17,8 @@ use std::alloc::{AllocError, Global};
 use steps::{num, words};
 use toml::{Table, Value};
 
-/// The table of a document.
+/// The table of a document. `NotToml` if the text is none, `NoMemory` if there is not enough
+/// memory.
 pub fn document(alloc: Global, text: &str) -> Result<Table, Fault>
     ensures { Gives table_view result (ok_or (parse_document text.now) not_toml) }
 {
@@ -50,6 +51,7 @@ fn unknown_key<'a>(table: &'a Table, known: &[&str]) -> Option<&'a String>
     table.keys().find(|key| !is_known(known, key.as_str()))
 }
 
+/// The fault of a key, or `NoMemory` if there is no memory for its name.
 pub fn key_fault(alloc: Global, key: &str) -> Fault
     ensures { Fails {Y = Unit {0}} result (Err (wrong_key key.now)) }
 {
@@ -59,7 +61,7 @@ pub fn key_fault(alloc: Global, key: &str) -> Fault
     }
 }
 
-/// Refuses a key that is not one of the known: the least by bytes.
+/// Refuses with `Key` a key that is not one of the known: the least by bytes.
 pub fn check_keys(alloc: Global, table: &Table, known: &[&str]) -> Result<(), Fault>
     ensures { Gives (λ done. done) result
         (known_only (key_texts known.now) (table_view table.now)) }
@@ -70,6 +72,7 @@ pub fn check_keys(alloc: Global, table: &Table, known: &[&str]) -> Result<(), Fa
     }
 }
 
+/// The value at a key.
 pub fn value_at<'a>(table: &'a Table, key: &str) -> Option<&'a Value>
     ensures { option_map (λ value. view value.now) result
         ≡ get_member key.now (table_view table.now) }
@@ -77,7 +80,7 @@ pub fn value_at<'a>(table: &'a Table, key: &str) -> Option<&'a Value>
     table.get(key)
 }
 
-/// The number that a text of one word writes.
+/// The number that a text of one word writes. `AllocError`: there was not enough memory.
 pub fn number(alloc: Global, text: &str) -> Result<Option<u64>, AllocError>
     ensures { IfOk result (λ n. n ≡ one_number text.now) }
 {
@@ -109,7 +112,7 @@ fn texts<'a>(alloc: Global, values: &'a [Value]) -> Result<Option<Vec<&'a str>>,
     Ok(Some(texts))
 }
 
-/// The texts of an array that has nothing else.
+/// The texts of an array that has nothing else. `AllocError`: there was not enough memory.
 pub fn texts_in<'a>(alloc: Global, value: &'a Value) -> Result<Option<Vec<&'a str>>, AllocError>
     ensures { IfOk result (λ found. option_map text_views found ≡ texts_of (view value.now)) }
 {
@@ -119,7 +122,7 @@ pub fn texts_in<'a>(alloc: Global, value: &'a Value) -> Result<Option<Vec<&'a st
     }
 }
 
-/// The texts at a key, none where it is absent.
+/// The texts at a key, none where it is absent. `Key` if its value is no array of texts.
 pub fn texts_of_key<'a>(alloc: Global, table: &'a Table, key: &str) -> Result<Vec<&'a str>, Fault>
     ensures { Gives text_views result (texts_at key.now (table_view table.now)) }
 {

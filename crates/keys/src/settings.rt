@@ -83,7 +83,7 @@ fn scheme(alloc: Global, text: &str) -> Result<Option<Scheme>, AllocError>
     Ok(scheme_in(words.as_slice()))
 }
 
-/// The scheme of translation that the keys of a document ask for.
+/// The scheme of translation that the keys of a document ask for. `Key` if `mode` names none.
 pub fn mode(alloc: Global, table: &Table) -> Result<Scheme, Fault>
     ensures { Gives (λ scheme. scheme) result (mode_at (table_view table.now)) }
 {
@@ -213,7 +213,8 @@ fn spaces(alloc: Global, table: &Table) -> Result<ArrayVec<Space, MAX_SPACES>, F
 }
 
 /// The configuration that the keys of a document ask for, within the limits or not, but for the
-/// scheme, whose key comes after the steps.
+/// scheme, whose key comes after the steps. `Key` is the first key in the order of docs/FORMAT.md
+/// whose value has the wrong type or content.
 #[tactic(auto, unfolding(crate::specs::Settings::config_at))]
 pub fn config(alloc: Global, table: &Table) -> Result<Config, Fault>
     ensures { Gives (λ config. config) result (config_at (table_view table.now)) }
@@ -236,7 +237,8 @@ pub fn config(alloc: Global, table: &Table) -> Result<Config, Fault>
     })
 }
 
-/// Refuses a configuration that is not within the limits, with at most 512 table frames.
+/// Refuses with `Layout` a configuration that is not within the limits, with at most 512 table
+/// frames.
 pub fn check_layout(config: &Config) -> Result<(), Fault>
     ensures checked { Gives (λ done. done) result (checked MAX_FRAMES config.now) }
     ensures within { OnOk result (MeetsLimits MAX_FRAMES config.now) }
@@ -248,8 +250,8 @@ pub fn check_layout(config: &Config) -> Result<(), Fault>
     }
 }
 
-/// Refuses a configuration that is not within the limits for harts on threads, with at most 96
-/// table frames.
+/// Refuses with `Layout` a configuration that is not within the limits for harts on threads, with
+/// at most 96 table frames.
 pub fn check_live_layout(config: &Config) -> Result<(), Fault>
     ensures checked { Gives (λ done. done) result (checked MAX_LIVE_FRAMES config.now) }
     ensures within { OnOk result (MeetsLimits MAX_LIVE_FRAMES config.now) }

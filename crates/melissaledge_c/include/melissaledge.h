@@ -1,9 +1,9 @@
 /*
  * melissaledge.h: Sv39 and Sv48 translation, a TLB, and a machine of several RISC-V harts, for C.
  *
- * Each function mle_X tests its pointers, and then calls the function melissaledge_X of the static library, which is proved to
- * meet its contract (crates/melissaledge_c). The library has no global state, prints nothing, ends no process, and takes memory
- * by malloc alone. Section numbers are those of the RISC-V privileged manual.
+ * Each function mle_X but mle_entry_found tests its pointers, and then calls the function melissaledge_X of the static library,
+ * which is proved to meet its contract (crates/melissaledge_c). The library has no global state, prints nothing, ends no process,
+ * and takes memory by malloc alone. Section numbers are those of the RISC-V privileged manual.
  *
  * WHAT A CALL ANSWERS
  *   0 or more: the call was made. 0 is success; MLE_TRAP, MLE_MISS and the yes of mle_machine_translates are positive.
@@ -13,8 +13,8 @@
  * WHAT C HAS TO KEEP
  * The proofs end at the border. They hold if C keeps these, which nothing in the library can test:
  *   - Each pointer that is not null points to as many values of its type as the function says, initialized, aligned, and
- *     living until the call returns. (Null and misaligned pointers are refused by the functions of this header, which
- *     the proofs do not cover; the functions melissaledge_X take no null.)
+ *     living until the call returns. (Null and misaligned pointers are refused by the functions of this header but
+ *     mle_entry_found, which the proofs do not cover; the functions melissaledge_X take no null.)
  *   - What an out pointer, or the pointer to a handle, points to overlaps nothing else that is passed, and no other thread
  *     touches it during the call. What another pointer points to does not change during the call.
  *   - A handle (struct mle_tlb, struct mle_machine) is set to MLE_TLB_CLOSED or MLE_MACHINE_CLOSED before its first use, and from
@@ -64,7 +64,7 @@ enum mle_error {
     MLE_ERR_NO_MEMORY = -9,    /* malloc has no memory */
     MLE_ERR_ALREADY_OPEN = -10,/* the handle is open */
     MLE_ERR_NOT_OPEN = -11,    /* the handle is closed */
-    MLE_ERR_PAGE = -12,        /* there is no page of this base and this number of bytes */
+    MLE_ERR_PAGE = -12,        /* the bytes are no page's size, or the base is no multiple of it or not canonical in Sv48 */
     MLE_ERR_KIND = -13,        /* the kind of an event or of a request is none */
     MLE_ERR_LAYOUT = -14,      /* the configuration breaks a limit */
     MLE_ERR_HART = -15,        /* the hart is not there */
@@ -134,7 +134,7 @@ struct mle_entry {
 
 /* The registers of an SFENCE.VMA (4.2.1). */
 struct mle_fence {
-    uint64_t rs1;    /* an address; if it is not canonical nothing is dropped */
+    uint64_t rs1;    /* an address; if it is not canonical in the scheme of the TLB or machine, nothing is dropped */
     uint64_t rs2;    /* an ASID, of which the low 16 bits count */
     uint8_t has_rs1; /* flag: clear if rs1 is the register x0 */
     uint8_t has_rs2; /* flag: clear if rs2 is the register x0 */
@@ -170,7 +170,10 @@ struct mle_space {
     uint8_t home;  /* the hart that alone stores to its tables, below the number of harts */
 };
 
-/* What a machine is opened with. Window, spaces and spares together are at most 512 table frames. */
+/*
+ * What a machine is opened with, beside from 1 to 32 spaces and one number of spares for each hart. Window, spaces and spares
+ * together are at most 512 table frames.
+ */
 struct mle_config {
     uint64_t base;     /* the PPN of the first table frame; those of all are below 2^44 */
     uint32_t scheme;   /* enum mle_scheme */
@@ -183,9 +186,9 @@ struct mle_config {
 enum mle_event_kind {
     MLE_EVENT_BEGIN = 0,       /* access: the TLB answers it, or a walk begins */
     MLE_EVENT_LOAD = 1,        /* the walk loads its next word */
-    MLE_EVENT_MAP = 2,         /* page, place, ppn, flags: makes the store that is due next to map the page */
-    MLE_EVENT_UNMAP = 3,       /* page, place, named: clears the leaf and opens a ticket */
-    MLE_EVENT_PROTECT = 4,     /* page, place, flags, named: changes the leaf's flags and opens a ticket */
+    MLE_EVENT_MAP = 2,         /* page, space or all, ppn, flags: makes the store that is due next to map the page */
+    MLE_EVENT_UNMAP = 3,       /* page, space or all, named: clears the leaf and opens a ticket */
+    MLE_EVENT_PROTECT = 4,     /* page, space or all, flags, named: changes the leaf's flags and opens a ticket */
     MLE_EVENT_FLUSH = 5,       /* space or all, named: opens a ticket with no store */
     MLE_EVENT_SWITCH = 6,      /* space: the hart goes there; the TLB stays */
     MLE_EVENT_FENCE = 7,       /* rs1, rs2: SFENCE.VMA on the hart's own TLB */
@@ -308,7 +311,7 @@ static inline int32_t mle_tlb_close(struct mle_tlb *tlb) {
 /*
  * The oldest entry whose page has the address and that is global or of the ASID.
  *   MLE_OK        entry has it
- *   MLE_MISS      there is none, or the address is not canonical; entry is unchanged
+ *   MLE_MISS      there is none, or the address is not canonical in Sv48, whatever the scheme; entry is unchanged
  *   MLE_ERR_NOT_OPEN
  */
 static inline int32_t mle_tlb_lookup(struct mle_tlb *tlb, uint16_t asid, uint64_t va, struct mle_entry *entry) {
@@ -337,8 +340,8 @@ static inline int32_t mle_tlb_fence(struct mle_tlb *tlb, const struct mle_fence 
     return melissaledge_tlb_fence(tlb, fence);
 }
 
-/* Drops each entry whose page overlaps the request's and that is of its ASID, or all of its space, or all.
- * MLE_ERR_PAGE or MLE_ERR_KIND, MLE_ERR_NOT_OPEN. */
+/* For a page drops each entry whose page overlaps that one, with an ASID only those of it that are not global; for a space those
+ * of its ASID that are not global; else all. MLE_ERR_PAGE or MLE_ERR_KIND, MLE_ERR_NOT_OPEN. */
 static inline int32_t mle_tlb_serve(struct mle_tlb *tlb, const struct mle_what *what) {
     MLE_REFUSE_NULL(tlb);
     MLE_REFUSE_NULL(what);
@@ -363,7 +366,7 @@ static inline int32_t mle_entry_translate(const struct mle_entry *entry, const s
     return melissaledge_entry_translate(entry, access, answer);
 }
 
-/* The entry of a translation that was found in the address space of an ASID. */
+/* The entry of a translation that was found in the address space of an ASID. It tests nothing: answer is that of an MLE_OK. */
 static inline struct mle_entry mle_entry_found(uint16_t asid, const struct mle_answer *answer) {
     struct mle_entry entry;
     entry.page_base = answer->page_base;
@@ -377,7 +380,8 @@ static inline struct mle_entry mle_entry_found(uint16_t asid, const struct mle_a
 
 /*
  * Opens a machine: all harts in space 0, empty TLBs, nothing mapped. spares has for each hart how many frames it has for new
- * tables. MLE_ERR_SCHEME; MLE_ERR_LAYOUT if a limit of struct mle_config is broken; MLE_ERR_ALREADY_OPEN; MLE_ERR_NO_MEMORY.
+ * tables. MLE_ERR_SCHEME; MLE_ERR_LAYOUT if there are more than 32 spaces or more than 8 spares; MLE_ERR_ALREADY_OPEN;
+ * MLE_ERR_LAYOUT if another limit of struct mle_config or of struct mle_space is broken; MLE_ERR_NO_MEMORY.
  */
 static inline int32_t mle_machine_open(const struct mle_config *config, const struct mle_space *spaces, size_t space_count,
                                        const uint16_t *spares, size_t spare_count, struct mle_machine *machine) {
@@ -412,7 +416,8 @@ static inline int32_t mle_machine_step(struct mle_machine *machine, const struct
     return melissaledge_machine_step(machine, event, reply);
 }
 
-/* Whether the TLB of a hart translates an address for an ASID: 1 or 0. MLE_ERR_NOT_OPEN, MLE_ERR_HART. */
+/* Whether the TLB of a hart translates an address for an ASID: 1, or 0, also if the address is not canonical in Sv48.
+ * MLE_ERR_NOT_OPEN, MLE_ERR_HART. */
 static inline int32_t mle_machine_translates(struct mle_machine *machine, uint8_t hart, uint16_t asid, uint64_t va) {
     MLE_REFUSE_NULL(machine);
     MLE_REFUSE_MISALIGNED(MLE_ADDRESS(machine), sizeof(void *));

@@ -11,13 +11,14 @@ pub enum Refusal {
     /// A hart is named that is not there, or the two harts of a pair are the same.
     #[error("a hart is not there, or is named as its own partner")]
     NoHart,
-    /// The space is not there, or is free.
+    /// The space is not there, or, but for a Create, is free.
     #[error("no such space")]
     NoSpace,
     /// Only the home of a space stores to its tables; hart 0 to those of the kernel.
     #[error("the hart is not the home of these tables")]
     NotHome,
-    /// A space's page outside the user half, or a kernel page outside the window.
+    /// A page that is none of the scheme, a space's page outside the user half of the root, or a
+    /// kernel page outside the window.
     #[error("the page lies outside the part of the root that its place has")]
     WrongHalf,
     /// No leaf has these flags, or G is set for a space, or clear for the kernel.

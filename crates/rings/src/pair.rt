@@ -11,7 +11,8 @@ use rtrb::RingBuffer;
 use shoot::Request;
 use std::alloc::{AllocError, Global};
 
-/// The two ends of an empty ring that is open. The capacity is from 1 to 64.
+/// The two ends of an empty ring that is open. The capacity is from 1 to 64. `AllocError` if there
+/// is not enough memory.
 pub fn ends(alloc: Global, capacity: usize) -> Result<(Outbox, Inbox), AllocError>
     requires some { 1 ≤ capacity }
     requires bounded { capacity ≤ MAX_CAPACITY }

@@ -71,7 +71,7 @@ impl HartSet {
         }
     }
 
-    /// The harts that are not in the other set.
+    /// The harts of this set that are not in the other.
     #[tactic(auto, unfolding(crate::specs::HartSet::difference))]
     pub fn difference(&self, other: &HartSet) -> HartSet
         ensures { result ≡ difference self.now other.now }

@@ -165,7 +165,7 @@ impl Tickets {
         self.free.lowest()
     }
 
-    /// What opening a ticket for these harts would be answered now.
+    /// What `open_for` would answer for these harts now.
     pub fn would_open(&self, named: &HartSet) -> Result<u32, TicketFault>
         ensures answer { result ≡ answer_for self.now named.now }
         ensures below { IfOk result (λ number. number < MAX_TICKETS) }

@@ -127,6 +127,8 @@ pub fn page_word(scheme: Scheme, word: &[u8]) -> Option<PageWord>
     }
 }
 
+/// The page that the word writes. `NotPage`: its address is not canonical in the scheme, or no
+/// multiple of its size.
 pub fn page_at(scheme: Scheme, word: PageWord) -> Result<Page, StepFault>
     ensures { result ≡ page_at scheme word }
 {

@@ -237,9 +237,10 @@ impl Tlb {
         drop_fenced(self.scheme, &mut self.banks, rs1, rs2);
     }
 
-    /// Serves a request: drops each entry whose page overlaps the request's and that is of its
-    /// ASID, or all of its space, or all. Where the page is one of the TLB's scheme, these are the
-    /// entries that a fence for some address of the page would drop.
+    /// Serves a request. For a page it drops each entry whose page overlaps that one, with an ASID
+    /// only those of it that are not global; for an ASID all of it that are not global; else all.
+    /// Where the page is one of the TLB's scheme, these are the entries that a fence for some
+    /// address of the page would drop.
     pub fn serve(&mut self, what: &What)
         ensures list { self.new ≡ record self.old
             { entries = after_service self.old.entries what.now } }

@@ -8,14 +8,14 @@ use Rattle.history.specs.Refusal.{posting_refusal}
 use Rattle.board.specs.Answers.{box_refusal, outbox_refusal}
 use Rattle.board.proofs.port.post_to.Goals as goal
 
--- the fault of an error
-abbrev fault_of : {X : Type 0} → PostFault → Result X (PostFault × Request) → PostFault
-fault_of none (Ok x) = none
-fault_of none (Err e) = e.0
+-- the fault of an error, or else this one
+abbrev fault_or : {X : Type 0} → PostFault → Result X (PostFault × Request) → PostFault
+fault_or none (Ok x) = none
+fault_or none (Err e) = e.0
 
 -- two errors of one answer have the same fault
 same : {X : Type 0} (f g : PostFault) (q r : Request) (answer : Result X (PostFault × Request)) → answer ≡ Err (f, q) → answer ≡ Err (g, r) → f ≡ g
-same f g q r answer a b = ap (fault_of f) (sym a ∙ b)
+same f g q r answer a b = ap (fault_or f) (sym a ∙ b)
 
 -- a post that is refused with the end's fault has its refusal
 refused_so : (of : Option PostFault) (fault : PostFault) (refusal : Refusal) → ((f : PostFault) → of ≡ Some f → f ≡ fault) → box_refusal of ≡ Some refusal → posting_refusal fault ≡ refusal
