@@ -20,48 +20,6 @@ pub fn picture(alloc: Global, file: &str) -> Result<String, Fail> {
     }
 }
 
-/// How many shapes of each kind the columns of a picture have.
-#[derive(Clone, Copy, PartialEq, Eq, Debug)]
-pub struct Shapes {
-    pub rows: usize,
-    pub walks: usize,
-    pub services: usize,
-    pub orders: usize,
-    pub done: usize,
-    /// Requests, and how many of them arrive.
-    pub requests: (usize, usize),
-    /// Acknowledgements, and how many of them arrive.
-    pub acks: (usize, usize),
-    pub stale: usize,
-    pub hits: usize,
-}
-
-/// How many shapes of a class there are, but for the one of the legend.
-fn beyond_legend(svg: &str, shape: &str) -> usize {
-    count(svg, shape).saturating_sub(1)
-}
-
-/// The shapes of the columns of a picture. The legend has one of each kind, but for rows.
-pub fn shapes_of(svg: &str) -> Shapes {
-    Shapes {
-        rows: count(svg, "<text class='number'"),
-        walks: beyond_legend(svg, "<rect class='walk'"),
-        services: beyond_legend(svg, "<rect class='service'"),
-        orders: beyond_legend(svg, "<rect class='order'"),
-        done: beyond_legend(svg, "<rect class='done'"),
-        requests: (
-            beyond_legend(svg, "<path class='request'"),
-            beyond_legend(svg, "<path class='request-head'"),
-        ),
-        acks: (
-            beyond_legend(svg, "<path class='ack'"),
-            beyond_legend(svg, "<path class='ack-head'"),
-        ),
-        stale: beyond_legend(svg, "<rect class='stale'"),
-        hits: beyond_legend(svg, "<rect class='hit'"),
-    }
-}
-
 /// Whether the elements of a picture are closed: each text, and each of the few others that hold
 /// something.
 pub fn is_balanced(svg: &str) -> bool {

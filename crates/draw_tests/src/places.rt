@@ -1,9 +1,41 @@
 //! Where things stand in a picture, in pixels, worked out by hand: a row is 20 high, a line of
 //! heads 26, and the first row begins at 222. A column has 9 for each lane of messages, 18 for each
 //! of orders, 7 for each character, and fixed margins.
-use crate::counts::{count, picture};
-use crate::examples::FRAME_USED_AGAIN;
+use crate::counts::{count, is_balanced, picture};
 use std::test::Fail;
+
+/// A frame that is given to another process too early.
+const FRAME_USED_AGAIN: &str = r#"
+harts = 3
+spaces = ["0 1", "0 2"]
+steps = [
+    "0 map 0 4K:0x1000 0x100 rwuad",
+    "0 map 0 4K:0x1000 0x100 rwuad",
+    "0 map 0 4K:0x1000 0x100 rwuad",
+    "1 begin u store 0x1008",
+    "1 load",
+    "1 load",
+    "1 load",
+    "0 unmap 0 4K:0x1000 0,1",
+    "0 post 0 1",
+    "0 ackself 0",
+    "0 map 1 4K:0x5000 0x100 rwuad",
+    "0 map 1 4K:0x5000 0x100 rwuad",
+    "0 map 1 4K:0x5000 0x100 rwuad",
+    "2 switch 1",
+    "2 begin u load 0x5008",
+    "2 load",
+    "2 load",
+    "2 load",
+    "1 begin u store 0x1008",
+    "1 take 0",
+    "1 servefence",
+    "1 ack",
+    "1 begin u store 0x1008",
+    "0 collect 0 1",
+    "0 finish 0",
+]
+"#;
 
 /// Hart 0 has one lane of messages and one of orders, so its texts begin at 52 + 9 + 18 + 20 + 18 =
 /// 117. Its longest text is `map 0 4K:0x1000 0x100 rwuad: table 0x80003`, of 42 characters, and it
@@ -107,5 +139,6 @@ fn document_stands_alone(rt: HostRuntime) -> Result<(), Fail> {
         1
     );
     assert_eq!(rt; count(svg, "<desc>"), 1);
+    assert!(rt; is_balanced(svg));
     Ok(())
 }

@@ -1,4 +1,5 @@
-//! The lines of scenarios in which mappings become stale.
+//! The lines of scenarios in which mappings become stale. Those of the files of `examples` are in
+//! `svsim_examples`.
 
 use files::read_run;
 use stale_lines::stale_text;
@@ -15,40 +16,6 @@ fn prints(rt: &impl Abort, alloc: Global, scenario: &str, lines: &str, is_used: 
         panic!(rt; "not run");
     };
     printed.text.as_str() == lines && printed.is_used == is_used
-}
-
-/// A page of 2 MiB that hart 1 holds is unmapped, and hart 1 uses it once before it serves:
-/// examples/shootdown.toml.
-#[test]
-fn superpage_shootdown(rt: HostRuntime) {
-    let scenario = r#"harts = 2
-steps = [
-    "0 map 0 2M:0x400000 0x200 rwuad",
-    "0 map 0 2M:0x400000 0x200 rwuad",
-    "1 begin u load 0x5fffff",
-    "1 load",
-    "1 load",
-    "0 unmap 0 2M:0x400000 0,1",
-    "1 begin u load 0x5fffff",
-    "0 post 0 1",
-    "1 take 0",
-    "1 begin u load 0x5fffff",
-    "1 servefence",
-    "1 ack",
-    "1 begin u load 0x5fffff",
-    "1 load",
-    "1 load",
-    "0 collect 0 1",
-    "0 finish 0",
-    "0 ackself 0",
-    "0 finish 0",
-]
-"#;
-    let lines = r#"6 stale 1 page 2M:0x400000 asid 1 ppn 0x200 order 0 0
-7 used 1 page 4K:0x5ff000 asid 1 ppn 0x3ff
-stale 1 used 1
-"#;
-    assert!(rt; prints(&rt, rt.alloc(), scenario, lines, true));
 }
 
 /// Hart 1 still holds a page of 2 MiB that was split long ago, without an acknowledgement. A page
@@ -140,62 +107,6 @@ stale 1 used 2
     assert!(rt; prints(&rt, rt.alloc(), scenario, lines, true));
 }
 
-/// A page is unmapped, and the hart that holds it is not asked; that a space is retired, reclaimed
-/// and created anew makes nothing stale: examples/asid-used-again.toml.
-#[test]
-fn retired_space(rt: HostRuntime) {
-    let scenario = r#"harts = 2
-spaces = ["0 1", "0 2"]
-steps = [
-    "0 map 1 4K:0x1000 0x100 rwuad",
-    "0 map 1 4K:0x1000 0x100 rwuad",
-    "0 map 1 4K:0x1000 0x100 rwuad",
-    "1 switch 1",
-    "1 begin u load 0x1004",
-    "1 load",
-    "1 load",
-    "1 load",
-    "1 switch 0",
-    "0 unmap 1 4K:0x1000 0",
-    "0 ackself 0",
-    "0 finish 0",
-    "0 map 1 4K:0x1000 0x101 rwuad",
-    "1 switch 1",
-    "1 begin u load 0x1004",
-    "1 begin u store 0x1004",
-    "0 retire 1",
-    "1 switch 0",
-    "0 retire 1",
-    "0 ackself 0",
-    "0 reclaim 1",
-    "0 create 1 2",
-    "1 switch 1",
-    "0 post 0 1",
-    "1 take 0",
-    "1 servefence",
-    "1 ack",
-    "0 collect 0 1",
-    "0 finish 0",
-    "0 reclaim 1",
-    "0 create 1 2",
-    "0 map 1 4K:0x1000 0x102 rwuad",
-    "0 map 1 4K:0x1000 0x102 rwuad",
-    "0 map 1 4K:0x1000 0x102 rwuad",
-    "1 switch 1",
-    "1 begin u load 0x1004",
-    "1 load",
-    "1 load",
-    "1 load",
-]
-"#;
-    let lines = r#"10 stale 1 page 4K:0x1000 asid 2 ppn 0x100 order 0 0
-15 used 1 page 4K:0x1000 asid 2 ppn 0x100
-16 used 1 page 4K:0x1000 asid 2 ppn 0x100
-stale 1 used 2
-"#;
-    assert!(rt; prints(&rt, rt.alloc(), scenario, lines, true));
-}
-
 /// Sv48: a page of 512 GiB that is replaced by smaller ones answers at each of them as before:
 /// examples/sv48-split.toml.
 #[test]
@@ -225,92 +136,6 @@ steps = [
 stale 1 used 3
 "#;
     assert!(rt; prints(&rt, rt.alloc(), scenario, lines, true));
-}
-
-/// A frame goes to another process before hart 1 has dropped it, and hart 1 writes:
-/// examples/frame-used-again.toml.
-#[test]
-fn frame_used_again(rt: HostRuntime) {
-    let scenario = r#"harts = 3
-spaces = ["0 1", "0 2"]
-steps = [
-    "0 map 0 4K:0x1000 0x100 rwuad",
-    "0 map 0 4K:0x1000 0x100 rwuad",
-    "0 map 0 4K:0x1000 0x100 rwuad",
-    "1 begin u store 0x1008",
-    "1 load",
-    "1 load",
-    "1 load",
-    "0 unmap 0 4K:0x1000 0,1",
-    "0 post 0 1",
-    "0 ackself 0",
-    "0 map 1 4K:0x5000 0x100 rwuad",
-    "0 map 1 4K:0x5000 0x100 rwuad",
-    "0 map 1 4K:0x5000 0x100 rwuad",
-    "2 switch 1",
-    "2 begin u load 0x5008",
-    "2 load",
-    "2 load",
-    "2 load",
-    "1 begin u store 0x1008",
-    "1 take 0",
-    "1 servefence",
-    "1 ack",
-    "1 begin u store 0x1008",
-    "0 collect 0 1",
-    "0 finish 0",
-]
-"#;
-    let lines = r#"8 stale 1 page 4K:0x1000 asid 1 ppn 0x100 order 0 0
-19 used 1 page 4K:0x1000 asid 1 ppn 0x100
-stale 1 used 1
-"#;
-    assert!(rt; prints(&rt, rt.alloc(), scenario, lines, true));
-}
-
-/// A whole shootdown of a page that hart 1 leaves alone until it has served; another page, which it
-/// uses meanwhile, is never stale: examples/shootdown-no-use.toml.
-#[test]
-fn shootdown_without_a_use(rt: HostRuntime) {
-    let scenario = r#"harts = 2
-steps = [
-    "0 map 0 4K:0x1000 0x100 rwuad",
-    "0 map 0 4K:0x1000 0x100 rwuad",
-    "0 map 0 4K:0x1000 0x100 rwuad",
-    "0 map 0 4K:0x2000 0x101 rwuad",
-    "1 begin u store 0x1008",
-    "1 load",
-    "1 load",
-    "1 load",
-    "1 begin u load 0x2010",
-    "1 load",
-    "1 load",
-    "1 load",
-    "0 unmap 0 4K:0x1000 0,1",
-    "1 begin u load 0x2010",
-    "0 post 0 1",
-    "1 take 0",
-    "1 servefence",
-    "1 ack",
-    "1 begin u store 0x1008",
-    "1 load",
-    "1 load",
-    "1 load",
-    "1 begin u load 0x2010",
-    "0 collect 0 1",
-    "0 ackself 0",
-    "0 finish 0",
-    "0 map 0 4K:0x1000 0x102 rwuad",
-    "1 begin u store 0x1008",
-    "1 load",
-    "1 load",
-    "1 load",
-]
-"#;
-    let lines = r#"13 stale 1 page 4K:0x1000 asid 1 ppn 0x100 order 0 0
-stale 1 used 0
-"#;
-    assert!(rt; prints(&rt, rt.alloc(), scenario, lines, false));
 }
 
 /// Two harts hold the page, each becomes stale; both drop it before they use it.

@@ -1,15 +1,18 @@
 //! The files of the folder `examples`, in which it is run, each by the whole program over memory.
 //! It prints a line for each `NAME.toml`, in the order of their names: `as expected` if its command
 //! prints what stands in `NAME.out`, `draw` and `stale` of a file for `run` what stands in
-//! `NAME.svg` and `NAME.stale`, and `check` that it is ok; else what is amiss. A line for each row
-//! of `cases` follows. The status is 1 unless each is as expected.
+//! `NAME.svg` and `NAME.stale`, and `check` that it is ok; else what is amiss. Of a file for `run`
+//! it also counts the shapes of the picture. A line for each row of `cases` follows. The status is 1
+//! unless each is as expected.
 #![tactic(auto)]
 
 mod cases;
 mod program;
+mod shapes;
 
 use cases::{CASES, is_answered};
 use program::answer;
+use shapes::shapes_of;
 use std::process::ExitCode;
 use std::sync::Wait;
 use std::thread::Threads;
@@ -159,21 +162,47 @@ fn amiss<T: Threads + Wait + Sync>(
     Ok(None)
 }
 
+/// What is told of a file that is as expected.
+fn as_expected(rt: &HostRuntime, name: &str) -> io::Result<String> {
+    let alloc = rt.alloc();
+    if command_of(name) != "run" {
+        return Ok(String::from_str(alloc, "as expected")?);
+    }
+    let picture = fs::read_to_string(rt, format!(in alloc; "{name}.svg")?.as_str())?;
+    let shapes = shapes_of(picture.as_str()).text(alloc)?;
+    Ok(format!(in alloc; "as expected, in {shapes}")?)
+}
+
+/// What is told of a file, and whether it is as expected.
+fn told<T: Threads + Wait + Sync>(
+    rt: &HostRuntime,
+    threads: &T,
+    name: &str,
+) -> io::Result<(bool, String)> {
+    match amiss(rt, threads, name)? {
+        Some(amiss) => Ok((false, String::from_str(rt.alloc(), amiss)?)),
+        None => Ok((true, as_expected(rt, name)?)),
+    }
+}
+
 fn main(rt: HostRuntime) -> ExitCode {
     let mut status = 0;
     let Ok(names) = names(&rt) else {
         return ExitCode::from(1);
     };
     for name in names.iter() {
-        let told = match amiss(&rt, &rt, name.as_str()) {
-            Ok(None) => "as expected",
-            Ok(Some(amiss)) => amiss,
-            Err(_) => "not read",
-        };
-        if told != "as expected" {
-            status = 1;
+        match told(&rt, &rt, name.as_str()) {
+            Ok((is_expected, told)) => {
+                if !is_expected {
+                    status = 1;
+                }
+                let _ = println!(rt; "{name}: {told}");
+            }
+            Err(_) => {
+                status = 1;
+                let _ = println!(rt; "{name}: not read");
+            }
         }
-        let _ = println!(rt; "{name}: {told}");
     }
     for case in CASES {
         let told = match is_answered(&rt, &rt, case) {
