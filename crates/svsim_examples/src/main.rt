@@ -2,17 +2,19 @@
 //! It prints a line for each `NAME.toml`, in the order of their names: `as expected` if its command
 //! prints what stands in `NAME.out`, `draw` and `stale` of a file for `run` what stands in
 //! `NAME.svg` and `NAME.stale`, and `check` that it is ok; else what is amiss. Of a file for `run`
-//! it also counts the shapes of the picture. A line for each row of `cases` follows. The status is 1
-//! unless each is as expected.
+//! it also counts the shapes of the picture. A line for each sheet of the folder `shown` follows, and
+//! one for each row of `cases`. The status is 1 unless each is as expected.
 #![tactic(auto)]
 
 mod cases;
 mod program;
 mod shapes;
+mod shown;
 
 use cases::{CASES, is_answered};
 use program::answer;
 use shapes::shapes_of;
+use shown::{is_shown, sheets};
 use std::process::ExitCode;
 use std::sync::Wait;
 use std::thread::Threads;
@@ -185,35 +187,62 @@ fn told<T: Threads + Wait + Sync>(
     }
 }
 
+/// Prints a line of what came of something. Whether it is as expected.
+fn tell(rt: &HostRuntime, what: &str, came: io::Result<bool>) -> bool {
+    match came {
+        Ok(true) => {
+            let _ = println!(rt; "{what}: as expected");
+            true
+        }
+        Ok(false) => {
+            let _ = println!(rt; "{what}: another answer");
+            false
+        }
+        Err(_) => {
+            let _ = println!(rt; "{what}: not read");
+            false
+        }
+    }
+}
+
+/// Prints a line for a file. Whether it is as expected.
+fn tell_file<T: Threads + Wait + Sync>(rt: &HostRuntime, threads: &T, name: &str) -> bool {
+    match told(rt, threads, name) {
+        Ok((is_expected, told)) => {
+            let _ = println!(rt; "{name}: {told}");
+            is_expected
+        }
+        Err(_) => {
+            let _ = println!(rt; "{name}: not read");
+            false
+        }
+    }
+}
+
 fn main(rt: HostRuntime) -> ExitCode {
-    let mut status = 0;
-    let Ok(names) = names(&rt) else {
+    let (Ok(names), Ok(sheets)) = (names(&rt), sheets(&rt)) else {
         return ExitCode::from(1);
     };
+    let mut status = 0;
     for name in names.iter() {
-        match told(&rt, &rt, name.as_str()) {
-            Ok((is_expected, told)) => {
-                if !is_expected {
-                    status = 1;
-                }
-                let _ = println!(rt; "{name}: {told}");
-            }
-            Err(_) => {
-                status = 1;
-                let _ = println!(rt; "{name}: not read");
-            }
+        if !tell_file(&rt, &rt, name.as_str()) {
+            status = 1;
+        }
+    }
+    for sheet in sheets.iter() {
+        let sheet = sheet.as_str();
+        if !tell(&rt, sheet, is_shown(&rt, sheet)) {
+            status = 1;
         }
     }
     for case in CASES {
-        let told = match is_answered(&rt, &rt, case) {
-            Ok(true) => "as expected",
-            Ok(false) => "another answer",
-            Err(_) => "not read",
+        let Ok(words) = format!(in rt.alloc(); "{} {}", case.command, case.file) else {
+            return ExitCode::from(1);
         };
-        if told != "as expected" {
+        let came = is_answered(&rt, &rt, case);
+        if !tell(&rt, words.as_str(), came) {
             status = 1;
         }
-        let _ = println!(rt; "{} {}: {told}", case.command, case.file);
     }
     ExitCode::from(status)
 }
