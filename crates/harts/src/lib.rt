@@ -19,6 +19,7 @@ pub use blank::{Blank, List, Turns};
 pub use board::{Board, HartPort, Mapped, PairReport, Report};
 pub use book::Book;
 pub use gate::{Gate, OpenGate};
+pub use history::LiveStep;
 pub use live::run_live;
 pub use live_reply::LiveReply;
 pub use live_report::{LiveFault, LiveReport};

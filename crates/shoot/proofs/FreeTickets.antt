@@ -1,7 +1,10 @@
 -- The marks that a word stands for: the lowest of them, and what setting or clearing a bit changes.
 use Rattle.std.proofs.Common.{◌≡◌, ◌≢◌, ◌∙◌, sym, ap, refl, ℕ, ◌+◌, ◌-◌, ◌*◌, ◌%◌, ◌^◌, ◌<◌, Bool, true, false, not, List, [], ◌∷◌, Option, Some, None, length, map, set, get_or, inl, inr, arith, eqb, cond, w64, get_or-set_same, get_or-set_other, length-set}
 use Rattle.std.specs.Int.{bit_at, bit_not, trailing_zeros}
-use Rattle.std.specs.Prelude.{bit_and, bit_or, is_none, slice_index_or}
+use Rattle.std.specs.Prelude.{bit_and, bit_or, is_none, is_some, slice_get}
+use Rattle.std.specs.Option.{unwrap_or}
+use Rattle.std.proofs.lemmas.Option.{unwrap_or-slice_get}
+use Rattle.shoot.specs.Tickets.{if_open}
 use Rattle.std.specs.List.{range_with_len, position, position_or_len}
 use Rattle.std.proofs.lemmas.Bool.{cases_eq, lt-ltb}
 use Rattle.std.proofs.lemmas.List.{same_lists, length-map, map-set}
@@ -83,10 +86,17 @@ lowest_of_test test xs = rw (first test xs, length-map xs test) refl
     first test [] = refl
     first test (x ∷ xs) = ap (λ n. cond (not (test x)) (1 + n) 0) (first test xs)
 
--- a ticket in a place that had one leaves the marks
-pub ticket_replaced : (free : List Bool) (tickets : List (Option Ticket)) (at : ℕ) (old new d : Ticket) → Some old ≡ slice_index_or tickets at (Some d)
-    → free ≡ map is_none tickets → free ≡ map is_none (set tickets at (Some new))
-ticket_replaced free tickets at old new d was marks = marks ∙ sym (map-set_same is_none tickets at (Some new) (Some d) (rw (← was) refl))
+-- a place that holds a ticket, read with any default
+in_place : (place : Option (Option Ticket)) (d : Option Ticket) → is_some (if_open place) ≡ true → is_none (unwrap_or place d) ≡ false
+in_place None d e = absurd cc
+in_place (Some None) d e = absurd cc
+in_place (Some (Some ticket)) d e = refl
+
+-- a ticket in the place of an open one leaves the marks
+pub ticket_replaced : (free : List Bool) (tickets : List (Option Ticket)) (at : ℕ) (ticket : Ticket) → is_some (if_open (slice_get tickets at)) ≡ true
+    → free ≡ map is_none tickets → free ≡ map is_none (set tickets at (Some ticket))
+ticket_replaced free tickets at ticket there marks =
+    marks ∙ sym (map-set_same is_none tickets at (Some ticket) (Some ticket) (sym (ap is_none (sym (unwrap_or-slice_get tickets at (Some ticket))) ∙ in_place (slice_get tickets at) (Some ticket) there)))
 
 -- a ticket in a free place takes its mark, and a place that is freed gets it
 pub ticket_opened : (free : List Bool) (tickets : List (Option Ticket)) (at : ℕ) (ticket : Ticket)

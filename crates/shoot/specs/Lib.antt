@@ -4,6 +4,5 @@ pub mod HartSet
 pub mod Mailbox
 pub mod MailboxHistory
 pub mod Request
-pub mod Ring
 pub mod Tickets
 pub mod WorkedRows

@@ -11,7 +11,6 @@ mod hart_set_laws;
 mod mailbox;
 mod mailbox_laws;
 mod request;
-mod ring;
 mod ticket_laws;
 mod tickets;
 mod worked_rows;

@@ -4,7 +4,7 @@ ghost use Rattle.std.specs.Prelude.{◌≡◌, ◌≤◌, IsTrue, slice_get};
 
 use crate::MAX_CAPACITY;
 use crate::request::Request;
-use crate::ring::Ring;
+use arrayvec::ArrayVec;
 use std::marker::Model;
 use thiserror::Error;
 
@@ -44,7 +44,7 @@ impl PostFault {
 /// request makes no room, collecting its acknowledgement does.
 #[derive(Drop)]
 pub struct Mailbox {
-    waiting: Ring,
+    waiting: ArrayVec<Request, MAX_CAPACITY>,
     outstanding: usize,
     closed: bool,
     capacity: usize,
@@ -56,14 +56,14 @@ impl Model for Mailbox {
     ghost Value = { MailboxState };
 
     ghost view = { λ m. record {
-      waiting = m.waiting;
+      waiting = m.waiting.items;
       outstanding = m.outstanding;
       closed = m.closed;
       capacity = m.capacity;
     } };
 
     ghost invariant = { λ m. IsMailbox (record {
-      waiting = m.waiting;
+      waiting = m.waiting.items;
       outstanding = m.outstanding;
       closed = m.closed;
       capacity = m.capacity;
@@ -80,7 +80,7 @@ impl Mailbox {
         ensures { result ≡ empty_mailbox capacity }
     {
         Mailbox {
-            waiting: Ring::new(),
+            waiting: ArrayVec::new(),
             outstanding: 0,
             closed: false,
             capacity,
@@ -103,7 +103,7 @@ impl Mailbox {
         if let Some(fault) = self.post_fault() {
             return Err((fault, request));
         }
-        self.waiting.push_back(request);
+        self.waiting.push(request);
         self.outstanding += 1;
         Ok(())
     }
@@ -112,14 +112,14 @@ impl Mailbox {
     pub fn first_waiting(&self) -> Option<Request>
         ensures { result ≡ first_waiting self.now }
     {
-        self.waiting.first()
+        self.waiting.as_slice().first().copied()
     }
 
     /// The request that waits in a place: the oldest in place 0, and behind the last none.
     pub fn waiting(&self, place: usize) -> Option<Request>
         ensures { result ≡ slice_get self.now.waiting place }
     {
-        self.waiting.get(place)
+        self.waiting.as_slice().get(place).copied()
     }
 
     /// Takes the oldest request that waits. It stays outstanding.
@@ -127,7 +127,7 @@ impl Mailbox {
         ensures answer { result ≡ first_waiting self.old }
         ensures after { self.new ≡ after_take self.old }
     {
-        self.waiting.pop_front()
+        self.waiting.pop_at(0)
     }
 
     /// Whether more requests are outstanding than wait: some were taken whose

@@ -1,11 +1,12 @@
 //! Tickets.
 
-ghost use Rattle.std.specs.Prelude.{◌≡◌, ◌<◌, IsTrue, IsSome, IfSome, IfOk};
+ghost use Rattle.std.specs.Prelude.{◌≡◌, ◌<◌, IsTrue, IsSome, IfSome, IfOk, length, slice_set};
 ghost use Rattle.std.specs.Option.{option_copied, option_map};
 
 use crate::MAX_TICKETS;
 use crate::free_tickets::FreeTickets;
 use crate::hart_set::HartSet;
+use arrayvec::ArrayVec;
 use pte::{MAX_HARTS, What};
 use std::marker::Model;
 use thiserror::Error;
@@ -60,7 +61,7 @@ pub struct Ticket {
 #[derive(Drop)]
 pub struct Tickets {
     hart: u8,
-    tickets: [Option<Ticket>; MAX_TICKETS],
+    tickets: ArrayVec<Option<Ticket>, MAX_TICKETS>,
     free: FreeTickets,
 }
 
@@ -71,9 +72,17 @@ impl Model for Tickets {
 
     ghost Value = { TicketTable };
 
-    ghost view = { λ t. record { hart = t.hart; tickets = t.tickets } };
+    ghost view = { λ t. record { hart = t.hart; tickets = t.tickets.items } };
 
-    ghost invariant = { λ t. (t.hart < MAX_HARTS) × (t.free ≡ map is_none t.tickets) };
+    ghost invariant = { λ t. (t.hart < MAX_HARTS) × (t.free ≡ map is_none t.tickets.items) };
+}
+
+/// Puts a ticket, or none, in the place of a number.
+fn put(places: &mut ArrayVec<Option<Ticket>, MAX_TICKETS>, number: u32, ticket: Option<Ticket>)
+    requires { number < length places.old.items }
+    ensures { places.new.items ≡ slice_set places.old.items number ticket }
+{
+    places.as_mut_slice()[number as usize] = ticket;
 }
 
 impl Ticket {
@@ -136,7 +145,7 @@ impl Ticket {
 }
 
 impl Tickets {
-    ghost use Rattle.shoot.specs.Tickets.{no_tickets, ticket_at, is_open, names, ticket_posted, ticket_acked, ticket_collected, open_answer, answer_for, after_open, after_open_for, progress_at, after_posted, after_acked, after_collect, is_done, finish_answer, after_finish, lowest_free, what_at};
+    ghost use Rattle.shoot.specs.Tickets.{no_tickets, ticket_at, is_open, names, ticket_posted, ticket_acked, ticket_collected, open_answer, answer_for, after_open, after_open_for, progress_at, after_posted, after_acked, after_collect, is_done, finish_answer, after_finish, lowest_free, what_at, with_ticket};
 
     /// The tickets of a hart whose number is below 8, all of them free.
     pub fn new(hart: u8) -> Tickets
@@ -145,7 +154,7 @@ impl Tickets {
     {
         Tickets {
             hart,
-            tickets: [None; MAX_TICKETS],
+            tickets: ArrayVec::from_array_in((), [None; MAX_TICKETS]),
             free: FreeTickets::new(),
         }
     }
@@ -154,7 +163,16 @@ impl Tickets {
         ensures ticket { option_copied result ≡ ticket_at self.now ticket }
         ensures below { IsSome result → ticket < MAX_TICKETS }
     {
-        self.tickets.get(ticket as usize)?.as_ref()
+        self.tickets.as_slice().get(ticket as usize)?.as_ref()
+    }
+
+    /// Puts a ticket in the place of an open one.
+    #[tactic(auto, using(crate::proofs::FreeTickets::ticket_replaced))]
+    fn replace(&mut self, number: u32, ticket: Ticket)
+        requires { IsTrue (is_open self.old number) }
+        ensures { self.new ≡ with_ticket self.old number (Some ticket) }
+    {
+        put(&mut self.tickets, number, Some(ticket));
     }
 
     #[tactic(auto, using(crate::proofs::FreeTickets::lowest_of_test))]
@@ -198,49 +216,49 @@ impl Tickets {
         ensures after { self.new ≡ after_open_for self.old what named.now }
     {
         let number = self.would_open(named)?;
-        self.tickets[number as usize] = Some(Ticket::new(what, named));
+        put(&mut self.tickets, number, Some(Ticket::new(what, named)));
         self.free.remove(number as usize);
         Ok(number)
     }
 
     /// An open ticket was posted to a hart that it names.
-    #[tactic(auto, using(crate::proofs::FreeTickets::ticket_replaced))]
     pub fn posted(&mut self, ticket: u32, to: u8)
         requires { IsTrue (names self.old ticket to) }
         ensures { self.new ≡ after_posted self.old ticket to }
     {
-        let Some(open) = &mut self.tickets[ticket as usize] else {
+        let Some(mut open) = self.get(ticket).copied() else {
             return;
         };
         open.mark_posted(to);
+        self.replace(ticket, open);
     }
 
     /// A hart that an open ticket names acknowledged it. The acknowledgement of
     /// the hart whose ticket it is counts as collected at once.
-    #[tactic(auto, using(crate::proofs::FreeTickets::ticket_replaced))]
     pub fn acked(&mut self, ticket: u32, from: u8)
         requires { IsTrue (names self.old ticket from) }
         ensures { self.new ≡ after_acked self.old ticket from }
     {
         let home = self.hart;
-        let Some(open) = &mut self.tickets[ticket as usize] else {
+        let Some(mut open) = self.get(ticket).copied() else {
             return;
         };
         open.mark_acked(home, from);
+        self.replace(ticket, open);
     }
 
     /// Collects the acknowledgement of a hart that an open ticket names, if it
     /// is there, and tells how far the ticket is then.
-    #[tactic(auto, using(crate::proofs::FreeTickets::ticket_replaced))]
     pub fn collect(&mut self, ticket: u32, from: u8) -> Collected
         requires { IsTrue (names self.old ticket from) }
         ensures answer { result ≡ progress_at self.new ticket }
         ensures after { self.new ≡ after_collect self.old ticket from }
     {
-        let Some(open) = &mut self.tickets[ticket as usize] else {
+        let Some(mut open) = self.get(ticket).copied() else {
             return Collected::Done;
         };
         open.mark_collected(from);
+        self.replace(ticket, open);
         open.progress()
     }
 
@@ -270,10 +288,13 @@ impl Tickets {
         ensures answer { result ≡ finish_answer self.old ticket }
         ensures after { self.new ≡ after_finish self.old ticket }
     {
-        if self.is_done(ticket) != Some(true) {
+        let Some(open) = self.get(ticket) else {
+            return Err(NotDone);
+        };
+        if !open.is_done() {
             return Err(NotDone);
         }
-        self.tickets[ticket as usize] = None;
+        put(&mut self.tickets, ticket, None);
         self.free.insert(ticket as usize);
         Ok(())
     }

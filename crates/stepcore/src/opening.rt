@@ -1,6 +1,6 @@
 //! Opening a machine.
 
-ghost use Rattle.std.specs.Prelude.{◌≡◌, ◌↔◌, ◌<◌, ◌≤◌, ◌^◌, ◌*◌, [], Err, IfOk, OnOk, All, length, map, replicate};
+ghost use Rattle.std.specs.Prelude.{◌≡◌, ◌↔◌, ◌<◌, ◌≤◌, ◌^◌, ◌*◌, ◌++◌, ◌∷◌, [], Err, IfOk, OnOk, All, length, map, replicate};
 ghost use Rattle.std.specs.List.{range_with_len};
 ghost use Rattle.shoot.specs.Mailbox.{empty_mailbox};
 ghost use Rattle.shoot.specs.Tickets.{no_tickets};
@@ -58,6 +58,14 @@ fn idle_harts(alloc: Global, scheme: Scheme, count: u8) -> Result<Vec<Hart>, All
     Ok(harts)
 }
 
+/// Puts the tickets of a hart, all of them free, behind those of others.
+fn push_tickets(tickets: &mut Vec<Tickets>, hart: u8) -> Result<(), AllocError>
+    requires { hart < MAX_HARTS }
+    ensures { OnOk result (tickets.new.items ≡ tickets.old.items ++ no_tickets hart ∷ []) }
+{
+    Ok(tickets.push(Tickets::new(hart))?)
+}
+
 /// The tickets of each hart, all of them free.
 fn free_tickets(alloc: Global, count: u8) -> Result<Vec<Tickets>, AllocError>
     requires { count ≤ MAX_HARTS }
@@ -65,7 +73,9 @@ fn free_tickets(alloc: Global, count: u8) -> Result<Vec<Tickets>, AllocError>
 {
     let mut tickets = Vec::with_capacity(alloc, usize::from(count))?;
     for hart in 0..count {
-        tickets.push(Tickets::new(hart))?;
+        if let Err(error) = push_tickets(&mut tickets, hart) {
+            return Err(error);
+        }
     }
     Ok(tickets)
 }
