@@ -4,6 +4,7 @@ use Rattle.std.proofs.lemmas.Bool.{cases_lt}
 use Rattle.std.specs.Global.{Vec}
 use Rattle.std.specs.Option.{option_map}
 use Rattle.std.specs.List.{range_with_len}
+use Rattle.atomic_table.specs.Seated.{TableId}
 use Rattle.history.specs.Setup.{Setup}
 use Rattle.rings.specs.Ends.{OutboxState, InboxState}
 use Rattle.board.specs.Ports.{End, PortName, PortState, ArePorts, IsPort, cell, element, end_of_inbox, end_of_outbox, name_of, row}
@@ -105,11 +106,14 @@ module _ (setup : Setup) (capacity : ℕ) (outs : List (Vec (Option OutboxState)
       ]
 
   pub dealt : (ports : List PortState) → map (λ port. port.outboxes) ports ≡ map (λ r. r.items) outs → map (λ port. port.inboxes) ports ≡ map (λ r. r.items) ins
-      → map (λ port. port.hart) ports ≡ range_with_len 0 setup.harts → All (λ port. port.setup ≡ setup) ports → All (λ port. IsPort (name_of port)) ports
+      → map (λ port. port.hart) ports ≡ range_with_len 0 setup.harts → All (λ port. port.setup ≡ setup) ports
+      → (table : TableId) → All (λ port. port.table ≡ table) ports → All (λ port. IsPort (name_of port)) ports
       → ArePorts setup (map name_of ports)
-  dealt ports same-outs same-ins numbered of_setup each = record {
+  dealt ports same-outs same-ins numbered of_setup table of_table each = record {
     numbered = named_harts ports ∙ numbered;
     of_setup = all-named (λ name. name.setup ≡ setup) ports of_setup;
+    table = table;
+    of_table = all-named (λ name. name.table ≡ table) ports of_table;
     each = all-named IsPort ports each;
     linked = λ s h. out-cell ports outs same-outs s h ∙ (linked_rows s h ∙ sym (in-cell ports ins same-ins s h));
   }

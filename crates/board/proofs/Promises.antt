@@ -1,5 +1,5 @@
 -- Once each named hart is collected, none of their TLBs translates an address of the page.
-use Rattle.std.proofs.Common.{◌≡◌, ap, refl, ℕ, zero, suc, ◌==◌, Bool, true, false, cond, List, [], ◌∷◌, Option, Some, None, Result, Ok, Err, sym, subst}
+use Rattle.std.proofs.Common.{◌≡◌, ap, refl, ℕ, zero, suc, ◌<◌, length, ◌==◌, Bool, true, false, cond, List, [], ◌∷◌, Option, Some, None, Result, Ok, Err, sym, subst}
 use Rattle.std.specs.Prelude.{unwrap_or}
 use mathlib.Core.Option.{some}
 use lib.ListN.{get_elem?}
@@ -7,19 +7,28 @@ use Rattle.tlb.specs.declared.store.Entry.{Entry}
 use Rattle.tlb.specs.Mappings.{IsMappedBy, Translates}
 use Rattle.views.specs.declared.view.Order.{Order}
 use Rattle.views.specs.OrderTurns.{order_of_ticket}
-use Rattle.views.proofs.Collected.{collected_is_clean}
-use Rattle.board.specs.Ties.{IsWithin}
+use Rattle.views.proofs.Collected.{collected_is_clean, unmapped_shared}
+use Rattle.views.specs.declared.view.View.{View}
+use Rattle.views.specs.OnBoard.{IsOnBoard}
+use Rattle.spaces.specs.declared.places.Place.{Place}
+use Rattle.spaces.specs.Layout.{layout_of}
+use Rattle.atomic_table.specs.Table.{State}
+use Rattle.pte.specs.Address.{Span}
+use Rattle.history.specs.Setup.{setup_of}
+use Rattle.views.specs.OnBoard.{IsWithin}
 use Rattle.spaces.specs.declared.faults.MapFault.{MapFault}
 use Rattle.spaces.specs.declared.wishes.Wish.TheVariants.{Unmap}
 use Rattle.spaces.specs.Edits.{Store}
-use Rattle.shoot.specs.Tickets.{open_answer}
+use Rattle.shoot.specs.Tickets.{names, open_answer}
 use Rattle.refusals.specs.declared.refusal.Refusal.{Refusal}
 use Rattle.history.specs.Refusal.{refusal_of}
-use Rattle.views.specs.Orders.{IsLive}
+use Rattle.views.specs.Orders.{IsLive, is_in}
 use Rattle.views.proofs.Lasting.{begins_live, none_held}
 use Rattle.board.specs.Answers.{answer_or}
 use Rattle.board.specs.Tables.{after_opened, after_store, due_store, named_refusal, opened_if}
-use Rattle.board.specs.Promises.{AcceptedUnmappingIsLive, CollectedStaysClean, DoneIsClean, TranslateNoneHoldsNone}
+use Rattle.board.specs.Ports.{PortState}
+use Rattle.board.specs.Collects.{AreAllCollected}
+use Rattle.board.specs.Promises.{AcceptedUnmappingIsLive, HasView, IsDoneClean, IsGone, StaysClean, TranslateNoneHoldsNone}
 
 -- the open order is one of the orders
 find-order : (ticket : ℕ) (ks : List Order) (k : Order) → order_of_ticket ticket ks ≡ Some k → (n : ℕ) × (get_elem? ks n ≡ some k)
@@ -39,15 +48,36 @@ more-translate few many asid va within t = record {
   page = t.page;
 }
 
-pub collected_stays_clean : CollectedStaysClean
-collected_stays_clean c s board i port at n k at-k place page live j other at-other low got within asid va of holds t =
-    collected_is_clean c s board i port.view at n k at-k place page live other.view.hart low got j other.view at-other refl asid va of holds
-    (more-translate other.tlb.entries other.view.entries asid va within t)
+-- what a live order says in a state of the board with the port's view
+gone : (port : PortState) (state : State ℕ View) → HasView port state → (n : ℕ) (k : Order) → get_elem? port.view.orders n ≡ some k → (place : Place) (page : Span) → IsLive k place page
+    → (harts : ℕ → Bool) → ((h : ℕ) → harts h ≡ true → is_in h k.collected ≡ true) → IsGone port.view.config state harts place page
+gone port state has n k at-k place page live harts got = record {
+  unmapped = unmapped_shared port.view.config state has.stands port.hart port.view has.at n k at-k place page live;
+  dropped = λ h named j w at-w is tlb within asid va of holds t.
+      let low = (has.stands.tables.each j w at-w).local.hart in
+      collected_is_clean port.view.config state has.stands port.hart port.view has.at n k at-k place page live h (subst (λ x. x < length (layout_of port.view.config).spares) is low) (got h named) j w at-w is asid va of holds
+      (more-translate tlb w.entries asid va within t);
+}
 
-pub done_is_clean : DoneIsClean
-done_is_clean c s board i port at ticket k open-order place page live all j other at-other low named within =
-    let n = find-order ticket port.view.orders k open-order in
-    collected_stays_clean c s board i port at n.0 k n.1 place page live j other at-other low (all k open-order other.view.hart named) within
+module _ (port : PortState) (config : setup_of port.view.config ≡ port.setup) (hart : port.view.hart ≡ port.hart) (on : IsOnBoard port.view) where
+  has-view : HasView port on.state
+  has-view = record { config = config; stands = on.stands; at = subst (λ n. get_elem? on.state.views n ≡ some port.view) hart on.at }
+
+  pub stays_clean : StaysClean port
+  stays_clean = record {
+    now = on.state;
+    has_view = has-view;
+    collected = λ state has n k at-k place page live. gone port state has n k at-k place page live (λ h. is_in h k.collected) (λ h got. got);
+  }
+
+  pub done_is_clean : (ticket : ℕ) → AreAllCollected port ticket → IsDoneClean port ticket
+  done_is_clean ticket all = record {
+    now = on.state;
+    has_view = has-view;
+    named = λ state has k open-order place page live.
+        let n = find-order ticket port.view.orders k open-order in
+        gone port state has n.0 k n.1 place page live (names port.tickets ticket) (all k open-order);
+  }
 
 -- what is refused opens no ticket
 no-ticket : (refusal : Option Refusal) (why : Refusal) (ticket : ℕ) → answer_or refusal (Err why) ≡ Ok ticket → ⊥

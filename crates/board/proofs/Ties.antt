@@ -69,7 +69,7 @@ other-order n g keeps m apart (x ∷ xs) = by (x.ticket == n) refl (other-order 
     by false is rest = ap (λ o. cond (x.ticket == m) (Some x) o) rest
 
 -- and that of the ticket changes
-own-order : (n : ℕ) (g : Order → Order) → ((k : Order) → (g k).ticket ≡ k.ticket) → (ks : List Order)
+pub own-order : (n : ℕ) (g : Order → Order) → ((k : Order) → (g k).ticket ≡ k.ticket) → (ks : List Order)
     → order_of_ticket n (for_ticket n g ks) ≡ option_map g (order_of_ticket n ks)
 own-order n g keeps [] = refl
 own-order n g keeps (x ∷ xs) = by (x.ticket == n) refl (own-order n g keeps xs)
@@ -346,7 +346,7 @@ none-open T n free =
     is-none None e = refl
     is-none (Some t) e = absurd cc
 
-opened-free : (T : TicketTable) (named n : ℕ) → open_answer T named ≡ Ok n → lowest_free T ≡ Some n
+pub opened-free : (T : TicketTable) (named n : ℕ) → open_answer T named ≡ Ok n → lowest_free T ≡ Some n
 opened-free T named n = by_test (λ b. cond b (opened (lowest_free T)) (Err HomeNotNamed) ≡ Ok n → lowest_free T ≡ Some n) (contains (harts_in named) T.hart)
     (λ there e. by (lowest_free T) e) (λ none e. absurd (let bad : Err HomeNotNamed ≡ Ok n = e in cc))
   where
@@ -393,7 +393,7 @@ false-by : (b : Bool) → (b ≡ true → ⊥) → b ≡ false
 false-by true no' = absurd (no' refl)
 false-by false no' = refl
 
-put : (ts : List (Option Ticket)) (n : ℕ) (x : Option Ticket) → IsTrue (is_some (if_open (slice_get ts n))) → if_open (slice_get (slice_set ts n x) n) ≡ x
+pub put : (ts : List (Option Ticket)) (n : ℕ) (x : Option Ticket) → IsTrue (is_some (if_open (slice_get ts n))) → if_open (slice_get (slice_set ts n x) n) ≡ x
 put [] n x there = absurd cc
 put (y ∷ ys) zero x there = refl
 put (y ∷ ys) (suc n) x there = put ys n x there

@@ -55,3 +55,12 @@ abbrev pub AreAllCollected : PortState → ℕ → Type 0
 AreAllCollected port ticket =
     (order : Order) → order_of_ticket ticket port.view.orders ≡ Some order → (hart : ℕ)
     → names port.tickets ticket hart ≡ true → is_in hart order.collected ≡ true
+
+-- so it looks at no hart below 0, at hart 0 alone below 1, and at hart 0 and then at hart 1 below 2
+abbrev pub LooksInOrder : Type 0
+LooksInOrder =
+    (port after : PortState) (ticket : ℕ) →
+    (IsCollected port ticket 0 after → after ≡ port)
+    × (IsCollected port ticket 1 after → (word : ℕ) × (after ≡ look_at port ticket 0 word))
+    × (IsCollected port ticket 2 after
+    → (first second : ℕ) × (after ≡ look_at (look_at port ticket 0 first) ticket 1 second))

@@ -2,19 +2,22 @@
 use Rattle.std.specs.Prelude.{ℕ, ◌<◌, ◌≡◌, ◌==◌, List, [], map, Option, Some, None, slice_get, unwrap_or, All, if◌then◌else◌}
 use Rattle.std.specs.Option.{option_map}
 use Rattle.std.specs.List.{range_with_len}
+use Rattle.atomic_table.specs.Seated.{TableId}
 use Rattle.shoot.specs.Tickets.{TicketTable, no_tickets}
 use Rattle.tlb.specs.Entries.{TlbState}
 use Rattle.history.specs.Setup.{Setup, setup_of}
 use Rattle.rings.specs.Ends.{Ring, OutboxState, InboxState, new_outbox, new_inbox}
 use Rattle.spaces.specs.declared.configuration.Config.{Config}
+use Rattle.spaces.specs.Layout.{layout_of}
 use Rattle.views.specs.declared.view.View.{View}
 use Rattle.views.specs.Rule.{starting}
 
--- what the board was opened with; which hart it is; its space; what it knows of the shared words;
--- its tickets and its TLB; and by the numbers of the harts the ends by which it posts to each other
--- hart and takes from it, none for itself
+-- what the board was opened with; which table the shared words are; which hart it is; its space;
+-- what it knows of the shared words; its tickets and its TLB; and by the numbers of the harts the
+-- ends by which it posts to each other hart and takes from it, none for itself
 pub record PortState : Type 0 where
   pub setup : Setup
+  pub table : TableId
   pub hart : ℕ
   pub space : ℕ
   pub view : View
@@ -52,6 +55,7 @@ end_of_inbox inbox = record { ring = inbox.ring; capacity = inbox.capacity }
 -- which port it is: what no call of it changes
 pub record PortName : Type 0 where
   pub setup : Setup
+  pub table : TableId
   pub hart : ℕ
   pub outs : List (Option End)
   pub ins : List (Option End)
@@ -60,6 +64,7 @@ abbrev pub name_of : PortState → PortName
 name_of port =
     record {
       setup = port.setup;
+      table = port.table;
       hart = port.hart;
       outs = map (option_map end_of_outbox) port.outboxes;
       ins = map (option_map end_of_inbox) port.inboxes;
@@ -87,11 +92,14 @@ row rows number = unwrap_or (slice_get rows number) []
 abbrev pub cell : {X : Type 0} → List (List (Option X)) → ℕ → ℕ → Option X
 cell rows number column = element (row rows number) column
 
--- they are the ports of one board, in the order of the harts: the end from one hart to another and
--- the end by which that takes from it are of one ring
+-- They are the ports of one board, in the order of the harts, so each has the seat of another hart:
+-- their shared words are one table, and the end from one hart to another and the end by which that
+-- takes from it are of one ring.
 pub record ArePorts (setup : Setup) (names : List PortName) : Type 0 where
   pub numbered : map (λ name. name.hart) names ≡ range_with_len 0 setup.harts
   pub of_setup : All (λ name. name.setup ≡ setup) names
+  pub table : TableId
+  pub of_table : All (λ name. name.table ≡ table) names
   pub each : All IsPort names
   pub linked : (sender receiver : ℕ)
       → cell (map (λ name. name.outs) names) sender receiver
@@ -106,6 +114,7 @@ next_seat config hart = if hart == 0 then config.harts else 0
 abbrev pub new_port : Config → PortName → PortState
 new_port config name = record {
   setup = name.setup;
+  table = name.table;
   hart = name.hart;
   space = 0;
   view = starting config name.hart (next_seat config name.hart);
@@ -123,3 +132,10 @@ pub record IsNew (port : PortState) : Type 0 where
 -- ports that were just opened
 abbrev pub AreNew : List PortState → Type 0
 AreNew ports = All IsNew ports
+
+-- such a port is one of the layout that it was opened with, and has done nothing
+abbrev pub NewPortsHaveDoneNothing : Type 0
+NewPortsHaveDoneNothing =
+    (port : PortState) → IsNew port →
+    (port.setup.layout ≡ layout_of port.view.config) × (port.space ≡ 0) × (port.tlb.entries ≡ [])
+    × (port.view.entries ≡ []) × (port.view.orders ≡ []) × (port.view.cell_steps ≡ [])

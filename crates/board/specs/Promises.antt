@@ -1,25 +1,29 @@
 -- What a sender may rely on once an unmapping's ticket is done.
-use Rattle.std.specs.Prelude.{ℕ, ◌≡◌, ◌<◌, Some, Ok, Contains, List, [], length, true}
+use Rattle.std.specs.Prelude.{ℕ, ◌≡◌, Bool, Some, Ok, Contains, List, [], true}
 use mathlib.Core.Option.{some}
 use lib.ListN.{get_elem?}
 use Rattle.atomic_table.specs.Table.{State}
 use Rattle.pte.specs.Address.{Holds, IsPage, Overlap, Span}
 use Rattle.tlb.specs.declared.store.Entry.{Entry}
 use Rattle.tlb.specs.Mappings.{IsMappedBy, Translates}
-use Rattle.shoot.specs.Tickets.{names}
+use Rattle.shoot.specs.HartSet.{contains, harts_in}
+use Rattle.shoot.specs.Tickets.{is_open, names}
 use Rattle.spaces.specs.declared.configuration.Config.{Config}
 use Rattle.spaces.specs.declared.places.Place.{Place}
 use Rattle.spaces.specs.declared.wishes.Wish.TheVariants.{Unmap}
 use Rattle.spaces.specs.Layout.{layout_of}
+use Rattle.history.specs.Setup.{setup_of}
 use Rattle.views.specs.declared.view.Order.{Order}
 use Rattle.views.specs.declared.view.View.{View}
 use Rattle.views.specs.Board.{Board}
-use Rattle.views.specs.Orders.{IsAsidFor, IsLive, is_in}
+use Rattle.views.specs.Rule.{tables_in}
+use Rattle.views.specs.Orders.{IsAsidFor, IsLive, IsUnmapped, is_in}
 use Rattle.views.specs.OrderTurns.{order_of_ticket}
 use Rattle.views.specs.Lasting.{IsFor}
 use Rattle.board.specs.Ports.{PortState}
-use Rattle.board.specs.Ties.{IsWithin}
-use Rattle.board.specs.Collects.{AreAllCollected}
+use Rattle.views.specs.OnBoard.{IsWithin}
+use Rattle.board.specs.Answers.{after_ack_self, after_post}
+use Rattle.board.specs.Collects.{IsCollected}
 use Rattle.board.specs.Tables.{after_edit, edit_answer}
 
 -- the entries translate no address of the page in any address space of the place
@@ -28,36 +32,50 @@ TranslateNone c entries place page =
     (asid va : ℕ) → IsAsidFor c place asid → Holds page va
     → ¬ Translates (IsMappedBy entries) asid va
 
--- Of an open ticket whose order is an unmapping that is not marked anew: once each hart that it
--- names is collected, the TLB of none of them translates an address of the page. `port` and `other`
--- are ports whose views are those of two seats now, the sender's and that of a named hart.
-abbrev pub DoneIsClean : Type 0
-DoneIsClean =
-    (c : Config) (s : State ℕ View) → Board c s → (i : ℕ) (port : PortState)
-    → get_elem? s.views i ≡ some port.view
-    → (ticket : ℕ) (order : Order) → order_of_ticket ticket port.view.orders ≡ Some order
-    → (place : Place) (page : Span) → IsLive order place page → AreAllCollected port ticket
-    → (j : ℕ) (other : PortState) → get_elem? s.views j ≡ some other.view
-    → other.view.hart < length (layout_of c).spares
-    → names port.tickets ticket other.view.hart ≡ true
-    → IsWithin other.tlb.entries other.view.entries → TranslateNone c other.tlb.entries place page
+-- no view of the hart, and no TLB that lies within one, translates an address of the page in an
+-- address space of the place
+abbrev pub HoldsNone : Config → State ℕ View → ℕ → Place → Span → Type 0
+HoldsNone c state hart place page =
+    (j : ℕ) (w : View) → get_elem? state.views j ≡ some w → w.hart ≡ hart → (tlb : List Entry)
+    → IsWithin tlb w.entries → TranslateNone c tlb place page
 
--- Of any order of a port's view, open or finished, that follows an unmapping and is not marked
--- anew: the TLB of a hart that was collected for it translates no address of the page. `port` and
--- `other` are ports whose views are those of two seats now, the sender's and that of the hart.
-abbrev pub CollectedStaysClean : Type 0
-CollectedStaysClean =
-    (c : Config) (s : State ℕ View) → Board c s → (i : ℕ) (port : PortState)
-    → get_elem? s.views i ≡ some port.view
-    → (n : ℕ) (order : Order) → get_elem? port.view.orders n ≡ some order
-    → (place : Place) (page : Span) → IsLive order place page
-    → (j : ℕ) (other : PortState) → get_elem? s.views j ≡ some other.view
-    → other.view.hart < length (layout_of c).spares
-    → is_in other.view.hart order.collected ≡ true
-    → IsWithin other.tlb.entries other.view.entries → TranslateNone c other.tlb.entries place page
+-- in this state of the board the shared words map nothing in the page from a root of the place, and
+-- none of these harts holds a mapping of it
+pub record IsGone (c : Config) (state : State ℕ View) (harts : ℕ → Bool) (place : Place)
+    (page : Span) : Type 0 where
+  pub unmapped : IsUnmapped (layout_of c) (tables_in (layout_of c) state.words) place page
+  pub dropped : (hart : ℕ) → harts hart ≡ true → HoldsNone c state hart place page
+
+-- a state of the board that keeps the rule, in which the port's view is that of its hart's seat
+pub record HasView (port : PortState) (state : State ℕ View) : Type 0 where
+  pub config : setup_of port.view.config ≡ port.setup
+  pub stands : Board port.view.config state
+  pub at : get_elem? state.views port.hart ≡ some port.view
+
+-- There is such a state. In each, of the open order of the ticket, if it follows an unmapping that
+-- is not marked anew: the page is gone from the shared words and from each hart that the ticket
+-- names.
+pub record IsDoneClean (port : PortState) (ticket : ℕ) : Type 0 where
+  pub now : State ℕ View
+  pub has_view : HasView port now
+  pub named : (state : State ℕ View) → HasView port state → (order : Order)
+      → order_of_ticket ticket port.view.orders ≡ Some order → (place : Place) (page : Span)
+      → IsLive order place page
+      → IsGone port.view.config state (names port.tickets ticket) place page
+
+-- There is such a state. In each, of every order of the port's view, open or finished, that follows
+-- an unmapping and is not marked anew: the page is gone from the shared words and from each hart
+-- that was collected for the order.
+pub record StaysClean (port : PortState) : Type 0 where
+  pub now : State ℕ View
+  pub has_view : HasView port now
+  pub collected : (state : State ℕ View) → HasView port state → (n : ℕ) (order : Order)
+      → get_elem? port.view.orders n ≡ some order → (place : Place) (page : Span)
+      → IsLive order place page
+      → IsGone port.view.config state (λ hart. is_in hart order.collected) place page
 
 -- An unmapping that is accepted leaves under its ticket an open order that is live, of that page of
--- that place, with no cell armed and no hart collected. So `DoneIsClean` speaks of it, until the
+-- that place, with no cell armed and no hart collected. So `IsDoneClean` speaks of it, until the
 -- home maps a leaf over the page (law `views::only_a_leaf_over_the_page_marks_anew`).
 abbrev pub AcceptedUnmappingIsLive : Type 0
 AcceptedUnmappingIsLive =
@@ -65,6 +83,32 @@ AcceptedUnmappingIsLive =
     → edit_answer port (Unmap place page) named ≡ Ok ticket → (order : Order)
     × (order_of_ticket ticket (after_edit port (Unmap place page) named).view.orders ≡ Some order)
     × IsLive order place page × (order.armed ≡ []) × (order.collected ≡ [])
+
+-- the ticket is open, for an unmapping of the page that is not marked anew, and names these harts
+pub record IsUnmapping (port : PortState) (ticket : ℕ) (place : Place) (page : Span)
+    (named : ℕ) : Type 0 where
+  pub is_open : is_open port.tickets ticket ≡ true
+  pub order : Order
+  pub is : order_of_ticket ticket port.view.orders ≡ Some order
+  pub live : IsLive order place page
+  pub names_are : (hart : ℕ) → names port.tickets ticket hart ≡ contains (harts_in named) hart
+
+-- an unmapping that is accepted opens such a ticket
+abbrev pub UnmappingOpens : Type 0
+UnmappingOpens =
+    (port : PortState) (place : Place) (page : Span) (named ticket : ℕ)
+    → edit_answer port (Unmap place page) named ≡ Ok ticket
+    → IsUnmapping (after_edit port (Unmap place page) named) ticket place page named
+
+-- which it stays once it is posted, once the own hart has acknowledged it, and once those of others
+-- were looked for
+abbrev pub CallsKeepUnmapping : Type 0
+CallsKeepUnmapping =
+    (port after : PortState) (ticket to room : ℕ) (place : Place) (page : Span) (named : ℕ)
+    → IsUnmapping port ticket place page named →
+    IsUnmapping (after_post port ticket to room) ticket place page named
+    × IsUnmapping (after_ack_self port ticket) ticket place page named
+    × (IsCollected port ticket port.setup.harts after → IsUnmapping after ticket place page named)
 
 -- where no address of a page of a place is translated, no entry overlaps the page that is for the
 -- place

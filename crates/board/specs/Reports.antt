@@ -1,5 +1,5 @@
 -- What is told at the end of each mailbox.
-use Rattle.std.specs.Prelude.{ℕ, zero, suc, ◌≡◌, ◌==◌, List, [], ◌∷◌, ◌++◌, map, Option, Some, None, All, if◌then◌else◌}
+use Rattle.std.specs.Prelude.{ℕ, zero, suc, ◌≡◌, ◌+◌, ◌^◌, ◌<◌, ◌==◌, length, List, [], ◌∷◌, ◌++◌, map, Option, Some, None, All, if◌then◌else◌}
 use Rattle.shoot.specs.Request.{Request}
 use Rattle.rings.specs.Ends.{OutboxState, InboxState, count_of}
 use Rattle.board.specs.Ports.{PortState, cell}
@@ -44,3 +44,11 @@ pub record IsReportOf (ports : List PortState) (pair : PairReport) : Type 0 wher
 pub record IsReport (harts : ℕ) (ports : List PortState) (pairs : List PairReport) : Type 0 where
   pub pairs_are : map (λ pair. (pair.sender, pair.receiver)) pairs ≡ pairs_of harts harts
   pub each : All (IsReportOf ports) pairs
+
+-- fewer requests than u64 counts are counted: those that were taken, and those that wait beside them
+abbrev pub CountsAddUp : Type 0
+CountsAddUp =
+    (ports : List PortState) (pair : PairReport) → IsReportOf ports pair
+    → length (accepted_between ports pair.sender pair.receiver) < 2 ^ 64
+    → (pair.taken ≡ length (taken_between ports pair.sender pair.receiver))
+    × (pair.accepted ≡ pair.taken + length pair.waiting.items)

@@ -1,7 +1,5 @@
--- What ties a port's tickets to the orders of its view and to its ends, and its TLB to what its
--- view holds.
-use Rattle.std.specs.Prelude.{ℕ, ◌≡◌, ◌≢◌, ◌+◌, ◌&&◌, Bool, true, false, not, List, [], ◌∷◌, length, Option, Some, None, Contains, if◌then◌else◌}
-use Rattle.tlb.specs.declared.store.Entry.{Entry}
+-- What ties a port's tickets to the orders of its view and to its ends.
+use Rattle.std.specs.Prelude.{ℕ, ◌≡◌, ◌≢◌, ◌+◌, ◌&&◌, Bool, true, false, not, List, [], ◌∷◌, length, Option, Some, None, if◌then◌else◌}
 use Rattle.shoot.specs.HartSet.{contains}
 use Rattle.pte.specs.declared.TheConstants.{MAX_HARTS}
 use Rattle.shoot.specs.declared.tickets.Ticket.{Ticket}
@@ -65,7 +63,3 @@ HasOutstanding count (Some outbox) = outbox.outstanding ≡ count
 pub record AreCounted (tickets : TicketTable) (outboxes : List (Option OutboxState)) : Type 0 where
   pub each : (hart : ℕ) → hart ≢ tickets.hart
       → HasOutstanding (count_awaiting hart tickets.tickets) (element outboxes hart)
-
--- each entry of the TLB is one that the view holds
-pub record IsWithin (tlb held : List Entry) : Type 0 where
-  pub each : (e : Entry) → Contains tlb e → Contains held e

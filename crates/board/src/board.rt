@@ -22,7 +22,7 @@ use spaces::{Config, OpenFault};
 use std::alloc::{AllocError, Global};
 use std::marker::Model;
 use std::sync::Arc;
-use views::{Memory, Place as Seat};
+use views::{Memory, Seat};
 
 /// The hart whose row stands behind these.
 fn hart_after(rows: &Vec<Vec<Option<Outbox>>>) -> u8

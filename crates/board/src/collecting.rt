@@ -8,8 +8,10 @@ ghost use Rattle.std.specs.Option.{option_map};
 ghost use Rattle.rings.specs.Ends.{OutboxState};
 ghost use Rattle.board.specs.Ports.{element, end_of_outbox, name_of};
 ghost use Rattle.board.specs.Answers.{request_of};
-ghost use Rattle.board.specs.Ties.{IsWithin, awaits};
+ghost use Rattle.board.specs.Ties.{awaits};
+ghost use Rattle.views.specs.OnBoard.{IsWithin};
 ghost use Rattle.board.specs.Collects.{AreAllCollected, IsCollected, after_look, awaited_word, is_awaiting};
+ghost use Rattle.board.specs.Promises.{IsDoneClean, StaysClean};
 ghost use Rattle.views.specs.OrderTurns.{last_word};
 
 use crate::port::HartPort;
@@ -114,16 +116,18 @@ impl HartPort {
         requires { IsTrue (is_open self.now.tickets ticket) }
         ensures progress { result ≡ progress_at self.now.tickets ticket }
         ensures done { (result ≡ collected.Done) ↔ AreAllCollected self.now ticket }
+        ensures clean { (result ≡ collected.Done) → IsDoneClean self.now ticket }
     {
         self.tickets.progress(ticket)
     }
 
-    /// Each entry of the TLB is one that the hart's view holds. Nothing is done: the clause is the
-    /// fact.
+    /// Each entry of the TLB is one that the hart's view holds; and what was collected stays clean,
+    /// also when the ticket is finished and used again. Nothing is done: the clauses are the facts.
     pub fn held(&self)
-        ensures { IsWithin self.now.tlb.entries self.now.view.entries }
+        ensures within { IsWithin self.now.tlb.entries self.now.view.entries }
+        ensures clean { StaysClean self.now }
     {
-        let _ = &self.tlb;
+        self.seat.held();
     }
 
     /// Looks at the cell of each other hart that an open ticket was posted to and that is not
@@ -140,6 +144,7 @@ impl HartPort {
             → IsCollected self.old ticket self.old.setup.harts self.new }
         ensures done { is_open self.old.tickets ticket ≡ true
             → (result ≡ Ok collected.Done) ↔ AreAllCollected self.new ticket }
+        ensures clean { result ≡ Ok collected.Done → IsDoneClean self.new ticket }
         ensures same { name_of self.new ≡ name_of self.old }
     {
         if !self.tickets.is_open(ticket) {

@@ -2,39 +2,48 @@
 //! clause is the fact.
 
 ghost use Rattle.std.specs.Prelude.{◌≡◌, [], ◌∷◌};
-ghost use Rattle.board.specs.Promises.{AcceptedUnmappingIsLive, CollectedStaysClean, DoneIsClean, TranslateNoneHoldsNone};
-ghost use Rattle.board.specs.Reports.{pairs_of};
+ghost use Rattle.board.specs.Promises.{AcceptedUnmappingIsLive, CallsKeepUnmapping, TranslateNoneHoldsNone, UnmappingOpens};
+ghost use Rattle.board.specs.Collects.{LooksInOrder};
+ghost use Rattle.board.specs.Ports.{NewPortsHaveDoneNothing};
+ghost use Rattle.board.specs.Reports.{CountsAddUp, pairs_of};
 
 /// The pairs of three harts, in the order of a report.
 pub fn pairs_of_three_harts()
     ensures { pairs_of 3 3 ≡ (0, 1) ∷ (0, 2) ∷ (1, 0) ∷ (1, 2) ∷ (2, 0) ∷ (2, 1) ∷ [] }
 {}
 
-/// Once each hart that an unmapping's ticket names is collected (`collect` or `ack_self` answered
-/// `Done`), no TLB of a named hart translates an address of the page in any address space of the
-/// place, until the home maps a leaf over it.
-pub fn done_is_clean()
-    ensures { DoneIsClean }
-{}
-
-/// Once a hart was collected for an unmapping, its TLB translates no address of the page in any
-/// address space of the place, until the home maps a leaf over it. It stays so when the ticket is
-/// finished and used again: the hart stays collected for that order (law
-/// `views::orders_are_kept`).
-pub fn collected_stays_clean()
-    ensures { CollectedStaysClean }
-{}
-
 /// An unmapping that is accepted leaves under its ticket an open order that is live, of that page
-/// of that place, which is what `done_is_clean` speaks of. No cell is armed for it yet, and no hart
+/// of that place, which is what clause `clean` of `collect` speaks of. No cell is armed for it yet, and no hart
 /// is collected.
 pub fn accepted_unmapping_is_live()
     ensures { AcceptedUnmappingIsLive }
 {}
 
-/// A TLB that translates no address of a page of a place, as `done_is_clean` says, holds no entry
+/// An unmapping that is accepted opens a ticket for it that names the harts that were asked for, and
+/// so it stays through `post`, `ack_self` and `collect`: what clause `clean` of `collect` asks for.
+pub fn unmapping_stays_open()
+    ensures opens { UnmappingOpens }
+    ensures stays { CallsKeepUnmapping }
+{}
+
+/// A TLB that translates no address of a page of a place, as clause `clean` of `collect` says, holds no entry
 /// for the place that overlaps the page: none of that page, of a part of it or of a larger page
 /// over it, and no global one.
 pub fn translate_none_holds_none()
     ensures { TranslateNoneHoldsNone }
+{}
+
+/// The counts of a report are of the requests that were taken, and of those that wait beside them.
+pub fn counts_add_up()
+    ensures { CountsAddUp }
+{}
+
+/// A new port is one of the layout that the board was opened with, and has done nothing.
+pub fn new_ports_have_done_nothing()
+    ensures { NewPortsHaveDoneNothing }
+{}
+
+/// A look for acknowledgements goes from hart to hart, the lowest first, once to each.
+pub fn looks_in_order()
+    ensures { LooksInOrder }
 {}

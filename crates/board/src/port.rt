@@ -20,8 +20,7 @@ use spaces::Config;
 use std::alloc::Global;
 use std::marker::Model;
 use std::sync::Arc;
-use tlb::Tlb;
-use views::{Memory, Place as Seat, arm, open_order, serve, serve_self};
+use views::{Memory, Seat, arm, open_order, serve, serve_self};
 
 /// What one hart does, in whatever thread it is. No call waits for another hart, or takes memory.
 #[derive(Drop)]
@@ -33,7 +32,6 @@ pub struct HartPort {
     pub(crate) space: u8,
     pub(crate) used: u16,
     pub(crate) tickets: Tickets,
-    pub(crate) tlb: Tlb,
     pub(crate) outboxes: Vec<Option<Outbox>>,
     pub(crate) inboxes: Vec<Option<Receiver>>,
 }
@@ -47,17 +45,18 @@ impl Model for HartPort {
     ghost use Rattle.history.specs.Setup.{setup_of};
     ghost use Rattle.board.specs.Ports.{PortState, IsPort, end_of_outbox, end_of_inbox};
     ghost use Rattle.board.specs.Seats.{IsSeated};
-    ghost use Rattle.board.specs.Ties.{AreCounted, AreTied, IsWithin};
+    ghost use Rattle.board.specs.Ties.{AreCounted, AreTied};
 
     ghost Value = { PortState };
 
     ghost view = { λ p. record {
       setup = setup_of (arc_value p.config);
+      table = (arc_value p.memory).shared.table_id;
       hart = p.hart;
       space = p.space;
-      view = p.seat.me.0;
+      view = p.seat.view;
       tickets = p.tickets;
-      tlb = p.tlb;
+      tlb = p.seat.tlb;
       outboxes = p.outboxes.items;
       inboxes = p.inboxes.items;
     } };
@@ -66,14 +65,15 @@ impl Model for HartPort {
         × (p.tickets.hart ≡ p.hart)
         × IsPort (record {
           setup = setup_of (arc_value p.config);
+          table = (arc_value p.memory).shared.table_id;
           hart = p.hart;
           outs = map (option_map end_of_outbox) p.outboxes.items;
           ins = map (option_map end_of_inbox) p.inboxes.items;
         })
         × IsSeated (arc_value p.memory).shared.table_id (arc_value p.memory).shared.key
         (arc_value p.config) p.seat p.hart p.space p.used
-        × AreTied (arc_value p.config) p.seat.me.0.orders p.tickets
-        × AreCounted p.tickets p.outboxes.items × IsWithin p.tlb.entries p.seat.me.0.entries };
+        × AreTied (arc_value p.config) p.seat.view.orders p.tickets
+        × AreCounted p.tickets p.outboxes.items };
 }
 
 /// The request of a ticket whose number is below 64.
@@ -95,7 +95,7 @@ fn post_to(
     to: u8,
     request: Request,
 ) -> Result<(), Refusal>
-    requires armed { IsAwaiting config.now seat.now.me.0 request.ticket to request.what }
+    requires armed { IsAwaiting config.now seat.now.view request.ticket to request.what }
     ensures refused { (refusal : Refusal) → outbox_refusal outbox.old ≡ Some refusal
         → result ≡ Err refusal }
     ensures full { outbox_refusal outbox.old ≡ None
@@ -162,7 +162,7 @@ fn post_at(
     request: Request,
 ) -> Result<(), Refusal>
     requires there { to < length outboxes.old.items }
-    requires armed { IsAwaiting config.now seat.now.me.0 request.ticket to request.what }
+    requires armed { IsAwaiting config.now seat.now.view request.ticket to request.what }
     ensures refused { (refusal : Refusal)
         → outbox_refusal (element outboxes.old.items to) ≡ Some refusal → result ≡ Err refusal }
     ensures full { outbox_refusal (element outboxes.old.items to) ≡ None
@@ -269,6 +269,7 @@ impl HartPort {
     ghost use Rattle.board.specs.Seats.{IsNewSeat};
     ghost use Rattle.shoot.specs.declared.tickets.Collected.TheVariants as collected;
     ghost use Rattle.board.specs.Collects.{AreAllCollected};
+    ghost use Rattle.board.specs.Promises.{IsDoneClean};
     ghost use Rattle.board.specs.Ports.{inbox_from, IsNew, IsPort, name_of, outbox_to};
     ghost use Rattle.board.specs.Answers.{ack_self_answer, after_ack_self, after_close_to, after_finish_of, after_flush, after_no_post, after_post, after_serve, close_answer, finish_answer, flush_answer, flush_refusal, is_there, post_refusal, request_of, ticket_refusal};
 
@@ -290,12 +291,12 @@ impl HartPort {
         requires inboxes { IsInRow (arc_value config).capacity hart (arc_value config).harts
             inboxes.items }
         ensures setup { result.setup ≡ setup_of (arc_value config) }
+        ensures table { result.table ≡ (arc_value memory).shared.table_id }
         ensures hart { result.hart ≡ hart }
         ensures ends { (result.outboxes ≡ outboxes.items) × (result.inboxes ≡ inboxes.items) }
         ensures port { IsPort (name_of result) }
         ensures new { IsNew result }
     {
-        let scheme = config.scheme;
         HartPort {
             config,
             memory,
@@ -304,7 +305,6 @@ impl HartPort {
             space: 0,
             used: 0,
             tickets: Tickets::new(hart),
-            tlb: Tlb::new_in(scheme),
             outboxes,
             inboxes,
         }
@@ -428,6 +428,7 @@ impl HartPort {
         ensures after { self.new ≡ after_ack_self self.old ticket }
         ensures done { is_open self.old.tickets ticket ≡ true
             → (result ≡ Ok collected.Done) ↔ AreAllCollected self.new ticket }
+        ensures clean { result ≡ Ok collected.Done → IsDoneClean self.new ticket }
         ensures same { name_of self.new ≡ name_of self.old }
     {
         if !self.tickets.is_open(ticket) {
@@ -443,10 +444,9 @@ impl HartPort {
             seat,
             hart,
             tickets,
-            tlb,
             ..
         } = self;
-        serve_self(&memory.shared, seat, config, *hart, &request, tlb);
+        serve_self(&memory.shared, seat, config, *hart, &request);
         acknowledge_own(tickets, ticket, *hart);
         Ok(self.progress(ticket))
     }
@@ -549,10 +549,9 @@ impl HartPort {
             memory,
             seat,
             hart,
-            tlb,
             ..
         } = self;
-        serve(&memory.shared, seat, config, *hart, from, &request, tlb);
+        serve(&memory.shared, seat, config, *hart, from, &request);
         Ok(request)
     }
 

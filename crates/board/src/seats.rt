@@ -1,16 +1,17 @@
 //! A seat for each hart in the shared words.
 
-ghost use Rattle.std.specs.Prelude.{◌≡◌, IfOk, length};
+ghost use Rattle.std.specs.Prelude.{◌≡◌, IfOk, [], length};
 ghost use Rattle.std.specs.Arc.{arc_value};
 ghost use Rattle.spaces.specs.Limits.{MeetsLimits};
 ghost use Rattle.spaces.specs.declared.configuration.TheConstants.{MAX_LIVE_FRAMES};
-ghost use Rattle.views.specs.Rule.{IsFit, first_view};
+ghost use Rattle.views.specs.Rule.{first_view};
+ghost use Rattle.views.specs.OnBoard.{IsFit};
 ghost use Rattle.board.specs.Seats.{AreSeats};
 
 use spaces::Config;
 use std::alloc::{AllocError, Global};
 use std::sync::Arc;
-use views::{Memory, Place as Seat, Words, deal, open};
+use views::{Memory, Seat, Words, deal, open};
 
 /// The seats of all harts, of which the first one deals the others.
 fn deal_seats(
@@ -21,7 +22,8 @@ fn deal_seats(
 ) -> Result<Vec<Seat>, AllocError>
     requires limits { MeetsLimits MAX_LIVE_FRAMES config.now }
     requires fit { IsFit words.now.table_id words.now.key config.now first }
-    requires first { first.me.0 ≡ first_view config.now }
+    requires first { first.view ≡ first_view config.now }
+    requires empty { first.tlb ≡ record { scheme = config.now.scheme; entries = [] } }
     ensures count { IfOk result (λ seats. length seats.items ≡ config.now.harts) }
     ensures seats { IfOk result (λ seats.
         AreSeats words.now.table_id words.now.key config.now 0 seats.items) }

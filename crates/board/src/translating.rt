@@ -8,7 +8,8 @@ ghost use Rattle.spaces.specs.Layout.{layout_of};
 ghost use Rattle.tlb.specs.declared.store.Entry.{Entry as EntryOf};
 ghost use Rattle.tlb.specs.Answer.{answer_of};
 ghost use Rattle.tlb.specs.Entries.{first_match};
-ghost use Rattle.views.specs.Rule.{IsFit, IsRoot};
+ghost use Rattle.views.specs.Rule.{IsRoot};
+ghost use Rattle.views.specs.OnBoard.{IsFit};
 ghost use Rattle.views.specs.Turns.{asid_at};
 ghost use Rattle.views.specs.Walks.{AnswersByLoads, with_found};
 ghost use Rattle.board.specs.Ports.{name_of};
@@ -19,7 +20,7 @@ use history::Refusal;
 use pte::{Access, Ctx, VirtAddr};
 use spaces::Config;
 use tlb::Entry;
-use views::{Place as Seat, Words, walk_from_root};
+use views::{Seat, Words, walk_from_root};
 use walk::{Found, Trap, Why};
 
 /// A walk for a canonical address.
@@ -36,13 +37,14 @@ fn walk_words(
     requires root { IsRoot (layout_of config.now) root }
     requires canonical { IsCanonical config.now.scheme va }
     ensures fit { IsFit words.now.table_id words.now.key config.now seat.new }
-    ensures loads { AnswersByLoads (layout_of config.now) seat.old.me.0 root va access ctx result
-        seat.new.me.0 }
-    ensures hart { seat.new.me.0.hart ≡ seat.old.me.0.hart }
-    ensures used { seat.new.me.0.used ≡ seat.old.me.0.used }
-    ensures orders { seat.new.me.0.orders ≡ seat.old.me.0.orders }
-    ensures entries { seat.new.me.0.entries
-        ≡ with_found (asid_at seat.old.me.0.config root) seat.old.me.0.entries result }
+    ensures loads { AnswersByLoads (layout_of config.now) seat.old.view root va access ctx result
+        seat.new.view }
+    ensures tlb { seat.new.tlb ≡ seat.old.tlb }
+    ensures hart { seat.new.view.hart ≡ seat.old.view.hart }
+    ensures used { seat.new.view.used ≡ seat.old.view.used }
+    ensures orders { seat.new.view.orders ≡ seat.old.view.orders }
+    ensures entries { seat.new.view.entries
+        ≡ with_found (asid_at seat.old.view.config root) seat.old.view.entries result }
 {
     walk_from_root(words, seat, config, root, va, access, ctx)
 }
@@ -67,7 +69,7 @@ impl HartPort {
         ensures after { self.new ≡ after_fence self.old rs1 rs2 }
         ensures same { name_of self.new ≡ name_of self.old }
     {
-        self.tlb.fence(rs1, rs2);
+        self.seat.fence(rs1, rs2);
     }
 
     /// What a walk from the root of the hart's space answers. What it finds is filled in.
@@ -89,7 +91,6 @@ impl HartPort {
             memory,
             seat,
             space,
-            tlb,
             ..
         } = self;
         let root = config.root(*space);
@@ -97,7 +98,7 @@ impl HartPort {
             Ok(found) => found,
             Err(trap) => return Err(trap),
         };
-        tlb.fill(Entry::found(asid, &found));
+        seat.fill(Entry::found(asid, &found));
         Ok(found.pa)
     }
 
@@ -121,7 +122,7 @@ impl HartPort {
         let Some(address) = VirtAddr::new_in(self.config.scheme, va) else {
             return Err(Trap::page(access, Why::NotCanonical));
         };
-        if let Some(entry) = self.tlb.lookup(asid, address) {
+        if let Some(entry) = self.seat.lookup(asid, address) {
             return entry.translate(address, access, ctx);
         }
         self.walk_and_fill(asid, address, access, ctx)

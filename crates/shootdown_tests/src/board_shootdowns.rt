@@ -5,6 +5,7 @@ use crate::board_tables::{USER, invalid, layout, page, ports_of, readable};
 use board::*;
 use history::{Refusal, Scope};
 use pte::{Access, Page, PteFlags, What};
+use reclaim::unmap_and_drop;
 use shoot::Collected;
 use spaces::Place;
 use std::test::Fail;
@@ -256,6 +257,33 @@ fn map_first(port: &mut HartPort, page: Page) -> bool
     let _first = port.map_step(place, page, ppn_of(0), readable());
     let _second = port.map_step(place, page, ppn_of(0), readable());
     port.map_step(place, page, ppn_of(0), readable()) == Ok(Mapped::Leaf)
+}
+
+/// Hart 0 maps the page, hart 1 finds it, and both give it up. Whether its frame is free then.
+fn map_and_free(board: &Board, mut ports: Vec<HartPort>, page: Page) -> bool
+    requires ports { ArePorts board.now (map name_of ports.items) }
+    requires two { board.now.harts ≡ 2 }
+{
+    let _board = board;
+    let (Some(mut one), Some(mut zero)) = (ports.pop(), ports.pop()) else {
+        return false;
+    };
+    let mapped = map_first(&mut zero, page);
+    let held = one.translate(0x1004, Access::Load, USER) == Ok(0x10_0004);
+    let free = unmap_and_drop(&mut zero, &mut one, Place::Space(0), page) == Ok(true);
+    let gone = one.translate(0x1004, Access::Load, USER) == invalid(13);
+    mapped && held && free && gone
+}
+
+// The worked caller of two ports.
+#[test]
+fn frame_is_free(rt: HostRuntime) {
+    let opened = Board::open(rt.alloc(), &layout(2)).ok();
+    let (Some((board, ports)), Some(page)) = (opened, page(0x1000)) else {
+        assert!(&rt; false);
+        return;
+    };
+    assert!(&rt; map_and_free(&board, ports, page));
 }
 
 fn shoot_down_often(mut port: HartPort, page: Page, rounds: u64) -> (HartPort, bool)

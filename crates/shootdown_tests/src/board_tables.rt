@@ -1,3 +1,5 @@
+ghost use Rattle.std.specs.Prelude.{◌≡◌};
+
 use arrayvec::ArrayVec;
 use board::*;
 use history::Refusal;
@@ -10,7 +12,9 @@ use std::thread::Threads;
 use walk::{Trap, Why};
 
 /// So many harts, and spaces 0 and 1 of ASIDs 1 and 2, both at home on hart 0.
-pub(crate) fn layout(harts: u16) -> Config {
+pub(crate) fn layout(harts: u16) -> Config
+    ensures { result.harts ≡ harts }
+{
     let mut spaces = ArrayVec::new();
     spaces.push(Space { home: 0, asid: 1 });
     spaces.push(Space { home: 0, asid: 2 });
@@ -169,6 +173,58 @@ fn spaces_and_fences_are_told_apart(rt: HostRuntime) {
                 why: Why::NotCanonical,
             })
     );
+}
+
+/// Two harts; space 0 at home on hart 0, and three spaces at home on hart 1.
+fn two_homes() -> Config {
+    let mut spaces = ArrayVec::new();
+    spaces.push(Space { home: 0, asid: 1 });
+    spaces.push(Space { home: 1, asid: 2 });
+    spaces.push(Space { home: 1, asid: 3 });
+    spaces.push(Space { home: 1, asid: 4 });
+    let mut config = layout(2);
+    config.spaces = spaces;
+    config
+}
+
+/// Hart 1 maps the page in a space of its own.
+fn map_whole(port: &mut HartPort, space: u8, page: Page, ppn: u64) -> bool {
+    for _ in 0..2 {
+        let _table = port.map_step(Place::Space(space), page, ppn, readable());
+    }
+    port.map_step(Place::Space(space), page, ppn, readable()) == Ok(Mapped::Leaf)
+}
+
+// Hart 0 finds in each space of hart 1 what hart 1 stored there, by loads of its own, and in none
+// what stands in another.
+#[test]
+fn reads_each_space_of_another_home(rt: HostRuntime) {
+    let opened = Board::open(rt.alloc(), &two_homes()).ok();
+    let (Some((_board, mut ports)), Some(page)) = (opened, page(0x1000)) else {
+        assert!(&rt; false);
+        return;
+    };
+    let (Some(mut one), Some(mut zero)) = (ports.pop(), ports.pop()) else {
+        assert!(&rt; false);
+        return;
+    };
+    for space in 1..4_u8 {
+        assert!(&rt; zero.switch(space) == Ok(()));
+        assert!(&rt; zero.translate(0x1004, Access::Load, USER) == invalid(13));
+        assert!(&rt; map_whole(&mut one, space, page, 0x100 * u64::from(space)));
+        assert!(&rt;
+            zero.translate(0x1004, Access::Load, USER) == Ok(0x10_0000 * u64::from(space) + 4)
+        );
+    }
+    assert!(&rt; one.unmap(Place::Space(2), page, 0b11) == Ok(0));
+    zero.fence(None, None);
+    assert!(&rt; zero.translate(0x1004, Access::Load, USER) == Ok(0x30_0004));
+    assert!(&rt; zero.switch(2) == Ok(()));
+    assert!(&rt; zero.translate(0x1004, Access::Load, USER) == invalid(13));
+    assert!(&rt; zero.switch(1) == Ok(()));
+    assert!(&rt; zero.translate(0x1004, Access::Load, USER) == Ok(0x10_0004));
+    assert!(&rt; zero.switch(0) == Ok(()));
+    assert!(&rt; zero.translate(0x1004, Access::Load, USER) == invalid(13));
 }
 
 // By turns hart 0 maps the page to 0x100 and to 0x101, and unmaps it. Whether it was answered as

@@ -1,5 +1,5 @@
 -- The rule of the table words at the opening, and with a seat that is dealt.
-use Rattle.std.proofs.Common.{◌≡◌, ◌≢◌, ◌⊎◌, ℕ, zero, suc, ◌*◌, ◌+◌, ◌<◌, ◌≤◌, List, [], ◌∷◌, ◌++◌, length, Some, None, sym, refl, ap, ◌∙◌, subst, ⊎_elim, inl, inr, arith}
+use Rattle.std.proofs.Common.{◌≡◌, ◌≢◌, ◌⊎◌, ℕ, zero, suc, ◌*◌, ◌+◌, ◌<◌, ◌≤◌, List, [], ◌∷◌, ◌++◌, length, Some, None, sym, refl, ap, ◌∙◌, subst, ⊎_elim, inl, inr, arith, length-set}
 use Rattle.std.specs.Prelude.{slice_set, replicate}
 use Rattle.std.proofs.lemmas.Bool.{cases_lt}
 use mathlib.Core.Option.{some, some-injective, some-ne-none}
@@ -22,7 +22,7 @@ use Rattle.spaces.proofs.WordLists.{list-front}
 use Rattle.views.specs.declared.view.View.{View}
 use Rattle.views.specs.Rule.{size, board_size, board_words, Sits, seated, waits, tables_in, starting, first_view, dealer, dealt, Local, Seated, Tabled}
 use Rattle.shoot.specs.declared.TheConstants.{MAX_TICKETS}
-use Rattle.views.proofs.Keeps.{below}
+use Rattle.views.proofs.OnBoard.{below}
 use Rattle.views.proofs.EditKeeps.{live-layout, live-limits}
 
 length-zeros : (n : ℕ) → length {A = ℕ} (replicate n 0) ≡ n
@@ -80,7 +80,8 @@ open-keeps c limits = record {
   limits = limits;
   wide = omega (arith, length-board_words (layout_of c));
   inside = λ f i g e. opening-inside (layout_of c) (live-layout c limits) f i g (ap pointed (sym (first-tables (layout_of c) f i)) ∙ e);
-  one = λ i j v w at-i at-j e. (lone (first_view c) v i at-i).0 ∙ sym (lone (first_view c) w j at-j).0;
+  numbered = λ j v at. let a = lone (first_view c) v j at in ap (λ (z : View). z.hart) (sym a.1) ∙ sym a.0;
+  dealt_all = λ j v at some'. ap (λ (z : View). z.next) (sym (lone (first_view c) v j at).1);
   every = sits-first (first_view c) refl refl;
   deals = λ i j v w at-i at-j some'.
       let a = lone (first_view c) v i at-i in
@@ -136,16 +137,20 @@ module _ (c : Config) (id : ℕ) (v : View) (some' : 0 < v.next) (room : v.next 
   apart : (j : ℕ) (u : View) → get_elem? s.views j ≡ some u → u.hart < v.next
   apart j u at' = (b.deals id j v u at at' some').0
 
-  one_more : (i j : ℕ) (u w : View) → Was i u → Was j w → u.hart ≡ w.hart → i ≡ j
-  one_more i j u w (mine e q) (mine e' q') h = e ∙ sym e'
-  one_more i j u w (mine e q) (other at' n) h = absurd (n (sym (b.one id j v w at at' (ap (λ (z : View). z.hart) q ∙ h))))
-  one_more i j u w (mine e q) (new q' e') h = let l = apart id v at in let x = ap (λ (z : View). z.hart) q in let y = ap (λ (z : View). z.hart) q' in absurd (omega arith)
-  one_more i j u w (other at' n) (mine e q) h = absurd (n (b.one i id u v at' at (h ∙ sym (ap (λ (z : View). z.hart) q))))
-  one_more i j u w (other at' n) (other at-j n') h = b.one i j u w at' at-j h
-  one_more i j u w (other at' n) (new q' e') h = let l = apart i u at' in let y = ap (λ (z : View). z.hart) q' in absurd (omega arith)
-  one_more i j u w (new q e) (mine e' q') h = let l = apart id v at in let x = ap (λ (z : View). z.hart) q' in let y = ap (λ (z : View). z.hart) q in absurd (omega arith)
-  one_more i j u w (new q e) (other at' n) h = let l = apart j w at' in let y = ap (λ (z : View). z.hart) q in absurd (omega arith)
-  one_more i j u w (new q e) (new q' e') h = e ∙ sym e'
+  numbered_more : (j : ℕ) (u : View) → Was j u → u.hart ≡ j
+  numbered_more j u (mine e q) = sym (ap (λ (z : View). z.hart) q) ∙ b.numbered id v at ∙ sym e
+  numbered_more j u (other at' n) = b.numbered j u at'
+  numbered_more j u (new q e) = sym (ap (λ (z : View). z.hart) q) ∙ b.dealt_all id v at some' ∙ sym (length-set s.views id (dealer v)) ∙ sym e
+
+  dealt_more : (j : ℕ) (u : View) → Was j u → 0 < u.next → u.next ≡ length more
+  dealt_more j u (mine e q) h =
+      let next = ap (λ (z : View). z.next) q in
+      let all = b.dealt_all id v at some' in
+      let long = length-append (slice_set s.views id (dealer v)) (dealt v ∷ []) in
+      let same = length-set s.views id (dealer v) in
+      omega (arith, next, all, long, same)
+  dealt_more j u (other at' n) h = absurd (n (sym ((b.deals id j v u at at' some').1 h)))
+  dealt_more j u (new q e) h = let y = ap (λ (z : View). z.next) q in absurd (omega arith)
 
   deals_more : (i j : ℕ) (u w : View) → Was i u → Was j w → 0 < u.next → (w.hart < u.next) × (0 < w.next → i ≡ j)
   deals_more i j u w (mine e q) (mine e' q') h = let l = apart id v at in let x = ap (λ (z : View). z.next) q in let y = ap (λ (z : View). z.hart) q' in (omega arith, λ _. e ∙ sym e')
@@ -183,7 +188,8 @@ module _ (c : Config) (id : ℕ) (v : View) (some' : 0 < v.next) (room : v.next 
     limits = b.limits;
     wide = b.wide;
     inside = b.inside;
-    one = λ i j u w at-i at-j. one_more i j u w (was i u at-i) (was j w at-j);
+    numbered = λ j u at-j. numbered_more j u (was j u at-j);
+    dealt_all = λ j u at-j. dealt_more j u (was j u at-j);
     every = λ h. sits-more h (b.every h);
     deals = λ i j u w at-i at-j. deals_more i j u w (was i u at-i) (was j w at-j);
     undealt = λ j u at-j. undealt_more j u (was j u at-j);

@@ -15,16 +15,17 @@ use Rattle.walk.specs.Pointers.{pointed}
 use Rattle.walk.specs.Stage.{Stage, OnPath, IsFor, start_of}
 use Rattle.walk.specs.Step.{flow_of, load_of}
 use Rattle.walk.proofs.Ending.{goes-load, more-points, on_path-start, outcome-same, same-access}
-use Rattle.spaces.specs.Layout.{Layout, user_slots}
+use Rattle.spaces.specs.Layout.{Layout, layout_of, user_slots}
 use Rattle.spaces.specs.Held.{holders_of, memory_words}
 use Rattle.spaces.specs.Tree.{IsAtHome, of_root, IsOwn, IsHome}
 use Rattle.spaces.proofs.Homes.{spare-home, spare-own}
 use Rattle.spaces.proofs.Trees.{pointed-zero}
 use Rattle.views.specs.declared.view.Read.{Read}
 use Rattle.views.specs.declared.view.View.{View}
-use Rattle.views.specs.Rule.{Has, Local, memory_of}
+use Rattle.views.specs.Rule.{Has, Local, memory_of, tables_in}
 use Rattle.views.specs.Turns.{asid_at, onward, read_of, walked, with_fill, IsStart, TellsFrame, TellsLoad}
-use Rattle.views.specs.Walks.{AnswersByLoads, IsHomePath, IsSameHome}
+use Rattle.views.specs.OnBoard.{HasReads}
+use Rattle.views.specs.Walks.{AnswersByLoads, IsHomePath, IsSameHome, Loads, first, further}
 use Rattle.views.proofs.EditKeeps.{local-home}
 use Rattle.views.proofs.Readings.{has-snoc, snoc-has}
 
@@ -41,7 +42,7 @@ pub record IsGoing (l : Layout) (v : View) (root va : ℕ) (access : Access) (ct
   pub canonical : IsCanonical l.scheme va
   pub on : (words : Tables) → Has words w.reads → OnPath l.scheme words root st × (words st.table (vpn_of st.va st.level) ≡ Some word)
   pub frame : TellsFrame l st word
-  pub some_memory : (words : Tables) × Has words w.reads
+  pub own_loads : Loads v root w
   pub at_home : (s : ℕ) → IsHomePath l v root va s → IsGoingHome l v w st word
   pub stands : w.walk ≡ onward (load_of st (Some word))
   pub at_root : w.root ≡ root
@@ -55,6 +56,11 @@ pub flow-more : (made : Progress) (next : Stage) → flow_of made ≡ Continue n
 flow-more (progress.More one) next on = let same : next ≡ one = cc in ap (λ (s : Stage). progress.More s) same
 flow-more (progress.Found found) next on = cc
 flow-more (progress.Trap trap) next on = cc
+
+-- after a load a state of the board has all that was read
+pub loads-read : (v : View) (root : ℕ) (w : View) → Loads v root w → HasReads w
+loads-read v root w (first st word w' is has) = has
+loads-read v root w (further u st word w' before walking is has) = has
 
 length-snoc : (rs : List Read) (r : Read) → length (rs ++ r ∷ []) ≡ length rs + 1
 length-snoc rs r = omega (arith, length-append rs (r ∷ []))
@@ -79,14 +85,14 @@ module _ (l : Layout) (v : View) (local : Local l v) (root va : ℕ) (access : A
         absurd (let bad : None ≡ Some g = sym pointed-zero ∙ ap pointed (sym zero-word ∙ read) ∙ points in cc)
   ]
 
-  begun-at : (word : ℕ) → IsCanonical l.scheme va → TellsLoad l v (start_of l.scheme root va access ctx) [] word
+  begun-at : (word : ℕ) → IsCanonical l.scheme va → TellsLoad l v root (start_of l.scheme root va access ctx) [] word
       → IsGoing l v root va access ctx (start_of l.scheme root va access ctx) word (walked v root (start_of l.scheme root va access ctx) [] word)
   begun-at word canonical tells = record {
     about = record { same_va = refl; same_access = refl; same_ctx = refl };
     canonical = canonical;
     on = λ words has. (on_path-start l.scheme words root va access ctx canonical, has.0);
     frame = tells.frame;
-    some_memory = tells.some_memory;
+    own_loads = first (start_of l.scheme root va access ctx) word (walked v root (start_of l.scheme root va access ctx) [] word) refl tells.has_reads;
     at_home = λ s own.
         let home : IsAtHome l v.hart root = of_root s own.has own.home own.root_is in
         let read = tells.at_home home in
@@ -99,11 +105,11 @@ module _ (l : Layout) (v : View) (local : Local l v) (root va : ℕ) (access : A
     home = record { config = refl; next = refl; hart = refl; words = refl; holders = refl; used = refl; stores = refl; orders = refl; cell_steps = refl };
   }
 
-  pub begun : (st : Stage) (word : ℕ) (w : View) → IsCanonical l.scheme va → st ≡ start_of l.scheme root va access ctx → w ≡ walked v root st [] word → TellsLoad l v st [] word
+  pub begun : (st : Stage) (word : ℕ) (w : View) → IsCanonical l.scheme va → st ≡ start_of l.scheme root va access ctx → w ≡ walked v root st [] word → TellsLoad l v root st [] word
       → IsGoing l v root va access ctx st word w
   begun st word w canonical is after tells =
       let after' : w ≡ walked v root (start_of l.scheme root va access ctx) [] word = after ∙ ap (λ s. walked v root s [] word) is in
-      let tells' : TellsLoad l v (start_of l.scheme root va access ctx) [] word = subst (λ s. TellsLoad l v s [] word) is tells in
+      let tells' : TellsLoad l v root (start_of l.scheme root va access ctx) [] word = subst (λ s. TellsLoad l v root s [] word) is tells in
       subst (λ s. IsGoing l v root va access ctx s word w) (sym is)
       (subst (IsGoing l v root va access ctx (start_of l.scheme root va access ctx) word) (sym after') (begun-at word canonical tells'))
 
@@ -114,7 +120,7 @@ module _ (l : Layout) (v : View) (local : Local l v) (root va : ℕ) (access : A
         goes-load l.scheme words root st (Some word) st.table (vpn_of st.va st.level) made on.0 (sym on.1) refl refl is
 
     pub lower : (next : Stage) → progress.More next ≡ load_of st (Some word) → next.level < st.level
-    lower next is = let g = goes going.some_memory.0 going.some_memory.1 (progress.More next) is in omega (arith, g.1)
+    lower next is = let m = loads-read v root w going.own_loads in let g = goes (tables_in (layout_of w.config) m.on.state.words) m.has (progress.More next) is in omega (arith, g.1)
 
     pub walks-on : (next : Stage) → progress.More next ≡ load_of st (Some word) → w.walk ≡ Some next
     walks-on next is = going.stands ∙ ap onward (sym is)
@@ -123,7 +129,7 @@ module _ (l : Layout) (v : View) (local : Local l v) (root va : ℕ) (access : A
     memory-is : memory_of l w ≡ memory_of l v
     memory-is = ap (λ ws. record { layout = l; words = ws; holders = w.holders }) going.home.words ∙ ap (λ hs. record { layout = l; words = v.words; holders = hs }) going.home.holders
 
-    home-on : (next : Stage) (found : ℕ) → progress.More next ≡ load_of st (Some word) → TellsLoad l w next w.reads found → IsGoingHome l v w st word
+    home-on : (next : Stage) (found : ℕ) → progress.More next ≡ load_of st (Some word) → TellsLoad l w root next w.reads found → IsGoingHome l v w st word
         → IsGoingHome l v (walked w root next w.reads found) next found
     home-on next found is tells old =
         let here = going.on (memory_words (memory_of l v)) old.has in
@@ -137,9 +143,10 @@ module _ (l : Layout) (v : View) (local : Local l v) (root va : ℕ) (access : A
           own = λ g e. subst (λ f. IsOwn l f (vpn_of next.va next.level)) (sym step.to.is) (spare-own l v.hart step.to.number _);
         }
 
-    gone-to : (next : Stage) (found : ℕ) → progress.More next ≡ load_of st (Some word) → TellsLoad l w next w.reads found → IsGoing l v root va access ctx next found (walked w root next w.reads found)
+    gone-to : (next : Stage) (found : ℕ) → progress.More next ≡ load_of st (Some word) → TellsLoad l w root next w.reads found → IsGoing l v root va access ctx next found (walked w root next w.reads found)
     gone-to next found is tells =
-        let some = goes going.some_memory.0 going.some_memory.1 (progress.More next) is in
+        let m = loads-read v root w going.own_loads in
+        let some = goes (tables_in (layout_of w.config) m.on.state.words) m.has (progress.More next) is in
         record {
           about = same-access next st va access ctx some.2 going.about;
           canonical = going.canonical;
@@ -148,7 +155,7 @@ module _ (l : Layout) (v : View) (local : Local l v) (root va : ℕ) (access : A
               let g = goes words parts.0 (progress.More next) is in
               (g.0, parts.1);
           frame = tells.frame;
-          some_memory = tells.some_memory;
+          own_loads = further w next found (walked w root next w.reads found) going.own_loads (walks-on next is) refl tells.has_reads;
           at_home = λ s own. home-on next found is tells (going.at_home s own);
           stands = refl;
           at_root = refl;
@@ -170,13 +177,13 @@ module _ (l : Layout) (v : View) (local : Local l v) (root va : ℕ) (access : A
           };
         }
 
-    pub gone : (next : Stage) (found : ℕ) (w' : View) → progress.More next ≡ load_of st (Some word) → w' ≡ walked w root next w.reads found → TellsLoad l w next w.reads found
+    pub gone : (next : Stage) (found : ℕ) (w' : View) → progress.More next ≡ load_of st (Some word) → w' ≡ walked w root next w.reads found → TellsLoad l w root next w.reads found
         → IsGoing l v root va access ctx next found w'
     gone next found w' is after tells = subst (IsGoing l v root va access ctx next found) (sym after) (gone-to next found is tells)
 
     pub found-at : (found : Found) → progress.Found found ≡ load_of st (Some word) → AnswersByLoads l v root va access ctx (Ok found) w
     found-at found is = record {
-      some_memory = going.some_memory;
+      own_loads = going.own_loads;
       each_memory = λ words has. outcome-same l.scheme words root st va access ctx (Ok found) going.about (goes words has (progress.Found found) is);
       read_back = λ s own.
           let old = going.at_home s own in
@@ -189,7 +196,7 @@ module _ (l : Layout) (v : View) (local : Local l v) (root va : ℕ) (access : A
 
     pub trap-at : (trap : Trap) → progress.Trap trap ≡ load_of st (Some word) → AnswersByLoads l v root va access ctx (Err trap) w
     trap-at trap is = record {
-      some_memory = going.some_memory;
+      own_loads = going.own_loads;
       each_memory = λ words has. outcome-same l.scheme words root st va access ctx (Err trap) going.about (goes words has (progress.Trap trap) is);
       read_back = λ s own.
           let old = going.at_home s own in

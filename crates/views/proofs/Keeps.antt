@@ -24,6 +24,7 @@ use Rattle.views.specs.declared.view.Read.{Read}
 use Rattle.views.specs.declared.view.View.{View}
 use Rattle.views.specs.Rule.{tables_in, IsWalk, Sits, seated, waits, Seated, Tabled}
 use Rattle.views.proofs.Readings.{has-stays}
+use Rattle.views.proofs.OnBoard.{below, one-seat}
 use Rattle.views.proofs.TableWords.{wide-words, word-here, word-there, agree}
 
 -- a word of a frame at home that is no pointer becomes another word, which leads to a frame if it
@@ -34,11 +35,6 @@ pub record IsStore (l : Layout) (words : Tables) (hart f i x : ℕ) : Type 0 whe
   pub was : pointed (words f i) ≡ None
   pub leads : (g : ℕ) → pointed (Some x) ≡ Some g → is_frame l g ≡ true
 
-pub below : {A : Type 0} (l : List A) (i : ℕ) (a : A) → get_elem? l i ≡ some a → i < length l
-below [] i a e = absurd (some-ne-none a (sym e))
-below (x ∷ xs) zero a e = omega arith
-below (x ∷ xs) (suc i) a e = let h = below xs i a e in omega arith
-
 module _ (c : Config) (s : State ℕ View) (b : Tabled c s) (id : ℕ) (v w : View) (at : get_elem? s.views id ≡ some v) (hart : w.hart ≡ v.hart) (next : w.next ≡ v.next) where
   before : (j : ℕ) (u : View) → get_elem? (slice_set s.views id w) j ≡ some u → (o : View) × (get_elem? s.views j ≡ some o) × (o.hart ≡ u.hart) × (o.next ≡ u.next)
   before j u here =
@@ -46,11 +42,13 @@ module _ (c : Config) (s : State ℕ View) (b : Tabled c s) (id : ℕ) (v w : Vi
       (λ (t : (j ≢ id) × (get_elem? s.views j ≡ some u)). (u, t.1, refl, refl))
       (at_set s.views id j w u here)
 
-  one-seat : (m n : ℕ) (p q : View) → get_elem? (slice_set s.views id w) m ≡ some p → get_elem? (slice_set s.views id w) n ≡ some q → p.hart ≡ q.hart → m ≡ n
-  one-seat m n p q at-m at-n e =
-      let old-m = before m p at-m in
-      let old-n = before n q at-n in
-      b.one m n old-m.0 old-n.0 old-m.1 old-n.1 (old-m.2 ∙ (e ∙ sym old-n.2))
+  numbered-on : (j : ℕ) (u : View) → get_elem? (slice_set s.views id w) j ≡ some u → u.hart ≡ j
+  numbered-on j u here = let old = before j u here in sym old.2 ∙ b.numbered j old.0 old.1
+
+  dealt-on : (j : ℕ) (u : View) → get_elem? (slice_set s.views id w) j ≡ some u → 0 < u.next → u.next ≡ length (slice_set s.views id w)
+  dealt-on j u here some' =
+      let old = before j u here in
+      sym old.3 ∙ b.dealt_all j old.0 old.1 (omega (arith, old.3)) ∙ sym (length-set s.views id w)
 
   deals-on : (i j : ℕ) (p q : View) → get_elem? (slice_set s.views id w) i ≡ some p → get_elem? (slice_set s.views id w) j ≡ some q → 0 < p.next → (q.hart < p.next) × (0 < q.next → i ≡ j)
   deals-on i j p q at-i at-j some' =
@@ -76,7 +74,8 @@ module _ (c : Config) (s : State ℕ View) (b : Tabled c s) (id : ℕ) (v w : Vi
     limits = b.limits;
     wide = b.wide;
     inside = b.inside;
-    one = one-seat;
+    numbered = numbered-on;
+    dealt_all = dealt-on;
     every = λ h. sits-on h (b.every h);
     deals = deals-on;
     undealt = λ j u here some' h f k from home. let old = before j u here in b.undealt j old.0 old.1 (omega (arith, old.3)) h f k (omega (arith, old.3)) home;
@@ -111,7 +110,7 @@ module _ (c : Config) (s : State ℕ View) (b : Tabled c s) (id : ℕ) (v w : Vi
           local = t.local;
           own = λ g k home.
               word-there (layout_of c) s.words (wide-words (layout_of c) s.words b.wide) f i store.word x g k
-              (λ same. n (b.one j id u v at' at (home-unique (layout_of c) u.hart v.hart g home (subst (IsAtHome (layout_of c) v.hart) (sym same.0) store.home))))
+              (λ same. n (one-seat c s b j id u v at' at (home-unique (layout_of c) u.hart v.hart g home (subst (IsAtHome (layout_of c) v.hart) (sym same.0) store.home))))
               ∙ t.own g k home;
           walk = walk-stays u.walk u.root u.reads t.walk;
         }
@@ -131,7 +130,8 @@ module _ (c : Config) (s : State ℕ View) (b : Tabled c s) (id : ℕ) (v w : Vi
       limits = b.limits;
       wide = omega (arith, b.wide, length-set s.words (word_index (layout_of c) f i) x);
       inside = pointers-inside;
-      one = one-seat;
+      numbered = numbered-on;
+      dealt_all = dealt-on;
       every = λ h. sits-on h (b.every h);
       deals = deals-on;
       undealt = λ j u here some' h g k from home.

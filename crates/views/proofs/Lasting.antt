@@ -30,7 +30,8 @@ use Rattle.spaces.specs.Layout.{layout_of}
 use Rattle.views.specs.Rule.{cell}
 use Rattle.shoot.proofs.AcknowledgementWords.{not_zero}
 use Rattle.views.specs.OrderTurns.{armed, last_word, looked, collected, for_ticket, fresh, marked, order_of_ticket, noted}
-use Rattle.views.specs.Lasting.{AreKept, CellsAreApart, CellsMeet, EditsKeepOrders, EditsMarkNothing, Follows, IsFor, KernelIsInEverySpace, MarkedByALeafOver, StepsKeepOrders, StepsMarkNothing, TranslatesNoneHoldsNone, UnmappingBeginsLive, WalkAnswersAsComputed, WrongAddressChangesNothing, last_cell, unmarked}
+use Rattle.views.specs.Lasting.{AreKept, CellsAreApart, CellsMeet, EachSpaceAtHomeIsReadBack, EditsKeepOrders, EditsMarkNothing, Follows, IsFor, KernelIsInEverySpace, MarkedByALeafOver, StepsKeepOrders, StepsMarkNothing, TranslatesNoneHoldsNone, UnmappingBeginsLive, WalkAnswersAsComputed, WrongAddressChangesNothing, last_cell, unmarked}
+use Rattle.views.proofs.Goings.{loads-read}
 use Rattle.views.proofs.CellKeeps.{cell-inside}
 use Rattle.views.proofs.OrderKeeps.{receiver}
 
@@ -256,8 +257,11 @@ cells_meet sender receiver ticket word what is_found same =
 
 pub walk_answers_as_computed : WalkAnswersAsComputed
 walk_answers_as_computed l v w root va access ctx answer canonical a =
-    (a.some_memory, (λ words has. (level_count_loads l.scheme words root va access ctx answer canonical).0 (a.each_memory words has)), omega (arith, a.count, a.few), a.home.orders, a.home.words, a.home.holders)
+    (loads-read v root w a.own_loads, (λ words has. (level_count_loads l.scheme words root va access ctx answer canonical).0 (a.each_memory words has)), omega (arith, a.count, a.few), a.home.orders, a.home.words, a.home.holders, a.home.stores, a.home.next, a.home.cell_steps)
 
 pub wrong_address_changes_nothing : WrongAddressChangesNothing
 wrong_address_changes_nothing l v w root va access ctx answer wrong (inl as-it-was) = (as-it-was.1, as-it-was.2)
 wrong_address_changes_nothing l v w root va access ctx answer wrong (inr by-loads) = absurd (wrong by-loads.0)
+
+pub each_space_at_home_is_read_back : EachSpaceAtHomeIsReadBack
+each_space_at_home_is_read_back l v w s va access ctx answer has home outside by-loads = by-loads.read_back s (record { has = has; home = home; root_is = refl; outside = outside })

@@ -1,3 +1,5 @@
+pub mod OnBoard
+pub mod Within
 pub mod TableWords
 pub mod Readings
 pub mod Keeps

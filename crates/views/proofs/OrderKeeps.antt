@@ -21,6 +21,7 @@ use Rattle.shoot.proofs.AcknowledgementWords.{not_zero, same_what}
 use Rattle.views.specs.declared.view.Order.{Order}
 use Rattle.views.specs.declared.view.View.{View}
 use Rattle.views.specs.Rule.{cell, memory_of, Tabled}
+use Rattle.views.proofs.OnBoard.{one-seat}
 use Rattle.shoot.specs.declared.TheConstants.{MAX_TICKETS}
 use Rattle.views.specs.Orders.{IsAsidFor, asid_for, dropping, IsLive, Misses, IsClean, Kept, IsGlobalInWindow, Ordered}
 
@@ -58,7 +59,7 @@ module _ (c : Config) (s : State ℕ View) (b : Tabled c s) (o : Ordered c s) (i
   pub clean-mine : (page : Span) (space : Option ℕ) → Misses page space w.entries → IsClean views' v.hart page space
   clean-mine page space m j u here is =
       ⊎_elim (λ (t : (j ≡ id) × (w ≡ u)). subst (λ (z : View). Misses page space z.entries) t.1 m)
-      (λ (t : (j ≢ id) × (get_elem? s.views j ≡ some u)). absurd (t.0 (b.one j id u v t.1 at is)))
+      (λ (t : (j ≢ id) × (get_elem? s.views j ≡ some u)). absurd (t.0 (one-seat c s b j id u v t.1 at is)))
       (at_set s.views id j w u here)
 
   module _ (j : ℕ) (u : View) (at-u : get_elem? s.views j ≡ some u) (n : ℕ) (k : Order) (at-k : get_elem? u.orders n ≡ some k) (place : Place) (page : Span) (live : IsLive k place page) where

@@ -24,7 +24,9 @@ use Rattle.spaces.proofs.OpeningTree.{word-is}
 use Rattle.spaces.proofs.Paths.{vpn-below}
 use Rattle.views.specs.declared.view.Read.{Read}
 use Rattle.views.specs.declared.view.View.{View}
-use Rattle.views.specs.Rule.{memory_of, tables_in, IsWalk, Seated, Tabled}
+use Rattle.views.specs.Rule.{Has, memory_of, tables_in, IsWalk, Seated, Tabled}
+use Rattle.views.specs.Board.{Board}
+use Rattle.views.proofs.OnBoard.{on-board}
 use Rattle.views.specs.Turns.{onward, read_of, walked, IsStart, TellsLoad}
 use Rattle.views.proofs.Readings.{has-snoc, pointers-snoc}
 use Rattle.views.proofs.TableWords.{wide-words, word-read}
@@ -37,7 +39,7 @@ frame-word l st frame = let less = vpn-below st.va st.level in rw frame (grind (
 abbrev pub Loaded : Config → State ℕ View → ℕ → ℕ → View → Type 0
 Loaded c s id at w = Tabled c record { words = slice_set s.words at (slice_index s.words at); homes = s.homes; views = slice_set s.views id w }
 
-loaded : (c : Config) (s : State ℕ View) (id at : ℕ) (w : View) → Tabled c record { words = s.words; homes = s.homes; views = slice_set s.views id w } → Loaded c s id at w
+pub loaded : (c : Config) (s : State ℕ View) (id at : ℕ) (w : View) → Tabled c record { words = s.words; homes = s.homes; views = slice_set s.views id w } → Loaded c s id at w
 loaded c s id at w b = subst (λ (ws : List ℕ). Tabled c record { words = ws; homes = s.homes; views = slice_set s.views id w }) (sym (set-get_or s.words at 0)) b
 
 module _ (c : Config) (s : State ℕ View) (b : Tabled c s) (id : ℕ) (v : View) (at : get_elem? s.views id ≡ some v) where
@@ -89,10 +91,16 @@ module _ (c : Config) (s : State ℕ View) (b : Tabled c s) (id : ℕ) (v : View
         } in
         loaded c s id place (walked v root st reads word) (keeps-load c s b id v (walked v root st reads word) at refl refl mine)
 
-    pub walk-tells : TellsLoad (layout_of c) v st reads word
-    walk-tells = let t = b.each id v at in record {
+    pub walk-tells : Board c record { words = slice_set s.words place word; homes = s.homes; views = slice_set s.views id (walked v root st reads word) } → TellsLoad (layout_of c) v root st reads word
+    walk-tells after = let t = b.each id v at in record {
       frame = λ next e. b.inside st.table (vpn_of st.va st.level) next.table (ap pointed read ∙ more-points st word next e);
-      some_memory = (tables_in (layout_of c) s.words, has-snoc (tables_in (layout_of c) s.words) reads (read_of st word) walk.has read);
+      has_reads = record {
+        on = on-board c (slice_set s.words place word) s.homes s.views id v (walked v root st reads word) at after;
+        has =
+            subst (λ k. Has (tables_in (layout_of k) (slice_set s.words place word)) (reads ++ read_of st word ∷ [])) (sym t.config)
+            (subst (λ (ws : List ℕ). Has (tables_in (layout_of c) ws) (reads ++ read_of st word ∷ [])) (sym (set-get_or s.words place 0))
+            (has-snoc (tables_in (layout_of c) s.words) reads (read_of st word) walk.has read));
+      };
       at_home = λ home. sym (t.own st.table (vpn_of st.va st.level) home) ∙ read;
     }
 

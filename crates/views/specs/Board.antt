@@ -1,5 +1,5 @@
 -- The board's rule, between any two atomic steps, and what one step owes.
-use Rattle.std.specs.Prelude.{◌≡◌, ◌⊎◌, ◌↔◌, ℕ, ◌^◌, ◌*◌, ◌%◌, ◌<◌, ◌≤◌, Bool, IsTrue, Some, None, List, slice_index, slice_set, length, true}
+use Rattle.std.specs.Prelude.{◌≡◌, ◌⊎◌, ◌↔◌, ℕ, ◌^◌, ◌*◌, ◌%◌, ◌<◌, ◌≤◌, Bool, IsTrue, Ok, Some, None, List, slice_index, slice_set, length, true}
 use mathlib.Core.Option.{some}
 use lib.ListN.{get_elem?}
 use Rattle.atomic_table.specs.Table.{State}
@@ -14,7 +14,11 @@ use Rattle.walk.specs.Maps.{Maps}
 use Rattle.spaces.specs.declared.configuration.Config.{Config}
 use Rattle.spaces.specs.declared.places.Place.{Place}
 use Rattle.spaces.specs.Effects.{HangsBelow}
-use Rattle.spaces.specs.Layout.{Layout, first_window_slot, layout_of, root_ppn}
+use Rattle.spaces.specs.Layout.{HasPlace, Layout, first_window_slot, layout_of, root_ppn}
+use Rattle.spaces.specs.declared.wishes.Wish.{Wish}
+use Rattle.spaces.specs.Edits.{Store, place_of}
+use Rattle.walk.specs.Pointers.{pointed}
+use Rattle.views.specs.Edits.{edit_over}
 use Rattle.spaces.specs.Opening.{opening}
 use Rattle.spaces.specs.Held.{memory_words}
 use Rattle.tlb.specs.declared.store.Entry.{Entry}
@@ -129,3 +133,18 @@ IsAsSaid c s hart f i =
     × (tables_in (layout_of c) s.words f i ≡ memory_words (memory_of (layout_of c) v) f i))
     ⊎ (((j : ℕ) (v : View) → get_elem? s.views j ≡ some v → ¬ (v.hart ≡ hart))
     × (tables_in (layout_of c) s.words f i ≡ opening (layout_of c) f i))
+
+-- the store of an edit that is due at home overwrites no pointer, so a walk in flight stays where the
+-- tables lead
+abbrev pub StoresOverwriteNoPointer : Type 0
+StoresOverwriteNoPointer =
+    (c : Config) (s : State ℕ View) → Board c s → (i : ℕ) (v : View) → get_elem? s.views i ≡ some v
+    → (wish : Wish) (store : Store) → HasPlace (layout_of c) (place_of wish)
+    → edit_over (layout_of c) v wish ≡ Ok store
+    → pointed (tables_in (layout_of c) s.words store.ppn store.index) ≡ None
+
+-- the seat of a hart has the hart's number, so no two harts have one seat, and none has two
+abbrev pub SeatsAreNumbered : Type 0
+SeatsAreNumbered =
+    (c : Config) (s : State ℕ View) → Board c s → (i : ℕ) (v : View) → get_elem? s.views i ≡ some v
+    → v.hart ≡ i

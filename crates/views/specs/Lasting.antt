@@ -1,11 +1,11 @@
 -- How long an order lasts: what each step leaves of it, and what marks it anew.
-use Rattle.std.specs.Prelude.{◌≡◌, ◌≢◌, ◌+◌, Result, ◌<◌, ◌≤◌, ◌⊎◌, ◌↔◌, Contains, ℕ, Bool, true, false, is_some, List, [], ◌∷◌, map, length, Option, Some, None, Err}
+use Rattle.std.specs.Prelude.{◌≡◌, ◌≢◌, ◌+◌, Result, ◌<◌, ◌≤◌, ◌⊎◌, ◌↔◌, Contains, ℕ, Bool, true, false, is_some, List, [], ◌∷◌, map, length, slice_index, Option, Some, None, Err}
 use mathlib.Core.Option.{some}
 use lib.ListN.{get_elem?}
 use Rattle.pte.specs.declared.flags.PteFlags.{PteFlags}
 use Rattle.pte.specs.declared.address.What.{What}
 use Rattle.pte.specs.declared.address.What.TheVariants.{PageOf}
-use Rattle.pte.specs.Address.{IsCanonical, IsPage, Overlap, Span, level_count}
+use Rattle.pte.specs.Address.{IsCanonical, IsPage, Overlap, Span, level_count, top_level, vpn_of}
 use Rattle.walk.specs.Pointers.{pointed}
 use Rattle.pte.specs.declared.permission.Access.{Access}
 use Rattle.pte.specs.declared.permission.Ctx.{Ctx}
@@ -22,7 +22,9 @@ use Rattle.spaces.specs.declared.places.Place.TheVariants.{Space, Kernel}
 use Rattle.spaces.specs.declared.wishes.Wish.{Wish}
 use Rattle.spaces.specs.declared.wishes.Wish.TheVariants.{Map, Unmap, Protect}
 use Rattle.spaces.specs.Edits.{Store}
-use Rattle.spaces.specs.Layout.{Layout}
+use Rattle.spaces.specs.Layout.{Layout, first_window_slot, root_ppn}
+use Rattle.spaces.specs.Held.{memory_words}
+use Rattle.walk.specs.Outcome.{Outcome}
 use Rattle.tlb.specs.declared.store.Entry.{Entry}
 use Rattle.views.specs.declared.view.Cause.{Cause}
 use Rattle.views.specs.declared.view.Cause.TheVariants.{Unmapped, Other}
@@ -32,11 +34,12 @@ use Rattle.views.specs.declared.view.CellStep.TheVariants.{Found, Stored}
 use Rattle.views.specs.declared.view.Order.{Order}
 use Rattle.views.specs.declared.view.Read.{Read}
 use Rattle.views.specs.declared.view.View.{View}
-use Rattle.views.specs.Rule.{Has, cell, size, board_size}
+use Rattle.views.specs.Rule.{Has, cell, memory_of, size, board_size}
 use Rattle.shoot.specs.declared.TheConstants.{MAX_TICKETS}
 use Rattle.views.specs.Orders.{IsAsidFor, IsLive, asid_for, asid_of_space, is_in}
 use Rattle.views.specs.OrderTurns.{acknowledged, last_word, looked, noted, order_of_ticket, ordered, self_acked, with_armed}
 use Rattle.views.specs.Turns.{walked}
+use Rattle.views.specs.OnBoard.{HasReads}
 use Rattle.views.specs.Walks.{AnswersByLoads, Walked}
 use Rattle.views.specs.Board.{TranslatesNone}
 
@@ -195,22 +198,33 @@ WrongAddressChangesNothing =
     → Walked l v root va access ctx answer w
     → (answer ≡ Err (page_trap access NotCanonical)) × (w ≡ v)
 
--- In each memory that has the words that a walk's loads found, and there is one, the walk's answer
--- is the one that is computed by one load a level. It took at most as many loads as there are
--- levels, and left the orders, the words and the holders.
+-- In each memory that has the words that a walk's loads found, and some state of the board with the
+-- hart's view has them, the walk's answer is the one that is computed by one load a level. It took
+-- at most as many loads as there are levels, and left the orders, the words and the holders, the
+-- count of stores, the next hart to be dealt a seat, and the steps on cells.
 abbrev pub WalkAnswersAsComputed : Type 0
 WalkAnswersAsComputed =
     (l : Layout) (v w : View) (root va : ℕ) (access : Access) (ctx : Ctx)
     (answer : Result FoundOf Trap) → IsCanonical l.scheme va
     → AnswersByLoads l v root va access ctx answer w
-    → ((words : Tables) × Has words w.reads)
+    → HasReads w
     × ((words : Tables) → Has words w.reads
     → answer ≡ answer_after (level_count l.scheme) words (start_of l.scheme root va access ctx))
     × (w.loads ≤ v.loads + level_count l.scheme) × (w.orders ≡ v.orders) × (w.words ≡ v.words)
-    × (w.holders ≡ v.holders)
+    × (w.holders ≡ v.holders) × (w.stores ≡ v.stores) × (w.next ≡ v.next)
+    × (w.cell_steps ≡ v.cell_steps)
 
 -- the store of an edit is counted
 abbrev pub EachEditIsOneStore : Type 0
 EachEditIsOneStore =
     (c : Config) (wish : Wish) (ticket : ℕ) (v : View) (store : Store)
     → (noted c wish ticket v store).stores ≡ v.stores + 1
+
+-- a walk from the root of any space at home, outside the window, reads back what the home stored
+abbrev pub EachSpaceAtHomeIsReadBack : Type 0
+EachSpaceAtHomeIsReadBack =
+    (l : Layout) (v w : View) (s va : ℕ) (access : Access) (ctx : Ctx) (answer : Result FoundOf Trap)
+    → s < length l.homes → slice_index l.homes s ≡ v.hart
+    → vpn_of va (top_level l.scheme) < first_window_slot l
+    → AnswersByLoads l v (root_ppn l s) va access ctx answer w
+    → Outcome l.scheme (memory_words (memory_of l v)) (root_ppn l s) va access ctx answer

@@ -2,6 +2,7 @@ pub mod Rule
 pub mod Orders
 pub mod OrderTurns
 pub mod Board
+pub mod OnBoard
 pub mod Turns
 pub mod Walks
 pub mod Edits

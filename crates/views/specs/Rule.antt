@@ -3,8 +3,6 @@ use Rattle.std.specs.Prelude.{◌≡◌, ◌≢◌, ℕ, ◌+◌, ◌*◌, ◌<�
 use mathlib.Core.Option.{some}
 use lib.ListN.{get_elem?}
 use Rattle.atomic_table.specs.Table.{State}
-use Rattle.atomic_table.specs.Seated.{TableId}
-use Rattle.atomic_table.specs.declared.shared.Seat.{Seat}
 use Rattle.pte.specs.declared.scheme.Scheme.{Scheme}
 use Rattle.pte.specs.declared.address.TheConstants.{TABLE_LENGTH}
 use Rattle.walk.specs.Leads.{Tables}
@@ -107,14 +105,15 @@ pub record Tabled (c : Config) (s : State ℕ View) : Type 0 where
   -- a pointer leads to a frame
   pub inside : (f i g : ℕ) → pointed (tables_in (layout_of c) s.words f i) ≡ Some g
       → is_frame (layout_of c) g ≡ true
-  -- each hart has one seat
-  pub one : (i j : ℕ) (v w : View) → get_elem? s.views i ≡ some v → get_elem? s.views j ≡ some w
-      → v.hart ≡ w.hart → i ≡ j
+  -- the seat of a hart has the hart's number, so each hart has one
+  pub numbered : (j : ℕ) (v : View) → get_elem? s.views j ≡ some v → v.hart ≡ j
   pub every : (hart : ℕ) → Sits s.views hart
   -- one seat deals the others: its next hart, and those after it, have none yet, and their words
   -- are as at the opening
   pub deals : (i j : ℕ) (v w : View) → get_elem? s.views i ≡ some v → get_elem? s.views j ≡ some w
       → 0 < v.next → (w.hart < v.next) × (0 < w.next → i ≡ j)
+  pub dealt_all : (j : ℕ) (v : View) → get_elem? s.views j ≡ some v → 0 < v.next
+      → v.next ≡ length s.views
   pub undealt : (j : ℕ) (v : View) → get_elem? s.views j ≡ some v → 0 < v.next → (hart f i : ℕ)
       → v.next ≤ hart → IsAtHome (layout_of c) hart f
       → tables_in (layout_of c) s.words f i ≡ opening (layout_of c) f i
@@ -155,13 +154,3 @@ dealer v = record v { next = v.next + 1 }
 
 abbrev pub dealt : View → View
 dealt v = starting v.config v.next 0
-
--- the seat is one of the words of a configuration
-pub record IsFit (z : TableId) (key c : Config) (seat : Seat ℕ View) : Type 0 where
-  pub limits : MeetsLimits MAX_LIVE_FRAMES c
-  pub key_is : key ≡ c
-  pub words_are : board_size (layout_of c) ≤ z.words
-  pub same : seat.table_id ≡ z
-  pub bare : seat.me.1 ≡ []
-  pub config : seat.me.0.config ≡ c
-  pub local : Local (layout_of c) seat.me.0

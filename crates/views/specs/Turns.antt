@@ -4,7 +4,6 @@ use Rattle.pte.specs.declared.scheme.Scheme.{Scheme}
 use Rattle.pte.specs.Address.{IsCanonical, vpn_of}
 use Rattle.walk.specs.declared.walking.Progress.{Progress}
 use Rattle.walk.specs.declared.walking.Progress.TheVariants as progress
-use Rattle.walk.specs.Leads.{Tables}
 use Rattle.walk.specs.Pointers.{pointed}
 use Rattle.walk.specs.Stage.{Stage, start_of}
 use Rattle.walk.specs.Step.{load_of}
@@ -19,7 +18,8 @@ use Rattle.tlb.specs.Answer.{entry_of}
 use Rattle.views.specs.declared.view.Order.{Order}
 use Rattle.views.specs.declared.view.Read.{Read}
 use Rattle.views.specs.declared.view.View.{View}
-use Rattle.views.specs.Rule.{Has, memory_of}
+use Rattle.views.specs.Rule.{memory_of}
+use Rattle.views.specs.OnBoard.{HasReads}
 
 -- where a walk stands after a load, if it goes on
 abbrev pub onward : Progress → Option Stage
@@ -50,15 +50,16 @@ walked v root st reads word = record v {
   entries = with_fill (asid_at v.config root) v.entries (load_of st (Some word));
 }
 
--- what a load of a walk tells: the next table is a frame; some memory, that of this moment, has all
--- that the walk read; and a word at home is as the view says
+-- what a load of a walk tells: the next table is a frame; the tables of this moment have all that the
+-- walk read; and a word at home is as the view says
 abbrev pub TellsFrame : Layout → Stage → ℕ → Type 0
 TellsFrame l st n =
     (next : Stage) → load_of st (Some n) ≡ progress.More next → is_frame l next.table ≡ true
 
-pub record TellsLoad (l : Layout) (v : View) (st : Stage) (reads : List Read) (n : ℕ) : Type 0 where
+pub record TellsLoad (l : Layout) (v : View) (root : ℕ) (st : Stage) (reads : List Read)
+    (n : ℕ) : Type 0 where
   pub frame : TellsFrame l st n
-  pub some_memory : (words : Tables) × Has words (reads ++ read_of st n ∷ [])
+  pub has_reads : HasReads (walked v root st reads n)
   pub at_home : IsAtHome l v.hart st.table
       → memory_words (memory_of l v) st.table (vpn_of st.va st.level) ≡ Some n
 

@@ -1,5 +1,5 @@
 -- What a whole walk answers, by the words that its own loads found.
-use Rattle.std.specs.Prelude.{ℕ, ◌≡◌, ◌+◌, ◌⊎◌, ◌<◌, ◌≤◌, List, [], ◌∷◌, ◌++◌, length, slice_index, Result, Ok, Err}
+use Rattle.std.specs.Prelude.{ℕ, ◌≡◌, ◌+◌, ◌⊎◌, ◌<◌, ◌≤◌, List, [], ◌∷◌, ◌++◌, length, slice_index, Some, Result, Ok, Err}
 use Rattle.pte.specs.declared.permission.Access.{Access}
 use Rattle.pte.specs.declared.permission.Ctx.{Ctx}
 use Rattle.pte.specs.Address.{IsCanonical, level_count, top_level, vpn_of}
@@ -8,6 +8,7 @@ use Rattle.walk.specs.declared.found_or_trap.Trap.{Trap}
 use Rattle.walk.specs.declared.found_or_trap.Why.TheVariants.{NotCanonical}
 use Rattle.walk.specs.Answer.{page_trap}
 use Rattle.walk.specs.Leads.{Tables}
+use Rattle.walk.specs.Stage.{Stage}
 use Rattle.walk.specs.Outcome.{Outcome}
 use Rattle.spaces.specs.Layout.{Layout, first_window_slot, root_ppn}
 use Rattle.spaces.specs.Held.{memory_words}
@@ -15,7 +16,8 @@ use Rattle.tlb.specs.declared.store.Entry.{Entry}
 use Rattle.tlb.specs.Answer.{entry_of}
 use Rattle.views.specs.declared.view.View.{View}
 use Rattle.views.specs.Rule.{Has, memory_of}
-use Rattle.views.specs.Turns.{asid_at}
+use Rattle.views.specs.OnBoard.{HasReads}
+use Rattle.views.specs.Turns.{asid_at, walked}
 
 -- a walk changes nothing of what the hart edits
 pub record IsSameHome (v w : View) : Type 0 where
@@ -41,12 +43,21 @@ abbrev pub with_found : ℕ → List Entry → Result Found Trap → List Entry
 with_found asid entries (Ok found) = entries ++ entry_of asid found ∷ []
 with_found asid entries (Err trap) = entries
 
--- The answer follows from the words that the walk's own loads found, which the view holds: some
--- memory has them all, and in each memory that has them this is the answer. The loads are counted,
--- at most one a level, and what is found is filled in. A home reads back its own stores.
+-- The views of a hart through a walk from this root, load by load. After each load there is a state
+-- of the board in which the view is that of the hart's seat, and the tables have all that the walk
+-- read.
+pub data Loads (v : View) (root : ℕ) : View → Type 0 where
+  first : (st : Stage) (word : ℕ) (w : View) → w ≡ walked v root st [] word → HasReads w
+      → Loads v root w
+  further : (u : View) (st : Stage) (word : ℕ) (w : View) → Loads v root u → u.walk ≡ Some st
+      → w ≡ walked u root st u.reads word → HasReads w → Loads v root w
+
+-- The answer follows from the words that the walk's own loads found, which the view holds: in each
+-- memory that has them this is the answer. The loads are counted, at most one a level, and what is
+-- found is filled in. A home reads back its own stores.
 pub record AnswersByLoads (l : Layout) (v : View) (root va : ℕ) (access : Access) (ctx : Ctx)
     (answer : Result Found Trap) (w : View) : Type 0 where
-  pub some_memory : (words : Tables) × Has words w.reads
+  pub own_loads : Loads v root w
   pub each_memory : (words : Tables) → Has words w.reads
       → Outcome l.scheme words root va access ctx answer
   pub read_back : (s : ℕ) → IsHomePath l v root va s

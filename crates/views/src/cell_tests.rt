@@ -1,44 +1,28 @@
 ghost use Rattle.std.specs.Prelude.{◌≡◌, ◌<◌, length};
 ghost use Rattle.spaces.specs.Layout.{layout_of};
-ghost use Rattle.views.specs.Rule.{IsFit};
+ghost use Rattle.views.specs.OnBoard.{IsFit};
 
 use super::*;
 use crate::tests::two_harts;
-use pte::{Page, PageSize, PteFlags, Scheme, VirtAddr, What};
+use pte::{Scheme, What};
 use shoot::Request;
 use spaces::Config;
 use std::process::Abort;
 use std::test::Fail;
-use tlb::{Entry, Tlb};
 
-/// Hart 0 asks hart 1, which holds an entry, to drop all that is of ASID 1. The acknowledgement is
+/// Hart 0 asks hart 1 to drop all that is of ASID 1. The acknowledgement is
 /// found once it was stored, and not before.
-fn ask_and_serve(
-    rt: &impl Abort,
-    words: &Words,
-    seat: &mut Place,
-    other: &mut Place,
-    config: &Config,
-)
+fn ask_and_serve(rt: &impl Abort, words: &Words, seat: &mut Seat, other: &mut Seat, config: &Config)
     requires fit { IsFit words.now.table_id words.now.key config.now seat.old }
-    requires hart { seat.old.me.0.hart ≡ 0 }
+    requires hart { seat.old.view.hart ≡ 0 }
     requires other { IsFit words.now.table_id words.now.key config.now other.old }
-    requires other_hart { other.old.me.0.hart ≡ 1 }
+    requires other_hart { other.old.view.hart ≡ 1 }
     requires harts { 1 < length (layout_of config.now).spares }
     ensures fit { IsFit words.now.table_id words.now.key config.now seat.new }
-    ensures hart { seat.new.me.0.hart ≡ 0 }
+    ensures hart { seat.new.view.hart ≡ 0 }
     ensures other { IsFit words.now.table_id words.now.key config.now other.new }
-    ensures other_hart { other.new.me.0.hart ≡ 1 }
+    ensures other_hart { other.new.view.hart ≡ 1 }
 {
-    let va = VirtAddr::new(0).expect(rt, "an address");
-    let mut tlb = Tlb::new();
-    tlb.fill(Entry {
-        asid: 1,
-        global: false,
-        page: Page::new(va, PageSize::Kib4).expect(rt, "a page"),
-        ppn: 0x100,
-        flags: PteFlags::R,
-    });
     let request = Request {
         ticket: 0,
         what: What::SpaceOf(1),
@@ -46,12 +30,10 @@ fn ask_and_serve(
     open_order(words, seat, config, 0, &request);
     arm(words, seat, config, 0, 0, 1);
     let early = collect(words, seat, config, 0, 1, &request);
-    let held = tlb.lookup(1, va).is_some();
-    assert!(rt; held && !early);
-    serve(words, other, config, 1, 0, &request, &mut tlb);
-    let dropped = tlb.lookup(1, va).is_none();
+    assert!(rt; !early);
+    serve(words, other, config, 1, 0, &request);
     let acknowledged = collect(words, seat, config, 0, 1, &request);
-    assert!(rt; dropped && acknowledged);
+    assert!(rt; acknowledged);
 }
 
 // Under the same ticket, an old acknowledgement counts for no new order.

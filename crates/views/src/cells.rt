@@ -8,19 +8,20 @@ ghost use Rattle.spaces.specs.Layout.{layout_of};
 ghost use Rattle.spaces.specs.Limits.{MeetsLimits};
 ghost use Rattle.spaces.specs.declared.configuration.TheConstants.{MAX_LIVE_FRAMES};
 ghost use Rattle.tlb.specs.Service.{is_dropped};
-ghost use Rattle.views.specs.Rule.{board_size, cell, IsFit};
+ghost use Rattle.views.specs.Rule.{board_size, cell};
+ghost use Rattle.views.specs.OnBoard.{IsFit, IsOnBoard, IsWithin};
 ghost use Rattle.shoot.specs.declared.TheConstants.{MAX_TICKETS};
 ghost use Rattle.views.specs.Board.{Steps};
 ghost use Rattle.shoot.specs.Acknowledgement.{acknowledgement};
 ghost use Rattle.views.specs.declared.view.CellStep.TheVariants.{Found, Stored};
 ghost use Rattle.views.specs.OrderTurns.{IsAsking, IsAwaiting, acknowledged, last_word, looked, ordered, self_acked, with_armed};
 
-use crate::rule::{Place, Turn, Words, load, store};
+use crate::rule::{Turn, Words};
+use crate::seat::{Seat, load, store};
 use pte::{TABLE_LENGTH, What};
 use shoot::{MAX_TICKETS, Request, encode};
 use spaces::Config;
 use std::marker::Brand;
-use tlb::Tlb;
 
 /// Where a cell stands among all words: after those of the tables, by sender, receiver and ticket.
 /// The cells of a sender and a receiver are 64 words side by side, so that they share a cache line
@@ -38,55 +39,63 @@ fn cell(config: &Config, sender: u8, ticket: u32, receiver: u8) -> usize
     (words + (pair * MAX_TICKETS as u64 + u64::from(ticket))) as usize
 }
 
-fn open_as<T: Turn>(words: &Words, seat: &mut Place, word: usize, _ticket: u32, _what: What) -> u64
+fn open_as<T: Turn>(words: &Words, seat: &mut Seat, word: usize, _ticket: u32, _what: What) -> u64
     requires same { seat.old.table_id ≡ words.now.table_id }
     requires inside { word < words.now.table_id.words }
-    requires bare { seat.old.me.1 ≡ [] }
-    requires steps { Steps words.now.key seat.old.id seat.old.me.0 word (λ n. n) T.after T.tells }
+    requires steps { Steps words.now.key seat.old.id seat.old.view word (λ n. n) T.after T.tells }
+    requires within { (n : ℕ) → IsWithin seat.old.tlb.entries seat.old.view.entries
+        → IsWithin seat.old.tlb.entries (T.after n).entries }
     ensures same { seat.new.table_id ≡ seat.old.table_id }
     ensures id { seat.new.id ≡ seat.old.id }
-    ensures view { seat.new.me ≡ (T.after result, []) }
+    ensures view { seat.new.view ≡ T.after result }
+    ensures tlb { seat.new.tlb ≡ seat.old.tlb }
+    ensures on_board { IsOnBoard seat.new.view }
 {
     load::<T>(words, seat, word)
 }
 
 /// Opens an order that follows no store, as that of a flush, under a ticket: a load of the hart's
 /// own cell, whose word counts for nothing. (What a seat knows changes by a step alone.)
-pub fn open_order(words: &Words, seat: &mut Place, config: &Config, hart: u8, request: &Request)
+pub fn open_order(words: &Words, seat: &mut Seat, config: &Config, hart: u8, request: &Request)
     requires fit { IsFit words.now.table_id words.now.key config.now seat.old }
-    requires hart { seat.old.me.0.hart ≡ hart }
+    requires hart { seat.old.view.hart ≡ hart }
     ensures fit { IsFit words.now.table_id words.now.key config.now seat.new }
-    ensures view { seat.new.me.0 ≡ ordered request.now.ticket request.now.what seat.old.me.0 }
-    ensures asks { IsAsking config.now seat.new.me.0 request.now.ticket request.now.what }
+    ensures view { seat.new.view ≡ ordered request.now.ticket request.now.what seat.old.view }
+    ensures tlb { seat.new.tlb ≡ seat.old.tlb }
+    ensures asks { IsAsking config.now seat.new.view request.now.ticket request.now.what }
 {
     let at = cell(config, hart, request.ticket, hart);
     let _word = open_as::<Brand>(words, seat, at, request.ticket, request.what);
 }
 
-fn arm_as<T: Turn>(words: &Words, seat: &mut Place, word: usize, _ticket: u32, _to: u8)
+fn arm_as<T: Turn>(words: &Words, seat: &mut Seat, word: usize, _ticket: u32, _to: u8)
     requires same { seat.old.table_id ≡ words.now.table_id }
     requires inside { word < words.now.table_id.words }
-    requires bare { seat.old.me.1 ≡ [] }
-    requires steps { Steps words.now.key seat.old.id seat.old.me.0 word (λ _. 0) (λ _. T.after 0)
+    requires steps { Steps words.now.key seat.old.id seat.old.view word (λ _. 0) (λ _. T.after 0)
         (λ _. T.tells 0) }
-    requires told { (T.after 0).cell_steps ≡ Stored word 0 ∷ seat.old.me.0.cell_steps }
+    requires within { IsWithin seat.old.tlb.entries seat.old.view.entries
+        → IsWithin seat.old.tlb.entries (T.after 0).entries }
+    requires told { (T.after 0).cell_steps ≡ Stored word 0 ∷ seat.old.view.cell_steps }
     ensures same { seat.new.table_id ≡ seat.old.table_id }
     ensures id { seat.new.id ≡ seat.old.id }
-    ensures view { seat.new.me ≡ (T.after 0, []) }
+    ensures view { seat.new.view ≡ T.after 0 }
+    ensures tlb { seat.new.tlb ≡ seat.old.tlb }
+    ensures on_board { IsOnBoard seat.new.view }
 {
     store::<T>(words, seat, word, 0)
 }
 
 /// The store of 0 to the cell of a receiver, by the sender, before its request is pushed.
-pub fn arm(words: &Words, seat: &mut Place, config: &Config, hart: u8, ticket: u32, to: u8)
+pub fn arm(words: &Words, seat: &mut Seat, config: &Config, hart: u8, ticket: u32, to: u8)
     requires fit { IsFit words.now.table_id words.now.key config.now seat.old }
-    requires hart { seat.old.me.0.hart ≡ hart }
+    requires hart { seat.old.view.hart ≡ hart }
     requires ticket { ticket < MAX_TICKETS }
     requires to { to < length (layout_of config.now).spares }
     ensures fit { IsFit words.now.table_id words.now.key config.now seat.new }
-    ensures view { seat.new.me.0 ≡ with_armed ticket to seat.old.me.0 }
-    ensures awaits { (what : Asked) → IsAsking config.now seat.old.me.0 ticket what
-        → IsAwaiting config.now seat.new.me.0 ticket to what }
+    ensures view { seat.new.view ≡ with_armed ticket to seat.old.view }
+    ensures tlb { seat.new.tlb ≡ seat.old.tlb }
+    ensures awaits { (what : Asked) → IsAsking config.now seat.old.view ticket what
+        → IsAwaiting config.now seat.new.view ticket to what }
 {
     let at = cell(config, hart, ticket, to);
     arm_as::<Brand>(words, seat, at, ticket, to)
@@ -94,7 +103,7 @@ pub fn arm(words: &Words, seat: &mut Place, config: &Config, hart: u8, ticket: u
 
 fn acknowledge_as<T: Turn>(
     words: &Words,
-    seat: &mut Place,
+    seat: &mut Seat,
     word: usize,
     new: u64,
     _from: u8,
@@ -103,13 +112,16 @@ fn acknowledge_as<T: Turn>(
 )
     requires same { seat.old.table_id ≡ words.now.table_id }
     requires inside { word < words.now.table_id.words }
-    requires bare { seat.old.me.1 ≡ [] }
-    requires steps { Steps words.now.key seat.old.id seat.old.me.0 word (λ _. new)
+    requires steps { Steps words.now.key seat.old.id seat.old.view word (λ _. new)
         (λ _. T.after new) (λ _. T.tells new) }
-    requires told { (T.after new).cell_steps ≡ Stored word new ∷ seat.old.me.0.cell_steps }
+    requires within { IsWithin seat.old.tlb.entries seat.old.view.entries
+        → IsWithin seat.old.tlb.entries (T.after new).entries }
+    requires told { (T.after new).cell_steps ≡ Stored word new ∷ seat.old.view.cell_steps }
     ensures same { seat.new.table_id ≡ seat.old.table_id }
     ensures id { seat.new.id ≡ seat.old.id }
-    ensures view { seat.new.me ≡ (T.after new, []) }
+    ensures view { seat.new.view ≡ T.after new }
+    ensures tlb { seat.new.tlb ≡ seat.old.tlb }
+    ensures on_board { IsOnBoard seat.new.view }
 {
     store::<T>(words, seat, word, new)
 }
@@ -118,22 +130,21 @@ fn acknowledge_as<T: Turn>(
 /// that the request drops.
 pub(crate) fn acknowledge(
     words: &Words,
-    seat: &mut Place,
+    seat: &mut Seat,
     config: &Config,
     hart: u8,
     from: u8,
     request: &Request,
-    tlb: &Tlb,
 )
     requires fit { IsFit words.now.table_id words.now.key config.now seat.old }
-    requires hart { seat.old.me.0.hart ≡ hart }
+    requires hart { seat.old.view.hart ≡ hart }
     requires from { from < length (layout_of config.now).spares }
-    requires served { AllPass (λ e. not (is_dropped request.now.what e)) tlb.now.entries }
+    requires served { AllPass (λ e. not (is_dropped request.now.what e)) seat.old.tlb.entries }
     ensures fit { IsFit words.now.table_id words.now.key config.now seat.new }
-    ensures view { seat.new.me.0
-        ≡ acknowledged from request.now.ticket request.now.what seat.old.me.0 }
+    ensures view { seat.new.view
+        ≡ acknowledged from request.now.ticket request.now.what seat.old.view }
+    ensures tlb { seat.new.tlb ≡ seat.old.tlb }
 {
-    let _tlb = tlb;
     let word = encode(request);
     let at = cell(config, from, request.ticket, hart);
     acknowledge_as::<Brand>(words, seat, at, word, from, request.ticket, request.what)
@@ -141,7 +152,7 @@ pub(crate) fn acknowledge(
 
 fn acknowledge_self_as<T: Turn>(
     words: &Words,
-    seat: &mut Place,
+    seat: &mut Seat,
     word: usize,
     new: u64,
     _ticket: u32,
@@ -149,13 +160,16 @@ fn acknowledge_self_as<T: Turn>(
 )
     requires same { seat.old.table_id ≡ words.now.table_id }
     requires inside { word < words.now.table_id.words }
-    requires bare { seat.old.me.1 ≡ [] }
-    requires steps { Steps words.now.key seat.old.id seat.old.me.0 word (λ _. new)
+    requires steps { Steps words.now.key seat.old.id seat.old.view word (λ _. new)
         (λ _. T.after new) (λ _. T.tells new) }
-    requires told { (T.after new).cell_steps ≡ Stored word new ∷ seat.old.me.0.cell_steps }
+    requires within { IsWithin seat.old.tlb.entries seat.old.view.entries
+        → IsWithin seat.old.tlb.entries (T.after new).entries }
+    requires told { (T.after new).cell_steps ≡ Stored word new ∷ seat.old.view.cell_steps }
     ensures same { seat.new.table_id ≡ seat.old.table_id }
     ensures id { seat.new.id ≡ seat.old.id }
-    ensures view { seat.new.me ≡ (T.after new, []) }
+    ensures view { seat.new.view ≡ T.after new }
+    ensures tlb { seat.new.tlb ≡ seat.old.tlb }
+    ensures on_board { IsOnBoard seat.new.view }
 {
     store::<T>(words, seat, word, new)
 }
@@ -163,20 +177,19 @@ fn acknowledge_self_as<T: Turn>(
 /// The same where the sender is the receiver, which is then collected.
 pub(crate) fn acknowledge_self(
     words: &Words,
-    seat: &mut Place,
+    seat: &mut Seat,
     config: &Config,
     hart: u8,
     request: &Request,
-    tlb: &Tlb,
 )
     requires fit { IsFit words.now.table_id words.now.key config.now seat.old }
-    requires hart { seat.old.me.0.hart ≡ hart }
-    requires asks { IsAsking config.now seat.old.me.0 request.now.ticket request.now.what }
-    requires served { AllPass (λ e. not (is_dropped request.now.what e)) tlb.now.entries }
+    requires hart { seat.old.view.hart ≡ hart }
+    requires asks { IsAsking config.now seat.old.view request.now.ticket request.now.what }
+    requires served { AllPass (λ e. not (is_dropped request.now.what e)) seat.old.tlb.entries }
     ensures fit { IsFit words.now.table_id words.now.key config.now seat.new }
-    ensures view { seat.new.me.0 ≡ self_acked request.now.ticket request.now.what seat.old.me.0 }
+    ensures view { seat.new.view ≡ self_acked request.now.ticket request.now.what seat.old.view }
+    ensures tlb { seat.new.tlb ≡ seat.old.tlb }
 {
-    let _tlb = tlb;
     let word = encode(request);
     let at = cell(config, hart, request.ticket, hart);
     acknowledge_self_as::<Brand>(words, seat, at, word, request.ticket, request.what)
@@ -184,19 +197,22 @@ pub(crate) fn acknowledge_self(
 
 fn collect_as<T: Turn>(
     words: &Words,
-    seat: &mut Place,
+    seat: &mut Seat,
     word: usize,
     _from: u8,
     _request: Request,
 ) -> u64
     requires same { seat.old.table_id ≡ words.now.table_id }
     requires inside { word < words.now.table_id.words }
-    requires bare { seat.old.me.1 ≡ [] }
-    requires steps { Steps words.now.key seat.old.id seat.old.me.0 word (λ n. n) T.after T.tells }
-    requires told { (n : ℕ) → (T.after n).cell_steps ≡ Found word n ∷ seat.old.me.0.cell_steps }
+    requires steps { Steps words.now.key seat.old.id seat.old.view word (λ n. n) T.after T.tells }
+    requires within { (n : ℕ) → IsWithin seat.old.tlb.entries seat.old.view.entries
+        → IsWithin seat.old.tlb.entries (T.after n).entries }
+    requires told { (n : ℕ) → (T.after n).cell_steps ≡ Found word n ∷ seat.old.view.cell_steps }
     ensures same { seat.new.table_id ≡ seat.old.table_id }
     ensures id { seat.new.id ≡ seat.old.id }
-    ensures view { seat.new.me ≡ (T.after result, []) }
+    ensures view { seat.new.view ≡ T.after result }
+    ensures tlb { seat.new.tlb ≡ seat.old.tlb }
+    ensures on_board { IsOnBoard seat.new.view }
 {
     load::<T>(words, seat, word)
 }
@@ -205,22 +221,23 @@ fn collect_as<T: Turn>(
 /// which the cell was armed. Whether the request's word is there: then the receiver is collected.
 pub fn collect(
     words: &Words,
-    seat: &mut Place,
+    seat: &mut Seat,
     config: &Config,
     hart: u8,
     from: u8,
     request: &Request,
 ) -> bool
     requires fit { IsFit words.now.table_id words.now.key config.now seat.old }
-    requires hart { seat.old.me.0.hart ≡ hart }
+    requires hart { seat.old.view.hart ≡ hart }
     requires from { from < length (layout_of config.now).spares }
-    requires awaits { IsAwaiting config.now seat.old.me.0 request.now.ticket from request.now.what }
+    requires awaits { IsAwaiting config.now seat.old.view request.now.ticket from request.now.what }
     ensures fit { IsFit words.now.table_id words.now.key config.now seat.new }
     ensures found { result
-        ≡ (last_word seat.new.me.0.cell_steps == acknowledgement request.now.what) }
-    ensures view { seat.new.me.0
-        ≡ looked request.now.ticket from result (last_word seat.new.me.0.cell_steps) seat.old.me.0 }
-    ensures awaits { IsAwaiting config.now seat.new.me.0 request.now.ticket from request.now.what }
+        ≡ (last_word seat.new.view.cell_steps == acknowledgement request.now.what) }
+    ensures view { seat.new.view
+        ≡ looked request.now.ticket from result (last_word seat.new.view.cell_steps) seat.old.view }
+    ensures tlb { seat.new.tlb ≡ seat.old.tlb }
+    ensures awaits { IsAwaiting config.now seat.new.view request.now.ticket from request.now.what }
 {
     let at = cell(config, hart, request.ticket, from);
     let word = collect_as::<Brand>(words, seat, at, from, *request);

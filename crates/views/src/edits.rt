@@ -6,11 +6,12 @@ ghost use Rattle.spaces.specs.declared.places.Place.TheVariants as place;
 ghost use Rattle.views.specs.Orders.{asid_of_space};
 ghost use Rattle.spaces.specs.Layout.{HasPlace, layout_of};
 ghost use Rattle.spaces.specs.Edits.{place_of};
-ghost use Rattle.views.specs.Rule.{IsFit};
+ghost use Rattle.views.specs.OnBoard.{IsFit};
 ghost use Rattle.views.specs.Edits.{edit_over};
 ghost use Rattle.views.specs.OrderTurns.{IsAsked, noted};
 
-use crate::rule::{Place, Words};
+use crate::rule::Words;
+use crate::seat::Seat;
 use crate::steps::{read_home, store_edit};
 use pte::{Kind, Pte};
 use spaces::{Config, Edit, EditWalk, MapFault, Next, Place as Home, Wish};
@@ -20,19 +21,20 @@ use spaces::{Config, Edit, EditWalk, MapFault, Next, Place as Home, Wish};
 /// frames are in use.
 pub fn decide(
     words: &Words,
-    seat: &mut Place,
+    seat: &mut Seat,
     config: &Config,
     hart: u8,
     used: u16,
     wish: &Wish,
 ) -> Result<Edit, MapFault>
     requires fit { IsFit words.now.table_id words.now.key config.now seat.old }
-    requires hart { seat.old.me.0.hart ≡ hart }
-    requires used { seat.old.me.0.used ≡ used }
+    requires hart { seat.old.view.hart ≡ hart }
+    requires used { seat.old.view.used ≡ used }
     requires place { HasPlace (layout_of config.now) (place_of wish.now) }
     ensures fit { IsFit words.now.table_id words.now.key config.now seat.new }
-    ensures view { seat.new.me.0 ≡ seat.old.me.0 }
-    ensures answer { result ≡ edit_over (layout_of config.now) seat.old.me.0 wish.now }
+    ensures view { seat.new.view ≡ seat.old.view }
+    ensures tlb { seat.new.tlb ≡ seat.old.tlb }
+    ensures answer { result ≡ edit_over (layout_of config.now) seat.old.view wish.now }
 {
     let spare = config.spare(hart, used);
     let mut walk = match EditWalk::begin(config, hart, *wish) {
@@ -98,7 +100,7 @@ fn is_pointer(word: u64) -> bool
 /// here, so what was decided is due until the hart's own next store.
 pub fn store(
     words: &Words,
-    seat: &mut Place,
+    seat: &mut Seat,
     config: &Config,
     used: &mut u16,
     edit: &Edit,
@@ -106,12 +108,13 @@ pub fn store(
     ticket: u32,
 )
     requires fit { IsFit words.now.table_id words.now.key config.now seat.old }
-    requires used { seat.old.me.0.used ≡ used.old }
+    requires used { seat.old.view.used ≡ used.old }
     requires place { HasPlace (layout_of config.now) (place_of wish.now) }
-    requires due { edit_over (layout_of config.now) seat.old.me.0 wish.now ≡ Ok edit.now }
+    requires due { edit_over (layout_of config.now) seat.old.view wish.now ≡ Ok edit.now }
     ensures fit { IsFit words.now.table_id words.now.key config.now seat.new }
-    ensures view { seat.new.me.0 ≡ noted config.now wish.now ticket seat.old.me.0 edit.now }
-    ensures used { seat.new.me.0.used ≡ used.new }
+    ensures view { seat.new.view ≡ noted config.now wish.now ticket seat.old.view edit.now }
+    ensures tlb { seat.new.tlb ≡ seat.old.tlb }
+    ensures used { seat.new.view.used ≡ used.new }
 {
     ask(config, wish);
     store_edit(words, seat, config, edit, wish, ticket);
@@ -124,7 +127,7 @@ pub fn store(
 /// ticket is for the order that an unmap or a protect opens; a map takes none.
 pub fn edit(
     words: &Words,
-    seat: &mut Place,
+    seat: &mut Seat,
     config: &Config,
     hart: u8,
     used: &mut u16,
@@ -132,15 +135,16 @@ pub fn edit(
     ticket: u32,
 ) -> Result<Edit, MapFault>
     requires fit { IsFit words.now.table_id words.now.key config.now seat.old }
-    requires hart { seat.old.me.0.hart ≡ hart }
-    requires used { seat.old.me.0.used ≡ used.old }
+    requires hart { seat.old.view.hart ≡ hart }
+    requires used { seat.old.view.used ≡ used.old }
     requires place { HasPlace (layout_of config.now) (place_of wish.now) }
     ensures fit { IsFit words.now.table_id words.now.key config.now seat.new }
-    ensures answer { result ≡ edit_over (layout_of config.now) seat.old.me.0 wish.now }
-    ensures view { MatchResult result (λ edit. seat.new.me.0
-        ≡ noted config.now wish.now ticket seat.old.me.0 edit)
-        (λ _. seat.new.me.0 ≡ seat.old.me.0) }
-    ensures used { seat.new.me.0.used ≡ used.new }
+    ensures answer { result ≡ edit_over (layout_of config.now) seat.old.view wish.now }
+    ensures view { MatchResult result (λ edit. seat.new.view
+        ≡ noted config.now wish.now ticket seat.old.view edit)
+        (λ _. seat.new.view ≡ seat.old.view) }
+    ensures tlb { seat.new.tlb ≡ seat.old.tlb }
+    ensures used { seat.new.view.used ≡ used.new }
 {
     let edit = match decide(words, seat, config, hart, *used, wish) {
         Ok(edit) => edit,

@@ -11,8 +11,8 @@ ghost use Rattle.spaces.specs.Holders.{Holders};
 ghost use Rattle.spaces.specs.Tree.{IsAtHome, IsTree};
 ghost use Rattle.views.specs.declared.view.View.{View};
 ghost use Rattle.views.specs.Rule.{Has, tables_in};
-ghost use Rattle.views.specs.Board.{AcknowledgedIsClean, Board, CollectedIsClean, EqualWordsAskForEqualService, IsAsSaid, LeavesAreGlobalInWindow, MappingsAreGlobalInWindow, UnmappedIsWhereNoLeafLeads, UnmappedStaysUnmapped, own_words, shared_words};
-ghost use Rattle.views.specs.Lasting.{CellsAreApart, CellsMeet, EachEditIsOneStore, EditsKeepOrders, EditsMarkNothing, KernelIsInEverySpace, MarkedByALeafOver, StepsKeepOrders, StepsMarkNothing, TranslatesNoneHoldsNone, UnmappingBeginsLive, WalkAnswersAsComputed, WrongAddressChangesNothing};
+ghost use Rattle.views.specs.Board.{AcknowledgedIsClean, Board, CollectedIsClean, EqualWordsAskForEqualService, IsAsSaid, LeavesAreGlobalInWindow, MappingsAreGlobalInWindow, SeatsAreNumbered, StoresOverwriteNoPointer, UnmappedIsWhereNoLeafLeads, UnmappedStaysUnmapped, own_words, shared_words};
+ghost use Rattle.views.specs.Lasting.{CellsAreApart, CellsMeet, EachEditIsOneStore, EachSpaceAtHomeIsReadBack, EditsKeepOrders, EditsMarkNothing, KernelIsInEverySpace, MarkedByALeafOver, StepsKeepOrders, StepsMarkNothing, TranslatesNoneHoldsNone, UnmappingBeginsLive, WalkAnswersAsComputed, WrongAddressChangesNothing};
 
 /// Once a hart was collected for an unmapping whose page is not mapped anew, what it filled
 /// translates no address of the page in any address space of the place.
@@ -149,4 +149,19 @@ pub fn walk_of_a_wrong_address_changes_nothing()
 /// A view counts the store of each edit, so no edit is accepted without one.
 pub fn each_edit_is_one_store()
     ensures { EachEditIsOneStore }
+{}
+
+/// No store to a table word overwrites a pointer.
+pub fn stores_overwrite_no_pointer()
+    ensures { StoresOverwriteNoPointer }
+{}
+
+/// The seat of a hart has the hart's number.
+pub fn seats_are_numbered()
+    ensures { SeatsAreNumbered }
+{}
+
+/// A home reads back its own stores in each space of its own, outside the window.
+pub fn each_space_at_home_is_read_back()
+    ensures { EachSpaceAtHomeIsReadBack }
 {}

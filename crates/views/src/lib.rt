@@ -7,6 +7,7 @@ mod edits;
 mod laws;
 mod opening;
 mod rule;
+mod seat;
 mod services;
 mod steps;
 mod view;
@@ -16,14 +17,17 @@ pub use cells::{arm, collect, open_order};
 pub use edits::{decide, edit, store};
 pub use laws::{
     acknowledged_is_clean, cells_are_apart, cells_meet, collected_is_clean, each_edit_is_one_store,
-    each_table_word_is_as_its_home_says, equal_words_ask_for_equal_service,
-    kernel_is_in_every_space, only_a_leaf_over_the_page_marks_anew, orders_are_kept,
-    table_words_are_a_tree, translates_none_holds_none, unmapped_is_where_no_leaf_leads,
-    unmapped_page_stays_unmapped, unmapping_begins_live, walk_answers_as_computed,
-    walk_in_flight_leads, walk_of_a_wrong_address_changes_nothing, window_is_global,
+    each_space_at_home_is_read_back, each_table_word_is_as_its_home_says,
+    equal_words_ask_for_equal_service, kernel_is_in_every_space,
+    only_a_leaf_over_the_page_marks_anew, orders_are_kept, seats_are_numbered,
+    stores_overwrite_no_pointer, table_words_are_a_tree, translates_none_holds_none,
+    unmapped_is_where_no_leaf_leads, unmapped_page_stays_unmapped, unmapping_begins_live,
+    walk_answers_as_computed, walk_in_flight_leads, walk_of_a_wrong_address_changes_nothing,
+    window_is_global,
 };
 pub use opening::{deal, open};
-pub use rule::{Deal, Memory, Place, Rule, To, Turn, Words};
+pub use rule::{Deal, Memory, Rule, To, Turn, Words};
+pub use seat::Seat;
 pub use services::{serve, serve_self};
 pub use steps::{load_first, load_next, read_home, store_edit};
 pub use view::{Cause, CellStep, Order, Read, View};

@@ -1,15 +1,19 @@
 //! The opening of the words, and a seat for each hart.
 
-ghost use Rattle.std.specs.Prelude.{◌≡◌, ◌<◌, IfOk};
+ghost use Rattle.std.specs.Prelude.{◌≡◌, ◌<◌, ℕ, [], IfOk};
 ghost use Rattle.spaces.specs.Limits.{MeetsLimits};
 ghost use Rattle.spaces.specs.declared.configuration.TheConstants.{MAX_LIVE_FRAMES};
 ghost use Rattle.spaces.specs.Layout.{layout_of};
-ghost use Rattle.views.specs.Rule.{board_words, dealer, dealt, first_view, IsFit};
+ghost use Rattle.views.specs.Rule.{board_words, dealer, dealt, first_view};
+ghost use Rattle.views.specs.Board.{Steps};
+ghost use Rattle.views.specs.OnBoard.{IsFit, IsOnBoard, IsWithin};
 
-use crate::rule::{Deal, Memory, Place, Words};
+use crate::rule::{Memory, Turn, Words};
+use crate::seat::{Seat, load};
 use shoot::MAX_TICKETS;
 use spaces::{Config, first_words};
 use std::alloc::{AllocError, Global};
+use std::marker::Brand;
 
 /// How many tickets a hart has.
 pub(crate) const TICKETS: u64 = MAX_TICKETS as u64;
@@ -27,25 +31,61 @@ fn board_words(alloc: Global, config: &Config) -> Result<Vec<u64>, AllocError>
     Ok(words)
 }
 
+fn sit_as<T: Turn>(words: &Words, seat: &mut Seat)
+    requires same { seat.old.table_id ≡ words.now.table_id }
+    requires inside { 0 < words.now.table_id.words }
+    requires steps { Steps words.now.key seat.old.id seat.old.view 0 (λ n. n) T.after T.tells }
+    requires within { (n : ℕ) → IsWithin seat.old.tlb.entries seat.old.view.entries
+        → IsWithin seat.old.tlb.entries (T.after n).entries }
+    ensures same { seat.new.table_id ≡ seat.old.table_id }
+    ensures id { seat.new.id ≡ seat.old.id }
+    ensures told { (n : ℕ) × (seat.new.view ≡ T.after n) × T.tells n }
+    ensures tlb { seat.new.tlb ≡ seat.old.tlb }
+    ensures on_board { IsOnBoard seat.new.view }
+{
+    load::<T>(words, seat, 0);
+}
+
+/// A load by a new seat, which then knows that it is on the board, by its hart's number.
+fn sit(words: &Words, seat: &mut Seat)
+    requires same { seat.old.table_id ≡ words.now.table_id }
+    requires inside { 0 < words.now.table_id.words }
+    ensures same { seat.new.table_id ≡ seat.old.table_id }
+    ensures view { seat.new.view ≡ seat.old.view }
+    ensures tlb { seat.new.tlb ≡ seat.old.tlb }
+    ensures number { seat.new.id ≡ seat.new.view.hart }
+    ensures on_board { IsOnBoard seat.new.view }
+{
+    sit_as::<Brand>(words, seat);
+}
+
 /// The words of a configuration, with the seat of hart 0, from which the others are dealt.
-pub fn open(alloc: Global, config: &Config) -> Result<(Memory, Place), AllocError>
+pub fn open(alloc: Global, config: &Config) -> Result<(Memory, Seat), AllocError>
     requires { MeetsLimits MAX_LIVE_FRAMES config.now }
     ensures fit { IfOk result (λ t. IsFit t.0.shared.table_id t.0.shared.key config.now t.1) }
-    ensures view { IfOk result (λ t. t.1.me.0 ≡ first_view config.now) }
+    ensures view { IfOk result (λ t. t.1.view ≡ first_view config.now) }
+    ensures tlb { IfOk result (λ t. t.1.tlb ≡ record { scheme = config.now.scheme; entries = [] }) }
 {
     let words = board_words(alloc, config)?;
-    Memory::of_words(alloc, words.as_slice(), config)
+    let (memory, right) = Memory::of_words(alloc, words.as_slice(), config)?;
+    let mut first = Seat::new(right, config.scheme);
+    sit(&memory.shared, &mut first);
+    Ok((memory, first))
 }
 
 /// The seat of the next hart.
-pub fn deal(words: &Words, first: &mut Place, config: &Config) -> Place
+pub fn deal(words: &Words, first: &mut Seat, config: &Config) -> Seat
     requires fit { IsFit words.now.table_id words.now.key config.now first.old }
-    requires next { (0 < first.old.me.0.next) × (first.old.me.0.next < config.now.harts) }
+    requires next { (0 < first.old.view.next) × (first.old.view.next < config.now.harts) }
     ensures fit { IsFit words.now.table_id words.now.key config.now first.new
         × IsFit words.now.table_id words.now.key config.now result }
-    ensures first { first.new.me.0 ≡ dealer first.old.me.0 }
-    ensures next { result.me.0 ≡ dealt first.old.me.0 }
+    ensures first { first.new.view ≡ dealer first.old.view }
+    ensures next { result.view ≡ dealt first.old.view }
+    ensures tlb { first.new.tlb ≡ first.old.tlb }
+    ensures empty { result.tlb ≡ record { scheme = config.now.scheme; entries = [] } }
 {
-    let _config = config;
-    words.split_seat::<Deal>(first)
+    let mut seat = first.split(words, config.scheme);
+    sit(words, first);
+    sit(words, &mut seat);
+    seat
 }

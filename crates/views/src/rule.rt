@@ -1,7 +1,6 @@
 //! The rule, and a step under it.
 
-ghost use Rattle.std.specs.Prelude.{◌≡◌, ℕ, ◌<◌, []};
-ghost use Rattle.views.specs.Board.{Steps};
+ghost use Rattle.std.specs.Prelude.{◌≡◌, ℕ, []};
 
 use crate::view::View;
 use atomic_table::{Play, Seat, Shared, Split, Table, TableRule};
@@ -28,7 +27,7 @@ pub type Memory = Table<u8, View, Config, Rule, Global>;
 pub type Words = Shared<u8, View, Config, Rule>;
 
 /// The right of one hart to step, with what it knows.
-pub type Place = Seat<u8, View>;
+pub(crate) type Right = Seat<u8, View>;
 
 /// What a seat knows after a step, by the word that it found, and what else the step tells.
 pub trait Turn {
@@ -62,7 +61,9 @@ impl Turn for Brand {
 pub struct To<T>(PhantomData<T>);
 
 impl<T: Turn> Play<u8, View> for To<T> {
-    ghost then = { λ st m n m'. (m' ≡ (T.after n, [])) × T.tells n };
+    ghost use Rattle.views.specs.OnBoard.{IsOnBoard};
+
+    ghost then = { λ st m n m'. (m' ≡ (T.after n, [])) × T.tells n × IsOnBoard m'.0 };
 }
 
 /// How a seat is cut off the first one: the next hart's.
@@ -74,33 +75,4 @@ impl Split<View> for Deal {
     ghost left = { dealer };
 
     ghost right = { dealt };
-}
-
-/// One load of a shared word.
-pub(crate) fn load<T: Turn>(words: &Words, seat: &mut Place, word: usize) -> u64
-    requires same { seat.old.table_id ≡ words.now.table_id }
-    requires inside { word < words.now.table_id.words }
-    requires bare { seat.old.me.1 ≡ [] }
-    requires steps { Steps words.now.key seat.old.id seat.old.me.0 word (λ n. n) T.after T.tells }
-    ensures same { seat.new.table_id ≡ seat.old.table_id }
-    ensures id { seat.new.id ≡ seat.old.id }
-    ensures view { seat.new.me ≡ (T.after result, []) }
-    ensures tells { T.tells result }
-{
-    words.load::<To<T>>(seat, word)
-}
-
-/// One store of a shared word.
-pub(crate) fn store<T: Turn>(words: &Words, seat: &mut Place, word: usize, new: u64)
-    requires same { seat.old.table_id ≡ words.now.table_id }
-    requires inside { word < words.now.table_id.words }
-    requires bare { seat.old.me.1 ≡ [] }
-    requires steps { Steps words.now.key seat.old.id seat.old.me.0 word (λ _. new)
-        (λ _. T.after new) (λ _. T.tells new) }
-    ensures same { seat.new.table_id ≡ seat.old.table_id }
-    ensures id { seat.new.id ≡ seat.old.id }
-    ensures view { seat.new.me ≡ (T.after new, []) }
-    ensures tells { T.tells new }
-{
-    words.store::<To<T>>(seat, word, new)
 }

@@ -6,13 +6,15 @@ ghost use Rattle.spaces.specs.Edits.{place_of};
 ghost use Rattle.spaces.specs.Held.{word_index, memory_words};
 ghost use Rattle.spaces.specs.Opening.{is_word};
 ghost use Rattle.spaces.specs.Tree.{IsAtHome};
-ghost use Rattle.views.specs.Rule.{IsFit, IsRoot, memory_of, size};
+ghost use Rattle.views.specs.Rule.{IsRoot, memory_of, size};
+ghost use Rattle.views.specs.OnBoard.{IsFit, IsOnBoard, IsWithin};
 ghost use Rattle.views.specs.Board.{Steps};
 ghost use Rattle.views.specs.OrderTurns.{IsAsked, noted};
 ghost use Rattle.views.specs.Turns.{IsStart, TellsLoad, walked};
 ghost use Rattle.views.specs.Edits.{edit_over};
 
-use crate::rule::{Place, Turn, Words, load, store};
+use crate::rule::{Turn, Words};
+use crate::seat::{Seat, load, store};
 use pte::TABLE_LENGTH;
 use spaces::{Config, Edit, Wish};
 use std::marker::Brand;
@@ -28,28 +30,32 @@ fn word_index(config: &Config, table: u64, index: u16) -> usize
     ((table - config.base) * u64::from(TABLE_LENGTH) + u64::from(index)) as usize
 }
 
-fn load_as<T: Turn>(words: &Words, seat: &mut Place, word: usize, _root: u64, _walk: Walk) -> u64
+fn load_as<T: Turn>(words: &Words, seat: &mut Seat, word: usize, _root: u64, _walk: Walk) -> u64
     requires same { seat.old.table_id ≡ words.now.table_id }
     requires inside { word < words.now.table_id.words }
-    requires bare { seat.old.me.1 ≡ [] }
-    requires steps { Steps words.now.key seat.old.id seat.old.me.0 word (λ n. n) T.after T.tells }
+    requires steps { Steps words.now.key seat.old.id seat.old.view word (λ n. n) T.after T.tells }
+    requires within { (n : ℕ) → IsWithin seat.old.tlb.entries seat.old.view.entries
+        → IsWithin seat.old.tlb.entries (T.after n).entries }
     ensures same { seat.new.table_id ≡ seat.old.table_id }
     ensures id { seat.new.id ≡ seat.old.id }
-    ensures view { seat.new.me ≡ (T.after result, []) }
+    ensures view { seat.new.view ≡ T.after result }
+    ensures tlb { seat.new.tlb ≡ seat.old.tlb }
     ensures tells { T.tells result }
+    ensures on_board { IsOnBoard seat.new.view }
 {
     load::<T>(words, seat, word)
 }
 
 /// The first load of a walk, of a word of the root.
-pub fn load_first(words: &Words, seat: &mut Place, config: &Config, root: u64, walk: Walk) -> u64
+pub fn load_first(words: &Words, seat: &mut Seat, config: &Config, root: u64, walk: Walk) -> u64
     requires fit { IsFit words.now.table_id words.now.key config.now seat.old }
     requires frame { is_frame (layout_of config.now) walk.table ≡ true }
     requires root { IsRoot (layout_of config.now) root }
     requires start { IsStart config.now.scheme root walk }
     ensures fit { IsFit words.now.table_id words.now.key config.now seat.new }
-    ensures view { seat.new.me.0 ≡ walked seat.old.me.0 root walk [] result }
-    ensures tells { TellsLoad (layout_of config.now) seat.old.me.0 walk [] result }
+    ensures view { seat.new.view ≡ walked seat.old.view root walk [] result }
+    ensures tlb { seat.new.tlb ≡ seat.old.tlb }
+    ensures tells { TellsLoad (layout_of config.now) seat.old.view root walk [] result }
 {
     let (table, index) = walk.wants();
     let at = word_index(config, table, index);
@@ -57,41 +63,47 @@ pub fn load_first(words: &Words, seat: &mut Place, config: &Config, root: u64, w
 }
 
 /// A further load of the walk that the seat has in flight.
-pub fn load_next(words: &Words, seat: &mut Place, config: &Config, root: u64, walk: Walk) -> u64
+pub fn load_next(words: &Words, seat: &mut Seat, config: &Config, root: u64, walk: Walk) -> u64
     requires fit { IsFit words.now.table_id words.now.key config.now seat.old }
     requires frame { is_frame (layout_of config.now) walk.table ≡ true }
     requires root { IsRoot (layout_of config.now) root }
-    requires walks { (seat.old.me.0.walk ≡ Some walk) × (seat.old.me.0.root ≡ root) }
+    requires walks { (seat.old.view.walk ≡ Some walk) × (seat.old.view.root ≡ root) }
     ensures fit { IsFit words.now.table_id words.now.key config.now seat.new }
-    ensures view { seat.new.me.0 ≡ walked seat.old.me.0 root walk seat.old.me.0.reads result }
-    ensures tells { TellsLoad (layout_of config.now) seat.old.me.0 walk seat.old.me.0.reads result }
+    ensures view { seat.new.view ≡ walked seat.old.view root walk seat.old.view.reads result }
+    ensures tlb { seat.new.tlb ≡ seat.old.tlb }
+    ensures tells { TellsLoad (layout_of config.now) seat.old.view root walk seat.old.view.reads
+        result }
 {
     let (table, index) = walk.wants();
     let at = word_index(config, table, index);
     load_as::<Brand>(words, seat, at, root, walk)
 }
 
-fn read_as<T: Turn>(words: &Words, seat: &mut Place, word: usize, _table: u64, _index: u16) -> u64
+fn read_as<T: Turn>(words: &Words, seat: &mut Seat, word: usize, _table: u64, _index: u16) -> u64
     requires same { seat.old.table_id ≡ words.now.table_id }
     requires inside { word < words.now.table_id.words }
-    requires bare { seat.old.me.1 ≡ [] }
-    requires steps { Steps words.now.key seat.old.id seat.old.me.0 word (λ n. n) T.after T.tells }
+    requires steps { Steps words.now.key seat.old.id seat.old.view word (λ n. n) T.after T.tells }
+    requires within { (n : ℕ) → IsWithin seat.old.tlb.entries seat.old.view.entries
+        → IsWithin seat.old.tlb.entries (T.after n).entries }
     ensures same { seat.new.table_id ≡ seat.old.table_id }
     ensures id { seat.new.id ≡ seat.old.id }
-    ensures view { seat.new.me ≡ (T.after result, []) }
+    ensures view { seat.new.view ≡ T.after result }
+    ensures tlb { seat.new.tlb ≡ seat.old.tlb }
     ensures tells { T.tells result }
+    ensures on_board { IsOnBoard seat.new.view }
 {
     load::<T>(words, seat, word)
 }
 
 /// A home's reading of a word of its own, for an edit. The view stays.
-pub fn read_home(words: &Words, seat: &mut Place, config: &Config, table: u64, index: u16) -> u64
+pub fn read_home(words: &Words, seat: &mut Seat, config: &Config, table: u64, index: u16) -> u64
     requires fit { IsFit words.now.table_id words.now.key config.now seat.old }
-    requires home { IsAtHome (layout_of config.now) seat.old.me.0.hart table }
+    requires home { IsAtHome (layout_of config.now) seat.old.view.hart table }
     requires index { index < TABLE_LENGTH }
     ensures fit { IsFit words.now.table_id words.now.key config.now seat.new }
-    ensures view { seat.new.me.0 ≡ seat.old.me.0 }
-    ensures word { memory_words (memory_of (layout_of config.now) seat.old.me.0) table index
+    ensures view { seat.new.view ≡ seat.old.view }
+    ensures tlb { seat.new.tlb ≡ seat.old.tlb }
+    ensures word { memory_words (memory_of (layout_of config.now) seat.old.view) table index
         ≡ Some result }
 {
     let at = word_index(config, table, index);
@@ -100,7 +112,7 @@ pub fn read_home(words: &Words, seat: &mut Place, config: &Config, table: u64, i
 
 fn store_as<T: Turn>(
     words: &Words,
-    seat: &mut Place,
+    seat: &mut Seat,
     word: usize,
     new: u64,
     _edit: Edit,
@@ -109,13 +121,16 @@ fn store_as<T: Turn>(
 )
     requires same { seat.old.table_id ≡ words.now.table_id }
     requires inside { word < words.now.table_id.words }
-    requires bare { seat.old.me.1 ≡ [] }
-    requires steps { Steps words.now.key seat.old.id seat.old.me.0 word (λ _. new)
+    requires steps { Steps words.now.key seat.old.id seat.old.view word (λ _. new)
         (λ _. T.after new) (λ _. T.tells new) }
+    requires within { IsWithin seat.old.tlb.entries seat.old.view.entries
+        → IsWithin seat.old.tlb.entries (T.after new).entries }
     ensures same { seat.new.table_id ≡ seat.old.table_id }
     ensures id { seat.new.id ≡ seat.old.id }
-    ensures view { seat.new.me ≡ (T.after new, []) }
+    ensures view { seat.new.view ≡ T.after new }
+    ensures tlb { seat.new.tlb ≡ seat.old.tlb }
     ensures tells { T.tells new }
+    ensures on_board { IsOnBoard seat.new.view }
 {
     store::<T>(words, seat, word, new)
 }
@@ -125,7 +140,7 @@ fn store_as<T: Turn>(
 /// overlaps.
 pub fn store_edit(
     words: &Words,
-    seat: &mut Place,
+    seat: &mut Seat,
     config: &Config,
     edit: &Edit,
     wish: &Wish,
@@ -134,9 +149,10 @@ pub fn store_edit(
     requires fit { IsFit words.now.table_id words.now.key config.now seat.old }
     requires place { HasPlace (layout_of config.now) (place_of wish.now) }
     requires asked { IsAsked config.now wish.now }
-    requires due { edit_over (layout_of config.now) seat.old.me.0 wish.now ≡ Ok edit.now }
+    requires due { edit_over (layout_of config.now) seat.old.view wish.now ≡ Ok edit.now }
     ensures fit { IsFit words.now.table_id words.now.key config.now seat.new }
-    ensures view { seat.new.me.0 ≡ noted config.now wish.now ticket seat.old.me.0 edit.now }
+    ensures view { seat.new.view ≡ noted config.now wish.now ticket seat.old.view edit.now }
+    ensures tlb { seat.new.tlb ≡ seat.old.tlb }
 {
     let at = word_index(config, edit.ppn(), edit.index());
     store_as::<Brand>(words, seat, at, edit.word(), *edit, *wish, ticket)

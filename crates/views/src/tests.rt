@@ -2,7 +2,7 @@ ghost use Rattle.std.specs.Prelude.{◌≡◌};
 ghost use Rattle.spaces.specs.declared.places.Place.TheVariants as home;
 ghost use Rattle.spaces.specs.Edits.{place_of};
 ghost use Rattle.spaces.specs.Layout.{HasPlace, layout_of};
-ghost use Rattle.views.specs.Rule.{IsFit};
+ghost use Rattle.views.specs.OnBoard.{IsFit};
 
 use super::*;
 use arrayvec::ArrayVec;
@@ -69,19 +69,19 @@ fn unmap(rt: &impl Abort, space: u8) -> Wish
 /// Makes the edit of a hart, and tells the word that it stored.
 fn edited(
     words: &Words,
-    seat: &mut Place,
+    seat: &mut Seat,
     config: &Config,
     hart: u8,
     used: &mut u16,
     wish: &Wish,
 ) -> Result<(u64, u16, u64), MapFault>
     requires fit { IsFit words.now.table_id words.now.key config.now seat.old }
-    requires hart { seat.old.me.0.hart ≡ hart }
-    requires used { seat.old.me.0.used ≡ used.old }
+    requires hart { seat.old.view.hart ≡ hart }
+    requires used { seat.old.view.used ≡ used.old }
     requires place { HasPlace (layout_of config.now) (place_of wish.now) }
     ensures fit { IsFit words.now.table_id words.now.key config.now seat.new }
-    ensures hart { seat.new.me.0.hart ≡ hart }
-    ensures used { seat.new.me.0.used ≡ used.new }
+    ensures hart { seat.new.view.hart ≡ hart }
+    ensures used { seat.new.view.used ≡ used.new }
 {
     let edit = match edit(words, seat, config, hart, used, wish, 0) {
         Ok(edit) => edit,
@@ -91,12 +91,12 @@ fn edited(
 }
 
 /// The physical address that a user's load of a space leads to.
-fn loaded(words: &Words, seat: &mut Place, config: &Config, space: u8, va: u64) -> Result<u64, Trap>
+fn loaded(words: &Words, seat: &mut Seat, config: &Config, space: u8, va: u64) -> Result<u64, Trap>
     requires fit { IsFit words.now.table_id words.now.key config.now seat.old }
     requires place { HasPlace (layout_of config.now) (home.Space space) }
     ensures fit { IsFit words.now.table_id words.now.key config.now seat.new }
-    ensures hart { seat.new.me.0.hart ≡ seat.old.me.0.hart }
-    ensures used { seat.new.me.0.used ≡ seat.old.me.0.used }
+    ensures hart { seat.new.view.hart ≡ seat.old.view.hart }
+    ensures used { seat.new.view.used ≡ seat.old.view.used }
 {
     let root = config.root(space);
     match walk(words, seat, config, root, va, Access::Load, USER) {
@@ -115,7 +115,7 @@ const INVALID: Result<u64, Trap> = Err(Trap {
 fn map_by(
     rt: &impl Abort,
     words: &Words,
-    seat: &mut Place,
+    seat: &mut Seat,
     config: &Config,
     hart: u8,
     used: &mut u16,
@@ -123,13 +123,13 @@ fn map_by(
     rows: &[(u64, u16, u64)],
 )
     requires fit { IsFit words.now.table_id words.now.key config.now seat.old }
-    requires hart { seat.old.me.0.hart ≡ hart }
-    requires used { seat.old.me.0.used ≡ used.old }
+    requires hart { seat.old.view.hart ≡ hart }
+    requires used { seat.old.view.used ≡ used.old }
     requires place { HasPlace (layout_of config.now) (place_of wish.now) }
     requires space { HasPlace (layout_of config.now) (home.Space hart) }
     ensures fit { IsFit words.now.table_id words.now.key config.now seat.new }
-    ensures hart { seat.new.me.0.hart ≡ hart }
-    ensures used { seat.new.me.0.used ≡ used.new }
+    ensures hart { seat.new.view.hart ≡ hart }
+    ensures used { seat.new.view.used ≡ used.new }
 {
     for at in 0..rows.len() {
         let is_found = loaded(words, seat, config, hart, 0x1004) != INVALID;

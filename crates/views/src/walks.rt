@@ -1,11 +1,14 @@
 //! A whole walk.
 
+ghost use Rattle.std.specs.Prelude.{◌≡◌};
 ghost use Rattle.pte.specs.Address.{IsCanonical};
 ghost use Rattle.spaces.specs.Layout.{layout_of};
-ghost use Rattle.views.specs.Rule.{IsFit, IsRoot};
+ghost use Rattle.views.specs.Rule.{IsRoot};
+ghost use Rattle.views.specs.OnBoard.{IsFit};
 ghost use Rattle.views.specs.Walks.{AnswersByLoads, Walked};
 
-use crate::rule::{Place, Words};
+use crate::rule::Words;
+use crate::seat::Seat;
 use crate::steps::{load_first, load_next};
 use pte::{Access, Ctx, VirtAddr};
 use spaces::Config;
@@ -16,7 +19,7 @@ use walk::{Found, Trap, Walk, Why};
 /// own loads find: one a level, between which other harts may store. What is found is filled in.
 pub fn walk(
     words: &Words,
-    seat: &mut Place,
+    seat: &mut Seat,
     config: &Config,
     root: u64,
     va: u64,
@@ -26,8 +29,9 @@ pub fn walk(
     requires fit { IsFit words.now.table_id words.now.key config.now seat.old }
     requires root { IsRoot (layout_of config.now) root }
     ensures fit { IsFit words.now.table_id words.now.key config.now seat.new }
-    ensures walked { Walked (layout_of config.now) seat.old.me.0 root va access ctx result
-        seat.new.me.0 }
+    ensures tlb { seat.new.tlb ≡ seat.old.tlb }
+    ensures walked { Walked (layout_of config.now) seat.old.view root va access ctx result
+        seat.new.view }
 {
     let Some(va) = VirtAddr::new_in(config.scheme, va) else {
         return Err(Trap::page(access, Why::NotCanonical));
@@ -38,7 +42,7 @@ pub fn walk(
 /// The same for an address that the caller found canonical in the scheme.
 pub fn walk_from_root(
     words: &Words,
-    seat: &mut Place,
+    seat: &mut Seat,
     config: &Config,
     root: u64,
     va: VirtAddr,
@@ -49,8 +53,9 @@ pub fn walk_from_root(
     requires root { IsRoot (layout_of config.now) root }
     requires canonical { IsCanonical config.now.scheme va }
     ensures fit { IsFit words.now.table_id words.now.key config.now seat.new }
-    ensures loads { AnswersByLoads (layout_of config.now) seat.old.me.0 root va access ctx result
-        seat.new.me.0 }
+    ensures tlb { seat.new.tlb ≡ seat.old.tlb }
+    ensures loads { AnswersByLoads (layout_of config.now) seat.old.view root va access ctx result
+        seat.new.view }
 {
     let mut walk = Walk::from_root(config.scheme, root, va, access, ctx);
     let mut word = load_first(words, seat, config, root, walk);

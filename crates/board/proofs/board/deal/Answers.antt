@@ -75,6 +75,7 @@ loop-outs-preserved c =
           ∙ (ap (λ (rows : List (Vec (Option InboxState))). map (λ row. row.items) rows ++ map (λ p. p.inboxes) old) (sym pi) ∙ i.ins))));
       numbered = rw put (ap₂ (λ (h : ℕ) (rest : List ℕ). h ∷ rest) hart (i.numbered ∙ ap (λ n. range_with_len n (length old)) lo));
       of_setup = rw put (all_and_first (λ (p : PortState). p.setup ≡ setup_of config) port old (c.new-port.ensures.setup ∙ ap (λ (a : Config). setup_of a) c.in_ok-shared.ensures) i.of_setup);
+      of_table = rw put (all_and_first (λ (p : PortState). p.table ≡ words.table_id) port old (rw (← c.in_ok-words.ensures) c.new-port.ensures.table) i.of_table);
       each = rw put (all_and_first (λ (p : PortState). IsPort (name_of p)) port old c.new-port.ensures.port i.each);
       are_new = rw put (all_and_first IsNew port old c.new-port.ensures.new i.are_new);
     }
@@ -93,4 +94,6 @@ returns-clause-ports c =
     (ap (λ (rows : List (Vec (Option InboxState))). map (λ row. row.items) rows ++ map (λ p. p.inboxes) ports) (sym none') ∙ i.ins)
     (i.numbered ∙ ap₂ range_with_len zero-left all-there)
     i.of_setup
+    (arc_value c.args.memory.now).shared.table_id
+    i.of_table
     i.each

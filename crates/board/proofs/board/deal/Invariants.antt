@@ -19,6 +19,7 @@ invariant-loop-outs l = record {
   ins : map (λ row. row.items) l.inboxes.items ++ map (λ port. port.inboxes) l.ports.items ≡ map (λ row. row.items) l.initial.inboxes.items;
   numbered : map (λ port. port.hart) l.ports.items ≡ range_with_len (length l.outboxes.items) (length l.ports.items);
   of_setup : All (λ port. port.setup ≡ setup_of (arc_value l.fn.config)) l.ports.items;
+  of_table : All (λ port. port.table ≡ (arc_value l.fn.memory).shared.table_id) l.ports.items;
   each : All (λ port. IsPort (name_of port)) l.ports.items;
   are_new : AreNew l.ports.items;
 }

@@ -8,9 +8,9 @@ use Rattle.views.proofs.cells.arm.Goals as goal
 pub arm_as-requires-clause-steps : goal.arm_as-requires-clause-steps
 arm_as-requires-clause-steps c =
     rw (c.requires.fit.key_is, c.cell-at.ensures.value, sym c.requires.hart)
-    (arms c.args.config.now c.args.seat.now.id c.args.seat.now.me.0 c.args.ticket c.args.to c.requires.ticket c.requires.to)
+    (arms c.args.config.now c.args.seat.now.id c.args.seat.now.view c.args.ticket c.args.to c.requires.ticket c.requires.to)
 
 pub returns-clause-awaits : goal.returns-clause-awaits
 returns-clause-awaits c what asks =
-    subst (λ (v : View). IsAwaiting c.args.config.now v c.args.ticket c.args.to what) (sym (ap (λ m. m.0) c.arm_as.ensures.view))
-    (armed-awaits c.args.config.now c.args.seat.now.me.0 c.args.ticket c.args.to what asks)
+    subst (λ (v : View). IsAwaiting c.args.config.now v c.args.ticket c.args.to what) (sym c.arm_as.ensures.view)
+    (armed-awaits c.args.config.now c.args.seat.now.view c.args.ticket c.args.to what asks)

@@ -3,6 +3,6 @@ use Rattle.views.proofs.cells.arm.Given as goal
 
 abbrev pub ghosts-arm_as : goal.ghosts-arm_as
 ghosts-arm_as a = record {
-  after = λ _. with_armed a._ticket a._to a.seat.now.me.0;
+  after = λ _. with_armed a._ticket a._to a.seat.now.view;
   tells = λ _. Unit {0};
 }

@@ -9,12 +9,12 @@ use Rattle.views.proofs.cells.collect.Goals as goal
 pub collect_as-word-requires-clause-steps : goal.collect_as-word-requires-clause-steps
 collect_as-word-requires-clause-steps c =
     rw (c.requires.fit.key_is, c.cell-at.ensures.value, sym c.requires.hart)
-    (looks c.args.config.now c.args.seat.now.id c.args.seat.now.me.0 c.request.inside.ticket c.args.from c.request.inside.what c.requires.from
-    (subst (λ (m : Request). IsAwaiting c.args.config.now c.args.seat.now.me.0 m.ticket c.args.from m.what) (sym c.request.view_is) c.requires.awaits))
+    (looks c.args.config.now c.args.seat.now.id c.args.seat.now.view c.request.inside.ticket c.args.from c.request.inside.what c.requires.from
+    (subst (λ (m : Request). IsAwaiting c.args.config.now c.args.seat.now.view m.ticket c.args.from m.what) (sym c.request.view_is) c.requires.awaits))
 
 pub returns-clause-awaits : goal.returns-clause-awaits
 returns-clause-awaits c =
-    subst (λ (m : Request). IsAwaiting c.args.config.now c.collect_as-word.new.seat.me.0 m.ticket c.args.from m.what) c.request.view_is
-    (subst (λ (v : View). IsAwaiting c.args.config.now v c.request.inside.ticket c.args.from c.request.inside.what) (sym (ap (λ m. m.0) c.collect_as-word.ensures.view))
-    (looked-awaits c.args.config.now c.args.seat.now.me.0 c.request.inside.ticket c.args.from c.collect_as-word.result c.request.inside.what
-    (subst (λ (m : Request). IsAwaiting c.args.config.now c.args.seat.now.me.0 m.ticket c.args.from m.what) (sym c.request.view_is) c.requires.awaits)))
+    subst (λ (m : Request). IsAwaiting c.args.config.now c.collect_as-word.new.seat.view m.ticket c.args.from m.what) c.request.view_is
+    (subst (λ (v : View). IsAwaiting c.args.config.now v c.request.inside.ticket c.args.from c.request.inside.what) (sym c.collect_as-word.ensures.view)
+    (looked-awaits c.args.config.now c.args.seat.now.view c.request.inside.ticket c.args.from c.collect_as-word.result c.request.inside.what
+    (subst (λ (m : Request). IsAwaiting c.args.config.now c.args.seat.now.view m.ticket c.args.from m.what) (sym c.request.view_is) c.requires.awaits)))

@@ -8,10 +8,10 @@ use Rattle.views.proofs.cells.open_order.Goals as goal
 
 pub open_as-word-requires-clause-steps : goal.open_as-word-requires-clause-steps
 open_as-word-requires-clause-steps c =
-    rw (c.requires.fit.key_is) (opens-order c.args.config.now c.args.seat.now.id c.args.seat.now.me.0 c.cell-at.result c.request.inside.ticket c.request.inside.what)
+    rw (c.requires.fit.key_is) (opens-order c.args.config.now c.args.seat.now.id c.args.seat.now.view c.cell-at.result c.request.inside.ticket c.request.inside.what)
 
 pub returns-clause-asks : goal.returns-clause-asks
 returns-clause-asks c =
-    subst (λ (m : Request). IsAsking c.args.config.now c.open_as-word.new.seat.me.0 m.ticket m.what) c.request.view_is
-    (subst (λ (v : View). IsAsking c.args.config.now v c.request.inside.ticket c.request.inside.what) (sym (ap (λ m. m.0) c.open_as-word.ensures.view))
-    (ordered-asks c.args.config.now c.args.seat.now.me.0 c.request.inside.ticket c.request.inside.what))
+    subst (λ (m : Request). IsAsking c.args.config.now c.open_as-word.new.seat.view m.ticket m.what) c.request.view_is
+    (subst (λ (v : View). IsAsking c.args.config.now v c.request.inside.ticket c.request.inside.what) (sym c.open_as-word.ensures.view)
+    (ordered-asks c.args.config.now c.args.seat.now.view c.request.inside.ticket c.request.inside.what))

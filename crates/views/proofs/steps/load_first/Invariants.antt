@@ -5,6 +5,6 @@ use Rattle.views.proofs.steps.load_first.Given as goal
 
 abbrev pub ghosts-load_as : goal.ghosts-load_as
 ghosts-load_as a = record {
-  after = walked a.seat.now.me.0 a._root a._walk [];
-  tells = TellsLoad (layout_of a.words.now.key) a.seat.now.me.0 a._walk [];
+  after = walked a.seat.now.view a._root a._walk [];
+  tells = TellsLoad (layout_of a.words.now.key) a.seat.now.view a._root a._walk [];
 }

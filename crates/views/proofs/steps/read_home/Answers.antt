@@ -5,7 +5,7 @@ use Rattle.views.proofs.steps.read_home.Goals as goal
 
 pub read_as-requires-clause-steps : goal.read_as-requires-clause-steps
 read_as-requires-clause-steps c =
-    rw (c.requires.fit.key_is, c.word_index-at.ensures.value) (home-reads c.args.config.now c.args.seat.now.id c.args.seat.now.me.0 c.args.table c.args.index c.requires.home c.requires.index)
+    rw (c.requires.fit.key_is, c.word_index-at.ensures.value) (home-reads c.args.config.now c.args.seat.now.id c.args.seat.now.view c.args.table c.args.index c.requires.home c.requires.index)
 
 pub word_index-at-requires-clause-word : goal.word_index-at-requires-clause-word
-word_index-at-requires-clause-word c = word-is (layout_of c.args.config.now) c.args.seat.now.me.0.hart c.args.table c.args.index c.requires.home c.requires.index
+word_index-at-requires-clause-word c = word-is (layout_of c.args.config.now) c.args.seat.now.view.hart c.args.table c.args.index c.requires.home c.requires.index

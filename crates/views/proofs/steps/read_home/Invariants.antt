@@ -6,6 +6,6 @@ use Rattle.views.proofs.steps.read_home.Given as goal
 
 abbrev pub ghosts-read_as : goal.ghosts-read_as
 ghosts-read_as a = record {
-  after = λ _. a.seat.now.me.0;
-  tells = λ n. memory_words (memory_of (layout_of a.words.now.key) a.seat.now.me.0) a._table a._index ≡ Some n;
+  after = λ _. a.seat.now.view;
+  tells = λ n. memory_words (memory_of (layout_of a.words.now.key) a.seat.now.view) a._table a._index ≡ Some n;
 }

@@ -12,20 +12,20 @@ collect-requires-clause-awaits c =
     let waits = subst (λ (p : PortState). IsTrue (awaits c.args.from (ticket_at p.tickets c.args.ticket))) (sym c.self.view_is) c.in-Some.ensures.awaits in
     let other = subst (λ (p : PortState). c.args.from ≢ p.hart) (sym c.self.view_is) c.in-Some.ensures.other in
     let what = subst (λ (p : PortState). what_at p.tickets c.args.ticket ≡ Some c.in-Some.request.what) (sym c.self.view_is) c.in-Some.ensures.what in
-    let v = c.self.inside.seat.me.0 in
+    let v = c.self.inside.seat.view in
     rw (c.deref-2.ensures, ap (λ m. m.ticket) c.in-Some.ensures.request)
     (awaiting (arc_value c.self.inside.config) v.orders c.self.inside.tickets c.args.ticket c.args.from waits (λ e. other (e ∙ c.self.invariant.1)) v c.in-Some.request.what refl what c.self.invariant.4)
 
 pub acked-requires : goal.acked-requires
 acked-requires c =
     let waits = subst (λ (p : PortState). IsTrue (awaits c.args.from (ticket_at p.tickets c.args.ticket))) (sym c.self.view_is) c.in-Some.ensures.awaits in
-    (named_acked (arc_value c.self.inside.config) c.self.inside.seat.me.0.orders c.self.inside.tickets c.args.ticket c.args.from waits c.self.invariant.4).0
+    (named_acked (arc_value c.self.inside.config) c.self.inside.seat.view.orders c.self.inside.tickets c.args.ticket c.args.from waits c.self.invariant.4).0
 
 pub collect-requires-2 : goal.collect-requires-2
 collect-requires-2 c =
     let waits = subst (λ (p : PortState). IsTrue (awaits c.args.from (ticket_at p.tickets c.args.ticket))) (sym c.self.view_is) c.in-Some.ensures.awaits in
     let config = arc_value c.self.inside.config in
-    let orders = c.self.inside.seat.me.0.orders in
+    let orders = c.self.inside.seat.view.orders in
     let tickets = c.self.inside.tickets in
     let i = c.self.invariant in
     rw c.acked.ensures (named_acked config orders tickets c.args.ticket c.args.from waits i.4).1
@@ -35,7 +35,7 @@ release_at-requires-clause-some c end at =
     let waits = subst (λ (p : PortState). IsTrue (awaits c.args.from (ticket_at p.tickets c.args.ticket))) (sym c.self.view_is) c.in-Some.ensures.awaits in
     let other = subst (λ (p : PortState). c.args.from ≢ p.hart) (sym c.self.view_is) c.in-Some.ensures.other in
     let config = arc_value c.self.inside.config in
-    let orders = c.self.inside.seat.me.0.orders in
+    let orders = c.self.inside.seat.view.orders in
     let tickets = c.self.inside.tickets in
     let i = c.self.invariant in
     some_outstanding config orders tickets c.args.ticket c.args.from waits (λ e. other (e ∙ i.1)) c.self.inside.outboxes.items end i.4 i.5 at
@@ -45,7 +45,7 @@ invariant_of-self-2 c =
     let waits = subst (λ (p : PortState). IsTrue (awaits c.args.from (ticket_at p.tickets c.args.ticket))) (sym c.self.view_is) c.in-Some.ensures.awaits in
     let other = subst (λ (p : PortState). c.args.from ≢ p.hart) (sym c.self.view_is) c.in-Some.ensures.other in
     let config = arc_value c.self.inside.config in
-    let orders = c.self.inside.seat.me.0.orders in
+    let orders = c.self.inside.seat.view.orders in
     let tickets = c.self.inside.tickets in
     let i = c.self.invariant in
     let same = ap (λ m. m.ticket) c.in-Some.ensures.request in (
@@ -56,7 +56,6 @@ invariant_of-self-2 c =
       rw (c.collect-2.ensures.after, c.acked.ensures, c.if-not-collect.ensures.view, same) (tied_found config orders tickets c.args.ticket c.args.from waits (λ e. other (e ∙ i.1)) i.4),
       rw (c.collect-2.ensures.after, c.acked.ensures, c.release_at.ensures.released)
           (counted_found config orders tickets c.args.ticket c.args.from waits (λ e. other (e ∙ i.1)) c.self.inside.outboxes.items i.4 i.5),
-      rw c.if-not-collect.ensures.view i.6,
     )
 
 pub returns-clause-open : goal.returns-clause-open

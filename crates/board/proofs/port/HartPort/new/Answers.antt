@@ -1,7 +1,6 @@
 use Rattle.std.proofs.Common.{rules}
 use Rattle.std.specs.Arc.{arc_value}
 use Rattle.board.proofs.Ties.{counted_new, tied_new}
-use Rattle.board.proofs.Within.{within_new}
 use Rattle.board.proofs.port.HartPort.new.Goals as goal
 
 pub invariant_of-result : goal.invariant_of-result
@@ -12,5 +11,4 @@ invariant_of-result c = (
   search rules,
   rw (c.requires.seat.view, c.new.ensures) (tied_new (arc_value c.args.config) c.args.hart),
   rw c.new.ensures (counted_new _ _ _ c.args.outboxes.items c.requires.outboxes),
-  rw c.new_in.ensures (within_new c.args.seat.me.0.entries),
 )

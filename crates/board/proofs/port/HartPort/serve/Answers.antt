@@ -1,5 +1,4 @@
 use Rattle.std.proofs.Common.{rules}
-use Rattle.board.proofs.Within.{within_served}
 use Rattle.board.proofs.port.HartPort.serve.Goals as goal
 
 pub invariant_of-self-2 : goal.invariant_of-self-2
@@ -11,5 +10,4 @@ invariant_of-self-2 c =
       search rules,
       rw c.serve.ensures.view i.4,
       i.5,
-      rw (c.serve.ensures.view, c.serve.ensures.tlb) (within_served c.self.inside.tlb.entries c.self.inside.seat.me.0.entries _ i.6),
     )

@@ -10,7 +10,6 @@ invariant_of-self c =
       i.1,
       i.2,
       search rules,
-      rw (c.store.ensures.view, c.deref-2.ensures) (tied_mapped (arc_value c.self.inside.config) c.self.inside.seat.me.0.orders c.self.inside.tickets c.args.wish.now c.args.edit.now c.requires.map i.4),
+      rw (c.store.ensures.view, c.deref-2.ensures) (tied_mapped (arc_value c.self.inside.config) c.self.inside.seat.view.orders c.self.inside.tickets c.args.wish.now c.args.edit.now c.requires.map i.4),
       i.5,
-      rw c.store.ensures.view i.6,
     )
