@@ -1,5 +1,6 @@
 //! The lines that explain.
 ghost use Rattle.std.specs.Prelude.{◌≡◌, ◌≤◌, ◌+◌, [], OnOk, length, min, nat_le, vec_len};
+ghost use Rattle.checks.specs.Shown.{sets_direction};
 ghost use Rattle.checks.specs.Told.{most_told};
 
 use std::alloc::{AllocError, Global};
@@ -54,12 +55,24 @@ impl Report {
     }
 }
 
-/// A word of the file as it is printed: between backquotes, without control characters, and cut
-/// after 40 letters.
+/// Whether a letter sets the direction of the text around it: those with the property Bidi_Control
+/// (Unicode Standard Annex 9, section 2).
+fn sets_direction(letter: char) -> bool
+    ensures { result ≡ sets_direction letter }
+{
+    matches!(
+        letter,
+        '\u{61C}' | '\u{200E}'..='\u{200F}' | '\u{202A}'..='\u{202E}' | '\u{2066}'..='\u{2069}'
+    )
+}
+
+/// A word of the file as it is printed: between backquotes, with `?` for each control character and
+/// each letter that sets the direction of text, and cut after 40 letters.
 pub fn shown(alloc: Global, word: &str) -> Result<String, AllocError> {
     let mut text = String::from_str(alloc, "`")?;
     for letter in word.chars().take(MOST_LETTERS) {
-        text.push(if letter.is_control() { '?' } else { letter })?;
+        let is_hidden = letter.is_control() || sets_direction(letter);
+        text.push(if is_hidden { '?' } else { letter })?;
     }
     if word.chars().count() > MOST_LETTERS {
         text.push_str("..")?;

@@ -1,4 +1,7 @@
 //! Where keys and texts stand in a document that was read: the numbers of their lines.
+ghost use Rattle.std.specs.Prelude.{◌≡◌};
+ghost use Rattle.hints.specs.Places.{after_blanks, is_blank};
+
 use std::alloc::{AllocError, Global};
 
 /// What the scan of a document is in.
@@ -122,12 +125,24 @@ fn begins_with(line: &[u8], key: &str) -> bool {
     }
 }
 
+fn is_blank(byte: u8) -> bool
+    ensures { result ≡ is_blank byte }
+{
+    byte == b' ' || byte == b'\t'
+}
+
 /// What stands after the blanks at the beginning.
-fn trimmed(line: &[u8]) -> &[u8] {
-    match line {
-        [b' ' | b'\t', rest @ ..] => trimmed(rest),
-        _ => line,
+fn trimmed(line: &[u8]) -> &[u8]
+    ensures { result.now ≡ after_blanks line.now }
+{
+    let mut rest = line;
+    while let [first, after @ ..] = rest {
+        if !is_blank(*first) {
+            break;
+        }
+        rest = after;
     }
+    rest
 }
 
 /// The scan after a line; the texts of it that begin in an array are added to the marks.
