@@ -10,7 +10,6 @@ mod picture;
 mod record;
 mod recorder;
 mod run;
-mod staleness;
 mod step_words;
 
 pub use picture::draw_text;

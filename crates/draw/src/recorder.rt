@@ -2,8 +2,8 @@
 
 use crate::lanes::Lanes;
 use crate::record::{Arrow, Bar, Message, Span};
-use crate::staleness::is_over;
 use pte::{PAGE_BYTES, Page, VirtAddr};
+use stale::stale_page;
 use std::alloc::{AllocError, Global};
 use stepcore::Machine;
 use svg::Column;
@@ -39,9 +39,21 @@ pub struct Held {
     pub entry: Entry,
     pub page: Page,
     pub first: u32,
+    /// The number of the page of 4 KiB that was found to be stale last.
+    pub found: u64,
 }
 
 impl Held {
+    /// What a TLB holds by an entry since it became stale in a page.
+    pub fn new(entry: Entry, page: Page, first: u32) -> Held {
+        Held {
+            entry,
+            page,
+            first,
+            found: page.base().get() / PAGE_BYTES,
+        }
+    }
+
     /// The PPN that the entry has for the page.
     pub fn ppn(&self) -> u64 {
         let bytes = self
@@ -296,31 +308,32 @@ impl Track {
         machine: &Machine,
         hart: u8,
         lane: u16,
-        stored: &Option<Page>,
         row: u32,
         bars: &mut Vec<Bar>,
     ) -> Result<(), AllocError> {
-        let Some(held) = self.stale.get(lane) else {
+        let Some(mut held) = self.stale.get(lane) else {
             return Ok(());
         };
-        if !is_over(machine, hart, &held, stored) {
-            return Ok(());
+        match stale_page(machine, hart, &held.entry, &held.page, held.found) {
+            Some(number) => {
+                held.found = number;
+                self.stale.set(lane, held);
+                Ok(())
+            }
+            None => self.end_stale(hart, lane, row, true, bars),
         }
-        self.end_stale(hart, lane, row, true, bars)
     }
 
-    /// Ends the mappings that are stale no more after a step, which stored a leaf for a page or for
-    /// none.
+    /// Ends the mappings that are stale no more after a step.
     pub fn drop_over(
         &mut self,
         machine: &Machine,
         hart: u8,
-        stored: &Option<Page>,
         row: u32,
         bars: &mut Vec<Bar>,
     ) -> Result<(), AllocError> {
         for lane in 0..self.stale.count() {
-            self.drop_lane(machine, hart, lane, stored, row, bars)?;
+            self.drop_lane(machine, hart, lane, row, bars)?;
         }
         Ok(())
     }

@@ -5,7 +5,6 @@ ghost use Rattle.keys.specs.declared.fault.Fault.TheVariants.{NoMemory};
 
 use crate::record::{Message, Record, Row, Span, StaleHit};
 use crate::recorder::{Doing, Flight, Held, OpenOrder, Track};
-use crate::staleness::stored_page;
 use crate::step_words::{hart_of, push_step};
 use files::{Fault, RunScenario};
 use lines::{push_hexadecimal, push_page};
@@ -236,34 +235,12 @@ impl Recorder {
         }
     }
 
-    /// Ends the bars of a hart's mappings that are stale no more.
-    fn drop_stale(
-        &mut self,
-        machine: &Machine,
-        hart: u8,
-        stored: &Option<Page>,
-        row: u32,
-    ) -> Result<(), AllocError> {
-        match self.tracks.get_mut(usize::from(hart)) {
-            Some(track) => track.drop_over(machine, hart, stored, row, &mut self.record.bars),
-            None => Ok(()),
-        }
-    }
-
-    /// Ends the bars of mappings that are stale no more since a step that was not refused.
-    fn note_drops(
-        &mut self,
-        machine: &Machine,
-        row: u32,
-        event: &Event,
-        reply: &Reply,
-    ) -> Result<(), AllocError> {
-        let stored = stored_page(event, reply);
-        if stored.is_none() {
-            return self.drop_stale(machine, hart_of(event), &stored, row);
-        }
-        for hart in 0..machine.harts() {
-            self.drop_stale(machine, hart, &stored, row)?;
+    /// Ends the bars of mappings that are stale no more after a step.
+    fn note_drops(&mut self, machine: &Machine, row: u32) -> Result<(), AllocError> {
+        let mut hart: u8 = 0;
+        for track in self.tracks.as_mut_slice() {
+            track.drop_over(machine, hart, row, &mut self.record.bars)?;
+            hart = hart.saturating_add(1);
         }
         Ok(())
     }
@@ -279,11 +256,7 @@ impl Recorder {
         {
             return Ok(());
         }
-        let held = Held {
-            entry: became.entry,
-            page: became.page,
-            first: row,
-        };
+        let held = Held::new(became.entry, became.page, row);
         self.scratch.clear();
         push_mapping(&mut self.scratch, held.page, held.ppn())?;
         track.label = track.label.max(self.scratch.len());
@@ -329,7 +302,7 @@ impl Recorder {
         if !matches!(reply, Reply::Refused(_)) {
             self.note(row, event, &reply)?;
             self.note_items(row, items.as_slice())?;
-            self.note_drops(machine, row, event, &reply)?;
+            self.note_drops(machine, row)?;
         }
         self.add_row(event, reply)
     }

@@ -17,3 +17,7 @@ pub mod Stepping
 pub mod Reporting
 mod Differing
 mod Once
+pub mod Passing
+pub mod Whole
+pub mod Options
+pub mod Lasts

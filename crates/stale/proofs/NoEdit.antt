@@ -123,9 +123,16 @@ module _ (C : Setup) (setup : IsSetup C) where
               (used.0, subst (λ (o : Option ℕ). Reaches C (turn ∷ H) o used.0) (sym some.1) used.1)
         ]
 
+    -- each entry was held, or is filled by the turn
+    pub held_or_filled : (h : ℕ) (e : Entry) → Contains (entries_of C (turn ∷ H) h) e → Contains (entries_of C H h) e ⊎ Fills C h e turn H
+    held_or_filled h e held =
+        All-contains (λ (x : Entry). Contains (entries_of C H h) x ⊎ Fills C h x turn H) (entries_of C (turn ∷ H) h) e
+        (entries_each C turn.event turn.reply H h (λ (x : Entry). Contains (entries_of C H h) x ⊎ Fills C h x turn H)
+        (λ i d within. inl (Contains-get_or (entries_of C H h) i d within)) (λ x f. inr f)) held
+
     module _ (plain : is_edit turn.event turn.reply ≡ false) where
       -- what is held after the turn and was mapped is mapped still
-      stays : (h : ℕ) (m : Mapping) → IsMappedBy (entries_of C (turn ∷ H) h) m → IsMappedNow C H m.asid m → IsMappedNow C (turn ∷ H) m.asid m
+      pub stays : (h : ℕ) (m : Mapping) → IsMappedBy (entries_of C (turn ∷ H) h) m → IsMappedNow C H m.asid m → IsMappedNow C (turn ∷ H) m.asid m
       stays h m held now =
           let some = reached_after h m held now.some.0 now.some.1 in
           record {
@@ -138,7 +145,7 @@ module _ (C : Setup) (setup : IsSetup C) where
           }
 
       -- what a Load fills was mapped
-      filled : (h : ℕ) (e : Entry) (m : Mapping) → Fills C h e turn H → IsMappingOf e m → IsMappedNow C H m.asid m
+      pub filled : (h : ℕ) (e : Entry) (m : Mapping) → Fills C h e turn H → IsMappingOf e m → IsMappedNow C H m.asid m
       filled h e m f of =
           let space = space_of H h in
           let there = space_there C H h setup.asids l.0 in
@@ -176,11 +183,7 @@ module _ (C : Setup) (setup : IsSetup C) where
       pub nothing_becomes : (h : ℕ) (m : Mapping) → BecomesStale C turn H h m → ⊥
       nothing_becomes h m b =
           let held = b.after.held in
-          let cases = All-contains (λ (x : Entry). Contains (entries_of C H h) x ⊎ Fills C h x turn H) (entries_of C (turn ∷ H) h) held.0
-          (entries_each C turn.event turn.reply H h (λ (x : Entry). Contains (entries_of C H h) x ⊎ Fills C h x turn H)
-          (λ i d within. inl (Contains-get_or (entries_of C H h) i d within)) (λ e f. inr f)) held.1
-          in
-          elim cases [
+          elim (held_or_filled h held.0 held.1) [
             | inl old ↦ b.before (record { held = (held.0, old, held.2); unmapped = λ now. b.after.unmapped (stays h m held now) })
             | inr f ↦ b.after.unmapped (stays h m held (filled h held.0 m f held.2))
           ]

@@ -4,3 +4,4 @@ pub mod Leaves
 pub mod Mapped
 pub mod Uses
 pub mod UseRuns
+pub mod Lasting

@@ -5,6 +5,7 @@
 mod changes;
 mod hits;
 mod items;
+mod lasting;
 mod mapped;
 mod promises;
 mod report;
@@ -12,10 +13,11 @@ mod runs;
 
 pub use hits::{StaleUse, stale_use};
 pub use items::{BecameStale, StaleAt, StaleItem};
+pub use lasting::stale_page;
 pub use mapped::is_mapped_now;
 pub use promises::{
     acknowledged_page_is_not_stale, changed_page_is_not_stale, entries_differ,
-    only_edits_make_stale, unmapping_makes_stale,
+    entry_holds_what_became_stale, only_edits_make_stale, unmapping_makes_stale,
 };
 pub use report::{stale_report, step_stale};
 pub use runs::{UseAt, stale_uses};

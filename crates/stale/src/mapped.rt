@@ -1,6 +1,6 @@
 //! Whether the tables map now what a TLB entry holds.
 
-ghost use Rattle.std.specs.Prelude.{◌≡◌, ◌<◌, ◌^◌, ◌↔◌, IsTrue, None, length};
+ghost use Rattle.std.specs.Prelude.{◌≡◌, ◌<◌, ◌^◌, ◌↔◌, IfNone, IfSome, IsTrue, None, Ok, length};
 ghost use Rattle.walk.specs.Answer.{flags_fault};
 ghost use Rattle.walk.specs.Maps.{page_number};
 ghost use Rattle.history.specs.Setup.{Setup};
@@ -32,7 +32,7 @@ fn has_asid(machine: &Machine, entry: &Entry, space: u8) -> bool
 }
 
 /// Whether the pages of an entry's ASID, or of every one, are reached through a space.
-fn is_reached(machine: &Machine, entry: &Entry, space: u8) -> bool
+pub(crate) fn is_reached(machine: &Machine, entry: &Entry, space: u8) -> bool
     ensures value { result ≡ is_reached machine.now (reach_of entry.now) space }
     ensures there { IsTrue result → space < length machine.now.memory.layout.homes }
 {
@@ -40,15 +40,15 @@ fn is_reached(machine: &Machine, entry: &Entry, space: u8) -> bool
 }
 
 /// Whether the PPN is that of the entry's page at an address.
-fn is_frame_of(entry: &Entry, va: VirtAddr, ppn: u64) -> bool
+fn is_frame_of(entry: &Entry, va: u64, ppn: u64) -> bool
     ensures { IsTrue result ↔ (ppn ≡ (mapping_of entry.now (page_number va)).ppn) }
 {
-    let place = va.get() / PAGE_BYTES % entry.page.size().pages();
+    let place = va / PAGE_BYTES % entry.page.size().pages();
     ppn.checked_sub(entry.ppn) == Some(place)
 }
 
 /// Whether a walk found the mapping that the entry has.
-fn is_found(entry: &Entry, va: VirtAddr, found: &Found) -> bool
+fn is_found(entry: &Entry, va: u64, found: &Found) -> bool
     ensures { IsTrue result ↔ ((page_number found.now.pa
         ≡ (mapping_of entry.now (page_number va)).ppn) × (found.now.flags ≡ entry.now.flags)
         × (found.now.global ≡ entry.now.global)) }
@@ -59,13 +59,44 @@ fn is_found(entry: &Entry, va: VirtAddr, found: &Found) -> bool
 }
 
 /// What a walk of an access from the root of a space answers.
-fn walked(memory: &Memory, space: u8, va: VirtAddr, access: Access, ctx: Ctx) -> Result<Found, Trap>
+fn walked(memory: &Memory, space: u8, va: u64, access: Access, ctx: Ctx) -> Result<Found, Trap>
     requires { space < length memory.now.layout.homes }
     ensures { Outcome memory.now.layout.scheme (memory_words memory.now)
         (root_ppn memory.now.layout space) va access ctx result }
 {
     let root = memory.root(space);
-    translate_in(memory.scheme(), memory, root, va.get(), access, ctx)
+    translate_in(memory.scheme(), memory, root, va, access, ctx)
+}
+
+/// What a walk from the root of a space finds at an address, if the tables map the entry's page
+/// there as the entry does. The entry answers this access of the address.
+pub(crate) fn found_in(
+    memory: &Memory,
+    space: u8,
+    entry: &Entry,
+    va: u64,
+    access: Access,
+    ctx: Ctx,
+) -> Option<Found>
+    requires there { space < length memory.now.layout.homes }
+    requires answers { flags_fault access ctx entry.now.flags ≡ None }
+    ensures walked { IfSome result (λ found. Outcome memory.now.layout.scheme
+        (memory_words memory.now) (root_ppn memory.now.layout space) va access ctx (Ok found)) }
+    ensures some { IfSome result (λ _. IsMappedFrom memory.now space
+        (mapping_of entry.now (page_number va))) }
+    ensures none { IfNone result (¬ IsMappedFrom memory.now space
+        (mapping_of entry.now (page_number va))) }
+{
+    match walked(memory, space, va, access, ctx) {
+        Ok(found) => {
+            if is_found(entry, va, &found) {
+                Some(found)
+            } else {
+                None
+            }
+        }
+        Err(_) => None,
+    }
 }
 
 /// Whether the tables of a space map the entry's page at an address as the entry does. The entry
@@ -74,7 +105,7 @@ fn is_mapped_from(
     memory: &Memory,
     space: u8,
     entry: &Entry,
-    va: VirtAddr,
+    va: u64,
     access: Access,
     ctx: Ctx,
 ) -> bool
@@ -83,15 +114,12 @@ fn is_mapped_from(
     ensures { IsTrue result ↔ IsMappedFrom memory.now space
         (mapping_of entry.now (page_number va)) }
 {
-    match walked(memory, space, va, access, ctx) {
-        Ok(found) => is_found(entry, va, &found),
-        Err(_) => false,
-    }
+    found_in(memory, space, entry, va, access, ctx).is_some()
 }
 
 /// Whether the tables map the entry's page at an address as the entry does, in each space of the
 /// entry's ASID, and there is one. The entry answers this access of the address.
-fn is_mapped(machine: &Machine, entry: &Entry, va: VirtAddr, access: Access, ctx: Ctx) -> bool
+fn is_mapped(machine: &Machine, entry: &Entry, va: u64, access: Access, ctx: Ctx) -> bool
     requires answers { flags_fault access ctx entry.now.flags ≡ None }
     ensures { IsTrue result ↔ IsMappedIn machine.now (mapping_of entry.now (page_number va)) }
 {
@@ -124,5 +152,5 @@ pub fn is_mapped_now(
     ensures { (setup : Setup) (history : History) → Stands setup machine.now history → IsTrue result
         ↔ IsMappedNow setup history (reach_of entry.now) (mapping_of entry.now (page_number va)) }
 {
-    is_mapped(machine, entry, va, access, ctx)
+    is_mapped(machine, entry, va.get(), access, ctx)
 }

@@ -3,6 +3,7 @@
 ghost use Rattle.std.specs.Prelude.{ℕ, ◌≡◌, ◌∷◌, Option, false};
 ghost use Rattle.pte.specs.Address.{Span};
 ghost use Rattle.walk.specs.Maps.{LiesIn};
+ghost use Rattle.tlb.specs.declared.store.Entry.{Entry};
 ghost use Rattle.tlb.specs.Mappings.{IsMappedBy, Mapping};
 ghost use Rattle.spaces.specs.declared.places.Place.{Place};
 ghost use Rattle.history.specs.Harts.{entries_of};
@@ -13,6 +14,7 @@ ghost use Rattle.history.specs.Orders.{Cause, Unmapped};
 ghost use Rattle.history.specs.Due.{Lawful};
 ghost use Rattle.history.specs.Staleness.{HasAnswered, is_mapped_anew, is_superseded, IsChange, IsForAsid};
 ghost use Rattle.laws.specs.Kept.{HavePages, IsSetup};
+ghost use Rattle.stale.specs.Lasting.{StaleIn};
 ghost use Rattle.stale.specs.Stale.{BecomesStale, Stale, unmapping, UsesStale};
 ghost use Rattle.stale.specs.Told.{is_edit, AreDifferent};
 
@@ -77,4 +79,17 @@ pub fn only_edits_make_stale()
         → (turn : Turn) (history : History) (hart : ℕ) (m : Mapping)
         → Lawful setup (turn ∷ history) → HavePages (turn ∷ history)
         → is_edit turn.event turn.reply ≡ false → ¬ BecomesStale setup turn history hart m }
+{}
+
+/// A mapping that an entry holds stale in a page after a turn, and did not before it, becomes stale
+/// by that turn. And each use of a stale mapping is of what the entry that answers holds stale.
+pub fn entry_holds_what_became_stale()
+    ensures begins { (setup : Setup) → IsSetup setup
+        → (turn : Turn) (history : History) (hart : ℕ) (e : Entry) (page : Span) (m : Mapping)
+        → Lawful setup (turn ∷ history) → HavePages (turn ∷ history)
+        → StaleIn setup (turn ∷ history) hart e page m → ¬ StaleIn setup history hart e page m
+        → BecomesStale setup turn history hart m }
+    ensures used { (setup : Setup) (turn : Turn) (history : History) (hart : ℕ) (page : Span)
+        (m : Mapping) → UsesStale setup turn history hart m → LiesIn page m.page
+        → (e : Entry) × StaleIn setup history hart e page m }
 {}

@@ -7,4 +7,5 @@ pub returns : goal.returns
 returns c = λ C H stands.
     let p = mapping_of c.args.entry.now (page_number c.args.va) in
     let now = mapped_now C c.args.machine.now H stands p in
-    (λ t. now.0 (c.is_mapped.ensures.0 t), λ m. c.is_mapped.ensures.1 (now.1 m))
+    let is = rw c.get.ensures.value at c.is_mapped.ensures in
+    (λ t. now.0 (is.0 t), λ m. is.1 (now.1 m))
