@@ -1,6 +1,10 @@
 pub mod FileLemmas
 pub mod OutputLemmas
 pub mod RunLemmas
-pub mod CommandLemmas
+pub mod AskLemmas
+pub mod TroubleLemmas
+pub mod WordLemmas
 pub mod InspectionLemmas
 pub mod StaleLemmas
+mod PrintFacts
+mod EndingFacts

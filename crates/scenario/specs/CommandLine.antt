@@ -1,10 +1,16 @@
 -- What the words of the command line ask for.
-use Rattle.std.specs.Prelude.{ℕ, Bool, ◌&&◌, ◌||◌, ◌==◌, nat_lt, List, [], ◌∷◌, length, slice_index_or, map, codes, string_bytes, Option, Some, None, option_map, Result, Ok, Err, if◌then◌else◌, Vec, String}
+use Rattle.std.specs.Prelude.{◌≡◌, ℕ, Bool, ◌==◌, true, false, List, [], ◌∷◌, map, codes, string_bytes, Option, Some, None, option_map, Result, Ok, Err, if◌then◌else◌, Vec, String}
 use Rattle.std.specs.declared.alloc.Global.{Global}
 use Rattle.std.specs.Option.{ok_or}
 use Rattle.std.specs.Str.{bytes_eq}
 use Rattle.std.specs.declared.io.ErrorKind.{ErrorKind}
 use Rattle.std.specs.declared.io.ErrorKind.TheVariants as kinds
+use Rattle.clap.specs.Words.{App, Row, Rule, fault_of, first_of, matches_of, new_app, new_rule, with_rule}
+use Rattle.clap.specs.Simple.{on_top}
+use Rattle.clap.specs.Walk.{is_empty}
+use Rattle.clap.specs.declared.error.kind.ErrorKind.{ErrorKind as ClapErrorKind}
+use Rattle.clap.specs.declared.error.kind.ErrorKind.TheVariants as clap_kinds
+use Rattle.keys.specs.declared.fault.Fault.TheVariants.{NoMemory}
 use Rattle.scenario.specs.declared.program.Job.{Job}
 use Rattle.scenario.specs.declared.program.Job.TheVariants.{Plain, Live, Inspect}
 use Rattle.scenario.specs.declared.program.Inspection.{Inspection}
@@ -13,6 +19,8 @@ use Rattle.scenario.specs.declared.program.Which.TheVariants.{Walk, Run}
 use Rattle.scenario.specs.declared.command_line.Ask.{Ask}
 use Rattle.scenario.specs.declared.command_line.NoWords.{NoWords}
 use Rattle.scenario.specs.declared.command_line.NoWords.TheVariants as none
+use Rattle.scenario.specs.declared.trouble.Trouble.{Trouble}
+use Rattle.scenario.specs.declared.trouble.Trouble.TheVariants.{Usage, Refused}
 use Rattle.scenario.specs.Command.{Ending, misused, no_memory}
 
 -- a command, and the name of the file that it reads
@@ -38,36 +46,71 @@ job_of word =
     else if bytes_eq word (codes "live") then Some Live
     else option_map Inspect (inspection_of word)
 
+abbrev pub asked_by : List ℕ → List ℕ → Option Asked
+asked_by word file = option_map (λ job. record { job = job; file = file }) (job_of word)
+
+-- ---- what clap takes
+
+abbrev pub value : List ℕ → Rule
+value name = record (new_rule name) { required = true }
+
+abbrev pub without_help : App → App
+without_help app = on_top (λ top. record top { disable_help_flag = true }) app
+
+-- two values, COMMAND and FILE, which are both required, and no option: `--help` is none either
+abbrev pub svsim : App
+svsim = with_rule (with_rule (without_help (new_app (codes "svsim"))) (value (codes "COMMAND")))
+    (value (codes "FILE"))
+
+-- a command that is known, and FILE
+abbrev pub asked_of : Option (List ℕ) → Option (List ℕ) → Option Asked
+asked_of (Some word) (Some file) = asked_by word file
+asked_of _ _ = None
+
+abbrev pub asked_in_rows : List Row → Option Asked
+asked_in_rows rows = asked_of (first_of (codes "COMMAND") rows) (first_of (codes "FILE") rows)
+
+-- what is asked for by words of which clap refuses none; the first is the program's name
+abbrev pub asked : List (List ℕ) → Option Asked
+asked words =
+    if is_empty (fault_of svsim words) then asked_in_rows (matches_of svsim words) else None
+
+-- ---- the same, read off the words
+
 -- `-` and more
 abbrev pub is_option : List ℕ → Bool
-is_option word = nat_lt 1 (length word) && (slice_index_or word 0 0 == 45)
+is_option (first ∷ second ∷ rest) = first == 45
+is_option _ = false
 
 -- `--`, which ends the options
 abbrev pub is_end : List ℕ → Bool
 is_end word = bytes_eq word (codes "--")
 
-abbrev pub asked_by : List ℕ → List ℕ → Option Asked
-asked_by word file = option_map (λ job. record { job = job; file = file }) (job_of word)
+-- the words but the first `--`, if none is an option; behind `--`, none is (`ended`)
+abbrev pub values : Bool → List (List ℕ) → Option (List (List ℕ))
+values ended [] = Some []
+values true (word ∷ words) = option_map (λ rest. word ∷ rest) (values true words)
+values false (word ∷ words) = if is_end word then values true words
+    else if is_option word then None
+    else option_map (λ rest. word ∷ rest) (values false words)
 
--- COMMAND and FILE, neither of them an option
-abbrev pub asked_of_two : List ℕ → List ℕ → Option Asked
-asked_of_two a b = if is_option a || is_option b then None else asked_by a b
+-- two values, a command that is known and FILE
+abbrev pub asked_of_values : Option (List (List ℕ)) → Option Asked
+asked_of_values (Some (word ∷ file ∷ [])) = asked_by word file
+asked_of_values _ = None
 
--- the same with `--` before one of them or behind both: what stands behind it is no option
-abbrev pub asked_of_three : List ℕ → List ℕ → List ℕ → Option Asked
-asked_of_three a b c =
-    if is_end a then asked_by b c
-    else if is_option a then None
-    else if is_end b then asked_by a c
-    else if is_option b then None
-    else if is_end c then asked_by a b
-    else None
+-- ---- what the code makes of them
 
--- the first word is the program's name
-abbrev pub asked : List (List ℕ) → Option Asked
-asked (name ∷ a ∷ b ∷ []) = asked_of_two a b
-asked (name ∷ a ∷ b ∷ c ∷ []) = asked_of_three a b c
-asked _ = None
+abbrev pub trouble_by : ClapErrorKind → Trouble
+trouble_by clap_kinds.OutOfMemory = Refused NoMemory
+trouble_by _ = Usage
+
+-- what the words ask for, or that they ask for nothing; or memory ran out
+abbrev pub AsksFor : List (List ℕ) → Result Ask Trouble → Type 0
+AsksFor words (Ok ask) = asked words ≡ Some (ask_view ask)
+AsksFor words (Err Usage) = asked words ≡ None
+AsksFor words (Err (Refused fault)) = fault ≡ NoMemory
+AsksFor words (Err _) = ⊥
 
 -- why there are no words, by the kind of the error of the system
 abbrev pub no_words_by : ErrorKind → NoWords

@@ -5,3 +5,4 @@ pub mod Input
 pub mod Command
 pub mod CommandLine
 pub mod Inspections
+pub mod WorkedFiles

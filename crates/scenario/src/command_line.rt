@@ -1,16 +1,19 @@
 //! The words of the command line, and what is done for them.
-ghost use Rattle.std.specs.Prelude.{◌≡◌, [], Option, IfOk, IfErr, map, option_map, string_bytes};
+ghost use Rattle.std.specs.Prelude.{◌≡◌, ◌⊎◌, [], Option, IfOk, IfErr, codes, map, option_map, string_bytes};
 ghost use Rattle.std.specs.Fn.{FnOnceReturnsAt};
 ghost use Rattle.std.specs.Io.KnownBytes.{Keeps};
 ghost use Rattle.std.specs.IoError.{error_kind};
 ghost use Rattle.scenario.specs.declared.command_line.NoWords.TheVariants.{NoMemory};
-ghost use Rattle.scenario.specs.Command.{EndsOn, Reports};
-ghost use Rattle.scenario.specs.CommandLine.{ask_view, asked, asked_by, asked_in, asked_of_three, asked_of_two, inspection_of, is_end, is_option, job_of, no_words_by};
+ghost use Rattle.clap.specs.Words.{first_value, found_of};
+ghost use Rattle.scenario.specs.Command.{EndsOn, Reports, no_memory};
+ghost use Rattle.scenario.specs.CommandLine.{AsksFor, ask_view, asked_in, asked_of, inspection_of, job_of, no_words_by};
 
 use crate::inspect_program::inspect_command;
 use crate::live_program::live_command;
 use crate::program::{Inspection, Job, Which, command, report};
 use crate::trouble::Trouble;
+use crate::words::matches_of;
+use clap::ArgMatches;
 use harts::Gate;
 use keys::Fault;
 use std::alloc::{AllocError, Global};
@@ -18,6 +21,7 @@ use std::io;
 use std::io::{Read, Write};
 use std::sync::Wait;
 use std::thread::Threads;
+use thiserror::Error;
 
 /// What the words ask for, and the file that it reads.
 #[derive(Clone, Copy, Debug)]
@@ -26,11 +30,12 @@ pub struct Ask<'a> {
     pub file: &'a str,
 }
 
-/// Why there are no words.
-#[derive(Clone, Copy, Debug, PartialEq, Eq)]
+/// Why the words that the program was started with are not known.
+#[derive(Clone, Copy, Debug, PartialEq, Eq, Error)]
 pub enum NoWords {
-    /// A word is no UTF-8.
+    #[error("a word is not UTF-8")]
     NotText,
+    #[error("no memory")]
     NoMemory,
 }
 
@@ -90,68 +95,35 @@ fn job_of(word: &str) -> Option<Job>
     }
 }
 
-/// Whether a word is an option: `-` and more.
-fn is_option(word: &str) -> bool
-    ensures { result ≡ is_option word.now }
+/// What the matches ask for: a command that is known, and FILE.
+fn asked_of<'a>(matches: &ArgMatches<'a>) -> Option<Ask<'a>>
+    ensures { option_map ask_view result ≡ asked_of (first_value (found_of matches.now)
+        (codes "COMMAND")) (first_value (found_of matches.now) (codes "FILE")) }
 {
-    word.len() > 1 && word.as_bytes()[0] == b'-'
-}
-
-/// Whether a word ends the options.
-fn is_end(word: &str) -> bool
-    ensures { result ≡ is_end word.now }
-{
-    word == "--"
-}
-
-fn asked_by<'a>(word: &str, file: &'a str) -> Option<Ask<'a>>
-    ensures { option_map ask_view result ≡ asked_by word.now file.now }
-{
-    match job_of(word) {
-        Some(job) => Some(Ask { job, file }),
-        None => None,
-    }
-}
-
-fn asked_of_two<'a>(word: &str, file: &'a str) -> Option<Ask<'a>>
-    ensures { option_map ask_view result ≡ asked_of_two word.now file.now }
-{
-    if is_option(word) || is_option(file) {
+    let Some(word) = matches.get_str("COMMAND") else {
         return None;
-    }
-    asked_by(word, file)
-}
-
-fn asked_of_three<'a>(a: &'a str, b: &'a str, c: &'a str) -> Option<Ask<'a>>
-    ensures { option_map ask_view result ≡ asked_of_three a.now b.now c.now }
-{
-    if is_end(a) {
-        return asked_by(b, c);
-    }
-    if is_option(a) {
+    };
+    let Some(file) = matches.get_str("FILE") else {
         return None;
-    }
-    if is_end(b) {
-        return asked_by(a, c);
-    }
-    if is_option(b) || !is_end(c) {
+    };
+    let Some(job) = job_of(word) else {
         return None;
-    }
-    asked_by(a, b)
+    };
+    Some(Ask { job, file })
 }
 
 /// What the words ask for, of which the first is the program's name: a command that is known and a
-/// FILE, neither of them an option. `--` ends the options.
-pub fn ask_of(words: &[String]) -> Option<Ask<'_>>
-    ensures { option_map ask_view result ≡ asked (map string_bytes words.now) }
+/// FILE, neither of them an option. `--` ends the options. Refused with `Usage` if they ask for
+/// nothing, and with `NoMemory` if memory runs out.
+#[tactic(auto, using(crate::proofs::WordLemmas::asked_found))]
+pub fn ask_of<'a>(alloc: Global, words: &'a [String]) -> Result<Ask<'a>, Trouble>
+    ensures { AsksFor (map string_bytes words.now) result }
 {
-    if words.len() == 3 {
-        return asked_of_two(words[1].as_str(), words[2].as_str());
+    let matches = matches_of(alloc, words)?;
+    match asked_of(&matches) {
+        Some(ask) => Ok(ask),
+        None => Err(Trouble::Usage),
     }
-    if words.len() == 4 {
-        return asked_of_three(words[1].as_str(), words[2].as_str(), words[3].as_str());
-    }
-    None
 }
 
 /// Does what was asked for on the file that `input` reads; without one the file could not be
@@ -182,9 +154,9 @@ fn on_file<T: Threads + Wait + Sync, R: Read + Drop, W: Write, E: Write, G: Gate
 
 /// The whole of the program: does what the words ask for on the file that `reader_of` opens, and
 /// answers the status. It is called with the name of the file, once the words are known to ask for
-/// one. Words that ask for nothing are told by the line `svsim: usage: svsim COMMAND FILE` and
-/// status 2, a file that is not opened as one that can't be read. Threads are started, and `gate`
-/// is asked, by `live` alone.
+/// one. Words that ask for nothing get the line `svsim: usage: svsim COMMAND FILE` and status 2, a
+/// file that is not opened ends as one that can't be read. Memory may run out before the words are
+/// read. Threads are started, and `gate` is asked, by `live` alone.
 pub fn answer_words<
     T: Threads + Wait + Sync,
     R: Read + Drop,
@@ -202,10 +174,12 @@ pub fn answer_words<
     gate: &G,
 ) -> u8
     requires { O.IsAlwaysCallable reader_of }
-    ensures asked { IfOk (asked_in words) (λ ask. (input : Option R)
+    ensures asked { IfOk (asked_in words) (λ ask. ((input : Option R)
         × FnOnceReturnsAt O.FnOnce reader_of ask.file input
         × EndsOn R.remaining ask.job ask.file input result (W.contents out.old) (W.contents out.new)
-        (E.contents err.old) (E.contents err.new)) }
+        (E.contents err.old) (E.contents err.new))
+        ⊎ (Reports [] no_memory result (E.contents err.old) (E.contents err.new)
+        × Keeps (W.contents out.old) (W.contents out.new))) }
     ensures unasked { IfErr (asked_in words) (λ ending.
         Reports [] ending result (E.contents err.old) (E.contents err.new)
         × Keeps (W.contents out.old) (W.contents out.new)) }
@@ -215,8 +189,8 @@ pub fn answer_words<
         Err(NoWords::NotText) => return report(alloc, "", &Trouble::Usage, err),
         Err(NoWords::NoMemory) => return report(alloc, "", &Trouble::Refused(Fault::NoMemory), err),
     };
-    match ask_of(words.as_slice()) {
-        Some(ask) => on_file(rt, alloc, ask, reader_of(ask.file), out, err, gate),
-        None => report(alloc, "", &Trouble::Usage, err),
+    match ask_of(alloc, words.as_slice()) {
+        Ok(ask) => on_file(rt, alloc, ask, reader_of(ask.file), out, err, gate),
+        Err(trouble) => report(alloc, "", &trouble, err),
     }
 }

@@ -7,26 +7,35 @@
 #![tactic(auto)]
 
 mod command_line;
+mod ending_laws;
 mod format_laws;
 mod input;
 mod inspect_program;
 mod limits;
 mod live_program;
 mod output;
+mod print_laws;
 mod program;
 mod system;
 mod texts;
 mod trouble;
+mod word_laws;
+mod words;
 
 pub use command_line::{Ask, NoWords, answer_words, ask_of};
+pub use ending_laws::{what_a_status_says, worked_faults, worked_reports};
 pub use files::{first_wrong_step, worked_turns};
 pub use format_laws::worked_endings;
 pub use inspect_program::inspect_command;
 pub use keys::{Fault, least_unknown_key, mode_is_sv39_by_default, worked_modes};
+pub use limits::worked_limit;
 pub use lines::one_text;
 pub use live_program::live_command;
+pub use print_laws::{one_print, worked_prints};
 pub use program::{Inspection, Job, Which, command};
 pub use spaces::limits_are_checked;
 pub use steps::StepFault;
 pub use system::start;
 pub use texts::{run_text, walk_text};
+pub use trouble::Trouble;
+pub use word_laws::{words_are_read, worked_words};

@@ -79,12 +79,10 @@ fn error_text(alloc: Global, file: &str, trouble: &Trouble) -> Result<String, Al
         ≡ error_line file.now (ending_of trouble.now)) }
 {
     let mut text = String::new(alloc);
-    match trouble {
-        Trouble::Usage => writeln!(text, "svsim: usage: svsim COMMAND FILE")?,
-        Trouble::Unreadable => writeln!(text, "svsim: cannot read {file}")?,
-        Trouble::TooLarge => writeln!(text, "svsim: file too large")?,
-        Trouble::NoThread => writeln!(text, "svsim: no thread")?,
-        Trouble::Refused(fault) => writeln!(text, "svsim: {fault}")?,
+    if matches!(trouble, Trouble::Unreadable) {
+        writeln!(text, "svsim: cannot read {file}")?;
+    } else {
+        writeln!(text, "svsim: {trouble}")?;
     }
     Ok(text)
 }

@@ -6,8 +6,10 @@ ghost use Rattle.keys.specs.declared.fault.Fault.TheVariants.{NoMemory};
 
 use keys::Fault;
 use std::alloc::AllocError;
+use std::error::Error;
+use std::fmt;
 
-/// Why a command was not done.
+/// Why a command was not done. `Display` is the text that `svsim` prints, without the file's name.
 #[derive(Debug, Drop)]
 pub enum Trouble {
     /// The words ask for nothing.
@@ -18,6 +20,26 @@ pub enum Trouble {
     NoThread,
     Refused(Fault),
 }
+
+#[tactic(auto, using(crate::proofs::TroubleLemmas::fault_reason))]
+impl fmt::Display for Trouble {
+    ghost use Rattle.std.specs.Prelude.{Some, codes};
+    ghost use Rattle.scenario.specs.Command.{ending_of, reason};
+
+    ghost output = { λ trouble. Some (reason (codes "FILE") (ending_of trouble)) };
+
+    fn fmt<W: fmt::Write>(&self, f: &mut fmt::Formatter<W>) -> fmt::Result {
+        match self {
+            Trouble::Usage => f.write_str("usage: svsim COMMAND FILE"),
+            Trouble::Unreadable => f.write_str("cannot read FILE"),
+            Trouble::TooLarge => f.write_str("file too large"),
+            Trouble::NoThread => f.write_str("no thread"),
+            Trouble::Refused(fault) => write!(f, "{fault}"),
+        }
+    }
+}
+
+impl Error for Trouble {}
 
 impl From<AllocError> for Trouble {
     ghost from_gives = { λ _ e. e ≡ Refused NoMemory };

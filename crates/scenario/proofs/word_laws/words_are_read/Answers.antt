@@ -1,0 +1,8 @@
+use Rattle.scenario.proofs.WordLemmas.{two_words, words_read}
+use Rattle.scenario.proofs.word_laws.words_are_read.Goals as goal
+
+pub returns-clause-read : goal.returns-clause-read
+returns-clause-read c name words texts = words_read name words texts
+
+pub returns-clause-plain : goal.returns-clause-plain
+returns-clause-plain c name word file first second = two_words name word file first second

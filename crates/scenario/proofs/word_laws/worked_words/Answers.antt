@@ -1,0 +1,30 @@
+use Rattle.std.proofs.Common.{refl}
+use Rattle.clap.proofs.OnLiterals.{clap_on_literals}
+use Rattle.scenario.proofs.word_laws.worked_words.Goals as goal
+
+pub returns : goal.returns
+unfolding clap_on_literals
+returns c = record {
+  no_name = refl;
+  no_words = refl;
+  one = refl;
+  two = refl;
+  three = refl;
+  four = refl;
+  unknown = refl;
+  file_first = refl;
+  no_file_name = refl;
+  dash = refl;
+  end = refl;
+  end_first = refl;
+  end_last = refl;
+  end_alone = refl;
+  option_first = refl;
+  option_last = refl;
+  option_for_file = refl;
+  help = refl;
+  short_help = refl;
+  help_word = refl;
+  version = refl;
+  short_version = refl;
+}

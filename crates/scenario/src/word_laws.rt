@@ -1,0 +1,55 @@
+//! Laws of the words of the command line: each call makes no step, and its clauses hold of the
+//! definitions alone.
+ghost use Rattle.std.specs.Prelude.{◌≡◌, ℕ, List, [], ◌∷◌, true, false, Some, None, codes};
+ghost use Rattle.std.specs.List.{list_all};
+ghost use Rattle.std.specs.Str.{is_utf8};
+ghost use Rattle.scenario.specs.declared.program.Job.TheVariants.{Plain, Live, Inspect};
+ghost use Rattle.scenario.specs.declared.program.Inspection.TheVariants.{Stale, Show, Draw, Check};
+ghost use Rattle.scenario.specs.declared.program.Which.TheVariants.{Walk, Run};
+ghost use Rattle.scenario.specs.CommandLine.{asked, asked_by, asked_of_values, is_option, values};
+
+/// What `clap` takes is what can be read off the words: two values, and no option before a `--`. Of
+/// two words that are no options, whatever their bytes are, it takes just these.
+pub fn words_are_read()
+    ensures read { (name : List ℕ) (words : List (List ℕ)) → list_all is_utf8 words ≡ true
+        → asked (name ∷ words) ≡ asked_of_values (values false words) }
+    ensures plain { (name word file : List ℕ) → is_option word ≡ false → is_option file ≡ false
+        → asked (name ∷ word ∷ file ∷ []) ≡ asked_by word file }
+{}
+
+/// Command lines written out, and what `clap` takes of them.
+pub fn worked_words()
+    ensures no_name { asked [] ≡ None }
+    ensures no_words { asked (codes "svsim" ∷ []) ≡ None }
+    ensures one { asked (codes "svsim" ∷ codes "walk" ∷ []) ≡ None }
+    ensures two { asked (codes "svsim" ∷ codes "walk" ∷ codes "f" ∷ [])
+        ≡ Some (record { job = Plain Walk; file = codes "f" }) }
+    ensures three { asked (codes "svsim" ∷ codes "walk" ∷ codes "f" ∷ codes "g" ∷ []) ≡ None }
+    ensures four { asked (codes "svsim" ∷ codes "run" ∷ codes "--" ∷ codes "f" ∷ codes "g" ∷ [])
+        ≡ None }
+    ensures unknown { asked (codes "svsim" ∷ codes "Run" ∷ codes "f" ∷ []) ≡ None }
+    ensures file_first { asked (codes "svsim" ∷ codes "f" ∷ codes "run" ∷ []) ≡ None }
+    ensures no_file_name { asked (codes "svsim" ∷ codes "run" ∷ [] ∷ [])
+        ≡ Some (record { job = Plain Run; file = [] }) }
+    ensures dash { asked (codes "svsim" ∷ codes "live" ∷ codes "-" ∷ [])
+        ≡ Some (record { job = Live; file = codes "-" }) }
+    ensures end { asked (codes "svsim" ∷ codes "stale" ∷ codes "--" ∷ codes "-x" ∷ [])
+        ≡ Some (record { job = Inspect Stale; file = codes "-x" }) }
+    ensures end_first { asked (codes "svsim" ∷ codes "--" ∷ codes "show" ∷ codes "--" ∷ [])
+        ≡ Some (record { job = Inspect Show; file = codes "--" }) }
+    ensures end_last { asked (codes "svsim" ∷ codes "draw" ∷ codes "f" ∷ codes "--" ∷ [])
+        ≡ Some (record { job = Inspect Draw; file = codes "f" }) }
+    ensures end_alone { asked (codes "svsim" ∷ codes "check" ∷ codes "--" ∷ []) ≡ None }
+    ensures option_first { asked (codes "svsim" ∷ codes "-x" ∷ codes "run" ∷ codes "f" ∷ [])
+        ≡ None }
+    ensures option_last { asked (codes "svsim" ∷ codes "run" ∷ codes "f" ∷ codes "--x=f" ∷ [])
+        ≡ None }
+    ensures option_for_file { asked (codes "svsim" ∷ codes "run" ∷ codes "-x" ∷ []) ≡ None }
+    ensures help { asked (codes "svsim" ∷ codes "--help" ∷ []) ≡ None }
+    ensures short_help { asked (codes "svsim" ∷ codes "run" ∷ codes "f" ∷ codes "-h" ∷ [])
+        ≡ None }
+    ensures help_word { asked (codes "svsim" ∷ codes "help" ∷ codes "run" ∷ []) ≡ None }
+    ensures version { asked (codes "svsim" ∷ codes "--version" ∷ []) ≡ None }
+    ensures short_version { asked (codes "svsim" ∷ codes "-V" ∷ codes "run" ∷ codes "f" ∷ [])
+        ≡ None }
+{}
