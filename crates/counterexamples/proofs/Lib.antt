@@ -10,3 +10,5 @@ mod Refuted
 mod RetiredRefuted
 mod DoneFacts
 mod HeadlineFacts
+mod UsedFacts
+mod LockFacts

@@ -3,6 +3,7 @@
 #![tactic(auto)]
 
 pub mod of_done;
+pub mod of_locks;
 pub mod of_machines;
 pub mod of_promises;
 pub mod of_records;

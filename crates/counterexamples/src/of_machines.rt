@@ -1,7 +1,7 @@
 //! What the statements of the headline refuse: machines of two harts, and histories, of which they
 //! are false. Each function does nothing, and its clauses are the facts.
 
-ghost use Rattle.std.specs.Prelude.{[], ◌++◌, ◌∷◌, ◌≡◌, List};
+ghost use Rattle.std.specs.Prelude.{[], ◌++◌, ◌∷◌, ◌≡◌, List, None, Some};
 ghost use Rattle.history.specs.declared.event.Event.TheVariants.{Load, ServeFence};
 ghost use Rattle.refusals.specs.declared.refusal.Refusal.TheVariants.{NotServing, NotWalking};
 ghost use Rattle.history.specs.declared.reply.Reply.{Reply};
@@ -10,11 +10,12 @@ ghost use Rattle.history.specs.Turns.{History};
 ghost use Rattle.worked_runs.specs.WorkedEntries.{entry, global_entry, global_read_only_entry, read_only_entry};
 ghost use Rattle.counterexamples.specs.Counterexamples.{request_of};
 ghost use Rattle.worked_runs.specs.MailboxRuns as mailboxes;
+ghost use Rattle.worked_runs.specs.RetireRuns as retirements;
 ghost use Rattle.worked_runs.specs.ShootdownRuns as shootdowns;
 ghost use Rattle.worked_runs.specs.UnlawfulRuns as unlawful;
 ghost use Rattle.worked_runs.specs.WorkedRuns.{events, history_after, history_of, large_page, replies, small_page, Step, two_harts};
-ghost use Rattle.counterexamples.specs.MachineCounterexamples.{machine_holding, machine_with};
-ghost use Rattle.stepcore.specs.Runs.{after_run, AreDue, IsClear, IsClearOnceDone, IsCoherent, MailboxesKeepOrder, NothingAfterCloses};
+ghost use Rattle.counterexamples.specs.MachineCounterexamples.{machine_holding, machine_in, machine_walking, machine_with};
+ghost use Rattle.stepcore.specs.Runs.{after_run, AreDue, HartsAreInLiveSpaces, IsClear, IsClearOnceDone, IsCoherent, MailboxesKeepOrder, NothingAfterCloses, TlbsHoldUsedAsids, WalksHoldUsedFrames};
 
 /// Once both harts have acknowledged the unmapping of a page of 2 MiB, no machine is clear in which
 /// either holds the page, and none in which hart 1 holds a small page or a global page of it; also
@@ -127,4 +128,51 @@ pub fn replies_are_due_in_order()
         (reply.Refused NotWalking ∷ reply.Refused NotWalking ∷ []) }
     ensures third { ¬ AreDue two_harts [] (Load 0 ∷ ServeFence 0 ∷ [])
         (reply.Refused NotWalking ∷ reply.Refused NotServing ∷ reply.Ok ∷ []) }
+{}
+
+/// Once space 1 was given back, no hart may hold an entry of its ASID, at any place of its TLB.
+/// Before that one may, and afterwards entries of the other space's ASID, or global ones.
+pub fn used_asids_are_of_each_hart_and_entry()
+    ensures before { TlbsHoldUsedAsids shootdowns.spaces_of_one_home []
+        (machine_holding [] (entry 2 (small_page 0x1000) 0x100 ∷ [])) }
+    ensures kept { TlbsHoldUsedAsids shootdowns.spaces_of_one_home
+        (history_of retirements.retired_and_given_back)
+        (machine_holding (entry 1 (small_page 0x1000) 0x100 ∷ [])
+        (global_entry (small_page 0x1000) 0x100 ∷ [])) }
+    ensures sender { ¬ TlbsHoldUsedAsids shootdowns.spaces_of_one_home
+        (history_of retirements.retired_and_given_back)
+        (machine_holding (entry 2 (small_page 0x1000) 0x100 ∷ []) []) }
+    ensures other { ¬ TlbsHoldUsedAsids shootdowns.spaces_of_one_home
+        (history_of retirements.retired_and_given_back)
+        (machine_holding [] (entry 2 (small_page 0x1000) 0x100 ∷ [])) }
+    ensures youngest { ¬ TlbsHoldUsedAsids shootdowns.spaces_of_one_home
+        (history_of retirements.retired_and_given_back)
+        (machine_holding [] (entry 1 (small_page 0x1000) 0x100
+        ∷ entry 2 (small_page 0x1000) 0x100 ∷ [])) }
+{}
+
+/// No hart may be in a space that retires or is free.
+pub fn live_spaces_are_of_each_hart()
+    ensures before { HartsAreInLiveSpaces shootdowns.spaces_of_one_home [] (machine_in 1 1) }
+    ensures kept { HartsAreInLiveSpaces shootdowns.spaces_of_one_home
+        (history_of retirements.retired_and_given_back) (machine_in 0 0) }
+    ensures sender { ¬ HartsAreInLiveSpaces shootdowns.spaces_of_one_home
+        (history_of retirements.retired_and_given_back) (machine_in 1 0) }
+    ensures other { ¬ HartsAreInLiveSpaces shootdowns.spaces_of_one_home
+        (history_of retirements.retired_and_given_back) (machine_in 0 1) }
+    ensures retiring { ¬ HartsAreInLiveSpaces shootdowns.spaces_of_one_home
+        (history_of retirements.retired_until_acknowledged) (machine_in 0 1) }
+{}
+
+/// No walk of a hart may have come to a spare frame that is in use for no place, be it the hart's
+/// own or another's; to one that is in use it may.
+pub fn used_frames_are_of_each_hart_and_home()
+    ensures kept { WalksHoldUsedFrames two_harts (history_of shootdowns.map_superpage)
+        (machine_walking None (Some 0x80002)) }
+    ensures own { ¬ WalksHoldUsedFrames two_harts [] (machine_walking (Some 0x80002) None) }
+    ensures of_the_other { ¬ WalksHoldUsedFrames two_harts []
+        (machine_walking (Some 0x8000a) None) }
+    ensures last_of_the_other { ¬ WalksHoldUsedFrames two_harts []
+        (machine_walking None (Some 0x80009)) }
+    ensures last_own { ¬ WalksHoldUsedFrames two_harts [] (machine_walking None (Some 0x80011)) }
 {}
