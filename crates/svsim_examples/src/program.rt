@@ -1,6 +1,7 @@
-//! The whole program over memory, on a file of a folder.
+//! The whole program over memory.
 use harts::OpenGate;
 use scenario::answer_words;
+use std::alloc::{AllocError, Global};
 use std::fs::File;
 use std::sync::Wait;
 use std::thread::Threads;
@@ -12,6 +13,24 @@ pub struct Outcome {
     pub status: u8,
     pub out: Vec<u8>,
     pub err: Vec<u8>,
+}
+
+impl Outcome {
+    /// Whether it is this one.
+    pub fn is(&self, status: u8, out: &str, err: &str) -> bool {
+        self.status == status
+            && self.out.as_slice() == out.as_bytes()
+            && self.err.as_slice() == err.as_bytes()
+    }
+}
+
+/// The words of a line, of which the first is the program's name.
+fn words_of(alloc: Global, line: &str) -> Result<Vec<String>, AllocError> {
+    let mut words = Vec::new(alloc);
+    for word in line.split(' ') {
+        words.push(String::from_str(alloc, word)?)?;
+    }
+    Ok(words)
 }
 
 fn opened(rt: &HostRuntime, folder: &str, file: &str) -> Option<File> {
@@ -28,10 +47,8 @@ pub fn answer<T: Threads + Wait + Sync>(
     file: &str,
 ) -> io::Result<Outcome> {
     let alloc = rt.alloc();
-    let mut words = Vec::new(alloc);
-    words.push(String::from_str(alloc, "svsim")?)?;
-    words.push(String::from_str(alloc, command)?)?;
-    words.push(String::from_str(alloc, file)?)?;
+    let line = format!(in alloc; "svsim {command} {file}")?;
+    let words = words_of(alloc, line.as_str())?;
     let mut out: Vec<u8> = Vec::new(alloc);
     let mut err: Vec<u8> = Vec::new(alloc);
     let status = answer_words(
@@ -39,6 +56,36 @@ pub fn answer<T: Threads + Wait + Sync>(
         alloc,
         Ok(words),
         |file| opened(rt, folder, file),
+        &mut out,
+        &mut err,
+        &OpenGate,
+    );
+    Ok(Outcome { status, out, err })
+}
+
+/// The text, for each name that it has in lists of cases.
+fn named<'a>(name: &str, text: &'a str) -> Option<&'a [u8]> {
+    match name {
+        "FILE" | "-x" | "--" => Some(text.as_bytes()),
+        _ => None,
+    }
+}
+
+/// What the program answers to the words of a line, where this text is the only file.
+pub fn answer_on<T: Threads + Wait + Sync>(
+    alloc: Global,
+    threads: &T,
+    line: &str,
+    text: &str,
+) -> io::Result<Outcome> {
+    let words = words_of(alloc, line)?;
+    let mut out: Vec<u8> = Vec::new(alloc);
+    let mut err: Vec<u8> = Vec::new(alloc);
+    let status = answer_words(
+        threads,
+        alloc,
+        Ok(words),
+        |name| named(name, text),
         &mut out,
         &mut err,
         &OpenGate,

@@ -1,13 +1,11 @@
-//! Tests of what is read and written: steps, lines, the numbers of refusals, and the commands of
-//! `svsim`.
+//! Tests of what is read and written that are no data of `svsim_examples`: calls of the libraries, readers
+//! and writers that fail, the longest files, gates, and lines that differ from run to run.
 #![tactic(auto)]
 
 #[cfg(test)]
-mod commands;
+mod ends;
 #[cfg(test)]
-mod inspection_ends;
-#[cfg(test)]
-mod inspections;
+mod gates;
 #[cfg(test)]
 mod limits;
 #[cfg(test)]
@@ -15,16 +13,24 @@ mod lines_written;
 #[cfg(test)]
 mod live_steps;
 #[cfg(test)]
-mod programs;
+mod many_faults;
+#[cfg(test)]
+mod near_words;
+#[cfg(test)]
+mod pictures;
 #[cfg(test)]
 mod readers_and_writers;
 #[cfg(test)]
 mod refusal_numbers;
 #[cfg(test)]
-mod run_commands;
+mod samples;
 #[cfg(test)]
-mod space_steps;
+mod stale_runs;
 #[cfg(test)]
 mod steps_read;
 #[cfg(test)]
-mod walk_commands;
+mod texts;
+#[cfg(test)]
+mod vain;
+#[cfg(test)]
+mod words_read;

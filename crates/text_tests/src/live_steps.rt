@@ -137,7 +137,7 @@ fn lines_of_the_setup(rt: HostRuntime) {
     );
 }
 
-/// Each text has the fault as a line of a script, for so many harts.
+/// Each text has the fault as a line of a script, for this number of harts.
 fn assert_script_faults(rt: &impl Abort, harts: u8, fault: StepFault, texts: &[&str]) {
     for text in texts {
         assert_eq!(rt;
@@ -148,7 +148,7 @@ fn assert_script_faults(rt: &impl Abort, harts: u8, fault: StepFault, texts: &[&
     }
 }
 
-/// Each text has the fault as a line of the setup, for so many harts.
+/// Each text has the fault as a line of the setup, for this number of harts.
 fn assert_setup_faults(rt: &impl Abort, harts: u8, fault: StepFault, texts: &[&str]) {
     for text in texts {
         assert_eq!(rt;

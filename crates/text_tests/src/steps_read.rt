@@ -1,108 +1,11 @@
-//! Known texts, and what they write.
+//! Texts of steps of `run`, and what they write.
 use bitflags::Flags;
 use history::{Event, Scope};
 use pte::{Access, Ctx, Mode, Page, PageSize, PteFlags, Scheme, VirtAddr};
 use spaces::Place;
 use std::process::Abort;
 use std::test::Fail;
-use steps::{StepFault, WalkStep, num, run_step, run_step_among, walk_step, words};
-
-#[test]
-fn numbers_of_words(rt: HostRuntime) {
-    for (word, value) in [
-        ("0", Some(0)),
-        ("00274877906944", Some(274_877_906_944)),
-        ("18446744073709551615", Some(u64::MAX)),
-        ("18446744073709551616", None),
-        ("00000000000000000001", Some(1)),
-        ("000000000000000000001", None),
-        ("0x0", Some(0)),
-        ("0xabCD", Some(0xabcd)),
-        ("0xFFFFFFFFFFFFFFFF", Some(u64::MAX)),
-        ("0x00000000000000000", None),
-        ("0x", None),
-        ("0X1", None),
-        ("", None),
-        ("x1", None),
-        ("a", None),
-        ("+1", None),
-        ("-1", None),
-        ("0x+1", None),
-        ("1_000", None),
-    ] {
-        assert_eq!(rt; num(word.as_bytes()), value, "{word}");
-    }
-}
-
-#[test]
-fn words_of_texts(rt: HostRuntime) -> Result<(), Fail> {
-    let alloc = rt.alloc();
-    for (text, count) in [
-        ("", 0),
-        (" \t ", 0),
-        ("a", 1),
-        ("\ta  bc\td ", 3),
-        ("a\nb", 1),
-    ] {
-        assert_eq!(rt; words(alloc, text)?.len(), count, "{text}");
-    }
-    let words = words(alloc, "\ta  bc\td ")?;
-    assert!(rt;
-        words.as_slice() == [b"a".as_slice(), b"bc".as_slice(), b"d".as_slice()].as_slice()
-    );
-    Ok(())
-}
-
-#[test]
-fn steps_of_walk(rt: HostRuntime) {
-    let user = |sum, mxr| Ctx {
-        mode: Mode::User,
-        sum,
-        mxr,
-    };
-    let supervisor = |sum, mxr| Ctx {
-        mode: Mode::Super,
-        sum,
-        mxr,
-    };
-    for (text, ctx, access, va) in [
-        (
-            "u load 0x80403ABC",
-            user(false, false),
-            Access::Load,
-            0x8040_3abc,
-        ),
-        (
-            " s+sum+mxr\tstore 1 ",
-            supervisor(true, true),
-            Access::Store,
-            1,
-        ),
-        ("u+mxr fetch 0", user(false, true), Access::Fetch, 0),
-        ("s+sum load 0", supervisor(true, false), Access::Load, 0),
-    ] {
-        let step = WalkStep { ctx, access, va };
-        assert_eq!(rt; walk_step(text), Some(step), "{text}");
-    }
-}
-
-#[test]
-fn texts_that_are_no_steps_of_walk(rt: HostRuntime) {
-    for text in [
-        "",
-        "u jump 0",
-        "u load",
-        "u load 0 0",
-        "u+mxr+sum load 0",
-        "U load 0",
-        "u LOAD 0",
-        "m load 0",
-        "u load +1",
-        "u load 18446744073709551616",
-    ] {
-        assert_eq!(rt; walk_step(text), None, "{text}");
-    }
-}
+use steps::{StepFault, run_step, run_step_among};
 
 /// The schemes that a text is read in.
 const SCHEMES: [Scheme; 2] = [Scheme::Sv39, Scheme::Sv48];
@@ -249,6 +152,36 @@ fn steps_of_shootdowns(rt: HostRuntime) {
     );
 }
 
+#[test]
+fn steps_of_spaces(rt: HostRuntime) {
+    let create = |hart, space, asid| Event::Create { hart, space, asid };
+    assert_steps(
+        &rt,
+        &[
+            ("0 retire 1", Event::Retire { hart: 0, space: 1 }),
+            (
+                "7\tretire 0xFF ",
+                Event::Retire {
+                    hart: 7,
+                    space: 255,
+                },
+            ),
+            ("0 reclaim 1", Event::Reclaim { hart: 0, space: 1 }),
+            (
+                " 1 reclaim 255",
+                Event::Reclaim {
+                    hart: 1,
+                    space: 255,
+                },
+            ),
+            ("0 create 1 2", create(0, 1, 2)),
+            ("0 create 0 0", create(0, 0, 0)),
+            ("7 create 255 65535", create(7, 255, 65535)),
+            ("1 create 0x1F 0xffff", create(1, 31, 65535)),
+        ],
+    );
+}
+
 /// The text writes no step of the scheme, whatever harts there are.
 fn assert_no_step(rt: &impl Abort, scheme: Scheme, text: &str) {
     for harts in [0, 2, 8, 255] {
@@ -291,6 +224,20 @@ fn texts_of_no_form(rt: HostRuntime) {
             "0 collect 0",
             "0 wait 0",
             "9 jump",
+            "0 retire",
+            "0 retire 1 2",
+            "0 Retire 1",
+            "0 retires 1",
+            "retire 1",
+            "retire 0 1",
+            "0 reclaim",
+            "0 reclaim 1 2",
+            "0 RECLAIM 1",
+            "reclaim 1",
+            "0 create",
+            "0 create 1",
+            "0 create 1 2 3",
+            "0 Create 1 2",
         ],
     );
 }
@@ -311,6 +258,21 @@ fn words_that_do_not_fit(rt: HostRuntime) {
             "0 finish 0x100000000",
             "0 close -",
             "0 flush all 9,x",
+            "0 retire 256",
+            "0 retire k",
+            "0 retire all",
+            "0 retire -",
+            "0 reclaim 256",
+            "0 reclaim k",
+            "0 create 256 1",
+            "0 create k 1",
+            "0 create 1 65536",
+            "0 create 1 0x10000",
+            "0 create 1 131071",
+            "0 create 1 18446744073709551616",
+            "0 create 1 x0",
+            "0 create 1 -",
+            "9 create 1 65536",
         ],
     );
 }
@@ -362,6 +324,10 @@ fn steps_of_harts_and_pages_that_are_not_there(rt: HostRuntime) {
         ("0 close 8", StepFault::NoSuchHart),
         ("9 map 0 4K:0x1 0x1 r", StepFault::NoSuchHart),
         ("0 unmap 0 4K:0x1 2", StepFault::NoSuchHart),
+        ("2 retire 0", StepFault::NoSuchHart),
+        ("2 reclaim 0", StepFault::NoSuchHart),
+        ("2 create 0 1", StepFault::NoSuchHart),
+        ("256 retire 255", StepFault::NoSuchHart),
         ("0 map 0 2M:0x1000 0x1 r", StepFault::NotPage),
         ("0 map 0 4K:0x1001 0x1 r", StepFault::NotPage),
         ("0 unmap 0 4K:0x4000000000 0", StepFault::NotPage),
@@ -409,7 +375,7 @@ fn pages_of_512_gib(rt: HostRuntime) -> Result<(), Fail> {
     Ok(())
 }
 
-/// Whether an address is one is told by the scheme.
+/// The scheme decides whether an address is one.
 #[test]
 fn pages_of_sv48(rt: HostRuntime) -> Result<(), Fail> {
     let unmap = |page| Event::Unmap {
@@ -473,16 +439,4 @@ fn worked_rows_are_laws(_rt: HostRuntime) {
     steps::worked_steps();
     steps::worked_faults();
     steps::worked_pages();
-}
-
-/// With ample memory a text has its words, however many.
-#[test]
-fn words_of_a_long_text(rt: HostRuntime) -> Result<(), Fail> {
-    let alloc = rt.alloc();
-    let mut text = String::new(alloc);
-    for _ in 0..100_000_u32 {
-        text.push_str("a\t")?;
-    }
-    assert_eq!(rt; words(alloc, text.as_str())?.len(), 100_000);
-    Ok(())
 }
