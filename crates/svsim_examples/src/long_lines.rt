@@ -313,26 +313,46 @@ impl Line {
     }
 }
 
+/// How many commands answer as expected to the file in which a unit is repeated. Prints a line for
+/// each other answer.
+fn right_of_unit<T: Threads + Wait + Sync>(
+    rt: &HostRuntime,
+    threads: &T,
+    line: &Line,
+    unit: &str,
+) -> usize {
+    let mut right: usize = 0;
+    for command in COMMANDS {
+        if let Ok(true) = line.is_answered(rt.alloc(), threads, command, unit) {
+            right = right.saturating_add(1);
+        } else {
+            let _ = println!(rt;
+                "{command}: {}{unit}..{}: another answer",
+                line.head, line.tail
+            );
+        }
+    }
+    right
+}
+
+/// The same of all units of a line.
+fn right_of_line<T: Threads + Wait + Sync>(rt: &HostRuntime, threads: &T, line: &Line) -> usize {
+    let mut right: usize = 0;
+    for unit in line.units {
+        right = right.saturating_add(right_of_unit(rt, threads, line, unit));
+    }
+    right
+}
+
 /// Prints a line for each answer that is another one than expected, and one with the number of the
 /// others. Whether all are as expected.
 pub fn tell_long_lines<T: Threads + Wait + Sync>(rt: &HostRuntime, threads: &T) -> bool {
-    let mut right: u32 = 0;
-    let mut are_right = true;
+    let mut right: usize = 0;
+    let mut files: usize = 0;
     for line in LINES {
-        for unit in line.units {
-            for command in COMMANDS {
-                if let Ok(true) = line.is_answered(rt.alloc(), threads, command, unit) {
-                    right = right.saturating_add(1);
-                } else {
-                    are_right = false;
-                    let _ = println!(rt;
-                        "{command}: {}{unit}..{}: another answer",
-                        line.head, line.tail
-                    );
-                }
-            }
-        }
+        right = right.saturating_add(right_of_line(rt, threads, &line));
+        files = files.saturating_add(line.units.len());
     }
     let _ = println!(rt; "long lines: {right} as expected");
-    are_right
+    right == files.saturating_mul(COMMANDS.len())
 }
