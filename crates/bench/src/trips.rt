@@ -9,7 +9,7 @@
 
 use crate::pause::pause;
 use pte::{Scheme, What};
-use rings::{Inbox, Outbox, ends};
+use board::{Inbox, Outbox, ends};
 use shoot::{Request, Tickets};
 use std::alloc::{AllocError, Global};
 use std::sync::atomic::{AtomicU64, Ordering};

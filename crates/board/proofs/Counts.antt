@@ -8,7 +8,7 @@ use Rattle.std.proofs.lemmas.Option.{slice_get-get_or}
 use Rattle.std.proofs.lemmas.List.FromFn.{length-map-range_with_len}
 use Rattle.std.specs.Option.{option_map}
 use Rattle.history.specs.Setup.{Setup}
-use Rattle.rings.specs.Ends.{OutboxState, InboxState}
+use Rattle.board.specs.Ends.{OutboxState, InboxState}
 use Rattle.board.specs.Ports.{End, if_there, element, capacities, capacities_of, end_of_outbox, end_of_inbox}
 
 module _ {X : Type 0} (name : X → End) where

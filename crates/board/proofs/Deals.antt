@@ -6,7 +6,7 @@ use Rattle.std.specs.Option.{option_map}
 use Rattle.std.specs.List.{range_with_len}
 use Rattle.atomic_table.specs.Seated.{TableId}
 use Rattle.history.specs.Setup.{Setup}
-use Rattle.rings.specs.Ends.{OutboxState, InboxState}
+use Rattle.board.specs.Ends.{OutboxState, InboxState}
 use Rattle.board.specs.Ports.{End, PortName, PortState, ArePorts, IsPort, cell, element, end_of_inbox, end_of_outbox, name_of, row}
 use Rattle.board.specs.Rows.{IsNet, items_at, new_inbox_of, new_outbox_of}
 use Rattle.board.proofs.RowsGrow.{row_count}

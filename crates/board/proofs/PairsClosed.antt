@@ -6,7 +6,7 @@ use Rattle.std.proofs.lemmas.List.{map-append, append-nil}
 use Rattle.std.proofs.lemmas.List.Elements.{All-append}
 use Rattle.std.proofs.Math.Nat.{suc-mul}
 use Rattle.std.specs.Global.{Vec}
-use Rattle.rings.specs.Ends.{OutboxState, InboxState, count_of}
+use Rattle.board.specs.Ends.{OutboxState, InboxState, count_of}
 use Rattle.board.specs.Ports.{element}
 use Rattle.board.specs.Reports.{accepted_by, pairs_of, pairs_to, taken_by}
 use Rattle.board.specs.Rows.{AreEnds, IsPairOf, items_at}

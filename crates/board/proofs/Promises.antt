@@ -20,7 +20,7 @@ use Rattle.spaces.specs.declared.faults.MapFault.{MapFault}
 use Rattle.spaces.specs.declared.wishes.Wish.TheVariants.{Unmap}
 use Rattle.spaces.specs.Edits.{Store}
 use Rattle.shoot.specs.Tickets.{names, open_answer}
-use Rattle.refusals.specs.declared.refusal.Refusal.{Refusal}
+use Rattle.history.specs.declared.refusal.Refusal.{Refusal}
 use Rattle.history.specs.Refusal.{refusal_of}
 use Rattle.views.specs.Orders.{IsLive, is_in}
 use Rattle.views.proofs.Lasting.{begins_live, none_held}

@@ -9,7 +9,7 @@ use Rattle.std.specs.Option.{option_map}
 use Rattle.std.specs.List.{range_with_len}
 use Rattle.history.specs.Setup.{Setup}
 use Rattle.shoot.specs.Request.{Request}
-use Rattle.rings.specs.Ends.{OutboxState, InboxState, count_of}
+use Rattle.board.specs.Ends.{OutboxState, InboxState, count_of}
 use Rattle.board.specs.Ports.{End, PortState, ArePorts, IsPort, capacities, capacities_of, element, end_of_inbox, end_of_outbox, name_of, row}
 use Rattle.board.specs.Reports.{IsReport, IsReportOf, accepted_between, accepted_by, pairs_of, taken_between, taken_by}
 use Rattle.board.specs.Rows.{AreEnds, IsPairOf, items_at}

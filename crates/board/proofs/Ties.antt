@@ -16,7 +16,7 @@ use Rattle.pte.specs.declared.address.What.{What}
 use Rattle.shoot.specs.HartSet.{contains, harts_in, no_harts}
 use Rattle.shoot.specs.declared.tickets.Ticket.{Ticket}
 use Rattle.shoot.specs.Tickets.{TicketTable, ticket_at, if_open, with_ticket, with_change, acked_by, changed, after_acked, after_finish, after_open, after_posted, asked as asked_of, done_with, is_done_at, is_open, ticket_posted, names, new_ticket, lowest_free, no_tickets, open_answer, opened, tells, what_at, with_acked, with_collected, with_posted}
-use Rattle.rings.specs.Ends.{OutboxState, after_close, after_release}
+use Rattle.board.specs.Ends.{OutboxState, after_close, after_release}
 use Rattle.spaces.specs.declared.configuration.Config.{Config}
 use Rattle.views.specs.declared.view.Cause.{Cause}
 use Rattle.views.specs.declared.view.Order.{Order}

@@ -16,7 +16,7 @@ use Rattle.spaces.specs.declared.faults.MapFault.{MapFault}
 use Rattle.spaces.specs.declared.places.Place.{Place}
 use Rattle.spaces.specs.declared.wishes.Wish.TheVariants.{Unmap}
 use Rattle.spaces.specs.Edits.{Store}
-use Rattle.refusals.specs.declared.refusal.Refusal.{Refusal}
+use Rattle.history.specs.declared.refusal.Refusal.{Refusal}
 use Rattle.history.specs.Refusal.{opening_refusal, refusal_of}
 use Rattle.views.specs.declared.view.Order.{Order}
 use Rattle.views.specs.Orders.{IsLive}

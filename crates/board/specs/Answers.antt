@@ -10,15 +10,15 @@ use Rattle.shoot.specs.declared.mailbox.PostFault.{PostFault}
 use Rattle.shoot.specs.declared.tickets.TicketFault.{TicketFault}
 use Rattle.shoot.specs.declared.tickets.Collected.{Collected}
 use Rattle.shoot.specs.Tickets.{TicketTable, is_open, names, ticket_posted, is_done_at, what_at, open_answer, progress_at, after_open, acked_by, after_acked, after_posted, after_collect, after_finish}
-use Rattle.refusals.specs.declared.refusal.Refusal.{Refusal}
-use Rattle.refusals.specs.declared.refusal.Refusal.TheVariants.{NoHart, NoSpace, NotOpen, NotNamed, AlreadyPosted, Closed, NotDone}
+use Rattle.history.specs.declared.refusal.Refusal.{Refusal}
+use Rattle.history.specs.declared.refusal.Refusal.TheVariants.{NoHart, NoSpace, NotOpen, NotNamed, AlreadyPosted, Closed, NotDone}
 use Rattle.history.specs.declared.event.Scope.{Scope}
 use Rattle.history.specs.Due.{are_pair, are_harts, is_number}
 use Rattle.history.specs.declared.event.Scope.TheVariants as scope
 use Rattle.history.specs.Orders.{scope_request}
 use Rattle.history.specs.Refusal.{opening_refusal, posting_refusal}
 use Rattle.history.specs.Setup.{Setup}
-use Rattle.rings.specs.Ends.{OutboxState, InboxState, post_fault, with_accepted, with_taken, after_close}
+use Rattle.board.specs.Ends.{OutboxState, InboxState, post_fault, with_accepted, with_taken, after_close}
 use Rattle.views.specs.OrderTurns.{acknowledged, ordered, self_acked, with_armed}
 use Rattle.board.specs.Ports.{PortState, outbox_to, inbox_from}
 

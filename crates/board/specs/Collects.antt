@@ -4,7 +4,7 @@ use Rattle.std.specs.Option.{option_map}
 use Rattle.shoot.specs.Tickets.{names, ticket_at}
 use Rattle.shoot.specs.Acknowledgement.{acknowledgement}
 use Rattle.history.specs.Due.{are_pair}
-use Rattle.rings.specs.Ends.{after_release}
+use Rattle.board.specs.Ends.{after_release}
 use Rattle.views.specs.declared.view.Order.{Order}
 use Rattle.views.specs.Orders.{is_in}
 use Rattle.views.specs.OrderTurns.{looked, order_of_ticket}

@@ -1,3 +1,4 @@
+pub mod Ends
 pub mod Ports
 pub mod Answers
 pub mod Reports

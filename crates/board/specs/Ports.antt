@@ -6,7 +6,7 @@ use Rattle.atomic_table.specs.Seated.{TableId}
 use Rattle.shoot.specs.Tickets.{TicketTable, no_tickets}
 use Rattle.tlb.specs.Entries.{TlbState}
 use Rattle.history.specs.Setup.{Setup, setup_of}
-use Rattle.rings.specs.Ends.{Ring, OutboxState, InboxState, new_outbox, new_inbox}
+use Rattle.board.specs.Ends.{Ring, OutboxState, InboxState, new_outbox, new_inbox}
 use Rattle.spaces.specs.declared.configuration.Config.{Config}
 use Rattle.spaces.specs.Layout.{layout_of}
 use Rattle.views.specs.declared.view.View.{View}

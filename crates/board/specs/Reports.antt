@@ -1,7 +1,7 @@
 -- What is told at the end of each mailbox.
 use Rattle.std.specs.Prelude.{ℕ, zero, suc, ◌≡◌, ◌+◌, ◌^◌, ◌<◌, ◌==◌, length, List, [], ◌∷◌, ◌++◌, map, Option, Some, None, All, if◌then◌else◌}
 use Rattle.shoot.specs.Request.{Request}
-use Rattle.rings.specs.Ends.{OutboxState, InboxState, count_of}
+use Rattle.board.specs.Ends.{OutboxState, InboxState, count_of}
 use Rattle.board.specs.Ports.{PortState, cell}
 use Rattle.board.specs.declared.report.PairReport.{PairReport}
 

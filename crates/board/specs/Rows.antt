@@ -4,7 +4,7 @@ use Rattle.std.specs.Global.{Vec}
 use Rattle.std.specs.Option.{option_map}
 use Rattle.std.specs.List.{range_with_len}
 use Rattle.shoot.specs.Request.{Request}
-use Rattle.rings.specs.Ends.{OutboxState, InboxState, count_of, new_outbox, new_inbox}
+use Rattle.board.specs.Ends.{OutboxState, InboxState, count_of, new_outbox, new_inbox}
 use Rattle.board.specs.Ports.{End, end_of_outbox, end_of_inbox, element}
 use Rattle.board.specs.Reports.{accepted_by, taken_by}
 use Rattle.board.specs.declared.report.PairReport.{PairReport}

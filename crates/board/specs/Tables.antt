@@ -22,8 +22,8 @@ use Rattle.shoot.specs.Tickets.{open_answer, after_open}
 use Rattle.tlb.specs.Answer.{address_found, entry_of}
 use Rattle.tlb.specs.Entries.{TlbState, filled}
 use Rattle.tlb.specs.Fence.{fenced}
-use Rattle.refusals.specs.declared.refusal.Refusal.{Refusal}
-use Rattle.refusals.specs.declared.refusal.Refusal.TheVariants.{NoHart, NoSpace}
+use Rattle.history.specs.declared.refusal.Refusal.{Refusal}
+use Rattle.history.specs.declared.refusal.Refusal.TheVariants.{NoHart, NoSpace}
 use Rattle.history.specs.Due.{are_harts, is_number}
 use Rattle.history.specs.Refusal.{refusal_of}
 use Rattle.history.specs.Setup.{Setup}

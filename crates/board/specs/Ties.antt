@@ -4,7 +4,7 @@ use Rattle.shoot.specs.HartSet.{contains}
 use Rattle.pte.specs.declared.TheConstants.{MAX_HARTS}
 use Rattle.shoot.specs.declared.tickets.Ticket.{Ticket}
 use Rattle.shoot.specs.Tickets.{TicketTable, ticket_at}
-use Rattle.rings.specs.Ends.{OutboxState}
+use Rattle.board.specs.Ends.{OutboxState}
 use Rattle.spaces.specs.declared.configuration.Config.{Config}
 use Rattle.views.specs.declared.view.Order.{Order}
 use Rattle.views.specs.Orders.{asked, is_in}

@@ -17,7 +17,7 @@ use crate::receiver::Receiver;
 use crate::report::{PairReport, Report};
 use crate::seats::open_seats;
 use pte::MAX_HARTS;
-use rings::Outbox;
+use crate::outbox::Outbox;
 use spaces::{Config, OpenFault};
 use std::alloc::{AllocError, Global};
 use std::marker::Model;

@@ -8,7 +8,7 @@ ghost use Rattle.board.specs.Rows.{AreEnds, AreLinked, IsPairOf, items_at};
 use crate::port::HartPort;
 use crate::receiver::Receiver;
 use crate::report::PairReport;
-use rings::Outbox;
+use crate::outbox::Outbox;
 
 /// Takes an end out of a row. None is left in its place.
 fn take_of<T>(row: &mut Vec<Option<T>>, column: u8) -> Option<T>

@@ -3,9 +3,9 @@
 ghost use Rattle.std.specs.Prelude.{◌≡◌, ◌≢◌, ◌<◌, ◌↔◌, IfSome, IfNone, true, false, ◌==◌, IsTrue, Some, Ok, Err, length, map, slice_set};
 ghost use Rattle.shoot.specs.declared.tickets.Collected.TheVariants as collected;
 ghost use Rattle.shoot.specs.Tickets.{is_open, progress_at, ticket_at, what_at};
-ghost use Rattle.rings.specs.Ends.{after_release};
+ghost use Rattle.board.specs.Ends.{after_release};
 ghost use Rattle.std.specs.Option.{option_map};
-ghost use Rattle.rings.specs.Ends.{OutboxState};
+ghost use Rattle.board.specs.Ends.{OutboxState};
 ghost use Rattle.board.specs.Ports.{element, end_of_outbox, name_of};
 ghost use Rattle.board.specs.Answers.{request_of};
 ghost use Rattle.board.specs.Ties.{awaits};
@@ -16,7 +16,7 @@ ghost use Rattle.views.specs.OrderTurns.{last_word};
 
 use crate::port::HartPort;
 use history::Refusal;
-use rings::Outbox;
+use crate::outbox::Outbox;
 use shoot::{Collected, Request};
 use views::collect;
 

@@ -7,9 +7,12 @@ mod board;
 mod closing;
 mod collecting;
 mod editing;
+mod inbox;
 mod laws;
 mod mapped;
 mod opening;
+mod outbox;
+mod pair;
 mod port;
 mod receiver;
 mod report;
@@ -17,10 +20,13 @@ mod seats;
 mod translating;
 
 pub use board::Board;
+pub use inbox::Inbox;
 pub use laws::{
     accepted_unmapping_is_live, counts_add_up, looks_in_order, new_ports_have_done_nothing,
     pairs_of_three_harts, translate_none_holds_none, unmapping_stays_open,
 };
 pub use mapped::Mapped;
+pub use outbox::Outbox;
+pub use pair::{ends, settle, take_waiting};
 pub use port::HartPort;
 pub use report::{PairReport, Report};

@@ -7,7 +7,8 @@ ghost use Rattle.board.specs.Ports.{element, end_of_outbox, end_of_inbox};
 ghost use Rattle.board.specs.Rows.{AreLinked, IsInRow, IsNet, IsOutRow, capacity_between, capacity_of, items_at, new_inbox_of, new_outbox_of};
 
 use crate::receiver::Receiver;
-use rings::{Outbox, ends};
+use crate::outbox::Outbox;
+use crate::pair::ends;
 use std::alloc::{AllocError, Global};
 
 /// The two ends from one hart to another, none from a hart to itself.

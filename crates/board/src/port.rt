@@ -3,7 +3,7 @@
 ghost use Rattle.std.specs.Prelude.{◌≡◌, ◌≢◌, ◌<◌, ◌↔◌, true, false, IfOk, IfErr, OnOk, OnErr, IfSome, IfNone, IsTrue, Some, None, Err, Ok, length, [], ◌∷◌, map, slice_set};
 ghost use mathlib.Core.List.{IsPrefix};
 ghost use Rattle.std.specs.Option.{option_map};
-ghost use Rattle.rings.specs.Ends.{after_close};
+ghost use Rattle.board.specs.Ends.{after_close};
 ghost use Rattle.shoot.specs.declared.TheConstants.{MAX_TICKETS};
 ghost use Rattle.shoot.specs.Tickets.{acked_by, is_open, what_at};
 ghost use Rattle.views.specs.OrderTurns.{IsAwaiting};
@@ -14,7 +14,7 @@ use crate::receiver::Receiver;
 use arrayvec::ArrayVec;
 use history::{Refusal, Scope, opening_refusal, posting_refusal};
 use pte::What;
-use rings::Outbox;
+use crate::outbox::Outbox;
 use shoot::{Collected, HartSet, NotDone, Request, Tickets};
 use spaces::Config;
 use std::alloc::Global;

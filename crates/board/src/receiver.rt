@@ -1,10 +1,12 @@
 //! The end by which a port takes requests, with the room for those that will wait in the end.
 
 ghost use Rattle.std.specs.Prelude.{◌≡◌, ◌≤◌, ◌++◌, [], vec_capacity, IfSome, IfOk};
-ghost use Rattle.rings.specs.Ends.{count_of};
+ghost use Rattle.board.specs.Ends.{count_of};
 
 use crate::report::PairReport;
-use rings::{Inbox, Outbox, take_waiting};
+use crate::inbox::Inbox;
+use crate::outbox::Outbox;
+use crate::pair::take_waiting;
 use shoot::Request;
 use std::alloc::{AllocError, Global};
 use std::marker::Model;
@@ -18,7 +20,7 @@ pub(crate) struct Receiver {
 
 impl Model for Receiver {
     ghost use Rattle.std.specs.Prelude.{◌≡◌, ◌≤◌, [], vec_capacity};
-    ghost use Rattle.rings.specs.Ends.{InboxState};
+    ghost use Rattle.board.specs.Ends.{InboxState};
 
     ghost Value = { InboxState };
 
@@ -30,7 +32,7 @@ impl Model for Receiver {
 impl Receiver {
     ghost use Rattle.std.specs.Prelude.{◌∷◌, IfNone};
     ghost use mathlib.Core.List.{IsPrefix};
-    ghost use Rattle.rings.specs.Ends.{with_taken};
+    ghost use Rattle.board.specs.Ends.{with_taken};
 
     /// The room is taken here.
     pub(crate) fn new(alloc: Global, inbox: Inbox, capacity: usize) -> Result<Receiver, AllocError>

@@ -1,8 +1,8 @@
 -- A fault that is none of memory is the failure that was read.
 use Rattle.std.proofs.Common.{◌≡◌, false, Result, Some, option_map, ap, sym}
-use Rattle.keys.specs.Faults.{Failure, Fails, failure_of, fault_in}
-use Rattle.keys.specs.declared.fault.Fault.{Fault}
-use Rattle.keys.specs.declared.fault.Fault.TheVariants as faults
+use Rattle.files.specs.Faults.{Failure, Fails, failure_of, fault_in}
+use Rattle.files.specs.declared.fault.Fault.{Fault}
+use Rattle.files.specs.declared.fault.Fault.TheVariants as faults
 use Rattle.checks.specs.Told.{is_memory}
 
 pub failing : {Y : Type 0} → (fault : Fault) → (read : Result Y Failure) → is_memory fault ≡ false → Fails fault read → Some (failure_of fault) ≡ option_map Some (fault_in read)

@@ -1,1 +1,2 @@
+pub mod NearLemmas
 pub mod FaultLemmas

@@ -1,2 +1,4 @@
+pub mod Near
+pub mod Places
 pub mod Told
 pub mod Shown

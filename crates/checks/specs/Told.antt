@@ -3,9 +3,9 @@ use Rattle.std.specs.Prelude.{ℕ, ◌==◌, ◌||◌, Bool, true, false, nat_lt
 use Rattle.std.specs.Fmt.{decimal}
 use Rattle.toml.specs.Data.{Members, get_member}
 use Rattle.toml.specs.Parse.{parse_document}
-use Rattle.keys.specs.Faults.{Failure, fault_in, not_toml}
-use Rattle.keys.specs.declared.fault.Fault.{Fault}
-use Rattle.keys.specs.declared.fault.Fault.TheVariants as faults
+use Rattle.files.specs.Faults.{Failure, fault_in, not_toml}
+use Rattle.files.specs.declared.fault.Fault.{Fault}
+use Rattle.files.specs.declared.fault.Fault.TheVariants as faults
 use Rattle.files.specs.LiveFile.{live_keys, live_scenario_of}
 use Rattle.files.specs.RunFile.{run_keys, run_scenario_of}
 use Rattle.files.specs.WalkFile.{walk_keys, walk_scenario_of}

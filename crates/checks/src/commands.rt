@@ -1,11 +1,11 @@
 //! The command that a file is for.
 ghost use Rattle.std.specs.Prelude.{◌≡◌};
 ghost use Rattle.toml.specs.View.{table_view};
-ghost use Rattle.keys.specs.Keys.{key_texts};
+ghost use Rattle.files.specs.Keys.{key_texts};
 ghost use Rattle.checks.specs.Told.{command_of, has_key, has_live_key, has_walk_key, keys_of, name_of};
 
 use files::{LIVE_KEYS, RUN_KEYS, WALK_KEYS};
-use keys::value_at;
+use files::value_at;
 use toml::Table;
 
 /// The commands that read a file.

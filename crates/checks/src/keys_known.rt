@@ -1,12 +1,12 @@
 //! Keys that the command does not know.
 ghost use Rattle.std.specs.Prelude.{◌≡◌};
-ghost use Rattle.keys.specs.Keys.{is_known, key_texts};
+ghost use Rattle.files.specs.Keys.{is_known, key_texts};
 ghost use Rattle.checks.specs.Told.{keys_of};
 
 use crate::commands::Command;
 use crate::report::Report;
 use crate::values::Document;
-use hints::nearest;
+use crate::near::nearest;
 use std::alloc::AllocError;
 
 /// Whether the command knows the key.

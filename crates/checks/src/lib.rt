@@ -7,7 +7,10 @@ mod commands;
 mod fields;
 mod forms;
 mod keys_known;
+mod laws;
 mod layout;
+mod near;
+mod places;
 mod report;
 mod spaces_told;
 mod step_texts;
@@ -16,3 +19,5 @@ mod values;
 
 pub use checked::{Checked, check_text};
 pub use commands::{Command, command_of};
+pub use laws::near_words_are_edited_ones;
+pub use near::{is_near, nearest};

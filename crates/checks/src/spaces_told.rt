@@ -1,7 +1,7 @@
 //! What is wrong with the spaces of a file.
 use crate::report::{Report, shown};
 use crate::values::{Document, text_of};
-use hints::Place;
+use crate::places::Place;
 use spaces::{Config, MAX_HARTS, MAX_SPACES, Space};
 use std::alloc::AllocError;
 use steps::{num, words};

@@ -6,7 +6,7 @@ use crate::fields::{Field, field_of};
 use crate::forms::{WALK_FORM, form_of, names};
 use crate::report::shown;
 use crate::values::text_of;
-use hints::nearest;
+use crate::near::nearest;
 use pte::Scheme;
 use std::alloc::{AllocError, Global};
 use steps::{StepFault, live_step_among, num, run_step_among, setup_step_among, walk_step, words};

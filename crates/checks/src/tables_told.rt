@@ -2,8 +2,8 @@
 use crate::report::{Report, shown};
 use crate::values::{Document, text_of};
 use files::MOST_FRAMES;
-use hints::Place;
-use keys::number;
+use crate::places::Place;
+use files::number;
 use pte::{PPN_LIMIT, TABLE_LENGTH};
 use spaces::Config;
 use std::alloc::AllocError;

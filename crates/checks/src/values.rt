@@ -1,7 +1,7 @@
 //! What is wrong with the values of keys: each on its own.
 use crate::report::{Report, shown};
-use hints::Place;
-use keys::number;
+use crate::places::Place;
+use files::number;
 use pte::Scheme;
 use spaces::Config;
 use std::alloc::{AllocError, Global};

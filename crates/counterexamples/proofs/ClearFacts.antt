@@ -13,12 +13,12 @@ use Rattle.tlb.specs.Entries.{holds, is_match}
 use Rattle.history.specs.Turns.{History}
 use Rattle.history.specs.Orders.{Unmapped}
 use Rattle.history.specs.Staleness.{is_mapped_anew, HasAnswered, Clear}
-use Rattle.worked_runs.specs.WorkedRuns.{history_of, large_page, small_page, two_harts}
-use Rattle.worked_runs.specs.EditRuns.{huge_page}
-use Rattle.worked_runs.specs.ShootdownRuns as shootdowns
-use Rattle.worked_runs.specs.KernelRuns as kernel
-use Rattle.worked_runs.specs.StalenessRuns as staleness
-use Rattle.worked_runs.specs.WorkedEntries.{entry, read_only_entry, global_entry}
+use Rattle.counterexamples.specs.WorkedRuns.{history_of, large_page, small_page, two_harts}
+use Rattle.counterexamples.specs.EditRuns.{huge_page}
+use Rattle.counterexamples.specs.ShootdownRuns as shootdowns
+use Rattle.counterexamples.specs.KernelRuns as kernel
+use Rattle.counterexamples.specs.StalenessRuns as staleness
+use Rattle.counterexamples.specs.WorkedEntries.{entry, read_only_entry, global_entry}
 use Rattle.counterexamples.specs.Counterexamples.{ClearForbids, ClearAllowsAll}
 use Rattle.counterexamples.proofs.Promises.{clear_forbids, clear_allows, other_cause_clear, one_match, unacked_clear, anew_clear, unnamed_clear}
 

@@ -8,11 +8,11 @@ use Rattle.tlb.specs.Mappings.{Mapping}
 use Rattle.history.specs.Orders.{Unmapped, Protected}
 use Rattle.history.specs.Tables.{words_of}
 use Rattle.history.specs.Staleness.{IsMapped}
-use Rattle.worked_runs.specs.WorkedRuns.{history_of, large_page, small_page, two_harts, three_harts, flags, R, W, U, A, D, user}
-use Rattle.worked_runs.specs.ShootdownRuns as shootdowns
-use Rattle.worked_runs.specs.KernelRuns as kernel
-use Rattle.worked_runs.specs.StalenessRuns as staleness
-use Rattle.worked_runs.specs.WorkedEntries.{entry, read_only_entry, global_entry, global_read_only_entry}
+use Rattle.counterexamples.specs.WorkedRuns.{history_of, large_page, small_page, two_harts, three_harts, flags, R, W, U, A, D, user}
+use Rattle.counterexamples.specs.ShootdownRuns as shootdowns
+use Rattle.counterexamples.specs.KernelRuns as kernel
+use Rattle.counterexamples.specs.StalenessRuns as staleness
+use Rattle.counterexamples.specs.WorkedEntries.{entry, read_only_entry, global_entry, global_read_only_entry}
 use Rattle.counterexamples.specs.Counterexamples.{CoherentForbids, CoherentAllowsAll}
 use Rattle.counterexamples.proofs.Promises.{not_mapped, not_global, coherent_forbids, unacked_coherent, unnamed_coherent, superseded_coherent}
 

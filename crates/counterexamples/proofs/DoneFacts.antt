@@ -18,14 +18,14 @@ use Rattle.history.specs.Orders.{order_at}
 use Rattle.history.specs.Acknowledgements.{is_acked}
 use Rattle.history.specs.Completion.{IsDoneAt, IsDoneFor}
 use Rattle.history.specs.Occurrences.{Sometime}
-use Rattle.worked_runs.specs.WorkedEntries.{entry, global_entry}
-use Rattle.worked_runs.specs.EditRuns.{huge_page}
-use Rattle.worked_runs.specs.HartRuns.{spaces_of_other_asids}
-use Rattle.worked_runs.specs.ServiceRuns as services
-use Rattle.worked_runs.specs.ShootdownRuns as shootdowns
-use Rattle.worked_runs.specs.StalenessRuns as staleness
-use Rattle.worked_runs.specs.WorkedRuns.{history_of, IsRun, large_page, small_page, two_harts}
-use Rattle.worked_runs.proofs.RunsAreLawful.{lawful_run}
+use Rattle.counterexamples.specs.WorkedEntries.{entry, global_entry}
+use Rattle.counterexamples.specs.EditRuns.{huge_page}
+use Rattle.counterexamples.specs.HartRuns.{spaces_of_other_asids}
+use Rattle.counterexamples.specs.ServiceRuns as services
+use Rattle.counterexamples.specs.ShootdownRuns as shootdowns
+use Rattle.counterexamples.specs.StalenessRuns as staleness
+use Rattle.counterexamples.specs.WorkedRuns.{history_of, IsRun, large_page, small_page, two_harts}
+use Rattle.counterexamples.proofs.RunsAreLawful.{lawful_run}
 use Rattle.counterexamples.specs.DoneCounterexamples.{DoneAllowsAll, DoneForbids}
 use Rattle.laws.proofs.Accepted.{turn_of}
 use Rattle.laws.proofs.Completed.{done_acked}

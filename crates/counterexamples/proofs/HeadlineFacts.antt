@@ -3,12 +3,12 @@ use Rattle.std.proofs.Common.{◌≡◌, zero, suc, List, [], ◌∷◌, ◌++�
 use Rattle.history.specs.declared.reply.Reply.{Reply}
 use Rattle.history.specs.Turns.{History}
 use Rattle.history.specs.Runs.{with_turn}
-use Rattle.worked_runs.specs.WorkedEntries.{entry, global_entry, global_read_only_entry, read_only_entry}
+use Rattle.counterexamples.specs.WorkedEntries.{entry, global_entry, global_read_only_entry, read_only_entry}
 use Rattle.counterexamples.specs.Counterexamples.{request_of}
-use Rattle.worked_runs.specs.MailboxRuns.{mailboxes_of_two, two_requests_wait}
-use Rattle.worked_runs.specs.ShootdownRuns as shootdowns
-use Rattle.worked_runs.specs.UnlawfulRuns as unlawful
-use Rattle.worked_runs.specs.WorkedRuns.{events, history_after, history_of, large_page, replies, small_page, Step, two_harts}
+use Rattle.counterexamples.specs.MailboxRuns.{mailboxes_of_two, two_requests_wait}
+use Rattle.counterexamples.specs.ShootdownRuns as shootdowns
+use Rattle.counterexamples.specs.UnlawfulRuns as unlawful
+use Rattle.counterexamples.specs.WorkedRuns.{events, history_after, history_of, large_page, replies, small_page, Step, two_harts}
 use Rattle.counterexamples.proofs.ClearFacts as clear
 use Rattle.counterexamples.proofs.CoherentFacts as coherent
 use Rattle.counterexamples.proofs.MailboxFacts as mailbox

@@ -1,3 +1,18 @@
+pub mod RunsAreLawful
+pub mod ShootdownRows
+pub mod KernelRows
+mod MailboxRows
+mod EditRows
+mod SuperpageEntries
+mod RefusalRows
+mod StalenessRows
+mod HartRows
+mod Sv48Rows
+mod SetupFacts
+pub mod RetireRows
+mod TranslationRows
+mod ServiceRows
+pub mod TerapageEntries
 mod Promises
 mod Sv48Entries
 mod ClearFacts

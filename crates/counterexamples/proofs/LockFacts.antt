@@ -2,8 +2,8 @@
 use Rattle.std.proofs.Common.{◌≡◌, ℕ, zero, suc, ◌<◌, ◌&&◌, ◌||◌, not, Bool, true, false, cond, eqb, List, [], ◌∷◌, length, get_or, refl, sym, ap, ◌∙◌, arith}
 use Rattle.std.proofs.lemmas.Bool.{eq-eqb, ne_eqb, true≢false}
 use Rattle.std.specs.Prelude.{is_some, slice_index_or}
-use Rattle.refusals.specs.Numbers.{code_of}
-use Rattle.refusals.specs.declared.refusal.Refusal.TheVariants.{AsidInUse, NoSpace, NotFree, Retiring, Walking}
+use Rattle.history.specs.Numbers.{code_of}
+use Rattle.history.specs.declared.refusal.Refusal.TheVariants.{AsidInUse, NoSpace, NotFree, Retiring, Walking}
 use Rattle.history.specs.declared.event.Event.TheVariants.{Create, Switch}
 use Rattle.history.specs.declared.reply.Reply.{Reply}
 use Rattle.history.specs.declared.reply.Reply.TheVariants as reply
@@ -14,8 +14,8 @@ use Rattle.history.specs.Turns.{History}
 use Rattle.laws.specs.Kept.{HavePages}
 use Rattle.laws.proofs.Asids.{asid_bound, live_hart}
 use Rattle.laws.proofs.Causes.{space_there}
-use Rattle.worked_runs.specs.ShootdownRuns.{spaces_of_one_home}
-use Rattle.worked_runs.specs.WorkedRuns.{refused, two_harts}
+use Rattle.counterexamples.specs.ShootdownRuns.{spaces_of_one_home}
+use Rattle.counterexamples.specs.WorkedRuns.{refused, two_harts}
 use Rattle.harts.specs.Books.{IsDueAfterSome}
 use Rattle.harts.specs.Turns.{IsInterleaving, turns_of}
 use Rattle.counterexamples.proofs.PremisesMet.{one_home, one_space}

@@ -7,9 +7,9 @@ use Rattle.history.specs.Mailboxes.{Mailboxes, KeepsOrder, is_closed}
 use Rattle.history.specs.Occurrences.{Sometime, IsClose, IsPostAfterClose, NoneAfterClose}
 use Rattle.history.proofs.Occurred.{closed}
 use Rattle.history.proofs.Splits.{not_sometime-empty, sometime-later, sometime_cases}
-use Rattle.worked_runs.specs.WorkedRuns.{history_of, two_harts}
-use Rattle.worked_runs.specs.MailboxRuns as mailboxes
-use Rattle.worked_runs.specs.UnlawfulRuns as unlawful
+use Rattle.counterexamples.specs.WorkedRuns.{history_of, two_harts}
+use Rattle.counterexamples.specs.MailboxRuns as mailboxes
+use Rattle.counterexamples.specs.UnlawfulRuns as unlawful
 use Rattle.counterexamples.specs.Counterexamples.{request_of}
 
 -- lists of requests with different tickets are different

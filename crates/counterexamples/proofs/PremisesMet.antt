@@ -5,10 +5,10 @@ use Rattle.pte.specs.Address.{IsPage}
 use Rattle.history.specs.Spaces.{asid_of}
 use Rattle.history.specs.Orders.{Unmapped, Protected}
 use Rattle.history.specs.Staleness.{HasAnswered}
-use Rattle.worked_runs.specs.WorkedRuns.{history_of, large_page, small_page, two_harts}
-use Rattle.worked_runs.specs.KernelRuns as kernel
-use Rattle.worked_runs.specs.ShootdownRuns as shootdowns
-use Rattle.worked_runs.specs.RetireRuns as retirements
+use Rattle.counterexamples.specs.WorkedRuns.{history_of, large_page, small_page, two_harts}
+use Rattle.counterexamples.specs.KernelRuns as kernel
+use Rattle.counterexamples.specs.ShootdownRuns as shootdowns
+use Rattle.counterexamples.specs.RetireRuns as retirements
 use Rattle.pte.specs.declared.TheConstants.{ASID_BITS}
 use Rattle.laws.specs.Kept.{HavePages, IsSetup}
 

@@ -13,9 +13,9 @@ use Rattle.history.specs.Setup.{Setup}
 use Rattle.history.specs.Turns.{History}
 use Rattle.history.specs.Orders.{Order}
 use Rattle.history.specs.Mailboxes.{Sent, posts}
-use Rattle.worked_runs.specs.WorkedRuns.{history_of, two_harts}
-use Rattle.worked_runs.specs.ShootdownRuns.{superpage_until_acknowledged, superpage_shootdown, superpage_of_space}
-use Rattle.worked_runs.specs.UnlawfulRuns.{two_orders, two_posts}
+use Rattle.counterexamples.specs.WorkedRuns.{history_of, two_harts}
+use Rattle.counterexamples.specs.ShootdownRuns.{superpage_until_acknowledged, superpage_shootdown, superpage_of_space}
+use Rattle.counterexamples.specs.UnlawfulRuns.{two_orders, two_posts}
 use Rattle.laws.specs.Fills.{Fills}
 use Rattle.laws.specs.Orders.{IsOrder, IsOpenedBy}
 use Rattle.laws.specs.Posts.{IsAcceptedPost, IsLive, IsOwn, StandsIn}

@@ -15,11 +15,11 @@ use Rattle.history.specs.Orders.{Unmapped}
 use Rattle.history.specs.Tables.{words_of}
 use Rattle.history.specs.Harts.{entries_of}
 use Rattle.history.specs.Staleness.{HasAsid, IsMapped, IsOfUsedAsid, HoldsUsedAsids, WalksUsedFrames, Clear}
-use Rattle.worked_runs.specs.WorkedRuns.{history_of, small_page, flags, R, U, A, D, user}
-use Rattle.worked_runs.specs.ShootdownRuns.{spaces_of_one_home}
-use Rattle.worked_runs.specs.RetireRuns as run
-use Rattle.worked_runs.specs.UnlawfulRuns as unlawful
-use Rattle.worked_runs.specs.WorkedEntries.{entry, read_only_entry, global_entry}
+use Rattle.counterexamples.specs.WorkedRuns.{history_of, small_page, flags, R, U, A, D, user}
+use Rattle.counterexamples.specs.ShootdownRuns.{spaces_of_one_home}
+use Rattle.counterexamples.specs.RetireRuns as run
+use Rattle.counterexamples.specs.UnlawfulRuns as unlawful
+use Rattle.counterexamples.specs.WorkedEntries.{entry, read_only_entry, global_entry}
 use Rattle.counterexamples.specs.Counterexamples.{ClearForbids, ClearAllowsAll, CoherentForbids, CoherentAllowsAll, UsedAsidsForbid}
 use Rattle.counterexamples.proofs.Promises.{clear_forbids, clear_allows, anew_clear, not_mapped, coherent_forbids, coherent_forbids_unreached, superseded_coherent, one_match, one_translates}
 

@@ -9,9 +9,9 @@ use Rattle.walk.proofs.FoundMembers.{found_member}
 use Rattle.walk.proofs.Unique.{level_count_loads}
 use Rattle.spaces.specs.Edits.{wish_fault, path_end, edit_of}
 use Rattle.history.specs.Tables.{words_of}
-use Rattle.worked_runs.specs.WorkedRuns.{history_of, small_page, flags, R, U, A, D, user}
-use Rattle.worked_runs.specs.ShootdownRuns.{spaces_of_one_home}
-use Rattle.worked_runs.specs.UnlawfulRuns.{created_with_a_used_asid, mapped_in_a_free_space}
+use Rattle.counterexamples.specs.WorkedRuns.{history_of, small_page, flags, R, U, A, D, user}
+use Rattle.counterexamples.specs.ShootdownRuns.{spaces_of_one_home}
+use Rattle.counterexamples.specs.UnlawfulRuns.{created_with_a_used_asid, mapped_in_a_free_space}
 use Rattle.laws.specs.Kept.{AsidsDiffer, FreeMapsNothing}
 
 pub used_asid : ¬ AsidsDiffer spaces_of_one_home (history_of created_with_a_used_asid)

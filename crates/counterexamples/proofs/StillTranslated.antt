@@ -5,10 +5,10 @@ use Rattle.pte.specs.Entry.{kind_of}
 use Rattle.spaces.specs.Edits.{wish_fault, path_end, edit_of}
 use Rattle.tlb.specs.Mappings.{IsMappedBy, Translates}
 use Rattle.history.specs.Harts.{entries_of}
-use Rattle.worked_runs.specs.WorkedRuns.{history_of, large_page, small_page, two_harts}
-use Rattle.worked_runs.specs.ShootdownRuns as shootdowns
-use Rattle.worked_runs.specs.StalenessRuns as staleness
-use Rattle.worked_runs.specs.WorkedEntries.{entry, read_only_entry}
+use Rattle.counterexamples.specs.WorkedRuns.{history_of, large_page, small_page, two_harts}
+use Rattle.counterexamples.specs.ShootdownRuns as shootdowns
+use Rattle.counterexamples.specs.StalenessRuns as staleness
+use Rattle.counterexamples.specs.WorkedEntries.{entry, read_only_entry}
 use Rattle.counterexamples.proofs.Promises.{one_translates}
 
 unnamed_held : entries_of two_harts (history_of staleness.unnamed_hart) 1 ≡ entry 1 (large_page 0x400000) 0x200 ∷ []

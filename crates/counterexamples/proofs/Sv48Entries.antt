@@ -13,14 +13,14 @@ use Rattle.history.specs.Orders.{Unmapped}
 use Rattle.history.specs.Staleness.{HasAnswered, IsMapped, Clear}
 use Rattle.history.specs.Tables.{words_of}
 use Rattle.history.specs.Turns.{History}
-use Rattle.worked_runs.specs.WorkedRuns.{history_of, small_page, large_page, flags, R, W, U, A, D, user}
-use Rattle.worked_runs.specs.EditRuns.{huge_page}
-use Rattle.worked_runs.specs.Sv48Runs as run
-use Rattle.worked_runs.specs.Sv48Runs.{terapage, two_harts_in_sv48}
-use Rattle.worked_runs.specs.WorkedEntries.{entry, global_entry}
+use Rattle.counterexamples.specs.WorkedRuns.{history_of, small_page, large_page, flags, R, W, U, A, D, user}
+use Rattle.counterexamples.specs.EditRuns.{huge_page}
+use Rattle.counterexamples.specs.Sv48Runs as run
+use Rattle.counterexamples.specs.Sv48Runs.{terapage, two_harts_in_sv48}
+use Rattle.counterexamples.specs.WorkedEntries.{entry, global_entry}
 use Rattle.counterexamples.specs.Counterexamples.{ClearForbids, CoherentForbids}
 use Rattle.counterexamples.proofs.Promises.{clear_forbids, clear_allows, coherent_forbids, not_mapped, one_match}
-use Rattle.worked_runs.proofs.TerapageEntries.{terapage_is_page}
+use Rattle.counterexamples.proofs.TerapageEntries.{terapage_is_page}
 
 -- ---- Clear: the page of 512 GiB that hart 0 unmapped, and the small page below four tables
 abbrev acknowledged : History

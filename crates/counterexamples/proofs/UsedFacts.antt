@@ -7,10 +7,10 @@ use Rattle.spaces.specs.Layout.{spare_ppn}
 use Rattle.history.specs.Spaces.{Status, Live, holder_of, is_free, is_retiring}
 use Rattle.history.specs.Turns.{History}
 use Rattle.history.specs.Staleness.{HasAsid}
-use Rattle.worked_runs.specs.WorkedEntries.{entry, global_entry}
-use Rattle.worked_runs.specs.ShootdownRuns.{map_superpage, spaces_of_one_home}
-use Rattle.worked_runs.specs.RetireRuns.{retired_and_given_back, retired_until_acknowledged}
-use Rattle.worked_runs.specs.WorkedRuns.{history_of, small_page, two_harts}
+use Rattle.counterexamples.specs.WorkedEntries.{entry, global_entry}
+use Rattle.counterexamples.specs.ShootdownRuns.{map_superpage, spaces_of_one_home}
+use Rattle.counterexamples.specs.RetireRuns.{retired_and_given_back, retired_until_acknowledged}
+use Rattle.counterexamples.specs.WorkedRuns.{history_of, small_page, two_harts}
 use Rattle.counterexamples.specs.MachineCounterexamples.{machine_holding, machine_in, machine_walking, walk_to}
 use Rattle.stepcore.specs.Runs.{HartsAreInLiveSpaces, TlbsHoldUsedAsids, WalksHoldUsedFrames}
 

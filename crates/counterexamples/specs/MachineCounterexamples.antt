@@ -9,7 +9,7 @@ use Rattle.tlb.specs.declared.store.Entry.{Entry}
 use Rattle.shoot.specs.Mailbox.{MailboxState, empty_mailbox}
 use Rattle.shoot.specs.Request.{Request}
 use Rattle.shoot.specs.Tickets.{no_tickets}
-use Rattle.worked_runs.specs.WorkedRuns.{one_space, user}
+use Rattle.counterexamples.specs.WorkedRuns.{one_space, user}
 use Rattle.stepcore.specs.State.{HartState, State, live_space}
 
 -- a hart in space 0 that holds these entries

@@ -4,9 +4,9 @@
 ghost use Rattle.std.specs.Prelude.{ℕ, [], ◌∷◌};
 ghost use Rattle.history.specs.declared.event.Event.TheVariants.{Create, Switch};
 ghost use Rattle.history.specs.declared.reply.Reply.TheVariants as reply;
-ghost use Rattle.refusals.specs.declared.refusal.Refusal.TheVariants.{AsidInUse, NotFree, Retiring};
-ghost use Rattle.worked_runs.specs.ShootdownRuns.{spaces_of_one_home};
-ghost use Rattle.worked_runs.specs.WorkedRuns.{refused, two_harts};
+ghost use Rattle.history.specs.declared.refusal.Refusal.TheVariants.{AsidInUse, NotFree, Retiring};
+ghost use Rattle.counterexamples.specs.ShootdownRuns.{spaces_of_one_home};
+ghost use Rattle.counterexamples.specs.WorkedRuns.{refused, two_harts};
 ghost use Rattle.harts.specs.Books.{IsDueAfterSome};
 ghost use Rattle.harts.specs.Turns.{IsInterleaving};
 

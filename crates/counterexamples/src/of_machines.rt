@@ -3,17 +3,17 @@
 
 ghost use Rattle.std.specs.Prelude.{[], ◌++◌, ◌∷◌, ◌≡◌, List, None, Some};
 ghost use Rattle.history.specs.declared.event.Event.TheVariants.{Load, ServeFence};
-ghost use Rattle.refusals.specs.declared.refusal.Refusal.TheVariants.{NotServing, NotWalking};
+ghost use Rattle.history.specs.declared.refusal.Refusal.TheVariants.{NotServing, NotWalking};
 ghost use Rattle.history.specs.declared.reply.Reply.{Reply};
 ghost use Rattle.history.specs.declared.reply.Reply.TheVariants as reply;
 ghost use Rattle.history.specs.Turns.{History};
-ghost use Rattle.worked_runs.specs.WorkedEntries.{entry, global_entry, global_read_only_entry, read_only_entry};
+ghost use Rattle.counterexamples.specs.WorkedEntries.{entry, global_entry, global_read_only_entry, read_only_entry};
 ghost use Rattle.counterexamples.specs.Counterexamples.{request_of};
-ghost use Rattle.worked_runs.specs.MailboxRuns as mailboxes;
-ghost use Rattle.worked_runs.specs.RetireRuns as retirements;
-ghost use Rattle.worked_runs.specs.ShootdownRuns as shootdowns;
-ghost use Rattle.worked_runs.specs.UnlawfulRuns as unlawful;
-ghost use Rattle.worked_runs.specs.WorkedRuns.{events, history_after, history_of, large_page, replies, small_page, Step, two_harts};
+ghost use Rattle.counterexamples.specs.MailboxRuns as mailboxes;
+ghost use Rattle.counterexamples.specs.RetireRuns as retirements;
+ghost use Rattle.counterexamples.specs.ShootdownRuns as shootdowns;
+ghost use Rattle.counterexamples.specs.UnlawfulRuns as unlawful;
+ghost use Rattle.counterexamples.specs.WorkedRuns.{events, history_after, history_of, large_page, replies, small_page, Step, two_harts};
 ghost use Rattle.counterexamples.specs.MachineCounterexamples.{machine_holding, machine_in, machine_walking, machine_with};
 ghost use Rattle.stepcore.specs.Runs.{after_run, AreDue, HartsAreInLiveSpaces, IsClear, IsClearOnceDone, IsCoherent, MailboxesKeepOrder, NothingAfterCloses, TlbsHoldUsedAsids, WalksHoldUsedFrames};
 

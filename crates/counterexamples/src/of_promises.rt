@@ -9,17 +9,17 @@ ghost use Rattle.history.specs.Harts.{entries_of};
 ghost use Rattle.history.specs.Mailboxes.{KeepsOrder, Mailboxes};
 ghost use Rattle.history.specs.Occurrences.{NoneAfterClose};
 ghost use Rattle.history.specs.Staleness.{Clear, HoldsUsedAsids, WalksUsedFrames};
-ghost use Rattle.worked_runs.specs.WorkedRuns.{history_of, large_page, small_page, three_harts, two_harts};
-ghost use Rattle.worked_runs.specs.WorkedEntries.{entry, global_entry, global_read_only_entry, read_only_entry};
+ghost use Rattle.counterexamples.specs.WorkedRuns.{history_of, large_page, small_page, three_harts, two_harts};
+ghost use Rattle.counterexamples.specs.WorkedEntries.{entry, global_entry, global_read_only_entry, read_only_entry};
 ghost use Rattle.counterexamples.specs.Counterexamples.{ClearAllowsAll, ClearForbids, CoherentAllowsAll, CoherentForbids, UsedAsidsForbid, request_of};
-ghost use Rattle.worked_runs.specs.EditRuns.{huge_page};
-ghost use Rattle.worked_runs.specs.ShootdownRuns as shootdowns;
-ghost use Rattle.worked_runs.specs.KernelRuns as kernel;
-ghost use Rattle.worked_runs.specs.StalenessRuns as staleness;
-ghost use Rattle.worked_runs.specs.MailboxRuns as mailboxes;
-ghost use Rattle.worked_runs.specs.RetireRuns as retirements;
-ghost use Rattle.worked_runs.specs.UnlawfulRuns as unlawful;
-ghost use Rattle.worked_runs.specs.Sv48Runs as sv48;
+ghost use Rattle.counterexamples.specs.EditRuns.{huge_page};
+ghost use Rattle.counterexamples.specs.ShootdownRuns as shootdowns;
+ghost use Rattle.counterexamples.specs.KernelRuns as kernel;
+ghost use Rattle.counterexamples.specs.StalenessRuns as staleness;
+ghost use Rattle.counterexamples.specs.MailboxRuns as mailboxes;
+ghost use Rattle.counterexamples.specs.RetireRuns as retirements;
+ghost use Rattle.counterexamples.specs.UnlawfulRuns as unlawful;
+ghost use Rattle.counterexamples.specs.Sv48Runs as sv48;
 
 /// A page of 2 MiB is unmapped, and hart 1 has acknowledged it: its TLB holds neither that page,
 /// nor a small page of it, nor a larger page over it, nor a global page in it.

@@ -1,7 +1,7 @@
 //! Writes a recorded run as an SVG document.
 
 ghost use Rattle.std.specs.Prelude.{◌≡◌, ◌<◌, ◌^◌, IfErr};
-ghost use Rattle.keys.specs.declared.fault.Fault.TheVariants.{NoMemory};
+ghost use Rattle.files.specs.declared.fault.Fault.TheVariants.{NoMemory};
 
 use crate::record::{Arrow, Bar, Message, Record, Span, StaleHit};
 use crate::run::{push_mapping, record};

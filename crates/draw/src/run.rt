@@ -1,7 +1,7 @@
 //! Records a run: opens a machine, makes the steps, and tells what stands where in its picture.
 
 ghost use Rattle.std.specs.Prelude.{◌≡◌, IfErr};
-ghost use Rattle.keys.specs.declared.fault.Fault.TheVariants.{NoMemory};
+ghost use Rattle.files.specs.declared.fault.Fault.TheVariants.{NoMemory};
 
 use crate::record::{Message, Record, Row, Span, StaleHit};
 use crate::recorder::{Doing, Flight, Held, OpenOrder, Track};

@@ -1,3 +1,6 @@
+pub mod EachLemmas
+pub mod KeyLemmas
+pub mod StepLemmas
 pub mod MemoryLemmas
 pub mod PpnLemmas
 pub mod ScriptLemmas

@@ -1,8 +1,8 @@
 -- The texts of the frames, which are no more than a file may list.
 use Rattle.std.proofs.Common.{◌≡◌, ℕ, List, length, map, Bor, ◌≤◌, le-leb}
 use Rattle.std.proofs.lemmas.List.{length-map}
-use Rattle.keys.specs.Keys.{each}
-use Rattle.keys.proofs.EachLemmas.{each-map}
+use Rattle.files.specs.Keys.{each}
+use Rattle.files.proofs.EachLemmas.{each-map}
 use Rattle.files.specs.WalkFile.{ppn_of, ppns_of}
 use Rattle.files.specs.declared.limits.TheConstants.{MOST_FRAMES}
 

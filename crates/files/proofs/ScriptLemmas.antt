@@ -13,11 +13,11 @@ use Rattle.toml.specs.Data.{Data, as_array}
 use Rattle.toml.specs.View.{array_view, view}
 use Rattle.toml.specs.declared.value.Value.{Value}
 use Rattle.history.specs.declared.live_step.LiveStep.{LiveStep}
-use Rattle.keys.specs.declared.fault.Fault.{Fault}
-use Rattle.keys.specs.declared.fault.Fault.TheVariants as faults
-use Rattle.keys.specs.Faults.{bad_layout, Failure, Fails, not_toml, too_many, wrong_key, wrong_script, wrong_step, ◌>>=◌}
-use Rattle.keys.specs.Keys.{each, text_views, texts_of}
-use Rattle.keys.proofs.EachLemmas.{each-map, listed-items}
+use Rattle.files.specs.declared.fault.Fault.{Fault}
+use Rattle.files.specs.declared.fault.Fault.TheVariants as faults
+use Rattle.files.specs.Faults.{bad_layout, Failure, Fails, not_toml, too_many, wrong_key, wrong_script, wrong_step, ◌>>=◌}
+use Rattle.files.specs.Keys.{each, text_views, texts_of}
+use Rattle.files.proofs.EachLemmas.{each-map, listed-items}
 use Rattle.files.specs.LiveFile.{few_scripts, scripts_of, step_count}
 use Rattle.files.specs.StepTexts.{script_in, scripts_in}
 

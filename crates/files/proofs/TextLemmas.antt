@@ -14,7 +14,7 @@ use Rattle.steps.specs.LiveSteps.{live_step_in, setup_step_in}
 use Rattle.steps.proofs.LiveLemmas.{writes-setup}
 use Rattle.steps.specs.RunStep.{step_among}
 use Rattle.steps.specs.Step.{walk_step_of}
-use Rattle.keys.specs.Faults.{Failure, wrong_script, wrong_step, ◌>>=◌}
+use Rattle.files.specs.Faults.{Failure, wrong_script, wrong_step, ◌>>=◌}
 use Rattle.files.specs.StepTexts.{AreRead, events_in, in_script, IsFirstWrong, script_in, setup_steps_in, steps_from, walk_step_in, walk_steps_in}
 
 -- ---- a loop over texts

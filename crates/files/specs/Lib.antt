@@ -1,3 +1,6 @@
+pub mod Faults
+pub mod Keys
+pub mod Settings
 pub mod Memory
 pub mod StepTexts
 pub mod RunFile

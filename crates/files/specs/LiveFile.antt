@@ -10,9 +10,9 @@ use Rattle.toml.specs.Parse.{parse_document}
 use Rattle.spaces.specs.declared.configuration.Config.{Config}
 use Rattle.spaces.specs.declared.configuration.TheConstants.{MAX_LIVE_FRAMES}
 use Rattle.history.specs.declared.live_step.LiveStep.{LiveStep}
-use Rattle.keys.specs.Faults.{Failure, not_toml, ◌>>=◌}
-use Rattle.keys.specs.Keys.{below, each, known_only, listed, text_views, texts_at, texts_of, value_or}
-use Rattle.keys.specs.Settings.{at_most, checked, config_at, mode_at}
+use Rattle.files.specs.Faults.{Failure, not_toml, ◌>>=◌}
+use Rattle.files.specs.Keys.{below, each, known_only, listed, text_views, texts_at, texts_of, value_or}
+use Rattle.files.specs.Settings.{at_most, checked, config_at, mode_at}
 use Rattle.files.specs.declared.plan.LiveScenario.{LiveScenario}
 use Rattle.files.specs.RunFile.{in_scheme}
 use Rattle.files.specs.StepTexts.{few_of, scripts_in, setup_steps_in}

@@ -9,9 +9,9 @@ use Rattle.spaces.specs.declared.configuration.Config.{Config}
 use Rattle.spaces.specs.declared.configuration.TheConstants.{MAX_FRAMES}
 use Rattle.history.specs.declared.event.Event.{Event}
 use Rattle.files.specs.declared.plan.RunScenario.{RunScenario}
-use Rattle.keys.specs.Faults.{Failure, not_toml, ◌>>=◌}
-use Rattle.keys.specs.Keys.{known_only, texts_at}
-use Rattle.keys.specs.Settings.{checked, config_at, mode_at}
+use Rattle.files.specs.Faults.{Failure, not_toml, ◌>>=◌}
+use Rattle.files.specs.Keys.{known_only, texts_at}
+use Rattle.files.specs.Settings.{checked, config_at, mode_at}
 use Rattle.files.specs.StepTexts.{events_in, few}
 
 -- what the harts begin with, and their steps in order

@@ -11,7 +11,7 @@ use Rattle.steps.specs.LiveSteps.{live_step_in, setup_step_in}
 use Rattle.steps.specs.RunStep.{step_among}
 use Rattle.steps.specs.Step.{walk_step_of}
 use Rattle.files.specs.declared.limits.TheConstants.{MOST_STEPS}
-use Rattle.keys.specs.Faults.{Failure, too_many, wrong_script, wrong_step, ◌>>=◌}
+use Rattle.files.specs.Faults.{Failure, too_many, wrong_script, wrong_step, ◌>>=◌}
 
 -- what is wrong with the step of this number, if something is
 abbrev pub numbered : {X : Type 0} → ℕ → Result X StepFault → Result X Failure

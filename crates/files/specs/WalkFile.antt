@@ -14,11 +14,11 @@ use Rattle.files.specs.declared.plan.WalkScenario.{WalkScenario}
 use Rattle.steps.specs.declared.step.WalkStep.{WalkStep}
 use Rattle.steps.specs.Num.{num_of}
 use Rattle.steps.specs.Words.{words_of}
-use Rattle.keys.specs.Faults.{Failure, not_toml, wrong_key, ◌>>=◌}
-use Rattle.keys.specs.Keys.{below, each, known_only, one_number, texts_at, value_or}
+use Rattle.files.specs.Faults.{Failure, not_toml, wrong_key, ◌>>=◌}
+use Rattle.files.specs.Keys.{below, each, known_only, one_number, texts_at, value_or}
 use Rattle.files.specs.declared.limits.TheConstants.{MOST_FRAMES}
 use Rattle.files.specs.Memory.{is_listed, word_at, word_in}
-use Rattle.keys.specs.Settings.{mode_at}
+use Rattle.files.specs.Settings.{mode_at}
 use Rattle.files.specs.StepTexts.{few, walk_steps_in}
 
 -- a scheme, a root, the words of the table frames, and the accesses that are made from the root

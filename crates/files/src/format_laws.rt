@@ -10,7 +10,7 @@ ghost use Rattle.toml.specs.Data.{get_member, integer, Members, string};
 ghost use Rattle.files.specs.LiveFile.{turns_at, turns_of};
 ghost use Rattle.steps.specs.LiveSteps.{live_step_in, setup_step_in};
 ghost use Rattle.steps.specs.RunStep.{step_among};
-ghost use Rattle.keys.specs.Faults.{wrong_script, wrong_step};
+ghost use Rattle.files.specs.Faults.{wrong_script, wrong_step};
 ghost use Rattle.files.specs.StepTexts.{AreRead, events_in, IsFirstWrong, script_in, setup_steps_in, walk_step_in, walk_steps_in};
 
 /// The steps of a file are what its texts are read as, each in its place; the fault that is told is

@@ -5,18 +5,24 @@
 //! `live` asks for. Nothing is run: what comes of a scenario is in the crate `scenario`.
 #![tactic(auto)]
 
+mod documents;
+mod fault;
 mod format_laws;
 mod frames;
+mod key_laws;
 mod known_keys;
 mod limits;
 mod live_file;
 mod plan;
 mod run_file;
+mod settings;
 mod walk_file;
 
+pub use documents::{number, value_at};
+pub use fault::Fault;
 pub use format_laws::{first_wrong_step, worked_turns};
 pub use frames::TableFrames;
-pub use keys::Fault;
+pub use key_laws::{least_unknown_key, mode_is_sv39_by_default, worked_modes};
 pub use known_keys::{LIVE_KEYS, RUN_KEYS, WALK_KEYS};
 pub use limits::{MOST_FRAMES, MOST_STEPS};
 pub use live_file::{DEFAULT_TURNS, read_live};

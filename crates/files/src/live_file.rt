@@ -1,19 +1,18 @@
 //! The scenario of `live`, from its document.
 ghost use Rattle.std.specs.Prelude.{◌≡◌, ◌≤◌, ◌<◌, All, IfOk, IfSome, IsTrue, length, map, nat_le, option_map};
 ghost use Rattle.toml.specs.View.{table_view, view};
-ghost use Rattle.keys.specs.Faults.{Gives};
-ghost use Rattle.keys.specs.Keys.{each, text_views, texts_of};
+ghost use Rattle.files.specs.Faults.{Gives};
+ghost use Rattle.files.specs.Keys.{each, text_views, texts_of};
 ghost use Rattle.files.specs.StepTexts.{script_in, scripts_in, setup_steps_in};
 ghost use Rattle.files.specs.LiveFile.{few_scripts, live_plan_of, live_scenario_of, live_view, script_views, scripts_at, scripts_of, scripts_view, step_count, turns_at, turns_of};
 
+use crate::documents::{check_keys, document, key_fault, texts_in, texts_of_key, value_at};
+use crate::fault::Fault;
 use crate::known_keys::LIVE_KEYS;
 use crate::limits::MOST_STEPS;
 use crate::plan::LiveScenario;
+use crate::settings::{check_live_layout, config, mode};
 use history::LiveStep;
-use keys::{
-    Fault, check_keys, check_live_layout, config, document, key_fault, mode, texts_in,
-    texts_of_key, value_at,
-};
 use pte::{MAX_HARTS, Scheme};
 use std::alloc::{AllocError, Global};
 use steps::{live_step_among, setup_step_among};

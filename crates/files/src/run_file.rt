@@ -1,7 +1,7 @@
 //! The scenario of `run`, from its document.
 ghost use Rattle.std.specs.Prelude.{◌≡◌, ◌≤◌, length, map};
 ghost use Rattle.toml.specs.View.{table_view};
-ghost use Rattle.keys.specs.Faults.{Gives};
+ghost use Rattle.files.specs.Faults.{Gives};
 ghost use Rattle.files.specs.StepTexts.{events_in};
 ghost use Rattle.files.specs.RunFile.{run_plan_of, run_scenario_of, run_view};
 
@@ -9,7 +9,9 @@ use crate::known_keys::RUN_KEYS;
 use crate::limits::MOST_STEPS;
 use crate::plan::RunScenario;
 use history::Event;
-use keys::{Fault, check_keys, check_layout, config, document, mode, texts_of_key};
+use crate::documents::{check_keys, document, texts_of_key};
+use crate::fault::Fault;
+use crate::settings::{check_layout, config, mode};
 use pte::Scheme;
 use std::alloc::Global;
 use steps::run_step_among;

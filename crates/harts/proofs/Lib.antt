@@ -1,3 +1,4 @@
+mod Walks
 pub mod Kept
 pub mod ScriptLemmas
 pub mod Tallied

@@ -1,3 +1,4 @@
+pub mod Halves
 pub mod Books
 pub mod Scripts
 pub mod Turns

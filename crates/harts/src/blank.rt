@@ -5,7 +5,7 @@ ghost use Rattle.std.specs.Prelude.{◌≡◌, IfOk, length};
 use std::alloc::{AllocError, Global};
 use std::marker::Model;
 use stepcore::{Event, Reply};
-use twins::{Inner, Outer};
+use crate::halves::{Inner, Outer};
 
 /// The half of a list of turns that lies under a lock, with its number.
 #[derive(Drop)]

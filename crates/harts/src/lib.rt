@@ -5,6 +5,7 @@
 mod blank;
 mod book;
 mod gate;
+mod halves;
 mod live;
 mod live_latch;
 mod live_port;
@@ -19,6 +20,7 @@ pub use blank::{Blank, List, Turns};
 pub use board::{Board, HartPort, Mapped, PairReport, Report};
 pub use book::Book;
 pub use gate::{Gate, OpenGate};
+pub use halves::{Inner, Outer};
 pub use history::LiveStep;
 pub use live::run_live;
 pub use live_reply::LiveReply;

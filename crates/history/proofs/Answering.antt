@@ -19,7 +19,7 @@ use Rattle.tlb.specs.Entries.{holds, is_match, first_match}
 use Rattle.tlb.proofs.Overlapping.{holds-Holds}
 use Rattle.history.specs.Setup.{Setup, is_hart}
 use Rattle.history.specs.declared.event.Event.TheVariants.{Begin, Load}
-use Rattle.refusals.specs.declared.refusal.Refusal.TheVariants.{NoHart, NotWalking}
+use Rattle.history.specs.declared.refusal.Refusal.TheVariants.{NoHart, NotWalking}
 use Rattle.history.specs.declared.reply.Reply.TheVariants as reply
 use Rattle.history.specs.Turns.{History}
 use Rattle.history.specs.Runs.{with_turn}

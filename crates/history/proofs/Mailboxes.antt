@@ -6,7 +6,7 @@ use Rattle.shoot.specs.Request.{Request}
 use Rattle.history.specs.Setup.{Setup}
 use Rattle.history.specs.declared.event.Event.{Event}
 use Rattle.history.specs.declared.event.Event.TheVariants.{Post, Take}
-use Rattle.refusals.specs.declared.refusal.Refusal.TheVariants.{NoHart, NotNamed, AlreadyPosted, Closed, Walking, Serving}
+use Rattle.history.specs.declared.refusal.Refusal.TheVariants.{NoHart, NotNamed, AlreadyPosted, Closed, Walking, Serving}
 use Rattle.history.specs.declared.reply.Reply.{Reply}
 use Rattle.history.specs.declared.reply.Reply.TheVariants.{Ok, Taken}
 use Rattle.history.specs.Turns.{Turn, History, is_ok, taken_request, are_same}

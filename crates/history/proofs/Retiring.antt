@@ -9,8 +9,8 @@ use Rattle.pte.specs.declared.TheConstants.{MAX_HARTS}
 use Rattle.shoot.specs.declared.TheConstants.{MAX_TICKETS}
 use Rattle.history.specs.Setup.{Setup, is_hart}
 use Rattle.history.specs.declared.event.Event.TheVariants.{Retire, Reclaim, Create}
-use Rattle.refusals.specs.declared.refusal.Refusal.{Refusal}
-use Rattle.refusals.specs.declared.refusal.Refusal.TheVariants.{NoHart, NoSpace, NotHome, Retiring, InUse, NotAcked, NotFree, AsidInUse}
+use Rattle.history.specs.declared.refusal.Refusal.{Refusal}
+use Rattle.history.specs.declared.refusal.Refusal.TheVariants.{NoHart, NoSpace, NotHome, Retiring, InUse, NotAcked, NotFree, AsidInUse}
 use Rattle.history.specs.declared.reply.Reply.{Reply}
 use Rattle.history.specs.declared.reply.Reply.TheVariants as reply
 use Rattle.history.specs.Turns.{History}

@@ -22,7 +22,7 @@ use Rattle.history.specs.Setup.{Setup}
 use Rattle.history.specs.Spaces.{asid_of}
 use Rattle.history.specs.declared.event.Event.{Event}
 use Rattle.history.specs.declared.event.Event.TheVariants.{Begin, Load}
-use Rattle.refusals.specs.declared.refusal.Refusal.TheVariants.{NoHart, Walking, Serving}
+use Rattle.history.specs.declared.refusal.Refusal.TheVariants.{NoHart, Walking, Serving}
 use Rattle.history.specs.declared.reply.Reply.{Reply}
 use Rattle.history.specs.declared.reply.Reply.TheVariants.{More, Filled, Trap}
 use Rattle.history.specs.Turns.{History}

@@ -1,3 +1,4 @@
+pub mod Numbers
 pub mod Acknowledgements
 pub mod Due
 pub mod Harts

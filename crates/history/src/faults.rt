@@ -3,7 +3,7 @@
 ghost use Rattle.std.specs.Prelude.{◌≡◌};
 ghost use Rattle.history.specs.Refusal.{opening_refusal, posting_refusal, refusal_of};
 
-use refusals::Refusal;
+use crate::refusal::Refusal;
 use shoot::{PostFault, TicketFault};
 use spaces::MapFault;
 

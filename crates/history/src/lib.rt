@@ -5,7 +5,9 @@
 mod event;
 mod faults;
 mod live_step;
+pub mod numbers;
 pub mod occurrences;
+mod refusal;
 mod reply;
 pub mod retirements;
 pub mod translations;
@@ -13,5 +15,5 @@ pub mod translations;
 pub use event::{Event, Scope};
 pub use faults::{edit_refusal, opening_refusal, posting_refusal};
 pub use live_step::LiveStep;
-pub use refusals::Refusal;
+pub use refusal::Refusal;
 pub use reply::Reply;

@@ -1,6 +1,6 @@
 //! What a step answers.
 
-use refusals::Refusal;
+use crate::refusal::Refusal;
 use shoot::Request;
 use walk::Trap;
 

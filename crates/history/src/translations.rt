@@ -17,7 +17,7 @@ ghost use Rattle.tlb.specs.Entries.{filled};
 ghost use Rattle.tlb.specs.Fence.{fenced};
 ghost use Rattle.tlb.specs.Service.{IsRequest, Served};
 ghost use Rattle.history.specs.declared.event.Event.TheVariants.{AckSelf, Begin, Fence, Load, ServeFence};
-ghost use Rattle.refusals.specs.declared.refusal.Refusal.TheVariants.{NotWalking};
+ghost use Rattle.history.specs.declared.refusal.Refusal.TheVariants.{NotWalking};
 ghost use Rattle.history.specs.declared.reply.Reply.{Reply};
 ghost use Rattle.history.specs.declared.reply.Reply.TheVariants as reply;
 ghost use Rattle.history.specs.Setup.{Setup};

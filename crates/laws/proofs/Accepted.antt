@@ -23,7 +23,7 @@ use Rattle.history.specs.Setup.{Setup, is_hart}
 use Rattle.history.specs.Spaces.{Status, Live, Retires, Free, status_of, is_free, is_retiring}
 use Rattle.history.specs.declared.event.Event.TheVariants.{Begin, Unmap, Protect, Flush, Post, Take, Ack, Collect, Finish, Retire, Reclaim, Create}
 use Rattle.history.specs.declared.event.Scope.{Scope}
-use Rattle.refusals.specs.declared.refusal.Refusal.TheVariants.{NoHart, NoSpace, NotHome, HomeNotNamed, NotNamed, AlreadyPosted, Closed, Full, Walking, Serving, NotServing, NotFenced, NotDone, Retiring, InUse, NotAcked, NotFree, AsidInUse}
+use Rattle.history.specs.declared.refusal.Refusal.TheVariants.{NoHart, NoSpace, NotHome, HomeNotNamed, NotNamed, AlreadyPosted, Closed, Full, Walking, Serving, NotServing, NotFenced, NotDone, Retiring, InUse, NotAcked, NotFree, AsidInUse}
 use Rattle.history.specs.declared.reply.Reply.{Reply}
 use Rattle.history.specs.declared.reply.Reply.TheVariants as reply
 use Rattle.history.specs.Turns.{History, is_ok, is_more, is_taken, is_progress, opened_ticket}

@@ -17,7 +17,7 @@ use Rattle.history.specs.Setup.{Setup, is_hart}
 use Rattle.history.specs.Spaces.{Status, Live, Retires, Free, status_of, is_free, is_retiring, asid_of, asid_after}
 use Rattle.history.specs.declared.event.Event.{Event}
 use Rattle.history.specs.declared.event.Event.TheVariants.{Load, Switch, Retire, Reclaim, Create}
-use Rattle.refusals.specs.declared.refusal.Refusal.TheVariants.{NoHart, NoSpace, Retiring}
+use Rattle.history.specs.declared.refusal.Refusal.TheVariants.{NoHart, NoSpace, Retiring}
 use Rattle.history.specs.declared.reply.Reply.{Reply}
 use Rattle.history.specs.declared.reply.Reply.TheVariants as reply
 use Rattle.history.specs.Turns.{Turn, History, is_ok, is_opened, is_filled, opened_ticket}

@@ -8,7 +8,7 @@ use Rattle.pte.specs.declared.TheConstants.{MAX_HARTS}
 use Rattle.history.specs.Setup.{Setup}
 use Rattle.history.specs.declared.event.Event.{Event}
 use Rattle.history.specs.declared.event.Event.TheVariants.{AckSelf, Collect}
-use Rattle.refusals.specs.declared.refusal.Refusal.TheVariants.{NoHart, NotNamed, Walking}
+use Rattle.history.specs.declared.refusal.Refusal.TheVariants.{NoHart, NotNamed, Walking}
 use Rattle.history.specs.declared.reply.Reply.TheVariants as reply
 use Rattle.history.specs.Turns.{Turn, History}
 use Rattle.history.specs.Orders.{open_order, order_at}

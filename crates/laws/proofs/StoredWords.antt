@@ -26,7 +26,7 @@ use Rattle.spaces.proofs.Keeping.{fresh-of, fresh-range}
 use Rattle.history.specs.Setup.{Setup}
 use Rattle.history.specs.declared.event.Event.{Event}
 use Rattle.history.specs.declared.event.Event.TheVariants.{Map, Unmap, Protect, Reclaim}
-use Rattle.refusals.specs.declared.refusal.Refusal.TheVariants.{NoHart, NoSpace, Retiring}
+use Rattle.history.specs.declared.refusal.Refusal.TheVariants.{NoHart, NoSpace, Retiring}
 use Rattle.history.specs.declared.reply.Reply.{Reply}
 use Rattle.history.specs.declared.reply.Reply.TheVariants as reply
 use Rattle.history.specs.Turns.{History, is_ok, is_table, is_leaf, is_opened}

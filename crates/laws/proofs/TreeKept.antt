@@ -31,7 +31,7 @@ use Rattle.history.specs.Setup.{Setup}
 use Rattle.history.specs.declared.event.Event.{Event}
 use Rattle.history.specs.declared.event.Event.TheVariants.{Map, Unmap, Protect, Reclaim}
 use Rattle.history.specs.declared.reply.Reply.TheVariants as reply
-use Rattle.refusals.specs.declared.refusal.Refusal.TheVariants.{NoHart, NoSpace, Retiring}
+use Rattle.history.specs.declared.refusal.Refusal.TheVariants.{NoHart, NoSpace, Retiring}
 use Rattle.spaces.proofs.OpeningTree.{opening-tree}
 use Rattle.laws.specs.Kept.{HasPage, HavePages}
 use Rattle.laws.proofs.Tools.{by_test, none_since}

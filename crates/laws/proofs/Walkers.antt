@@ -8,7 +8,7 @@ use Rattle.history.specs.Setup.{Setup, is_hart}
 use Rattle.history.specs.Spaces.{holder_of}
 use Rattle.history.specs.declared.event.Event.{Event}
 use Rattle.history.specs.declared.event.Event.TheVariants.{Begin, Load}
-use Rattle.refusals.specs.declared.refusal.Refusal.TheVariants.{NoHart}
+use Rattle.history.specs.declared.refusal.Refusal.TheVariants.{NoHart}
 use Rattle.history.specs.declared.reply.Reply.{Reply}
 use Rattle.history.specs.declared.reply.Reply.TheVariants as reply
 use Rattle.history.specs.Turns.{History}

@@ -7,8 +7,8 @@ use Rattle.pte.specs.declared.address.What.{What}
 use Rattle.pte.specs.declared.address.What.TheVariants.{PageOf, SpaceOf, All}
 use Rattle.shoot.specs.HartSet.{all_harts, contains, harts_in}
 use Rattle.shoot.specs.Request.{Request}
-use Rattle.refusals.specs.declared.refusal.Refusal.{Refusal}
-use Rattle.refusals.specs.declared.refusal.Refusal.TheVariants as refusals
+use Rattle.history.specs.declared.refusal.Refusal.{Refusal}
+use Rattle.history.specs.declared.refusal.Refusal.TheVariants as refusals
 use Rattle.history.specs.declared.reply.Reply.{Reply}
 use Rattle.history.specs.declared.reply.Reply.TheVariants as reply
 use Rattle.lines.specs.AnswerLines.{hex, size_text, trap_text}

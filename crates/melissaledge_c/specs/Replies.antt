@@ -3,7 +3,7 @@ use Rattle.std.specs.Prelude.{Some, None}
 use Rattle.pte.specs.declared.address.What.{What}
 use Rattle.pte.specs.declared.address.What.TheVariants as what
 use Rattle.pte.specs.Address.{bytes_of}
-use Rattle.refusals.specs.Numbers.{code_of}
+use Rattle.history.specs.Numbers.{code_of}
 use Rattle.history.specs.declared.reply.Reply.{Reply}
 use Rattle.history.specs.declared.reply.Reply.TheVariants as reply
 use Rattle.melissaledge_c.specs.declared.replies.ReplyGiven.{ReplyGiven}

@@ -6,7 +6,7 @@ use board::Board;
 use harts::{LiveFault, LiveReply, LiveReport, OpenGate, run_live};
 use history::{LiveStep, Reply, Scope};
 use pte::{Access, Ctx, Mode, Page, PteFlags, Scheme, What};
-use rings::ends;
+use board::ends;
 use shoot::Request;
 use spaces::{Config, Place};
 use std::alloc::{AllocError, Global};

@@ -1,7 +1,7 @@
 -- How the program ends on words that ask for nothing, or where memory ran out over them.
 use Rattle.std.proofs.Common.{ℕ, List, [], Option, Some, None, Err, IfErr, inl, inr, subst}
 use Rattle.std.specs.Option.{ok_or}
-use Rattle.keys.specs.declared.fault.Fault.{Fault}
+use Rattle.files.specs.declared.fault.Fault.{Fault}
 use Rattle.scenario.specs.declared.trouble.Trouble.{Trouble}
 use Rattle.scenario.specs.declared.trouble.Trouble.TheVariants as troubles
 use Rattle.scenario.specs.Command.{Reports, ending_of, ending_of_fault, misused, no_memory}

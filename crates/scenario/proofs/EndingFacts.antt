@@ -1,8 +1,8 @@
 -- How commands end: what a status says, and endings that are written out.
 use Rattle.std.proofs.Common.{◌≡◌, ℕ, zero, suc, ◌⊎◌, Bool, true, false, Option, Some, None, List, [], ◌∷◌, codes, length, get_or, take, refl, sym, ap, ◌∙◌, subst, inl, inr, arith}
 use Rattle.std.proofs.lemmas.Bool.{true≢false}
-use Rattle.keys.specs.declared.fault.Fault.TheVariants as faults
-use Rattle.keys.specs.Faults.{Failure, not_toml, bad_layout, too_many}
+use Rattle.files.specs.declared.fault.Fault.TheVariants as faults
+use Rattle.files.specs.Faults.{Failure, not_toml, bad_layout, too_many}
 use Rattle.scenario.specs.declared.program.Job.{Job}
 use Rattle.scenario.specs.Command.{Ending, done, stale_used, explained, misused, unreadable, too_large, refused, output_failed, no_memory, no_thread, error_line, failure_status, file_fault, FileLines, IsToldAs, Leaves, Reports, status_of, Suits}
 use Rattle.scenario.specs.Output.{AppendsFront, EndsBy, WritesAll}

@@ -6,8 +6,8 @@ use Rattle.std.proofs.lemmas.Bool.{cases_Bool}
 use Rattle.std.proofs.lemmas.List.{length-replicate}
 use Rattle.std.specs.Str.{IsUtf8, is_utf8}
 use Rattle.std.proofs.lemmas.Str.{IsUtf8-from_is_utf8, is_utf8-from_IsUtf8}
-use Rattle.keys.specs.declared.fault.Fault.{Fault}
-use Rattle.keys.specs.declared.fault.Fault.TheVariants as faults
+use Rattle.files.specs.declared.fault.Fault.{Fault}
+use Rattle.files.specs.declared.fault.Fault.TheVariants as faults
 use Rattle.scenario.specs.declared.trouble.Trouble.{Trouble}
 use Rattle.scenario.specs.declared.trouble.Trouble.TheVariants as troubles
 use Rattle.scenario.specs.declared.program.Which.{Which}
@@ -15,7 +15,7 @@ use Rattle.scenario.specs.declared.program.Which.TheVariants.{Walk, Run}
 use Rattle.scenario.specs.declared.program.Job.{Job}
 use Rattle.scenario.specs.declared.program.Job.TheVariants.{Plain, Live}
 use Rattle.scenario.specs.Command.{done, Ending, explained, Explains, misused, ending_of, ending_of_fault, Ends, EndsAs, file_fault, FileLines, IsToldAs, Leaves, no_memory, no_thread, output_failed, refused, Reports, stale_used, status_of, Suits, too_large, unreadable}
-use Rattle.keys.specs.Faults.{Failure, fault_in, not_toml}
+use Rattle.files.specs.Faults.{Failure, fault_in, not_toml}
 use Rattle.scenario.specs.Input.{AreLeft, IsReadTrouble}
 use Rattle.scenario.specs.Limits.{most_bytes}
 use Rattle.files.specs.LiveFile.{live_file, live_scenario_of}

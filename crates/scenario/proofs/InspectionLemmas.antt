@@ -8,9 +8,9 @@ use Rattle.scenario.specs.Prints.{TellsFaults}
 use Rattle.std.specs.Io.KnownBytes.{Appends}
 use Rattle.std.proofs.KnownBytes.{Appends-nil, Keeps-refl}
 use Rattle.std.specs.Str.{IsUtf8}
-use Rattle.keys.specs.declared.fault.Fault.{Fault}
-use Rattle.keys.specs.declared.fault.Fault.TheVariants as faults
-use Rattle.keys.specs.Faults.{Failure, failure_of, fault_in, not_toml}
+use Rattle.files.specs.declared.fault.Fault.{Fault}
+use Rattle.files.specs.declared.fault.Fault.TheVariants as faults
+use Rattle.files.specs.Faults.{Failure, failure_of, fault_in, not_toml}
 use Rattle.files.specs.RunFile.{run_file, run_scenario_of}
 use Rattle.checks.specs.Told.{fault_of}
 use Rattle.scenario.specs.declared.program.Inspection.{Inspection}

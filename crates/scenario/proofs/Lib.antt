@@ -1,3 +1,5 @@
+pub mod ItemLines
+pub mod LiveLemmas
 pub mod FileLemmas
 pub mod OutputLemmas
 pub mod RunLemmas

@@ -17,8 +17,8 @@ use Rattle.spaces.specs.Edits.{edit_of, path_end, wish_fault}
 use Rattle.spaces.specs.Limits.{is_within_limits}
 use Rattle.shoot.specs.HartSet.{byte_of, difference}
 use Rattle.lines.proofs.LineLemmas.{one_lines}
-use Rattle.keys.specs.Faults.{Failure}
-use Rattle.keys.specs.Settings.{config_at}
+use Rattle.files.specs.Faults.{Failure}
+use Rattle.files.specs.Settings.{config_at}
 use Rattle.files.specs.RunFile.{RunPlan, run_file, run_plan_of, run_scenario_of}
 use Rattle.files.specs.WalkFile.{WalkPlan, walk_file, walk_plan_of, walk_scenario_of}
 use Rattle.scenario.specs.declared.program.Job.TheVariants.{Plain}

@@ -12,9 +12,9 @@ use Rattle.stale.specs.declared.items.StaleAt.{StaleAt}
 use Rattle.stale.specs.declared.items.StaleItem.{StaleItem}
 use Rattle.stale.specs.declared.items.StaleItem.TheVariants.{Became, Used}
 use Rattle.stale.specs.Told.{TellsUse, UsedBy}
-use Rattle.stale_lines.specs.Printed.{Prints}
-use Rattle.stale_lines.specs.StaleLines.{is_use, uses_in}
-use Rattle.keys.specs.Faults.{Failure}
+use Rattle.scenario.specs.Printed.{Prints}
+use Rattle.scenario.specs.StaleLines.{is_use, uses_in}
+use Rattle.files.specs.Faults.{Failure}
 use Rattle.files.specs.RunFile.{RunPlan}
 use Rattle.scenario.specs.Inspections.{finding_by_use, IsStaleFound}
 

@@ -1,8 +1,8 @@
 -- The text of a fault, as the reason of its ending.
 use Rattle.std.proofs.Common.{◌≡◌, ℕ, List, refl}
-use Rattle.keys.specs.declared.fault.Fault.{Fault}
-use Rattle.keys.specs.declared.fault.Fault.TheVariants as faults
-use Rattle.keys.specs.Faults.{fault_text}
+use Rattle.files.specs.declared.fault.Fault.{Fault}
+use Rattle.files.specs.declared.fault.Fault.TheVariants as faults
+use Rattle.files.specs.Faults.{fault_text}
 use Rattle.scenario.specs.Command.{ending_of_fault, reason}
 
 -- no fault names the file

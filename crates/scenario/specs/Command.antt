@@ -8,9 +8,9 @@ use Rattle.scenario.specs.declared.program.Inspection.{Inspection}
 use Rattle.scenario.specs.declared.program.Inspection.TheVariants.{Stale, Show, Draw, Check}
 use Rattle.scenario.specs.declared.trouble.Trouble.{Trouble}
 use Rattle.scenario.specs.declared.trouble.Trouble.TheVariants as troubles
-use Rattle.keys.specs.declared.fault.Fault.{Fault}
-use Rattle.keys.specs.declared.fault.Fault.TheVariants as faults
-use Rattle.keys.specs.Faults.{Failure, not_toml, wrong_key, bad_layout, too_many, wrong_step, wrong_script, failure_text, fault_in}
+use Rattle.files.specs.declared.fault.Fault.{Fault}
+use Rattle.files.specs.declared.fault.Fault.TheVariants as faults
+use Rattle.files.specs.Faults.{Failure, not_toml, wrong_key, bad_layout, too_many, wrong_step, wrong_script, failure_text, fault_in}
 use Rattle.scenario.specs.Prints.{LinesOf, Prints, PrintsLive, PrintsReplies, PrintsStale, PrintsState, TellsFaults, UsesOf}
 use Rattle.scenario.specs.Output.{AppendsFront, WritesAll, WritesFront}
 use Rattle.scenario.specs.Input.{AreLeft}

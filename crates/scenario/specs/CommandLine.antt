@@ -10,7 +10,7 @@ use Rattle.clap.specs.Simple.{on_top}
 use Rattle.clap.specs.Walk.{is_empty}
 use Rattle.clap.specs.declared.error.kind.ErrorKind.{ErrorKind as ClapErrorKind}
 use Rattle.clap.specs.declared.error.kind.ErrorKind.TheVariants as clap_kinds
-use Rattle.keys.specs.declared.fault.Fault.TheVariants.{NoMemory}
+use Rattle.files.specs.declared.fault.Fault.TheVariants.{NoMemory}
 use Rattle.scenario.specs.declared.program.Job.{Job}
 use Rattle.scenario.specs.declared.program.Job.TheVariants.{Plain, Live, Inspect}
 use Rattle.scenario.specs.declared.program.Inspection.{Inspection}

@@ -4,7 +4,7 @@ use Rattle.std.specs.Io.KnownBytes.{Consumes, IsAtEnd}
 use Rattle.scenario.specs.Limits.{most_bytes}
 use Rattle.scenario.specs.declared.trouble.Trouble.{Trouble}
 use Rattle.scenario.specs.declared.trouble.Trouble.TheVariants.{Usage, Unreadable, TooLarge, NoThread, Refused}
-use Rattle.keys.specs.declared.fault.Fault.TheVariants.{NoMemory}
+use Rattle.files.specs.declared.fault.Fault.TheVariants.{NoMemory}
 
 -- these are the bytes that a reader has, where they are known
 abbrev pub AreLeft : Option (List ℕ) → List ℕ → Type 0

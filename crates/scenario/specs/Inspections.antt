@@ -6,10 +6,10 @@ use Rattle.scenario.specs.declared.inspect_program.Finding.{Finding}
 use Rattle.scenario.specs.declared.inspect_program.Finding.TheVariants.{Nothing, StaleUsed, Faulty}
 use Rattle.scenario.specs.declared.trouble.Trouble.{Trouble}
 use Rattle.scenario.specs.declared.trouble.Trouble.TheVariants as troubles
-use Rattle.keys.specs.declared.fault.Fault.{Fault}
-use Rattle.keys.specs.declared.fault.Fault.TheVariants.{NoMemory}
-use Rattle.keys.specs.declared.fault.Fault.TheVariants as faults
-use Rattle.keys.specs.Faults.{Failure, failure_of, fault_in}
+use Rattle.files.specs.declared.fault.Fault.{Fault}
+use Rattle.files.specs.declared.fault.Fault.TheVariants.{NoMemory}
+use Rattle.files.specs.declared.fault.Fault.TheVariants as faults
+use Rattle.files.specs.Faults.{Failure, failure_of, fault_in}
 use Rattle.files.specs.RunFile.{RunPlan, run_file, run_scenario_of}
 use Rattle.checks.specs.Told.{fault_of}
 use Rattle.scenario.specs.Prints.{LinesOf, PrintsStale, PrintsState, TellsFaults, UsesOf}

@@ -1,3 +1,6 @@
+pub mod StaleLines
+pub mod Printed
+pub mod LiveLines
 pub mod Limits
 pub mod Prints
 pub mod Output

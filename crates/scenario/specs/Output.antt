@@ -1,9 +1,9 @@
 -- What is written of the lines.
 use Rattle.std.specs.Prelude.{◌≡◌, ℕ, List, Option, None, take}
 use Rattle.std.specs.Io.KnownBytes.{Appends, Keeps}
-use Rattle.keys.specs.declared.fault.Fault.{Fault}
-use Rattle.keys.specs.declared.fault.Fault.TheVariants as faults
-use Rattle.keys.specs.Faults.{Failure, failure_of}
+use Rattle.files.specs.declared.fault.Fault.{Fault}
+use Rattle.files.specs.declared.fault.Fault.TheVariants as faults
+use Rattle.files.specs.Faults.{Failure, failure_of}
 
 -- known bytes stay at the front, and grow by a beginning of bs
 abbrev pub AppendsFront : Option (List ℕ) → Option (List ℕ) → List ℕ → Type 0

@@ -7,17 +7,17 @@ use Rattle.harts.specs.Scripts.{are_made, AreAnswered}
 use Rattle.history.specs.Runs.{due_replies}
 use Rattle.history.specs.Setup.{setup_of}
 use Rattle.lines.specs.AnswerLines.{WritesLines}
-use Rattle.live_lines.specs.LiveLines.{live_lines}
+use Rattle.scenario.specs.LiveLines.{live_lines}
 use Rattle.lines.specs.ReplyLines.{reply_lines}
-use Rattle.keys.specs.Faults.{Failure, Fails, fault_in}
-use Rattle.keys.specs.declared.fault.Fault.TheVariants.{NoMemory}
+use Rattle.files.specs.Faults.{Failure, Fails, fault_in}
+use Rattle.files.specs.declared.fault.Fault.TheVariants.{NoMemory}
 use Rattle.scenario.specs.declared.trouble.Trouble.{Trouble}
 use Rattle.scenario.specs.declared.trouble.Trouble.TheVariants.{Usage, Unreadable, TooLarge, NoThread, Refused}
 use Rattle.files.specs.LiveFile.{LivePlan}
 use Rattle.files.specs.RunFile.{RunPlan}
 use Rattle.files.specs.WalkFile.{WalkPlan}
 use Rattle.stale.specs.Told.{UsedBy}
-use Rattle.stale_lines.specs.Printed.{Prints as PrintsItems}
+use Rattle.scenario.specs.Printed.{Prints as PrintsItems}
 use Rattle.tlb.specs.Mappings.{Mapping}
 use Rattle.show.specs.Sheet.{Shows}
 use Rattle.checks.specs.Told.{name_by, whole_text}

@@ -15,7 +15,7 @@ use crate::trouble::Trouble;
 use crate::words::matches_of;
 use clap::ArgMatches;
 use harts::Gate;
-use keys::Fault;
+use files::Fault;
 use std::alloc::{AllocError, Global};
 use std::io;
 use std::io::{Read, Write};

@@ -1,7 +1,7 @@
 //! Laws of how commands end: each call makes no step, and its clauses hold of the definitions alone.
 ghost use Rattle.std.specs.Prelude.{◌≡◌, List, ℕ, [], Option, Some, None, codes};
-ghost use Rattle.keys.specs.declared.fault.Fault.TheVariants.{Layout, NoMemory, Output};
-ghost use Rattle.keys.specs.Faults.{Failure, bad_layout, too_many};
+ghost use Rattle.files.specs.declared.fault.Fault.TheVariants.{Layout, NoMemory, Output};
+ghost use Rattle.files.specs.Faults.{Failure, bad_layout, too_many};
 ghost use Rattle.scenario.specs.Command.{done, Ends, error_line, file_fault, FileLines, refused, Reports};
 ghost use Rattle.scenario.specs.Output.{AppendsFront, EndsBy, WritesAll};
 ghost use Rattle.scenario.specs.declared.program.Job.{Job};

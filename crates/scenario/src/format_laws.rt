@@ -2,7 +2,7 @@
 ghost use Rattle.std.specs.Prelude.{[], codes};
 ghost use Rattle.steps.specs.declared.fault.StepFault.TheVariants.{NotStep};
 ghost use Rattle.scenario.specs.Command.{done, IsTold, misused, no_memory, no_thread, output_failed, refused, too_large, unreadable};
-ghost use Rattle.keys.specs.Faults.{bad_layout, not_toml, too_many, wrong_key, wrong_script, wrong_step};
+ghost use Rattle.files.specs.Faults.{bad_layout, not_toml, too_many, wrong_key, wrong_script, wrong_step};
 
 /// The status of each ending, and its line on standard error, written out.
 pub fn worked_endings()

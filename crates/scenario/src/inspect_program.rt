@@ -1,7 +1,7 @@
 //! The commands that tell of a file what its replies don't, over any reader and writers.
 ghost use Rattle.std.specs.Prelude.{◌≡◌, ◌+◌, List, ℕ, IfErr, IfOk, string_bytes};
-ghost use Rattle.keys.specs.Faults.{fault_in};
-ghost use Rattle.keys.specs.declared.fault.Fault.TheVariants.{NoMemory};
+ghost use Rattle.files.specs.Faults.{fault_in};
+ghost use Rattle.files.specs.declared.fault.Fault.TheVariants.{NoMemory};
 ghost use Rattle.checks.specs.Told.{fault_of};
 ghost use Rattle.files.specs.RunFile.{run_scenario_of};
 ghost use Rattle.scenario.specs.declared.program.Job.TheVariants.{Inspect};
@@ -17,9 +17,9 @@ use crate::trouble::Trouble;
 use checks::check_text;
 use draw::draw_text;
 use files::read_run;
-use keys::Fault;
+use files::Fault;
 use show::show_text;
-use stale_lines::stale_text;
+use crate::stale_texts::stale_text;
 use std::alloc::Global;
 use std::io::{Read, Write};
 

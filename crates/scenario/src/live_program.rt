@@ -1,7 +1,7 @@
 //! The command `live`, over any reader and writers.
 ghost use Rattle.std.specs.Prelude.{◌≡◌, ◌⊎◌, ◌+◌, ◌≤◌, List, ℕ, length, map, IfErr, IfOk, None, string_bytes};
 ghost use Rattle.std.specs.Io.KnownBytes.{Keeps};
-ghost use Rattle.keys.specs.Faults.{fault_in};
+ghost use Rattle.files.specs.Faults.{fault_in};
 ghost use Rattle.scenario.specs.Command.{ending_in, Ends, EndsAs};
 ghost use Rattle.scenario.specs.Input.{AreLeft, ReadsUpTo};
 ghost use Rattle.scenario.specs.Limits.{most_bytes};
@@ -15,8 +15,8 @@ use crate::program::{DONE, report};
 use crate::trouble::Trouble;
 use files::{LiveScenario, read_live};
 use harts::{Gate, LiveFault, LiveReport, run_live};
-use keys::Fault;
-use live_lines::live_lines;
+use files::Fault;
+use crate::live_texts::live_lines;
 use std::alloc::Global;
 use std::io::{Read, Write};
 use std::sync::Wait;

@@ -3,7 +3,7 @@ ghost use Rattle.std.specs.Prelude.{OnOk, OnErr, IsErrOf};
 ghost use Rattle.std.specs.Io.KnownBytes.{Appends};
 ghost use Rattle.scenario.specs.Output.{AppendsFront};
 
-use keys::Fault;
+use files::Fault;
 use std::io::Write;
 
 /// Writes all of the bytes. An error of the writer, or a write of no bytes, ends it at once.

@@ -2,7 +2,7 @@
 ghost use Rattle.std.specs.Prelude.{◌≡◌, ◌↔◌, List, ℕ, [], Result, codes};
 ghost use Rattle.files.specs.RunFile.{RunPlan};
 ghost use Rattle.files.specs.WalkFile.{WalkPlan};
-ghost use Rattle.keys.specs.Faults.{Failure};
+ghost use Rattle.files.specs.Faults.{Failure};
 ghost use Rattle.scenario.specs.Command.{FileLines};
 ghost use Rattle.scenario.specs.declared.program.Job.TheVariants.{Plain};
 ghost use Rattle.scenario.specs.declared.program.Which.TheVariants.{Run, Walk};

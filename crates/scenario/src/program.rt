@@ -11,7 +11,7 @@ use crate::input::read_file;
 use crate::output::write_whole;
 use crate::texts::{run_text, walk_text};
 use crate::trouble::Trouble;
-use keys::Fault;
+use files::Fault;
 use std::alloc::{AllocError, Global};
 use std::io::{Read, Write};
 

@@ -2,17 +2,17 @@
 ghost use Rattle.std.specs.Prelude.{◌≡◌, [], None, OnOk, IfOk, IfErr};
 ghost use Rattle.history.specs.Setup.{setup_of};
 ghost use Rattle.history.specs.Runs.{due_replies};
-ghost use Rattle.keys.specs.Faults.{fault_in};
+ghost use Rattle.files.specs.Faults.{fault_in};
 ghost use Rattle.scenario.specs.Prints.{LinesOf, Prints, PrintsReplies};
 ghost use Rattle.files.specs.RunFile.{run_scenario_of};
-ghost use Rattle.keys.specs.declared.fault.Fault.TheVariants.{NoMemory};
+ghost use Rattle.files.specs.declared.fault.Fault.TheVariants.{NoMemory};
 ghost use Rattle.scenario.specs.Output.{EndsBy, WritesAll};
 ghost use Rattle.files.specs.WalkFile.{walk_scenario_of};
 
 use crate::output::write_whole;
 use files::{RunScenario, read_run, read_walk};
 use history::Reply;
-use keys::Fault;
+use files::Fault;
 use lines::{reply_lines, walk_lines};
 use spaces::OpenFault;
 use std::alloc::Global;

@@ -2,9 +2,9 @@
 //! refused or not answered.
 ghost use Rattle.std.specs.Prelude.{◌≡◌};
 ghost use Rattle.scenario.specs.declared.trouble.Trouble.TheVariants.{Refused};
-ghost use Rattle.keys.specs.declared.fault.Fault.TheVariants.{NoMemory};
+ghost use Rattle.files.specs.declared.fault.Fault.TheVariants.{NoMemory};
 
-use keys::Fault;
+use files::Fault;
 use std::alloc::AllocError;
 use std::error::Error;
 use std::fmt;

@@ -3,7 +3,7 @@
 ghost use Rattle.std.specs.Prelude.{◌≡◌, ◌<◌, ◌≤◌, IfErr, IfOk, OnOk, length};
 ghost use Rattle.pte.specs.declared.address.TheConstants.{TABLE_LENGTH};
 ghost use Rattle.history.specs.Setup.{setup_of};
-ghost use Rattle.keys.specs.declared.fault.Fault.TheVariants.{NoMemory};
+ghost use Rattle.files.specs.declared.fault.Fault.TheVariants.{NoMemory};
 ghost use Rattle.stepcore.specs.Stands.{Stands};
 ghost use Rattle.show.specs.Runs.{due_history};
 

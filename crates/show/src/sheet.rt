@@ -2,7 +2,7 @@
 
 ghost use Rattle.std.specs.Prelude.{◌≡◌, ◌<◌, ◌≤◌, IfErr, IfOk, length, string_bytes};
 ghost use Rattle.pte.specs.declared.address.TheConstants.{TABLE_LENGTH};
-ghost use Rattle.keys.specs.declared.fault.Fault.TheVariants.{NoMemory};
+ghost use Rattle.files.specs.declared.fault.Fault.TheVariants.{NoMemory};
 ghost use Rattle.show.specs.Sheet.{IsSheet, Shows};
 ghost use Rattle.show.specs.Rows.{first_line, scheme_text};
 

@@ -21,7 +21,7 @@ use Rattle.tlb.specs.Entries.{filled, first_match, is_match}
 use Rattle.tlb.specs.Fence.{is_fenced}
 use Rattle.tlb.specs.Service.{is_dropped}
 use Rattle.tlb.proofs.Walked.{entry_matches}
-use Rattle.refusals.specs.declared.refusal.Refusal.TheVariants.{NoHart, NoSpace, Walking as WalkInFlight, Retiring, Serving}
+use Rattle.history.specs.declared.refusal.Refusal.TheVariants.{NoHart, NoSpace, Walking as WalkInFlight, Retiring, Serving}
 use Rattle.history.specs.Setup.{Setup}
 use Rattle.history.specs.declared.event.Event.{Event}
 use Rattle.history.specs.declared.event.Event.TheVariants.{Begin, Load, Switch, Fence, ServeFence, AckSelf, Create}

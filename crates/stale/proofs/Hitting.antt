@@ -27,7 +27,7 @@ use Rattle.history.specs.declared.event.Event.{Event}
 use Rattle.history.specs.declared.event.Event.TheVariants.{Begin}
 use Rattle.history.specs.declared.reply.Reply.{Reply}
 use Rattle.history.specs.declared.reply.Reply.TheVariants as reply
-use Rattle.refusals.specs.declared.refusal.Refusal.TheVariants.{NoHart, Walking, Serving}
+use Rattle.history.specs.declared.refusal.Refusal.TheVariants.{NoHart, Walking, Serving}
 use Rattle.history.specs.Turns.{History}
 use Rattle.history.specs.Spaces.{asid_of}
 use Rattle.history.specs.Harts.{entries_of, space_of}

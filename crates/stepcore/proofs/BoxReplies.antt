@@ -11,7 +11,7 @@ use Rattle.shoot.specs.declared.tickets.Ticket.{Ticket}
 use Rattle.shoot.proofs.HartSets.{contains_where}
 use Rattle.history.specs.Setup.{Setup}
 use Rattle.history.specs.declared.event.Event.TheVariants.{Post, Take, Close}
-use Rattle.refusals.specs.declared.refusal.Refusal.TheVariants.{NotOpen, NotNamed, AlreadyPosted, Closed, Full, Walking, Serving}
+use Rattle.history.specs.declared.refusal.Refusal.TheVariants.{NotOpen, NotNamed, AlreadyPosted, Closed, Full, Walking, Serving}
 use Rattle.history.specs.declared.reply.Reply.{Reply}
 use Rattle.history.specs.declared.reply.Reply.TheVariants as reply
 use Rattle.history.specs.Turns.{History}

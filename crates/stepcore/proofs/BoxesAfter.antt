@@ -15,7 +15,7 @@ use Rattle.shoot.proofs.HartSets.{contains_where}
 use Rattle.history.specs.Setup.{Setup}
 use Rattle.history.specs.declared.event.Event.{Event}
 use Rattle.history.specs.declared.event.Event.TheVariants.{Post, Take, AckSelf, Collect, Close}
-use Rattle.refusals.specs.declared.refusal.Refusal.TheVariants.{NoHart}
+use Rattle.history.specs.declared.refusal.Refusal.TheVariants.{NoHart}
 use Rattle.history.specs.declared.reply.Reply.{Reply}
 use Rattle.history.specs.declared.reply.Reply.TheVariants as reply
 use Rattle.history.specs.Turns.{History, is_progress, are_same}

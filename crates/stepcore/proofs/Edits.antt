@@ -19,7 +19,7 @@ use Rattle.walk.specs.Stores.{stored as stored_words}
 use Rattle.spaces.proofs.EditLaws.{edit-accepted}
 use Rattle.history.specs.declared.event.Event.TheVariants.{Map}
 use Rattle.history.specs.declared.reply.Reply.{Reply}
-use Rattle.refusals.specs.declared.refusal.Refusal.{Refusal}
+use Rattle.history.specs.declared.refusal.Refusal.{Refusal}
 use Rattle.history.specs.declared.reply.Reply.TheVariants as reply
 use Rattle.history.specs.Turns.{is_table_at}
 use Rattle.shoot.specs.Tickets.{after_open}

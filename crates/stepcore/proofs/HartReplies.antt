@@ -28,7 +28,7 @@ use Rattle.tlb.specs.Entries.{first_match}
 use Rattle.history.specs.Setup.{Setup}
 use Rattle.history.specs.Spaces.{asid_of, status_of, is_retiring, holder_of}
 use Rattle.history.specs.declared.event.Event.TheVariants.{Begin, Load, Map, Unmap, Protect, Switch, Fence, ServeFence, Ack}
-use Rattle.refusals.specs.declared.refusal.Refusal.TheVariants.{Retiring, NotFenced, Walking as Walks, Serving as Serves, NotServing as NotServes}
+use Rattle.history.specs.declared.refusal.Refusal.TheVariants.{Retiring, NotFenced, Walking as Walks, Serving as Serves, NotServing as NotServes}
 use Rattle.history.specs.declared.reply.Reply.{Reply}
 use Rattle.history.specs.declared.reply.Reply.TheVariants as reply
 use Rattle.history.specs.Turns.{History}

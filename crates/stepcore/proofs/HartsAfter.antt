@@ -26,7 +26,7 @@ use Rattle.history.specs.Setup.{Setup}
 use Rattle.history.specs.Spaces.{asid_of}
 use Rattle.history.specs.declared.event.Event.{Event}
 use Rattle.history.specs.declared.event.Event.TheVariants.{Begin, Load, Switch, Fence, Take, ServeFence, Ack, AckSelf, Reclaim}
-use Rattle.refusals.specs.declared.refusal.Refusal.TheVariants.{NoHart, NoSpace, Retiring as Retires, NotServing as NotServes, Walking as Walks, Serving as Serves}
+use Rattle.history.specs.declared.refusal.Refusal.TheVariants.{NoHart, NoSpace, Retiring as Retires, NotServing as NotServes, Walking as Walks, Serving as Serves}
 use Rattle.history.specs.declared.reply.Reply.{Reply}
 use Rattle.history.specs.declared.reply.Reply.TheVariants as reply
 use Rattle.history.specs.Turns.{History, is_ok, is_more, is_filled, is_taken, is_progress}

@@ -14,7 +14,7 @@ use Rattle.shoot.specs.Tickets.{TicketTable}
 use Rattle.history.specs.Setup.{Setup}
 use Rattle.history.specs.declared.event.Event.{Event}
 use Rattle.history.specs.declared.event.Event.TheVariants.{Begin, Load, Unmap, Protect, Flush, Switch, Fence, Post, Take, ServeFence, Ack, AckSelf, Collect, Finish, Close, Retire}
-use Rattle.refusals.specs.declared.refusal.Refusal.TheVariants.{NoHart, NoSpace}
+use Rattle.history.specs.declared.refusal.Refusal.TheVariants.{NoHart, NoSpace}
 use Rattle.history.specs.declared.reply.Reply.{Reply}
 use Rattle.history.specs.declared.reply.Reply.TheVariants as reply
 use Rattle.history.specs.Turns.{is_ok}

@@ -6,7 +6,7 @@ use Rattle.spaces.specs.declared.places.Place.TheVariants.{Space}
 use Rattle.spaces.specs.Layout.{Layout, home_of}
 use Rattle.shoot.specs.Tickets.{TicketTable}
 use Rattle.history.specs.Spaces.{Status, Live, Retires, Free, status_of}
-use Rattle.refusals.specs.declared.refusal.Refusal.TheVariants.{NotHome, Retiring, InUse, HomeNotNamed, NotAcked, NotFree, AsidInUse}
+use Rattle.history.specs.declared.refusal.Refusal.TheVariants.{NotHome, Retiring, InUse, HomeNotNamed, NotAcked, NotFree, AsidInUse}
 use Rattle.history.specs.declared.reply.Reply.{Reply}
 use Rattle.history.specs.declared.reply.Reply.TheVariants as reply
 use Rattle.laws.proofs.Tools.{by_test}

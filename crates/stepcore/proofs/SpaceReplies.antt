@@ -16,7 +16,7 @@ use Rattle.history.proofs.Passing.{refuse}
 use Rattle.history.specs.Due as due_tests
 use Rattle.history.specs.declared.event.Scope.{Scope}
 use Rattle.history.specs.declared.event.Scope.TheVariants as scopes
-use Rattle.refusals.specs.declared.refusal.Refusal.TheVariants.{NoSpace, Retiring}
+use Rattle.history.specs.declared.refusal.Refusal.TheVariants.{NoSpace, Retiring}
 use Rattle.history.specs.declared.reply.Reply.{Reply}
 use Rattle.laws.proofs.Tools.{by_test}
 use Rattle.stepcore.specs.State.{State, space_at}

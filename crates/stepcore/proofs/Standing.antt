@@ -8,7 +8,7 @@ use Rattle.history.specs.Turns.{History}
 use Rattle.history.specs.declared.event.Event.{Event}
 use Rattle.history.specs.declared.event.Event.TheVariants.{Begin, Load, Map, Unmap, Protect, Flush, Switch, Fence, Post, Take, ServeFence, Ack, AckSelf, Collect, Finish, Close, Retire, Reclaim, Create}
 use Rattle.history.specs.declared.reply.Reply.{Reply}
-use Rattle.refusals.specs.declared.refusal.Refusal.{Refusal}
+use Rattle.history.specs.declared.refusal.Refusal.{Refusal}
 use Rattle.history.specs.Runs.{with_turn}
 use Rattle.history.specs.Due.{due}
 use Rattle.stepcore.specs.State.{State, IsMachine, mailbox_index}

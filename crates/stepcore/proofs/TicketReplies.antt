@@ -12,7 +12,7 @@ use Rattle.shoot.proofs.HartSets.{by_test}
 use Rattle.shoot.proofs.TicketLaws.{at_changed}
 use Rattle.history.specs.declared.event.Event.TheVariants.{Flush, AckSelf, Collect, Finish}
 use Rattle.history.specs.declared.event.Scope.{Scope}
-use Rattle.refusals.specs.declared.refusal.Refusal.TheVariants.{HomeNotNamed, NotOpen, NotNamed, Walking, NotDone}
+use Rattle.history.specs.declared.refusal.Refusal.TheVariants.{HomeNotNamed, NotOpen, NotNamed, Walking, NotDone}
 use Rattle.history.specs.declared.reply.Reply.{Reply}
 use Rattle.history.specs.declared.reply.Reply.TheVariants as reply
 use Rattle.history.specs.Setup.{Setup}

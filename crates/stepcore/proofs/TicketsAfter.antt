@@ -19,7 +19,7 @@ use Rattle.history.proofs.Occurred.{same_from}
 use Rattle.history.specs.declared.event.Event.{Event}
 use Rattle.history.specs.declared.event.Event.TheVariants.{Unmap, Protect, Flush, Post, Ack, AckSelf, Collect, Finish, Retire}
 use Rattle.history.specs.declared.event.Scope.{Scope}
-use Rattle.refusals.specs.declared.refusal.Refusal.TheVariants.{NoHart, NoSpace, NotHome, HomeNotNamed, InUse, Retiring, NotDone, NotServing}
+use Rattle.history.specs.declared.refusal.Refusal.TheVariants.{NoHart, NoSpace, NotHome, HomeNotNamed, InUse, Retiring, NotDone, NotServing}
 use Rattle.history.specs.declared.reply.Reply.{Reply}
 use Rattle.history.specs.declared.reply.Reply.TheVariants as reply
 use Rattle.history.specs.Setup.{Setup, is_hart}

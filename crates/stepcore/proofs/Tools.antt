@@ -7,8 +7,8 @@ use Rattle.std.proofs.lemmas.Bool.{and_parts, not-false, ltb-true}
 use Rattle.walk.specs.Leads.{Tables}
 use Rattle.walk.specs.Stage.{Stage}
 use Rattle.history.specs.Setup.{Setup, is_hart}
-use Rattle.refusals.specs.declared.refusal.Refusal.{Refusal}
-use Rattle.refusals.specs.declared.refusal.Refusal.TheVariants.{NoHart}
+use Rattle.history.specs.declared.refusal.Refusal.{Refusal}
+use Rattle.history.specs.declared.refusal.Refusal.TheVariants.{NoHart}
 use Rattle.history.specs.declared.reply.Reply.{Reply}
 use Rattle.history.specs.Mailboxes.{Sent}
 use Rattle.history.specs.Harts.{Walking}

@@ -1,7 +1,7 @@
 //! What events ask for before they change anything, and how a refusal becomes a reply.
 
 ghost use Rattle.std.specs.Prelude.{◌≡◌, ◌<◌, ◌&&◌, IfErr, IsTrue, OnOk, false, length, true};
-ghost use Rattle.refusals.specs.declared.refusal.Refusal.TheVariants.{NoHart, NoSpace};
+ghost use Rattle.history.specs.declared.refusal.Refusal.TheVariants.{NoHart, NoSpace};
 ghost use Rattle.history.specs.Due.{are_harts, are_pair};
 ghost use Rattle.history.specs.Setup.{is_hart};
 ghost use Rattle.stepcore.specs.State.{setup_in};

@@ -5,7 +5,7 @@ ghost use Rattle.shoot.specs.Mailbox.{can_release, post_fault, first_waiting, af
 ghost use Rattle.shoot.specs.Tickets.{acked_by, is_done_at, is_open, names, progress_at, after_posted, after_collect, after_finish};
 ghost use Rattle.tlb.specs.Service.{after_service};
 ghost use Rattle.history.specs.Turns.{is_progress};
-ghost use Rattle.refusals.specs.declared.refusal.Refusal.TheVariants.{NotDone};
+ghost use Rattle.history.specs.declared.refusal.Refusal.TheVariants.{NotDone};
 ghost use Rattle.history.specs.declared.event.Event.TheVariants.{Post, Take, ServeFence, Ack, AckSelf, Collect, Finish, Close};
 ghost use Rattle.history.specs.declared.reply.Reply.TheVariants as reply;
 ghost use Rattle.stepcore.specs.State.{hart_at, tickets_at, mailbox_at, mailbox_index};

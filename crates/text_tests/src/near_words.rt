@@ -1,5 +1,5 @@
 //! Words that are nearly alike, and the one that is meant.
-use hints::{is_near, nearest};
+use checks::{is_near, nearest};
 
 /// Two words, and the least number of edits that make one of the other.
 const DISTANCES: [(&str, &str, u8); 12] = [

@@ -1,6 +1,6 @@
 //! The numbers of the refusals, as they are written down.
 
-use refusals::Refusal;
+use history::Refusal;
 use std::process::Abort;
 
 #[test]

@@ -5,7 +5,7 @@ use Rattle.std.specs.List.{range_with_len}
 use Rattle.std.specs.Arc.{arc_value}
 use Rattle.spaces.specs.declared.configuration.Config.{Config}
 use Rattle.history.specs.Setup.{setup_of}
-use Rattle.rings.specs.Ends.{OutboxState, InboxState}
+use Rattle.board.specs.Ends.{OutboxState, InboxState}
 use Rattle.board.specs.Ports.{PortState, IsNew, IsPort, name_of}
 use Rattle.board.specs.Rows.{IsInRow, IsOutRow, items_at}
 use Rattle.board.proofs.RowsGrow.{items-old, length-one_more}

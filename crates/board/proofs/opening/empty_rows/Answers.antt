@@ -1,6 +1,6 @@
 use Rattle.std.proofs.Common.{◌∙◌, ap, ◌+◌, List, Option}
 use Rattle.std.specs.Global.{Vec}
-use Rattle.rings.specs.Ends.{InboxState}
+use Rattle.board.specs.Ends.{InboxState}
 use Rattle.board.specs.Rows.{items_at}
 use Rattle.board.proofs.RowsGrow.{items-empty, length-one_more}
 use Rattle.board.proofs.opening.empty_rows.Goals as goal

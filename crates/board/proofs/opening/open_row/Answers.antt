@@ -1,6 +1,6 @@
 use Rattle.std.proofs.Common.{◌≡◌, ◌∙◌, sym, ap, subst, ℕ, ◌+◌, ◌<◌, List, length, Option, inl, inr, arith}
 use Rattle.std.specs.Option.{option_map}
-use Rattle.rings.specs.Ends.{OutboxState, InboxState}
+use Rattle.board.specs.Ends.{OutboxState, InboxState}
 use Rattle.board.specs.Ports.{element, end_of_outbox, end_of_inbox}
 use Rattle.board.specs.Rows.{IsInRow, items_at, new_outbox_of, new_inbox_of}
 use Rattle.board.proofs.RowsGrow.{row_count, row_grows, element-old, element-last, below_next, same_or_not}

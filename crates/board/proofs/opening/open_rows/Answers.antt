@@ -1,7 +1,7 @@
 use Rattle.std.proofs.Common.{◌∙◌, sym, ap, subst, ℕ, ◌+◌, List, Option, inl, inr, arith}
 use Rattle.std.specs.Global.{Vec}
 use Rattle.std.specs.Option.{option_map}
-use Rattle.rings.specs.Ends.{OutboxState}
+use Rattle.board.specs.Ends.{OutboxState}
 use Rattle.board.specs.Ports.{element, end_of_outbox, end_of_inbox}
 use Rattle.board.specs.Rows.{AreLinked, IsOutRow, items_at}
 use Rattle.board.proofs.RowsGrow.{below_next, items-old, items-last, length-one_more}

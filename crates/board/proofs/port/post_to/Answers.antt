@@ -2,8 +2,8 @@ use Rattle.std.proofs.Common.{◌≡◌, Option, Some, None, Ok, Err, ap, sym, r
 use Rattle.std.specs.Prelude.{Result}
 use Rattle.shoot.specs.Request.{Request}
 use Rattle.shoot.specs.declared.mailbox.PostFault.{PostFault}
-use Rattle.refusals.specs.declared.refusal.Refusal.{Refusal}
-use Rattle.rings.specs.Ends.{post_fault}
+use Rattle.history.specs.declared.refusal.Refusal.{Refusal}
+use Rattle.board.specs.Ends.{post_fault}
 use Rattle.history.specs.Refusal.{posting_refusal}
 use Rattle.board.specs.Answers.{box_refusal, outbox_refusal}
 use Rattle.board.proofs.port.post_to.Goals as goal

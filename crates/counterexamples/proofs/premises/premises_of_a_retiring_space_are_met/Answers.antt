@@ -1,8 +1,8 @@
 use Rattle.std.proofs.Common.{refl}
-use Rattle.worked_runs.specs.ShootdownRuns.{spaces_of_one_home}
-use Rattle.worked_runs.specs.RetireRuns as run
-use Rattle.worked_runs.proofs.RunsAreLawful.{lawful_run}
-use Rattle.worked_runs.proofs.RetireRows.{retired_until_acknowledged}
+use Rattle.counterexamples.specs.ShootdownRuns.{spaces_of_one_home}
+use Rattle.counterexamples.specs.RetireRuns as run
+use Rattle.counterexamples.proofs.RunsAreLawful.{lawful_run}
+use Rattle.counterexamples.proofs.RetireRows.{retired_until_acknowledged}
 use Rattle.counterexamples.proofs.PremisesMet.{retired_pages}
 use Rattle.counterexamples.proofs.premises.premises_of_a_retiring_space_are_met.Goals as goal
 

@@ -1,8 +1,8 @@
 use Rattle.std.proofs.Common.{refl}
-use Rattle.worked_runs.specs.ShootdownRuns as run
-use Rattle.worked_runs.specs.WorkedRuns.{two_harts}
-use Rattle.worked_runs.proofs.RunsAreLawful.{lawful_run}
-use Rattle.worked_runs.proofs.ShootdownRows.{superpage_shootdown}
+use Rattle.counterexamples.specs.ShootdownRuns as run
+use Rattle.counterexamples.specs.WorkedRuns.{two_harts}
+use Rattle.counterexamples.proofs.RunsAreLawful.{lawful_run}
+use Rattle.counterexamples.proofs.ShootdownRows.{superpage_shootdown}
 use Rattle.counterexamples.proofs.PremisesMet.{superpage_pages, superpage_answered}
 use Rattle.counterexamples.proofs.premises.premises_of_clear_are_met.Goals as goal
 

@@ -1,7 +1,7 @@
 use Rattle.std.proofs.Common.{refl}
-use Rattle.worked_runs.specs.KernelRuns as run
-use Rattle.worked_runs.proofs.RunsAreLawful.{lawful_run}
-use Rattle.worked_runs.proofs.KernelRows.{kernel_page_outlives_an_asid_fence}
+use Rattle.counterexamples.specs.KernelRuns as run
+use Rattle.counterexamples.proofs.RunsAreLawful.{lawful_run}
+use Rattle.counterexamples.proofs.KernelRows.{kernel_page_outlives_an_asid_fence}
 use Rattle.counterexamples.proofs.PremisesMet.{kernel_pages, kernel_answered}
 use Rattle.counterexamples.proofs.premises.premises_of_clear_are_met_by_a_kernel_page.Goals as goal
 

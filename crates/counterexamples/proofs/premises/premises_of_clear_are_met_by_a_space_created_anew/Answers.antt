@@ -1,8 +1,8 @@
 use Rattle.std.proofs.Common.{refl}
-use Rattle.worked_runs.specs.ShootdownRuns.{spaces_of_one_home}
-use Rattle.worked_runs.specs.RetireRuns as run
-use Rattle.worked_runs.proofs.RunsAreLawful.{lawful_run}
-use Rattle.worked_runs.proofs.RetireRows.{orders_keep_their_asid}
+use Rattle.counterexamples.specs.ShootdownRuns.{spaces_of_one_home}
+use Rattle.counterexamples.specs.RetireRuns as run
+use Rattle.counterexamples.proofs.RunsAreLawful.{lawful_run}
+use Rattle.counterexamples.proofs.RetireRows.{orders_keep_their_asid}
 use Rattle.counterexamples.proofs.PremisesMet.{created_pages, created_answered}
 use Rattle.counterexamples.proofs.premises.premises_of_clear_are_met_by_a_space_created_anew.Goals as goal
 

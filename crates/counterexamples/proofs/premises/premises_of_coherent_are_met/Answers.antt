@@ -1,8 +1,8 @@
 use Rattle.std.proofs.Common.{refl}
-use Rattle.worked_runs.specs.ShootdownRuns as run
-use Rattle.worked_runs.specs.WorkedRuns.{two_harts}
-use Rattle.worked_runs.proofs.RunsAreLawful.{lawful_run}
-use Rattle.worked_runs.proofs.ShootdownRows.{superpage_made_read_only}
+use Rattle.counterexamples.specs.ShootdownRuns as run
+use Rattle.counterexamples.specs.WorkedRuns.{two_harts}
+use Rattle.counterexamples.proofs.RunsAreLawful.{lawful_run}
+use Rattle.counterexamples.proofs.ShootdownRows.{superpage_made_read_only}
 use Rattle.counterexamples.proofs.PremisesMet.{read_only_pages, read_only_answered}
 use Rattle.counterexamples.proofs.premises.premises_of_coherent_are_met.Goals as goal
 

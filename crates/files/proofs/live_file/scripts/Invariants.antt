@@ -1,7 +1,7 @@
 use Rattle.std.proofs.Common.{◌≡◌, length}
 use Rattle.toml.specs.View.{view}
-use Rattle.keys.specs.Keys.{texts_of}
-use Rattle.keys.proofs.EachLemmas.{EachSoFar}
+use Rattle.files.specs.Keys.{texts_of}
+use Rattle.files.proofs.EachLemmas.{EachSoFar}
 use Rattle.files.specs.LiveFile.{script_views}
 use Rattle.files.proofs.live_file.scripts.Given as goal
 

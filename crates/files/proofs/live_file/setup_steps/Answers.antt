@@ -2,7 +2,7 @@ use Rattle.std.proofs.Common.{◌≡◌, ◌∙◌, ◌<◌, ℕ, Ok, [], get_or
 use Rattle.std.proofs.lemmas.List.Elements.{All-append, All-cons, All-nil}
 use Rattle.history.specs.declared.live_step.LiveStep.{LiveStep}
 use Rattle.steps.specs.LiveSteps.{setup_step_in}
-use Rattle.keys.proofs.EachLemmas.{no_text}
+use Rattle.files.proofs.EachLemmas.{no_text}
 use Rattle.files.proofs.TextLemmas.{hart_there, setup_more}
 use Rattle.files.proofs.live_file.setup_steps.Goals as goal
 

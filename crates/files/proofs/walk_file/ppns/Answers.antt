@@ -1,6 +1,6 @@
 use Rattle.std.proofs.Common.{Bor, List, ℕ, sym, ◌∙◌, arith}
 use Rattle.files.specs.WalkFile.{ppn_of}
-use Rattle.keys.proofs.EachLemmas.{each_more, no_text}
+use Rattle.files.proofs.EachLemmas.{each_more, no_text}
 use Rattle.files.proofs.walk_file.ppns.Goals as goal
 
 pub loop-text-preserved : goal.loop-text-preserved

@@ -1,6 +1,6 @@
 use Rattle.std.proofs.Common.{Bor, List, ℕ, ◌≤◌, vec_len}
 use Rattle.files.specs.WalkFile.{ppn_of}
-use Rattle.keys.proofs.EachLemmas.{EachSoFar}
+use Rattle.files.proofs.EachLemmas.{EachSoFar}
 use Rattle.files.proofs.walk_file.ppns.Given as goal
 
 abbrev pub invariant-loop-text : goal.invariant-loop-text

@@ -1,7 +1,7 @@
 use Rattle.std.proofs.Common.{Bor, List, ℕ, sym, ◌∙◌}
 use Rattle.files.specs.Memory.{is_frame_of}
 use Rattle.files.specs.WalkFile.{word_of}
-use Rattle.keys.proofs.EachLemmas.{each_more, no_text}
+use Rattle.files.proofs.EachLemmas.{each_more, no_text}
 use Rattle.files.proofs.walk_file.table_words.Goals as goal
 
 pub loop-text-preserved : goal.loop-text-preserved

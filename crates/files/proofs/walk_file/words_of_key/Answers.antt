@@ -1,6 +1,6 @@
 use Rattle.std.proofs.Common.{◌≡◌, ◌∙◌, Bor, List, ℕ, map, option_map, rules, sym}
-use Rattle.keys.specs.Keys.{each}
-use Rattle.keys.proofs.EachLemmas.{each-map}
+use Rattle.files.specs.Keys.{each}
+use Rattle.files.proofs.EachLemmas.{each-map}
 use Rattle.files.specs.Memory.{is_frame_of}
 use Rattle.files.specs.WalkFile.{word_of}
 use Rattle.files.proofs.walk_file.words_of_key.Goals as goal

@@ -1,5 +1,5 @@
 use Rattle.std.proofs.Common.{◌≡◌, ◌≤◌, length, rules}
-use Rattle.keys.specs.declared.fault.Fault.TheVariants.{Output}
+use Rattle.files.specs.declared.fault.Fault.TheVariants.{Output}
 use Rattle.std.proofs.lemmas.Result.{err_from_is_err_and}
 use Rattle.scenario.specs.declared.program.Job.TheVariants.{Inspect}
 use Rattle.scenario.specs.Limits.{most_bytes}

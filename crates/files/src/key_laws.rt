@@ -1,0 +1,33 @@
+//! Laws of the keys: each call makes no step, and its clauses hold of the definitions alone.
+ghost use Rattle.pte.specs.declared.scheme.Scheme.TheVariants.{Sv39, Sv48};
+ghost use Rattle.std.specs.Prelude.{◌≡◌, ◌↔◌, List, [], ℕ, pos, Some, None, Ok, codes, true, false, IsTrue};
+ghost use Rattle.toml.specs.Data.{Members, boolean, get_member, integer, string};
+ghost use Rattle.files.specs.Keys.{HasKey, is_known, IsLeastUnknown, least_unknown};
+ghost use Rattle.files.specs.Settings.{mode_at, mode_of};
+
+/// The unknown key that is reported is the least by bytes, and none is reported only where all keys
+/// are known.
+pub fn least_unknown_key()
+    ensures least { (known : List (List ℕ)) (ms : Members) (key : List ℕ)
+        → least_unknown known ms ≡ Some key → IsLeastUnknown known ms key }
+    ensures none { (known : List (List ℕ)) (ms : Members) → least_unknown known ms ≡ None
+        → (key : List ℕ) → is_known known key ≡ false → ¬ HasKey key ms }
+{}
+
+/// A file without the key `mode` is one of Sv39.
+pub fn mode_is_sv39_by_default()
+    ensures { (ms : Members) → get_member (codes "mode") ms ≡ None → mode_at ms ≡ Ok Sv39 }
+{}
+
+/// The value of the key `mode` is one word, the name of a scheme, with blanks around it or without.
+pub fn worked_modes()
+    ensures sv39 { mode_of (string (codes "sv39")) ≡ Some Sv39 }
+    ensures sv48 { mode_of (string (codes "sv48")) ≡ Some Sv48 }
+    ensures blanks { mode_of (string (codes "\t sv48  ")) ≡ Some Sv48 }
+    ensures other { mode_of (string (codes "sv57")) ≡ None }
+    ensures upper_case { mode_of (string (codes "SV48")) ≡ None }
+    ensures empty { mode_of (string []) ≡ None }
+    ensures two_words { mode_of (string (codes "sv39 sv48")) ≡ None }
+    ensures number { mode_of (integer (pos 48)) ≡ None }
+    ensures truth { mode_of (boolean true) ≡ None }
+{}

@@ -1,0 +1,53 @@
+-- `push` opens both halves, and sets their name to the longer list.
+use Rattle.std.proofs.Common.{ℕ, List, [], ◌∷◌, ◌++◌, sym, refl, ap}
+use mir.Syntax.{a_type, dnil, named}
+use mir.Val.{Val, vunit, vptr}
+use mir.MapTy.{inst_fn}
+use base.Logic.{SProp, emp}
+use base.Stored.{coded_list}
+use base.Fml.{Fml, ftrue, fsep, flft, fauth}
+use types.Kit.{‵, raw, ◌⊛◌, given, ◌$◌, ◌∵◌, !, qed, by, move, keep, drop, split, join, fsplit, fsplit3, fjoin, fjoin3, fpack, learn, use0, feq_i}
+use types.Tokens.{name_agree, name_set}
+use types.Run.{unit_lit, of_opd, returns, enter}
+use types.ByLocal.{alloc_all, pass_all, free_all, look_at, sets}
+use contract.Monad.{fact, fact_i}
+use contract.Running.{tables}
+use denote.Exit.{yes}
+use denote.RattleType.{RattleType, owns}
+use denote.Signature.{types_at, plain}
+use denote.Builtin.{RefOf}
+use denote.Ref.{mut_vals, mut_Tells, shr_vals, shr_Tells}
+use denote.Steps.{nothing, opens, closes}
+use denote.Param.{param, bounded}
+use denote.Triple.Walked.{Stays, stay_dropped, stay_ref, walk_of, Goes-dropped, Goes-ref}
+use Rattle.std.proofs.raw_atomic.Walks.{proved}
+use Rattle.harts.proofs.Walks.{ends}
+use Rattle.harts.specs.contracts.halves.Inner as Inner
+use Rattle.harts.specs.contracts.halves.Outer as Outer
+use Rattle.harts.specs.contracts.halves.Inner.push.{ended, clauses}
+use Rattle.harts.specs.contracts.halves.Inner.push.Key.{name as #self}
+use Rattle.harts.proofs.halves.Inner.push.Statement.{statement}
+use Rattle.harts.proofs.halves.Inner.push.Code as code
+
+pub push_spec : {M : Type 1} → statement M
+push_spec 𝓤 𝓛 𝓜 𝓡 wired E _ =
+    let H = 𝓛.H in let 𝓣 = tables 𝓤 H 𝓜 𝓡 𝓡.env in let E' : RattleType = param 0 E in let En = ended E in
+    let inst = bounded (a_type ∷ []) (E, tt) dnil in let fn = inst_fn inst code.function in let c = clauses E 𝓛 𝓜.mem 𝓡.returns in
+    let A : RattleType = Inner.the_row E' in let B : RattleType = Outer.the_row E' in let L = coded_list E'.coded in
+    let hs : Stays En.signature.params En.kept = (stay_ref (0 ∷ []) tt (plain (λ _. A)), (stay_ref (1 ∷ []) tt (plain (λ _. B)), (stay_dropped (RefOf (2 ∷ []) tt (plain (λ _. E')) (λ _. tt)) yes, tt))) in
+    proved 𝓛 En hs c 𝓜 𝓡 (Goes-ref 𝓛 4 0 tt (plain (λ _. A)), (Goes-ref 𝓛 4 1 tt (plain (λ _. B)), (Goes-dropped 𝓛 4 (RefOf (2 ∷ []) tt (plain (λ _. E')) (λ _. tt)) yes (λ κs x f. refl), tt))) (#self inst) fn (code.unfolded 𝓤 H 𝓜 𝓡 wired (E, tt))
+    (λ κs. (mut_vals, (mut_vals, (shr_vals, tt)))) (λ κs. (mut_Tells (named 0) κs.0 A, (mut_Tells (named 1) κs.1.0 B, (shr_Tells (named 2) κs.1.1.0 E', tt)))) (λ κs qs bounds a gh are.
+    let b₀ : ℕ = a.0.ref_ptr.0 in let o₀ : ℕ = a.0.ref_ptr.1 in let b₁ : ℕ = a.1.0.ref_ptr.0 in let o₁ : ℕ = a.1.0.ref_ptr.1 in let e : Val = vptr a.1.1.0.ref_ptr.0 a.1.1.0.ref_ptr.1 in
+    let me = a.0.now in let other = a.1.0.now in let x = a.1.1.0.now in let more : List E.Denot = me.list ++ x ∷ [] in
+    let me' : A.Denot = record { marker = me.marker; name = me.name; list = more } in let other' : B.Denot = record { marker = other.marker; name = other.name; list = more } in
+    let y : (walk_of 𝓛 En hs c).Ghost = ((κs, qs, bounds, a, (vptr b₀ o₀ ∷ [], (vptr b₁ o₁ ∷ [], (e ∷ [], tt)))), gh) in let Post : Val → SProp 𝓤 = (walk_of 𝓛 En hs c).post y in
+    let toks : Fml = fsep (flft κs.0 qs.0) (fsep (flft κs.1.0 qs.1.0) (fsep (flft κs.1.1.0 qs.1.1.0) (fsep (flft κs.1.1.1.0 qs.1.1.1.0) ftrue))) in
+    qed 𝓛 ((‵ toks ⊛ ‵ (owns (types_at En.signature.params κs) a y.0.4)) ∷ raw (fact 𝓤 _) ∷ given _ (‵ ftrue) ∷ []) ∵ keep ! (2 ∷ 0 ∷ []) $ learn ! (λ asked. drop ! $ split ! $
+    fsplit ! $ move ! (1 ∷ []) $ fsplit ! $ move ! (3 ∷ []) $ fsplit ! $ fsplit3 ! $ move ! (3 ∷ []) $ fsplit ! $ fsplit3 ! $ keep ! (5 ∷ 6 ∷ 9 ∷ 1 ∷ 2 ∷ 7 ∷ 8 ∷ []) $
+    enter ! 𝓣.C 𝓣.Λ fn (vptr b₀ o₀ ∷ vptr b₁ o₁ ∷ e ∷ []) Post $ alloc_all ! (λ l. pass_all ! refl ((tt, tt), ((tt, tt), ((tt, tt), tt))) $
+    opens ! tt A b₀ o₀ (λ cs. move ! (5 ∷ 6 ∷ 7 ∷ []) $ opens ! tt B b₁ o₁ (λ ds. move ! (1 ∷ []) $ fsplit ! $ move ! (7 ∷ []) $ fsplit ! $ move ! (3 ∷ 1 ∷ []) $
+    types.Kit.rewrite ! 1 (λ (n : ℕ). ‵ (fauth n (L.code me.list))) asked refl $ name_agree ! L (λ same. name_set ! tt (L.code more) $ types.Kit.rewrite ! 1 (λ (n : ℕ). ‵ (fauth n (L.code more))) (sym asked) refl $
+    move ! (2 ∷ 1 ∷ []) $ fjoin ! $ move ! (2 ∷ 1 ∷ []) $ fjoin ! $ move ! (2 ∷ 0 ∷ 3 ∷ 4 ∷ 5 ∷ []) $ closes ! tt B other' ds b₁ o₁ $ move ! (4 ∷ 3 ∷ 5 ∷ 6 ∷ 7 ∷ []) $ closes ! tt A me' cs b₀ o₀ $
+    sets ! (of_opd ! (unit_lit !)) refl (tt, tt) $ feq_i ! (List Val) (vunit ∷ []) (vunit ∷ []) refl $ move ! (6 ∷ 7 ∷ []) $ fjoin ! $ move ! (4 ∷ 0 ∷ []) $ fjoin ! $
+    nothing ! $ nothing ! $ fjoin ! $ feq_i ! (List Val) (vptr b₁ o₁ ∷ []) (vptr b₁ o₁ ∷ []) refl $ move ! (0 ∷ 6 ∷ 7 ∷ []) $ fjoin3 ! $ fjoin ! $ feq_i ! (List Val) (vptr b₀ o₀ ∷ []) (vptr b₀ o₀ ∷ []) refl $ move ! (0 ∷ 4 ∷ 5 ∷ []) $ fjoin3 ! $ fjoin ! $
+    returns ! (look_at ! 0 refl) $ free_all ! refl $ keep ! (1 ∷ 0 ∷ 2 ∷ []) $ by ! (ends 𝓛 En hs c y vunit tt (me', (other', (tt, tt))) (tt, (tt, (tt, tt))) (fact_i 𝓤 _ (emp 𝓤) (sym same, refl, ap (λ (xs : List E.Denot). xs ++ x ∷ []) (sym same), refl, refl)))))))))

@@ -1,3 +1,0 @@
-pub mod EachLemmas
-pub mod KeyLemmas
-pub mod StepLemmas

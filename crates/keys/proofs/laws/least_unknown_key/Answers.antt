@@ -1,5 +1,0 @@
-use Rattle.keys.proofs.KeyLemmas.{found_is_least, none_unknown}
-use Rattle.keys.proofs.laws.least_unknown_key.Goals as goal
-
-pub returns : goal.returns
-returns c = record { least = found_is_least; none = none_unknown }

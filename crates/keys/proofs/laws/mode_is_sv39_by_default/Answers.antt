@@ -1,5 +1,0 @@
-use Rattle.std.proofs.Common.{refl}
-use Rattle.keys.proofs.laws.mode_is_sv39_by_default.Goals as goal
-
-pub returns : goal.returns
-returns c ms none = rw none refl

@@ -1,7 +1,0 @@
-use Rattle.std.proofs.Common.{string_bytes}
-use Rattle.live_lines.specs.LiveLines.{pair_line}
-use Rattle.live_lines.proofs.LiveLemmas.{EachWritten}
-use Rattle.live_lines.proofs.live.push_pairs.Given as goal
-
-abbrev pub invariant-loop-pair : goal.invariant-loop-pair
-invariant-loop-pair l = EachWritten (λ n pair. pair_line pair) 0 l.pairs l.pair-index (string_bytes l.fn.text) (string_bytes l.text)

@@ -1,7 +1,0 @@
-use Rattle.std.proofs.Common.{string_bytes}
-use Rattle.live_lines.specs.LiveLines.{live_line}
-use Rattle.live_lines.proofs.LiveLemmas.{EachWritten}
-use Rattle.live_lines.proofs.live.push_steps.Given as goal
-
-abbrev pub invariant-loop-index : goal.invariant-loop-index
-invariant-loop-index l = EachWritten (live_line l.whose) 1 l.replies l.index (string_bytes l.fn.text) (string_bytes l.text)

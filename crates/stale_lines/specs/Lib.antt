@@ -1,2 +1,0 @@
-pub mod StaleLines
-pub mod Printed

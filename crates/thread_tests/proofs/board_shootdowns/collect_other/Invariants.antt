@@ -1,0 +1,8 @@
+use Rattle.std.proofs.Common.{◌≡◌}
+use Rattle.board.specs.Ports.{name_of}
+use Rattle.thread_tests.proofs.board_shootdowns.collect_other.Given as goal
+
+abbrev pub invariant-loop : goal.invariant-loop
+invariant-loop l = record {
+  same : name_of l.port ≡ name_of l.fn.port;
+}

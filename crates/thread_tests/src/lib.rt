@@ -1,0 +1,38 @@
+//! Tests of what threads share, by calls that anybody can make: TLBs, mailboxes, tickets and
+//! acknowledgement words, the board, and live runs.
+#![tactic(auto)]
+
+#[cfg(test)]
+mod accounts;
+#[cfg(test)]
+mod acknowledgements;
+#[cfg(test)]
+mod board_shootdowns;
+#[cfg(test)]
+mod board_tables;
+#[cfg(test)]
+mod boards;
+#[cfg(test)]
+mod both_harts;
+#[cfg(test)]
+mod endings;
+#[cfg(test)]
+mod gates;
+#[cfg(test)]
+mod mailbox_ends;
+#[cfg(test)]
+mod mailboxes;
+#[cfg(test)]
+mod readers;
+#[cfg(test)]
+mod runs;
+#[cfg(test)]
+mod scripts;
+#[cfg(test)]
+mod staleness;
+#[cfg(test)]
+mod steps;
+#[cfg(test)]
+mod stress;
+#[cfg(test)]
+mod tlbs;
