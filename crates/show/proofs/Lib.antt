@@ -1,4 +1,3 @@
 pub mod CountLemmas
 pub mod RowLemmas
 pub mod RunLemmas
-pub mod WalkLemmas

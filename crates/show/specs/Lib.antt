@@ -2,4 +2,3 @@ pub mod Marks
 pub mod Rows
 pub mod Runs
 pub mod Sheet
-pub mod Walks

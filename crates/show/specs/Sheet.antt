@@ -131,7 +131,7 @@ mailboxes_text m capacity =
 
 -- ---- the whole text
 
--- the text of a machine after so many steps: all tables, and then some lines of page tables
+-- the text of a machine after this many steps: all tables, and then some lines of page tables
 abbrev pub IsSheet : ℕ → Config → State → List ℕ → Type 0
 IsSheet steps config m text =
     (tree : List ℕ) × (text ≡ first_line steps config ++ spaces_text m ++ harts_text m

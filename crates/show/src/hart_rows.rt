@@ -2,12 +2,12 @@
 
 ghost use Rattle.std.specs.Prelude.{◌≡◌, ◌++◌, IfOk, OnOk, Some, string_bytes};
 ghost use Rattle.show.specs.Sheet.{entry_row, entry_rows, harts_text, service_row, services_text, tlbs_text};
-ghost use Rattle.show.specs.Rows.{hart_line, service_line, with_walk};
+ghost use Rattle.show.specs.Rows.{access_text, hart_line, service_line, with_walk};
 
 use crate::columns::{pad, push_table};
 use crate::entries::{ENTRY_HEAD, entry_line};
-use crate::walks::{access_word, aim};
 use lines::push_what;
+use pte::Access;
 use std::alloc::{AllocError, Global};
 use stepcore::{Hart, Machine, Serving};
 use tlb::Entry;
@@ -19,14 +19,25 @@ const HART_HEAD: &str = "hart  space  asid   walk   address             level  t
 /// The columns of requests that harts serve.
 const SERVICE_HEAD: &str = "hart  serves  ticket  fenced  drops\n";
 
+fn access_word(access: Access) -> &'static str
+    ensures { result.now ≡ access_text access }
+{
+    match access {
+        Access::Fetch => "fetch",
+        Access::Load => "load",
+        Access::Store => "store",
+    }
+}
+
 /// Adds the columns of a walk in flight.
 fn push_walk(line: &mut String, walk: Walk) -> Result<(), AllocError>
     ensures ok { OnOk result (string_bytes line.new
         ≡ with_walk (string_bytes line.old) (Some walk)) }
 {
-    let (va, level) = aim(walk);
+    let va = walk.va().get();
+    let level = walk.level();
     let (table, _index) = walk.wants();
-    line.push_str(access_word(walk))?;
+    line.push_str(access_word(walk.access()))?;
     pad(line, 27)?;
     write!(line, "0x{va:x}")?;
     pad(line, 47)?;

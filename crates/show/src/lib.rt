@@ -10,6 +10,5 @@ mod runs;
 mod sheet;
 mod space_rows;
 mod table_tree;
-mod walks;
 
 pub use sheet::show_text;

@@ -47,7 +47,7 @@ fn first_line(alloc: Global, steps: usize, config: &Config) -> Result<String, Al
     Ok(line)
 }
 
-/// The text of a machine after so many steps, opened with a configuration.
+/// The text of a machine after `steps` steps, opened with a configuration.
 fn sheet(
     alloc: Global,
     machine: &Machine,
@@ -72,7 +72,8 @@ fn sheet(
 }
 
 /// What `svsim show` prints of a scenario: its events are done on a machine, and then its state is
-/// told as tables of text, a line of at most 100 bytes for each row. `NoMemory` is the only fault.
+/// written as tables of text, a line of at most 100 bytes for each row. `NoMemory` is the only
+/// fault.
 ///
 /// The events are done once, in one pass, as `run` does them. What follows reads each table word
 /// once and each part of the machine a fixed number of times, whatever the number of events.

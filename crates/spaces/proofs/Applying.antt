@@ -50,7 +50,7 @@ module _ (m : Held) (held : IsMemory m) (store : Store) (due : IsDue m store) wh
       ap (λ (t : Tables). t f i) (list-same m.layout (slice_set m.words (word_index m.layout store.ppn store.index) store.word) (list_after m.layout.base m.holders store.place (pointed (Some store.word))) m.holders)
       ∙ list-stored m.layout m.words m.holders (omega (arith, held.words)) store.ppn store.index word-there store.word f i
 
-  -- the new table is a frame that is there
+  -- the new table is a frame that exists
   pub table-there : (t : ℕ) → pointed (Some store.word) ≡ Some t → is_frame m.layout t ≡ true
   table-there t e = elim (leaf-or-pointer m.layout held.layout _ _ _ at-home.old due.wish store.word at-home.writes) [
     | inl leaf ↦ absurd (let bad : None ≡ Some t = sym leaf.now ∙ e in cc)

@@ -19,7 +19,7 @@ use Rattle.spaces.specs.Tree.{start_level, start_table, IsIn, table_on, IsAtHome
 use Rattle.spaces.specs.Effects.{EmptiesSpace, IsOfUser, HangsBelow}
 use Rattle.spaces.proofs.Homes.{home-unique, place-unique}
 use Rattle.spaces.proofs.Paths.{above, below, on, On, of-place, some-same}
-use Rattle.spaces.proofs.Trees.{home-same, kind-zero, pointed-zero, is_global-zero, root-is}
+use Rattle.spaces.proofs.Trees.{home-same, kind-zero, pointed-zero, is_global-zero, root-is, zero-leaf}
 use Rattle.spaces.proofs.Accepting.{home-there, window-points}
 use Rattle.spaces.proofs.EndPaths.{table_below-front}
 use Rattle.spaces.proofs.Leaves.{leaf-carried, member-of, maps-of, moved, path-none, root-home}
@@ -196,6 +196,10 @@ module _ (l : Layout) (fits : IsLayout l) (words : Tables) (holders : Holders) (
       | inl y ↦ ap is_global (zero-is (words f (vpn_of va ((top_level l.scheme) - n))) word (sym (new-own f _ y) ∙ w)) ∙ is_global-zero
       | inr z ↦ at-home.plain t va n f word has home within deep (back (Space t) va n f e) (sym (new-other f _ z) ∙ w)
     ];
+    aligned = λ place va n f word ppn flags has home within deep e w kind. elim (cases_Bool (own f (vpn_of va (start_level l place - n)))) [
+      | inl y ↦ absurd (zero-leaf word ppn flags (zero-is (words f (vpn_of va (start_level l place - n))) word (sym (new-own f _ y) ∙ w)) kind)
+      | inr z ↦ at-home.aligned place va n f word ppn flags has home within deep (back place va n f e) (sym (new-other f _ z) ∙ w) kind
+    ];
   }
 
   elsewhere : (k f i : ℕ) → (k ≡ h → ⊥) → IsAtHome l k f → own f i ≡ false
@@ -258,8 +262,7 @@ module _ (l : Layout) (fits : IsLayout l) (words : Tables) (holders : Holders) (
           | inr u ↦ by-holder t _ u.held
         ] in
         let nothing : entry ≡ 0 = zero-is (words t (vpn_of va level)) entry (sym (new-own t _ mine) ∙ word) in
-        let bad : kinds.Leaf leaf flags ≡ kinds.Invalid = sym kind ∙ ap kind_of nothing ∙ kind-zero in
-        cc
+        zero-leaf entry leaf flags nothing kind
 
   -- each table on a path from the root of another space keeps its words
   upper-kept : (t va n f : ℕ) → t < length l.homes → user_slots ≤ vpn_of va (top_level l.scheme) → table_below words va (top_level l.scheme) (root_ppn l t) n ≡ Some f

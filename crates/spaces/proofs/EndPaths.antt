@@ -24,7 +24,7 @@ pub pointed-entry : (o : Option ℕ) (ppn : ℕ) (global : Bool) → kind_of (un
 pointed-entry (Some w) ppn global e = ap pointed_kind e
 pointed-entry None ppn global e = let no-table : kinds.Invalid ≡ kinds.Table ppn global = sym kind-zero ∙ e in absurd cc
 
--- the end of a path of so many levels, from a table of a level
+-- the end of a path from a table of a level, not below the level `lowest`
 pub record EndsOn (words : Tables) (va lowest level table : ℕ) (end : PathEnd) : Type 0 where
   pub from : lowest ≤ end.level
   pub to : end.level ≤ level

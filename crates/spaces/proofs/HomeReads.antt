@@ -165,7 +165,7 @@ module _ (l : Layout) (fits : IsLayout l) (words : Tables) (holders : Holders) (
       and_from (nat_le l.base ppn) (nat_lt ppn (l.base + frame_count l)) (le-leb l.base ppn (omega (arith, fresh.is)))
       (lt-ltb ppn (l.base + frame_count l) (omega (arith, fresh.is, fresh.below)))
 
--- an edit over a memory waits for a word that is there
+-- an edit over a memory waits for a word that exists
 module _ (m : Held) (held : IsMemory m) (hart : ℕ) where
   pub starts-home : (wish : Wish) (e : EditStage) → HasPlace m.layout (place_of wish) → Ok e ≡ edit_start m.layout hart wish → WaitsAtHome m.layout hart e
   starts-home wish e has started =

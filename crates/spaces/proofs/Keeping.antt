@@ -1,11 +1,11 @@
 -- An accepted edit keeps the tree.
-use Rattle.std.proofs.Common.{◌≡◌, ℕ, zero, suc, eqb, Option, ◌+◌, ◌-◌, ◌<◌, ◌⊎◌, ◌^◌, ◌==◌, cond, Bool, true, false, Some, None, ap, sym, ◌∙◌, subst, refl, inl, inr, arith}
+use Rattle.std.proofs.Common.{◌≡◌, ℕ, zero, suc, eqb, Option, ◌+◌, ◌-◌, ◌%◌, ◌<◌, ◌⊎◌, ◌^◌, ◌==◌, cond, Bool, true, false, Some, None, ap, sym, ◌∙◌, subst, refl, inl, inr, arith}
 use Rattle.std.specs.Prelude.{slice_index, is_none, not}
 use Rattle.std.proofs.lemmas.Bool.{cases_eq, ne_eqb}
 use Rattle.pte.specs.declared.flags.PteFlags.{PteFlags}
 use Rattle.pte.specs.declared.entry.Kind.{Kind}
 use Rattle.pte.specs.declared.entry.Kind.TheVariants as kinds
-use Rattle.pte.specs.Address.{vpn_of}
+use Rattle.pte.specs.Address.{level_pages, vpn_of}
 use Rattle.pte.specs.Entry.{kind_of, is_global}
 use Rattle.pte.specs.declared.entry.TheConstants.{PPN_BITS}
 use Rattle.walk.specs.Leads.{Tables}
@@ -24,7 +24,7 @@ use Rattle.walk.proofs.FoundMembers.{leaf-ppn}
 use Rattle.spaces.proofs.Homes.{home-unique, sum-within}
 use Rattle.spaces.proofs.Paths.{on, of-place, On, same-path, SamePath}
 use Rattle.spaces.proofs.Stored.{stored-there}
-use Rattle.spaces.proofs.Trees.{IsPlace, Unused, home-leaf, home-pointer, home-same, kind-zero, is_global-zero, pointed-zero}
+use Rattle.spaces.proofs.Trees.{IsPlace, Unused, home-leaf, home-pointer, home-same, kind-zero, is_global-zero, pointed-zero, zero-leaf}
 use Rattle.pte.proofs.EntryKinds.{kind-table}
 use Rattle.spaces.proofs.EntryWords.{kind-stored, global-stored, pointed-table, global-table}
 use Rattle.spaces.proofs.Accepting.{home-there}
@@ -82,6 +82,9 @@ pub record IsPointerStore (l : Layout) (h : ℕ) (holders : Holders) (level old 
   pub entry : IsEntryOf new (kind_of new)
   pub high : 0 < level
 
+leaf-ppn-same : (word q ppn : ℕ) (f flags : PteFlags) → kind_of word ≡ kinds.Leaf q f → kind_of word ≡ kinds.Leaf ppn flags → q ≡ ppn
+leaf-ppn-same word q ppn f flags is kind = let both : kinds.Leaf q f ≡ kinds.Leaf ppn flags = sym is ∙ kind in cc
+
 plain-by : (place : Place) (new : ℕ) → is_global new ≡ is_kernel place → (s : ℕ) → place ≡ Space s → is_global new ≡ false
 plain-by place new e s is = e ∙ ap is_kernel is
 
@@ -95,6 +98,22 @@ module _ (l : Layout) (fits : IsLayout l) (h : ℕ) (holders : Holders) (level o
   plain-written wish new (removes_leaf place page q f at is) = λ s e. is_global-zero
   plain-written wish new (changes_leaf place page flags q f at is ok) =
       plain-by place _ (global-stored q flags (leaf-ppn old q f is) ok.byte ok.leaf ∙ global-flags place flags ok.global)
+
+  -- a new leaf is aligned, where an old one is
+  pub aligned-written : (wish : Wish) (new : ℕ) → Writes (unused_spare l holders h) level old wish new
+      → ((q : ℕ) (f : PteFlags) → kind_of old ≡ kinds.Leaf q f → q % level_pages level ≡ 0)
+      → (ppn : ℕ) (flags : PteFlags) → kind_of new ≡ kinds.Leaf ppn flags → ppn % level_pages level ≡ 0
+  aligned-written wish new (adds_table place page p fl frame above zero-word spare) before ppn flags kind =
+      absurd (let bad : kinds.Table frame (is_kernel place) ≡ kinds.Leaf ppn flags =
+      sym (kind-table frame (is_kernel place) (fresh-range l fits h holders frame (fresh-of l h holders frame spare))) ∙ kind
+      in cc)
+  aligned-written wish new (adds_leaf place page p fl at zero-word ok fit aligned) before ppn flags kind =
+      ap (λ q. q % level_pages level) (sym (leaf-ppn-same new p ppn (seven fl) flags (kind-stored p fl fit ok.byte ok.leaf) kind))
+      ∙ ap (λ k. p % level_pages k) at ∙ aligned
+  aligned-written wish new (removes_leaf place page q f at is) before ppn flags kind = absurd (zero-leaf 0 ppn flags refl kind)
+  aligned-written wish new (changes_leaf place page fl q f at is ok) before ppn flags kind =
+      ap (λ p. p % level_pages level) (sym (leaf-ppn-same new q ppn (seven fl) flags (kind-stored q fl (leaf-ppn old q f is) ok.byte ok.leaf) kind))
+      ∙ before q f is
 
   pub leaf-or-pointer : (wish : Wish) (new : ℕ) → Writes (unused_spare l holders h) level old wish new → IsLeafStore old new ⊎ IsPointerStore l h holders level old new
   leaf-or-pointer wish new (adds_table place page ppn flags frame above zero-word spare) =
@@ -144,6 +163,16 @@ module _ (l : Layout) (fits : IsLayout l) (words : Tables) (holders : Holders) (
     plain = λ s va n has' at within deep e i.
         let same = reaches (Space s) va n has' at within e in
         plain-written l fits _ _ _ _ wish store.word acc.writes s (sym same.same_place);
+    aligned = λ place va n ppn flags has' home within deep e i kind.
+        let same = reaches place va n has' home within e in
+        let level : start_level l place - n ≡ start_level l (place_of wish) - acc.depth =
+        ap (λ p. start_level l p - n) same.same_place ∙ ap (λ m. start_level l (place_of wish) - m) same.same_depth
+        in
+        ap (λ k. ppn % level_pages k) level
+        ∙ aligned-written l fits _ _ _ _ wish store.word acc.writes
+        (λ q f is. (tree _ (home-there l fits words holders tree (place_of wish) has)).aligned (place_of wish) (page_of wish).base acc.depth store.ppn acc.old q f has refl acc.within acc.deep acc.on
+        (ap (words store.ppn) (sym acc.index) ∙ acc.word) is)
+        ppn flags kind;
   }
 
   pub high : 0 < start_level l (place_of wish) - acc.depth → (place : Place) (va n : ℕ) → HasPlace l place → home_of l place ≡ home_of l (place_of wish) → IsIn l place va

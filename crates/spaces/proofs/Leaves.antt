@@ -17,7 +17,7 @@ use Rattle.walk.proofs.Downward.{leads-after, leads_by_pointers}
 use Rattle.walk.proofs.Unique.{same_bool}
 use Rattle.spaces.specs.declared.places.Place.{Place}
 use Rattle.spaces.specs.declared.places.Place.TheVariants.{Space, Kernel}
-use Rattle.spaces.specs.Layout.{Layout, HasPlace, root_ppn, user_slots, first_window_slot}
+use Rattle.spaces.specs.Layout.{Layout, HasPlace, home_of, root_ppn, user_slots, first_window_slot}
 use Rattle.spaces.specs.Held.{IsLayout}
 use Rattle.spaces.specs.Holders.{Holders}
 use Rattle.spaces.specs.Edits.{is_kernel}
@@ -28,7 +28,7 @@ use Rattle.spaces.proofs.Paths.{above, some-same, vpn-below}
 use Rattle.spaces.proofs.Trees.{kind-zero, pointed-zero}
 use Rattle.spaces.proofs.EntryWords.{global-table}
 use Rattle.spaces.proofs.EndPaths.{table_below-front}
-use Rattle.spaces.proofs.Accepting.{window-points}
+use Rattle.spaces.proofs.Accepting.{home-there, window-points}
 
 module _ (scheme : Scheme) (words : Tables) (root va : ℕ) where
   -- a path of tables leads
@@ -133,6 +133,16 @@ module _ (l : Layout) (fits : IsLayout l) (words : Tables) (holders : Holders) (
           ]
         ]
       ]
+
+  -- each leaf that leads from a root is aligned
+  pub leaf-aligned : (s va level t entry leaf : ℕ) (flags : PteFlags) → s < length l.homes → Leads l.scheme words (root_ppn l s) va level t (Some entry) → kind_of entry ≡ kinds.Leaf leaf flags
+      → leaf % level_pages level ≡ 0
+  leaf-aligned s va level t entry leaf flags has leads kind =
+      let o = leaf-place s va level t entry leaf flags has leads kind in
+      let back : start_level l o.place - (start_level l o.place - level) ≡ level = omega (arith, o.low) in
+      ap (λ k. leaf % level_pages k) (sym back)
+      ∙ (tree (home_of l o.place) (home-there l fits words holders tree o.place o.has)).aligned o.place va (start_level l o.place - level) t entry leaf flags o.has refl o.within (omega arith) o.on
+      (ap (λ k. word_at words va k t) back ∙ o.word) kind
 
   root-path : (s va level t : ℕ) (place : Place) → s < length l.homes → HangsBelow place s → IsIn l place va → level ≤ start_level l place
       → table_on l words place va (start_level l place - level) ≡ Some t → table_below words va (top_level l.scheme) (root_ppn l s) (top_level l.scheme - level) ≡ Some t

@@ -9,8 +9,8 @@ use Rattle.pte.specs.declared.address.PageSize.TheVariants.{Kib4, Mib2, Gib1, Gi
 use Rattle.pte.specs.Address.{IsCanonical, top_level, level_bytes, level_pages, level_of, bytes_of, vpn_of}
 use Rattle.walk.specs.Maps.{page_number, LiesIn}
 
--- the indices of a canonical address tell it: at the top level, as no two addresses differ above it
--- alone
+-- the indices of a canonical address determine it: at the top level, as no two addresses differ
+-- above it alone
 top-same : (scheme : Scheme) (a b : ℕ) → IsCanonical scheme a → IsCanonical scheme b → vpn_of a (top_level scheme) ≡ vpn_of b (top_level scheme) → a / level_bytes (top_level scheme) ≡ b / level_bytes (top_level scheme)
 top-same Sv39 a b (inl low) (inl low') e = omega arith
 top-same Sv39 a b (inl low) (inr high) e = absurd (omega (arith, high.0, high.1))

@@ -1,9 +1,11 @@
 -- The words at the opening are a tree.
-use Rattle.std.proofs.Common.{◌≡◌, ℕ, zero, suc, ◌+◌, ◌-◌, ◌<◌, ◌≤◌, cond, Bool, true, false, Some, None, length, ap, sym, ◌∙◌, subst, refl, arith, IsSome}
+use Rattle.std.proofs.Common.{◌≡◌, ℕ, zero, suc, ◌+◌, ◌-◌, ◌%◌, ◌<◌, ◌≤◌, cond, Bool, true, false, Some, None, length, ap, sym, ◌∙◌, subst, refl, arith, IsSome}
 use Rattle.std.specs.Prelude.{slice_index, nat_le, nat_lt}
 use Rattle.std.proofs.lemmas.Bool.{and_parts}
 use Rattle.std.proofs.lemmas.Bool.Decides.{nat_tests}
-use Rattle.pte.specs.Address.{top_level, vpn_of}
+use Rattle.pte.specs.declared.flags.PteFlags.{PteFlags}
+use Rattle.pte.specs.declared.entry.Kind.TheVariants as kinds
+use Rattle.pte.specs.Address.{level_pages, top_level, vpn_of}
 use Rattle.pte.specs.declared.address.TheConstants.{TABLE_LENGTH}
 use Rattle.pte.specs.Entry.{kind_of, is_global, table_word}
 use Rattle.pte.proofs.EntryKinds.{kind-table}
@@ -18,7 +20,7 @@ use Rattle.spaces.specs.Tree.{start_level, start_table, IsIn, table_on, IsAtHome
 use Rattle.walk.specs.Pointers.{pointed}
 use Rattle.spaces.proofs.Homes.{spare-own, sum-within, window-own}
 use Rattle.spaces.proofs.Paths.{above, vpn-below, some-same}
-use Rattle.spaces.proofs.Trees.{root-is, pointed-zero, kind-zero, is_global-zero}
+use Rattle.spaces.proofs.Trees.{root-is, pointed-zero, kind-zero, is_global-zero, zero-leaf}
 
 -- a frame at home is a frame
 pub frame-is : (l : Layout) (h f : ℕ) → IsAtHome l h f → is_frame l f ≡ true
@@ -53,6 +55,13 @@ module _ (l : Layout) (fits : IsLayout l) where
       by_test : (b : Bool) → pointed (cond b (Some (first_word l f i)) None) ≡ None
       by_test true = ap (λ w. pointed (Some w)) (own-word f i own) ∙ pointed-zero
       by_test false = refl
+
+  own-zero : (f i word : ℕ) → IsOwn l f i → opening l f i ≡ Some word → word ≡ 0
+  own-zero f i word own e = by_test (is_word l f i) e
+    where
+      by_test : (b : Bool) → cond b (Some (first_word l f i)) None ≡ Some word → word ≡ 0
+      by_test true e = sym (some-same _ _ e) ∙ own-word f i own
+      by_test false e = absurd (let bad : None ≡ Some word = e in cc)
 
   root-first : (s i : ℕ) → s < length l.homes → first_word l (root_ppn l s) i ≡ root_word l i
   root-first s i has = ap (λ b. cond b (root_word l i) 0) (root-is l s has)
@@ -108,6 +117,18 @@ module _ (l : Layout) (fits : IsLayout l) where
       in
       ap is_global (sym (some-same _ _ zero-word)) ∙ is_global-zero
 
+  -- no path comes to a leaf
+  aligned-first : (place : Place) (va n t word ppn : ℕ) (flags : PteFlags) → HasPlace l place → IsIn l place va
+      → table_on l (opening l) place va n ≡ Some t → word_at (opening l) va (start_level l place - n) t ≡ Some word → kind_of word ≡ kinds.Leaf ppn flags
+      → ppn % level_pages (start_level l place - n) ≡ 0
+  aligned-first place va n t word ppn flags has within e w kind =
+      let first = only-start place va n t has within e in
+      let level : start_level l place - n ≡ start_level l place = omega (arith, first.0) in
+      let at : word_at (opening l) va (start_level l place) (start_table l place va) ≡ Some word =
+      ap (λ u. word_at (opening l) va (start_level l place) u) (sym first.1) ∙ ap (λ k. word_at (opening l) va k t) (sym level) ∙ w
+      in
+      absurd (zero-leaf word ppn flags (own-zero (start_table l place va) (vpn_of va (start_level l place)) word (start-own place va has within) at) kind)
+
   pub home-opening : (h : ℕ) → h < length l.spares → IsHome l (opening l) h (λ _. None)
   home-opening h there = record {
     held = λ f place e home. let bad : None ≡ Some place = e in cc;
@@ -126,6 +147,7 @@ module _ (l : Layout) (fits : IsLayout l) where
     unused = λ n i none to less. opening-at h _ _ (of_spare n to refl) less ∙ ap Some (own-word _ i (spare-own l h n i));
     bottom = λ place va t has home within e. bottom-first place va t has within e;
     plain = λ s va n t word has home within deep e w. plain-first s va n t word has (subst (λ k. k < length l.spares) (sym home) there) within deep e w;
+    aligned = λ place va n t word ppn flags has home within deep e w kind. aligned-first place va n t word ppn flags has within e w kind;
   }
     where
       by_test : (f i word : ℕ) (b : Bool) → is_word l f i ≡ b → cond b (Some (first_word l f i)) None ≡ Some word → IsEntryOf word (kind_of word)

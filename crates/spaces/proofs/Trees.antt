@@ -1,10 +1,11 @@
 -- Stores keep the tree.
-use Rattle.std.proofs.Common.{◌≡◌, ℕ, zero, suc, ◌+◌, ◌-◌, ◌<◌, ◌≤◌, ◌⊎◌, Bool, true, false, cond, eqb, Some, None, length, ap, sym, ◌∙◌, subst, refl, inl, inr, arith, IsSome}
+use Rattle.std.proofs.Common.{◌≡◌, ℕ, zero, suc, ◌+◌, ◌-◌, ◌%◌, ◌<◌, ◌≤◌, ◌⊎◌, Bool, true, false, cond, eqb, Some, None, length, ap, sym, ◌∙◌, subst, refl, inl, inr, arith, IsSome}
 use Rattle.std.specs.Prelude.{slice_index}
 use Rattle.std.proofs.lemmas.Bool.{eq-eqb, eqb-true, ne_eqb}
 use Rattle.std.proofs.lemmas.Bool.Decides.{nat_tests}
+use Rattle.pte.specs.declared.flags.PteFlags.{PteFlags}
 use Rattle.pte.specs.declared.entry.Kind.TheVariants as kinds
-use Rattle.pte.specs.Address.{top_level, vpn_of}
+use Rattle.pte.specs.Address.{level_pages, top_level, vpn_of}
 use Rattle.pte.specs.declared.address.TheConstants.{TABLE_LENGTH}
 use Rattle.pte.specs.Entry.{kind_of, is_global, table_word}
 use Rattle.walk.specs.Leads.{Tables, word_at}
@@ -28,6 +29,10 @@ pointed-zero = ap pointed_kind kind-zero
 
 pub is_global-zero : is_global 0 ≡ false
 is_global-zero = refl
+
+-- an empty word is no leaf
+pub zero-leaf : (word ppn : ℕ) (flags : PteFlags) → word ≡ 0 → kind_of word ≡ kinds.Leaf ppn flags → ⊥
+zero-leaf word ppn flags nothing kind = let bad : kinds.Leaf ppn flags ≡ kinds.Invalid = sym kind ∙ ap kind_of nothing ∙ kind-zero in cc
 
 pub root-is : (l : Layout) (s : ℕ) → s < length l.homes → is_root l (root_ppn l s) ≡ true
 root-is l s less = grind (arith, nat_tests)
@@ -72,6 +77,10 @@ module _ (l : Layout) (fits : IsLayout l) (words words' : Tables) (h : ℕ) (hol
         let old = back l fits words words' h holders tree same (Space s) va n t has home within e in
         let there = on l fits words h holders tree (Space s) va n t has home within old in
         tree.plain s va n t word has home within deep old (sym (same _ _ there.home) ∙ w);
+    aligned = λ place va n t word ppn flags has home within deep e w kind.
+        let old = back l fits words words' h holders tree same place va n t has home within e in
+        let there = on l fits words h holders tree place va n t has home within old in
+        tree.aligned place va n t word ppn flags has home within deep old (sym (same _ _ there.home) ∙ w) kind;
   }
 
 -- a slot of a root's upper half is not written
@@ -90,6 +99,8 @@ pub record IsPlace (l : Layout) (words : Tables) (h : ℕ) (holders : Holders) (
   pub entry : IsEntryOf x (kind_of x)
   pub plain : (s va n : ℕ) → s < length l.homes → slice_index l.homes s ≡ h → IsIn l (Space s) va → n ≤ top_level l.scheme
       → table_on l words (Space s) va n ≡ Some f → vpn_of va (top_level l.scheme - n) ≡ i → is_global x ≡ false
+  pub aligned : (other : Place) (va n ppn : ℕ) (flags : PteFlags) → HasPlace l other → home_of l other ≡ h → IsIn l other va → n ≤ start_level l other
+      → table_on l words other va n ≡ Some f → vpn_of va (start_level l other - n) ≡ i → kind_of x ≡ kinds.Leaf ppn flags → ppn % level_pages (start_level l other - n) ≡ 0
 
 -- an unused spare frame
 pub record Unused (l : Layout) (h : ℕ) (holders : Holders) (frame : ℕ) : Type 0 where
@@ -131,6 +142,16 @@ module _ (l : Layout) (fits : IsLayout l) (words : Tables) (h : ℕ) (holders : 
       stored-there words f i x _ _ (λ is _. unused-apart l fits h holders owner f here.has here.of (record { number = n; below = to; is = is; none = ap holders is ∙ none }))
       ∙ tree.unused n j none to less
 
+  aligned-stored : (place : Place) (va n t word ppn : ℕ) (flags : PteFlags) → HasPlace l place → home_of l place ≡ h → IsIn l place va → n ≤ start_level l place
+      → table_on l words place va n ≡ Some t → word_at (stored words f i x) va (start_level l place - n) t ≡ Some word → kind_of word ≡ kinds.Leaf ppn flags
+      → ppn % level_pages (start_level l place - n) ≡ 0
+  aligned-stored place va n t word ppn flags has home within deep e w kind = elim (is-word f i t (vpn_of va (start_level l place - n))) [
+    | inl same ↦
+        let is : x ≡ word = some-same _ _ (sym (stored-here words f i x t _ same.0 same.1) ∙ w) in
+        here.aligned place va n ppn flags has home within deep (e ∙ ap Some (sym same.0)) (sym same.1) (ap kind_of is ∙ kind)
+    | inr apart ↦ tree.aligned place va n t word ppn flags has home within deep e (sym (stored-there words f i x t _ apart) ∙ w) kind
+  ]
+
   -- a store of what points nowhere
   module _ (new : pointed (Some x) ≡ None) where
     like : (g j : ℕ) → pointed (stored words f i x g j) ≡ pointed (words g j)
@@ -160,6 +181,7 @@ module _ (l : Layout) (fits : IsLayout l) (words : Tables) (h : ℕ) (holders : 
       unused = unused-stored;
       bottom = λ place va t has home within e. like t _ ∙ tree.bottom place va t has home within (sym (table_on-leaf place va (start_level l place)) ∙ e);
       plain = λ s va n t word has home within deep e w. plain-leaf s va n t word has home within deep (sym (table_on-leaf (Space s) va n) ∙ e) w;
+      aligned = λ place va n t word ppn flags has home within deep e w kind. aligned-stored place va n t word ppn flags has home within deep (sym (table_on-leaf place va n) ∙ e) w kind;
     }
 
   -- a store of a pointer to an unused spare frame, above the lowest level
@@ -228,6 +250,17 @@ module _ (l : Layout) (fits : IsLayout l) (words : Tables) (h : ℕ) (holders : 
                 ap is_global (sym is) ∙ here.plain s va n has home within deep (old ∙ ap Some (sym same.0)) (sym same.1)
             | inr apart ↦ tree.plain s va n t word has home within deep old (sym (stored-there words f i x t _ apart) ∙ w)
           ]
+        ]
+
+    aligned-pointer : (place : Place) (va n t word ppn : ℕ) (flags : PteFlags) → HasPlace l place → home_of l place ≡ h → IsIn l place va → n ≤ start_level l place
+        → table_on l (stored words f i x) place va n ≡ Some t → word_at (stored words f i x) va (start_level l place - n) t ≡ Some word → kind_of word ≡ kinds.Leaf ppn flags
+        → ppn % level_pages (start_level l place - n) ≡ 0
+    aligned-pointer place va n t word ppn flags has home within deep e w kind =
+        elim (table_on-pointer place va n t e) [
+          | inr new-table ↦
+              let empty : Some 0 ≡ Some word = sym (fresh-empty (vpn_of va (start_level l place - n)) (vpn-below va (start_level l place - n))) ∙ ap (λ g. stored words f i x g (vpn_of va (start_level l place - n))) (sym new-table) ∙ w in
+              absurd (zero-leaf word ppn flags (sym (some-same _ _ empty)) kind)
+          | inl old ↦ aligned-stored place va n t word ppn flags has home within deep old w kind
         ]
 
     -- with the new table in use for the place
@@ -315,4 +348,5 @@ module _ (l : Layout) (fits : IsLayout l) (words : Tables) (h : ℕ) (holders : 
       unused = λ n j none to less. unused-stored n j (new-none _ none) to less;
       bottom = bottom-pointer;
       plain = plain-pointer;
+      aligned = aligned-pointer;
     }

@@ -18,7 +18,7 @@ busy-by : {A : Type 0} (o : Option A) → is_none o ≡ false → o ≢ None
 busy-by o e none = true≢false (sym (ap is_none none) ∙ e)
 
 module _ (holders : Holders) where
-  -- of so many frames from a PPN on, this one is the first that is unused
+  -- of `count` frames from a PPN on, this one is the first that is unused
   pub record FirstFrom (count from ppn : ℕ) : Type 0 where
     pub low : from ≤ ppn
     pub high : ppn < from + count

@@ -14,7 +14,7 @@ default_spares harts = take harts (replicate MAX_HARTS DEFAULT_SPARES)
 abbrev pub default_spaces : List Space
 default_spaces = record { home = 0; asid = 1 } ∷ []
 
--- the configuration for so many harts
+-- the configuration for this many harts
 abbrev pub default_for : ℕ → Config
 default_for harts = record {
   scheme = Sv39;

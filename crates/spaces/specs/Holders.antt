@@ -18,7 +18,7 @@ is_same_place _ _ = false
 abbrev pub is_held_for : Option Place → Place → Bool
 is_held_for holder place = unwrap_or (option_map (λ other. is_same_place other place) holder) false
 
--- the first unused one of so many frames from a PPN on
+-- the first unused one of n frames from a PPN on
 abbrev pub first_unused : Holders → ℕ → ℕ → Option ℕ
 first_unused holders zero ppn = None
 first_unused holders (suc n) ppn =

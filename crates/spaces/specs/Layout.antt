@@ -54,7 +54,7 @@ user_slots = TABLE_LENGTH / 2
 abbrev pub first_window_slot : Layout → ℕ
 first_window_slot l = TABLE_LENGTH - l.window
 
--- the place is there
+-- the place exists
 abbrev pub HasPlace : Layout → Place → Type 0
 HasPlace l (Space s) = s < length l.homes
 HasPlace l Kernel = Unit {0}

@@ -24,7 +24,7 @@ first_word l ppn i = if is_root l ppn then root_word l i else 0
 abbrev pub opening : Layout → Tables
 opening l ppn i = if is_word l ppn i then Some (first_word l ppn i) else None
 
--- the first so many of these words, frame by frame
+-- the first n of these words, frame by frame
 abbrev pub first_words : Layout → ℕ → List ℕ
 first_words l zero = []
 first_words l (suc n) =

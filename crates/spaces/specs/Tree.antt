@@ -1,9 +1,10 @@
 -- The tables as a tree: what the words at the home of one hart keep, whatever the words of the
 -- others are.
-use Rattle.std.specs.Prelude.{ℕ, true, false, ◌≡◌, ◌+◌, ◌-◌, ◌<◌, ◌≤◌, ◌⊎◌, Option, Some, None, IsSome, length, slice_index}
+use Rattle.std.specs.Prelude.{ℕ, true, false, ◌≡◌, ◌+◌, ◌-◌, ◌%◌, ◌<◌, ◌≤◌, ◌⊎◌, Option, Some, None, IsSome, length, slice_index}
+use Rattle.pte.specs.declared.flags.PteFlags.{PteFlags}
 use Rattle.pte.specs.declared.entry.Kind.{Kind}
 use Rattle.pte.specs.declared.entry.Kind.TheVariants as kinds
-use Rattle.pte.specs.Address.{top_level, vpn_of}
+use Rattle.pte.specs.Address.{level_pages, top_level, vpn_of}
 use Rattle.pte.specs.declared.address.TheConstants.{TABLE_LENGTH}
 use Rattle.pte.specs.Entry.{kind_of, is_global, table_word}
 use Rattle.walk.specs.Leads.{Tables, word_at}
@@ -28,7 +29,7 @@ abbrev pub IsIn : Layout → Place → ℕ → Type 0
 IsIn l (Space s) va = vpn_of va (top_level l.scheme) < user_slots
 IsIn l Kernel va = first_window_slot l ≤ vpn_of va (top_level l.scheme)
 
--- the table so many levels below the topmost, on the path of an address in a place
+-- the table n levels below the topmost, on the path of an address in a place
 abbrev pub table_on : Layout → Tables → Place → ℕ → ℕ → Option ℕ
 table_on l words place va n = table_below words va (start_level l place) (start_table l place va) n
 
@@ -108,6 +109,13 @@ pub record IsHome (l : Layout) (words : Tables) (hart : ℕ) (holders : Holders)
       → IsIn l (Space s) va → n ≤ top_level l.scheme
       → table_on l words (Space s) va n ≡ Some t
       → word_at words va (top_level l.scheme - n) t ≡ Some word → is_global word ≡ false
+  -- the PPN of a leaf is a multiple of the size of its page, in pages of 4 KiB: a walk that comes to
+  -- any other leaf raises a page fault (privileged manual 4.3.2, step 6)
+  pub aligned : (place : Place) (va n t word ppn : ℕ) (flags : PteFlags) → HasPlace l place
+      → home_of l place ≡ hart → IsIn l place va → n ≤ start_level l place
+      → table_on l words place va n ≡ Some t
+      → word_at words va (start_level l place - n) t ≡ Some word
+      → kind_of word ≡ kinds.Leaf ppn flags → ppn % level_pages (start_level l place - n) ≡ 0
 
 -- the frames of all homes
 abbrev pub IsTree : Layout → Tables → Holders → Type 0

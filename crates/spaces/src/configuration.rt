@@ -98,7 +98,7 @@ impl Config {
     ghost use Rattle.spaces.specs.Defaults.{default_for};
     ghost use Rattle.spaces.specs.Limits.{is_within_limits, MeetsLimits};
 
-    /// The default for so many harts, each of which has 8 spare frames; there may be 8 harts at
+    /// The default for this many harts, each of which has 8 spare frames; there may be 8 harts at
     /// most.
     pub fn with_harts(harts: u16) -> Config
         ensures { result ≡ default_for harts }
@@ -118,7 +118,7 @@ impl Config {
         }
     }
 
-    /// Whether the limits hold that the fields tell, with at most 512 table frames.
+    /// Whether the limits hold that the fields state, with at most 512 table frames.
     pub fn check(&self) -> bool
         ensures value { result ≡ is_within_limits MAX_FRAMES self.now }
         ensures limits { IsTrue result ↔ MeetsLimits MAX_FRAMES self.now }
@@ -126,7 +126,7 @@ impl Config {
         self.meets_limits(MAX_FRAMES)
     }
 
-    /// Whether the limits hold that the fields tell, with at most 96 table frames.
+    /// Whether the limits hold that the fields state, with at most 96 table frames.
     pub fn check_live(&self) -> bool
         ensures value { result ≡ is_within_limits MAX_LIVE_FRAMES self.now }
         ensures limits { IsTrue result ↔ MeetsLimits MAX_LIVE_FRAMES self.now }
@@ -141,7 +141,7 @@ impl Config {
         u64::from(self.window) + self.spaces.len() as u64 + total(&self.spares)
     }
 
-    /// Whether the place is there.
+    /// Whether the configuration has the place.
     pub fn has(&self, place: Place) -> bool
         ensures { IsTrue result ↔ HasPlace (layout_of self.now) place }
     {
@@ -172,7 +172,8 @@ impl Config {
         self.base + u64::from(self.window) + u64::from(space)
     }
 
-    /// The PPN of the spare frame of a hart with this number, from 0 on, if it has so many.
+    /// The PPN of the spare frame of a hart with this number, from 0 on. `None`: the hart has no
+    /// spare frame of this number.
     #[tactic(auto, using(crate::proofs::Homes::sums))]
     pub fn spare(&self, hart: u8, number: u16) -> Option<u64>
         requires limits { MeetsLimits MAX_FRAMES self.now }
@@ -201,7 +202,7 @@ impl Config {
             .all(|space| u16::from(space.home) < self.harts)
     }
 
-    /// Whether the frames are at most so many, and their PPNs below 2^44.
+    /// Whether there are at most `frames` frames, and their PPNs are below 2^44.
     fn frames_fit(&self, frames: u64) -> bool
         requires { frames ≤ MAX_FRAMES }
         ensures { IsTrue result ↔ (frame_count (layout_of self.now) ≤ frames)

@@ -49,7 +49,7 @@ pub fn edit_walk_stays_at_home()
         → edit_next e word spare ≡ next.More after → WaitsAtHome l hart after }
 {}
 
-/// The word that an accepted edit replaces is there, and points to no table.
+/// The word that an accepted edit replaces has an index within a table, and points to no table.
 pub fn edit_replaces_no_pointer()
     ensures pointer { (l : Layout) (words : Tables) (holders : Holders) (hart : ℕ) (w : WishOf)
         (store : Store) → IsEdit l words holders hart w store

@@ -20,7 +20,7 @@ use std::marker::Model;
 /// How many of a root's slots are the user's half.
 pub(crate) const USER_SLOTS: u16 = TABLE_LENGTH / 2;
 
-/// An edit between two loads. It holds no memory: `wants` tells the word that comes next, and
+/// An edit between two loads. It holds no memory: `wants` names the word that comes next, and
 /// `load` takes it. It ends after at most three loads under Sv39, and four under Sv48.
 #[derive(Clone, Copy, Debug)]
 pub struct EditWalk {
@@ -92,8 +92,8 @@ impl EditWalk {
         EditWalk::start(config.scheme, config.window, config.base, wish)
     }
 
-    /// The edit that its home begins, in memory of a scheme and a window of so many slots, from a
-    /// PPN on.
+    /// The edit that its home begins, in memory of a scheme and a window of `window` slots, from
+    /// the PPN `base` on.
     #[inline(always)]
     pub(crate) fn start(
         scheme: Scheme,

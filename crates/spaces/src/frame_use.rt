@@ -73,7 +73,7 @@ fn free_frames(holders: &mut [Option<Place>], unused: &mut UnusedFrames, space: 
 }
 
 impl FrameUse {
-    /// So many frames, each of them unused.
+    /// `count` frames, each of them unused.
     pub(crate) fn new(alloc: Global, count: u64) -> Result<FrameUse, AllocError>
         requires { count ≤ MAX_FRAMES }
         ensures { IfOk result (λ frames. frames ≡ replicate count None) }

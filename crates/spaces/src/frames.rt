@@ -160,7 +160,7 @@ impl Memory {
         (self.words.len() / usize::from(TABLE_LENGTH)) as u64
     }
 
-    /// Where a word stands, if it is there.
+    /// Where a word stands, if the memory has it.
     fn word_index(&self, ppn: u64, index: u16) -> Option<usize>
         ensures { result
             ≡ (if is_word self.now.layout ppn index then Some (word_index self.now.layout ppn index)
@@ -176,7 +176,7 @@ impl Memory {
         }
     }
 
-    /// Whether the place is there.
+    /// Whether the memory has the place.
     pub fn has(&self, place: Place) -> bool
         ensures value { IsTrue result ↔ HasPlace self.now.layout place }
         ensures memory { IsMemory self.now }
@@ -229,7 +229,7 @@ impl Memory {
         EditWalk::start(self.scheme, self.window, self.base, *wish)
     }
 
-    /// A word that is there.
+    /// A word that the memory has.
     #[inline(always)]
     #[tactic(auto, using(crate::proofs::WordLists::in_memory), unfolding(crate::specs::Held::memory_words))]
     pub(crate) fn word_there(&self, ppn: u64, index: u16) -> u64
@@ -286,7 +286,7 @@ impl Memory {
     }
 }
 
-/// Stores 0 on so many words from one on.
+/// Stores 0 on `count` words from `first` on.
 fn clear(words: &mut [u64], first: usize, count: usize)
     requires { first + count ≤ length words.old }
     ensures length { length words.new ≡ length words.old }

@@ -27,8 +27,8 @@ ghost use Rattle.spaces.specs.Accepted.{Accepted};
 ghost use Rattle.spaces.specs.Applied.{holders_after, words_after_store};
 ghost use Rattle.spaces.specs.Effects.{EmptiesSpace, EmptiesWords, GivesBack, HasEffect, IsAbout, IsEdit, IsEnd, IsLowestUnused, TakesFrame};
 
-/// The test of a configuration's limits, for so many frames, holds exactly where the configuration
-/// is within them.
+/// The test of a configuration's limits, for any number of frames, holds exactly where the
+/// configuration is within them.
 #[tactic(auto, using(crate::proofs::LimitLemmas::meets, crate::proofs::LimitLemmas::within))]
 pub fn limits_are_checked()
     ensures { (frames : ℕ) (c : Configuration)

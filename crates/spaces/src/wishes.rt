@@ -114,7 +114,7 @@ impl Wish {
     }
 
     /// Whether the page is none of the scheme, or lies outside the part of the root that the place
-    /// has beside a window of so many slots.
+    /// has beside a window of `window` slots.
     #[inline(always)]
     pub(crate) fn is_wrong_half(&self, scheme: Scheme, window: u16) -> bool
         requires { window ≤ TABLE_LENGTH }

@@ -20,7 +20,9 @@ use Rattle.spaces.specs.Edits.{Store, place_of}
 use Rattle.walk.specs.Pointers.{pointed}
 use Rattle.views.specs.Edits.{edit_over}
 use Rattle.spaces.specs.Opening.{opening}
-use Rattle.spaces.specs.Held.{memory_words}
+use Rattle.spaces.specs.Held.{IsLayout, memory_words}
+use Rattle.spaces.specs.Holders.{Holders}
+use Rattle.spaces.specs.Tree.{IsTree}
 use Rattle.tlb.specs.declared.store.Entry.{Entry}
 use Rattle.tlb.specs.Mappings.{IsMappedBy, Mapping, Translates}
 use Rattle.tlb.specs.Service.{after_service}
@@ -35,7 +37,7 @@ pub record Board (c : Config) (s : State ℕ View) : Type 0 where
   pub orders : Ordered c s
 
 -- whatever the board is when the word i becomes f of what it was, the seat's view after keeps the
--- rule, and the step tells this
+-- rule, and `tells` holds of the word i before the step
 abbrev pub Steps : Config → ℕ → View → ℕ → (ℕ → ℕ) → (ℕ → View) → (ℕ → Type 0) → Type 0
 Steps c id v i f after tells =
     (s : State ℕ View) → Board c s → get_elem? s.views id ≡ some v → slice_index s.words i < 2 ^ 64
@@ -60,20 +62,39 @@ own_words c s v = memory_words (memory_of (layout_of c) v)
 abbrev pub shared_words : Config → State ℕ View → View → Tables
 shared_words c s v = tables_in (layout_of c) s.words
 
--- an aligned leaf leads at no address of the page, from the root of a space that the place's tables
--- hang below
+-- no leaf leads at an address of the page, from the root of a space that the place's tables hang
+-- below
 abbrev pub NoLeafLeads : Layout → Tables → Place → Span → Type 0
 NoLeafLeads l words place page =
     (s va level table entry leaf : ℕ) (flags : PteFlags) → s < length l.homes → HangsBelow place s
     → Holds page va → IsCanonical l.scheme va
     → Leads l.scheme words (root_ppn l s) va level table (Some entry)
-    → kind_of entry ≡ Leaf leaf flags → leaf % level_pages level ≡ 0 → ⊥
+    → kind_of entry ≡ Leaf leaf flags → ⊥
 
--- which is what it means that nothing in the page is mapped
+-- which is what it means that nothing in the page is mapped, where the words are a tree
 abbrev pub UnmappedIsWhereNoLeafLeads : Type 0
 UnmappedIsWhereNoLeafLeads =
-    (l : Layout) (words : Tables) (place : Place) (page : Span) → IsPage page
+    (l : Layout) (words : Tables) (holders : Holders) → IsLayout l → IsTree l words holders
+    → (place : Place) (page : Span) → IsPage page
     → IsUnmapped l words place page ↔ NoLeafLeads l words place page
+
+-- so it is of these words of a board
+abbrev pub UnmappedOnBoardIsWhereNoLeafLeads : (Config → State ℕ View → View → Tables) → Type 0
+UnmappedOnBoardIsWhereNoLeafLeads words_at =
+    (c : Config) (s : State ℕ View) → Board c s → (i : ℕ) (v : View) → get_elem? s.views i ≡ some v
+    → (place : Place) (page : Span) → IsPage page
+    → IsUnmapped (layout_of c) (words_at c s v) place page
+    ↔ NoLeafLeads (layout_of c) (words_at c s v) place page
+
+-- each leaf that leads from the root of a space in the shared words is aligned: its PPN is a multiple
+-- of the size of its page, in pages of 4 KiB
+abbrev pub LeavesAreAligned : Type 0
+LeavesAreAligned =
+    (c : Config) (s : State ℕ View) → Board c s
+    → (space va level table entry leaf : ℕ) (flags : PteFlags) → space < length (layout_of c).homes
+    → Leads c.scheme (tables_in (layout_of c) s.words) (root_ppn (layout_of c) space) va level table
+    (Some entry)
+    → kind_of entry ≡ Leaf leaf flags → leaf % level_pages level ≡ 0
 
 -- the entries of the hart translate no address of the page of a place
 abbrev pub TranslatesNone : Config → List View → ℕ → Place → Span → Type 0

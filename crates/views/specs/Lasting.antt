@@ -109,7 +109,7 @@ Follows order later =
     × ((hart : ℕ) → is_in hart order.armed ≡ true → is_in hart later.armed ≡ true)
     × ((hart : ℕ) → is_in hart order.collected ≡ true → is_in hart later.collected ≡ true)
 
--- so many orders began; each that stood before stands that many places further down, as it is later
+-- `begun` orders began; each that stood before stands that many places further down, as it is later
 abbrev pub AreKept : ℕ → List Order → List Order → Type 0
 AreKept begun orders later =
     (n : ℕ) (order : Order) → get_elem? orders n ≡ some order

@@ -80,7 +80,8 @@ IsUnmapped l words place page =
     → IsAbout place page s number
     → ¬ Maps l.scheme words (root_ppn l s) number ppn flags global
 
--- What stands of an unmapping that is not marked anew, of the hart with this table memory.
+-- What holds of an order of the hart that follows an unmapping and is not marked anew; `own` is the
+-- hart's table memory.
 pub record Kept (c : Config) (words : List ℕ) (views : List View) (hart : ℕ) (own : Held)
     (k : Order) (place : Place) (page : Span) : Type 0 where
   pub has : HasPlace (layout_of c) place

@@ -48,7 +48,7 @@ tables_in l ws = memory_words (record { layout = l; words = ws; holders = [] })
 abbrev pub memory_of : Layout → View → Held
 memory_of l v = record { layout = l; words = v.words; holders = v.holders }
 
--- so many spare frames of the hart are in use, and they are its lowest ones
+-- this many spare frames of the hart are in use, and they are its lowest ones
 pub record UsesLowest (l : Layout) (holders : Holders) (hart used : ℕ) : Type 0 where
   pub room : used ≤ slice_index l.spares hart
   pub taken : (n : ℕ) → n < used → holders (spare_ppn l hart + n) ≢ None

@@ -50,8 +50,8 @@ walked v root st reads word = record v {
   entries = with_fill (asid_at v.config root) v.entries (load_of st (Some word));
 }
 
--- what a load of a walk tells: the next table is a frame; the tables of this moment have all that the
--- walk read; and a word at home is as the view says
+-- what a load of a walk shows: the next table is a frame; the tables of this moment have all that
+-- the walk read; and a word at home is as the view says
 abbrev pub TellsFrame : Layout → Stage → ℕ → Type 0
 TellsFrame l st n =
     (next : Stage) → load_of st (Some n) ≡ progress.More next → is_frame l next.table ≡ true

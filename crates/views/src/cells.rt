@@ -54,8 +54,8 @@ fn open_as<T: Turn>(words: &Words, seat: &mut Seat, word: usize, _ticket: u32, _
     load::<T>(words, seat, word)
 }
 
-/// Opens an order that follows no store, as that of a flush, under a ticket: a load of the hart's
-/// own cell, whose word counts for nothing. (What a seat knows changes by a step alone.)
+/// Opens an order that follows no store, as that of a flush, under a ticket. What a seat knows
+/// changes by a step alone, so it loads the hart's own cell, and ignores the word.
 pub fn open_order(words: &Words, seat: &mut Seat, config: &Config, hart: u8, request: &Request)
     requires fit { IsFit words.now.table_id words.now.key config.now seat.old }
     requires hart { seat.old.view.hart ≡ hart }
@@ -218,7 +218,7 @@ fn collect_as<T: Turn>(
 }
 
 /// The load of a receiver's cell by the sender, for the open order of the request's ticket, for
-/// which the cell was armed. Whether the request's word is there: then the receiver is collected.
+/// which the cell was armed. Whether it holds the request's word: then the receiver is collected.
 pub fn collect(
     words: &Words,
     seat: &mut Seat,

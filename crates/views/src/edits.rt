@@ -60,7 +60,8 @@ fn asid_in(config: &Config, space: u8) -> u16
     config.spaces[usize::from(space)].asid
 }
 
-/// What a wish asks for can be asked: its page is one, and an ASID has 16 bits.
+/// Does nothing; its contract says that the base of a wish's page is canonical and a multiple of
+/// the page's size, and that the ASID of an unmap's request, if it has one, has 16 bits.
 fn ask(config: &Config, wish: &Wish)
     requires { HasPlace (layout_of config.now) (place_of wish.now) }
     ensures { IsAsked config.now wish.now }
@@ -123,7 +124,7 @@ pub fn store(
     }
 }
 
-/// Makes the one store that a wish takes, or tells why none is due, over the home's view. The
+/// Makes the one store that a wish takes, or answers why none is due, over the home's view. The
 /// ticket is for the order that an unmap or a protect opens; a map takes none.
 pub fn edit(
     words: &Words,

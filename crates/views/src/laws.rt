@@ -11,7 +11,7 @@ ghost use Rattle.spaces.specs.Holders.{Holders};
 ghost use Rattle.spaces.specs.Tree.{IsAtHome, IsTree};
 ghost use Rattle.views.specs.declared.view.View.{View};
 ghost use Rattle.views.specs.Rule.{Has, tables_in};
-ghost use Rattle.views.specs.Board.{AcknowledgedIsClean, Board, CollectedIsClean, EqualWordsAskForEqualService, IsAsSaid, LeavesAreGlobalInWindow, MappingsAreGlobalInWindow, SeatsAreNumbered, StoresOverwriteNoPointer, UnmappedIsWhereNoLeafLeads, UnmappedStaysUnmapped, own_words, shared_words};
+ghost use Rattle.views.specs.Board.{AcknowledgedIsClean, Board, CollectedIsClean, EqualWordsAskForEqualService, IsAsSaid, LeavesAreAligned, LeavesAreGlobalInWindow, MappingsAreGlobalInWindow, SeatsAreNumbered, StoresOverwriteNoPointer, UnmappedIsWhereNoLeafLeads, UnmappedOnBoardIsWhereNoLeafLeads, UnmappedStaysUnmapped, own_words, shared_words};
 ghost use Rattle.views.specs.Lasting.{CellsAreApart, CellsMeet, EachEditIsOneStore, EachSpaceAtHomeIsReadBack, EditsKeepOrders, EditsMarkNothing, KernelIsInEverySpace, MarkedByALeafOver, StepsKeepOrders, StepsMarkNothing, TranslatesNoneHoldsNone, UnmappingBeginsLive, WalkAnswersAsComputed, WrongAddressChangesNothing};
 
 /// Once a hart was collected for an unmapping whose page is not mapped anew, what it filled
@@ -33,10 +33,18 @@ pub fn window_is_global()
     ensures mappings { MappingsAreGlobalInWindow }
 {}
 
-/// That nothing in a page is mapped is that no aligned leaf leads at an address of the page. A leaf
-/// that is not aligned raises a page fault, and maps nothing.
+/// That nothing in a page is mapped is that no leaf leads at an address of the page: in words that
+/// are a tree, so in a home's own words and in the shared words.
 pub fn unmapped_is_where_no_leaf_leads()
-    ensures { UnmappedIsWhereNoLeafLeads }
+    ensures tree { UnmappedIsWhereNoLeafLeads }
+    ensures own { UnmappedOnBoardIsWhereNoLeafLeads own_words }
+    ensures shared { UnmappedOnBoardIsWhereNoLeafLeads shared_words }
+{}
+
+/// Each leaf that leads from the root of a space in the shared words is aligned, so no walk of them
+/// comes to a leaf that raises a page fault as misaligned.
+pub fn leaves_are_aligned()
+    ensures { LeavesAreAligned }
 {}
 
 /// Once a cell that was armed for an unmapping has the word of what it asks, the receiver's entries
@@ -60,8 +68,8 @@ pub fn each_table_word_is_as_its_home_says()
 
 /// The table words are a tree, as those of any table memory: pointers lead down level by level, to
 /// each table one; the window's slots of each root are as at the opening, and its other upper slots
-/// are 0; unused spare frames are 0, and nothing points to them; leaves are global exactly in the
-/// window.
+/// are 0; unused spare frames are 0, and nothing points to them; leaves are aligned, and global
+/// exactly in the window.
 pub fn table_words_are_a_tree()
     ensures { (c : Config) (s : State ℕ View) → Board c s
         → (holders : Holders) × IsTree (layout_of c) (tables_in (layout_of c) s.words) holders }
@@ -139,8 +147,8 @@ pub fn walk_answers_as_computed()
     ensures { WalkAnswersAsComputed }
 {}
 
-/// A walk of an address that is not canonical, which `Walked` tells from the others, answers a page
-/// fault and leaves the view as it was: it counts no load and fills nothing.
+/// A walk of an address that is not canonical, which `Walked` distinguishes from the others,
+/// answers a page fault and leaves the view as it was: it counts no load and fills nothing.
 #[tactic(auto, using(crate::proofs::Lasting::wrong_address_changes_nothing))]
 pub fn walk_of_a_wrong_address_changes_nothing()
     ensures { WrongAddressChangesNothing }

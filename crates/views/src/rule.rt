@@ -29,7 +29,7 @@ pub type Words = Shared<u8, View, Config, Rule>;
 /// The right of one hart to step, with what it knows.
 pub(crate) type Right = Seat<u8, View>;
 
-/// What a seat knows after a step, by the word that it found, and what else the step tells.
+/// What a seat knows after a step, by the word that it found, and what else the step says.
 pub trait Turn {
     ghost use Rattle.views.specs.declared.view.View.{View};
 

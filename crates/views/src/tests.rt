@@ -66,7 +66,7 @@ fn unmap(rt: &impl Abort, space: u8) -> Wish
     }
 }
 
-/// Makes the edit of a hart, and tells the word that it stored.
+/// Makes the edit of a hart, and returns the word that it stored.
 fn edited(
     words: &Words,
     seat: &mut Seat,

@@ -69,7 +69,7 @@ pub fn walk_stays_on_its_path()
         → OnPath scheme old root s → OnPath scheme new root s }
 {}
 
-/// A walk on its path that has made so many loads goes on exactly where a pointer above level 0
+/// A walk on its path that has made `loads` loads goes on exactly where a pointer above level 0
 /// leads after them, and else ends with the outcome.
 #[tactic(auto, using(crate::proofs::Loads::load_goes_on, crate::proofs::Loads::load_ends))]
 pub fn loads_count_the_levels_of_a_walk()

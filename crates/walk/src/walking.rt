@@ -9,7 +9,7 @@ use pte::{
 use std::marker::Model;
 use std::ops::ControlFlow;
 
-/// A walk between two loads. It holds no memory: `wants` tells the word that comes next, and `load`
+/// A walk between two loads. It holds no memory: `wants` names the word that comes next, and `load`
 /// takes it. Nor does it hold its scheme, which only says at which level it begins.
 #[derive(Clone, Copy, PartialEq, Eq, Debug)]
 pub struct Walk {
@@ -138,6 +138,27 @@ impl Walk {
             table: root,
             global: false,
         }
+    }
+
+    /// The virtual address of the access.
+    pub fn va(&self) -> VirtAddr
+        ensures { result ≡ self.now.va }
+    {
+        self.va
+    }
+
+    /// What the access does.
+    pub fn access(&self) -> Access
+        ensures { result ≡ self.now.access }
+    {
+        self.access
+    }
+
+    /// The level of the table that is read next, from 0 for a table of pages of 4 KiB up.
+    pub fn level(&self) -> u8
+        ensures { result ≡ self.now.level }
+    {
+        self.level
     }
 
     /// The word that the walk waits for: the PPN of its table, below 2^44, and the index there,

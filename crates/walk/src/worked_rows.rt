@@ -41,7 +41,7 @@ pub fn worked_accessed_and_dirty()
     ensures fetch_not_accessed { rows.fetch_not_accessed }
 {}
 
-/// Where several faults apply, the first is told.
+/// Where several faults apply, the first is reported.
 #[tactic(auto, using(crate::proofs::WorkedRows::orders_of_faults))]
 pub fn worked_orders_of_faults()
     ensures denied_first { rows.denied_first }
