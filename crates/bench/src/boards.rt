@@ -14,8 +14,8 @@
 //! TLB. Of the addresses of the third seven of eight are of the first 12 pages, and those not
 //! mapped right now are not found.
 //!
-//! The others begin to count once hart 0 has made one shootdown, so that each of them is there, and
-//! the clock runs from then on.
+//! The others begin to count once hart 0 has made one shootdown, so that each of them has started,
+//! and the clock runs from then on.
 
 ghost use Rattle.std.specs.Prelude.{◌≤◌};
 
@@ -144,7 +144,7 @@ impl Progress {
     }
 }
 
-/// Hart 0, the home of the one space, and so many others.
+/// Hart 0, the home of the one space, and this many others.
 fn config(others: u8) -> Config
     requires { others ≤ 7 }
 {
@@ -240,8 +240,8 @@ fn shoots(port: &mut HartPort, round: Round, others: u8, count: u64) -> u64
     count
 }
 
-/// Hart 0 maps the pages and makes a first shootdown, for which each other hart has to be there,
-/// and then so many more. How many it made, and how long these took.
+/// Hart 0 maps the pages and makes a first shootdown, for which each other hart has to have
+/// started, and then `count` more. How many it made, and how long these took.
 fn leads<C: Clock>(
     clock: &C,
     mut port: HartPort,
@@ -339,7 +339,7 @@ fn numbered(alloc: Global, ports: Vec<HartPort>) -> Result<Vec<(u64, HartPort)>,
     Ok(pairs)
 }
 
-/// The port of hart 0, and those of so many others with their numbers.
+/// The port of hart 0, and those of this many others with their numbers.
 fn ports(alloc: Global, others: u8) -> Result<(HartPort, Vec<(u64, HartPort)>), Failure>
     requires { others ≤ 7 }
 {
@@ -355,7 +355,7 @@ fn ports(alloc: Global, others: u8) -> Result<(HartPort, Vec<(u64, HartPort)>), 
     Ok((zero, numbered(alloc, ports)?))
 }
 
-/// So many shootdowns, while so many other harts serve.
+/// Makes `count` shootdowns, while this many other harts serve.
 pub fn run<R: Threads + Sync + Clock>(
     rt: &R,
     alloc: Global,

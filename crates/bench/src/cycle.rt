@@ -210,7 +210,7 @@ fn cycle(alloc: Global) -> Result<Vec<Event>, AllocError> {
     Ok(events)
 }
 
-/// Runs the opening, and as many whole cycles as have at most `count` events. Tells how many
+/// Runs the opening, and as many whole cycles as have at most `count` events. Returns the number of
 /// cycles, and the replies.
 pub fn run(alloc: Global, count: u64) -> Result<(u64, Tally), Failure> {
     let mut machine = match Machine::open(alloc, &config()) {

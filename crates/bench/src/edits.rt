@@ -128,7 +128,7 @@ fn all_pages(alloc: Global) -> Result<Vec<Page>, AllocError> {
     Ok(pages)
 }
 
-/// Makes a change so many times. How long the changes took.
+/// Makes a change `count` times. How long the changes took.
 pub fn run<C: Clock>(
     clock: &C,
     alloc: Global,

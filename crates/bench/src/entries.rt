@@ -1,4 +1,4 @@
-//! The TLB of one hart alone: each kind of call on it, so many times.
+//! The TLB of one hart alone: each kind of call on it, a given number of times.
 //!
 //! It begins with 16 entries of the address space 1, filled in the order of their numbers 0 to 15,
 //! the one of number 5 global. Entry k begins at k + 1 times the size of its page: 1 GiB where k is
@@ -9,8 +9,8 @@
 //! - `oldest`, `middle`, `youngest`: a look-up in the page of entry 0, 8 or 15; the look-ups that
 //!   find it, which are all;
 //! - `miss`: a look-up at 128 GiB, where no entry is; the look-ups that find one, which are none;
-//! - `fill`: a fill of the next of 64 pages of 4 KiB; the pages that are there at the end, which
-//!   are the last 16;
+//! - `fill`: a fill of the next of 64 pages of 4 KiB; the pages that it holds at the end, which are
+//!   the last 16;
 //! - `serve`: such a fill, and the service of the page that was filled 8 fills before; the last 8;
 //! - `fence_page`, `fence_page_of_space`: such a fill, and a fence of an address of that page, for
 //!   any ASID or for 1; the last 8;
@@ -36,7 +36,7 @@ const PAGES: u64 = 64;
 /// How many fills later a page is served, or fenced.
 const LATER: u64 = 8;
 
-/// What is done so many times.
+/// The kind of call that is repeated.
 #[derive(Clone, Copy, PartialEq, Eq, Debug)]
 pub enum Kind {
     /// A look-up of the entry of a number.
@@ -82,7 +82,7 @@ fn entry(page: Page, ppn: u64, global: bool) -> Entry {
     }
 }
 
-/// The page of an entry that is there at the beginning.
+/// The page of an entry that the TLB holds at the beginning.
 fn first_page(number: u64) -> Page {
     let size = match number % 8 {
         7 => PageSize::Gib1,
@@ -112,8 +112,8 @@ fn is_found(tlb: &Tlb, va: u64) -> bool {
         .is_some()
 }
 
-/// How many of so many look-ups find an entry. The addresses are read from a table, so that each
-/// look-up is made anew.
+/// How many of `count` look-ups find an entry. The addresses are read from a table, so that each
+/// look-up is made again.
 fn count_found(tlb: &Tlb, addresses: &[u64], count: u64) -> u64 {
     let mut found: u64 = 0;
     for number in 0..count {
@@ -136,7 +136,7 @@ fn follow(tlb: &mut Tlb, kind: Kind, va: u64) {
     }
 }
 
-/// How many pages are there after so many fills, and what follows each of them.
+/// How many of the pages the TLB holds after `count` fills, with what follows each of them.
 fn count_left(kind: Kind, count: u64) -> u64 {
     let mut tlb = full();
     for number in 0..count {
@@ -151,7 +151,7 @@ fn count_left(kind: Kind, count: u64) -> u64 {
     left
 }
 
-/// Does a kind of call so many times, and tells what is counted.
+/// Makes a kind of call `count` times, and returns what is counted.
 pub fn run(kind: Kind, count: u64) -> u64 {
     let base = match kind {
         Kind::Find(number) => first_page(number).base().get(),

@@ -125,7 +125,7 @@ fn serves<C: Named, R: Wait>(rt: &R, locked: &Locked<C>, mut tally: Tally<C>, co
     count
 }
 
-/// So many shootdowns on one machine. How many were made.
+/// Makes `count` shootdowns on one machine. How many were made.
 fn round<C: Named + Send + Sync, R: Threads + Wait + Sync>(
     rt: &R,
     alloc: Global,
@@ -147,7 +147,7 @@ fn round<C: Named + Send + Sync, R: Threads + Wait + Sync>(
     Some(made)
 }
 
-/// So many shootdowns under a lock. How many were made.
+/// Makes `count` shootdowns under a lock. How many were made.
 pub fn under_lock<R: Threads + Wait + Sync>(
     rt: &R,
     alloc: Global,

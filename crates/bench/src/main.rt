@@ -189,7 +189,7 @@ fn run_beside<R: Threads + Wait + Sync + Print>(
     Ok(())
 }
 
-/// How many nanoseconds each of so many took, to a hundredth.
+/// Prints how many nanoseconds each of `count` took, to a hundredth.
 fn print_each<R: Print>(rt: &R, time: Duration, count: u64) -> Result<(), Failure> {
     let hundredths = time.as_nanos() * 100 / u128::from(count.max(1));
     println!(rt; "nanoseconds {}.{:02}", hundredths / 100, hundredths % 100)?;

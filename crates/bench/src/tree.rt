@@ -121,7 +121,8 @@ pub fn full_memory(alloc: Global, scheme: Scheme) -> Result<Memory, Failure> {
     Ok(memory)
 }
 
-/// Addresses picked by a linear congruential generator. Every 16th is of a table that is not there.
+/// Addresses picked by a linear congruential generator. Every 16th is of a table that does not
+/// exist.
 fn picked(alloc: Global, scheme: Scheme) -> Result<Vec<u64>, AllocError> {
     let mut addresses = Vec::with_capacity(alloc, ADDRESSES as usize)?;
     let middles = middles(scheme);
@@ -154,7 +155,7 @@ fn count_found(memory: &Memory, scheme: Scheme, addresses: &[u64], offset: u64) 
     found
 }
 
-/// Makes so many translations, and tells how many of them are found: all but every 16th.
+/// Makes `count` translations, and returns how many of them are found: all but every 16th.
 pub fn run(alloc: Global, scheme: Scheme, count: u64) -> Result<u64, Failure> {
     let memory = full_memory(alloc, scheme)?;
     let addresses = picked(alloc, scheme)?;

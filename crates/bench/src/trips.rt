@@ -3,13 +3,13 @@
 //! What goes there and back:
 //!
 //! - `rings`: hart 0 opens a ticket, posts its request to hart 1, serves it itself, and finishes it
-//!   once hart 1 has served it too; hart 1 tells so by posting the request back;
+//!   once hart 1 has served it too; hart 1 says so by posting the request back;
 //! - `lock`: the same on a machine under one lock: hart 1 acknowledges, and hart 0 collects;
 //! - `words`: a number, in two words that the threads poll: no request can be quicker.
 
 use crate::pause::pause;
-use pte::{Scheme, What};
 use board::{Inbox, Outbox, ends};
+use pte::{Scheme, What};
 use shoot::{Request, Tickets};
 use std::alloc::{AllocError, Global};
 use std::sync::atomic::{AtomicU64, Ordering};
@@ -118,7 +118,7 @@ fn serves(mut hart: Hart, count: u64) -> u64 {
     count
 }
 
-/// So many shootdowns over two rings. How many were made.
+/// Makes `count` shootdowns over two rings. How many were made.
 pub fn over_rings<R: Threads>(rt: &R, alloc: Global, count: u64) -> Result<u64, AllocError> {
     let (out_0, in_1) = ends(alloc, CAPACITY)?;
     let (out_1, in_0) = ends(alloc, CAPACITY)?;
@@ -168,7 +168,7 @@ fn bounces_back(words: &Words, count: u64) -> u64 {
     count
 }
 
-/// So many numbers there and back. How many came back.
+/// Sends `count` numbers there and back. How many came back.
 pub fn over_words<R: Threads>(rt: &R, count: u64) -> u64 {
     let words = Words {
         there: AtomicU64::new(0),

@@ -47,6 +47,6 @@ put_back [] number = refl
 put_back (x ∷ xs) zero = refl
 put_back (x ∷ xs) (suc number) = ap (λ rest. x ∷ rest) (put_back xs number)
 
--- what stands at a number that is there
+-- what stands at a number below the length
 pub at_index : {X : Type 0} (row : List (Option X)) (number : ℕ) (x : Option X) → number < length row → x ≡ slice_index_or row number x → x ≡ element row number
 at_index row number x within is = is ∙ sym (ap if_there (slice_get-get_or row number x within))

@@ -72,7 +72,7 @@ all-named P [] all k d within = absurd (omega arith)
 all-named P (p ∷ ps) all zero d within = all zero p (omega arith)
 all-named P (p ∷ ps) all (suc k) d within = all-named P ps (λ j e below. all (suc j) e (omega arith)) k d (omega arith)
 
--- the ends of ports from rows, which are those that their names tell
+-- the ends of ports from rows, which are those that their names give
 pub out-cell : (ports : List PortState) (outs : List (Vec (Option OutboxState))) → map (λ port. port.outboxes) ports ≡ map (λ r. r.items) outs
     → (s h : ℕ) → cell (map (λ name. name.outs) (map name_of ports)) s h ≡ option_map end_of_outbox (element (items_at outs s) h)
 out-cell ports outs same s h =

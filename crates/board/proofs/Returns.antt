@@ -46,7 +46,7 @@ element-range f from zero k low = absurd (omega arith)
 element-range f from (suc n) zero low = ap f (omega arith)
 element-range f from (suc n) (suc k) low = element-range f (from + 1) n k (omega (arith, low)) ∙ ap f (omega arith)
 
--- an end of some capacity is there
+-- an end that has a capacity exists
 is-there : (e : Option OutboxState) (capacity : ℕ) → option_map (λ (n : End). n.capacity) (option_map end_of_outbox e) ≡ Some capacity → IsTrue (is_some e)
 is-there None capacity same = cc
 is-there (Some end) capacity same = refl

@@ -145,7 +145,7 @@ module _ (c : Config) (ks : List Order) (T : TicketTable) where
       tied-set (for_ticket n g ks) n (changed f (ticket_at T n)) (λ m apart. other-order n g keeps m apart ks)
       (subst (λ o. IsTied c T.hart (changed f (ticket_at T n)) o) (sym (own-order n g keeps ks)) (tied-change c T.hart f g (ticket_at T n) (order_of_ticket n ks) step (was.each n))) was
 
-  -- a change of each order, which tells nothing of tickets
+  -- a change of each order, which leaves its ticket as it is
   tied-map : (g : Order → Order) → ((k : Order) → (g k).ticket ≡ k.ticket)
       → ((t : Ticket) (k : Order) → IsOrderOf c t k → IsOrderOf c t (g k)) → AreTied c ks T → AreTied c (map g ks) T
   tied-map g keeps step was = record {

@@ -31,7 +31,7 @@ abbrev pub answer_or : {X : Type 0} → Option Refusal → Result X Refusal → 
 answer_or (Some refusal) rest = Err refusal
 answer_or None rest = rest
 
--- the space of the scope is there; those of a board stay as they were opened
+-- the space of the scope exists; those of a board stay as they were opened
 abbrev pub is_there : Setup → Scope → Bool
 is_there setup (scope.Space s) = is_number setup s
 is_there setup scope.All = true
@@ -115,7 +115,7 @@ abbrev pub inbox_with : Request → List Request → Option InboxState → Optio
 inbox_with request known inbox = option_map (λ i. with_taken i request known) inbox
 
 -- a port once the request of a ticket was accepted: the cell was armed, and the end then knows of
--- so many free places
+-- `room` free places
 abbrev pub after_post : PortState → ℕ → ℕ → ℕ → PortState
 after_post port ticket to room = record port {
   view = with_armed ticket to port.view;

@@ -54,8 +54,7 @@ new_inbox ring capacity = record { ring = ring; taken = []; known = []; capacity
 abbrev pub post_fault : OutboxState → Option PostFault
 post_fault outbox = fault_of outbox.closed outbox.outstanding outbox.capacity
 
--- the sender's end with one more request, which is outstanding, and which knows of so many free
--- places
+-- the sender's end with one more request, which is outstanding; it knows of `room` free places
 abbrev pub with_accepted : OutboxState → Request → ℕ → OutboxState
 with_accepted outbox request room =
     record outbox {

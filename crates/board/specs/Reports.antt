@@ -1,4 +1,4 @@
--- What is told at the end of each mailbox.
+-- What is reported at the end of each mailbox.
 use Rattle.std.specs.Prelude.{ℕ, zero, suc, ◌≡◌, ◌+◌, ◌^◌, ◌<◌, ◌==◌, length, List, [], ◌∷◌, ◌++◌, map, Option, Some, None, All, if◌then◌else◌}
 use Rattle.shoot.specs.Request.{Request}
 use Rattle.board.specs.Ends.{OutboxState, InboxState, count_of}

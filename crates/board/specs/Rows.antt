@@ -22,7 +22,7 @@ capacity_of e = option_map (λ e'. e'.capacity) e
 abbrev pub capacity_between : ℕ → ℕ → ℕ → Option ℕ
 capacity_between capacity hart other = if other == hart then None else Some capacity
 
--- the first so many ends of a hart, each just opened
+-- the first `count` ends of a hart, each just opened
 pub record IsRow {X : Type 0} (name : X → End) (new : End → X) (capacity hart count : ℕ)
     (row : List (Option X)) : Type 0 where
   pub capacities : map capacity_of (map (option_map name) row)
@@ -35,7 +35,7 @@ IsOutRow capacity hart count row = IsRow end_of_outbox new_outbox_of capacity ha
 abbrev pub IsInRow : ℕ → ℕ → ℕ → List (Option InboxState) → Type 0
 IsInRow capacity hart count row = IsRow end_of_inbox new_inbox_of capacity hart count row
 
--- the row of a number, empty if it is not there
+-- the row of a number, empty if there is none
 abbrev pub items_of : {X : Type 0} → Option (Vec X) → List X
 items_of None = []
 items_of (Some row) = row.items

@@ -77,7 +77,7 @@ pub record IsMissed (port : PortState) (va : ℕ) (access : Access) (ctx : Ctx)
     tlb = tlb_filled port.tlb (own_asid port) found;
   }
 
--- Edits: the place is there
+-- Edits: the place exists
 abbrev pub has_place : Setup → Place → Bool
 has_place setup (Space s) = is_number setup s
 has_place setup Kernel = true

@@ -54,7 +54,7 @@ abbrev pub count_awaiting : ℕ → List (Option Ticket) → ℕ
 count_awaiting hart [] = 0
 count_awaiting hart (ticket ∷ tickets) = one_if (awaits hart ticket) + count_awaiting hart tickets
 
--- an end has so many outstanding
+-- an end has this many requests outstanding
 abbrev pub HasOutstanding : ℕ → Option OutboxState → Type 0
 HasOutstanding count None = Unit {0}
 HasOutstanding count (Some outbox) = outbox.outstanding ≡ count

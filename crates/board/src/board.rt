@@ -12,12 +12,12 @@ ghost use Rattle.board.specs.Seats.{AreSeats};
 
 use crate::closing::{gather, pair_reports};
 use crate::opening::open_rows;
+use crate::outbox::Outbox;
 use crate::port::HartPort;
 use crate::receiver::Receiver;
 use crate::report::{PairReport, Report};
 use crate::seats::open_seats;
 use pte::MAX_HARTS;
-use crate::outbox::Outbox;
 use spaces::{Config, OpenFault};
 use std::alloc::{AllocError, Global};
 use std::marker::Model;
@@ -68,7 +68,7 @@ pub(crate) fn deal(
     Ok(ports)
 }
 
-/// What the ports share is told once.
+/// A copy of the configuration, for all ports to share.
 fn copied(config: &Config) -> Result<Config, AllocError>
     ensures setup { IfOk result (λ copy. setup_of copy ≡ setup_of config.now) }
     ensures limits { IfOk result (λ copy. MeetsLimits MAX_LIVE_FRAMES config.now

@@ -5,10 +5,10 @@ ghost use Rattle.board.specs.Ports.{element};
 ghost use Rattle.board.specs.Reports.{pairs_of};
 ghost use Rattle.board.specs.Rows.{AreEnds, AreLinked, IsPairOf, items_at};
 
+use crate::outbox::Outbox;
 use crate::port::HartPort;
 use crate::receiver::Receiver;
 use crate::report::PairReport;
-use crate::outbox::Outbox;
 
 /// Takes an end out of a row. None is left in its place.
 fn take_of<T>(row: &mut Vec<Option<T>>, column: u8) -> Option<T>

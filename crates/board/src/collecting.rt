@@ -14,13 +14,13 @@ ghost use Rattle.board.specs.Collects.{AreAllCollected, IsCollected, after_look,
 ghost use Rattle.board.specs.Promises.{IsDoneClean, StaysClean};
 ghost use Rattle.views.specs.OrderTurns.{last_word};
 
+use crate::outbox::Outbox;
 use crate::port::HartPort;
 use history::Refusal;
-use crate::outbox::Outbox;
 use shoot::{Collected, Request};
 use views::collect;
 
-/// Makes room in an end, if it is there.
+/// Makes room in an end, if the port has it.
 fn release_end(outbox: &mut Option<Outbox>)
     requires some { (end : OutboxState) → outbox.old ≡ Some end → 0 < end.outstanding }
     ensures released { outbox.new ≡ option_map after_release outbox.old }
@@ -76,7 +76,7 @@ impl HartPort {
         })
     }
 
-    /// Loads the cell of a hart, if the ticket awaits it. Whether the word of the request is there:
+    /// Loads the cell of a hart, if the ticket awaits it. Whether it holds the word of the request:
     /// then the hart is collected.
     fn look(&mut self, ticket: u32, from: u8) -> bool
         ensures open { IsTrue (is_open self.old.tickets ticket)

@@ -29,7 +29,6 @@ fn mapped(word: u64) -> Mapped
 impl HartPort {
     ghost use Rattle.pte.specs.declared.address.What.TheVariants as request;
 
-    /// Whether the place is there.
     fn has(&self, place: Place) -> bool
         ensures test { result ≡ has_place self.now.setup place }
         ensures there { IsTrue result → HasPlace self.now.setup.layout place }

@@ -6,9 +6,9 @@ ghost use Rattle.shoot.specs.declared.TheConstants.{MAX_CAPACITY};
 ghost use Rattle.board.specs.Ports.{element, end_of_outbox, end_of_inbox};
 ghost use Rattle.board.specs.Rows.{AreLinked, IsInRow, IsNet, IsOutRow, capacity_between, capacity_of, items_at, new_inbox_of, new_outbox_of};
 
-use crate::receiver::Receiver;
 use crate::outbox::Outbox;
 use crate::pair::ends;
+use crate::receiver::Receiver;
 use std::alloc::{AllocError, Global};
 
 /// The two ends from one hart to another, none from a hart to itself.
@@ -87,7 +87,7 @@ fn open_row(
     Ok(row)
 }
 
-/// So many empty rows.
+/// One empty row for each hart.
 fn empty_rows(alloc: Global, harts: usize) -> Result<Vec<Vec<Option<Receiver>>>, AllocError>
     ensures count { IfOk result (λ rows. length rows.items ≡ harts) }
     ensures empty { IfOk result (λ rows. (hart : ℕ) → items_at rows.items hart ≡ []) }

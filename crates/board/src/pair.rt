@@ -31,7 +31,7 @@ pub fn ends(alloc: Global, capacity: usize) -> Result<(Outbox, Inbox), AllocErro
 }
 
 /// With both ends in one thread: how many requests wait. What was accepted is then what was taken,
-/// followed by these, and so many takes in a row answer `Some`.
+/// followed by these, and this many takes in a row answer `Some`.
 pub fn settle(outbox: &mut Outbox, inbox: &mut Inbox) -> usize
     requires { outbox.old.ring ≡ inbox.old.ring }
     ensures waiting { result ≡ length inbox.new.known }

@@ -10,11 +10,11 @@ ghost use Rattle.views.specs.OrderTurns.{IsAwaiting};
 ghost use Rattle.board.specs.Ports.{element, end_of_outbox, end_of_inbox};
 ghost use Rattle.board.specs.Answers.{outbox_refusal, outbox_with, inbox_with, known_room, known_waiting, is_closed_to};
 
+use crate::outbox::Outbox;
 use crate::receiver::Receiver;
 use arrayvec::ArrayVec;
 use history::{Refusal, Scope, opening_refusal, posting_refusal};
 use pte::What;
-use crate::outbox::Outbox;
 use shoot::{Collected, HartSet, NotDone, Request, Tickets};
 use spaces::Config;
 use std::alloc::Global;
@@ -87,7 +87,8 @@ fn request(ticket: u32, what: &What) -> Request
     }
 }
 
-/// Posts to the end of a hart, if it is there. The hart's cell is armed for the request.
+/// Posts by the end that leads to a hart; `NoHart` if the port has no such end. The hart's cell is
+/// armed for the request.
 fn post_to(
     outbox: &mut Option<Outbox>,
     seat: &Seat,
@@ -117,7 +118,7 @@ fn post_to(
     }
 }
 
-/// Takes from an end, if it is there.
+/// Takes the oldest request that waits in an end. `None`: none waits, or the port has no such end.
 fn take_from(inbox: &mut Option<Receiver>) -> Option<Request>
     ensures taken { IfSome result (λ request. inbox.new
         ≡ inbox_with request (known_waiting inbox.new) inbox.old) }
@@ -132,7 +133,7 @@ fn take_from(inbox: &mut Option<Receiver>) -> Option<Request>
     receiver.take()
 }
 
-/// Closes an end, if it is there.
+/// Closes an end, if the port has it.
 fn close_end(outbox: &mut Option<Outbox>)
     ensures closed { outbox.new ≡ option_map after_close outbox.old }
     ensures same { option_map end_of_outbox outbox.new ≡ option_map end_of_outbox outbox.old }
@@ -142,7 +143,7 @@ fn close_end(outbox: &mut Option<Outbox>)
     }
 }
 
-/// Whether an end is there and closed.
+/// Whether the port has the end and it is closed.
 fn is_closed(outbox: &Option<Outbox>) -> bool
     ensures { result ≡ is_closed_to outbox.now }
 {
@@ -334,7 +335,7 @@ impl HartPort {
         self.config.harts
     }
 
-    /// Whether it is a hart that is there, and another one.
+    /// Whether the board has a hart of this number, and it is not the port's own.
     pub(crate) fn is_other(&self, hart: u8) -> bool
         ensures pair { result ≡ are_pair self.now.setup self.now.hart hart }
         ensures outbox { IsTrue result → hart < length self.now.outboxes }
@@ -360,7 +361,7 @@ impl HartPort {
         }
     }
 
-    /// The harts of a byte, in which bit h stands for hart h, if all of them are there.
+    /// The harts of a byte, in which bit h stands for hart h, if the board has all of them.
     pub(crate) fn named_harts(&self, named: u8) -> Option<HartSet>
         ensures some { IfSome result (λ set.
             IsTrue (are_harts self.now.setup named) × (set ≡ harts_in named)) }

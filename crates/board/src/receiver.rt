@@ -3,10 +3,10 @@
 ghost use Rattle.std.specs.Prelude.{◌≡◌, ◌≤◌, ◌++◌, [], vec_capacity, IfSome, IfOk};
 ghost use Rattle.board.specs.Ends.{count_of};
 
-use crate::report::PairReport;
 use crate::inbox::Inbox;
 use crate::outbox::Outbox;
 use crate::pair::take_waiting;
+use crate::report::PairReport;
 use shoot::Request;
 use std::alloc::{AllocError, Global};
 use std::marker::Model;

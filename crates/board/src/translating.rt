@@ -51,7 +51,7 @@ fn walk_words(
 
 impl HartPort {
     /// Goes to another space, as a write of satp does (privileged manual 4.1.11). The TLB stays.
-    /// Refused with `NoSpace` if the space is not there.
+    /// Refused with `NoSpace` if the space does not exist.
     pub fn switch(&mut self, space: u8) -> Result<(), Refusal>
         ensures answer { result ≡ switch_answer self.old space }
         ensures after { self.new ≡ after_switch self.old space }

@@ -1,4 +1,4 @@
--- A fault that is none of memory is the failure that was read.
+-- A fault other than running out of memory is the failure that was read.
 use Rattle.std.proofs.Common.{◌≡◌, false, Result, Some, option_map, ap, sym}
 use Rattle.files.specs.Faults.{Failure, Fails, failure_of, fault_in}
 use Rattle.files.specs.declared.fault.Fault.{Fault}

@@ -1,4 +1,4 @@
--- What is told of a text: the command that it is for, its first fault, and the lines.
+-- What is reported of a text: the command that it is for, its first fault, and the lines.
 use Rattle.std.specs.Prelude.{ℕ, ◌==◌, ◌||◌, Bool, true, false, nat_lt, List, [], ◌∷◌, ◌++◌, length, codes, Option, Some, None, if◌then◌else◌}
 use Rattle.std.specs.Fmt.{decimal}
 use Rattle.toml.specs.Data.{Members, get_member}

@@ -12,13 +12,12 @@ ghost use Rattle.checks.specs.Told.{command_of, fault_for, fault_of, is_memory, 
 use crate::commands::{Command, command_of};
 use crate::keys_known::tell_unknown;
 use crate::layout::tell_layout;
+use crate::places::Place;
 use crate::report::{MOST_TOLD, Report};
 use crate::step_texts::{List, Reader};
 use crate::tables_told::tell_tables;
 use crate::values::{Document, kind};
-use files::{DEFAULT_TURNS, MOST_STEPS, read_live, read_run, read_walk};
-use crate::places::Place;
-use files::Fault;
+use files::{DEFAULT_TURNS, Fault, MOST_STEPS, read_live, read_run, read_walk};
 use pte::Scheme;
 use spaces::{MAX_FRAMES, MAX_HARTS, MAX_LIVE_FRAMES};
 use std::alloc::{AllocError, Global};
@@ -27,7 +26,7 @@ use toml::Table;
 /// What a check of a file found.
 #[derive(Drop)]
 pub struct Checked {
-    /// A line for each fault that is told, without its end.
+    /// A line for each fault that is reported, without its line break.
     pub lines: Vec<String>,
     /// What is printed: the command, those lines, and `ok` or the number of faults.
     pub text: String,
@@ -51,7 +50,7 @@ fn is_memory(fault: &Fault) -> bool
     }
 }
 
-/// A fault that a reader told. `AllocError`: there was not enough memory.
+/// The fault that a reader reported. `AllocError`: there was not enough memory.
 fn told(fault: Fault) -> Result<Option<Fault>, AllocError>
     ensures { IfOk result (λ told. (told ≡ Some fault) × (is_memory fault ≡ false)) }
 {
@@ -106,7 +105,7 @@ fn fault_for(alloc: Global, command: Command, text: &str) -> Result<Option<Fault
     }
 }
 
-/// Tells each text of a list that is no step.
+/// Reports each text of a list that is no step.
 fn tell_texts(
     report: &mut Report,
     reader: &Reader,
@@ -137,7 +136,7 @@ fn tell_texts(
     Ok(())
 }
 
-/// Tells that there are too many steps.
+/// Reports that there are too many steps.
 fn tell_many(report: &mut Report, count: usize) -> Result<(), AllocError> {
     if count > MOST_STEPS {
         let what = format!(in report.alloc; "{count} steps are more than {MOST_STEPS}")?;
@@ -146,7 +145,7 @@ fn tell_many(report: &mut Report, count: usize) -> Result<(), AllocError> {
     Ok(())
 }
 
-/// Tells what is wrong with the steps of `walk` or `run`.
+/// Reports what is wrong with the steps of `walk` or `run`.
 fn tell_steps(
     report: &mut Report,
     document: &Document<'_>,
@@ -215,7 +214,7 @@ fn scripts<'a>(
     Ok(scripts)
 }
 
-/// Tells what is wrong with each script.
+/// Reports what is wrong with each script.
 fn tell_scripts(
     report: &mut Report,
     document: &Document<'_>,
@@ -272,7 +271,7 @@ fn tell_live(report: &mut Report, document: &Document<'_>) -> Result<(), AllocEr
     tell_scripts(report, document, reader, scripts.as_slice())
 }
 
-/// Tells each fault of a document for a command.
+/// Reports each fault of a document for a command.
 fn tell_all(
     report: &mut Report,
     document: &Document<'_>,
@@ -286,7 +285,7 @@ fn tell_all(
     }
 }
 
-/// Tells where the reader of TOML stopped, and why.
+/// Reports where the reader of TOML stopped, and why.
 fn tell_error(report: &mut Report, text: &str, error: &toml::de::Error) -> Result<(), AllocError>
     ensures { OnOk result (length report.new.lines.items
         ≡ min (length report.old.lines.items + 1) most_told) }
@@ -322,7 +321,7 @@ fn push_lines(text: &mut String, lines: &[String]) -> Result<(), AllocError>
     }
 }
 
-/// Adds the last line: `ok`, or the number of faults that are told.
+/// Adds the last line: `ok`, or the number of faults that are reported.
 fn push_last(text: &mut String, count: usize) -> Result<(), AllocError>
     ensures { OnOk result (string_bytes text.new ≡ string_bytes text.old ++ last_text count) }
 {
@@ -393,7 +392,7 @@ fn check_table(alloc: Global, text: &str, table: &Table) -> Result<Checked, Allo
     Ok(Checked { lines, text, fault })
 }
 
-/// What is told of a text that the reader of TOML refused.
+/// What is reported of a text that the reader of TOML refused.
 fn not_toml(alloc: Global, text: &str, error: &toml::de::Error) -> Result<Checked, AllocError>
     ensures fault { IfOk result (λ checked. checked.fault ≡ Some NotToml) }
     ensures told { IfOk result (λ checked. ¬ (vec_len checked.lines ≡ 0)) }
@@ -409,8 +408,8 @@ fn not_toml(alloc: Global, text: &str, error: &toml::de::Error) -> Result<Checke
     Ok(Checked { lines, text, fault })
 }
 
-/// Reads a file of any command, and explains each fault that is found in it, 200 at most. The
-/// command is told by the keys (`command_of`), and `fault` is what that command answers.
+/// Reads a file of any command, and explains each fault that is found in it, 200 at most. The keys
+/// decide which command it is (`command_of`), and `fault` is what that command answers.
 /// `AllocError`: there was not enough memory.
 pub fn check_text(alloc: Global, text: &str) -> Result<Checked, AllocError>
     ensures fault { IfOk result (λ checked. option_map failure_of checked.fault ≡ option_map Some

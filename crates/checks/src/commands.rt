@@ -4,8 +4,7 @@ ghost use Rattle.toml.specs.View.{table_view};
 ghost use Rattle.files.specs.Keys.{key_texts};
 ghost use Rattle.checks.specs.Told.{command_of, has_key, has_live_key, has_walk_key, keys_of, name_of};
 
-use files::{LIVE_KEYS, RUN_KEYS, WALK_KEYS};
-use files::value_at;
+use files::{LIVE_KEYS, RUN_KEYS, WALK_KEYS, value_at};
 use toml::Table;
 
 /// The commands that read a file.

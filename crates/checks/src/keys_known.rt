@@ -4,9 +4,9 @@ ghost use Rattle.files.specs.Keys.{is_known, key_texts};
 ghost use Rattle.checks.specs.Told.{keys_of};
 
 use crate::commands::Command;
+use crate::near::nearest;
 use crate::report::Report;
 use crate::values::Document;
-use crate::near::nearest;
 use std::alloc::AllocError;
 
 /// Whether the command knows the key.
@@ -49,7 +49,7 @@ fn nearest_of_others(key: &str) -> Option<(&'static str, Command)> {
     None
 }
 
-/// Tells each key that the command does not know, in the order of their bytes.
+/// Reports each key that the command does not know, in the order of their bytes.
 pub fn tell_unknown(
     report: &mut Report,
     document: &Document<'_>,

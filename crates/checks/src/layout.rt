@@ -7,8 +7,8 @@ use spaces::{Config, DEFAULT_SPARES, MAX_CAPACITY, MAX_HARTS, MAX_WINDOW};
 use std::alloc::AllocError;
 use toml::Value;
 
-/// Tells what is wrong with the keys of the layout, where so many frames are allowed. Answers the
-/// number of harts if it is right.
+/// Reports what is wrong with the keys of the layout, where at most `most_frames` frames are
+/// allowed. Answers the number of harts if it is right.
 pub fn tell_layout(
     report: &mut Report,
     document: &Document<'_>,
@@ -32,7 +32,7 @@ pub fn tell_layout(
     Ok(harts)
 }
 
-/// Tells what is wrong with the spare frames. Answers how many there are together, if they are
+/// Reports what is wrong with the spare frames. Answers how many there are together, if they are
 /// numbers.
 fn tell_spares(
     report: &mut Report,
@@ -68,7 +68,7 @@ fn tell_spares(
     tell_each_spare(report, document, values.as_slice())
 }
 
-/// Tells each element that is no number of spare frames, and adds up the others.
+/// Reports each element that is no number of spare frames, and adds up the others.
 fn tell_each_spare(
     report: &mut Report,
     document: &Document<'_>,
@@ -91,7 +91,7 @@ fn tell_each_spare(
     Ok(total)
 }
 
-/// Tells that an element is no number of spare frames.
+/// Reports that an element is no number of spare frames.
 fn tell_spare(
     report: &mut Report,
     document: &Document<'_>,
@@ -109,7 +109,7 @@ fn tell_spare(
     document.tell(report, "spares", what.as_str())
 }
 
-/// Tells whether the frames are too many, or have PPNs that are too large. The parts are those of
+/// Reports whether the frames are too many, or have PPNs that are too large. The parts are those of
 /// the window, the spaces and the spare ones.
 fn tell_frames(
     report: &mut Report,

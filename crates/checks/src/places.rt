@@ -16,7 +16,7 @@ enum State {
     /// In a text that ends at this quote; after a backslash in it.
     Text(u8),
     Escape,
-    /// In a text of several lines that ends at three of this quote, of which so many were read;
+    /// In a text of several lines that ends at three of this quote, and how many of them were read;
     /// after a backslash in it.
     Long(u8, u8),
     LongEscape,
@@ -101,7 +101,7 @@ fn text_after(quote: u8, byte: u8) -> State {
     }
 }
 
-/// The state in a text of several lines after a byte of it, where so many quotes stand before the
+/// The state in a text of several lines after a byte of it, where `read` quotes stand before the
 /// byte.
 fn long_after(quote: u8, read: u8, byte: u8) -> State {
     if byte == quote {

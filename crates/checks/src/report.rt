@@ -5,7 +5,7 @@ ghost use Rattle.checks.specs.Told.{most_told};
 
 use std::alloc::{AllocError, Global};
 
-/// The most faults that are told.
+/// The most faults that are reported.
 pub const MOST_TOLD: usize = 200;
 
 /// The most letters of a word of the file that are printed.
@@ -31,7 +31,7 @@ impl Report {
     }
 
     /// Adds a line, after the number of the line of the file if it is known. Nothing is added once
-    /// no more faults are told.
+    /// no more faults are reported.
     pub fn add(&mut self, line: Option<usize>, what: &str) -> Result<(), AllocError>
         ensures { OnOk result (length self.new.lines.items
             ≡ min (length self.old.lines.items + 1) most_told) }
@@ -47,7 +47,7 @@ impl Report {
         Ok(())
     }
 
-    /// Whether no more faults are told.
+    /// Whether no more faults are reported.
     pub fn is_full(&self) -> bool
         ensures { result ≡ nat_le most_told (length self.now.lines.items) }
     {

@@ -1,7 +1,7 @@
 //! What is wrong with the spaces of a file.
+use crate::places::Place;
 use crate::report::{Report, shown};
 use crate::values::{Document, text_of};
-use crate::places::Place;
 use spaces::{Config, MAX_HARTS, MAX_SPACES, Space};
 use std::alloc::AllocError;
 use steps::{num, words};
@@ -44,7 +44,7 @@ fn space_of(
     Ok(Ok(Space { home, asid }))
 }
 
-/// Tells what is wrong with the spaces. `None`: they are no texts.
+/// Reports what is wrong with the spaces. `None`: they are no texts.
 pub fn tell_spaces(
     report: &mut Report,
     document: &Document<'_>,
@@ -66,7 +66,7 @@ pub fn tell_spaces(
     Ok(Some(count))
 }
 
-/// Tells each space that is wrong, or has the ASID of an earlier one.
+/// Reports each space that is wrong, or has the ASID of an earlier one.
 fn tell_each(
     report: &mut Report,
     document: &Document<'_>,

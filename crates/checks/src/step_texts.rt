@@ -4,9 +4,9 @@ ghost use Rattle.std.specs.Prelude.{◌≤◌};
 use crate::commands::Command;
 use crate::fields::{Field, field_of};
 use crate::forms::{WALK_FORM, form_of, names};
+use crate::near::nearest;
 use crate::report::shown;
 use crate::values::text_of;
-use crate::near::nearest;
 use pte::Scheme;
 use std::alloc::{AllocError, Global};
 use steps::{StepFault, live_step_among, num, run_step_among, setup_step_among, walk_step, words};
@@ -50,7 +50,7 @@ impl List {
 }
 
 impl Reader {
-    /// What is wrong with a text, as the reader of the command tells it.
+    /// What is wrong with a text, as the reader of the command reports it.
     pub fn fault(&self, text: &str) -> Option<StepFault> {
         match self.list {
             List::Walk => match walk_step(text) {
@@ -191,7 +191,7 @@ impl Reader {
         Ok(Some(format!(in self.alloc; "{word} where {name} is expected: {expected}")?))
     }
 
-    /// The first hart that is named and is not there.
+    /// The first hart that is named and does not exist.
     fn absent_hart(&self, form: &str, written: &[&[u8]]) -> Result<Option<String>, AllocError> {
         let names = words(self.alloc, form)?;
         for (index, name) in names.as_slice().iter().enumerate() {
@@ -209,7 +209,7 @@ impl Reader {
         Ok(None)
     }
 
-    /// The first hart of a word that is not there.
+    /// The first hart of a word that does not exist.
     fn absent_in(&self, field: Field, word: &[u8]) -> Option<u64> {
         match field {
             Field::Hart => num(word).filter(|hart| *hart >= u64::from(self.harts)),
@@ -233,7 +233,7 @@ impl Reader {
     }
 }
 
-/// The first of the harts between commas that is not one of so many.
+/// The first of the numbers between commas that is not below the number of harts.
 fn absent_of(word: &[u8], harts: u8) -> Option<u64> {
     word.split(|byte| *byte == b',')
         .filter_map(|part| num(part))

@@ -1,15 +1,14 @@
 //! What is wrong with the root, the frames and the words of a file for `walk`.
+use crate::places::Place;
 use crate::report::{Report, shown};
 use crate::values::{Document, text_of};
-use files::MOST_FRAMES;
-use crate::places::Place;
-use files::number;
+use files::{MOST_FRAMES, number};
 use pte::{PPN_LIMIT, TABLE_LENGTH};
 use spaces::Config;
 use std::alloc::AllocError;
 use steps::{num, words};
 
-/// Tells what is wrong with the keys `root`, `frames` and `words`.
+/// Reports what is wrong with the keys `root`, `frames` and `words`.
 pub fn tell_tables(report: &mut Report, document: &Document<'_>) -> Result<(), AllocError> {
     let _root = document.ppn(report, "root", Some(PPN_LIMIT), Config::default().base)?;
     let frames = tell_frames(report, document)?;
@@ -31,7 +30,7 @@ pub fn tell_tables(report: &mut Report, document: &Document<'_>) -> Result<(), A
     Ok(())
 }
 
-/// Tells what is wrong with the frames, and answers their PPNs. `None`: something is wrong.
+/// Reports what is wrong with the frames, and answers their PPNs. `None`: something is wrong.
 fn tell_frames(
     report: &mut Report,
     document: &Document<'_>,

@@ -1,6 +1,6 @@
 //! What is wrong with the values of keys: each on its own.
-use crate::report::{Report, shown};
 use crate::places::Place;
+use crate::report::{Report, shown};
 use files::number;
 use pte::Scheme;
 use spaces::Config;
@@ -36,7 +36,7 @@ impl<'a> Document<'a> {
         self.table.get(key)
     }
 
-    /// Tells what is wrong with a key.
+    /// Reports what is wrong with a key.
     pub fn tell(&self, report: &mut Report, key: &str, what: &str) -> Result<(), AllocError> {
         let place = Place::of_key(self.alloc, self.text, key)?;
         let key = shown(self.alloc, key)?;
@@ -45,7 +45,7 @@ impl<'a> Document<'a> {
     }
 
     /// The whole number from `least` to `most` at a key, or else the default. `None`: it is wrong,
-    /// and that is told.
+    /// and that is reported.
     pub fn whole(
         &self,
         report: &mut Report,
@@ -135,7 +135,7 @@ impl<'a> Document<'a> {
     }
 
     /// The texts of an array at a key, none where it is absent. `None`: something is no text, and
-    /// that is told.
+    /// that is reported.
     pub fn texts(
         &self,
         report: &mut Report,
@@ -177,7 +177,7 @@ impl<'a> Document<'a> {
         Ok(if are_texts { Some(texts) } else { None })
     }
 
-    /// Tells that an element of an array is no text.
+    /// Reports that an element of an array is no text.
     fn tell_element(
         &self,
         report: &mut Report,

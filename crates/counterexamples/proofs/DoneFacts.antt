@@ -131,7 +131,7 @@ pub kernel_page_each_asid : (asid : ℕ) → DoneForbids spaces_of_other_asids (
 kernel_page_each_asid asid =
     kernel_forbids (entry asid (small_page 0xffffffffc0000000) 0x300) (record { canonical = inr (omega arith, omega arith); aligned = refl }) asid (eq-eqb asid asid refl)
 
--- hart 0 has not acknowledged its order, so it was not told Done
+-- hart 0 has not acknowledged its order, so it was not answered Done
 until_acknowledged : IsRun two_harts shootdowns.superpage_until_acknowledged
 unfolding IsRun kind_of wish_fault path_end edit_of byte_of difference
 until_acknowledged = refl

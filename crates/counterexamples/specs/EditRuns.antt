@@ -55,7 +55,7 @@ spare_frames_run_out =
     ∷ (Map 0 (Space 0) (small_page 0x1000) 0x100 (flags (R + U + A + D)), refused NoFrame)
     ∷ []
 
--- so many pages of 4 KiB are mapped, and walked to, from page k on: page k goes to PPN 0x100 + k
+-- n pages of 4 KiB are mapped, and walked to, from page k on: page k goes to PPN 0x100 + k
 abbrev pub leaves : ℕ → ℕ → List Step
 leaves zero k = []
 leaves (suc n) k =

@@ -117,7 +117,7 @@ refused_posts =
     ∷ (Post 0 4 1, refused NotOpen)
     ∷ []
 
--- so many openings of one hart in a row, from a number on
+-- n openings of one hart in a row, with tickets from a number on
 abbrev pub openings : ℕ → ℕ → List Step
 openings zero from = []
 openings (suc n) from = (Flush 0 scope.All hart_0, Opened from) ∷ openings n (from + 1)

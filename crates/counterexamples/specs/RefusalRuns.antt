@@ -12,7 +12,7 @@ use Rattle.history.specs.declared.refusal.Refusal.TheVariants.{NoHart, NoSpace, 
 use Rattle.history.specs.declared.reply.Reply.TheVariants.{More, Opened, Ok, Done, Waiting}
 use Rattle.counterexamples.specs.WorkedRuns.{Step, small_page, flags, R, W, U, A, D, user, hart_0, hart_1, hart_2, refused, trap, taken}
 
--- of two harts in one space: what is not there
+-- of two harts in one space: steps for what does not exist
 abbrev pub nothing_there : List Step
 nothing_there =
     (Begin 2 0x1000 access.Load user, refused NoHart)

@@ -1,4 +1,4 @@
--- Worked runs of spaces that are retired, given back and created anew.
+-- Worked runs of spaces that are retired, given back and created again.
 use Rattle.std.specs.Prelude.{◌+◌, List, [], ◌∷◌, ◌++◌, Some}
 use Rattle.pte.specs.declared.permission.Access.TheVariants as access
 use Rattle.pte.specs.declared.address.What.TheVariants.{PageOf, SpaceOf}
@@ -40,7 +40,7 @@ abbrev pub retired_and_given_back : List Step
 retired_and_given_back =
     retired_until_acknowledged ++ (Collect 0 0 1, Done) ∷ (Finish 0 0, Ok) ∷ (Reclaim 0 1, Ok) ∷ []
 
--- it is created anew with the same ASID: the page is mapped to another PPN in the same two frames,
+-- it is created again with the same ASID: the page is mapped to another PPN in the same two frames,
 -- and hart 1 walks to it
 abbrev pub retired_and_created_anew : List Step
 retired_and_created_anew =
@@ -141,7 +141,7 @@ asid_used_again =
     ∷ []
 
 -- before its retirement space 1 of ASID 2 is flushed, and its page at 0x1000 unmapped; it is
--- created anew with ASID 7 before hart 1 serves these two requests, which are for ASID 2 still:
+-- created again with ASID 7 before hart 1 serves these two requests, which are for ASID 2 still:
 -- hart 1 keeps the page of ASID 7
 abbrev pub orders_keep_their_asid : List Step
 orders_keep_their_asid =
@@ -186,7 +186,7 @@ orders_keep_their_asid =
     ∷ (Begin 1 0x1004 access.Load user, Hit 0x101004)
     ∷ []
 
--- an order of now is for ASID 7, and so is a change of the page
+-- an order that is opened after that is for ASID 7, and so is that of a change of the page
 abbrev pub orders_of_the_new_asid : List Step
 orders_of_the_new_asid =
     orders_keep_their_asid

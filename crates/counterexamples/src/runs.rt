@@ -188,7 +188,7 @@ pub fn seventeen_fills()
     ensures { IsRun one_hart edits.seventeen_fills }
 {}
 
-/// Of several refusals the first is answered: what is not there, and what a hart may not do while
+/// Of several refusals the first is answered: what does not exist, and what a hart may not do while
 /// it walks or serves.
 #[tactic(auto, using(crate::proofs::RefusalRows::refusals_in_order))]
 pub fn refusals_in_order()
@@ -234,7 +234,7 @@ pub fn at_work_while_walking()
 {}
 
 /// A space is retired once no hart is in it, and given back once each hart is collected; it is
-/// created anew, and its frames are used again.
+/// created again, and its frames are used again.
 #[tactic(auto, using(crate::proofs::RetireRows::retired_until_acknowledged, crate::proofs::RetireRows::retired_and_created_anew))]
 pub fn retired_and_created_anew()
     ensures until_acknowledged { IsRun shootdowns.spaces_of_one_home
@@ -306,7 +306,7 @@ pub fn pages_that_do_not_fit()
 {}
 
 /// An order is for the ASID that its space had when it was opened, also once the space was created
-/// anew with another one.
+/// again with another one.
 #[tactic(auto, using(crate::proofs::RetireRows::orders_keep_their_asid, crate::proofs::RetireRows::orders_of_the_new_asid))]
 pub fn orders_keep_their_asid()
     ensures until_served { IsRun shootdowns.spaces_of_one_home retirements.orders_keep_their_asid }

@@ -1,4 +1,4 @@
-//! Records a run: opens a machine, makes the steps, and tells what stands where in its picture.
+//! Records a run: opens a machine, makes the steps, and lists what stands where in its picture.
 
 ghost use Rattle.std.specs.Prelude.{◌≡◌, IfErr};
 ghost use Rattle.files.specs.declared.fault.Fault.TheVariants.{NoMemory};

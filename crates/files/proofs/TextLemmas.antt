@@ -105,7 +105,7 @@ setup_refused scheme harts ts i front d fault lt is so_far = some_wrong (setup_s
 pub setup_end : (scheme : Scheme) (harts : ℕ) (ts : List (Bor (List ℕ))) (front : List (ℕ × LiveStep)) → SetupSoFar scheme harts ts (length ts) front → setup_steps_in scheme harts (map (λ text. text.now) ts) ≡ Ok front
 setup_end scheme harts ts front so_far = all_read (setup_step_in scheme harts) ts front so_far
 
--- the hart of a step that was read is there
+-- the hart of a step that was read exists
 pub hart_there : (scheme : Scheme) (harts : ℕ) (text : List ℕ) (step : ℕ × LiveStep) → setup_step_in scheme harts text ≡ Ok step → step.0 < harts
 hart_there scheme harts text (hart, step) h = (writes-setup scheme harts text hart step h).number.1
 

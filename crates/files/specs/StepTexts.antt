@@ -39,7 +39,7 @@ few xs = few_of (length xs)
 abbrev pub walk_steps_in : List (List ℕ) → Result (List WalkStep) Failure
 walk_steps_in texts = steps_from walk_step_in 1 texts
 
--- the steps of a file for `run`, in a scheme and for so many harts
+-- the steps of a file for `run`, in a scheme and for a number of harts
 abbrev pub events_in : Scheme → ℕ → List (List ℕ) → Result (List Event) Failure
 events_in scheme harts texts = steps_from (step_among scheme harts) 1 texts
 

@@ -13,8 +13,8 @@ ghost use Rattle.steps.specs.RunStep.{step_among};
 ghost use Rattle.files.specs.Faults.{wrong_script, wrong_step};
 ghost use Rattle.files.specs.StepTexts.{AreRead, events_in, IsFirstWrong, script_in, setup_steps_in, walk_step_in, walk_steps_in};
 
-/// The steps of a file are what its texts are read as, each in its place; the fault that is told is
-/// that of the first text that is wrong, with its number from 1.
+/// The steps of a file are what its texts are read as, each in its place; the fault that is
+/// reported is that of the first text that is wrong, with its number from 1.
 pub fn first_wrong_step()
     ensures walk { (texts : List (List ℕ)) (steps : List WalkStep)
         → walk_steps_in texts ≡ Ok steps ↔ AreRead walk_step_in texts steps }

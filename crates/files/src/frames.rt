@@ -49,8 +49,8 @@ impl Frames {
         self.ppns.binary_search(&ppn).ok()
     }
 
-    /// Where a word stands among the words of all frames, if its frame is there and its index is
-    /// within a table.
+    /// Where a word stands among the words of all frames, if its frame is one of them and its index
+    /// is within a table.
     fn position(&self, ppn: u64, index: u16) -> Option<usize>
         ensures { result ≡ position_of self.now ppn index }
     {

@@ -5,13 +5,13 @@ ghost use Rattle.files.specs.Faults.{Gives};
 ghost use Rattle.files.specs.StepTexts.{events_in};
 ghost use Rattle.files.specs.RunFile.{run_plan_of, run_scenario_of, run_view};
 
+use crate::documents::{check_keys, document, texts_of_key};
+use crate::fault::Fault;
 use crate::known_keys::RUN_KEYS;
 use crate::limits::MOST_STEPS;
 use crate::plan::RunScenario;
-use history::Event;
-use crate::documents::{check_keys, document, texts_of_key};
-use crate::fault::Fault;
 use crate::settings::{check_layout, config, mode};
+use history::Event;
 use pte::Scheme;
 use std::alloc::Global;
 use steps::run_step_among;

@@ -8,12 +8,12 @@ ghost use Rattle.files.specs.Memory.{is_frame_of, is_listed, word_at};
 ghost use Rattle.files.specs.StepTexts.{walk_steps_in};
 ghost use Rattle.files.specs.WalkFile.{frames_at, plan_view, ppn_of, ppns_of, root_at, tables_at, walk_plan_of, walk_scenario_of, word_in_table, word_of, words_at};
 
+use crate::documents::{check_keys, document, key_fault, number, texts_of_key, value_at};
+use crate::fault::Fault;
 use crate::frames::{Frames, TableFrames, TableWord};
 use crate::known_keys::WALK_KEYS;
 use crate::limits::{MOST_FRAMES, MOST_STEPS};
 use crate::plan::WalkScenario;
-use crate::documents::{check_keys, document, key_fault, number, texts_of_key, value_at};
-use crate::fault::Fault;
 use crate::settings::mode;
 use pte::{PPN_LIMIT, TABLE_LENGTH};
 use spaces::Config;

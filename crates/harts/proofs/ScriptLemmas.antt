@@ -19,7 +19,7 @@ answered_more script replies scripts vs vs' v hs rest h new first is was more =
     ∙ ap (are_answered scripts) (append_assoc (map replies vs) (replies v ∷ []) more) ∙ was (replies v ∷ more)
     ∙ ap (λ w. are_answered (map script w) (replies v ∷ more)) first ∙ ap (λ b. b && are_answered (map script rest) more) is
 
--- where the replies answer the scripts of so many harts, one each, each hart has answered its own
+-- where the replies answer the scripts of all harts, one each, each hart has answered its own
 pub each_answered : (harts : ℕ) (scripts : List (List LiveStep)) (replies : List (List LiveReply)) → length scripts ≤ harts → are_answered (scripts_of harts scripts) replies ≡ true → AreAnswered scripts replies
 each_answered zero [] [] few is hart = refl
 each_answered zero [] (own ∷ rest) few is hart = absurd (true≢false (sym is))

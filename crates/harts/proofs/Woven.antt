@@ -39,7 +39,7 @@ woven_more lists history owner turn less woven = (
 pub woven_none : {A : Type 0} (lists : List (List A)) → ((caller : ℕ) → get_or lists caller [] ≡ []) → IsInterleaving lists []
 woven_none lists none = ([], refl, none)
 
--- the same, where the lists and the history afterwards are told by equations
+-- the same, where the lists and the history afterwards are given by equations
 pub woven_after : {A : Type 0} (lists lists' : List (List A)) (history history' : List A) (owner : ℕ) (turn : A) (old : List A) → owner < length lists → get_or lists owner [] ≡ old
     → IsInterleaving lists history → lists' ≡ set lists owner (old ++ turn ∷ []) → history' ≡ history ++ turn ∷ [] → IsInterleaving lists' history'
 woven_after lists lists' history history' owner turn old less is woven new longer = rw (new, longer, sym is) (woven_more lists history owner turn less woven)

@@ -49,7 +49,7 @@ are_answered (steps ∷ scripts) [] = false
 are_answered (steps ∷ scripts) (replies ∷ rest) =
     is_answered steps replies && are_answered scripts rest
 
--- the scripts of so many harts, where those past the last script have none
+-- the scripts of this many harts, where those past the last script have none
 abbrev pub scripts_of : ℕ → List (List LiveStep) → List (List LiveStep)
 scripts_of zero scripts = []
 scripts_of (suc harts) [] = [] ∷ scripts_of harts []

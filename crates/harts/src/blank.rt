@@ -2,10 +2,10 @@
 
 ghost use Rattle.std.specs.Prelude.{◌≡◌, IfOk, length};
 
+use crate::halves::{Inner, Outer};
 use std::alloc::{AllocError, Global};
 use std::marker::Model;
 use stepcore::{Event, Reply};
-use crate::halves::{Inner, Outer};
 
 /// The half of a list of turns that lies under a lock, with its number.
 #[derive(Drop)]

@@ -1,7 +1,7 @@
 //! What the caller of a live run may do between the steps of its scripts.
 
-/// Is told of each step of a script, from the thread of its hart. Steps are numbered from 1 in each
-/// script; setup is not told.
+/// Is asked before each step of a script and called after it, on the thread of its hart. Steps are
+/// numbered from 1 in each script; a step of setup makes no call.
 pub trait Gate {
     /// Called before a step. At false the script ends before the step.
     fn before(&self, hart: u8, step: u32) -> bool;

@@ -52,7 +52,7 @@ impl<E> Inner<E> {
             × (self.new.name ≡ self.old.name) × (outer.new.name ≡ outer.old.name) }
     {}
 
-    /// Changes nothing, and tells that both halves have the same list.
+    /// Changes nothing; its contract says that both halves have the same list.
     pub fn agree(&mut self, outer: &mut Outer<E>)
         requires { self.old.name ≡ outer.old.name }
         ensures { (self.old.list ≡ outer.old.list) × (self.new ≡ self.old)

@@ -35,7 +35,7 @@ fn open(alloc: Global, config: &Config) -> Result<(Board, Vec<HartPort>), LiveFa
 
 /// Runs setup's steps in order on this thread, each by the port of its hart. Then each hart is a
 /// thread of its own, which does the steps of its script in order; a hart past the end of `scripts`
-/// has none. `gate` is told of each step of a script.
+/// has none. `gate` is asked before each step of a script, and called after it.
 ///
 /// At `Ok` each step of setup has its answer, and each step of a script, up to its end or to the
 /// step before which the gate ended it: that one is answered `Halted`, and nothing follows. Only a

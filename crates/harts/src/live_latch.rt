@@ -2,8 +2,8 @@
 
 use std::sync::atomic::{AtomicBool, AtomicU32, Ordering};
 
-/// Counts the scripts of a run that have ended, and tells whether the run was abandoned. It is open
-/// once all scripts have ended, or the run was abandoned. The threads of a run share one.
+/// Counts the scripts of a run that have ended, and records whether the run was abandoned. It is
+/// open once all scripts have ended, or the run was abandoned. The threads of a run share one.
 #[derive(Drop)]
 pub(crate) struct Latch {
     pub(crate) harts: u8,
@@ -12,7 +12,7 @@ pub(crate) struct Latch {
 }
 
 impl Latch {
-    /// The latch of a run of so many harts, of which no script has ended.
+    /// The latch of a run of this many harts, of which no script has ended.
     pub(crate) fn new(harts: u8) -> Latch {
         Latch {
             harts,

@@ -14,7 +14,7 @@ use pte::{Access, Ctx};
 use shoot::Collected;
 use std::thread;
 
-/// Serves once from each other hart, the lowest first. Whether a request was there.
+/// Serves once from each other hart, the lowest first. Whether a request was waiting.
 fn serve_others(port: &mut HartPort, harts: u8) -> bool
     ensures { name_of port.new ≡ name_of port.old }
 {
@@ -26,8 +26,8 @@ fn serve_others(port: &mut HartPort, harts: u8) -> bool
     served
 }
 
-/// By turns serves the other harts and collects a ticket, until the ticket is done or not open. At
-/// most so many turns.
+/// By turns serves the other harts and collects a ticket, until the ticket is done or not open, for
+/// at most `turns` turns.
 fn wait(port: &mut HartPort, ticket: u32, turns: u32, latch: &Latch) -> LiveReply
     ensures same { name_of port.new ≡ name_of port.old }
     ensures made { may_answer (live_step.Wait ticket) result ≡ true }
@@ -49,7 +49,7 @@ fn wait(port: &mut HartPort, ticket: u32, turns: u32, latch: &Latch) -> LiveRepl
 }
 
 /// Once the hart's own script has ended: serves the other harts by turns until all scripts have
-/// ended. At most so many turns.
+/// ended, for at most `turns` turns.
 pub(crate) fn serve_until_over(port: &mut HartPort, turns: u32, latch: &Latch)
     ensures { name_of port.new ≡ name_of port.old }
 {

@@ -68,7 +68,7 @@ impl LiveReply {
         }
     }
 
-    /// The answer of a call that has nothing to tell.
+    /// The answer of a call that returns no value.
     pub(crate) fn of_call(answer: Result<(), Refusal>) -> LiveReply
         ensures made { (step : LiveStep) → may_answer step result ≡ true }
         ensures ok { IfOk answer (λ _. result ≡ live.Replied reply.Ok) }
@@ -92,7 +92,7 @@ impl LiveReply {
         }
     }
 
-    /// The answer of a call that tells how far a ticket is.
+    /// The answer of a call that returns how far a ticket is.
     pub(crate) fn of_collection(answer: Result<Collected, Refusal>) -> LiveReply
         ensures made { (step : LiveStep) → may_answer step result ≡ true }
         ensures done { answer ≡ Ok collected.Done → result ≡ live.Replied reply.Done }

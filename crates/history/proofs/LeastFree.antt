@@ -14,7 +14,7 @@ above : (from m : ℕ) → from ≤ m → (from == m) ≡ false → from + 1 ≤
 above from m up other = omega (arith, up, eqb-false from m other)
 
 module _ (H : History) (hart : ℕ) where
-  -- of so many numbers from one on, this is the least that is not open
+  -- of n numbers from `from` on, this is the least that is not open
   record LeastFrom (n from ticket : ℕ) : Type 0 where
     pub first : from ≤ ticket
     pub below : ticket < from + n

@@ -20,7 +20,7 @@ use Rattle.history.specs.Staleness.{IsChange, is_same_asid, is_over, is_over_ord
 use Rattle.history.specs.Occurrences.{Sometime, IsPost, IsProgress, IsAckSelf, Acknowledges, Collects, IsOfPage, IsMapOver, Supersedes, IsClose}
 use Rattle.history.proofs.Splits.{read_sometime}
 
--- what the tests of replies, options and places tell
+-- what the tests of replies, options and places say
 pub ok_is : (r : Reply) → is_ok r ≡ true → r ≡ Ok
 ok_is Ok e = refl
 ok_is _ e = absurd (false≢true e)

@@ -32,7 +32,7 @@ use Rattle.history.proofs.Statuses.{retires}
 behind : (test : Bool) (why : Refusal) (rest r : Reply) → test ≡ false → rest ≡ r → refuse test why rest ≡ r
 behind test why rest r off e = ap (λ b. refuse b why rest) off ∙ e
 
--- an ASID that some of so many spaces has, or none
+-- an ASID that one of the first n spaces has, or none of them
 pub asid_found : (C : Setup) (H : History) (asid n s : ℕ) → is_asid_of C H asid n ≡ false → s < n → is_free (status_of H s) ≡ false → asid_of C H s ≡ asid → ⊥
 asid_found C H asid zero s e less kept same = omega arith
 asid_found C H asid (suc n) s e less kept same =

@@ -33,7 +33,7 @@ use Rattle.history.specs.Occurrences.{LeadsOn}
 use Rattle.shoot.proofs.HartSets.{by_test}
 use Rattle.history.proofs.Passing.{passed}
 
--- so many pointers lead from the root
+-- n pointers lead from the root
 pub leads_after : (scheme : Scheme) (words : Tables) (root va n table : ℕ) → n ≤ top_level scheme
     → (table_after scheme words root va n ≡ Some table) ↔ Leads scheme words root va (top_level scheme - n) table (word_at words va (top_level scheme - n) table)
 leads_after scheme words root va n table l =
@@ -115,7 +115,7 @@ module _ (C : Setup) where
   canonical_walk [] h l = λ walk e. cc
   canonical_walk (turn ∷ H) h l = walk_keeps turn.event turn.reply H h (walk_of H h) l.1 (canonical_walk H h l.0)
 
-  -- what a walk of a lawful history finds is the outcome in the words of now
+  -- what a walk of a lawful history finds is the outcome in the current words
   pub walk_outcome : (H : History) (h space : ℕ) (walk : Walk) (answer : Result Found Fault) → Lawful C H → walk_of H h ≡ Some walk
       → (answer ≡ outcome_of C H space walk) ↔ Outcome C.layout.scheme (words_of C H) (root_ppn C.layout space) walk.va walk.access walk.ctx answer
   walk_outcome H h space walk answer l w =

@@ -1,4 +1,4 @@
--- When the sender of an order is told that it is done, and what it may rely on then.
+-- When the sender of an order is answered Done, and what it may rely on then.
 use Rattle.std.specs.Prelude.{ℕ, ◌≡◌, ◌⊎◌, true, false, List, Option, Some}
 use Rattle.pte.specs.Address.{Span, Holds}
 use Rattle.tlb.specs.declared.store.Entry.{Entry}

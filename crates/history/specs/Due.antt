@@ -63,7 +63,7 @@ abbrev pub for_open : Option ℕ → (ℕ → Reply) → Reply
 for_open None answer = reply.Refused NotOpen
 for_open (Some order) answer = answer order
 
--- which pairs of harts, sets of harts, spaces and places are there, and which places retire
+-- which pairs of harts, sets of harts, spaces and places exist, and which places retire
 abbrev pub are_pair : Setup → ℕ → ℕ → Bool
 are_pair setup a b = is_hart setup a && (is_hart setup b && not (a == b))
 
@@ -75,7 +75,7 @@ are_harts setup named = nat_lt named (2 ^ setup.harts)
 abbrev pub is_number : Setup → ℕ → Bool
 is_number setup s = nat_lt s (length setup.asids)
 
--- a space that is there and not free; a place and a scope are there if their space is
+-- a space of the setup that is not free; a place and a scope exist if their space is such a one
 abbrev pub is_space : Setup → History → ℕ → Bool
 is_space setup history s = is_number setup s && not (is_free (status_of history s))
 
@@ -113,7 +113,7 @@ begin_reply setup history hart va access ctx =
     else reply.Trap (page_trap access NotCanonical)
 
 -- Load: a pointer above the lowest level leads at the level that the walk has come to, or it ends
--- with the outcome of now
+-- with the outcome in the current words
 abbrev pub goes_on : Setup → History → ℕ → Walk → Bool
 goes_on setup history hart walk =
     has_next setup.layout.scheme (words_of setup history)
@@ -140,7 +140,7 @@ abbrev pub map_reply : Result Store MapFault → Reply
 map_reply (Ok store) = stored_reply (kind_of store.word)
 map_reply (Err fault) = reply.Refused (refusal_of fault)
 
--- the store that is due for an edit of the hart, in the tables of now
+-- the store that is due for an edit of the hart, in the current tables
 abbrev pub edit_at : Setup → History → ℕ → Wish → Result Store MapFault
 edit_at setup history hart w = edit_due setup (words_of setup history) (holder_of history) hart w
 
@@ -205,7 +205,7 @@ reclaim_reply setup history (Retires order) =
     first_of (when (not (is_done setup history order)) NotAcked ∷ []) reply.Ok
 reclaim_reply setup history Free = reply.Refused NoSpace
 
--- Create: one of so many spaces is live or retiring and has the ASID
+-- Create: one of the first n spaces is live or retiring and has the ASID
 abbrev pub is_asid_of : Setup → History → ℕ → ℕ → Bool
 is_asid_of setup history asid zero = false
 is_asid_of setup history asid (suc n) =

@@ -67,7 +67,7 @@ abbrev pub walk_of : History → ℕ → Option Walking
 walk_of [] hart = None
 walk_of (turn ∷ history) hart = walk_after turn.event turn.reply hart (walk_of history hart)
 
--- what the walk of a hart finds in the words of now
+-- what the walk of a hart finds in the current words
 abbrev pub outcome_of : Setup → History → ℕ → Walking → Result Found Trap
 outcome_of setup history space walk =
     answer_after (level_count setup.layout.scheme) (words_of setup history)

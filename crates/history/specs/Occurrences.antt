@@ -57,7 +57,7 @@ pub record IsPost (number hart : ℕ) (turn : Turn) (before : History) : Type 0 
   pub accepted : turn.reply ≡ reply.Ok
   pub order : open_order before sender ticket ≡ Some number
 
--- a reply that tells a ticket's progress: the event was accepted
+-- a reply that reports a ticket's progress: the event was accepted
 abbrev pub IsProgress : Reply → Type 0
 IsProgress answer = (answer ≡ reply.Done) ⊎ ((left : ℕ) × (answer ≡ reply.Waiting left))
 
@@ -158,7 +158,7 @@ pub record IsPostAfterClose (sender receiver : ℕ) (turn : Turn) (before : Hist
 abbrev pub NoneAfterClose : History → ℕ → ℕ → Type 0
 NoneAfterClose history sender receiver = ¬ Sometime (IsPostAfterClose sender receiver) history
 
--- the turn with so many turns before it opened this order
+-- the turn with this many turns before it opened this order
 pub record OpensAt (setup : Setup) (number : ℕ) (order : Order) (turn : Turn)
     (before : History) : Type 0 where
   pub place : length before ≡ number
@@ -178,7 +178,7 @@ pub record IsFinish (sender ticket : ℕ) (turn : Turn) (before : History) : Typ
   pub event : turn.event ≡ Finish sender ticket
   pub accepted : turn.reply ≡ reply.Ok
 
--- the turn with so many turns before it opened the sender's ticket
+-- the turn with this many turns before it opened the sender's ticket
 abbrev pub OpensOrder : ℕ → ℕ → ℕ → Turn → History → Type 0
 OpensOrder sender ticket order turn before =
     Opens sender ticket turn before × (length before ≡ order)
@@ -366,7 +366,7 @@ EachIsDue setup history =
     (later : History) (turn : Turn) (earlier : History) → history ≡ later ++ turn ∷ earlier
     → turn.reply ≡ due setup earlier turn.event
 
--- a Retire of the space was accepted, with so many turns before it
+-- a Retire of the space was accepted, with this many turns before it
 pub record IsRetire (space order : ℕ) (turn : Turn) (before : History) : Type 0 where
   pub hart : ℕ
   pub ticket : ℕ

@@ -22,7 +22,7 @@ use Rattle.history.specs.Harts.{space_of, walk_of, entries_of}
 use Rattle.history.specs.Staleness.{HasAsid}
 use Rattle.history.specs.Occurrences.{IsLeastFree}
 
--- the hart is there and the home of the space, which is there
+-- the hart and the space exist, and the hart is the home of the space
 pub record IsAtHome (setup : Setup) (hart space : ℕ) : Type 0 where
   pub hart_there : hart < setup.harts
   pub space_there : space < length setup.asids

@@ -22,6 +22,6 @@ setup_of config =
       layout = layout_of config;
     }
 
--- the hart is there
+-- the hart exists
 abbrev pub is_hart : Setup → ℕ → Bool
 is_hart setup hart = nat_lt hart setup.harts

@@ -86,7 +86,7 @@ Clear setup history entries order hart =
     → is_mapped_anew setup history order ≡ false
     → (asid va : ℕ) → IsAsidOf of asid → Holds page va → ¬ Translates (IsMappedBy entries) asid va
 
--- the space is there and not free, and has this ASID
+-- the space exists, is not free, and has this ASID
 pub record HasAsid (setup : Setup) (history : History) (s asid : ℕ) : Type 0 where
   pub there : s < length setup.asids
   pub kept : is_free (status_of history s) ≡ false

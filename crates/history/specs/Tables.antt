@@ -31,7 +31,7 @@ pub record Written : Type 0 where
   pub page : Span
   pub word : ℕ
 
--- what an accepted edit writes: the leaf, or a pointer to the new table that the reply tells; 0;
+-- what an accepted edit writes: the leaf, or a pointer to the new table that the reply names; 0;
 -- the leaf that was there with other flags
 abbrev pub written : Setup → Event → Reply → Tables → Option Written
 written setup (Map hart place page ppn flags) reply.Leaf words =

@@ -16,7 +16,7 @@ use Rattle.history.specs.Service.{served}
 use Rattle.history.specs.Harts.{Walking, walk_of, space_of}
 use Rattle.history.specs.Occurrences.{LeadsOn, IsProgress}
 
--- the hart is there, in no walk, and serves no request
+-- the hart exists, is in no walk, and serves no request
 pub record MayBegin (setup : Setup) (history : History) (hart : ℕ) : Type 0 where
   pub there : hart < setup.harts
   pub still : walk_of history hart ≡ None
@@ -42,7 +42,7 @@ NoneMatches entries asid va =
     → ¬ Matches asid va other
 
 -- the hart is in this walk, the address leads to no further pointer, and this is the outcome of its
--- access in the words of now
+-- access in the current words
 pub record WalkEnds (setup : Setup) (history : History) (hart : ℕ) (walk : Walking)
     (answer : Result Found Trap) : Type 0 where
   pub there : hart < setup.harts

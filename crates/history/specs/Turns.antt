@@ -15,7 +15,7 @@ History = List Turn
 abbrev pub with_turn : Event → Reply → History → History
 with_turn event reply history = record { event = event; reply = reply } ∷ history
 
--- what a reply tells
+-- what a reply says
 abbrev pub is_ok : Reply → Bool
 is_ok reply.Ok = true
 is_ok _ = false
@@ -57,7 +57,7 @@ abbrev pub taken_request : Reply → List Request
 taken_request (reply.Taken request) = request ∷ []
 taken_request _ = []
 
--- a ticket's progress was told: the event was accepted
+-- a ticket's progress was reported: the event was accepted
 abbrev pub is_progress : Reply → Bool
 is_progress reply.Done = true
 is_progress (reply.Waiting harts) = true

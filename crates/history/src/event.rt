@@ -13,8 +13,8 @@ pub enum Scope {
 }
 
 /// One step of one hart. Harts, spaces and tickets are numbers from 0, and a step that speaks of
-/// one that is not there, or not open, is refused. `named` is a set of harts, bit h for hart h, and
-/// `va` a virtual address, canonical or not.
+/// one that does not exist, or is not open, is refused. `named` is a set of harts, bit h for hart
+/// h, and `va` a virtual address, canonical or not.
 #[derive(Clone, Copy, PartialEq, Eq, Debug)]
 pub enum Event {
     /// Begins an access: the hart's TLB answers it, or a walk from the root of the hart's space
@@ -93,7 +93,7 @@ pub enum Event {
         hart: u8,
         ticket: u32,
     },
-    /// Collects the acknowledgement of another hart, if it is there.
+    /// Collects the acknowledgement of another hart, if there is one.
     Collect {
         hart: u8,
         ticket: u32,

@@ -64,7 +64,7 @@ pub enum LiveStep {
     AckSelf {
         ticket: u32,
     },
-    /// Collects the acknowledgements of a ticket's request that are there.
+    /// Collects the acknowledgements of a ticket's request that have been given.
     Collect {
         ticket: u32,
     },

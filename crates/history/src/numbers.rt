@@ -5,7 +5,7 @@ ghost use Rattle.std.specs.Prelude.{◌≡◌};
 ghost use Rattle.history.specs.Numbers.{code_of};
 ghost use Rattle.history.specs.declared.refusal.Refusal.TheVariants.{AlreadyMapped, AlreadyPosted, AsidInUse, BadFlags, Closed, Empty, Full, HomeNotNamed, InUse, LeafInWay, Misaligned, NoFrame, NoHart, NoSpace, NoTicket, NotAcked, NotDone, NotFenced, NotFree, NotHome, NotMapped, NotNamed, NotOpen, NotRetiring, NotServing, NotWalking, PpnTooLarge, Retiring, Serving, TableInWay, Walking, WrongHalf, WrongSize};
 
-/// The numbers of what is not there, of edits and of openings, 1 to 15.
+/// The numbers of what does not exist, of edits and of openings, 1 to 15.
 pub fn numbers_of_edits_and_openings()
     ensures no_hart { code_of NoHart ≡ 1 }
     ensures no_space { code_of NoSpace ≡ 2 }

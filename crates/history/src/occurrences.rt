@@ -164,7 +164,7 @@ pub fn lawful_walk_is_canonical()
         → walk_of history hart ≡ Some walk → IsCanonical setup.layout.scheme walk.va }
 {}
 
-/// What a walk of a lawful history finds is the outcome of its access in the words of now.
+/// What a walk of a lawful history finds is the outcome of its access in the current words.
 pub fn lawful_walk_finds_the_outcome()
     ensures { (setup : Setup) (history : History) (hart space : ℕ) (walk : Walking)
         (answer : Result Found Trap) → Lawful setup history → walk_of history hart ≡ Some walk

@@ -8,10 +8,10 @@ use thiserror::Error;
 /// Why an event changed nothing.
 #[derive(Clone, Copy, PartialEq, Eq, Debug, Error)]
 pub enum Refusal {
-    /// A hart is named that is not there, or the two harts of a pair are the same.
+    /// A hart is named that does not exist, or the two harts of a pair are the same.
     #[error("a hart is not there, or is named as its own partner")]
     NoHart,
-    /// The space is not there, or, but for a Create, is free.
+    /// The space does not exist, or, but for a Create, is free.
     #[error("no such space")]
     NoSpace,
     /// Only the home of a space stores to its tables; hart 0 to those of the kernel.
@@ -30,13 +30,13 @@ pub enum Refusal {
     /// The PPN is no multiple of the page's size.
     #[error("the PPN is no multiple of the page's size")]
     Misaligned,
-    /// A leaf of the page's size is there.
+    /// The page is already mapped, by a leaf of its own size.
     #[error("the page is already mapped")]
     AlreadyMapped,
-    /// A leaf of a larger page is there.
+    /// A leaf of a larger page is in the way.
     #[error("a larger page is mapped there")]
     LeafInWay,
-    /// A table of smaller pages is there, even if none of them is mapped any more.
+    /// A table of smaller pages is in the way, even if none of them is mapped any more.
     #[error("a table of smaller pages is there")]
     TableInWay,
     /// Every spare frame of the home is in use.
@@ -45,7 +45,7 @@ pub enum Refusal {
     /// Nothing is mapped there.
     #[error("the page is not mapped")]
     NotMapped,
-    /// A larger page is mapped there, or a table of smaller ones is there.
+    /// A larger page is mapped there, or a table of smaller ones stands there.
     #[error("a page of another size is mapped there")]
     WrongSize,
     /// The hart that opens a ticket is not among the named.

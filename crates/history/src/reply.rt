@@ -21,7 +21,7 @@ pub enum Reply {
     Leaf,
     /// A ticket was opened, with this number.
     Opened(u32),
-    /// Done, with nothing to tell.
+    /// Done, with nothing to report.
     Ok,
     /// This request was taken.
     Taken(Request),

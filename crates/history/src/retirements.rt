@@ -1,4 +1,4 @@
-//! Laws of spaces that are retired, given back and created anew: when Retire, Reclaim and Create
+//! Laws of spaces that are retired, given back and created again: when Retire, Reclaim and Create
 //! are accepted, and what they leave. Each function does nothing, and its contract is the law.
 
 ghost use Rattle.std.specs.Prelude.{ℕ, ◌≡◌, ◌↔◌, ◌≤◌, slice_index};

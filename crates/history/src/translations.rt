@@ -60,7 +60,7 @@ pub fn begin_answers_as_the_first_match()
 {}
 
 /// A Load goes on where one more pointer leads on; else it is answered with the outcome of the
-/// access in the words of now, of every access and every size of a leaf.
+/// access in the current words, of every access and every size of a leaf.
 pub fn load_answers_the_outcome()
     ensures more { (setup : Setup) (history : History) (hart : ℕ) (walk : Walking)
         → hart < setup.harts → walk_of history hart ≡ Some walk

@@ -93,7 +93,7 @@ open_found H hart named ticket r e t =
       names_harts = λ h n. contains_below (λ i. eqb (bit_at named i) 1) h n;
     }
 
--- an edit: its place is there and does not retire, and its store is due
+-- an edit: its place exists and does not retire, and its store is due
 pub record EditFound (C : Setup) (H : History) (hart : ℕ) (w : Wish) : Type 0 where
   pub there : is_place C H (place_of w) ≡ true
   pub live : retires H (place_of w) ≡ false

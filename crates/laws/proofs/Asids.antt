@@ -152,7 +152,7 @@ module _ (C : Setup) where
     live_hart [] h l there = refl
     live_hart (turn ∷ H) h l there = live_step turn.event turn.reply H h l.1 there (live_hart H h l.0 there)
 
-    -- a fill is by a hart that is there
+    -- a fill is by a hart that exists
     filled_accepted : (r : Reply) → is_filled r ≡ true → is_accepted r ≡ true
     filled_accepted (reply.Filled pa) e = refl
     filled_accepted _ e = absurd (false≢true e)
@@ -162,7 +162,7 @@ module _ (C : Setup) where
         let p = passed (not (is_hart C h)) NoHart _ turn.reply (sym (d ∙ ap (due C H) f.event)) (filled_accepted turn.reply f.accepted) in
         ltb-true h C.harts (not-false (is_hart C h) p.0)
 
-    -- a hart that is not there holds nothing
+    -- a hart that does not exist holds nothing
     pub nobody_holds : (H : History) (h : ℕ) → Lawful C H → C.harts ≤ h → All (λ e. ⊥) (entries_of C H h)
     nobody_holds [] h l beyond = All-nil (λ e. ⊥)
     nobody_holds (turn ∷ H) h l beyond =

@@ -1,4 +1,4 @@
--- What an order followed: a page of a place that is there, in its half, and the request asks just
+-- What an order followed: a page of a place that exists, in its half, and the request asks just
 -- for it.
 use Rattle.std.proofs.Common.{◌≡◌, ℕ, ◌<◌, Bool, true, false, cond, ◌&&◌, not, List, [], ◌∷◌, length, Option, Some, None, refl, sym, subst, eqb, inl, inr}
 use Rattle.std.specs.Prelude.{Result, Ok}
@@ -59,7 +59,7 @@ in_place : (C : Setup) (H : History) (place : Place) → IsAt (asid_in C H place
 in_place C H (Space s) = (asid_of C H s, refl)
 in_place C H Kernel = refl
 
--- the space of a place is there
+-- the space of a place exists
 pub has_place : (C : Setup) (H : History) → length C.asids ≡ length C.layout.homes → (place : Place) → is_place C H place ≡ true → HasPlace C.layout place
 has_place C H same (Space s) e = subst (λ n. s < n) same (space_is C H s e).0
 has_place C H same Kernel e = tt
@@ -123,7 +123,7 @@ module _ (C : Setup) (same : length C.asids ≡ length C.layout.homes) where
         | inr old ↦ follows H k order l.0 has.0 old
       ]
 
--- a hart is in a space that is there
+-- a hart is in a space that exists
 space_step : (C : Setup) (event : Event) (r : Reply) (H : History) (h : ℕ) → r ≡ due C H event → space_of H h < length C.asids → space_after event r h (space_of H h) < length C.asids
 space_step C (Switch b s) r H h d old =
     by_test (λ v. cond v s (space_of H h) < length C.asids) (is_ok r && eqb b h)

@@ -40,7 +40,7 @@ use Rattle.laws.proofs.Accepted.{turn_of, ReclaimFound, reclaim_found, EditFound
 use Rattle.laws.proofs.Causes.{IsAsked, has_place, halved}
 use Rattle.laws.proofs.TreeKept.{tree, is_edit, map_edit, opened_some}
 
--- an edit's place and page, as an order asks for them, of a place that is there and does not retire
+-- an edit's place and page, as an order asks for them, of a place that exists and does not retire
 abbrev pub IsEdited : Setup → History → Place → Span → Type 0
 IsEdited C H place page = IsAsked C place page × (is_place C H place ≡ true) × (retires H place ≡ false)
 

@@ -57,7 +57,7 @@ module _ (C : Setup) where
       let d' : reply.Done ≡ due C H (Collect s t from) = rw e at d in
       rw e (collect_told H s t from k (open_order H s t) o (passed _ NoHart _ reply.Done (sym d') refl).1)
 
-  -- at the turn that tells it
+  -- at the turn that answers Done
   named_below : (H : History) (s t k h : ℕ) → Lawful C H → open_order H s t ≡ Some k → names (order_at C H k) h ≡ true → h < MAX_HARTS
   named_below H s t k h l o named =
       let own = open_known C H s t k l o in

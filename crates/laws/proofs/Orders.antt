@@ -1,4 +1,4 @@
--- Orders: which are there, and which are open under which ticket.
+-- Orders: which exist, and which are open under which ticket.
 use Rattle.std.proofs.Common.{◌≡◌, ℕ, ◌<◌, Bool, true, cond, ◌&&◌, List, [], ◌∷◌, ◌++◌, length, Option, Some, None, refl, ap, ◌∙◌, arith, eqb, ◌⊎◌, inl, inr, length-append}
 use Rattle.std.proofs.lemmas.Bool.{and_parts, eqb-true, eq-eqb}
 use Rattle.pte.specs.declared.address.What.{What}

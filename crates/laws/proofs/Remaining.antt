@@ -44,7 +44,7 @@ reached_join C [] turn before of s r first = (first, r)
 reached_join C (x ∷ later) turn before of s r first =
     (reached_join C later turn before of s r.0 first, subst (λ (G : History). Reaches C (x ∷ G) of s) (sym (append_assoc later (turn ∷ []) before)) r.1)
 
--- a kernel page is always reached through a space that is there
+-- a kernel page is always reached through a space that exists
 pub kernel_reached : (C : Setup) (later before : History) (s : ℕ) → s < length C.asids → ReachedSince C later before None s
 unfolding ReachedSince
 kernel_reached C [] before s there = there

@@ -139,7 +139,7 @@ module _ (C : Setup) (words : Tables) (holders : Holders) (hart : ℕ) (store : 
       let a = at_end (wish.Map place page ppn flags) e in
       map_new place page ppn flags level old store.word fits writes ∙ (ap (with_word C words place page) a.word ∙ a.same)
 
--- a Map that is accepted tells what its store is
+-- a Map that is accepted has a store, and its reply is the one for the stored word
 map_made : (answer : Result Store MapFault) (r : Reply) → map_reply answer ≡ r → is_accepted r ≡ true → (store : Store) × (answer ≡ Ok store) × (stored_reply (kind_of store.word) ≡ r)
 map_made (Ok store) r e a = (store, refl, e)
 map_made (Err fault) r e a = absurd (false≢true (ap is_accepted e ∙ a))

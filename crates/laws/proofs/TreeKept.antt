@@ -50,7 +50,7 @@ pub is_edit : (C : Setup) (H : History) (hart : ℕ) (w : Wish) (store : Store) 
 is_edit C H hart w store layout same tree there page is =
     record { layout = layout; tree = tree; has = has_place C H same (place_of w) there; page = page; is = is }
 
--- the reply of a store tells whether its word is a pointer
+-- the reply of a store says whether its word is a pointer
 pub stored-table : (k : Kind) → is_table (stored_reply k) ≡ is_some (pointed_kind k)
 stored-table (kinds.Table ppn global) = refl
 stored-table kinds.Invalid = refl
@@ -63,7 +63,8 @@ stored-at kinds.Invalid frame = refl
 stored-at kinds.Reserved frame = refl
 stored-at (kinds.Leaf ppn flags) frame = refl
 
--- a Map that is accepted has a store, and its reply tells whether that is a pointer, and whereto
+-- a Map that is accepted has a store, and its reply says whether that is a pointer, and to which
+-- frame
 pub record MapMade (answer : Result Store MapFault) (r : Reply) : Type 0 where
   pub store : Store
   pub is : answer ≡ Ok store
@@ -112,7 +113,7 @@ map_edit C H hart place page ppn flags r d z =
     record { edit = record { there = not-false (is_place C H place) q.0; live = v.0; store = m.store; is = m.is }; table = m.table; at = m.at }
 
 module _ (C : Setup) (layout : IsLayout C.layout) (same : length C.asids ≡ length C.layout.homes) where
-  -- the words after a store that is due, with the spare frames in use that the reply tells
+  -- the words after a store that is due, with the spare frames in use as the reply says
   stored_tree : (H : History) (hart : ℕ) (w : Wish) (e : EditFound C H hart w) (held : Holders) → IsTree C.layout (words_of C H) (holder_of H) → IsPage (page_of w)
       → (Accepted C.layout (words_of C H) (unused_spare C.layout (holder_of H) hart) hart w e.store → (frame : ℕ) → held frame ≡ holders_after (holder_of H) (place_of w) e.store frame)
       → IsTree C.layout (with_store (words_of C H) (edit_at C H hart w)) held

@@ -10,7 +10,7 @@ use Rattle.history.specs.Turns.{Turn, History, is_filled}
 use Rattle.history.specs.Harts.{Walking, walk_of, space_of, outcome_of}
 use Rattle.history.specs.Acknowledgements.{is_acked}
 
--- the turn is a Load of the hart that finds a leaf in the words of now, and the entry is what it
+-- the turn is a Load of the hart that finds a leaf in the current words, and the entry is what it
 -- fills
 pub record Fills (setup : Setup) (hart : ℕ) (e : Entry) (turn : Turn)
     (before : History) : Type 0 where

@@ -9,7 +9,7 @@ use Rattle.history.specs.Turns.{History, is_ok, is_progress, are_same}
 use Rattle.history.specs.Orders.{open_order}
 use Rattle.history.specs.Acknowledgements.{is_acked, is_collected}
 
--- the acknowledgement by the hart of an open order is there, and not collected yet
+-- the hart has acknowledged an open order, and the acknowledgement is not collected yet
 abbrev pub is_collectable : Setup → History → Option ℕ → ℕ → Bool
 is_collectable setup history None hart = false
 is_collectable setup history (Some order) hart =

@@ -1,5 +1,5 @@
-//! What a sender may rely on once it was told that its order is done, what is left once a request
-//! is served, and what stays. Each function does nothing, and its contract is the law.
+//! What a sender may rely on once its order was answered Done, what is left once a request is
+//! served, and what stays. Each function does nothing, and its contract is the law.
 
 ghost use Rattle.std.specs.Prelude.{ℕ, ◌≡◌, ◌⊎◌, ◌∷◌, ◌++◌, false, Some, true};
 ghost use Rattle.walk.specs.Leads.{PointsTo};

@@ -19,7 +19,7 @@ fn digit(n: u64) -> u8
     if n < 10 { b'0' + n } else { b'a' + (n - 10) }
 }
 
-/// Writes the digits to the end of the buffer, and tells where they begin.
+/// Writes the digits to the end of the buffer, and returns where they begin.
 fn write_hexadecimal(n: u64, buffer: &mut [u8; MOST_DIGITS]) -> usize
     ensures start { result ≤ 16 }
     ensures digits { drop result buffer.new ≡ digits 16 false n }

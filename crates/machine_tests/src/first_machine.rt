@@ -72,7 +72,7 @@ pub const ASKED_AND_ACKNOWLEDGED: [Event; 4] = [
     Event::Ack { hart: 1 },
 ];
 
-/// Whether the TLB of hart 1 has a translation. `translates` is for a hart that is there.
+/// Whether the TLB of hart 1 has a translation. `translates` needs a hart that exists.
 pub fn hart_1_holds(machine: &Machine, va: VirtAddr) -> bool {
     machine.harts() > 1 && machine.translates(1, 1, va)
 }

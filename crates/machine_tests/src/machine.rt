@@ -1,5 +1,5 @@
 //! Shootdowns from their first event to their last, what fills a mailbox, spaces that are retired,
-//! given back and created anew, and the machines that are opened.
+//! given back and created again, and the machines that are opened.
 
 ghost use Rattle.std.specs.Prelude.{◌<◌};
 ghost use Rattle.shoot.specs.declared.TheConstants.{MAX_TICKETS};
@@ -548,7 +548,8 @@ fn answer_retirement(rt: &impl Abort, machine: &mut Machine) {
 }
 
 /// A space is retired once no hart is in it, given back once each hart has answered, and created
-/// anew with its ASID and its frames. Hart 1 then reads the new page, and not the one that it held.
+/// again with its ASID and its frames. Hart 1 then reads the new page, and not the one that it
+/// held.
 #[test]
 fn space_is_retired_and_created_anew(rt: HostRuntime) {
     let mut machine = opened(&rt, rt.alloc(), &two_spaces());
@@ -611,7 +612,7 @@ fn each_refused(rt: &impl Abort, machine: &mut Machine, events: &[Event], refusa
 }
 
 /// A retiring space is refused by each event that names it, and by a second retirement. A free
-/// space is not there, for each but Create.
+/// space does not exist, for each but Create.
 #[test]
 fn retiring_and_free_spaces_are_refused(rt: HostRuntime) {
     let mut machine = opened(&rt, rt.alloc(), &two_spaces());
@@ -632,8 +633,8 @@ fn retiring_and_free_spaces_are_refused(rt: HostRuntime) {
     each_refused(&rt, &mut machine, &events, Refusal::NoSpace);
 }
 
-/// Only the home of a space that is there retires it, gives it back and creates it; and a
-/// retirement needs a ticket.
+/// Only the home of a space that exists retires it, gives it back and creates it; and a retirement
+/// needs a ticket.
 #[test]
 fn homes_alone_retire(rt: HostRuntime) {
     let mut machine = opened(&rt, rt.alloc(), &two_spaces());

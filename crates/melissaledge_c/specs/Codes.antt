@@ -41,7 +41,7 @@ size_of bytes =
     else if bytes == 0x80_0000_0000 then Some Gib512
     else None
 
--- what is done with a value that is there, or else the fault
+-- what is done with a value if there is one, or else the fault
 abbrev pub or_fault : {A B : Type 0} → Option A → Fault → (A → Result B Fault) → Result B Fault
 or_fault None why next = Err why
 or_fault (Some x) why next = next x

@@ -76,7 +76,7 @@ pub record IsStep (old : State) (event : Event) (reply : Reply) (new : State) : 
   pub frames : (setup : Setup) (history : History) → Stands setup old history
       → WalksHoldUsedFrames setup (with_turn event reply history) new
 
--- the machine makes a step to the next, and C is told the reply
+-- the machine makes a step to the next, and C is given the reply
 pub record IsStepped (old : State) (event : Event) (next : State) (told : ReplyGiven) : Type 0 where
   pub reply : Reply
   pub step : IsStep old event reply next

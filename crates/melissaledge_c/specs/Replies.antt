@@ -1,4 +1,4 @@
--- The numbers that tell C a reply of a machine.
+-- The numbers that give C a reply of a machine.
 use Rattle.std.specs.Prelude.{Some, None}
 use Rattle.pte.specs.declared.address.What.{What}
 use Rattle.pte.specs.declared.address.What.TheVariants as what

@@ -1,4 +1,4 @@
--- What the numbers of C ask of a TLB, and those that tell it an entry.
+-- What the numbers of C ask of a TLB, and those that stand for an entry.
 use Rattle.std.specs.Prelude.{ℕ, ◌==◌, if◌then◌else◌, Option, Some, None, Result, Ok, Err}
 use Rattle.pte.specs.declared.permission.Access.{Access}
 use Rattle.pte.specs.declared.permission.Ctx.{Ctx}

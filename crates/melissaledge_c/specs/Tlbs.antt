@@ -57,7 +57,7 @@ fenced_by fence tlb =
 abbrev pub dropped : What → TlbState → TlbState
 dropped what tlb = record tlb { entries = after_service tlb.entries what }
 
--- the entry is told, or that there is none
+-- the answer is the entry, or that there is none
 abbrev pub Tells : Option Entry → ℤ → EntryGiven → EntryGiven → Type 0
 Tells None result old new = (result ≡ pos 2) × (new ≡ old)
 Tells (Some entry) result old new = (result ≡ pos 0) × (new ≡ entry_given entry)

@@ -34,7 +34,7 @@ pub enum Fault {
     Kind,
     /// The configuration breaks a limit.
     Layout,
-    /// The hart is not there.
+    /// The hart does not exist.
     Hart,
     /// The address is not canonical.
     Address,
@@ -112,7 +112,7 @@ pub(crate) fn number_of(flag: bool) -> u8
     if flag { 1 } else { 0 }
 }
 
-/// The size of a page of so many bytes.
+/// The size of a page of this many bytes.
 fn size_of(bytes: u64) -> Option<PageSize>
     ensures { result ≡ size_of bytes }
 {

@@ -61,7 +61,7 @@ pub extern "C" fn melissaledge_machine_close(alloc: Global, machine: &mut Machin
     }
 }
 
-/// Makes a step, and tells the reply in numbers.
+/// Makes a step, and returns the reply in numbers.
 fn stepped(machine: &mut Machine, event: Event) -> ReplyGiven
     ensures { IsStepped machine.old event machine.new result }
 {
@@ -69,7 +69,7 @@ fn stepped(machine: &mut Machine, event: Event) -> ReplyGiven
     ReplyGiven::of(&reply)
 }
 
-/// Does one event, or refuses it, as `Machine::step` has it: 0 with the reply, which tells also a
+/// Does one event, or refuses it, as `Machine::step` has it: 0 with the reply, which may also be a
 /// refusal by the machine. The call itself is refused with `Kind`, `Access`, `Mode` or `Page` of
 /// what the kind names, or with `NotOpen`, and then nothing has changed.
 #[unsafe(no_mangle)]

@@ -1,4 +1,4 @@
-//! What C asks of a TLB, as structs of numbers, and what it is told of an entry.
+//! What C asks of a TLB, as structs of numbers, and what it is given of an entry.
 
 ghost use Rattle.std.specs.Prelude.{◌≡◌};
 ghost use Rattle.melissaledge_c.specs.Requests.{asked_of, entry_given, entry_of, optional_asid, optional_word, what_of};

@@ -1,4 +1,4 @@
-//! The commands that tell of a file what its replies don't.
+//! The commands that say of a file what its replies don't.
 
 use crate::verdict::Verdict;
 use scenario::{Inspection, inspect_command};

@@ -2,11 +2,10 @@
 
 use crate::shootdown::{INVALID, superpage, two_harts};
 use crate::verdict::Verdict;
-use board::Board;
+use board::{Board, ends};
 use harts::{LiveFault, LiveReply, LiveReport, OpenGate, run_live};
 use history::{LiveStep, Reply, Scope};
 use pte::{Access, Ctx, Mode, Page, PteFlags, Scheme, What};
-use board::ends;
 use shoot::Request;
 use spaces::{Config, Place};
 use std::alloc::{AllocError, Global};
@@ -108,7 +107,7 @@ fn is_shot_down(report: &LiveReport) -> bool {
     is_first && report.setup.as_slice() == setup.as_slice()
 }
 
-/// The run, if setup's harts are there and there are no more scripts than harts.
+/// The run, if setup's harts exist and there are no more scripts than harts.
 fn live_run<R: Threads + Wait + Sync>(
     rt: &R,
     alloc: Global,

@@ -2,8 +2,8 @@
 //! go, and prints a line for each: whether it answered as usual, found no memory, or answered
 //! anything else. The status is 5 if one of them found no memory, else 0.
 //! `scripts/refuse_memory.sh` runs it once for each of its requests for memory, which is then
-//! refused. With the word `scarce` it makes each call anew with ever more memory, from none on,
-//! until it answers as usual.
+//! refused. With the word `scarce` it repeats each call with ever more memory, from none on, until
+//! it answers as usual.
 #![tactic(auto)]
 
 mod calls;

@@ -1,4 +1,4 @@
-//! Memory that ends: all of it is held by blocks that nobody uses, but for so many bytes.
+//! Memory that ends: all of it is held by blocks that nobody uses, but for a number of bytes.
 
 use crate::calls::Call;
 use crate::verdict::Verdict;
@@ -7,8 +7,8 @@ use std::alloc::{AllocError, Global};
 use std::sync::Wait;
 use std::thread::Threads;
 
-/// Blocks are of so many bytes: powers of two from 1 TiB, which is more than a machine has, down to
-/// 2 KiB; and below that each size which an allocator may keep apart once it was given back.
+/// The sizes of blocks in bytes: powers of two from 1 TiB, which is more than a machine has, down
+/// to 2 KiB; and below that each size which an allocator may keep apart once it was given back.
 const LARGEST_POWER: u32 = 40;
 
 const SMALLEST_POWER: u32 = 11;
@@ -20,13 +20,13 @@ const SMALL_SIZES: usize = 80;
 /// How many blocks are held at most. Of blocks of 8 GiB an address space of 47 bits takes 16,384.
 const MOST_BLOCKS: usize = 1 << 16;
 
-/// What the calls may use is taken first, as so many blocks of 64 KiB, and then given back: 1 GiB,
-/// since blocks that an allocator keeps apart lie between the others.
+/// What the calls may use is taken first, as this many blocks of 64 KiB, and then given back:
+/// 1 GiB, since blocks that an allocator keeps apart lie between the others.
 const ROOM_BLOCKS: usize = 1 << 14;
 
 const ROOM_BLOCK: usize = 1 << 16;
 
-/// So many bytes of the stack are used before memory ends, since a stack can't grow after that.
+/// This many bytes of the stack are used before memory ends, since a stack can't grow after that.
 const STACK: usize = 1 << 20;
 
 /// How often a call is made at most. What is left free grows by a grain from one to the next, and
@@ -110,7 +110,7 @@ impl Hoard {
         self.blocks.len() == self.blocks.capacity()
     }
 
-    /// Takes a block of so many bytes. Whether there was one, and room for it.
+    /// Takes a block of this many bytes. Whether there was one, and room for it.
     fn take(&mut self, alloc: Global, bytes: usize) -> bool {
         if self.is_full() {
             return false;
@@ -121,7 +121,7 @@ impl Hoard {
         }
     }
 
-    /// Takes blocks of so many bytes until there is none.
+    /// Takes blocks of this many bytes until there is none.
     fn take_each(&mut self, alloc: Global, bytes: usize) {
         for _ in 0..MOST_BLOCKS {
             if !self.take(alloc, bytes) {
@@ -140,7 +140,7 @@ impl Hoard {
         }
     }
 
-    /// Makes a call where no more than so many bytes are free. `None` if that many can't be left.
+    /// Makes a call where no more than `bytes` bytes are free. `None` if that many can't be left.
     fn make<R: Threads + Wait + Sync>(
         &mut self,
         rt: &R,

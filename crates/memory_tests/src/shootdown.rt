@@ -1,5 +1,5 @@
 //! A shootdown of a page of 2 MiB between two harts, event by event, with the reply to each; and a
-//! space that is retired and created anew.
+//! space that is retired and created again.
 
 use arrayvec::ArrayVec;
 use history::{Event, Refusal, Reply};
@@ -101,7 +101,7 @@ const CREATE: Event = Event::Create {
 pub const COUNT: usize = 27;
 
 /// The page is mapped, used by hart 1, unmapped and shot down; then space 1 is retired, given back
-/// and created anew.
+/// and created again.
 pub fn events(page: Page) -> [Event; COUNT] {
     [
         map(page),

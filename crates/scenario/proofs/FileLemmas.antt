@@ -120,7 +120,7 @@ unread_ends job left (troubles.Refused fault) out h =
     subst (λ f. (bytes : List ℕ) × AreLeft left bytes × EndsAs job bytes (ending_of (troubles.Refused f)) out out) (sym h)
     (any.0, any.1, record { suits = tt; leaves = Keeps-refl out })
 
--- a trouble is told as it is, or as no memory
+-- a trouble is reported as it is, or as no memory
 pub told_itself : (trouble : Trouble) → IsToldAs (ending_of trouble) (ending_of trouble)
 told_itself troubles.Usage = inl refl
 told_itself troubles.Unreadable = inl refl

@@ -114,7 +114,7 @@ explained_failure file failure status old new r = elim r.is_told [
   | inr is ↦ record { told = no_memory; is_told = inr refl; status_is = rw is at r.status_is; tells = rw is at r.tells }
 ]
 
--- a fault that was explained is told by the same line, at the same status
+-- a fault that was explained is reported by the same line, at the same status
 pub explained_report : (file : List ℕ) (fault : Fault) (status : ℕ) (old new : Option (List ℕ)) → Reports file (ending_of_fault fault) status old new → Reports file (ending_of_finding (Faulty fault)) status old new
 explained_report file faults.NotToml status old new r = explained_failure file _ status old new r
 explained_report file (faults.Key name) status old new r = explained_failure file _ status old new r
@@ -128,7 +128,7 @@ explained_report file faults.NoMemory status old new r = r
 pub used_reported : (file : List ℕ) (err : Option (List ℕ)) → Reports file stale_used 1 err err
 used_reported file err = record { told = stale_used; is_told = refl; status_is = refl; tells = (0, Appends-nil err) }
 
--- ---- what is told by a check
+-- ---- what a check reports
 told_none : (first : Option Failure) (fault : Option Fault) → option_map failure_of fault ≡ option_map Some first → (first ≡ None) ↔ (fault ≡ None)
 told_none None None is = (λ h. refl, λ h. refl)
 told_none None (Some fault) is = (λ h. cc, λ h. cc)

@@ -1,4 +1,4 @@
--- Whether a stale mapping is used, by what is told of a run.
+-- Whether a stale mapping is used, by what is reported of a run.
 use Rattle.std.proofs.Common.{◌≡◌, ◌∙◌, ℕ, zero, suc, ◌<◌, Bool, true, false, List, [], ◌∷◌, Result, Ok, inl, inr, ap, sym, refl, arith}
 use Rattle.std.specs.Prelude.{◌↔◌, IsTrue, Contains}
 use Rattle.std.proofs.lemmas.Bool.{cases_Bool, true≢false}
@@ -18,7 +18,7 @@ use Rattle.files.specs.Faults.{Failure}
 use Rattle.files.specs.RunFile.{RunPlan}
 use Rattle.scenario.specs.Inspections.{finding_by_use, IsStaleFound}
 
--- an item that is a use, and one that tells of a use
+-- an item that is a use, and one that reports a use
 use_in : (item : StaleItem) → is_use item ≡ true → (use_ : StaleUse) × (item ≡ Used use_)
 use_in (Became became) is = cc
 use_in (Used use_) is = (use_, refl)
@@ -38,7 +38,7 @@ counted_is_there (at ∷ items) some = elim (cases_Bool (is_use at.item)) [
       (rest.0, rest.1, (suc rest.2.0, omega (arith, rest.2.1), rest.2.2), rest.3)
 ]
 
--- and one that is there is counted
+-- and one that is in the list is counted
 there_is_counted : (items : List StaleAt) (at : StaleAt) → Contains items at → is_use at.item ≡ true → 0 < uses_in items
 there_is_counted [] at (k, below, is) on = absurd (omega (arith, below))
 there_is_counted (x ∷ items) at (zero, below, is) on =

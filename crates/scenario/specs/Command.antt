@@ -53,7 +53,7 @@ StartsThreads (Plain which) = ⊥
 StartsThreads Live = Unit {0}
 StartsThreads (Inspect inspection) = ⊥
 
--- whether it tells what is wrong with a faulty file, and not only its first fault
+-- whether it says what is wrong with a faulty file, and not only its first fault
 abbrev pub Explains : Job → Type 0
 Explains (Inspect Stale) = ⊥
 Explains (Inspect Show) = ⊥
@@ -71,7 +71,7 @@ IsPrinted (Inspect Show) bytes = inspected_fault Show bytes ≡ None
 IsPrinted (Inspect Draw) bytes = inspected_fault Draw bytes ≡ None
 IsPrinted (Inspect Check) bytes = Unit {0}
 
--- whether its status tells that stale mappings were used, and they were
+-- whether its status says that stale mappings were used, and they were
 abbrev pub FindsUses : Job → List ℕ → Type 0
 FindsUses (Inspect Stale) bytes = UsesOf (run_file bytes)
 FindsUses (Inspect Show) bytes = ⊥
@@ -163,13 +163,13 @@ pub record EndsAs (job : Job) (bytes : List ℕ) (ending : Ending)
   pub suits : Suits job bytes ending
   pub leaves : Leaves (FileLines job bytes) ending old new
 
--- what is told of an ending: itself, or that there was no memory for its line, if it has one
+-- what is reported of an ending: itself, or that there was no memory for its line, if it has one
 abbrev pub IsToldAs : Ending → Ending → Type 0
 IsToldAs done told = told ≡ done
 IsToldAs stale_used told = told ≡ stale_used
 IsToldAs ending told = (told ≡ ending) ⊎ (told ≡ no_memory)
 
--- the status is that of what is told, and its line was written as far as standard error took it
+-- the status is that of what is reported, and its line was written as far as standard error took it
 pub record Reports (file : List ℕ) (ending : Ending) (status : ℕ)
     (old new : Option (List ℕ)) : Type 0 where
   pub told : Ending

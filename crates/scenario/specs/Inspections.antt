@@ -42,7 +42,7 @@ abbrev pub finding_of : Option Fault → Finding
 finding_of None = Nothing
 finding_of (Some fault) = Faulty fault
 
--- what is told of a text with this first fault, and that fault, if there is one
+-- what is reported of a text with this first fault, and that fault, if there is one
 abbrev pub IsChecked : List ℕ → Option Failure → List ℕ → Finding → Type 0
 IsChecked text first lines Nothing = (first ≡ None) × TellsFaults text first lines
 IsChecked text first lines StaleUsed = ⊥

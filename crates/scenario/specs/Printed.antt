@@ -8,7 +8,7 @@ use Rattle.stale.specs.declared.items.StaleAt.{StaleAt}
 use Rattle.stale.specs.Told.{BecomesBy, EntryBecomesBy, InOrder, IsToldBecoming, IsToldEntry, IsToldOrder, IsToldUse, OpensBy, TellsOnce, UsedBy}
 use Rattle.scenario.specs.StaleLines.{stale_lines, uses_in}
 
--- the lines are those of items that tell each mapping that becomes stale and each stale one that is
+-- the lines are those of items that name each mapping that becomes stale and each stale one that is
 -- used, and no other, by the number of the step and in the order of the steps; of each step there
 -- is one item for each entry of a hart some of whose mappings become stale, and at most one use; so
 -- the numbers in the last line are those of such entries, step by step, and of uses; and `used`

@@ -34,7 +34,7 @@ PrintsReplies plan lines = lines ≡ reply_lines (due_replies (setup_of plan.con
 
 -- a run of the plan may answer so: each step of the setup was made and has its reply, each hart has
 -- answered its script, up to its end or to the step before which it was halted, and each mailbox is
--- told of once, by sender and then by receiver
+-- reported once, by sender and then by receiver
 pub record AreAnswers (plan : LivePlan) (setup : List LiveReply) (scripts : List (List LiveReply))
     (pairs : List PairReport) : Type 0 where
   pub setup_count : length setup ≡ length plan.setup

@@ -1,4 +1,4 @@
-//! The commands that tell of a file what its replies don't, over any reader and writers.
+//! The commands that say of a file what its replies don't, over any reader and writers.
 ghost use Rattle.std.specs.Prelude.{◌≡◌, ◌+◌, List, ℕ, IfErr, IfOk, string_bytes};
 ghost use Rattle.files.specs.Faults.{fault_in};
 ghost use Rattle.files.specs.declared.fault.Fault.TheVariants.{NoMemory};
@@ -13,13 +13,12 @@ ghost use Rattle.scenario.specs.Limits.{most_bytes};
 use crate::input::read_file;
 use crate::output::write_whole;
 use crate::program::{DONE, Inspection, report};
+use crate::stale_texts::stale_text;
 use crate::trouble::Trouble;
 use checks::check_text;
 use draw::draw_text;
-use files::read_run;
-use files::Fault;
+use files::{Fault, read_run};
 use show::show_text;
-use crate::stale_texts::stale_text;
 use std::alloc::Global;
 use std::io::{Read, Write};
 
@@ -151,7 +150,7 @@ fn inspection_of_bytes(
     }
 }
 
-/// Reads a file, inspects it, and writes what is told of it.
+/// Reads a file, inspects it, and writes what the inspection reports.
 fn run<R: Read, W: Write>(
     alloc: Global,
     inspection: Inspection,

@@ -27,19 +27,20 @@ mod words;
 
 pub use command_line::{Ask, NoWords, answer_words, ask_of};
 pub use ending_laws::{what_a_status_says, worked_faults, worked_reports};
-pub use files::{first_wrong_step, worked_turns};
+pub use files::{
+    Fault, first_wrong_step, least_unknown_key, mode_is_sv39_by_default, worked_modes, worked_turns,
+};
 pub use format_laws::worked_endings;
 pub use inspect_program::inspect_command;
-pub use files::{Fault, least_unknown_key, mode_is_sv39_by_default, worked_modes};
 pub use limits::worked_limit;
 pub use lines::one_text;
 pub use live_program::live_command;
 pub use live_texts::live_lines;
 pub use print_laws::{one_print, worked_prints};
 pub use program::{Inspection, Job, Which, command};
+pub use spaces::limits_are_checked;
 pub use stale_items::stale_lines;
 pub use stale_texts::{StaleText, stale_text};
-pub use spaces::limits_are_checked;
 pub use steps::StepFault;
 pub use system::start;
 pub use texts::{run_text, walk_text};

@@ -10,13 +10,12 @@ ghost use Rattle.scenario.specs.Prints.{AreAnswers, IsUnprinted, IsUnstarted, Li
 ghost use Rattle.scenario.specs.declared.program.Job.TheVariants.{Live};
 
 use crate::input::read_file;
+use crate::live_texts::live_lines;
 use crate::output::write_whole;
 use crate::program::{DONE, report};
 use crate::trouble::Trouble;
-use files::{LiveScenario, read_live};
+use files::{Fault, LiveScenario, read_live};
 use harts::{Gate, LiveFault, LiveReport, run_live};
-use files::Fault;
-use crate::live_texts::live_lines;
 use std::alloc::Global;
 use std::io::{Read, Write};
 use std::sync::Wait;
@@ -116,7 +115,7 @@ fn run<T: Threads + Wait + Sync, R: Read, W: Write, G: Gate + Sync>(
 /// Does `live` on the file that `input` reads, and answers the status of the program: the harts
 /// make the steps of the setup one after the other, then each hart is a thread and makes the steps
 /// of its script, and after their end what each step answered and what each mailbox did goes to
-/// `out`. `gate` is asked before each step of a script, and told after it.
+/// `out`. `gate` is asked before each step of a script, and called after it.
 ///
 /// 0 done, 2 not read, too large, or not TOML, 3 a refused scenario, 4 the output failed, 5 no
 /// memory or no thread. At all but 0 one line goes to `err`, as far as it takes it; its own faults

@@ -44,7 +44,7 @@ pub enum Job {
     Plain(Which),
     /// `live`: runs scripts of harts, each on a thread of its own.
     Live,
-    /// Tells of a file what its replies don't.
+    /// Says of a file what its replies don't.
     Inspect(Inspection),
 }
 

@@ -135,7 +135,7 @@ fn push_last(text: &mut String, items: &[StaleAt]) -> Result<(), AllocError>
 }
 
 /// The lines of `stale`: one for each item, with the number of its step, and a last one with how
-/// many items tell of mappings that became stale and how many are uses.
+/// many items are mappings that became stale and how many are uses.
 pub fn stale_lines(alloc: Global, items: &[StaleAt]) -> Result<String, AllocError>
     ensures { IfOk result (λ text. string_bytes text ≡ stale_lines items.now) }
 {

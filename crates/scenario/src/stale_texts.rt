@@ -6,8 +6,7 @@ ghost use Rattle.files.specs.declared.fault.Fault.TheVariants.{NoMemory};
 ghost use Rattle.scenario.specs.Printed.{Prints};
 
 use crate::stale_items::{stale_lines, uses_in};
-use files::RunScenario;
-use files::Fault;
+use files::{Fault, RunScenario};
 use spaces::OpenFault;
 use stale::stale_report;
 use std::alloc::Global;
@@ -22,7 +21,7 @@ pub struct StaleText {
     pub is_used: bool,
 }
 
-/// Opens the machine of a scenario, does its steps, and tells what becomes stale and what stale
+/// Opens the machine of a scenario, does its steps, and lists what becomes stale and what stale
 /// mappings are used. `NoMemory`: there is no memory for the machine or the lines.
 pub fn stale_text(alloc: Global, scenario: &RunScenario) -> Result<StaleText, Fault>
     ensures prints { IfOk result (λ printed. Prints

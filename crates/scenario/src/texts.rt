@@ -10,9 +10,8 @@ ghost use Rattle.scenario.specs.Output.{EndsBy, WritesAll};
 ghost use Rattle.files.specs.WalkFile.{walk_scenario_of};
 
 use crate::output::write_whole;
-use files::{RunScenario, read_run, read_walk};
+use files::{Fault, RunScenario, read_run, read_walk};
 use history::Reply;
-use files::Fault;
 use lines::{reply_lines, walk_lines};
 use spaces::OpenFault;
 use std::alloc::Global;

@@ -65,7 +65,7 @@ byte_read : (set : List Bool) → byte_of (harts_where (contains set)) ≡ byte_
 unfolding byte_of
 byte_read set = refl
 
--- bit h of the byte of a set tells whether hart h is in the set
+-- bit h of the byte of a set says whether hart h is in the set
 pub bit_told : (set : List Bool) (hart : ℕ) → hart < MAX_HARTS → eqb (bit_at (byte_of set) hart) 1 ≡ contains set hart
 unfolding bits_agree
 bit_told set hart below =

@@ -1,4 +1,4 @@
--- The tickets of a hart: what each tells, what an opening answers, and what each call leaves.
+-- The tickets of a hart: what each says, what an opening answers, and what each call leaves.
 use Rattle.std.specs.Prelude.{◌≡◌, ◌<◌, ℕ, Bool, true, false, List, Option, Some, None, is_some, is_none, Result, Ok, Err, IfSome, IsTrue, ◌==◌, slice_get, slice_set, length, position, replicate, if◌then◌else◌}
 use Rattle.pte.specs.declared.address.What.{What}
 use Rattle.shoot.specs.HartSet.{contains, difference, is_empty, byte_of, harts_in, no_harts}
@@ -30,7 +30,7 @@ ticket_at table number = if_open (slice_get table.tickets number)
 abbrev pub is_open : TicketTable → ℕ → Bool
 is_open table number = is_some (ticket_at table number)
 
--- what an open ticket tells of a hart; no for a number that is free
+-- what an open ticket says of a hart; no for a number that is free
 abbrev pub tells : (Ticket → List Bool) → Option Ticket → ℕ → Bool
 tells set None hart = false
 tells set (Some ticket) hart = contains (set ticket) hart
@@ -89,7 +89,7 @@ with_acked home from ticket = record ticket {
   collected = if from == home then slice_set ticket.collected from true else ticket.collected;
 }
 
--- a ticket once the acknowledgement of a hart is collected, if it is there
+-- a ticket once the acknowledgement of a hart is collected, if the hart has acknowledged
 abbrev pub with_collected : ℕ → Ticket → Ticket
 with_collected from ticket = record ticket {
   collected = if contains ticket.acked from then slice_set ticket.collected from true

@@ -22,7 +22,7 @@ mailbox_row a b c d = IsLawful 2
     ∷ Post c (Err (Full, c)) ∷ Post b (Ok tt) ∷ Post a (Ok tt) ∷ [])
 
 -- hart 0 names itself and hart 1: its own acknowledgement is collected at once, that of hart 1 once
--- it is there
+-- hart 1 has acknowledged
 unfoldable pub own_acked : TicketTable
 own_acked = after_acked (after_open (no_tickets 0) All 0x3) 0 0
 
@@ -88,8 +88,8 @@ two_tickets_row = (open_answer (no_tickets 2) 0x3 ≡ Err HomeNotNamed)
     × (progress_at (after_collect acked_by_7 0 7) 0 ≡ Done)
     × (finish_answer (after_collect acked_by_7 0 7) 0 ≡ Ok tt)
 
--- what is told of two open tickets of hart 2, and of two harts, is told apart: each of these tests
--- gives both answers
+-- two open tickets of hart 2 are told apart, and so are two harts: each of these tests gives both
+-- answers
 unfoldable pub two_open : TicketTable
 two_open = after_acked (after_posted (after_open first_opened All 0x4) 0 7) 0 2
 
@@ -114,7 +114,8 @@ who_is_collected = marks ticket_collected ≡ true ∷ false ∷ false ∷ false
 abbrev pub one_is_done : Type 0
 one_is_done = map (is_done_at (after_acked two_open 1 2)) (0 ∷ 1 ∷ []) ≡ false ∷ true ∷ []
 
--- what is asked is told by its number, and what was said of a number is not said of a later ticket
+-- what a ticket asks is found by its number, and what was said of a number is not said of a later
+-- ticket
 unfoldable pub alone : TicketTable
 alone = after_open (no_tickets 0) (SpaceOf 1) 0x1
 
@@ -134,7 +135,7 @@ abbrev pub only_who_was_posted_to : Type 0
 only_who_was_posted_to =
     ticket_posted (after_posted (after_open (no_tickets 0) All 0xF) 0 3) 0 2 ≡ false
 
--- the tickets of hart 0 once so many were opened, of which each names it alone
+-- the tickets of hart 0 once this many were opened, of which each names it alone
 unfoldable pub opened : ℕ → TicketTable
 opened zero = no_tickets 0
 opened (suc n) = after_open (opened n) All 0x1

@@ -7,7 +7,7 @@ ghost use Rattle.shoot.specs.Acknowledgement.{IsAskable, acknowledgement, number
 use crate::request::Request;
 use pte::{PAGE_BYTES, Page, What};
 
-/// How many bits of a page's address tell the page: bits 47 to 12.
+/// How many bits of a page's address identify the page: bits 47 to 12.
 const NUMBER_BITS: u32 = 36;
 
 /// An acknowledgement by its word: bit 63 is 1, bits 55 and 54 are the kind, 53 and 52 the size of

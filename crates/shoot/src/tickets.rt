@@ -247,8 +247,8 @@ impl Tickets {
         self.replace(ticket, open);
     }
 
-    /// Collects the acknowledgement of a hart that an open ticket names, if it
-    /// is there, and tells how far the ticket is then.
+    /// Collects the acknowledgement of a hart that an open ticket names, if there is one, and
+    /// answers how far the ticket is then.
     pub fn collect(&mut self, ticket: u32, from: u8) -> Collected
         requires { IsTrue (names self.old ticket from) }
         ensures answer { result ≡ progress_at self.new ticket }

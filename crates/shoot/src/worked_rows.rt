@@ -23,7 +23,7 @@ pub fn worked_tickets()
     ensures what_is_asked { rows.what_is_asked }
 {}
 
-/// What is told of two open tickets and of two harts.
+/// What the marks say of two open tickets and of two harts.
 #[tactic(auto, using(crate::proofs::WorkedRows::open_numbers, crate::proofs::WorkedRows::who_is_named, crate::proofs::WorkedRows::who_was_posted_to, crate::proofs::WorkedRows::who_acknowledged, crate::proofs::WorkedRows::who_is_collected, crate::proofs::WorkedRows::one_is_done, crate::proofs::WorkedRows::only_who_was_posted_to))]
 pub fn worked_marks()
     ensures open_numbers { rows.open_numbers }
@@ -35,8 +35,8 @@ pub fn worked_marks()
     ensures only_who_was_posted_to { rows.only_who_was_posted_to }
 {}
 
-/// Which number is opened, and that nothing is told of a later ticket that was said of an earlier
-/// one with its number.
+/// Which number is opened, and that what was said of an earlier ticket is not said of a later one
+/// with its number.
 #[tactic(auto, using(crate::proofs::WorkedRows::not_acked_again, crate::proofs::WorkedRows::not_collected_again, crate::proofs::WorkedRows::last_ticket, crate::proofs::WorkedRows::no_ticket, crate::proofs::WorkedRows::home_before_number, crate::proofs::WorkedRows::lowest_is_opened))]
 pub fn worked_numbers()
     ensures not_acked_again { rows.not_acked_again }

@@ -36,7 +36,7 @@ with_entry opening hart e o xs ys x some held made is item =
       ]),
     )
 
--- what is told of the entries, and of the harts, below a number
+-- what is reported of the entries, and of the harts, below a number
 module _ (opening : Opening) (old : List StaleAt) where
   abbrev pub ToldEntries : ℕ → List Entry → ℕ → List StaleAt → Type 0
   ToldEntries hart entries n now = (item : StaleAt) → Contains now item ↔ (Contains old item ⊎ IsOfEntries opening hart entries n item)

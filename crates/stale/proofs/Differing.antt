@@ -190,7 +190,7 @@ module _ (C : Setup) (setup : IsSetup C) where
       subst (λ a. AreUnmatched a w.va (entries_of C (turn ∷ H) h)) (sym (same_asid turn.event turn.reply H h w l.0 l.1 e))
       (entries_each C turn.event turn.reply H h (λ x. is_match asid w.va x ≡ false) before (λ x f. absurd (no_fill turn H h x w f e)))
 
-  -- so what the walk fills is not there
+  -- so no entry is the one that the walk fills
   fill_is_new : (H : History) (h : ℕ) (w : Walking) (found : Found) → Lawful C H → walk_of H h ≡ Some w → outcome_of C H (space_of H h) w ≡ Ok found
       → All (λ x. x ≢ entry_of (asid_of C H (space_of H h)) found) (entries_of C H h)
   fill_is_new H h w found l walks finds =

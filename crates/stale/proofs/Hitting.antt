@@ -1,4 +1,4 @@
--- What a hit tells of the history before it, and the mapping that it uses.
+-- What a hit says of the history before it, and the mapping that it uses.
 use Rattle.std.proofs.Common.{◌≡◌, ℕ, ◌+◌, ◌%◌, ◌<◌, true, cond, not, length, Option, Some, None, List, refl, ap, sym, ◌∙◌, subst}
 use Rattle.std.specs.Prelude.{nat_lt, ◌↔◌}
 use Rattle.std.proofs.lemmas.Bool.{and_parts, false≢true, not-false, ltb-true}
@@ -53,7 +53,7 @@ matched : (va : ℕ) (access : Access) (ctx : Ctx) (o : Option Entry) (r : Reply
 matched va access ctx None r e hit = absurd (false≢true (ap is_hit e ∙ hit))
 matched va access ctx (Some entry) r e hit = (entry, refl, passes_of (flags_fault access ctx entry.flags) access (address_of entry va) r e hit)
 
--- the hart is there, the address is canonical, and an entry matches that answers the access
+-- the hart exists, the address is canonical, and an entry matches that answers the access
 pub record HitBy (C : Setup) (H : History) (hart va : ℕ) (access : Access) (ctx : Ctx) : Type 0 where
   pub below : hart < C.harts
   pub canonical : is_canonical C.layout.scheme va ≡ true

@@ -1,4 +1,4 @@
--- Nothing is told twice: the entries of a TLB differ, and so do its harts, the steps, and what
+-- Nothing is reported twice: the entries of a TLB differ, and so do the harts, the steps, and what
 -- becomes stale from what is used.
 use Rattle.std.proofs.Common.{refl, ◌≡◌, ℕ, ◌+◌, ◌<◌, ◌≤◌, Bool, true, false, List, [], get_or, ◌∷◌, ◌++◌, length, Option, Some, None, slice_get, ap, sym, ◌∙◌, subst, ◌⊎◌, inl, inr, arith}
 use Rattle.std.specs.Prelude.{All, ◌↔◌, Contains}
@@ -33,7 +33,7 @@ once_use used step xs ys is = once_push (λ item. IsOfUse (Some used) step item)
 pub of_entry : (opening : Opening) (hart : ℕ) (e : Entry) (o : Option Entry) (x : StaleAt) → o ≡ Some e → IsHeld opening.change e → x ≡ became_of opening hart e → IsOfEntry opening hart o x
 of_entry opening hart e o x some held made = subst (λ (v : Option Entry). IsOfEntry opening hart v x) (sym some) (record { held = held; is = made })
 
--- what two items of one entry of a hart tell of
+-- two items that are of one entry of a hart name the same hart and the same entry
 of_one : (opening : Opening) (a b : ℕ) (e f : Entry) (x y : StaleAt) → x ≡ became_of opening a e → y ≡ became_of opening b f → AreOfOneStep x y → (a ≡ b) × (e ≡ f)
 of_one opening a b e f x y is_x is_y one = subst (λ (z : StaleAt). AreOfOne (became_of opening a e).item z.item) is_y (subst (λ (z : StaleAt). AreOfOne z.item y.item) is_x one.1)
 
@@ -81,7 +81,7 @@ hold_once C m H st = λ h within.
     let harts : length m.harts ≡ C.harts = ap (λ (D : Setup). D.harts) st.setup in
     subst (λ (es : List Entry). AreDifferent es) (sym (st.harts h (omega (arith, within, harts))).entries) (entries_differ C st.within H h st.lawful)
 
--- what is told of a change is of the step and no use, what is told of a use is of the step and one
+-- an item of a change is of the step and no use, an item of a use is of the step and a use
 abbrev is_used : StaleItem → Bool
 is_used (Became became) = false
 is_used (Used use_) = true
@@ -107,7 +107,7 @@ use_no_change (Became a) (Became b) is_a is_b one = false≢true is_b
 use_no_change (Became a) (Used b) is_a is_b one = one
 use_no_change (Used a) b is_a is_b one = false≢true (sym is_a)
 
--- a step tells nothing twice
+-- a step reports nothing twice
 pub step_once : (m : State) (o : Option Change) (home step : ℕ) (ticket : Option ℕ) (used : Option StaleUse) (old mid new : List StaleAt)
     → ((item : StaleAt) → Contains mid item ↔ (Contains old item ⊎ IsOfChange m o home step ticket item))
     → (HoldOnce m → AddsOnce (λ item. IsOfChange m o home step ticket item) old mid) → AddsOnce (λ item. IsOfUse used step item) mid new
@@ -123,6 +123,6 @@ step_once m o home step ticket used old mid new told first second hold before on
       | inr change ↦ use_no_change x.item item.item (of_change m o home step ticket x change).1 u.1 one.1
     ]))
 
--- what is told up to a step is before the next one
+-- what is reported up to a step is before the next one
 pub before_next : (items : List StaleAt) (last : ℕ) → InOrderTo items last → AreBefore items (last + 1)
 before_next items last told = All-weaker (λ item. item.step ≤ last) (λ item. item.step < last + 1) (λ item le. omega (arith, le)) items told.to

@@ -1,4 +1,4 @@
--- What one step tells is what it makes stale and what it uses.
+-- What one step reports is what it makes stale and what it uses.
 use Rattle.std.proofs.Common.{◌≡◌, ℕ, ◌<◌, Bool, true, false, nat_le, ◌*◌, Ok, List, ◌∷◌, length, Option, Some, None, slice_get, refl, ap, sym, ◌∙◌, subst, ◌⊎◌, inl, inr, arith}
 use Rattle.std.specs.Prelude.{◌↔◌, Contains, IfSome}
 use Rattle.std.proofs.lemmas.Bool.{cases_Bool, cases_lt, false≢true}
@@ -62,7 +62,7 @@ held_pages C H h e l at =
     (page_in_widest C.layout.scheme (entry_of (asid_of C s.earlier (space_of s.earlier h)) f.found).page
     (entry_matches C.layout.scheme (words_of C s.earlier) (root_ppn C.layout (space_of s.earlier h)) f.walk.va f.walk.access f.walk.ctx f.found (asid_of C s.earlier (space_of s.earlier h)) out).0)
 
--- an item of the step that tells it
+-- an item of the step of which T holds
 abbrev pub One : (StaleAt → Type 0) → ℕ → (StaleItem → Type 0) → Type 0
 One A n T = (item : StaleAt) × A item × (item.step ≡ n) × T item.item
 
@@ -297,7 +297,7 @@ module _ (C : Setup) (H : History) (event : Event) (step : ℕ) (now : State) (s
               (tells_it c t h m is_c both.0 (subst (λ (x : Option Change). IsChanged x m) (sym same) both.1)),
         )
 
--- what is told of a change is no use, and names its hart and its ticket
+-- an item of a change is no use, and names its hart and its ticket
 pub change_tells_no_use : (now : State) (o : Option Change) (home step : ℕ) (ticket : Option ℕ) (n h : ℕ) (m : Mapping) → One (IsOfChange now o home step ticket) n (λ item. TellsUse item h m) → ⊥
 change_tells_no_use now None home step ticket n h m one = one.1
 change_tells_no_use now (Some c) home step None n h m one = one.1

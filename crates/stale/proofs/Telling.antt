@@ -1,4 +1,4 @@
--- What is told of a run once some of its events were done.
+-- What is reported of a run once some of its events were done.
 use Rattle.std.proofs.Common.{add-one, ◌≡◌, ℕ, zero, suc, ◌+◌, ◌<◌, ◌≤◌, List, [], ◌∷◌, ◌++◌, length, Some, None, slice_get, ap, sym, ◌∙◌, subst, ◌⊎◌, inl, inr, arith}
 use Rattle.std.specs.Prelude.{◌↔◌}
 use Rattle.std.proofs.lemmas.Bool.{cases_lt}
@@ -27,7 +27,7 @@ pub history_more : (C : Setup) (H : History) (events : List Event) (n : ℕ) (ev
     → history_at C H events (n + 1) ≡ with_turn event (due C (history_at C H events n) event) (history_at C H events n)
 history_more C H events n event e = ap (history_at C H events) (add-one n) ∙ history_next C H events n event e
 
--- what is told is of the events below this number
+-- what is reported is of the events below this number
 abbrev pub AreTold : Setup → History → List Event → ℕ → List UseAt → Type 0
 AreTold C H events i uses = (n h : ℕ) (m : Mapping) → ((n < i) × UsedAt C H events n h m) ↔ IsTold uses n h m
 

@@ -1,4 +1,4 @@
--- What a machine finds of an edit tells what the edit makes stale.
+-- What a machine finds of an edit shows what the edit makes stale.
 use Rattle.std.proofs.Common.{◌≡◌, ℕ, ◌+◌, ◌%◌, true, false, cond, ◌∷◌, Option, Some, None, refl, ap, sym, ◌∙◌, subst}
 use Rattle.std.specs.Prelude.{◌↔◌, IfSome, IfNone}
 use Rattle.pte.specs.Address.{Span, IsPage, pages_of}

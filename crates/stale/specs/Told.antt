@@ -1,5 +1,5 @@
--- What is told of a run: the mappings that become stale step by step, and the stale ones that are
--- used.
+-- What is reported of a run: the mappings that become stale step by step, and the stale ones that
+-- are used.
 use Rattle.std.specs.Prelude.{⊤, ℕ, Bool, false, ◌≡◌, ◌≢◌, ◌+◌, ◌<◌, ◌≤◌, List, ◌∷◌, length, Option, Some, None, slice_get, All, AllPairs, Contains}
 use Rattle.tlb.specs.declared.store.Entry.{Entry}
 use Rattle.walk.specs.Maps.{LiesIn}
@@ -23,7 +23,7 @@ use Rattle.stale.specs.Stale.{BecomesStale}
 use Rattle.stale.specs.Uses.{Tells}
 use Rattle.stale.specs.UseRuns.{due_turn, history_at, UsedAt}
 
--- an item tells that this mapping of a hart becomes stale: it is one of the entry, in the page
+-- an item says that this mapping of a hart becomes stale: it is one of the entry, in the page
 abbrev pub TellsBecoming : StaleItem → ℕ → Mapping → Type 0
 TellsBecoming (Became became) hart m =
     (hart ≡ became.hart) × IsMappingOf became.entry m × LiesIn became.page m.page
@@ -39,19 +39,19 @@ abbrev pub TellsOrder : StaleItem → ℕ → ℕ → Type 0
 TellsOrder (Became became) home ticket = (home ≡ became.home) × (ticket ≡ became.ticket)
 TellsOrder (Used use_) home ticket = ⊥
 
--- or tells of this entry of a hart
+-- or names this entry of a hart
 abbrev pub TellsEntry : StaleItem → ℕ → Entry → Type 0
 TellsEntry (Became became) hart e = (hart ≡ became.hart) × (e ≡ became.entry)
 TellsEntry (Used use_) hart e = ⊥
 
--- some item of the step tells it
+-- T holds of some item of the step
 pub record IsAmong (items : List StaleAt) (n : ℕ) (T : StaleItem → Type 0) : Type 0 where
   pub told : StaleAt
   pub among : Contains items told
   pub step : told.step ≡ n
   pub tells : T told.item
 
--- the items tell that the mapping of the hart becomes stale by event n; that the hart uses it
+-- the items say that the mapping of the hart becomes stale by event n; that the hart uses it
 -- there; and that event n, of this hart, opened an order under this ticket
 abbrev pub IsToldBecoming : List StaleAt → ℕ → ℕ → Mapping → Type 0
 IsToldBecoming items n hart m = IsAmong items n (λ item. TellsBecoming item hart m)
@@ -75,7 +75,7 @@ pub record InOrderTo (items : List StaleAt) (last : ℕ) : Type 0 where
   pub in_order : InOrder items
   pub to : All (λ item. item.step ≤ last) items
 
--- no element of the list is there twice
+-- no element occurs twice in the list
 abbrev pub AreDifferent : {X : Type 0} → List X → Type 0
 AreDifferent xs = AllPairs (λ a b. a ≢ b) xs
 
@@ -89,7 +89,7 @@ AreOfOne _ _ = ⊥
 abbrev pub AreOfOneStep : StaleAt → StaleAt → Type 0
 AreOfOneStep a b = (a.step ≡ b.step) × AreOfOne a.item b.item
 
--- nothing is told twice: no step has two items of one entry of a hart, or two uses
+-- nothing is reported twice: no step has two items of one entry of a hart, or two uses
 abbrev pub TellsOnce : List StaleAt → Type 0
 TellsOnce items = AllPairs (λ a b. ¬ AreOfOneStep a b) items
 
@@ -155,7 +155,7 @@ abbrev pub OpensBy : Setup → History → List Event → ℕ → ℕ → ℕ �
 OpensBy setup history events number home ticket =
     (n : ℕ) × (number ≡ n + 1) × OpensAt setup history events n home ticket
 
--- what is told of an entry that holds the leaf that was changed
+-- what is reported of an entry that holds the leaf that was changed
 abbrev pub became_of : Opening → ℕ → Entry → StaleAt
 became_of opening hart e = record {
   step = opening.step;
@@ -193,8 +193,8 @@ home_in (Unmap hart place page named) = hart
 home_in (Protect hart place page flags named) = hart
 home_in _ = 0
 
--- what is told of an event that changes a leaf, once it was answered: something if it opened an
--- order
+-- what is reported of an event that changes a leaf, once it was answered: something if it opened
+-- an order
 abbrev pub IsOfTicket : State → Change → ℕ → ℕ → Option ℕ → StaleAt → Type 0
 IsOfTicket m change home step None item = ⊥
 IsOfTicket m change home step (Some ticket) item =
@@ -210,8 +210,8 @@ abbrev pub IsOfUse : Option StaleUse → ℕ → StaleAt → Type 0
 IsOfUse None step item = ⊥
 IsOfUse (Some use_) step item = item ≡ record { step = step; item = Used use_ }
 
--- items of this kind are added: where nothing is told twice, and nothing of such an item is told,
--- nothing is told twice afterwards
+-- items of this kind are added: where nothing is reported twice, and nothing of such an item is
+-- reported, nothing is reported twice afterwards
 abbrev pub AddsOnce : (StaleAt → Type 0) → List StaleAt → List StaleAt → Type 0
 AddsOnce IsNew old new =
     TellsOnce old

@@ -29,7 +29,7 @@ pub record UsedAt (setup : Setup) (history : History) (events : List Event) (n h
   pub uses : UsesStale setup (due_turn setup (history_at setup history events n) event)
       (history_at setup history events n) hart m
 
--- it is told
+-- the use is in the list
 pub record IsTold (uses : List UseAt) (n hart : ℕ) (m : Mapping) : Type 0 where
   pub told : UseAt
   pub among : Contains uses told

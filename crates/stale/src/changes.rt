@@ -105,7 +105,8 @@ fn edit_due(
     }
 }
 
-/// The ASID, or every one, of the pages of a place that is there.
+/// The ASID of the pages of a place, or `Some(None)` for every ASID. `None`: the place does not
+/// exist, or is a free space.
 fn reach_in(machine: &Machine, place: Place) -> Option<Option<u16>>
     ensures some { IfSome result (λ reach. (is_place machine.now place ≡ true)
         × (reach ≡ asid_of_place machine.now place)) }

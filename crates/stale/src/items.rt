@@ -1,4 +1,4 @@
-//! What is told of a run: what becomes stale, and what stale mappings are used.
+//! What is reported of a run: what becomes stale, and what stale mappings are used.
 
 use crate::hits::StaleUse;
 use pte::Page;

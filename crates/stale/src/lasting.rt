@@ -125,8 +125,8 @@ fn unmapped_from(
     None
 }
 
-/// A page of 4 KiB, from a number up to another, that the tables do not map as the entry does: no
-/// space is there through which it is reached, or one does not map it so.
+/// A page of 4 KiB, from a number up to another, that the tables do not map as the entry does:
+/// there is no space through which it is reached, or one does not map it so.
 fn unmapped(
     machine: &Machine,
     entry: &Entry,
@@ -147,7 +147,7 @@ fn unmapped(
         return None;
     }
     let memory = machine.memory();
-    // A memory tells here how many spaces there can be.
+    // The contract of `has` says how many spaces a memory can have.
     let _kernel = memory.has(Place::Kernel);
     let mut is_some = false;
     for space in 0..MAX_SPACES as u8 {
@@ -216,7 +216,7 @@ fn has_entry(tlb: &Tlb, entry: &Entry) -> bool
     false
 }
 
-/// Whether a hart is there and its TLB holds the entry.
+/// Whether the hart exists and its TLB holds the entry.
 fn holds(machine: &Machine, hart: u8, entry: &Entry) -> bool
     ensures { IsTrue result ↔ ((hart < length machine.now.harts)
         × Contains (hart_at machine.now hart).entries entry.now) }

@@ -124,7 +124,7 @@ fn is_mapped(machine: &Machine, entry: &Entry, va: u64, access: Access, ctx: Ctx
     ensures { IsTrue result ↔ IsMappedIn machine.now (mapping_of entry.now (page_number va)) }
 {
     let memory = machine.memory();
-    // A memory tells here how many spaces there can be.
+    // The contract of `has` says how many spaces a memory can have.
     let _kernel = memory.has(Place::Kernel);
     let mut is_some = false;
     for space in 0..MAX_SPACES as u8 {

@@ -30,7 +30,7 @@ struct Opening {
     change: Change,
 }
 
-/// Tells what became stale of an entry, if there is one.
+/// Adds what became stale of an entry, if there is one.
 fn tell_entry(
     opening: &Opening,
     hart: u8,
@@ -64,7 +64,7 @@ fn tell_entry(
     Ok(())
 }
 
-/// Tells what became stale of a TLB.
+/// Adds what became stale of a TLB.
 fn tell_tlb(
     opening: &Opening,
     hart: u8,
@@ -87,7 +87,7 @@ fn tell_tlb(
     Ok(())
 }
 
-/// Tells what became stale of each TLB.
+/// Adds what became stale of each TLB.
 fn tell_tlbs(
     machine: &Machine,
     opening: &Opening,
@@ -120,7 +120,7 @@ fn home_of(event: &Event) -> u8
     }
 }
 
-/// Tells what became stale by the change of a leaf, if its event was answered by a ticket.
+/// Adds what became stale by the change of a leaf, if its event was answered by a ticket.
 fn tell_change(
     machine: &Machine,
     change: Option<Change>,
@@ -154,7 +154,7 @@ fn tell_change(
     tell_tlbs(machine, &opening, items)
 }
 
-/// Tells a use, if there is one.
+/// Adds a use, if there is one.
 #[tactic(auto, using(crate::proofs::Once::once_use))]
 fn tell_use(used: Option<StaleUse>, step: usize, items: &mut Vec<StaleAt>) -> Result<(), AllocError>
     ensures told { OnOk result ((item : StaleAtOf) → Contains items.new.items item
@@ -220,7 +220,7 @@ pub fn step_stale(
     Ok(reply)
 }
 
-/// Does the events in order, and tells what becomes stale and what stale mappings are used: items
+/// Does the events in order, and lists what becomes stale and what stale mappings are used: items
 /// in the order of the steps, none of them twice. An error comes only if there is no memory for it.
 pub fn stale_report(
     alloc: Global,

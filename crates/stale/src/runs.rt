@@ -24,7 +24,7 @@ pub struct UseAt {
     pub used: StaleUse,
 }
 
-/// Does one event, and tells what it uses that is stale.
+/// Does one event, and returns what it uses that is stale.
 fn step_use(machine: &mut Machine, event: Event) -> Option<StaleUse>
     ensures stands { (setup : Setup) (history : History) → Stands setup machine.old history
         → Stands setup machine.new (with_turn event (due setup history event) history) }
@@ -36,7 +36,7 @@ fn step_use(machine: &mut Machine, event: Event) -> Option<StaleUse>
     stale_use(machine, &event, &reply)
 }
 
-/// Does the events in order, and tells each use of a stale mapping. An error comes only if there is
+/// Does the events in order, and lists each use of a stale mapping. An error comes only if there is
 /// no memory for one.
 pub fn stale_uses(
     alloc: Global,

@@ -58,7 +58,7 @@ next_same [] = refl
 next_same (w ∷ ws) = refl
 
 module _ (C : Setup) (m : State) (H : History) (st : Stands C m H) (is : IsMachine m) where
-  -- the harts that are there have numbers that a hart can have
+  -- the harts that exist have numbers that a hart can have
   pub hart_below : (h : ℕ) → h < C.harts → h < MAX_HARTS
   hart_below h l = let n = ap (λ (S : Setup). S.harts) st.setup in let few = is.few in omega arith
 

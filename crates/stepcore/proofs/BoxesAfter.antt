@@ -158,7 +158,7 @@ module _ (C : Setup) (m : State) (H : History) (st : Stands C m H) (is : IsMachi
       st.mailboxes s h ls lh
       ∙ ap (λ (n : ℕ). mailbox_with (waiting C H s h) n (is_closed H s h) C.capacity) (sym (counts C (record { event = AckSelf b t; reply = r }) H s h (st.lawful, d)))
 
-  -- a ticket tells whether an acknowledgement can be collected
+  -- a ticket says whether an acknowledgement can be collected
   collectable_with : (o : Option ℕ) (h : ℕ) → h < MAX_HARTS → ((k : ℕ) → o ≡ Some k → (order : Order) × (order_at C H k ≡ Some order))
       → (tells (λ (x : Ticket). x.acked) (ticket_held C H o) h && not (tells (λ (x : Ticket). x.collected) (ticket_held C H o) h)) ≡ is_collectable C H o h
   collectable_with None h l f = refl

@@ -105,7 +105,7 @@ walk_told scheme words root (Some stage) (Some w) at same is =
     let table : stage.table ≡ at.table = cc (is) in
     (w, refl, ap (λ va. table_after scheme words root va w.loads) (sym same.va) ∙ ap (table_after scheme words root stage.va) (sym loads) ∙ leads.1 ∙ ap Some table)
 
--- what is read of an item, or of what stands for one that is not there
+-- what is read of an item, or of what stands for a missing one
 pub read_or : {A B : Type 0} (read : A → B) (item : Option A) (other : A) → unwrap_or (option_map read item) (read other) ≡ read (unwrap_or item other)
 read_or read None other = refl
 read_or read (Some x) other = refl

@@ -74,7 +74,7 @@ setup_stays m n event r f =
     ∙ ap (λ k. setup_with (length m.harts) k n.memory.layout) f.capacity
     ∙ ap (setup_with (length m.harts) m.capacity) f.layout
 
--- each hart stays in a space that is there
+-- each hart stays in a space that exists
 abbrev InSpace : ℕ → HartState → Type 0
 InSpace n hart = hart.space < n
 
@@ -108,7 +108,7 @@ served_space : (serving : Option Service) (hart : HartState) → (with_served se
 served_space None hart = refl
 served_space (Some serving) hart = refl
 
--- a Switch that is accepted goes to a space that is there
+-- a Switch that is accepted goes to a space that exists
 switch_space : (m : State) (hart space : ℕ) (r : Reply) → r ≡ reply_to m (Switch hart space) → is_ok r ≡ true → space < length m.spaces
 switch_space m hart space r e z =
     let a = ok_accepted r z in

@@ -1,4 +1,4 @@
--- Which spaces, places and scopes are there and retire, for a machine that stands at a history and
+-- Which spaces, places and scopes exist and retire, for a machine that stands at a history and
 -- for the history alike.
 use Rattle.std.proofs.Common.{◌≡◌, ℕ, ◌<◌, true, ◌&&◌, not, length, Some, refl, ap, ◌∙◌}
 use Rattle.std.specs.Prelude.{nat_lt}
@@ -69,7 +69,7 @@ module _ (C : Setup) (m : State) (H : History) (st : Stands C m H) where
   scope_retires_same (scopes.Space s) there = retiring_same s (space_below s there)
   scope_retires_same scopes.All there = refl
 
-  -- an edit of a place, a flush of a scope and an event of a space that are there and do not retire
+  -- an edit of a place, a flush of a scope and an event of a space that exist and do not retire
   pub place_there : (place : Place) (r q : Reply) → r ≡ q → refuse (not (answers.is_place m place)) NoSpace (refuse (answers.retires m place) Retiring r)
       ≡ refuse (not (due_tests.is_place C H place)) NoSpace (refuse (due_tests.retires H place) Retiring q)
   place_there place r q e =

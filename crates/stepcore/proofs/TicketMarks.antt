@@ -114,7 +114,7 @@ collected_mark C H s t from k order r z e =
 
 -- ---- the tickets of other orders
 
--- what two histories tell of an order is the same
+-- what two histories say of an order is the same
 pub record SameOrder (C : Setup) (H G : History) (k : ℕ) : Type 0 where
   pub order : order_at C H k ≡ order_at C G k
   pub posted : (h : ℕ) → is_posted H k h ≡ is_posted G k h

@@ -1,4 +1,4 @@
--- The tickets that a history leaves: what each tells, and which table stands after a change at one
+-- The tickets that a history leaves: what each says, and which table stands after a change at one
 -- number.
 use Rattle.std.proofs.Common.{subst, ◌≡◌, ℕ, zero, suc, ◌+◌, ◌<◌, ◌≤◌, Bool, true, false, cond, ◌&&◌, not, List, length, map, Option, Some, None, slice_get, slice_set, refl, ap, sym, ◌∙◌, arith, ltb}
 use Rattle.std.specs.Prelude.{is_some, is_none, unwrap_or}
@@ -107,7 +107,7 @@ pub held_same : (C : Setup) (H G : History) (s : ℕ) → ((t : ℕ) → ticket_
 held_same C H G s same =
     ap (λ (xs : List (Option Ticket)). record { hart = s; tickets = xs }) (map_agree (ticket_of C H s) (ticket_of C G s) 0 MAX_TICKETS (λ n l. same n))
 
--- ---- what a ticket tells
+-- ---- what a ticket says
 
 -- the ticket of an order that is open
 abbrev pub ticket_for : Setup → History → ℕ → Order → Ticket

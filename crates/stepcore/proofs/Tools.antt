@@ -1,4 +1,4 @@
--- Small tools: which harts and places are there for a machine and its setup alike, and whether a
+-- Small tools: which harts and places exist for a machine and its setup alike, and whether a
 -- hart walks or serves.
 use Rattle.pte.specs.declared.scheme.Scheme.{Scheme}
 use Rattle.std.proofs.Common.{◌≡◌, ℕ, ◌<◌, Bool, true, false, ◌&&◌, not, Option, Some, None, refl, ap, sym, ◌∙◌, eqb}
@@ -29,7 +29,7 @@ pub serves_alike : (fenced : Bool) (sent : Option Sent) → is_some (service_wit
 serves_alike fenced None = refl
 serves_alike fenced (Some sent) = refl
 
--- two tests that tell the same
+-- two tests that give the same answer
 pub both_ways : (a b : Bool) → (a ≡ true → b ≡ true) → (b ≡ true → a ≡ true) → a ≡ b
 both_ways true b f g = sym (f refl)
 both_ways false true f g = g refl
@@ -39,14 +39,14 @@ both_ways false false f g = refl
 pub refused_alike : (why : Refusal) (test : Bool) (r q : Reply) → (test ≡ true → r ≡ q) → refuse (not test) why r ≡ refuse (not test) why q
 refused_alike why test r q f = by_test (λ v. refuse (not v) why r ≡ refuse (not v) why q) test f (λ _. refl)
 
--- an event of a hart that is there
+-- an event of a hart that exists
 pub hart_there : (C : Setup) (m : State) (hart : ℕ) (r q : Reply) → setup_in m ≡ bare C → (hart < C.harts → r ≡ q)
     → refuse (not (is_hart (setup_in m) hart)) NoHart r ≡ refuse (not (is_hart C hart)) NoHart q
 hart_there C m hart r q same f =
     ap (λ (D : Setup). refuse (not (is_hart D hart)) NoHart r) same
     ∙ refused_alike NoHart (is_hart C hart) r q (λ t. f (ltb-true hart C.harts t))
 
--- both harts of a pair are there
+-- both harts of a pair exist
 pub record IsPair (C : Setup) (a b : ℕ) : Type 0 where
   pub first : a < C.harts
   pub second : b < C.harts
@@ -59,14 +59,14 @@ pair_is C a b t =
 pub pair_parts : (C : Setup) (a b : ℕ) → not (are_pair C a b) ≡ false → IsPair C a b
 pair_parts C a b e = pair_is C a b (not-false (are_pair C a b) e)
 
--- an event of a pair of harts that are there
+-- an event of a pair of harts that exist
 pub pair_there : (C : Setup) (m : State) (a b : ℕ) (r q : Reply) → setup_in m ≡ bare C → (a < C.harts → b < C.harts → r ≡ q)
     → refuse (not (are_pair (setup_in m) a b)) NoHart r ≡ refuse (not (are_pair C a b)) NoHart q
 pair_there C m a b r q same f =
     ap (λ (D : Setup). refuse (not (are_pair D a b)) NoHart r) same
     ∙ refused_alike NoHart (are_pair C a b) r q (λ t. let p = pair_is C a b t in f p.first p.second)
 
--- an event of a hart that names harts that are there
+-- an event of a hart that names harts that exist
 pub harts_there : (C : Setup) (m : State) (hart named : ℕ) (r q : Reply) → setup_in m ≡ bare C → (hart < C.harts → r ≡ q)
     → refuse (not (is_hart (setup_in m) hart && are_harts (setup_in m) named)) NoHart r ≡ refuse (not (is_hart C hart && are_harts C named)) NoHart q
 harts_there C m hart named r q same f =

@@ -48,7 +48,7 @@ use Rattle.stepcore.specs.declared.serving.Serving.{Serving as Service}
 use Rattle.stepcore.specs.declared.space_state.SpaceState.{SpaceState}
 use Rattle.stepcore.specs.State.{State, HartState, setup_in, words_in, holders_in, hart_at, space_at, tickets_at, mailbox_at}
 
--- the phase of a space, and which spaces, places and scopes are there
+-- the phase of a space, and which spaces, places and scopes exist
 abbrev pub is_free_phase : Phase → Bool
 is_free_phase phase.Free = true
 is_free_phase _ = false
@@ -63,7 +63,7 @@ is_number m space = nat_lt space (length m.spaces)
 abbrev pub is_space : State → ℕ → Bool
 is_space m space = is_number m space && not (is_free_phase (space_at m space).phase)
 
--- the ASID of a space that is there and not free
+-- the ASID of a space that exists and is not free
 abbrev pub asid_of_space : State → ℕ → Option ℕ
 asid_of_space m space = if is_space m space then Some (space_at m space).asid else None
 
@@ -117,7 +117,7 @@ begin_answer m hart va access ctx =
     ∷ when (is_some hart.serving) Serving ∷ [])
     (access_answer m hart va access ctx)
 
--- Load: what the word of now makes of the walk
+-- Load: what the current word makes of the walk
 abbrev pub next_of : Tables → Stage → Progress
 next_of words walk = load_of walk (word_at words walk.va walk.level walk.table)
 
@@ -142,7 +142,7 @@ opening_answer (Err fault) = reply.Refused (opening_refusal fault)
 abbrev pub open_in : State → ℕ → ℕ → Reply
 open_in m hart named = opening_answer (open_answer (tickets_at m hart) named)
 
--- an edit of a place: that is there and does not retire, then the rest
+-- an edit of a place: the place exists and does not retire, then the rest
 abbrev pub at_place : State → Place → Reply → Reply
 at_place m place rest =
     first_of (

@@ -164,7 +164,7 @@ abbrev pub put_mailbox : State → ℕ → ℕ → Bool → MailboxState → Lis
 put_mailbox m sender receiver test mailbox =
     if test then slice_set m.mailboxes (mailbox_index sender receiver) mailbox else m.mailboxes
 
--- the acknowledgement of a hart is there, and not collected yet
+-- a hart has acknowledged, and the acknowledgement is not collected yet
 abbrev pub is_collectable : TicketTable → ℕ → ℕ → Bool
 is_collectable tickets ticket from =
     ticket_acked tickets ticket from && not (ticket_collected tickets ticket from)

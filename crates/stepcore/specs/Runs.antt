@@ -43,7 +43,7 @@ entries_in m hart =
 abbrev pub after_run : List Event → List Reply → List Reply → History → History
 after_run events old new history = with_turns events (appended old new) history
 
--- these are the first so many of the replies that are due to the events
+-- these are the first of the replies that are due to the events
 abbrev pub AreDue : Setup → History → List Event → List Reply → Type 0
 AreDue setup history events replies =
     replies ≡ take (length replies) (due_replies setup history events)
@@ -66,7 +66,7 @@ IsClear setup history m =
     (order hart : ℕ) → hart < setup.harts → Clear setup history (entries_in m hart) order hart
 
 -- no TLB of a hart that an unmapping names translates an address of its page once its sender was
--- told that it is done, until the page is mapped anew
+-- answered Done, until the page is mapped anew
 abbrev pub IsClearOnceDone : Setup → History → State → Type 0
 IsClearOnceDone setup history m =
     (order hart : ℕ) → hart < setup.harts

@@ -41,7 +41,7 @@ words_in m = memory_words m.memory
 abbrev pub holders_in : State → Holders
 holders_in m = holders_of m.memory
 
--- the space of a number; one that is not there is free
+-- the space of a number; one that does not exist is free
 abbrev pub no_space : SpaceState
 no_space = record { asid = 0; phase = phase.Free }
 
@@ -56,7 +56,7 @@ space_at m space = unwrap_or (slice_get m.spaces space) no_space
 abbrev pub new_hart : Scheme → HartState
 new_hart scheme = record { scheme = scheme; space = 0; walk = None; serving = None; entries = [] }
 
--- one that stands for a hart that is not there
+-- one that stands for a hart that does not exist
 abbrev pub idle_hart : HartState
 idle_hart = new_hart Sv39
 
@@ -88,7 +88,7 @@ setup_in m = record {
 }
 
 -- what every machine keeps: as many tables of tickets as harts, a mailbox for each pair of harts,
--- as many spaces as roots, and each hart in a space that is there
+-- as many spaces as roots, and each hart in a space that exists
 pub record IsMachine (m : State) : Type 0 where
   pub few : length m.harts ≤ MAX_HARTS
   pub tickets : length m.tickets ≡ length m.harts

@@ -20,7 +20,7 @@ use pte::{Access, Ctx, VirtAddr};
 use walk::{Progress, Trap, Walk, Why, Words};
 
 impl Machine {
-    /// The walk that an access of a hart that is there begins, or what it is answered at once.
+    /// The walk that an access of a hart begins, or what the access is answered at once.
     fn first_walk(&self, hart: u8, va: u64, access: Access, ctx: Ctx) -> Result<Walk, AtOnce>
         requires { hart < length self.now.harts }
         ensures walks { IfOk result (λ walk.
@@ -45,7 +45,7 @@ impl Machine {
         }
     }
 
-    /// Begins the walk of an access of a hart that is there, if it is not answered at once.
+    /// Begins the walk of an access of a hart, if the access is not answered at once.
     #[inline(always)]
     fn access(&mut self, hart: u8, va: u64, access: Access, ctx: Ctx) -> Reply
         requires { hart < length self.old.harts }
@@ -154,8 +154,8 @@ impl Machine {
         Ok(Reply::Ok)
     }
 
-    /// Whether the TLB of a hart that is there translates an address for an ASID, by an entry of
-    /// any size.
+    /// Whether the TLB of a hart that exists translates an address for an ASID, by an entry of any
+    /// size.
     pub fn translates(&self, hart: u8, asid: u16, va: VirtAddr) -> bool
         requires { hart < length self.now.harts }
         ensures { IsTrue result ↔ Translates (IsMappedBy (entries_in self.now hart)) asid va }

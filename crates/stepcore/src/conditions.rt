@@ -29,7 +29,7 @@ pub(crate) fn refuse(test: bool, refusal: Refusal) -> Result<(), Refusal>
 }
 
 impl Machine {
-    /// Asks that the hart is there.
+    /// Refuses with `NoHart` unless the hart exists.
     #[inline(always)]
     pub(crate) fn needs_hart(&self, hart: u8) -> Result<(), Refusal>
         ensures there { OnOk result (IsTrue (is_hart (setup_in self.now) hart)) }
@@ -39,7 +39,7 @@ impl Machine {
         refuse(!self.is_hart(hart), Refusal::NoHart)
     }
 
-    /// Asks that both harts are there, and differ.
+    /// Refuses with `NoHart` unless both harts exist and differ.
     #[inline(always)]
     pub(crate) fn needs_pair(&self, hart: u8, other: u8) -> Result<(), Refusal>
         ensures there { OnOk result (IsTrue (are_pair (setup_in self.now) hart other)) }
@@ -51,7 +51,7 @@ impl Machine {
         refuse(!self.are_pair(hart, other), Refusal::NoHart)
     }
 
-    /// Asks that the hart and those of the set bits are there.
+    /// Refuses with `NoHart` unless the hart and those of the set bits exist.
     #[inline(always)]
     pub(crate) fn needs_harts(&self, hart: u8, named: u8) -> Result<(), Refusal>
         ensures there { OnOk result
@@ -66,7 +66,7 @@ impl Machine {
         )
     }
 
-    /// Asks that the space is there, and not free.
+    /// Refuses with `NoSpace` unless the space exists and is not free.
     #[inline(always)]
     pub(crate) fn needs_space(&self, space: u8) -> Result<(), Refusal>
         ensures there { OnOk result (IsTrue (is_space self.now space)) }

@@ -46,7 +46,7 @@ impl Machine {
         apply(&mut self.memory, edit);
     }
 
-    /// The store that is due for a wish about a place that is there and does not retire.
+    /// The store that is due for a wish, if its place exists and does not retire.
     fn due_edit(&self, hart: u8, wish: &Wish) -> Result<Edit, Refusal>
         ensures memory { IsMemory self.now.memory }
         ensures there { OnOk result (IsTrue (is_place self.now (place_of wish.now))) }

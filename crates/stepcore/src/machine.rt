@@ -1,4 +1,4 @@
-//! The machine, and what is there.
+//! The machine, and which harts, spaces and places it has.
 
 ghost use Rattle.std.specs.Prelude.{◌≡◌, ◌<◌, length, IsSome, IsTrue};
 ghost use Rattle.spaces.specs.Held.{IsMemory};
@@ -90,14 +90,14 @@ impl Machine {
         }
     }
 
-    /// Whether the hart is there.
+    /// Whether the hart exists.
     pub(crate) fn is_hart(&self, hart: u8) -> bool
         ensures { result ≡ is_hart (setup_in self.now) hart }
     {
         usize::from(hart) < self.harts.len()
     }
 
-    /// Whether both harts are there, and differ.
+    /// Whether both harts exist and differ.
     pub(crate) fn are_pair(&self, hart: u8, other: u8) -> bool
         ensures value { result ≡ are_pair (setup_in self.now) hart other }
         ensures hart { IsTrue result → hart < length self.now.harts }
@@ -106,7 +106,7 @@ impl Machine {
         self.is_hart(hart) && self.is_hart(other) && hart != other
     }
 
-    /// Whether the harts of the set bits are there.
+    /// Whether the harts of the set bits exist.
     pub(crate) fn are_harts(&self, named: u8) -> bool
         ensures { result ≡ are_harts (setup_in self.now) named }
     {
@@ -127,7 +127,7 @@ impl Machine {
         self.spaces.len() as u8
     }
 
-    /// The ASID and the phase of a space that is there. The ASID of a free one means nothing.
+    /// The ASID and the phase of a space that exists. The ASID of a free one means nothing.
     pub fn space(&self, space: u8) -> SpaceState
         requires { space < length self.now.spaces }
         ensures { result ≡ space_at self.now space }
@@ -135,7 +135,7 @@ impl Machine {
         self.spaces[usize::from(space)]
     }
 
-    /// Whether the space is there and not free.
+    /// Whether the space exists and is not free.
     pub(crate) fn is_space(&self, space: u8) -> bool
         ensures value { result ≡ is_space self.now space }
         ensures there { IsTrue result → space < length self.now.spaces }
@@ -143,7 +143,7 @@ impl Machine {
         self.is_number(space) && !self.space(space).phase.is_free()
     }
 
-    /// Whether the place is there.
+    /// Whether the place exists and is not a free space.
     pub(crate) fn is_place(&self, place: Place) -> bool
         ensures value { result ≡ is_place self.now place }
         ensures there { IsTrue result → HasPlace self.now.memory.layout place }
@@ -178,7 +178,7 @@ impl Machine {
         }
     }
 
-    /// Whether the space of the scope is there.
+    /// Whether the scope is everything, or a space that exists and is not free.
     pub(crate) fn is_scope(&self, scope: Scope) -> bool
         ensures { result ≡ is_scope self.now scope }
     {
@@ -188,7 +188,7 @@ impl Machine {
         }
     }
 
-    /// A hart that is there: its space, its walk, what it serves, and its TLB.
+    /// A hart that exists: its space, its walk, what it serves, and its TLB.
     pub fn hart(&self, hart: u8) -> &Hart
         requires { hart < length self.now.harts }
         ensures { result.now ≡ hart_at self.now hart }
@@ -196,7 +196,7 @@ impl Machine {
         &self.harts[usize::from(hart)]
     }
 
-    /// The tickets of a hart that is there.
+    /// The tickets of a hart that exists.
     pub fn tickets(&self, hart: u8) -> &Tickets
         requires { hart < length self.now.harts }
         ensures { result.now ≡ tickets_at self.now hart }

@@ -19,7 +19,7 @@ use history::{Refusal, Reply, posting_refusal};
 use pte::What;
 use shoot::{Collected, Request, Tickets};
 
-/// How far a ticket is, as a reply.
+/// The reply that a ticket is done, or which harts it waits for.
 fn progress_reply(collected: Collected) -> Reply
     ensures reply { result ≡ progress_reply collected }
     ensures progress { is_progress result ≡ true }
@@ -108,7 +108,7 @@ impl Machine {
         this.take(from, request);
     }
 
-    /// A hart serves nothing more.
+    /// Ends a hart's service: it then serves no request.
     fn end_service(&mut self, hart: u8)
         requires { hart < length self.old.harts }
         ensures { self.new ≡ record self.old {
@@ -120,7 +120,7 @@ impl Machine {
         this.end_service();
     }
 
-    /// A hart acknowledges what it served, to the hart that posted it, if that hart is there.
+    /// A hart acknowledges what it served, to the hart that posted it, if that hart exists.
     fn acknowledge(&mut self, serving: Serving, hart: u8)
         ensures { self.new ≡ record self.old {
           tickets = slice_set self.old.tickets serving.from
@@ -249,8 +249,8 @@ impl Machine {
         this.serve(what);
     }
 
-    /// A hart acknowledges an open ticket of its own, if the ticket names it, and is told how far
-    /// the ticket is then.
+    /// A hart acknowledges an open ticket of its own, if the ticket names it. Answers how far the
+    /// ticket is then.
     fn acknowledge_own(&mut self, hart: u8, ticket: u32) -> Collected
         requires hart { hart < length self.old.harts }
         requires open { IsTrue (is_open (tickets_at self.old hart) ticket) }
@@ -279,7 +279,7 @@ impl Machine {
         Ok(progress_reply(collected))
     }
 
-    /// Whether the acknowledgement of a hart is there, and not collected yet.
+    /// Whether a hart has acknowledged the ticket and is not collected yet.
     fn is_collectable(&self, hart: u8, ticket: u32, from: u8) -> bool
         requires hart { hart < length self.now.harts }
         requires open { IsTrue (is_open (tickets_at self.now hart) ticket) }
@@ -305,7 +305,7 @@ impl Machine {
         }
     }
 
-    /// Marks the acknowledgement of a hart that an open ticket names as collected, if it is there.
+    /// Marks the acknowledgement of a hart that an open ticket names as collected, if there is one.
     fn collect_named(&mut self, hart: u8, ticket: u32, from: u8) -> Collected
         requires hart { hart < length self.old.harts }
         requires names { IsTrue (names (tickets_at self.old hart) ticket from) }
@@ -320,7 +320,7 @@ impl Machine {
         tickets.collect(ticket, from)
     }
 
-    /// Collects the acknowledgement of another hart, if it is there.
+    /// Collects the acknowledgement of another hart, if there is one.
     pub(crate) fn collect(&mut self, hart: u8, ticket: u32, from: u8) -> Result<Reply, Refusal>
         ensures { Answers self.old (Collect hart ticket from) result self.new }
     {

@@ -1,4 +1,4 @@
-//! Spaces that are retired, given back and created anew.
+//! Spaces that are retired, given back and created again.
 
 ghost use Rattle.std.specs.Prelude.{◌≡◌, ◌==◌, ◌<◌, ℕ, IsTrue, IfErr, OnOk, false, length, slice_set};
 ghost use Rattle.std.specs.List.{list_any};
@@ -59,7 +59,7 @@ impl Machine {
         ((1_u16 << self.harts.len()) - 1) as u8
     }
 
-    /// Keeps something else of a space.
+    /// Replaces the ASID and the phase of a space.
     fn put_space(&mut self, space: u8, state: SpaceState)
         requires { space < length self.old.spaces }
         ensures { self.new ≡ record self.old { spaces = slice_set self.old.spaces space state } }
@@ -67,7 +67,6 @@ impl Machine {
         self.spaces[usize::from(space)] = state;
     }
 
-    /// Whether the hart may speak for a space that is there: it is the space's home.
     fn is_home(&self, hart: u8, space: u8) -> bool
         requires { space < length self.now.spaces }
         ensures { result ≡ (hart == home_of self.now.memory.layout (place.Space space)) }

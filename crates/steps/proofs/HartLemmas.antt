@@ -22,7 +22,7 @@ nums_of (part ∷ parts) = option_and_then (λ n. option_map (λ ns. n ∷ ns) (
 abbrev pub all_there : ℕ → List ℕ → Bool
 all_there harts named = list_all (λ hart. nat_lt hart harts) named
 
--- the set of them, if all of them are there
+-- the set of them, if all of them exist
 abbrev pub set_among : ℕ → List ℕ → Result (List Bool) StepFault
 set_among harts named = if all_there harts named then Ok (with_harts no_harts named) else Err NoSuchHart
 
@@ -65,7 +65,7 @@ folds : (named : NamedHarts) (parts : List (List ℕ)) → Folds named parts
 folds named [] = refl
 folds named (part ∷ parts) = by_num named parts (num_of part) (λ x. folds x parts)
 
--- ---- the greatest number tells whether all are there
+-- ---- the greatest number says whether all exist
 
 most_by : (harts hart most : ℕ) (b : Bool) → nat_lt hart most ≡ b → nat_lt (if b then most else hart) harts ≡ (nat_lt most harts && nat_lt hart harts)
 most_by harts hart most true e = grind (arith, nat_tests)

@@ -1,4 +1,4 @@
--- Where there are more harts a text says the same, unless it named one that was not there; and then
+-- Where there are more harts a text says the same, unless it named one that did not exist; and then
 -- it is a step still.
 use Rattle.pte.specs.declared.scheme.Scheme.{Scheme}
 use Rattle.std.proofs.Common.{◌≡◌, ◌⊎◌, ℕ, ◌<◌, ◌≤◌, Bool, true, false, nat_lt, List, [], ◌∷◌, Option, Some, None, Result, Ok, Err, refl, sym, ◌∙◌, inl, inr, arith, if◌then◌else◌}
@@ -30,7 +30,7 @@ Reading X = Result X StepFault
 abbrev IsStep : {X : Type 0} → Reading X → Type 0
 IsStep r = r ≡ Err NotStep → ⊥
 
--- the second, of more harts, is the first, unless that names a hart that is not there
+-- the second, of more harts, is the first, unless that names a hart that does not exist
 abbrev Keeps : {X : Type 0} → Reading X → Reading X → Type 0
 Keeps r s = (s ≡ r) ⊎ ((r ≡ Err NoSuchHart) × IsStep s)
 
@@ -72,7 +72,7 @@ abbrev span_of : PageWord → Span
 span_of word = record { base = word.base; size = word.size }
 
 module _ (scheme : Scheme) (m n : ℕ) (less : m ≤ n) where
-  -- what is left of a step once its hart is there
+  -- what is left of a step once its hart exists
   hart_step : {X : Type 0} (hart : ℕ) (f : ℕ → X) → IsStep (among n hart >>= λ h. Ok (f h))
   hart_step hart f = there_is_step hart (λ h. Ok (f h)) NoSuchHart (nat_lt hart n) no_hart_is_step (read_is_step (f hart))
 

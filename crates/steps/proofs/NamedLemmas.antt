@@ -125,7 +125,7 @@ writes_by harts word set false e h =
 writes-named_in : (harts : ℕ) (word : List ℕ) (set : ℕ) → named_in harts word ≡ Ok set → WritesNamed harts word set
 writes-named_in harts word set h = writes_by harts word set (bytes_eq word (codes "-")) refl h
 
--- the harts that a word names, and where all of them are there
+-- the harts that a word names, where all of them exist
 pub record IsNamed (harts : ℕ) (word : List ℕ) (set : ℕ) : Type 0 where
   pub named : NamedHarts
   pub read : named_of word ≡ Some named

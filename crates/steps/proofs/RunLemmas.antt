@@ -92,7 +92,7 @@ step-writes scheme harts text event h =
 
 -- ---- what is found is written
 
--- the event is of this hart, which is there, and the words tell it
+-- the event is of this hart, which exists, and the words say it
 record Told (scheme : Scheme) (harts n : ℕ) (words : List (List ℕ)) (event : Event) : Type 0 where
   pub hart_is : n ≡ hart_of event
   pub less : n < harts

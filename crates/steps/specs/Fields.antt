@@ -114,7 +114,7 @@ flags_of word = option_map (λ bits. record { 0 = bits }) (bits_of word)
 
 -- ---- harts
 
--- one of so many harts
+-- one of this many harts
 abbrev pub among : ℕ → ℕ → Result ℕ StepFault
 among harts hart = if nat_lt hart harts then Ok hart else Err NoSuchHart
 
@@ -127,7 +127,7 @@ abbrev pub with_harts : List Bool → List ℕ → List Bool
 with_harts set [] = set
 with_harts set (hart ∷ harts) = with_harts (slice_set set hart true) harts
 
--- ---- harts that are named, whether they are there or not
+-- ---- harts that are named, whether they exist or not
 -- (the set of those that can be, and the greatest number)
 
 abbrev pub nobody : NamedHarts
@@ -155,12 +155,12 @@ listed_of word = fold with_part (Some nobody) (parts_of word)
 abbrev pub named_of : List ℕ → Option NamedHarts
 named_of word = if bytes_eq word (codes "-") then Some nobody else listed_of word
 
--- all of them are there
+-- all of them exist
 abbrev pub are_there : ℕ → Option ℕ → Bool
 are_there harts None = true
 are_there harts (Some greatest) = nat_lt greatest harts
 
--- bit h for hart h, if all of them are there
+-- bit h for hart h, if all of them exist
 abbrev pub named_among : ℕ → NamedHarts → Result ℕ StepFault
 named_among harts named =
     if are_there harts named.greatest then Ok (byte_of named.set) else Err NoSuchHart

@@ -7,7 +7,7 @@ use Rattle.steps.specs.Grammar.{HasWords, WritesNumber}
 use Rattle.steps.specs.RunGrammar.{WritesBelow, WritesFlags, WritesNamed, WritesPage, WritesPlace, WritesRegister, WritesScope, WritesSpace, WritesTicket}
 use Rattle.steps.specs.Step.{access_text, ctx_text}
 
--- the words of a step, in a scheme and for so many harts
+-- the words of a step, in a scheme and for a number of harts
 abbrev pub TellsLive : Scheme → ℕ → List (List ℕ) → LiveStep → Type 0
 TellsLive scheme harts words (Translate va access ctx) =
     (a : List ℕ) × (words ≡ codes "translate" ∷ ctx_text ctx ∷ access_text access ∷ a ∷ [])
@@ -48,7 +48,7 @@ TellsLive scheme harts words (Close to) =
 TellsLive scheme harts words (Wait ticket) =
     (a : List ℕ) × (words ≡ codes "wait" ∷ a ∷ []) × WritesTicket a ticket
 
--- a line of a script: the words of a step, for so many harts
+-- a line of a script: the words of a step, for a number of harts
 pub record WritesLiveStep (scheme : Scheme) (harts : ℕ) (text : List ℕ) (step : LiveStep) : Type 0
   where
     pub words : List (List ℕ)

@@ -18,7 +18,8 @@ use Rattle.steps.specs.Spelling.{is_of_live, spelled_of}
 use Rattle.steps.specs.StepFaults.{asked, ◌>>=◌}
 use Rattle.steps.specs.Words.{words_of}
 
--- an edit of a page, for so many harts: the harts that it names are there, and then its page is one
+-- an edit of a page, for a number of harts: the harts that it names exist, and then its page is a
+-- page of the scheme
 abbrev pub live_edit_of : Scheme → ℕ → EditStep → Result LiveStep StepFault
 live_edit_of scheme harts (Map place page ppn flags) =
     page_at scheme page >>= λ span. Ok (steps.Map place span ppn flags)
@@ -31,14 +32,14 @@ live_edit_of scheme harts (Protect place page flags named) = do
   span ← page_at scheme page
   Ok (steps.Protect place span flags set)
 
--- a step with another hart, for so many harts: that one is there
+-- a step with another hart, for a number of harts: that one exists
 abbrev pub live_pair_of : ℕ → PairStep → Result LiveStep StepFault
 live_pair_of harts (Post ticket to) = among harts to >>= λ to. Ok (steps.Post ticket to)
 live_pair_of harts (Serve from) = among harts from >>= λ from. Ok (steps.Serve from)
 live_pair_of harts (Close to) = among harts to >>= λ to. Ok (steps.Close to)
 live_pair_of harts _ = Err NotStep
 
--- the step, for so many harts
+-- the step, for a number of harts
 abbrev pub live_step_by : Scheme → ℕ → Spelled → Result LiveStep StepFault
 live_step_by scheme harts (Translate step) = Ok (steps.Translate step.va step.access step.ctx)
 live_step_by scheme harts (Edit edit) = live_edit_of scheme harts edit
@@ -53,12 +54,13 @@ live_step_by scheme harts (Finish ticket) = Ok (steps.Finish ticket)
 live_step_by scheme harts (Wait ticket) = Ok (steps.Wait ticket)
 live_step_by scheme harts _ = Err NotStep
 
--- what a line of a script writes in a scheme, for so many harts: a step, or what is wrong with it
+-- what a line of a script writes in a scheme, for a number of harts: a step, or what is wrong with
+-- it
 abbrev pub live_step_in : Scheme → ℕ → List ℕ → Result LiveStep StepFault
 live_step_in scheme harts text =
     asked (spelled_of scheme (words_of text)) >>= live_step_by scheme harts
 
--- the step and its hart, where it is not known yet that the hart is there
+-- the step and its hart, where it is not known yet that the hart exists
 abbrev pub setup_step_by : Scheme → ℕ → ℕ → Spelled → Result (ℕ × LiveStep) StepFault
 setup_step_by scheme harts hart step =
     if is_of_live step
@@ -72,7 +74,7 @@ setup_of_words scheme harts (hart ∷ words) = do
   step ← asked (spelled_of scheme words)
   setup_step_by scheme harts h step
 
--- what a line of the setup writes in a scheme, for so many harts: a hart and its step, or what is
--- wrong with it
+-- what a line of the setup writes in a scheme, for a number of harts: a hart and its step, or what
+-- is wrong with it
 abbrev pub setup_step_in : Scheme → ℕ → List ℕ → Result (ℕ × LiveStep) StepFault
 setup_step_in scheme harts text = setup_of_words scheme harts (words_of text)

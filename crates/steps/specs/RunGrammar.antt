@@ -115,7 +115,7 @@ hart_of (Retire hart space) = hart
 hart_of (Reclaim hart space) = hart
 hart_of (Create hart space asid) = hart
 
--- the words after the hart's, in a scheme and for so many harts
+-- the words after the hart's, in a scheme and for a number of harts
 abbrev pub Tells : Scheme → ℕ → List (List ℕ) → Event → Type 0
 Tells scheme harts words (Begin hart va access ctx) =
     (a : List ℕ) × (words ≡ codes "begin" ∷ ctx_text ctx ∷ access_text access ∷ a ∷ [])
@@ -165,7 +165,7 @@ Tells scheme harts words (Create hart space asid) =
     (a : List ℕ) × (b : List ℕ) × (words ≡ codes "create" ∷ a ∷ b ∷ []) × WritesSpace a space
     × WritesAsid b asid
 
--- the hart's number and the words after it, for so many harts
+-- the hart's number and the words after it, for a number of harts
 pub record WritesRunStep (scheme : Scheme) (harts : ℕ) (text : List ℕ) (event : Event) : Type 0
   where
     pub hart : List ℕ

@@ -20,7 +20,8 @@ use Rattle.steps.specs.Spelling.{is_of_run, spelled_of}
 use Rattle.steps.specs.StepFaults.{asked, ◌>>=◌}
 use Rattle.steps.specs.Words.{words_of}
 
--- an edit of a page, for so many harts: the harts that it names are there, and then its page is one
+-- an edit of a page, for a number of harts: the harts that it names exist, and then its page is a
+-- page of the scheme
 abbrev pub edit_event_of : Scheme → ℕ → ℕ → EditStep → Result Event StepFault
 edit_event_of scheme harts hart (Map place page ppn flags) =
     page_at scheme page >>= λ span. Ok (events.Map hart place span ppn flags)
@@ -33,7 +34,7 @@ edit_event_of scheme harts hart (Protect place page flags named) = do
   span ← page_at scheme page
   Ok (events.Protect hart place span flags set)
 
--- a step with another hart, for so many harts: that one is there
+-- a step with another hart, for a number of harts: that one exists
 abbrev pub pair_event_of : ℕ → ℕ → PairStep → Result Event StepFault
 pair_event_of harts hart (Post ticket to) = among harts to >>= λ to. Ok (events.Post hart ticket to)
 pair_event_of harts hart (CollectFrom ticket from) =
@@ -42,7 +43,7 @@ pair_event_of harts hart (Take from) = among harts from >>= λ from. Ok (events.
 pair_event_of harts hart (Close to) = among harts to >>= λ to. Ok (events.Close hart to)
 pair_event_of harts hart (Serve from) = Err NotStep
 
--- the event of a hart, for so many harts
+-- the event of a hart, for a number of harts
 abbrev pub event_of : Scheme → ℕ → ℕ → Spelled → Result Event StepFault
 event_of scheme harts hart (Begin step) = Ok (events.Begin hart step.va step.access step.ctx)
 event_of scheme harts hart Load = Ok (events.Load hart)
@@ -61,7 +62,7 @@ event_of scheme harts hart (Finish ticket) = Ok (events.Finish hart ticket)
 event_of scheme harts hart Ack = Ok (events.Ack hart)
 event_of scheme harts hart _ = Err NotStep
 
--- the same where it is not known yet that the hart is there
+-- the same where it is not known yet that the hart exists
 abbrev pub run_step_by : Scheme → ℕ → ℕ → Spelled → Result Event StepFault
 run_step_by scheme harts hart step =
     if is_of_run step then among harts hart >>= (λ h. event_of scheme harts h step) else Err NotStep
@@ -73,7 +74,7 @@ step_in scheme harts (hart ∷ words) = do
   step ← asked (spelled_of scheme words)
   run_step_by scheme harts h step
 
--- what a text writes in a scheme, for so many harts: an event, or what is wrong with it
+-- what a text writes in a scheme, for a number of harts: an event, or what is wrong with it
 abbrev pub step_among : Scheme → ℕ → List ℕ → Result Event StepFault
 step_among scheme harts text = step_in scheme harts (words_of text)
 

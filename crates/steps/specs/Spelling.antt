@@ -19,7 +19,7 @@ infixl 10 ◌>>=◌
 abbrev pub ◌>>=◌ : {A B : Type 0} → Option A → (A → Option B) → Option B
 read >>= f = option_and_then f read
 
--- ---- the names, each with the words after it, so many and no more
+-- ---- the names, each with the words after it: as many as it takes and no more
 
 abbrev pub access_of_words : List ℕ → List (List ℕ) → Option Spelled
 access_of_words name words =

@@ -8,7 +8,7 @@ use std::fmt;
 pub enum StepFault {
     /// The text has no form of the command's steps.
     NotStep,
-    /// It names a hart that is not there.
+    /// It names a hart that does not exist.
     NoSuchHart,
     /// The address of its page is not canonical, or no multiple of the page's size (privileged
     /// manual 4.4.1 and 4.5.1).

@@ -17,7 +17,7 @@ pub struct PageWord {
     pub size: PageSize,
 }
 
-/// Harts that are named by their numbers, whether they are there or not.
+/// Harts that are named by their numbers, whether they exist or not.
 #[derive(Clone, Copy)]
 pub struct NamedHarts {
     /// Those whose numbers a hart can have.
@@ -187,7 +187,8 @@ pub fn flags(word: &[u8]) -> Option<PteFlags>
     with_letters(PteFlags::empty(), word)
 }
 
-/// One of so many harts.
+/// The hart of this number, where there are `harts` harts with numbers from 0. `NoSuchHart`: the
+/// number is not below `harts`.
 pub fn among(harts: u8, hart: u64) -> Result<u8, StepFault>
     ensures { result ≡ among harts hart }
 {
@@ -197,7 +198,8 @@ pub fn among(harts: u8, hart: u64) -> Result<u8, StepFault>
     Ok(hart as u8)
 }
 
-/// The harts that were named, and one more.
+/// The named harts and one more, which is in the set only if its number is below `MAX_HARTS`, and
+/// counts for the greatest number in any case.
 fn with_hart(named: NamedHarts, hart: u64) -> NamedHarts
     ensures { result ≡ with_hart named hart }
 {
@@ -257,7 +259,8 @@ fn are_there(harts: u8, greatest: Option<u64>) -> bool
     }
 }
 
-/// The harts that are named, bit h for hart h, if all of them are there.
+/// The harts that are named, bit h for hart h. `NoSuchHart`: one of their numbers is not below
+/// `harts`.
 pub fn named_among(harts: u8, named: NamedHarts) -> Result<u8, StepFault>
     ensures { result ≡ named_among harts named }
 {

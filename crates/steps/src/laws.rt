@@ -39,9 +39,9 @@ pub fn run_step_is_written()
         → WritesRunStep scheme MAX_HARTS text event ↔ (run_step_of scheme text ≡ Some event) }
 {}
 
-/// Whether a text is a step of `run` does not depend on how many harts there are: `NotStep` is told
-/// before anything else. With more harts it stays the same step, or has the same fault, unless it
-/// named a hart that was not there: `NotPage` is told last.
+/// Whether a text is a step of `run` does not depend on how many harts there are: `NotStep` is
+/// reported before anything else. With more harts it stays the same step, or has the same fault,
+/// unless it named a hart that did not exist: `NotPage` is reported last.
 pub fn harts_are_told_between_steps_and_pages()
     ensures not_step { (scheme : Scheme) (m n : ℕ) (text : List ℕ)
         → step_among scheme m text ≡ Err NotStep → step_among scheme n text ≡ Err NotStep }
@@ -76,7 +76,7 @@ pub fn setup_step_is_written()
         ↔ (setup_step_in scheme harts text ≡ Ok (hart, step)) }
 {}
 
-/// Of the lines of `live` the same: `NotStep` is told before anything else, and `NotPage` last.
+/// Of the lines of `live` the same: `NotStep` is reported before anything else, and `NotPage` last.
 pub fn harts_of_live_are_told_between_steps_and_pages()
     ensures not_step { (scheme : Scheme) (m n : ℕ) (text : List ℕ)
         → live_step_in scheme m text ≡ Err NotStep → live_step_in scheme n text ≡ Err NotStep }

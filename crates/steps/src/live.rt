@@ -95,7 +95,7 @@ fn live_step_by(scheme: Scheme, harts: u8, step: Spelled) -> Result<LiveStep, St
     }
 }
 
-/// The step, and the hart with this number, if it is there.
+/// The step, and the hart with this number, if it exists.
 fn setup_step_by(
     scheme: Scheme,
     harts: u8,
@@ -112,8 +112,8 @@ fn setup_step_by(
     Ok((hart, step))
 }
 
-/// The step of `live` in a scheme that a line of a script writes where there are so many harts,
-/// with numbers from 0, or the first of its faults. A script is one hart's, and its lines name no
+/// The step of `live` that a line of a script writes, in a scheme and with `harts` harts, whose
+/// numbers are from 0 on, or the first of its faults. A script is one hart's, and its lines name no
 /// hart before the step.
 ///
 /// The words are one of these lines, where G is a hart, T a ticket below 2^32, S a space below 256,
@@ -130,7 +130,7 @@ fn setup_step_by(
 /// ```
 ///
 /// `StepFault::NotStep`: the words are none of them. `NoSuchHart`: they are, and name a hart that
-/// is not there. `NotPage`: all harts are there, and the page's address is not canonical in the
+/// does not exist. `NotPage`: all harts exist, and the page's address is not canonical in the
 /// scheme or no multiple of its size (privileged manual 4.4.1 and 4.5.1).
 pub fn live_step_among(scheme: Scheme, harts: u8, text: &str) -> Result<LiveStep, StepFault>
     ensures { result ≡ live_step_in scheme harts text.now }
@@ -141,10 +141,9 @@ pub fn live_step_among(scheme: Scheme, harts: u8, text: &str) -> Result<LiveStep
     live_step_by(scheme, harts, step)
 }
 
-/// The hart and the step of `live` in a scheme that a line of the setup writes where there are so
-/// many harts, or the first of its faults: the hart's number, and then the words of a line of a
-/// script, as `live_step_among` has them. That the line's own hart is not there is `NoSuchHart`
-/// too.
+/// The hart and the step of `live` that a line of the setup writes, in a scheme and with `harts`
+/// harts, or the first of its faults: the hart's number, and then the words of a line of a script,
+/// as `live_step_among` has them. If the line's own hart does not exist, that is `NoSuchHart` too.
 pub fn setup_step_among(scheme: Scheme, harts: u8, text: &str) -> Result<(u8, LiveStep), StepFault>
     ensures { result ≡ setup_step_in scheme harts text.now }
 {

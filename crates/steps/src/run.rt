@@ -10,7 +10,7 @@ use crate::text::next_word;
 use history::Event;
 use pte::{MAX_HARTS, Scheme};
 
-/// The edit of a hart that is there.
+/// The event of an edit by a hart that is known to exist.
 fn edit_event(scheme: Scheme, harts: u8, hart: u8, step: EditStep) -> Result<Event, StepFault>
     ensures { result ≡ edit_event_of scheme harts hart step }
 {
@@ -48,7 +48,7 @@ fn edit_event(scheme: Scheme, harts: u8, hart: u8, step: EditStep) -> Result<Eve
     }
 }
 
-/// The step of a hart that is there with another.
+/// The event of a step with another hart, by a hart that is known to exist.
 fn pair_event(harts: u8, hart: u8, step: PairStep) -> Result<Event, StepFault>
     ensures { result ≡ pair_event_of harts hart step }
 {
@@ -73,7 +73,7 @@ fn pair_event(harts: u8, hart: u8, step: PairStep) -> Result<Event, StepFault>
     }
 }
 
-/// The event of a hart that is there.
+/// The event of a step by a hart that is known to exist.
 fn event(scheme: Scheme, harts: u8, hart: u8, step: Spelled) -> Result<Event, StepFault>
     ensures { result ≡ event_of scheme harts hart step }
 {
@@ -106,7 +106,7 @@ fn event(scheme: Scheme, harts: u8, hart: u8, step: Spelled) -> Result<Event, St
     }
 }
 
-/// The event of a hart with this number, if it is there.
+/// The event of a step by the hart with this number, if it exists.
 fn run_step_by(scheme: Scheme, harts: u8, hart: u64, step: Spelled) -> Result<Event, StepFault>
     ensures { result ≡ run_step_by scheme harts hart step }
 {
@@ -117,8 +117,8 @@ fn run_step_by(scheme: Scheme, harts: u8, hart: u64, step: Spelled) -> Result<Ev
     event(scheme, harts, hart, step)
 }
 
-/// The step of `run` in a scheme that a text writes where there are so many harts, with numbers
-/// from 0, or the first of its faults.
+/// The step of `run` that a text writes, in a scheme and with `harts` harts, whose numbers are from
+/// 0 on, or the first of its faults.
 ///
 /// The words are one of these lines, where H, G are harts, T a ticket below 2^32, S a space below
 /// 256, N an ASID of 16 bits, PL a space or `k`, PAGE a size and an address such as `4K:0x1000`,
@@ -135,7 +135,7 @@ fn run_step_by(scheme: Scheme, harts: u8, hart: u64, step: Spelled) -> Result<Ev
 /// ```
 ///
 /// `StepFault::NotStep`: the words are none of them. `NoSuchHart`: they are, and name a hart that
-/// is not there. `NotPage`: all harts are there, and the page's address is not canonical in the
+/// does not exist. `NotPage`: all harts exist, and the page's address is not canonical in the
 /// scheme or no multiple of its size (privileged manual 4.4.1 and 4.5.1).
 pub fn run_step_among(scheme: Scheme, harts: u8, text: &str) -> Result<Event, StepFault>
     ensures { result ≡ step_among scheme harts text.now }

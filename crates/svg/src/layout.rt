@@ -130,7 +130,7 @@ impl Column {
         self.doing_x() + DOING_WIDTH
     }
 
-    /// Where a text of so many characters ends.
+    /// Where a text of this many characters ends.
     pub fn text_end(&self, characters: u16) -> u64
         ensures value { result ≡ text_x self.now + 7 * characters }
         ensures bound { result < 2 ^ 42 }

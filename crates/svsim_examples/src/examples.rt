@@ -86,7 +86,7 @@ fn prints_live<T: Threads + Wait + Sync>(
     Ok(true)
 }
 
-/// Whether `stale` tells this of `NAME.toml`, with status 1 if a stale mapping is used.
+/// Whether `stale` prints this of `NAME.toml`, with status 1 if a stale mapping is used.
 fn tells_stale<T: Threads + Wait + Sync>(
     rt: &HostRuntime,
     threads: &T,
@@ -103,7 +103,7 @@ fn tells_stale<T: Threads + Wait + Sync>(
     )
 }
 
-/// What is amiss with the picture of a file for `run`, or with what `stale` tells of it.
+/// What is amiss with the picture of a file for `run`, or with what `stale` prints of it.
 fn amiss_of_run<T: Threads + Wait + Sync>(
     rt: &HostRuntime,
     threads: &T,

@@ -181,7 +181,7 @@ const LINES: [Line; 12] = [
     },
 ];
 
-/// A unit, so often that it fills so many bytes.
+/// A unit, repeated as often as it fits in `length` bytes.
 fn repeated(alloc: Global, unit: &str, length: usize) -> Result<String, AllocError> {
     let mut text = String::new(alloc);
     let count = length.checked_div(unit.len()).unwrap_or(0);

@@ -69,7 +69,7 @@ enum Call {
     Protect(PteFlags),
 }
 
-/// Makes the edit, applies it, and tells the word that changed.
+/// Makes the edit, applies it, and returns the word that changed.
 fn edited(
     rt: &impl Abort,
     memory: &mut Memory,
@@ -321,8 +321,8 @@ fn edits_refused_by_what_is_asked(rt: HostRuntime) {
     }
 }
 
-/// Of several refusals the first is told: the home, the half, the flags, the PPN, its alignment,
-/// and then the tables.
+/// Of several refusals the first is answered: the home, the half, the flags, the PPN, its
+/// alignment, and then the tables.
 #[test]
 fn first_refusal_is_told(rt: HostRuntime) {
     let mut memory = with_large_page(&rt, rt.alloc());
@@ -587,7 +587,7 @@ fn frames_run_out(rt: HostRuntime) {
     );
 }
 
-/// Where a leaf is in the way and no frame is left, the leaf is told.
+/// Where a leaf is in the way and no frame is left, the answer names the leaf.
 #[test]
 fn leaf_is_told_before_no_frame(rt: HostRuntime) {
     let config = Config {

@@ -273,7 +273,8 @@ fn canonical_addresses(rt: HostRuntime) {
     }
 }
 
-/// Whether an address is canonical in each scheme as told, by each way to make it.
+/// Whether an address is canonical in each scheme as `in_39` and `in_48` say, by each way to make
+/// it.
 fn is_canonical(va: u64, in_39: bool, in_48: bool) -> bool {
     let narrow = VirtAddr::new_in(Scheme::Sv39, va);
     let is_wide = match VirtAddr::new_in(Scheme::Sv48, va) {
@@ -399,7 +400,7 @@ fn bases_of_pages(rt: HostRuntime) {
     assert!(rt; has_base(va, PageSize::Gib512, 0x80_0000_0000));
 }
 
-/// Whether the page with this base fits each scheme as told.
+/// Whether the page with this base fits each scheme as `in_39` and `in_48` say.
 fn fits_as(base: VirtAddr, size: PageSize, in_39: bool, in_48: bool) -> bool {
     let page = Page::around(base, size);
     page.base() == base && page.fits(Scheme::Sv39) == in_39 && page.fits(Scheme::Sv48) == in_48

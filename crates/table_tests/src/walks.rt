@@ -393,7 +393,8 @@ fn ended(walk: Option<Walk>, word: Option<u64>) -> Option<Progress> {
     Some(walk?.load(word))
 }
 
-/// Whether no walk begins at an address that is not canonical, and this page fault is told.
+/// Whether no walk began, since the address is not canonical, and the answer is a trap of this
+/// cause.
 fn is_refused(begun: Result<Walk, Trap>, cause: u8) -> bool {
     let why = Why::NotCanonical;
     begun == Err(Trap { cause, why })
@@ -408,7 +409,7 @@ fn fed_word_by_word(rt: HostRuntime) {
     assert!(rt; is_refused(not_canonical, 12));
 }
 
-/// A walk that is over tells its answer.
+/// A walk that is over gives its answer.
 #[test]
 fn over_or_not(rt: HostRuntime) {
     let Some(over) = ended(fed(&WORDS[..1]), None) else {

@@ -1,4 +1,4 @@
-//! What `check` tells of files with many faults.
+//! What `check` reports of files with many faults.
 use checks::check_text;
 use std::test::Fail;
 

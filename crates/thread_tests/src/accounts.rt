@@ -1,5 +1,5 @@
-//! What the steps and answers of one hart of eight tell of its tickets, its pages and its
-//! mailboxes, and whether each answer is one that may be given.
+//! What the steps and answers of one hart of eight say of its tickets, its pages and its mailboxes,
+//! and whether each answer is one that may be given.
 
 use crate::runs::*;
 use crate::scripts::{BASES, bit, ppn_of};
@@ -63,7 +63,7 @@ fn progress(awaited: u8) -> LiveReply {
     if awaited == 0 { DONE } else { waiting(awaited) }
 }
 
-/// The awaited harts that an answer tells, if it is one to a collection.
+/// The awaited harts that an answer names, if it is one to a collection.
 fn awaited_in(answer: &LiveReply) -> Option<u8> {
     match answer {
         LiveReply::Replied(Reply::Done) => Some(0),
@@ -245,7 +245,7 @@ impl Account {
         is_lawful
     }
 
-    /// A wait that used up its turns tells nothing of the ticket.
+    /// A wait that used up its turns says nothing of the ticket.
     fn wait(&mut self, ticket: u32, answer: &LiveReply) -> bool {
         if *answer == LiveReply::Timeout {
             self.order(ticket).is_some_and(|order| order.awaited != 0)
@@ -295,7 +295,7 @@ impl Account {
         self.open(what, named, None, answer)
     }
 
-    /// Whether a step may have the answer, as far as the own steps tell.
+    /// Whether a step may have the answer, as far as the hart's own steps show.
     pub(crate) fn allows(
         &mut self,
         step: &LiveStep,

@@ -218,7 +218,7 @@ fn loaded_in(round: u64) -> Result<u64, Trap> {
     }
 }
 
-/// Collects ticket 0 until only hart 0 is awaited, in at most so many tries.
+/// Collects ticket 0 until only hart 0 is awaited, in a limited number of tries.
 fn collect_other(port: &mut HartPort) -> bool
     ensures { name_of port.new ≡ name_of port.old }
 {
@@ -296,8 +296,8 @@ fn shoot_down_often(mut port: HartPort, page: Page, rounds: u64) -> (HartPort, b
     (port, as_expected)
 }
 
-// Hart 1 translates and serves, until it has served so many requests. Once it served the request of
-// a round, what it finds is that of the next one, or nothing. Whether it was so.
+// Hart 1 translates and serves, until it has served `rounds` requests. Once it served the request
+// of a round, what it finds is that of the next one, or nothing. Whether it was so.
 fn translate_and_serve(mut port: HartPort, rounds: u64) -> (HartPort, u64, bool)
     ensures { name_of result.0 ≡ name_of port }
 {

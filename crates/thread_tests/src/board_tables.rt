@@ -11,7 +11,7 @@ use std::thread;
 use std::thread::Threads;
 use walk::{Trap, Why};
 
-/// So many harts, and spaces 0 and 1 of ASIDs 1 and 2, both at home on hart 0.
+/// This many harts, and spaces 0 and 1 of ASIDs 1 and 2, both at home on hart 0.
 pub(crate) fn layout(harts: u16) -> Config
     ensures { result.harts ≡ harts }
 {
@@ -154,7 +154,7 @@ fn spaces_and_fences_are_told_apart(rt: HostRuntime) {
     assert!(&rt; one.translate(0x1004, Access::Store, USER) == Ok(0x20_0004));
     assert!(&rt; zero.protect(Place::Space(0), page, readable(), 1) == Ok(0));
     assert!(&rt; zero.protect(Place::Space(1), page, readable(), 1) == Ok(1));
-    // the entries of both spaces are there, until a fence for one ASID drops its own
+    // the TLB holds the entries of both spaces, until a fence for one ASID drops its own
     assert!(&rt; one.translate(0x1004, Access::Store, USER) == Ok(0x20_0004));
     one.fence(None, Some(2));
     let denied = Err(Trap {

@@ -78,7 +78,7 @@ fn requests_go_from_port_to_port(rt: HostRuntime) {
     assert!(&rt; zero.post(1, 1) == Err(Refusal::Closed));
 }
 
-// Of two reasons to refuse a call, the one that comes first in the order of the rules is told.
+// Of two reasons to refuse a call, the one that comes first in the order of the rules is answered.
 #[test]
 fn refusals_come_in_their_order(rt: HostRuntime) {
     let opened = two_ports(rt.alloc(), Scheme::Sv39);
@@ -173,8 +173,8 @@ fn post_five(mut port: HartPort) -> (HartPort, bool)
     (port, as_expected)
 }
 
-// Hart 1 serves until it was answered `Ok` three times, in at most so many tries, and counts those
-// that came in order.
+// Hart 1 serves until it was answered `Ok` three times, in a limited number of tries, and counts
+// those that came in order.
 fn serve_three(mut port: HartPort) -> (HartPort, u32)
     ensures { name_of result.0 ≡ name_of port }
 {

@@ -73,7 +73,7 @@ fn no_scripts(rt: HostRuntime) -> Result<(), Fail> {
 }
 
 // The gate ends the script of hart 1 before its step 2: that is the last answer, and the gate is
-// not told that a step ended.
+// not called after the step.
 #[test]
 fn halted_by_the_gate(rt: HostRuntime) -> Result<(), Fail> {
     let alloc = rt.alloc();
@@ -150,7 +150,7 @@ fn halted_hart_serves(rt: HostRuntime) -> Result<(), Fail> {
     Ok(())
 }
 
-// The gate is told of no step of setup.
+// The gate is called for no step of setup.
 #[test]
 fn setup_passes_no_gate(rt: HostRuntime) -> Result<(), Fail> {
     let alloc = rt.alloc();

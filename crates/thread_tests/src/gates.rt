@@ -37,7 +37,8 @@ impl Steps {
         }
     }
 
-    /// Waits until a step of a hart ended, for at most so many turns of its loop. Whether it did.
+    /// Waits until a step of a hart ended, for a limited number of turns of its loop. Whether it
+    /// did.
     pub(crate) fn wait_for(&self, hart: u8, step: u32) -> bool {
         for _ in 0..1_000_000_000_u32 {
             if self.has_ended(hart, step) {

@@ -88,7 +88,7 @@ fn post_all(mut outbox: Outbox) -> (Outbox, u32)
     (outbox, accepted)
 }
 
-// Takes until it has had 60 requests, in at most so many tries, and counts those that came in
+// Takes until it has had 60 requests, in a limited number of tries, and counts those that came in
 // order.
 fn take_most(mut inbox: Inbox) -> (Inbox, u32)
     ensures { result.0.ring ≡ inbox.ring }

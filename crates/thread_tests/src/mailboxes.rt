@@ -5,7 +5,7 @@ use shoot::*;
 use std::process::Abort;
 use std::test::*;
 
-/// A call of a mailbox, and its answer. A request is told by its ticket, and is for the address
+/// A call of a mailbox, and its answer. A request is named by its ticket, and is for the address
 /// space 1.
 #[derive(Clone, Copy)]
 enum Call {
@@ -170,7 +170,7 @@ fn default_request_is_of_ticket_0_for_all(rt: HostRuntime) {
     assert!(&rt; request.ticket == 0 && request.what == What::All);
 }
 
-/// What is told of a ticket.
+/// What tickets say of one of them.
 #[derive(Clone, Copy)]
 enum Told {
     IsOpen(bool),
@@ -183,7 +183,7 @@ enum Told {
     Asks(What),
 }
 
-/// Whether the tickets tell this of one.
+/// Whether the tickets say this of one of them.
 fn is_told(tickets: &Tickets, ticket: u32, told: &Told) -> bool {
     let is_open = tickets.is_open(ticket);
     match *told {
@@ -198,7 +198,7 @@ fn is_told(tickets: &Tickets, ticket: u32, told: &Told) -> bool {
     }
 }
 
-/// A call of tickets with its answer, or what they tell of one ticket.
+/// A call of tickets with its answer, or what they say of one ticket.
 #[derive(Clone, Copy)]
 enum Step {
     /// What is asked, the harts named, and the ticket.

@@ -20,8 +20,8 @@ pub(crate) const USER: Ctx = Ctx {
     mxr: false,
 };
 
-/// So many harts, each the home of the space of its number, whose ASID is one more. Each hart has 8
-/// spare frames, and the mailboxes have a capacity of 4.
+/// This many harts, each the home of the space of its number, whose ASID is one more. Each hart has
+/// 8 spare frames, and the mailboxes have a capacity of 4.
 pub(crate) fn homes(harts: u8) -> Config {
     let mut spaces = ArrayVec::new();
     let mut spares = ArrayVec::new();
@@ -43,7 +43,7 @@ pub(crate) fn homes(harts: u8) -> Config {
     }
 }
 
-/// The run, if setup's harts are there and there are no more scripts than harts.
+/// The run, if setup's harts exist and there are no more scripts than harts.
 pub(crate) fn run<R: Threads + Wait + Sync, G: Gate + Sync>(
     rt: &R,
     alloc: Global,
@@ -189,7 +189,7 @@ pub(crate) fn assert_setup<R: Threads + Wait + Sync + Abort>(
     Ok(report)
 }
 
-/// A pair's requests were accepted and taken, so many, and none waits.
+/// This many requests of a pair were accepted and taken, and none waits.
 pub(crate) fn assert_pair(
     rt: &impl Abort,
     pairs: &[PairReport],

@@ -5,8 +5,8 @@ use std::process::Abort;
 use tlb::*;
 use walk::{Found, Trap, Why};
 
-/// An entry, with an ASID and an address at which it is the oldest match in the TLBs below where it
-/// is there at all.
+/// An entry, with an ASID and an address at which it is the oldest match in each TLB below that
+/// holds it.
 #[derive(Clone, Copy)]
 struct Probe {
     entry: Entry,
@@ -359,7 +359,7 @@ fn of_a_ppn_44_bits_count(rt: HostRuntime) {
     );
 }
 
-/// What is canonical is told by the TLB's scheme: an address that Sv39 does not have drops nothing
+/// The TLB's scheme decides what is canonical: an address that Sv39 does not have drops nothing
 /// there.
 #[test]
 fn fences_by_the_scheme(rt: HostRuntime) {
@@ -452,7 +452,7 @@ fn neighbours(rt: &impl Abort) -> [Probe; 2] {
     ]
 }
 
-/// Which of the two are there.
+/// Which of the two neighbours the TLB holds.
 fn are_there(rt: &impl Abort, tlb: &Tlb) -> [bool; 2] {
     let probes = neighbours(rt);
     [is_there(rt, tlb, &probes[0]), is_there(rt, tlb, &probes[1])]

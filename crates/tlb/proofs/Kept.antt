@@ -14,7 +14,7 @@ use Rattle.tlb.specs.Slots.{IsIn, closed_up, slot_of}
 use Rattle.tlb.proofs.Dropping.{got, slice_get-set_other, slice_get-set_same}
 use Rattle.tlb.proofs.Ranking.{age_at, closed_ranking, now_at, same_slot}
 
--- the level of a size tells the size
+-- the level of a size determines the size
 size_of : ℕ → PageSize
 size_of zero = Kib4
 size_of (suc zero) = Mib2

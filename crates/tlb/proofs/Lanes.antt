@@ -1,4 +1,4 @@
--- The search of 16 slots at once: bit k of the mask tells of slot k.
+-- The search of 16 slots at once: bit k of the mask stands for slot k.
 use Rattle.std.proofs.Common.{◌≡◌, sym, ◌∙◌, ap, subst, ℕ, ◌^◌, ◌<◌, Bool, false, cond, eqb, List, map, length, inl, inr, arith}
 use Rattle.std.specs.Prelude.{◌==◌, bit_and, bit_or, slice_index}
 use Rattle.std.proofs.lemmas.Nat.Bits.{bit_at-lt, bit_at-zero, bit_at_and, bit_at_or}

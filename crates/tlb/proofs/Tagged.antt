@@ -1,4 +1,4 @@
--- Which slots can have a page that overlaps another, or that has an address: what their tags tell.
+-- Which slots can have a page that overlaps another, or that has an address: what their tags say.
 use Rattle.std.proofs.Common.{◌≡◌, sym, ◌∙◌, ap, refl, ℕ, ◌+◌, ◌-◌, ◌*◌, ◌/◌, ◌%◌, ◌^◌, ◌≤◌, true, Some, arith}
 use Rattle.std.specs.Prelude.{bit_or, slice_get, slice_index}
 use Rattle.std.proofs.lemmas.Nat.{shr-shr}

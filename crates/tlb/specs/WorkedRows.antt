@@ -255,7 +255,7 @@ module _ (ppn : ℕ) (flags : PteFlags) where
   seventeenth_keeps_second =
       first_match (pages 17) 1 0x2000 ≡ Some (entry 1 false (page Kib4 0x2000))
 
-  -- a page that is filled twice, with another PPN, is there twice, and the older entry answers
+  -- a page that is filled twice, with another PPN, has two entries, and the older one answers
   abbrev pub moved : Entry
   moved = record { asid = 0; global = false; page = page Kib4 0; ppn = ppn + 1; flags = flags }
 
@@ -266,7 +266,7 @@ module _ (ppn : ℕ) (flags : PteFlags) where
   older_answers = first_match (filled (filled [] a) moved) 0 0 ≡ Some a
 
   -- three entries hold an address, each of another size, filled in this order: the oldest answers.
-  -- A service drops the larger two, and the third is then the oldest of all: it is there after 15
+  -- A service drops the larger two, and the third is then the oldest of all: it is held after 15
   -- fills of other pages and gone after one more
   abbrev pub first_of_three : Entry
   first_of_three = entry 1 false (page Gib1 0)

@@ -67,8 +67,8 @@ impl Entry {
 }
 
 /// The TLB of one hart: at most `TLB_SIZE` entries, each with its age, in a bank for each size of
-/// page, and the scheme that tells which addresses its fences count. In contracts it is the list of
-/// its entries by age, the oldest first. Nothing but `fence`, `serve` and the fill of a full TLB
+/// page, and the scheme that decides which addresses its fences count. In contracts it is the list
+/// of its entries by age, the oldest first. Nothing but `fence`, `serve` and the fill of a full TLB
 /// takes an entry out, whatever becomes of the page tables meanwhile.
 #[derive(Drop)]
 pub struct Tlb {

@@ -102,7 +102,7 @@ pub fn worked_fills()
     ensures gone_after_sixteen { (ppn : ℕ) (flags : PteFlags) → rows.gone_after_sixteen ppn flags }
 {}
 
-/// Which entries the ages of slots tell in which order, what a drop makes of them, and the tags of
+/// The order that the ages of slots give their entries, what a drop makes of both, and the tags of
 /// addresses.
 pub fn worked_ages()
     ensures order_by_age { (ppn : ℕ) (flags : PteFlags) → rows.order_by_age ppn flags }

@@ -29,7 +29,7 @@ fn config_of(scheme: Scheme) -> Config {
 }
 
 /// Begins an edit of hart 0, feeds it the words, each of which it is to wait for at the table and
-/// the index that stand before it, and tells what it ends with, at the last of them. The lowest
+/// the index that stand before it, and returns what it ends with, at the last of them. The lowest
 /// unused spare frame is at 0x80005, or there is none.
 fn fed(
     rt: &impl Abort,

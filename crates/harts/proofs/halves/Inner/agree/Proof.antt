@@ -1,4 +1,4 @@
--- `agree` opens both halves, and their names tell that they are at one list.
+-- `agree` opens both halves, and their names show that they are at one list.
 use Rattle.std.proofs.Common.{ℕ, List, [], ◌∷◌, sym, refl}
 use mir.Syntax.{a_type, dnil, named}
 use mir.Val.{Val, vunit, vptr}
