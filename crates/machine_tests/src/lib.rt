@@ -1,7 +1,10 @@
-//! Tests of the machine and of what shares it behind a lock, by calls that anybody can make. The
-//! three modules whose names begin with `first` are shown whole in README.md and docs/LIBRARY.md.
+//! Tests of the machine and its parts (TLBs, mailboxes, tickets), and of what shares it behind a
+//! lock, by calls that anybody can make. The three modules whose names begin with `first` are shown
+//! whole in README.md and docs/LIBRARY.md.
 #![tactic(auto)]
 
+#[cfg(test)]
+mod acknowledgements;
 #[cfg(test)]
 mod first_machine;
 #[cfg(test)]
@@ -12,3 +15,7 @@ mod first_threads;
 mod locked;
 #[cfg(test)]
 mod machine;
+#[cfg(test)]
+mod mailboxes;
+#[cfg(test)]
+mod tlbs;

@@ -1,11 +1,9 @@
-//! Tests of what threads share, by calls that anybody can make: TLBs, mailboxes, tickets and
-//! acknowledgement words, the board, and live runs.
+//! Tests of what threads share without a lock, by calls that anybody can make: the board, the ends
+//! of its mailboxes, and live runs.
 #![tactic(auto)]
 
 #[cfg(test)]
 mod accounts;
-#[cfg(test)]
-mod acknowledgements;
 #[cfg(test)]
 mod board_shootdowns;
 #[cfg(test)]
@@ -21,8 +19,6 @@ mod gates;
 #[cfg(test)]
 mod mailbox_ends;
 #[cfg(test)]
-mod mailboxes;
-#[cfg(test)]
 mod readers;
 #[cfg(test)]
 mod runs;
@@ -34,5 +30,3 @@ mod staleness;
 mod steps;
 #[cfg(test)]
 mod stress;
-#[cfg(test)]
-mod tlbs;
