@@ -22,7 +22,7 @@ changed t f keeps (x ∷ xs) k e = by (x.ticket == t) refl e (λ rest. changed t
     by false is e more = ap (λ b. cond b (Some x) (order_of_ticket t (for_ticket t f xs))) is ∙ more e
 
 pub ordered-asks : (c : Config) (v : View) (t : ℕ) (what : What) → IsAsking c (ordered t what v) t what
-ordered-asks c v t what = record { order = fresh t (Other what); is = ap (λ b. cond b (Some (fresh t (Other what))) (order_of_ticket t v.orders)) (eq-eqb t t refl); asks = refl }
+ordered-asks c v t what = record { order = fresh t (Other what) v.stores; is = ap (λ b. cond b (Some (fresh t (Other what) v.stores)) (order_of_ticket t v.orders)) (eq-eqb t t refl); asks = refl }
 
 pub armed-awaits : (c : Config) (v : View) (t to : ℕ) (what : What) → IsAsking c v t what → IsAwaiting c (with_armed t to v) t to what
 armed-awaits c v t to what a = record {

@@ -102,7 +102,7 @@ module _ (l : Layout) (v : View) (local : Local l v) (root va : ℕ) (access : A
     entries = refl;
     count = refl;
     depth = refl;
-    home = record { config = refl; next = refl; hart = refl; words = refl; holders = refl; used = refl; stores = refl; orders = refl; cell_steps = refl };
+    home = record { config = refl; next = refl; hart = refl; words = refl; holders = refl; used = refl; stores = refl; versions = refl; orders = refl; cell_steps = refl };
   }
 
   pub begun : (st : Stage) (word : ℕ) (w : View) → IsCanonical l.scheme va → st ≡ start_of l.scheme root va access ctx → w ≡ walked v root st [] word → TellsLoad l v root st [] word
@@ -172,6 +172,7 @@ module _ (l : Layout) (v : View) (local : Local l v) (root va : ℕ) (access : A
             holders = going.home.holders;
             used = going.home.used;
             stores = going.home.stores;
+            versions = going.home.versions;
             orders = going.home.orders;
             cell_steps = going.home.cell_steps;
           };

@@ -1,5 +1,5 @@
 -- What each step leaves of the orders, and where the cells stand.
-use Rattle.std.proofs.Common.{◌≡◌, ℕ, zero, suc, ◌+◌, ◌*◌, ◌<◌, ◌||◌, ◌==◌, ◌/◌, Bool, true, false, cond, List, [], ◌∷◌, length, map, is_some, Some, subst, sym, refl, ap, ◌∙◌, inl, inr, arith}
+use Rattle.std.proofs.Common.{◌≡◌, ℕ, zero, suc, ◌+◌, ◌*◌, ◌<◌, ◌≤◌, ◌||◌, ◌==◌, ◌/◌, Bool, true, false, cond, List, [], ◌∷◌, length, map, is_some, Some, subst, sym, refl, ap, ◌∙◌, inl, inr, arith}
 use Rattle.std.proofs.lemmas.Bool.{and_parts, eq-eqb, eqb-true, or_cases, false≢true}
 use Rattle.std.proofs.lemmas.Nat.{div-mul-add}
 use Rattle.std.specs.Prelude.{Contains, ◌⊎◌, ◌%◌, None, if◌then◌else◌}
@@ -25,12 +25,12 @@ use Rattle.views.specs.declared.view.Cause.{Cause}
 use Rattle.views.specs.declared.view.Cause.TheVariants.{Unmapped, Other}
 use Rattle.views.specs.declared.view.Order.{Order}
 use Rattle.views.specs.declared.view.View.{View}
-use Rattle.views.specs.Orders.{IsAsidFor, asid_of_space, is_in, lies_over}
+use Rattle.views.specs.Orders.{IsAsidFor, asid_of_space, dropping, is_in, lies_over}
 use Rattle.spaces.specs.Layout.{layout_of}
 use Rattle.views.specs.Rule.{cell}
 use Rattle.shoot.proofs.AcknowledgementWords.{not_zero}
 use Rattle.views.specs.OrderTurns.{armed, last_word, looked, collected, for_ticket, fresh, marked, order_of_ticket, noted}
-use Rattle.views.specs.Lasting.{AreKept, CellsAreApart, CellsMeet, EachSpaceAtHomeIsReadBack, EditsKeepOrders, EditsMarkNothing, Follows, IsFor, KernelIsInEverySpace, MarkedByALeafOver, StepsKeepOrders, StepsMarkNothing, TranslatesNoneHoldsNone, UnmappingBeginsLive, WalkAnswersAsComputed, WrongAddressChangesNothing, last_cell, unmarked}
+use Rattle.views.specs.Lasting.{AreKept, CellsAreApart, CellsMeet, EachSpaceAtHomeIsReadBack, EditsKeepOrders, EditsMarkNothing, Follows, HasStoresOf, IsFor, KernelIsInEverySpace, MarkedByALeafOver, NothingStoredSince, OnlyEditsStore, OrdersBegin, StepsKeepOrders, StepsMarkNothing, TranslatesNoneHoldsNone, UnmappingBeginsLive, WalkAnswersAsComputed, WrongAddressChangesNothing, last_cell, unmarked}
 use Rattle.views.proofs.Goings.{loads-read}
 use Rattle.views.proofs.CellKeeps.{cell-inside}
 use Rattle.views.proofs.OrderKeeps.{receiver}
@@ -47,12 +47,36 @@ same-causes ticket f keeps (k ∷ ks) = by (k.ticket == ticket) (same-causes tic
     by true more = ap (λ x. x ∷ map lasting ks) (keeps k)
     by false more = ap (λ xs. lasting k ∷ xs) more
 
+-- an order that begins is the open one of its ticket
+first : (ticket : ℕ) (cause : Cause) (stores : ℕ) (ks : List Order) → order_of_ticket ticket (fresh ticket cause stores ∷ ks) ≡ Some (fresh ticket cause stores)
+first ticket cause stores ks = ap (λ t. cond t (Some (fresh ticket cause stores)) (order_of_ticket ticket ks)) (eq-eqb ticket ticket refl)
+
 pub begins_live : UnmappingBeginsLive
-begins_live c place page ticket v store = (fresh ticket (Unmapped place page), by (ticket == ticket) (eq-eqb ticket ticket refl), (refl, refl), refl, refl, refl)
+begins_live c place page ticket v store = (fresh ticket (Unmapped place page) (v.stores + 1), first ticket (Unmapped place page) (v.stores + 1) v.orders, (refl, refl), refl, refl, refl)
+
+pub orders_begin : OrdersBegin
+orders_begin c place page flags ticket what v store = (
+  (fresh ticket (Unmapped place page) (v.stores + 1), first ticket (Unmapped place page) (v.stores + 1) v.orders, refl, refl, refl, refl),
+  (fresh ticket (Other (dropping c place page)) (v.stores + 1), first ticket (Other (dropping c place page)) (v.stores + 1) v.orders, refl, refl, refl, refl),
+  (fresh ticket (Other what) v.stores, first ticket (Other what) v.stores v.orders, refl, refl, refl, refl),
+)
+
+pub nothing_stored_since : NothingStoredSince
+nothing_stored_since c s b i v at order same words = (
+  (λ since. by since.0 since.1 since.2),
+  (λ is. (0, b.orders.latest i v at ∙ ap some (sym is), omega (arith, same))),
+)
   where
-    by : (t : Bool) → t ≡ true → cond t (Some (fresh ticket (Unmapped place page))) (order_of_ticket ticket v.orders) ≡ Some (fresh ticket (Unmapped place page))
-    by true is = refl
-    by false is = absurd (false≢true is)
+    by : (age : ℕ) → get_elem? v.versions age ≡ some words → age + order.since ≤ v.stores → words ≡ v.words
+    by zero is few = some-injective words v.words (sym is ∙ b.orders.latest i v at)
+    by (suc age) is few = absurd (omega (arith, few, same))
+
+pub only_edits_store : OnlyEditsStore
+only_edits_store v ticket hart word what is_found root st reads = ((refl, refl, refl), (refl, refl, refl), look is_found, (refl, refl, refl), (refl, refl, refl), (refl, refl, refl))
+  where
+    look : (t : Bool) → HasStoresOf (looked ticket hart t word v) v
+    look true = (refl, refl, refl)
+    look false = (refl, refl, refl)
 
 pub steps_mark_nothing : StepsMarkNothing
 steps_mark_nothing v ticket hart word what is_found root st reads = (
@@ -120,7 +144,7 @@ marked_by_a_leaf_over c v ticket store place page ppn flags =
     (kept-by-a-map place page v.orders (is_some (pointed (Some store.word))), λ n k k' at at' was now. marked-over c v ticket store place page ppn flags n k k' at at' was now)
 
 follows-itself : (k : Order) → Follows k k
-follows-itself k = (refl, refl, (λ h is. is), λ h is. is)
+follows-itself k = (refl, refl, refl, (λ h is. is), λ h is. is)
 
 -- a hart that is among some is among one more
 still-in : (h to : ℕ) (hs : List ℕ) → is_in h hs ≡ true → is_in h (to ∷ hs) ≡ true
@@ -131,10 +155,10 @@ still-in h to hs is = by (to == h)
     by false = is
 
 armed-follows : (to : ℕ) (k : Order) → Follows k (armed to k)
-armed-follows to k = (refl, refl, (λ h is. still-in h to k.armed is), λ h is. is)
+armed-follows to k = (refl, refl, refl, (λ h is. still-in h to k.armed is), λ h is. is)
 
 collected-follows : (from : ℕ) (k : Order) → Follows k (collected from k)
-collected-follows from k = (refl, refl, (λ h is. is), λ h is. still-in h from k.collected is)
+collected-follows from k = (refl, refl, refl, (λ h is. is), λ h is. still-in h from k.collected is)
 
 -- an order that follows stands there
 abbrev FollowsAt : List Order → ℕ → Order → Type 0
@@ -169,7 +193,7 @@ ticket-kept ticket f follows (x ∷ xs) n k at = by (x.ticket == ticket) n at (t
 -- and so does a mark
 marks-kept : (place : Place) (page : Span) (ks : List Order) (n : ℕ) (k : Order) → get_elem? ks n ≡ some k → FollowsAt (map (marked place page) ks) n k
 marks-kept place page [] n k at = absurd (some-ne-none k (sym at))
-marks-kept place page (x ∷ xs) zero k at = (marked place page x, refl, subst (λ (y : Order). Follows y (marked place page x)) (some-injective x k at) (refl, refl, (λ h is. is), λ h is. is))
+marks-kept place page (x ∷ xs) zero k at = (marked place page x, refl, subst (λ (y : Order). Follows y (marked place page x)) (some-injective x k at) (refl, refl, refl, (λ h is. is), λ h is. is))
 marks-kept place page (x ∷ xs) (suc n) k at = marks-kept place page xs n k at
 
 pub steps_keep_orders : StepsKeepOrders
@@ -257,7 +281,7 @@ cells_meet sender receiver ticket word what is_found same =
 
 pub walk_answers_as_computed : WalkAnswersAsComputed
 walk_answers_as_computed l v w root va access ctx answer canonical a =
-    (loads-read v root w a.own_loads, (λ words has. (level_count_loads l.scheme words root va access ctx answer canonical).0 (a.each_memory words has)), omega (arith, a.count, a.few), a.home.orders, a.home.words, a.home.holders, a.home.stores, a.home.next, a.home.cell_steps)
+    (loads-read v root w a.own_loads, (λ words has. (level_count_loads l.scheme words root va access ctx answer canonical).0 (a.each_memory words has)), omega (arith, a.count, a.few), a.home.orders, a.home.words, a.home.holders, a.home.stores, a.home.versions, a.home.next, a.home.cell_steps)
 
 pub wrong_address_changes_nothing : WrongAddressChangesNothing
 wrong_address_changes_nothing l v w root va access ctx answer wrong (inl as-it-was) = (as-it-was.1, as-it-was.2)

@@ -1,5 +1,5 @@
 -- Each kind of step keeps the whole rule.
-use Rattle.std.proofs.Common.{◌≡◌, ℕ, ◌<◌, true, [], ◌∷◌, ◌++◌, Some, Ok, length, refl, sym}
+use Rattle.std.proofs.Common.{◌+◌, ◌≡◌, ℕ, ◌<◌, true, [], ◌∷◌, ◌++◌, Some, Ok, length, refl, sym}
 use Rattle.std.specs.Prelude.{List, slice_index, slice_set}
 use mathlib.Core.Option.{some}
 use lib.ListN.{get_elem?}
@@ -74,7 +74,7 @@ module _ (c : Config) (id : ℕ) (v : View) where
   pub edits : (wish : Wish) (ticket : ℕ) (store : Store) → HasPlace (layout_of c) (place_of wish) → IsAsked c wish → edit_over (layout_of c) v wish ≡ Ok store
       → Steps c id v (word_index (layout_of c) store.ppn store.index) (λ _. store.word) (λ _. noted c wish ticket v store) (λ _. Unit {0})
   edits wish ticket store has asked is s b at fits = (
-    record { tables = edit-keeps c s b.tables id v at wish has store is (orders_after c wish ticket store v.orders); orders = edit-orders c id v wish ticket store has asked is s b.tables b.orders at },
+    record { tables = edit-keeps c s b.tables id v at wish has store is (orders_after c wish ticket store (v.stores + 1) v.orders); orders = edit-orders c id v wish ticket store has asked is s b.tables b.orders at },
     tt,
   )
 

@@ -1,6 +1,6 @@
 -- The store of an edit keeps what the board says of orders: it adds an order, marks others anew, or
 -- maps nothing.
-use Rattle.std.proofs.Common.{◌≡◌, ℕ, zero, suc, ◌<◌, ◌||◌, ◌&&◌, Bool, true, false, cond, eqb, List, [], ◌∷◌, length, map, is_some, Some, Ok, sym, refl, ap, ◌∙◌, subst, inl, inr, arith, get_or-set_other}
+use Rattle.std.proofs.Common.{◌≡◌, ℕ, zero, suc, ◌+◌, ◌<◌, ◌≤◌, ◌||◌, ◌&&◌, Bool, true, false, cond, eqb, List, [], ◌∷◌, length, map, is_some, Some, Ok, sym, refl, ap, ◌∙◌, subst, inl, inr, arith, get_or-set_other}
 use Rattle.std.specs.Prelude.{slice_index, slice_set}
 use Rattle.std.proofs.lemmas.Bool.{and_from, eq-eqb, or_parts, false≢true}
 use mathlib.Core.Option.{some, some-injective, some-ne-none}
@@ -33,13 +33,13 @@ use Rattle.views.specs.declared.view.Cause.TheVariants.{Unmapped, Other}
 use Rattle.views.specs.declared.view.Order.{Order}
 use Rattle.views.specs.declared.view.View.{View}
 use Rattle.views.specs.Edits.{edit_over}
-use Rattle.views.specs.Rule.{cell, memory_of, Tabled}
+use Rattle.views.specs.Rule.{cell, memory_of, tables_in, Tabled}
 use Rattle.shoot.specs.declared.TheConstants.{MAX_TICKETS}
-use Rattle.views.specs.Orders.{dropping, lies_over, IsLive, IsUnmapped, Kept, Ordered}
+use Rattle.views.specs.Orders.{Answered, dropping, lies_over, IsLive, IsUnmapped, Kept, Ordered}
 use Rattle.views.specs.OrderTurns.{IsAsked, fresh, marked, noted, orders_after}
 use Rattle.views.proofs.EditKeeps.{acc, live-layout, words-after, word-there}
-use Rattle.views.proofs.Fills.{page-of}
-use Rattle.views.proofs.OrderKeeps.{Change, stays, stands, keeps-orders}
+use Rattle.views.proofs.Fills.{askable-of, page-of, unmapped-own}
+use Rattle.views.proofs.OrderKeeps.{answered-later, Change, fresh-answered, Gains, gains-none, stays, stands, keeps-orders}
 
 at_map_back : {A B : Type 0} (f : B → A) (l : List B) (i : ℕ) (a : A) → get_elem? (map f l) i ≡ some a → (b : B) × (get_elem? l i ≡ some b) × (f b ≡ a)
 at_map_back f [] i a e = absurd (some-ne-none a (sym e))
@@ -55,7 +55,7 @@ right-half l v wish store e =
 asked-page : (c : Config) (wish : Wish) → IsAsked c wish → IsPage (page_of wish)
 asked-page c (Map place page ppn flags) a = a
 asked-page c (Unmap place page) a = page-of c place page a
-asked-page c (Protect place page flags) a = a
+asked-page c (Protect place page flags) a = page-of c place page a
 
 -- where an edit is about a part of a page in a root of the page's place, it is over the page
 about-over : (l : Layout) → IsLayout l → (place other : Place) (page span : Span) (s n : ℕ) → IsPage page → IsPage span → is_wrong_half l place page ≡ false → is_wrong_half l other span ≡ false
@@ -66,7 +66,7 @@ about-over l fits (Space t) Kernel page span s n a b p q hangs at about = absurd
 about-over l fits Kernel (Space u) page span s n a b p q hangs at about = absurd (apart l fits u span page n b a q p about.1 at)
 about-over l fits Kernel Kernel page span s n a b p q hangs at about = (overlaps-Overlap page span).1 (common_part page span n at about.1)
 
-module _ (c : Config) (id : ℕ) (v : View) (wish : Wish) (ticket : ℕ) (store : Store) (has : HasPlace (layout_of c) (place_of wish)) (asked : IsAsked c wish)
+module _ (c : Config) (id : ℕ) (v : View) (wish : Wish) (ticket : ℕ) (store : Store) (has : HasPlace (layout_of c) (place_of wish)) (asked' : IsAsked c wish)
     (is : edit_over (layout_of c) v wish ≡ Ok store)
     (s : State ℕ View) (b : Tabled c s) (o : Ordered c s) (at : get_elem? s.views id ≡ some v) where
   abbrev memory : Held
@@ -85,7 +85,7 @@ module _ (c : Config) (id : ℕ) (v : View) (wish : Wish) (ticket : ℕ) (store 
   is-word-there = word-there (layout_of c) v (b.each id v at).local wish has store is
 
   edit : IsEdit (layout_of c) (memory_words memory) (holders_of memory) v.hart wish store
-  edit = record { layout = fits; tree = (b.each id v at).local.memory.tree; has = has; page = asked-page c wish asked; is = is }
+  edit = record { layout = fits; tree = (b.each id v at).local.memory.tree; has = has; page = asked-page c wish asked'; is = is }
 
   effect : HasEffect (layout_of c) wish store (memory_words memory) (memory_words memory-now)
   effect =
@@ -133,17 +133,36 @@ module _ (c : Config) (id : ℕ) (v : View) (wish : Wish) (ticket : ℕ) (store 
       let m = in-memory (layout_of c) store.ppn store.index is-word-there in
       stays (get_or-set_other s.words place-in-list (cell (layout_of c) a t h) store.word 0 (λ (q : cell (layout_of c) a t h ≡ place-in-list). absurd (omega (arith, q, m.from, m.to, m.index))))
 
-  stood : (n : ℕ) (k : Order) → get_elem? v.orders n ≡ some k → (place : Place) (page : Span) → IsLive k place page → Kept c shared-now views-now v.hart memory k place page
-  stood n k at-k place page live = stands c s b o id v new-view at refl shared-now (λ j u at-u n k at-k place page live m. m) cells-stay id v at n k at-k place page live
+  gains : Gains c s v new-view
+  gains = gains-none c s v new-view (λ x is. is)
+
+  stood : (n : ℕ) (k : Order) → get_elem? v.orders n ≡ some k → Answered c shared-now views-now v k
+  stood n k at-k = stands c s b o id v new-view at refl shared-now gains cells-stay id v at n k at-k
 
   -- an order of before, whatever its mark is now
-  stood-on : (k : Order) (place : Place) (page : Span) (anew : Bool) → Kept c shared-now views-now v.hart memory k place page → IsUnmapped (layout_of c) (memory_words memory-now) place page
-      → Kept c shared-now views-now v.hart memory-now (record k { anew = anew }) place page
-  stood-on k place page anew t none = record { has = t.has; at_home = t.at_home; right_half = t.right_half; askable = t.askable; unmapped = none; numbered = t.numbered; acked = t.acked; gone = t.gone }
+  stood-on : (n : ℕ) (k : Order) (anew : Bool) → get_elem? v.orders n ≡ some k → Answered c shared-now views-now new-view (record k { anew = anew })
+  stood-on n k anew at-k =
+      let was = stood n k at-k in
+      answered-later c v new-view refl k (record k { anew = anew }) refl (λ ws t. (suc t.0, t.1, omega (arith, t.2))) shared-now views-now (omega (arith, was.begun)) refl refl refl was
 
-  stood-same : (k : Order) (place : Place) (page : Span) → Kept c shared-now views-now v.hart memory k place page → IsUnmapped (layout_of c) (memory_words memory-now) place page
-      → Kept c shared-now views-now v.hart memory-now k place page
-  stood-same k place page t none = record { has = t.has; at_home = t.at_home; right_half = t.right_half; askable = t.askable; unmapped = none; numbered = t.numbered; acked = t.acked; gone = t.gone }
+  stood-same : (n : ℕ) (k : Order) → get_elem? v.orders n ≡ some k → Answered c shared-now views-now new-view k
+  stood-same n k at-k =
+      let was = stood n k at-k in
+      answered-later c v new-view refl k k refl (λ ws t. (suc t.0, t.1, omega (arith, t.2))) shared-now views-now (omega (arith, was.begun)) refl refl refl was
+
+  -- the words since then are those of before, and those of now
+  kept-on : (k k' : Order) → k'.since ≡ k.since → (place : Place) (page : Span) → Kept c v k place page → IsUnmapped (layout_of c) (memory_words memory-now) place page → Kept c new-view k' place page
+  unfolding memory_words
+  kept-on k k' since place page t none = record {
+    has = t.has;
+    at_home = t.at_home;
+    right_half = t.right_half;
+    unmapped = λ words is. by words is.0 is.1 is.2;
+  }
+    where
+      by : (words : List ℕ) (age : ℕ) → get_elem? (memory-now.words ∷ v.versions) age ≡ some words → age + k'.since ≤ v.stores + 1 → IsUnmapped (layout_of c) (tables_in (layout_of c) words) place page
+      by words zero is few = subst (λ ws. IsUnmapped (layout_of c) (tables_in (layout_of c) ws) place page) (some-injective memory-now.words words is) none
+      by words (suc age) is few = t.unmapped words (age, is, omega (arith, few, since))
 
   module _ (u : Wish) (e : u ≡ wish) where
     effect-of : HasEffect (layout_of c) u store (memory_words memory) (memory_words memory-now)
@@ -153,62 +172,85 @@ module _ (c : Config) (id : ℕ) (v : View) (wish : Wish) (ticket : ℕ) (store 
     half-of = subst (λ z. is_wrong_half (layout_of c) (place_of z) (page_of z) ≡ false) (sym e) half
 
     page-is : IsPage (page_of u)
-    page-is = subst (λ z. IsPage (page_of z)) (sym e) (asked-page c wish asked)
+    page-is = subst (λ z. IsPage (page_of z)) (sym e) (asked-page c wish asked')
 
-    still : (k : Order) (place : Place) (page : Span) → Kept c shared-now views-now v.hart memory k place page
+    still : (n : ℕ) (k : Order) → get_elem? v.orders n ≡ some k → (place : Place) (page : Span) → IsLive k place page
         → ((ppn : ℕ) (flags : PteFlags) → u ≡ Map (place_of u) (page_of u) ppn flags → is_some (pointed (Some store.word)) ≡ false → lies_over (Unmapped place page) (place_of u) (page_of u) ≡ false)
         → IsUnmapped (layout_of c) (memory_words memory-now) place page
-    still k place page t apart = unmapped-on place page (page-of c place page t.askable) t.right_half t.unmapped u effect-of half-of page-is apart
+    unfolding memory_words
+    still n k at-k place page live alone =
+        unmapped-on place page (page-of c place page (askable-of c s.words s.views v k place page (o.answered id v at n k at-k) live)) (o.kept id v at n k at-k place page live).right_half
+        (unmapped-own c s b o id v at n k at-k place page live) u effect-of half-of page-is alone
 
   removes : (p : Place) (q : Span) → Unmap p q ≡ wish → HasEffect (layout_of c) (Unmap p q) store (memory_words memory) (memory_words memory-now)
   removes p q e = subst (λ z. HasEffect (layout_of c) z store (memory_words memory) (memory_words memory-now)) (sym e) effect
 
-  fresh-kept : (p : Place) (q : Span) → Unmap p q ≡ wish → Kept c shared-now views-now v.hart memory-now (fresh ticket (Unmapped p q)) p q
+  fresh-kept : (p : Place) (q : Span) → Unmap p q ≡ wish → Kept c new-view (fresh ticket (Unmapped p q) (v.stores + 1)) p q
+  unfolding memory_words
   fresh-kept p q e = record {
     has = subst (λ z. HasPlace (layout_of c) (place_of z)) (sym e) has;
     at_home = subst (λ z. home_of (layout_of c) (place_of z) ≡ v.hart) (sym e) (sym (acc (layout_of c) v (b.each id v at).local wish has store is).home);
     right_half = half-of (Unmap p q) e;
-    askable = subst (IsAsked c) (sym e) asked;
-    unmapped = λ r number ppn flags global less about m. ((removes p q e r number ppn flags global less).0 m).1 about;
-    numbered = λ h armed. absurd (false≢true armed);
-    acked = λ h small armed. absurd (false≢true armed);
-    gone = λ h small got. absurd (false≢true got);
+    unmapped = λ words since. by words since.0 since.1 since.2;
   }
+    where
+      none : IsUnmapped (layout_of c) (memory_words memory-now) p q
+      none r number ppn flags global less about m = ((removes p q e r number ppn flags global less).0 m).1 about
 
-  mine-by : (u : Wish) → u ≡ wish → (n : ℕ) (k : Order) → get_elem? (orders_after c u ticket store v.orders) n ≡ some k → (place : Place) (page : Span) → IsLive k place page
-      → Kept c shared-now views-now v.hart memory-now k place page
+      by : (words : List ℕ) (age : ℕ) → get_elem? (memory-now.words ∷ v.versions) age ≡ some words → age + (v.stores + 1) ≤ v.stores + 1 → IsUnmapped (layout_of c) (tables_in (layout_of c) words) p q
+      by words zero is few = subst (λ ws. IsUnmapped (layout_of c) (tables_in (layout_of c) ws) p q) (some-injective memory-now.words words is) none
+      by words (suc age) is few = absurd (omega (arith, few))
+
+  mine-by : (u : Wish) → u ≡ wish → (n : ℕ) (k : Order) → get_elem? (orders_after c u ticket store (v.stores + 1) v.orders) n ≡ some k → (place : Place) (page : Span) → IsLive k place page
+      → Kept c new-view k place page
   mine-by (Map p q first f) e n k at' place page live = by (is_some (pointed (Some store.word))) refl at'
     where
-      by : (t : Bool) → is_some (pointed (Some store.word)) ≡ t → get_elem? (cond t v.orders (map (marked p q) v.orders)) n ≡ some k → Kept c shared-now views-now v.hart memory-now k place page
+      by : (t : Bool) → is_some (pointed (Some store.word)) ≡ t → get_elem? (cond t v.orders (map (marked p q) v.orders)) n ≡ some k → Kept c new-view k place page
       by true t here =
-          let was = stood n k here place page live in
-          stood-same k place page was (still (Map p q first f) e k place page was (λ ppn flags _ no. absurd (false≢true (sym no ∙ t))))
+          kept-on k k refl place page (o.kept id v at n k here place page live)
+          (still (Map p q first f) e n k here place page live (λ ppn flags _ no. absurd (false≢true (sym no ∙ t))))
       by false t here =
           let r = at_map_back (marked p q) v.orders n k here in
-          subst (λ (z : Order). IsLive z place page → Kept c shared-now views-now v.hart memory-now z place page) r.2
+          subst (λ (z : Order). IsLive z place page → Kept c new-view z place page) r.2
           (λ live'.
           let marks = or_parts (lies_over r.0.cause p q) r.0.anew live'.1 in
-          let was = stood n r.0 r.1 place page (live'.0, marks.1) in
-          stood-on r.0 place page (lies_over r.0.cause p q || r.0.anew) was
-          (still (Map p q first f) e r.0 place page was (λ ppn flags _ no. subst (λ (z : Cause). lies_over z p q ≡ false) live'.0 marks.0)))
+          let was : IsLive r.0 place page = (live'.0, marks.1) in
+          kept-on r.0 (marked p q r.0) refl place page (o.kept id v at n r.0 r.1 place page was)
+          (still (Map p q first f) e n r.0 r.1 place page was (λ ppn flags _ no. subst (λ (z : Cause). lies_over z p q ≡ false) live'.0 marks.0)))
           live
   mine-by (Unmap p q) e zero k at' place page live =
-      subst (λ (z : Order). IsLive z place page → Kept c shared-now views-now v.hart memory-now z place page) (some-injective (fresh ticket (Unmapped p q)) k at')
+      subst (λ (z : Order). IsLive z place page → Kept c new-view z place page) (some-injective (fresh ticket (Unmapped p q) (v.stores + 1)) k at')
       (λ live'.
       let cause : Unmapped p q ≡ Unmapped place page = live'.0 in
       let same-place : p ≡ place = cc in
       let same-page : q ≡ page = cc in
-      subst (λ z. Kept c shared-now views-now v.hart memory-now (fresh ticket (Unmapped p q)) place z) same-page
-      (subst (λ z. Kept c shared-now views-now v.hart memory-now (fresh ticket (Unmapped p q)) z q) same-place (fresh-kept p q e)))
+      subst (λ z. Kept c new-view (fresh ticket (Unmapped p q) (v.stores + 1)) place z) same-page
+      (subst (λ z. Kept c new-view (fresh ticket (Unmapped p q) (v.stores + 1)) z q) same-place (fresh-kept p q e)))
       live
   mine-by (Unmap p q) e (suc n) k at' place page live =
-      let was = stood n k at' place page live in
-      stood-same k place page was (still (Unmap p q) e k place page was (λ ppn flags bad. absurd (cc)))
+      kept-on k k refl place page (o.kept id v at n k at' place page live) (still (Unmap p q) e n k at' place page live (λ ppn flags bad. absurd (cc)))
   mine-by (Protect p q f) e zero k at' place page live =
-      absurd (let one = some-injective (fresh ticket (Other (dropping c p q))) k at' in let bad : Other (dropping c p q) ≡ Unmapped place page = ap (λ (z : Order). z.cause) one ∙ live.0 in cc)
+      absurd
+      (let one = some-injective (fresh ticket (Other (dropping c p q)) (v.stores + 1)) k at' in let bad : Other (dropping c p q) ≡ Unmapped place page = ap (λ (z : Order). z.cause) one ∙ live.0 in cc)
   mine-by (Protect p q f) e (suc n) k at' place page live =
-      let was = stood n k at' place page live in
-      stood-same k place page was (still (Protect p q f) e k place page was (λ ppn flags bad. absurd (cc)))
+      kept-on k k refl place page (o.kept id v at n k at' place page live) (still (Protect p q f) e n k at' place page live (λ ppn flags bad. absurd (cc)))
+
+  answers-by : (u : Wish) → u ≡ wish → (n : ℕ) (k : Order) → get_elem? (orders_after c u ticket store (v.stores + 1) v.orders) n ≡ some k → Answered c shared-now views-now new-view k
+  answers-by (Map p q first f) e n k at' = by (is_some (pointed (Some store.word))) at'
+    where
+      by : (t : Bool) → get_elem? (cond t v.orders (map (marked p q) v.orders)) n ≡ some k → Answered c shared-now views-now new-view k
+      by true here = stood-same n k here
+      by false here =
+          let r = at_map_back (marked p q) v.orders n k here in
+          subst (λ (z : Order). Answered c shared-now views-now new-view z) r.2 (stood-on n r.0 (lies_over r.0.cause p q || r.0.anew) r.1)
+  answers-by (Unmap p q) e zero k at' =
+      subst (λ (z : Order). Answered c shared-now views-now new-view z) (some-injective (fresh ticket (Unmapped p q) (v.stores + 1)) k at')
+      (fresh-answered c shared-now views-now new-view ticket (Unmapped p q) (subst (IsAsked c) (sym e) asked'))
+  answers-by (Unmap p q) e (suc n) k at' = stood-same n k at'
+  answers-by (Protect p q f) e zero k at' =
+      subst (λ (z : Order). Answered c shared-now views-now new-view z) (some-injective (fresh ticket (Other (dropping c p q)) (v.stores + 1)) k at')
+      (fresh-answered c shared-now views-now new-view ticket (Other (dropping c p q)) (subst (IsAsked c) (sym e) asked'))
+  answers-by (Protect p q f) e (suc n) k at' = stood-same n k at'
 
   pub edit-orders : Ordered c record { words = shared-now; homes = s.homes; views = views-now }
-  edit-orders = keeps-orders c s b o id v new-view at refl shared-now (λ j u at-u n k at-k place page live m. m) cells-stay (o.window id v at) (mine-by wish refl) s.homes
+  edit-orders = keeps-orders c s b o id v new-view at refl shared-now gains cells-stay (o.window id v at) refl (answers-by wish refl) (mine-by wish refl) s.homes

@@ -30,7 +30,7 @@ use Rattle.shoot.specs.Acknowledgement.{IsAskable, acknowledgement}
 use Rattle.views.specs.declared.view.Order.{Order}
 use Rattle.views.specs.declared.view.View.{View}
 use Rattle.views.specs.Rule.{cell, memory_of, tables_in, Tabled}
-use Rattle.views.specs.Orders.{dropping, IsAsidFor, IsLive, IsUnmapped, is_in, Ordered}
+use Rattle.views.specs.Orders.{asked, dropping, HoldsSince, IsAsidFor, IsLive, IsUnmapped, is_in, Ordered}
 
 pub record Board (c : Config) (s : State ℕ View) : Type 0 where
   pub tables : Tabled c s
@@ -101,6 +101,25 @@ abbrev pub TranslatesNone : Config → List View → ℕ → Place → Span → 
 TranslatesNone c views hart place page =
     (j : ℕ) (w : View) → get_elem? views j ≡ some w → w.hart ≡ hart → (asid va : ℕ)
     → IsAsidFor c place asid → Holds page va → ¬ Translates (IsMappedBy w.entries) asid va
+
+-- Once a cell that was armed for an order has the word of what it asks to drop, the receiver holds of
+-- that, from places at home on the sender, only what the sender's words mapped since the order
+-- began. An acknowledgement of an older order, whatever that was, would break this.
+abbrev pub AcknowledgedHoldsSince : Type 0
+AcknowledgedHoldsSince =
+    (c : Config) (s : State ℕ View) → Board c s → (i : ℕ) (v : View) → get_elem? s.views i ≡ some v
+    → (n : ℕ) (order : Order) → get_elem? v.orders n ≡ some order → (receiver : ℕ)
+    → receiver < length (layout_of c).spares → is_in receiver order.armed ≡ true
+    → slice_index s.words (cell (layout_of c) v.hart order.ticket receiver)
+    ≡ acknowledgement (asked c order.cause) → HoldsSince c s.views receiver v order
+
+-- so it is once the hart was collected, also when the ticket is used again
+abbrev pub CollectedHoldsSince : Type 0
+CollectedHoldsSince =
+    (c : Config) (s : State ℕ View) → Board c s → (i : ℕ) (v : View) → get_elem? s.views i ≡ some v
+    → (n : ℕ) (order : Order) → get_elem? v.orders n ≡ some order → (hart : ℕ)
+    → hart < length (layout_of c).spares → is_in hart order.collected ≡ true
+    → HoldsSince c s.views hart v order
 
 -- once a cell that was armed for an unmapping has the word of what it asks, the receiver translates
 -- no address of the page, until it is mapped anew

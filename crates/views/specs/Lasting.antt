@@ -36,12 +36,13 @@ use Rattle.views.specs.declared.view.Read.{Read}
 use Rattle.views.specs.declared.view.View.{View}
 use Rattle.views.specs.Rule.{Has, cell, memory_of, size, board_size}
 use Rattle.shoot.specs.declared.TheConstants.{MAX_TICKETS}
-use Rattle.views.specs.Orders.{IsAsidFor, IsLive, asid_for, asid_of_space, is_in}
+use Rattle.views.specs.Orders.{IsAsidFor, IsLive, IsSince, asid_for, asid_of_space, dropping, is_in}
 use Rattle.views.specs.OrderTurns.{acknowledged, last_word, looked, noted, order_of_ticket, ordered, self_acked, with_armed}
 use Rattle.views.specs.Turns.{walked}
 use Rattle.views.specs.OnBoard.{HasReads}
 use Rattle.views.specs.Walks.{AnswersByLoads, Walked}
-use Rattle.views.specs.Board.{TranslatesNone}
+use Rattle.views.specs.Board.{Board, TranslatesNone}
+use Rattle.atomic_table.specs.Table.{State}
 
 -- of each order its ticket, what it follows, and whether it was marked anew
 abbrev pub causes : View → List (ℕ × Cause × Bool)
@@ -101,11 +102,11 @@ MarkedByALeafOver =
     → order.anew ≡ false → later.anew ≡ true
     → (over : Span) × (order.cause ≡ Unmapped place over) × Overlap over page)
 
--- an order later: of the same ticket, after the same cause, and with no hart taken from those whose
+-- an order later: of the same ticket, after the same cause, begun at the same store, and with no hart taken from those whose
 -- cells were armed for it or from those that were collected
 abbrev pub Follows : Order → Order → Type 0
 Follows order later =
-    (later.ticket ≡ order.ticket) × (later.cause ≡ order.cause)
+    (later.ticket ≡ order.ticket) × (later.cause ≡ order.cause) × (later.since ≡ order.since)
     × ((hart : ℕ) → is_in hart order.armed ≡ true → is_in hart later.armed ≡ true)
     × ((hart : ℕ) → is_in hart order.collected ≡ true → is_in hart later.collected ≡ true)
 
@@ -211,14 +212,55 @@ WalkAnswersAsComputed =
     × ((words : Tables) → Has words w.reads
     → answer ≡ answer_after (level_count l.scheme) words (start_of l.scheme root va access ctx))
     × (w.loads ≤ v.loads + level_count l.scheme) × (w.orders ≡ v.orders) × (w.words ≡ v.words)
-    × (w.holders ≡ v.holders) × (w.stores ≡ v.stores) × (w.next ≡ v.next)
+    × (w.holders ≡ v.holders) × (w.stores ≡ v.stores) × (w.versions ≡ v.versions)
+    × (w.next ≡ v.next)
     × (w.cell_steps ≡ v.cell_steps)
 
--- the store of an edit is counted
+-- The store of an edit is counted, and the words after it stand before those of earlier times. No
+-- other step counts one, or changes what is known of the words at any time.
 abbrev pub EachEditIsOneStore : Type 0
 EachEditIsOneStore =
     (c : Config) (wish : Wish) (ticket : ℕ) (v : View) (store : Store)
-    → (noted c wish ticket v store).stores ≡ v.stores + 1
+    → ((noted c wish ticket v store).stores ≡ v.stores + 1)
+    × ((noted c wish ticket v store).versions
+    ≡ (noted c wish ticket v store).words ∷ v.versions)
+
+-- a view has made the stores of another, and knows the same words at each time
+abbrev pub HasStoresOf : View → View → Type 0
+HasStoresOf w v = (w.stores ≡ v.stores) × (w.versions ≡ v.versions) × (w.words ≡ v.words)
+
+abbrev pub OnlyEditsStore : Type 0
+OnlyEditsStore =
+    (v : View) (ticket hart word : ℕ) (what : What) (is_found : Bool) (root : ℕ) (st : Stage)
+    (reads : List Read) →
+    HasStoresOf (with_armed ticket hart v) v × HasStoresOf (acknowledged hart ticket what v) v
+    × HasStoresOf (looked ticket hart is_found word v) v × HasStoresOf (self_acked ticket what v) v
+    × HasStoresOf (walked v root st reads word) v × HasStoresOf (ordered ticket what v) v
+
+-- where the hart stored nothing since an order began, its words since then are those of now
+abbrev pub NothingStoredSince : Type 0
+NothingStoredSince =
+    (c : Config) (s : State ℕ View) → Board c s → (i : ℕ) (v : View) → get_elem? s.views i ≡ some v
+    → (order : Order) → order.since ≡ v.stores → (words : List ℕ)
+    → IsSince v order words ↔ (words ≡ v.words)
+
+-- an order has begun under its ticket, with no cell armed and no hart collected, once the hart had
+-- made this many stores
+abbrev pub HasBegun : View → ℕ → Cause → ℕ → Type 0
+HasBegun v ticket cause stores =
+    (order : Order) × (order_of_ticket ticket v.orders ≡ Some order) × (order.cause ≡ cause)
+    × (order.since ≡ stores) × (order.armed ≡ []) × (order.collected ≡ [])
+
+-- that of an unmapping and of a protect with its store, and that of a flush with what was stored
+-- before it
+abbrev pub OrdersBegin : Type 0
+OrdersBegin =
+    (c : Config) (place : Place) (page : Span) (flags : PteFlags) (ticket : ℕ) (what : What)
+    (v : View) (store : Store) →
+    HasBegun (noted c (Unmap place page) ticket v store) ticket (Unmapped place page) (v.stores + 1)
+    × HasBegun (noted c (Protect place page flags) ticket v store) ticket
+    (Other (dropping c place page)) (v.stores + 1)
+    × HasBegun (ordered ticket what v) ticket (Other what) v.stores
 
 -- a walk from the root of any space at home, outside the window, reads back what the home stored
 abbrev pub EachSpaceAtHomeIsReadBack : Type 0

@@ -1,5 +1,5 @@
 -- What a seat knows of its orders after each kind of step.
-use Rattle.std.specs.Prelude.{ℕ, ◌≡◌, ◌||◌, ◌==◌, Bool, if◌then◌else◌, is_some, true, false, List, [], ◌∷◌, map, Option, Some, None}
+use Rattle.std.specs.Prelude.{ℕ, ◌≡◌, ◌+◌, ◌||◌, ◌==◌, Bool, if◌then◌else◌, is_some, true, false, List, [], ◌∷◌, map, Option, Some, None}
 use Rattle.pte.specs.declared.address.What.{What}
 use Rattle.pte.specs.Address.{IsPage, Span}
 use Rattle.walk.specs.Pointers.{pointed}
@@ -25,33 +25,41 @@ use Rattle.views.specs.Turns.{edited}
 abbrev pub marked : Place → Span → Order → Order
 marked place page k = record k { anew = lies_over k.cause place page || k.anew }
 
--- an order that begins
-abbrev pub fresh : ℕ → Cause → Order
-fresh ticket cause =
-    record { ticket = ticket; cause = cause; anew = false; armed = []; collected = [] }
+-- an order that begins once the hart made this many stores
+abbrev pub fresh : ℕ → Cause → ℕ → Order
+fresh ticket cause stores = record {
+  ticket = ticket;
+  cause = cause;
+  anew = false;
+  since = stores;
+  armed = [];
+  collected = [];
+}
 
 -- an order that follows no store
 abbrev pub ordered : ℕ → What → View → View
-ordered ticket what v = record v { orders = fresh ticket (Other what) ∷ v.orders }
+ordered ticket what v = record v { orders = fresh ticket (Other what) v.stores ∷ v.orders }
 
--- the orders after an edit, which opens one under this ticket unless it maps
-abbrev pub orders_after : Config → Wish → ℕ → Store → List Order → List Order
-orders_after c (Map place page ppn flags) ticket store ks =
+-- the orders after an edit, which opens one under this ticket unless it maps; the hart then has
+-- made this many stores
+abbrev pub orders_after : Config → Wish → ℕ → Store → ℕ → List Order → List Order
+orders_after c (Map place page ppn flags) ticket store stores ks =
     if is_some (pointed (Some store.word)) then ks else map (marked place page) ks
-orders_after c (Unmap place page) ticket store ks = fresh ticket (Unmapped place page) ∷ ks
-orders_after c (Protect place page flags) ticket store ks =
-    fresh ticket (Other (dropping c place page)) ∷ ks
+orders_after c (Unmap place page) ticket store stores ks =
+    fresh ticket (Unmapped place page) stores ∷ ks
+orders_after c (Protect place page flags) ticket store stores ks =
+    fresh ticket (Other (dropping c place page)) stores ∷ ks
 
 -- the store of an edit by the home
 abbrev pub noted : Config → Wish → ℕ → View → Store → View
 noted c wish ticket v store =
-    edited (layout_of c) v store (orders_after c wish ticket store v.orders)
+    edited (layout_of c) v store (orders_after c wish ticket store (v.stores + 1) v.orders)
 
--- the page is one, and what an unmapping asks for can be asked
+-- the page is one, and what the edit asks the harts to drop can be asked
 abbrev pub IsAsked : Config → Wish → Type 0
 IsAsked c (Map place page ppn flags) = IsPage page
 IsAsked c (Unmap place page) = IsAskable (dropping c place page)
-IsAsked c (Protect place page flags) = IsPage page
+IsAsked c (Protect place page flags) = IsAskable (dropping c place page)
 
 -- the open order of a ticket, which is the last one under it, becomes another
 abbrev pub for_ticket : ℕ → (Order → Order) → List Order → List Order

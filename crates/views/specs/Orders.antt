@@ -1,7 +1,7 @@
 -- What the board keeps of orders: what an unmapping's home still doesn't map, and which harts hold
 -- nothing of it.
-use Rattle.std.specs.Prelude.{◌≡◌, ℕ, ◌<◌, ◌≤◌, ◌==◌, ◌&&◌, ◌↔◌, Bool, true, false, not, IsTrue, List, All, length, map, slice_index, Option, Some, None}
-use Rattle.std.specs.List.{AllPass, list_any}
+use Rattle.std.specs.Prelude.{◌≡◌, ℕ, ◌+◌, ◌<◌, ◌≤◌, ◌==◌, ◌&&◌, ◌↔◌, Bool, true, false, IsTrue, Contains, List, All, length, map, slice_index, Option, Some, None}
+use Rattle.std.specs.List.{list_any}
 use mathlib.Core.Option.{some}
 use lib.ListN.{get_elem?}
 use Rattle.atomic_table.specs.Table.{State}
@@ -15,19 +15,18 @@ use Rattle.spaces.specs.declared.configuration.Config.{Config}
 use Rattle.spaces.specs.declared.places.Place.{Place}
 use Rattle.spaces.specs.declared.places.Place.TheVariants.{Space, Kernel}
 use Rattle.spaces.specs.Layout.{Layout, HasPlace, home_of, layout_of, root_ppn, first_window_slot}
-use Rattle.spaces.specs.Held.{Held, memory_words}
 use Rattle.spaces.specs.Holders.{is_same_place}
 use Rattle.spaces.specs.Edits.{is_wrong_half}
 use Rattle.spaces.specs.Effects.{IsAbout}
 use Rattle.tlb.specs.declared.store.Entry.{Entry}
-use Rattle.tlb.specs.Mappings.{maps_into}
-use Rattle.tlb.specs.Service.{overlaps}
+use Rattle.tlb.specs.Mappings.{IsMappingOf, Mapping}
+use Rattle.tlb.specs.Service.{is_dropped, overlaps}
 use Rattle.shoot.specs.Acknowledgement.{IsAskable, acknowledgement}
 use Rattle.views.specs.declared.view.Cause.{Cause}
 use Rattle.views.specs.declared.view.Cause.TheVariants.{Unmapped, Other}
 use Rattle.views.specs.declared.view.Order.{Order}
 use Rattle.views.specs.declared.view.View.{View}
-use Rattle.views.specs.Rule.{cell, memory_of}
+use Rattle.views.specs.Rule.{cell, tables_in}
 use Rattle.shoot.specs.declared.TheConstants.{MAX_TICKETS}
 
 abbrev pub asid_of_space : Config → ℕ → ℕ
@@ -64,15 +63,6 @@ abbrev pub lies_over : Cause → Place → Span → Bool
 lies_over (Unmapped place page) other span = is_same_place place other && overlaps page span
 lies_over (Other what) other span = false
 
--- no entry maps into the page, for the ASID or for any
-abbrev pub Misses : Span → Option ℕ → List Entry → Type 0
-Misses page space entries = AllPass (λ e. not (maps_into page space e)) entries
-
--- the hart has no mapping in the page
-abbrev pub IsClean : List View → ℕ → Span → Option ℕ → Type 0
-IsClean views hart page space =
-    (j : ℕ) (w : View) → get_elem? views j ≡ some w → w.hart ≡ hart → Misses page space w.entries
-
 -- nothing that the words map from a root of the place lies in the page
 abbrev pub IsUnmapped : Layout → Tables → Place → Span → Type 0
 IsUnmapped l words place page =
@@ -80,24 +70,62 @@ IsUnmapped l words place page =
     → IsAbout place page s number
     → ¬ Maps l.scheme words (root_ppn l s) number ppn flags global
 
--- What holds of an order of the hart that follows an unmapping and is not marked anew; `own` is the
--- hart's table memory.
-pub record Kept (c : Config) (words : List ℕ) (views : List View) (hart : ℕ) (own : Held)
-    (k : Order) (place : Place) (page : Span) : Type 0 where
+-- the hart's words at the beginning of an order, or after a store since
+abbrev pub IsSince : View → Order → List ℕ → Type 0
+IsSince v order words =
+    (age : ℕ) × (get_elem? v.versions age ≡ some words) × (age + order.since ≤ v.stores)
+
+-- the entry is of the place: a global one of the kernel, and else one of the space's ASID
+abbrev pub IsOf : Config → Place → Entry → Type 0
+IsOf c (Space s) e = (e.global ≡ false) × (e.asid ≡ asid_of_space c s)
+IsOf c Kernel e = e.global ≡ true
+
+-- and that is at home on the hart
+pub record IsFrom (c : Config) (hart : ℕ) (e : Entry) : Type 0 where
+  pub place : Place
   pub has : HasPlace (layout_of c) place
   pub at_home : home_of (layout_of c) place ≡ hart
-  pub right_half : is_wrong_half (layout_of c) place page ≡ false
-  pub askable : IsAskable (dropping c place page)
-  pub unmapped : IsUnmapped (layout_of c) (memory_words own) place page
+  pub is : IsOf c place e
+
+-- the words map what the entry does, from the root of the space with its ASID
+pub record IsMapped (c : Config) (words : Tables) (e : Entry) : Type 0 where
+  pub space : ℕ
+  pub has : space < length (layout_of c).homes
+  pub asid : e.asid ≡ asid_of_space c space
+  pub each : (m : Mapping) → IsMappingOf e m
+      → Maps c.scheme words (root_ppn (layout_of c) space) m.page m.ppn m.flags e.global
+
+-- of what an order asks to drop, the hart holds from the sender only what the sender's words mapped
+-- at the order's beginning or since
+abbrev pub HoldsSince : Config → List View → ℕ → View → Order → Type 0
+HoldsSince c views hart v order =
+    (j : ℕ) (w : View) → get_elem? views j ≡ some w → w.hart ≡ hart → (e : Entry)
+    → Contains w.entries e → is_dropped (asked c order.cause) e ≡ true → IsFrom c v.hart e
+    → (words : List ℕ) × IsSince v order words × IsMapped c (tables_in (layout_of c) words) e
+
+-- What holds of each order of a view.
+pub record Answered (c : Config) (words : List ℕ) (views : List View) (v : View)
+    (order : Order) : Type 0 where
+  pub begun : order.since ≤ v.stores
+  pub askable : IsAskable (asked c order.cause)
   -- cells are armed for tickets of a hart, which are numbered from 0
-  pub numbered : (h : ℕ) → is_in h k.armed ≡ true → k.ticket < MAX_TICKETS
-  -- once a cell that was armed for it has its word, the receiver has no mapping of it
-  pub acked : (h : ℕ) → h < length (layout_of c).spares → is_in h k.armed ≡ true
-      → slice_index words (cell (layout_of c) hart k.ticket h)
-      ≡ acknowledgement (dropping c place page) → IsClean views h page (asid_for c place)
-  -- nor has a hart that was collected, from then on
-  pub gone : (h : ℕ) → h < length (layout_of c).spares → is_in h k.collected ≡ true
-      → IsClean views h page (asid_for c place)
+  pub numbered : (h : ℕ) → is_in h order.armed ≡ true → order.ticket < MAX_TICKETS
+  -- once a cell that was armed for it has its word, the receiver dropped what it asks
+  pub acked : (h : ℕ) → h < length (layout_of c).spares → is_in h order.armed ≡ true
+      → slice_index words (cell (layout_of c) v.hart order.ticket h)
+      ≡ acknowledgement (asked c order.cause) → HoldsSince c views h v order
+  -- and so did a hart that was collected
+  pub gone : (h : ℕ) → h < length (layout_of c).spares → is_in h order.collected ≡ true
+      → HoldsSince c views h v order
+
+-- What holds of one that follows an unmapping and is not marked anew: since then the sender's words
+-- map nothing in the page.
+pub record Kept (c : Config) (v : View) (order : Order) (place : Place) (page : Span) : Type 0 where
+  pub has : HasPlace (layout_of c) place
+  pub at_home : home_of (layout_of c) place ≡ v.hart
+  pub right_half : is_wrong_half (layout_of c) place page ≡ false
+  pub unmapped : (words : List ℕ) → IsSince v order words
+      → IsUnmapped (layout_of c) (tables_in (layout_of c) words) place page
 
 -- an entry is global exactly in the window: so is each address of its page
 abbrev pub IsGlobalInWindow : Layout → Entry → Type 0
@@ -109,6 +137,10 @@ IsGlobalInWindow l e =
 pub record Ordered (c : Config) (s : State ℕ View) : Type 0 where
   pub window : (j : ℕ) (v : View) → get_elem? s.views j ≡ some v
       → All (IsGlobalInWindow (layout_of c)) v.entries
+  pub latest : (j : ℕ) (v : View) → get_elem? s.views j ≡ some v
+      → get_elem? v.versions 0 ≡ some v.words
+  pub answered : (j : ℕ) (v : View) → get_elem? s.views j ≡ some v → (n : ℕ) (order : Order)
+      → get_elem? v.orders n ≡ some order → Answered c s.words s.views v order
   pub kept : (j : ℕ) (v : View) → get_elem? s.views j ≡ some v → (n : ℕ) (order : Order)
       → get_elem? v.orders n ≡ some order → (place : Place) (page : Span) → IsLive order place page
-      → Kept c s.words s.views v.hart (memory_of (layout_of c) v) order place page
+      → Kept c v order place page

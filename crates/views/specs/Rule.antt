@@ -136,6 +136,7 @@ starting c hart next = record {
   holders = replicate (frame_count (layout_of c)) None;
   used = 0;
   stores = 0;
+  versions = first_words (layout_of c) (size (layout_of c)) ∷ [];
   root = 0;
   walk = None;
   reads = [];

@@ -79,5 +79,6 @@ edited l v store orders = record v {
   holders = (memory_after (memory_of l v) store).holders;
   used = used_after v.used store;
   stores = v.stores + 1;
+  versions = (memory_after (memory_of l v) store).words ∷ v.versions;
   orders = orders;
 }

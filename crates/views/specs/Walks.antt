@@ -28,6 +28,7 @@ pub record IsSameHome (v w : View) : Type 0 where
   pub holders : w.holders ≡ v.holders
   pub used : w.used ≡ v.used
   pub stores : w.stores ≡ v.stores
+  pub versions : w.versions ≡ v.versions
   pub orders : w.orders ≡ v.orders
   pub cell_steps : w.cell_steps ≡ v.cell_steps
 

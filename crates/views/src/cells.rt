@@ -12,7 +12,7 @@ ghost use Rattle.views.specs.Rule.{board_size, cell};
 ghost use Rattle.views.specs.OnBoard.{IsFit, IsOnBoard, IsWithin};
 ghost use Rattle.shoot.specs.declared.TheConstants.{MAX_TICKETS};
 ghost use Rattle.views.specs.Board.{Steps};
-ghost use Rattle.shoot.specs.Acknowledgement.{acknowledgement};
+ghost use Rattle.shoot.specs.Acknowledgement.{IsAskable, acknowledgement};
 ghost use Rattle.views.specs.declared.view.CellStep.TheVariants.{Found, Stored};
 ghost use Rattle.views.specs.OrderTurns.{IsAsking, IsAwaiting, acknowledged, last_word, looked, ordered, self_acked, with_armed};
 
@@ -37,6 +37,20 @@ fn cell(config: &Config, sender: u8, ticket: u32, receiver: u8) -> usize
     let words = config.frame_count() * u64::from(TABLE_LENGTH);
     let pair = u64::from(sender) * u64::from(config.harts) + u64::from(receiver);
     (words + (pair * MAX_TICKETS as u64 + u64::from(ticket))) as usize
+}
+
+/// Does nothing; its contract says that what is to be dropped can be asked.
+fn recall(what: &What)
+    ensures { IsAskable what.now }
+{
+    match *what {
+        What::PageOf(page, Some(_asid)) => page.recall(),
+        What::PageOf(page, None) => page.recall(),
+        What::SpaceOf(asid) => {
+            let _small = asid <= u16::MAX;
+        }
+        What::All => {}
+    }
 }
 
 fn open_as<T: Turn>(words: &Words, seat: &mut Seat, word: usize, _ticket: u32, _what: What) -> u64
@@ -65,6 +79,7 @@ pub fn open_order(words: &Words, seat: &mut Seat, config: &Config, hart: u8, req
     ensures asks { IsAsking config.now seat.new.view request.now.ticket request.now.what }
 {
     let at = cell(config, hart, request.ticket, hart);
+    recall(&request.what);
     let _word = open_as::<Brand>(words, seat, at, request.ticket, request.what);
 }
 

@@ -61,26 +61,25 @@ fn asid_in(config: &Config, space: u8) -> u16
 }
 
 /// Does nothing; its contract says that the base of a wish's page is canonical and a multiple of
-/// the page's size, and that the ASID of an unmap's request, if it has one, has 16 bits.
+/// the page's size, and that the ASID of what an unmap or a protect asks, if any, has 16 bits.
 fn ask(config: &Config, wish: &Wish)
     requires { HasPlace (layout_of config.now) (place_of wish.now) }
     ensures { IsAsked config.now wish.now }
 {
     match *wish {
-        Wish::Map { page, .. } | Wish::Protect { page, .. } => {
-            page.recall();
-        }
         Wish::Unmap {
             place: Home::Space(space),
             page,
+        }
+        | Wish::Protect {
+            place: Home::Space(space),
+            page,
+            ..
         } => {
             page.recall();
             let _asid = asid_in(config, space);
         }
-        Wish::Unmap {
-            place: Home::Kernel,
-            page,
-        } => {
+        Wish::Map { page, .. } | Wish::Unmap { page, .. } | Wish::Protect { page, .. } => {
             page.recall();
         }
     }

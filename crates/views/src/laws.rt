@@ -11,8 +11,8 @@ ghost use Rattle.spaces.specs.Holders.{Holders};
 ghost use Rattle.spaces.specs.Tree.{IsAtHome, IsTree};
 ghost use Rattle.views.specs.declared.view.View.{View};
 ghost use Rattle.views.specs.Rule.{Has, tables_in};
-ghost use Rattle.views.specs.Board.{AcknowledgedIsClean, Board, CollectedIsClean, EqualWordsAskForEqualService, IsAsSaid, LeavesAreAligned, LeavesAreGlobalInWindow, MappingsAreGlobalInWindow, SeatsAreNumbered, StoresOverwriteNoPointer, UnmappedIsWhereNoLeafLeads, UnmappedOnBoardIsWhereNoLeafLeads, UnmappedStaysUnmapped, own_words, shared_words};
-ghost use Rattle.views.specs.Lasting.{CellsAreApart, CellsMeet, EachEditIsOneStore, EachSpaceAtHomeIsReadBack, EditsKeepOrders, EditsMarkNothing, KernelIsInEverySpace, MarkedByALeafOver, StepsKeepOrders, StepsMarkNothing, TranslatesNoneHoldsNone, UnmappingBeginsLive, WalkAnswersAsComputed, WrongAddressChangesNothing};
+ghost use Rattle.views.specs.Board.{AcknowledgedHoldsSince, AcknowledgedIsClean, Board, CollectedHoldsSince, CollectedIsClean, EqualWordsAskForEqualService, IsAsSaid, LeavesAreAligned, LeavesAreGlobalInWindow, MappingsAreGlobalInWindow, SeatsAreNumbered, StoresOverwriteNoPointer, UnmappedIsWhereNoLeafLeads, UnmappedOnBoardIsWhereNoLeafLeads, UnmappedStaysUnmapped, own_words, shared_words};
+ghost use Rattle.views.specs.Lasting.{CellsAreApart, CellsMeet, EachEditIsOneStore, EachSpaceAtHomeIsReadBack, EditsKeepOrders, EditsMarkNothing, KernelIsInEverySpace, MarkedByALeafOver, NothingStoredSince, OnlyEditsStore, OrdersBegin, StepsKeepOrders, StepsMarkNothing, TranslatesNoneHoldsNone, UnmappingBeginsLive, WalkAnswersAsComputed, WrongAddressChangesNothing};
 
 /// Once a hart was collected for an unmapping whose page is not mapped anew, what it filled
 /// translates no address of the page in any address space of the place.
@@ -51,6 +51,33 @@ pub fn leaves_are_aligned()
 /// translate no address of the page, until it is mapped anew.
 pub fn acknowledged_is_clean()
     ensures { AcknowledgedIsClean }
+{}
+
+/// Once a cell that was armed for an order, be it an unmapping, a protect or a flush, has the word of
+/// what it asks to drop, the receiver holds of that, from places at home on the sender, only what
+/// the sender's words mapped since the order began. An acknowledgement of an older order would break
+/// this.
+#[tactic(auto, using(crate::proofs::Collected::acknowledged_holds_since))]
+pub fn acknowledged_holds_since()
+    ensures { AcknowledgedHoldsSince }
+{}
+
+/// So it is once the hart was collected for the order, also when the ticket is used again.
+#[tactic(auto, using(crate::proofs::Collected::collected_holds_since))]
+pub fn collected_holds_since()
+    ensures { CollectedHoldsSince }
+{}
+
+/// An order begins under its ticket with no cell armed and no hart collected: that of an unmapping
+/// or a protect with the store that it follows, and that of a flush at once.
+pub fn orders_begin()
+    ensures { OrdersBegin }
+{}
+
+/// Where a home stored nothing since an order began, its words since then are those of now.
+#[tactic(auto, using(crate::proofs::Lasting::nothing_stored_since))]
+pub fn nothing_stored_since()
+    ensures { NothingStoredSince }
 {}
 
 /// Requests whose acknowledgement words are equal ask for equal service: an acknowledgement that
@@ -154,9 +181,11 @@ pub fn walk_of_a_wrong_address_changes_nothing()
     ensures { WrongAddressChangesNothing }
 {}
 
-/// A view counts the store of each edit, so no edit is accepted without one.
+/// A view counts the store of each edit, so no edit is accepted without one, and knows the words
+/// after each. No other step stores a table word.
 pub fn each_edit_is_one_store()
-    ensures { EachEditIsOneStore }
+    ensures edits { EachEditIsOneStore }
+    ensures others { OnlyEditsStore }
 {}
 
 /// No store to a table word overwrites a pointer.

@@ -32,6 +32,8 @@ pub struct Order {
     pub cause: Cause,
     /// Whether a leaf was mapped over the page since.
     pub anew: bool,
+    /// How many table words the hart had stored as the order began, with the one that it follows.
+    pub since: u64,
     /// The harts whose cell was armed for it.
     pub armed: LinkedList<u64>,
     /// The harts that were collected.
@@ -63,6 +65,8 @@ pub struct View {
     pub used: u64,
     /// How many table words the hart stored.
     pub stores: u64,
+    /// The words as they were at the opening and after each of these stores, the last ones first.
+    pub versions: LinkedList<LinkedList<u64>>,
     /// The root of the last walk.
     pub root: u64,
     /// Where the last walk stands, if it has not ended.

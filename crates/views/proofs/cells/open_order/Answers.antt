@@ -8,7 +8,8 @@ use Rattle.views.proofs.cells.open_order.Goals as goal
 
 pub open_as-word-requires-clause-steps : goal.open_as-word-requires-clause-steps
 open_as-word-requires-clause-steps c =
-    rw (c.requires.fit.key_is) (opens-order c.args.config.now c.args.seat.now.id c.args.seat.now.view c.cell-at.result c.request.inside.ticket c.request.inside.what)
+    rw (c.requires.fit.key_is) (opens-order c.args.config.now c.args.seat.now.id c.args.seat.now.view c.cell-at.result c.request.inside.ticket c.request.inside.what
+    c.recall.ensures)
 
 pub returns-clause-asks : goal.returns-clause-asks
 returns-clause-asks c =

@@ -1,4 +1,4 @@
-use Rattle.std.proofs.Common.{◌≡◌, ap, sym, ◌∙◌, subst}
+use Rattle.std.proofs.Common.{◌+◌, ◌≡◌, ap, sym, ◌∙◌, subst}
 use Rattle.spaces.specs.Layout.{layout_of}
 use Rattle.views.specs.Rule.{Local}
 use Rattle.views.specs.OrderTurns.{noted, orders_after}
@@ -31,5 +31,5 @@ returns-clause-fit c =
       on_board = c.store_as.ensures.on_board;
       local =
           subst (Local (layout_of c.args.config.now)) (sym view)
-          (edited-local (layout_of c.args.config.now) c.args.seat.now.view c.requires.fit.local c.args.wish.now c.requires.place c.args.edit.now c.requires.due (orders_after c.args.config.now c.args.wish.now c.args.ticket c.args.edit.now c.args.seat.now.view.orders));
+          (edited-local (layout_of c.args.config.now) c.args.seat.now.view c.requires.fit.local c.args.wish.now c.requires.place c.args.edit.now c.requires.due (orders_after c.args.config.now c.args.wish.now c.args.ticket c.args.edit.now (c.args.seat.now.view.stores + 1) c.args.seat.now.view.orders));
     }
