@@ -177,14 +177,14 @@ module _ (c : Config) (ks : List Order) (T : TicketTable) where
       by (Some t) None keeps is = absurd is
       by (Some t) (Some k) keeps is = keeps t k refl is
 
-  fresh-order : (n : ℕ) (cause : Cause) → order_of_ticket n (fresh n cause ∷ ks) ≡ Some (fresh n cause)
-  fresh-order n cause = ap (λ b. cond b (Some (fresh n cause)) (order_of_ticket n ks)) (eq-eqb n n refl)
+  fresh-order : (n : ℕ) (cause : Cause) (stores : ℕ) → order_of_ticket n (fresh n cause stores ∷ ks) ≡ Some (fresh n cause stores)
+  fresh-order n cause stores = ap (λ b. cond b (Some (fresh n cause stores)) (order_of_ticket n ks)) (eq-eqb n n refl)
 
-  later-order : (n : ℕ) (cause : Cause) (m : ℕ) → m ≢ n → order_of_ticket m (fresh n cause ∷ ks) ≡ order_of_ticket m ks
-  later-order n cause m apart = ap (λ b. cond b (Some (fresh n cause)) (order_of_ticket m ks)) (ne_eqb n m (λ e. apart (sym e)))
+  later-order : (n : ℕ) (cause : Cause) (stores m : ℕ) → m ≢ n → order_of_ticket m (fresh n cause stores ∷ ks) ≡ order_of_ticket m ks
+  later-order n cause stores m apart = ap (λ b. cond b (Some (fresh n cause stores)) (order_of_ticket m ks)) (ne_eqb n m (λ e. apart (sym e)))
 
-  new-tied : (n : ℕ) (cause : Cause) (what : What) (named : ℕ) → asked c cause ≡ what → IsWhole T.hart (new_ticket what named) × IsOrderOf c (new_ticket what named) (fresh n cause)
-  new-tied n cause what named asks = (
+  new-tied : (n : ℕ) (cause : Cause) (stores : ℕ) (what : What) (named : ℕ) → asked c cause ≡ what → IsWhole T.hart (new_ticket what named) × IsOrderOf c (new_ticket what named) (fresh n cause stores)
+  new-tied n cause stores what named asks = (
     record {
       named_harts = refl;
       posted_harts = refl;
@@ -197,11 +197,11 @@ module _ (c : Config) (ks : List Order) (T : TicketTable) where
   )
 
   -- a ticket is opened, and its order
-  pub tied_opened : (what : What) (named n : ℕ) (cause : Cause) → open_answer T named ≡ Ok n → asked c cause ≡ what
-      → AreTied c ks T → AreTied c (fresh n cause ∷ ks) (after_open T what named)
-  tied_opened what named n cause is asks was =
-      rw is (tied-set (fresh n cause ∷ ks) n (Some (new_ticket what named)) (later-order n cause)
-      (subst (λ o. IsTied c T.hart (Some (new_ticket what named)) o) (sym (fresh-order n cause)) (new-tied n cause what named asks)) was)
+  pub tied_opened : (what : What) (named n : ℕ) (cause : Cause) (stores : ℕ) → open_answer T named ≡ Ok n → asked c cause ≡ what
+      → AreTied c ks T → AreTied c (fresh n cause stores ∷ ks) (after_open T what named)
+  tied_opened what named n cause stores is asks was =
+      rw is (tied-set (fresh n cause stores ∷ ks) n (Some (new_ticket what named)) (later-order n cause stores)
+      (subst (λ o. IsTied c T.hart (Some (new_ticket what named)) o) (sym (fresh-order n cause stores)) (new-tied n cause stores what named asks)) was)
 
   -- a leaf that is mapped marks orders anew
   pub tied_marked : (place : Place) (page : Span) → AreTied c ks T → AreTied c (map (marked place page) ks) T
@@ -635,22 +635,23 @@ pub counted_ack : (T : TicketTable) (outs : List (Option OutboxState)) (n hart :
 counted_ack T outs n hart own was = subst (λ h. AreCounted (acked_by T n h) outs) own (counted_self T outs n was)
 
 -- an edit that maps leaves the tickets, and one that does not opens one
-pub tied_mapped : (c : Config) (ks : List Order) (T : TicketTable) (w : Wish) (store : Store) → is_map w ≡ true → AreTied c ks T → AreTied c (orders_after c w 0 store ks) T
-tied_mapped c ks T (Map place page ppn flags) store maps was =
+pub tied_mapped : (c : Config) (ks : List Order) (T : TicketTable) (w : Wish) (store : Store) (stores : ℕ) → is_map w ≡ true → AreTied c ks T → AreTied c (orders_after c w 0 store stores ks) T
+tied_mapped c ks T (Map place page ppn flags) store stores maps was =
     by_test (λ b. AreTied c (cond b ks (map (marked place page) ks)) T) (is_some (pointed (Some store.word))) (λ table. was) (λ leaf. tied_marked c ks T place page was)
-tied_mapped c ks T (Unmap place page) store maps was = absurd (let e : false ≡ true = maps in cc)
-tied_mapped c ks T (Protect place page flags) store maps was = absurd (let e : false ≡ true = maps in cc)
+tied_mapped c ks T (Unmap place page) store stores maps was = absurd (let e : false ≡ true = maps in cc)
+tied_mapped c ks T (Protect place page flags) store stores maps was = absurd (let e : false ≡ true = maps in cc)
 
 same-asid : (c : Config) (place : Place) (page : Span) → dropping c place page ≡ PageOf page (space_asid (setup_of c) [] place)
 same-asid c (Space s) page = refl
 same-asid c Kernel page = refl
 
-pub tied_edited : (c : Config) (ks : List Order) (T : TicketTable) (w : Wish) (ticket named : ℕ) (store : Store) → is_map w ≡ false → open_answer T named ≡ Ok ticket → AreTied c ks T
-    → AreTied c (orders_after c w ticket store ks) (after_open T (PageOf (page_of w) (space_asid (setup_of c) [] (place_of w))) named)
-tied_edited c ks T (Map place page ppn flags) ticket named store edits is was = absurd (let e : true ≡ false = edits in cc)
-tied_edited c ks T (Unmap place page) ticket named store edits is was = tied_opened c ks T (PageOf page (space_asid (setup_of c) [] place)) named ticket (Unmapped place page) is (same-asid c place page) was
-tied_edited c ks T (Protect place page flags) ticket named store edits is was =
-    tied_opened c ks T (PageOf page (space_asid (setup_of c) [] place)) named ticket (Other (dropping c place page)) is (same-asid c place page) was
+pub tied_edited : (c : Config) (ks : List Order) (T : TicketTable) (w : Wish) (ticket named : ℕ) (store : Store) (stores : ℕ) → is_map w ≡ false → open_answer T named ≡ Ok ticket → AreTied c ks T
+    → AreTied c (orders_after c w ticket store stores ks) (after_open T (PageOf (page_of w) (space_asid (setup_of c) [] (place_of w))) named)
+tied_edited c ks T (Map place page ppn flags) ticket named store stores edits is was = absurd (let e : true ≡ false = edits in cc)
+tied_edited c ks T (Unmap place page) ticket named store stores edits is was =
+    tied_opened c ks T (PageOf page (space_asid (setup_of c) [] place)) named ticket (Unmapped place page) stores is (same-asid c place page) was
+tied_edited c ks T (Protect place page flags) ticket named store stores edits is was =
+    tied_opened c ks T (PageOf page (space_asid (setup_of c) [] place)) named ticket (Other (dropping c place page)) stores is (same-asid c place page) was
 
 -- the ticket is still open once a hart is found
 pub open_found : (T : TicketTable) (n from : ℕ) → IsTrue (awaits from (ticket_at T n)) → IsTrue (is_open T n) × IsTrue (is_open (collected_by T n from) n)

@@ -1,28 +1,33 @@
 -- What a sender may rely on once an unmapping's ticket is done.
-use Rattle.std.specs.Prelude.{ℕ, ◌≡◌, Bool, Some, Ok, Contains, List, [], true}
+use Rattle.std.specs.Prelude.{ℕ, ◌≡◌, ◌+◌, Bool, Some, Ok, Contains, List, [], true}
 use mathlib.Core.Option.{some}
 use lib.ListN.{get_elem?}
 use Rattle.atomic_table.specs.Table.{State}
 use Rattle.pte.specs.Address.{Holds, IsPage, Overlap, Span}
+use Rattle.pte.specs.declared.flags.PteFlags.{PteFlags}
 use Rattle.tlb.specs.declared.store.Entry.{Entry}
 use Rattle.tlb.specs.Mappings.{IsMappedBy, Translates}
+use Rattle.tlb.specs.Service.{is_dropped}
 use Rattle.shoot.specs.HartSet.{contains, harts_in}
 use Rattle.shoot.specs.Tickets.{is_open, names}
 use Rattle.spaces.specs.declared.configuration.Config.{Config}
 use Rattle.spaces.specs.declared.places.Place.{Place}
-use Rattle.spaces.specs.declared.wishes.Wish.TheVariants.{Unmap}
+use Rattle.spaces.specs.declared.wishes.Wish.TheVariants.{Protect, Unmap}
 use Rattle.spaces.specs.Layout.{layout_of}
 use Rattle.history.specs.Setup.{setup_of}
+use Rattle.history.specs.Orders.{scope_request}
+use Rattle.history.specs.declared.event.Scope.{Scope}
 use Rattle.views.specs.declared.view.Order.{Order}
 use Rattle.views.specs.declared.view.View.{View}
 use Rattle.views.specs.Board.{Board}
 use Rattle.views.specs.Rule.{tables_in}
-use Rattle.views.specs.Orders.{IsAsidFor, IsLive, IsUnmapped, is_in}
+use Rattle.views.specs.declared.view.Cause.TheVariants.{Other}
+use Rattle.views.specs.Orders.{IsAsidFor, IsFrom, IsLive, IsMapped, IsSince, IsUnmapped, asked, dropping, is_in}
 use Rattle.views.specs.OrderTurns.{order_of_ticket}
-use Rattle.views.specs.Lasting.{IsFor}
+use Rattle.views.specs.Lasting.{HasBegun, IsFor}
 use Rattle.board.specs.Ports.{PortState}
 use Rattle.views.specs.OnBoard.{IsWithin}
-use Rattle.board.specs.Answers.{after_ack_self, after_post}
+use Rattle.board.specs.Answers.{after_ack_self, after_flush, after_post, flush_answer}
 use Rattle.board.specs.Collects.{IsCollected}
 use Rattle.board.specs.Tables.{after_edit, edit_answer}
 
@@ -52,9 +57,18 @@ pub record HasView (port : PortState) (state : State ℕ View) : Type 0 where
   pub stands : Board port.view.config state
   pub at : get_elem? state.views port.hart ≡ some port.view
 
--- There is such a state. In each, of the open order of the ticket, if it follows an unmapping that
--- is not marked anew: the page is gone from the shared words and from each hart that the ticket
--- names.
+-- of what an order asks to drop, no view of the hart, and no TLB that lies within one, holds from
+-- the sender anything but what the sender's words mapped since the order began
+abbrev pub HoldsOnlySince : Config → State ℕ View → ℕ → View → Order → Type 0
+HoldsOnlySince c state hart v order =
+    (j : ℕ) (w : View) → get_elem? state.views j ≡ some w → w.hart ≡ hart → (tlb : List Entry)
+    → IsWithin tlb w.entries → (e : Entry) → Contains tlb e
+    → is_dropped (asked c order.cause) e ≡ true → IsFrom c v.hart e
+    → (words : List ℕ) × IsSince v order words × IsMapped c (tables_in (layout_of c) words) e
+
+-- There is such a state. In each, of the open order of the ticket, each hart that the ticket names
+-- holds only what was mapped since; and if it follows an unmapping that is not marked anew, the page
+-- is gone from the shared words and from each of these harts.
 pub record IsDoneClean (port : PortState) (ticket : ℕ) : Type 0 where
   pub now : State ℕ View
   pub has_view : HasView port now
@@ -62,10 +76,14 @@ pub record IsDoneClean (port : PortState) (ticket : ℕ) : Type 0 where
       → order_of_ticket ticket port.view.orders ≡ Some order → (place : Place) (page : Span)
       → IsLive order place page
       → IsGone port.view.config state (names port.tickets ticket) place page
+  pub since : (state : State ℕ View) → HasView port state → (order : Order)
+      → order_of_ticket ticket port.view.orders ≡ Some order → (hart : ℕ)
+      → names port.tickets ticket hart ≡ true
+      → HoldsOnlySince port.view.config state hart port.view order
 
--- There is such a state. In each, of every order of the port's view, open or finished, that follows
--- an unmapping and is not marked anew: the page is gone from the shared words and from each hart
--- that was collected for the order.
+-- There is such a state. In each, of every order of the port's view, open or finished, each hart
+-- that was collected for it holds only what was mapped since; and if it follows an unmapping and is
+-- not marked anew, the page is gone from the shared words and from each of these harts.
 pub record StaysClean (port : PortState) : Type 0 where
   pub now : State ℕ View
   pub has_view : HasView port now
@@ -73,6 +91,10 @@ pub record StaysClean (port : PortState) : Type 0 where
       → get_elem? port.view.orders n ≡ some order → (place : Place) (page : Span)
       → IsLive order place page
       → IsGone port.view.config state (λ hart. is_in hart order.collected) place page
+  pub since : (state : State ℕ View) → HasView port state → (n : ℕ) (order : Order)
+      → get_elem? port.view.orders n ≡ some order → (hart : ℕ)
+      → is_in hart order.collected ≡ true
+      → HoldsOnlySince port.view.config state hart port.view order
 
 -- An unmapping that is accepted leaves under its ticket an open order that is live, of that page of
 -- that place, with no cell armed and no hart collected. So `IsDoneClean` speaks of it, until the
@@ -83,6 +105,20 @@ AcceptedUnmappingIsLive =
     → edit_answer port (Unmap place page) named ≡ Ok ticket → (order : Order)
     × (order_of_ticket ticket (after_edit port (Unmap place page) named).view.orders ≡ Some order)
     × IsLive order place page × (order.armed ≡ []) × (order.collected ≡ [])
+
+-- An edit of flags that is accepted leaves under its ticket an open order of that page, with no cell
+-- armed and no hart collected, which begins with the edit's store; and a flush one of its scope,
+-- which begins with what was stored before. So `IsDoneClean` speaks of them, and of the words since.
+abbrev pub AcceptedOrdersBegin : Type 0
+AcceptedOrdersBegin =
+    ((port : PortState) (place : Place) (page : Span) (flags : PteFlags) (named ticket : ℕ)
+    → edit_answer port (Protect place page flags) named ≡ Ok ticket
+    → HasBegun (after_edit port (Protect place page flags) named).view ticket
+    (Other (dropping port.view.config place page)) (port.view.stores + 1))
+    × ((port : PortState) (scope : Scope) (named ticket : ℕ)
+    → flush_answer port scope named ≡ Ok ticket
+    → HasBegun (after_flush port scope named).view ticket
+    (Other (scope_request port.setup [] scope)) port.view.stores)
 
 -- the ticket is open, for an unmapping of the page that is not marked anew, and names these harts
 pub record IsUnmapping (port : PortState) (ticket : ℕ) (place : Place) (page : Span)

@@ -2,7 +2,7 @@
 //! clause is the fact.
 
 ghost use Rattle.std.specs.Prelude.{◌≡◌, [], ◌∷◌};
-ghost use Rattle.board.specs.Promises.{AcceptedUnmappingIsLive, CallsKeepUnmapping, TranslateNoneHoldsNone, UnmappingOpens};
+ghost use Rattle.board.specs.Promises.{AcceptedOrdersBegin, AcceptedUnmappingIsLive, CallsKeepUnmapping, TranslateNoneHoldsNone, UnmappingOpens};
 ghost use Rattle.board.specs.Collects.{LooksInOrder};
 ghost use Rattle.board.specs.Ports.{NewPortsHaveDoneNothing};
 ghost use Rattle.board.specs.Reports.{CountsAddUp, pairs_of};
@@ -17,6 +17,13 @@ pub fn pairs_of_three_harts()
 /// is collected.
 pub fn accepted_unmapping_is_live()
     ensures { AcceptedUnmappingIsLive }
+{}
+
+/// An edit of flags that is accepted leaves under its ticket an open order of that page, which begins
+/// with its store, and a flush one of its scope, which begins with what was stored before it: what
+/// the part `since` of clause `clean` of `collect` speaks of.
+pub fn accepted_orders_begin()
+    ensures { AcceptedOrdersBegin }
 {}
 
 /// An unmapping that is accepted opens a ticket for it that names the harts that were asked for, and

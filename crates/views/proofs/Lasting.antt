@@ -48,7 +48,7 @@ same-causes ticket f keeps (k ∷ ks) = by (k.ticket == ticket) (same-causes tic
     by false more = ap (λ xs. lasting k ∷ xs) more
 
 -- an order that begins is the open one of its ticket
-first : (ticket : ℕ) (cause : Cause) (stores : ℕ) (ks : List Order) → order_of_ticket ticket (fresh ticket cause stores ∷ ks) ≡ Some (fresh ticket cause stores)
+pub first : (ticket : ℕ) (cause : Cause) (stores : ℕ) (ks : List Order) → order_of_ticket ticket (fresh ticket cause stores ∷ ks) ≡ Some (fresh ticket cause stores)
 first ticket cause stores ks = ap (λ t. cond t (Some (fresh ticket cause stores)) (order_of_ticket ticket ks)) (eq-eqb ticket ticket refl)
 
 pub begins_live : UnmappingBeginsLive

@@ -1,4 +1,4 @@
-use Rattle.std.proofs.Common.{rules, sym, ap, ◌≡◌, ◌∙◌, []}
+use Rattle.std.proofs.Common.{◌+◌, rules, sym, ap, ◌≡◌, ◌∙◌, []}
 use Rattle.std.specs.Arc.{arc_value}
 use Rattle.pte.specs.declared.address.What.TheVariants.{PageOf}
 use Rattle.shoot.specs.Tickets.{answer_for}
@@ -23,6 +23,6 @@ invariant_of-self-2 c =
       i.2,
       search rules,
       rw (c.open_for.ensures.after, named, c.store.ensures.view, c.deref-2.ensures, asked)
-          (tied_edited config c.self.inside.seat.view.orders c.self.inside.tickets wish c.in-Ok-open_for.ticket c.args.named c.in-Ok.edit c.requires.no_map opened i.4),
+          (tied_edited config c.self.inside.seat.view.orders c.self.inside.tickets wish c.in-Ok-open_for.ticket c.args.named c.in-Ok.edit (c.self.inside.seat.view.stores + 1) c.requires.no_map opened i.4),
       rw (c.open_for.ensures.after, named) (counted_opened c.self.inside.tickets c.self.inside.outboxes.items _ c.args.named c.in-Ok-open_for.ticket opened i.5),
     )

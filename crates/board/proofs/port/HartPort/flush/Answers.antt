@@ -15,6 +15,6 @@ invariant_of-self-2 c =
       i.2,
       search rules,
       rw (c.open_for.ensures.after, named, c.open_order.ensures.view, c.request-request.ensures)
-          (tied_opened (arc_value c.self.inside.config) c.self.inside.seat.view.orders c.self.inside.tickets c.in-Some-what.what c.args.named c.in-Ok.ticket (Other c.in-Some-what.what) opened refl i.4),
+          (tied_opened (arc_value c.self.inside.config) c.self.inside.seat.view.orders c.self.inside.tickets c.in-Some-what.what c.args.named c.in-Ok.ticket (Other c.in-Some-what.what) c.self.inside.seat.view.stores opened refl i.4),
       rw (c.open_for.ensures.after, named) (counted_opened c.self.inside.tickets c.self.inside.outboxes.items c.in-Some-what.what c.args.named c.in-Ok.ticket opened i.5),
     )

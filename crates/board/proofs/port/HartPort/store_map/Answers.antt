@@ -1,4 +1,4 @@
-use Rattle.std.proofs.Common.{rules}
+use Rattle.std.proofs.Common.{◌+◌, rules}
 use Rattle.std.specs.Arc.{arc_value}
 use Rattle.board.proofs.Ties.{tied_mapped}
 use Rattle.board.proofs.port.HartPort.store_map.Goals as goal
@@ -10,6 +10,6 @@ invariant_of-self c =
       i.1,
       i.2,
       search rules,
-      rw (c.store.ensures.view, c.deref-2.ensures) (tied_mapped (arc_value c.self.inside.config) c.self.inside.seat.view.orders c.self.inside.tickets c.args.wish.now c.args.edit.now c.requires.map i.4),
+      rw (c.store.ensures.view, c.deref-2.ensures) (tied_mapped (arc_value c.self.inside.config) c.self.inside.seat.view.orders c.self.inside.tickets c.args.wish.now c.args.edit.now (c.self.inside.seat.view.stores + 1) c.requires.map i.4),
       i.5,
     )
