@@ -1,5 +1,5 @@
 -- What a seat knows of its orders after each kind of step.
-use Rattle.std.specs.Prelude.{ℕ, ◌≡◌, ◌+◌, ◌||◌, ◌==◌, Bool, if◌then◌else◌, is_some, true, false, List, [], ◌∷◌, map, Option, Some, None}
+use Rattle.std.specs.Prelude.{ℕ, ◌≡◌, ◌+◌, ◌⊎◌, ◌||◌, ◌==◌, Bool, if◌then◌else◌, is_some, true, false, List, [], ◌∷◌, map, Option, Some, None}
 use Rattle.pte.specs.declared.address.What.{What}
 use Rattle.pte.specs.Address.{IsPage, Span}
 use Rattle.walk.specs.Pointers.{pointed}
@@ -107,6 +107,10 @@ abbrev pub looked : ℕ → ℕ → Bool → ℕ → View → View
 looked ticket from is_found word v =
     with_look (cell_by v v.hart ticket from) word (if is_found then with_collected ticket from v
     else v)
+
+-- after a step a view says of cells what it said before, or that and this step
+abbrev pub IsTold : CellStep → View → View → Type 0
+IsTold step v w = (w.cell_steps ≡ v.cell_steps) ⊎ (w.cell_steps ≡ step ∷ v.cell_steps)
 
 -- the word that the last step on a cell found or stored
 abbrev pub last_word : List CellStep → ℕ

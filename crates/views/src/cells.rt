@@ -1,7 +1,7 @@
 //! The atomic steps on acknowledgement cells, each with what its seat knows after it. A cell holds
 //! 0 when it is armed, and then the word of the request that its receiver served.
 
-ghost use Rattle.std.specs.Prelude.{◌≡◌, ℕ, ◌<◌, ◌==◌, [], ◌∷◌, length, not};
+ghost use Rattle.std.specs.Prelude.{◌≡◌, ◌<◌, ◌==◌, length, not};
 ghost use Rattle.std.specs.List.{AllPass};
 ghost use Rattle.pte.specs.declared.address.What.{What as Asked};
 ghost use Rattle.spaces.specs.Layout.{layout_of};
@@ -9,14 +9,12 @@ ghost use Rattle.spaces.specs.Limits.{MeetsLimits};
 ghost use Rattle.spaces.specs.declared.configuration.TheConstants.{MAX_LIVE_FRAMES};
 ghost use Rattle.tlb.specs.Service.{is_dropped};
 ghost use Rattle.views.specs.Rule.{board_size, cell};
-ghost use Rattle.views.specs.OnBoard.{IsFit, IsOnBoard, IsWithin};
+ghost use Rattle.views.specs.OnBoard.{IsFit};
 ghost use Rattle.shoot.specs.declared.TheConstants.{MAX_TICKETS};
-ghost use Rattle.views.specs.Board.{Steps};
 ghost use Rattle.shoot.specs.Acknowledgement.{IsAskable, acknowledgement};
-ghost use Rattle.views.specs.declared.view.CellStep.TheVariants.{Found, Stored};
 ghost use Rattle.views.specs.OrderTurns.{IsAsking, IsAwaiting, acknowledged, last_word, looked, ordered, self_acked, with_armed};
 
-use crate::rule::{Turn, Words};
+use crate::rule::Words;
 use crate::seat::{Seat, load, store};
 use pte::{TABLE_LENGTH, What};
 use shoot::{MAX_TICKETS, Request, encode};
@@ -53,21 +51,6 @@ fn recall(what: &What)
     }
 }
 
-fn open_as<T: Turn>(words: &Words, seat: &mut Seat, word: usize, _ticket: u32, _what: What) -> u64
-    requires same { seat.old.table_id ≡ words.now.table_id }
-    requires inside { word < words.now.table_id.words }
-    requires steps { Steps words.now.key seat.old.id seat.old.view word (λ n. n) T.after T.tells }
-    requires within { (n : ℕ) → IsWithin seat.old.tlb.entries seat.old.view.entries
-        → IsWithin seat.old.tlb.entries (T.after n).entries }
-    ensures same { seat.new.table_id ≡ seat.old.table_id }
-    ensures id { seat.new.id ≡ seat.old.id }
-    ensures view { seat.new.view ≡ T.after result }
-    ensures tlb { seat.new.tlb ≡ seat.old.tlb }
-    ensures on_board { IsOnBoard seat.new.view }
-{
-    load::<T>(words, seat, word)
-}
-
 /// Opens an order that follows no store, as that of a flush, under a ticket. What a seat knows
 /// changes by a step alone, so it loads the hart's own cell, and ignores the word.
 pub fn open_order(words: &Words, seat: &mut Seat, config: &Config, hart: u8, request: &Request)
@@ -80,24 +63,7 @@ pub fn open_order(words: &Words, seat: &mut Seat, config: &Config, hart: u8, req
 {
     let at = cell(config, hart, request.ticket, hart);
     recall(&request.what);
-    let _word = open_as::<Brand>(words, seat, at, request.ticket, request.what);
-}
-
-fn arm_as<T: Turn>(words: &Words, seat: &mut Seat, word: usize, _ticket: u32, _to: u8)
-    requires same { seat.old.table_id ≡ words.now.table_id }
-    requires inside { word < words.now.table_id.words }
-    requires steps { Steps words.now.key seat.old.id seat.old.view word (λ _. 0) (λ _. T.after 0)
-        (λ _. T.tells 0) }
-    requires within { IsWithin seat.old.tlb.entries seat.old.view.entries
-        → IsWithin seat.old.tlb.entries (T.after 0).entries }
-    requires told { (T.after 0).cell_steps ≡ Stored word 0 ∷ seat.old.view.cell_steps }
-    ensures same { seat.new.table_id ≡ seat.old.table_id }
-    ensures id { seat.new.id ≡ seat.old.id }
-    ensures view { seat.new.view ≡ T.after 0 }
-    ensures tlb { seat.new.tlb ≡ seat.old.tlb }
-    ensures on_board { IsOnBoard seat.new.view }
-{
-    store::<T>(words, seat, word, 0)
+    let _word = load::<Brand, _>(words, seat, at, &(request.ticket, request.what));
 }
 
 /// The store of 0 to the cell of a receiver, by the sender, before its request is pushed.
@@ -113,32 +79,7 @@ pub fn arm(words: &Words, seat: &mut Seat, config: &Config, hart: u8, ticket: u3
         → IsAwaiting config.now seat.new.view ticket to what }
 {
     let at = cell(config, hart, ticket, to);
-    arm_as::<Brand>(words, seat, at, ticket, to)
-}
-
-fn acknowledge_as<T: Turn>(
-    words: &Words,
-    seat: &mut Seat,
-    word: usize,
-    new: u64,
-    _from: u8,
-    _ticket: u32,
-    _what: What,
-)
-    requires same { seat.old.table_id ≡ words.now.table_id }
-    requires inside { word < words.now.table_id.words }
-    requires steps { Steps words.now.key seat.old.id seat.old.view word (λ _. new)
-        (λ _. T.after new) (λ _. T.tells new) }
-    requires within { IsWithin seat.old.tlb.entries seat.old.view.entries
-        → IsWithin seat.old.tlb.entries (T.after new).entries }
-    requires told { (T.after new).cell_steps ≡ Stored word new ∷ seat.old.view.cell_steps }
-    ensures same { seat.new.table_id ≡ seat.old.table_id }
-    ensures id { seat.new.id ≡ seat.old.id }
-    ensures view { seat.new.view ≡ T.after new }
-    ensures tlb { seat.new.tlb ≡ seat.old.tlb }
-    ensures on_board { IsOnBoard seat.new.view }
-{
-    store::<T>(words, seat, word, new)
+    store::<Brand, _>(words, seat, at, 0, &(ticket, to))
 }
 
 /// The store of a request's word to the sender's cell, by its receiver, whose TLB has nothing left
@@ -162,31 +103,7 @@ pub(crate) fn acknowledge(
 {
     let word = encode(request);
     let at = cell(config, from, request.ticket, hart);
-    acknowledge_as::<Brand>(words, seat, at, word, from, request.ticket, request.what)
-}
-
-fn acknowledge_self_as<T: Turn>(
-    words: &Words,
-    seat: &mut Seat,
-    word: usize,
-    new: u64,
-    _ticket: u32,
-    _what: What,
-)
-    requires same { seat.old.table_id ≡ words.now.table_id }
-    requires inside { word < words.now.table_id.words }
-    requires steps { Steps words.now.key seat.old.id seat.old.view word (λ _. new)
-        (λ _. T.after new) (λ _. T.tells new) }
-    requires within { IsWithin seat.old.tlb.entries seat.old.view.entries
-        → IsWithin seat.old.tlb.entries (T.after new).entries }
-    requires told { (T.after new).cell_steps ≡ Stored word new ∷ seat.old.view.cell_steps }
-    ensures same { seat.new.table_id ≡ seat.old.table_id }
-    ensures id { seat.new.id ≡ seat.old.id }
-    ensures view { seat.new.view ≡ T.after new }
-    ensures tlb { seat.new.tlb ≡ seat.old.tlb }
-    ensures on_board { IsOnBoard seat.new.view }
-{
-    store::<T>(words, seat, word, new)
+    store::<Brand, _>(words, seat, at, word, &(from, request.ticket, request.what))
 }
 
 /// The same where the sender is the receiver, which is then collected.
@@ -207,29 +124,7 @@ pub(crate) fn acknowledge_self(
 {
     let word = encode(request);
     let at = cell(config, hart, request.ticket, hart);
-    acknowledge_self_as::<Brand>(words, seat, at, word, request.ticket, request.what)
-}
-
-fn collect_as<T: Turn>(
-    words: &Words,
-    seat: &mut Seat,
-    word: usize,
-    _from: u8,
-    _request: Request,
-) -> u64
-    requires same { seat.old.table_id ≡ words.now.table_id }
-    requires inside { word < words.now.table_id.words }
-    requires steps { Steps words.now.key seat.old.id seat.old.view word (λ n. n) T.after T.tells }
-    requires within { (n : ℕ) → IsWithin seat.old.tlb.entries seat.old.view.entries
-        → IsWithin seat.old.tlb.entries (T.after n).entries }
-    requires told { (n : ℕ) → (T.after n).cell_steps ≡ Found word n ∷ seat.old.view.cell_steps }
-    ensures same { seat.new.table_id ≡ seat.old.table_id }
-    ensures id { seat.new.id ≡ seat.old.id }
-    ensures view { seat.new.view ≡ T.after result }
-    ensures tlb { seat.new.tlb ≡ seat.old.tlb }
-    ensures on_board { IsOnBoard seat.new.view }
-{
-    load::<T>(words, seat, word)
+    store::<Brand, _>(words, seat, at, word, &(request.ticket, request.what))
 }
 
 /// The load of a receiver's cell by the sender, for the open order of the request's ticket, for
@@ -255,6 +150,6 @@ pub fn collect(
     ensures awaits { IsAwaiting config.now seat.new.view request.now.ticket from request.now.what }
 {
     let at = cell(config, hart, request.ticket, from);
-    let word = collect_as::<Brand>(words, seat, at, from, *request);
+    let word = load::<Brand, _>(words, seat, at, &(from, request.ticket, request.what));
     word == encode(request)
 }

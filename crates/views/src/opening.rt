@@ -1,14 +1,13 @@
 //! The opening of the words, and a seat for each hart.
 
-ghost use Rattle.std.specs.Prelude.{◌≡◌, ◌<◌, ℕ, [], IfOk};
+ghost use Rattle.std.specs.Prelude.{◌≡◌, ◌<◌, [], IfOk};
 ghost use Rattle.spaces.specs.Limits.{MeetsLimits};
 ghost use Rattle.spaces.specs.declared.configuration.TheConstants.{MAX_LIVE_FRAMES};
 ghost use Rattle.spaces.specs.Layout.{layout_of};
 ghost use Rattle.views.specs.Rule.{board_words, dealer, dealt, first_view};
-ghost use Rattle.views.specs.Board.{Steps};
-ghost use Rattle.views.specs.OnBoard.{IsFit, IsOnBoard, IsWithin};
+ghost use Rattle.views.specs.OnBoard.{IsFit, IsOnBoard};
 
-use crate::rule::{Memory, Turn, Words};
+use crate::rule::{Memory, Words};
 use crate::seat::{Seat, load};
 use shoot::MAX_TICKETS;
 use spaces::{Config, first_words};
@@ -31,21 +30,6 @@ fn board_words(alloc: Global, config: &Config) -> Result<Vec<u64>, AllocError>
     Ok(words)
 }
 
-fn sit_as<T: Turn>(words: &Words, seat: &mut Seat)
-    requires same { seat.old.table_id ≡ words.now.table_id }
-    requires inside { 0 < words.now.table_id.words }
-    requires steps { Steps words.now.key seat.old.id seat.old.view 0 (λ n. n) T.after T.tells }
-    requires within { (n : ℕ) → IsWithin seat.old.tlb.entries seat.old.view.entries
-        → IsWithin seat.old.tlb.entries (T.after n).entries }
-    ensures same { seat.new.table_id ≡ seat.old.table_id }
-    ensures id { seat.new.id ≡ seat.old.id }
-    ensures told { (n : ℕ) × (seat.new.view ≡ T.after n) × T.tells n }
-    ensures tlb { seat.new.tlb ≡ seat.old.tlb }
-    ensures on_board { IsOnBoard seat.new.view }
-{
-    load::<T>(words, seat, 0);
-}
-
 /// A load by a new seat, which then knows that it is on the board, by its hart's number.
 fn sit(words: &Words, seat: &mut Seat)
     requires same { seat.old.table_id ≡ words.now.table_id }
@@ -56,7 +40,7 @@ fn sit(words: &Words, seat: &mut Seat)
     ensures number { seat.new.id ≡ seat.new.view.hart }
     ensures on_board { IsOnBoard seat.new.view }
 {
-    sit_as::<Brand>(words, seat);
+    load::<Brand, _>(words, seat, 0, &());
 }
 
 /// The words of a configuration, with the seat of hart 0, from which the others are dealt.

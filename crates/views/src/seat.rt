@@ -8,6 +8,8 @@ ghost use Rattle.atomic_table.specs.Table.{Splits};
 ghost use Rattle.views.specs.Rule.{dealer, dealt};
 ghost use Rattle.views.specs.Board.{Board, Steps};
 ghost use Rattle.views.specs.OnBoard.{IsOnBoard, IsWithin, new_seat};
+ghost use Rattle.views.specs.OrderTurns.{IsTold};
+ghost use Rattle.views.specs.declared.view.CellStep.TheVariants.{Found, Stored};
 
 use crate::rule::{Deal, Right, To, Turn, Words};
 use pte::{Scheme, VirtAddr, What};
@@ -39,13 +41,16 @@ impl Model for Seat {
     ghost invariant = { λ s. (s.right.me.1 ≡ []) × IsWithin s.tlb.entries s.right.me.0.entries };
 }
 
-/// One load of a shared word, after which the view still holds what is in the TLB.
-pub(crate) fn load<T: Turn>(words: &Words, seat: &mut Seat, word: usize) -> u64
+/// One load of a shared word, after which the view still holds what is in the TLB. The caller's
+/// proof picks what `T` says, and only the call's arguments can stand in the pick: `_of` has those
+/// that the load itself has no use for.
+pub(crate) fn load<T: Turn, Of>(words: &Words, seat: &mut Seat, word: usize, _of: &Of) -> u64
     requires same { seat.old.table_id ≡ words.now.table_id }
     requires inside { word < words.now.table_id.words }
     requires steps { Steps words.now.key seat.old.id seat.old.view word (λ n. n) T.after T.tells }
     requires within { (n : ℕ) → IsWithin seat.old.tlb.entries seat.old.view.entries
         → IsWithin seat.old.tlb.entries (T.after n).entries }
+    requires told { (n : ℕ) → IsTold (Found word n) seat.old.view (T.after n) }
     ensures same { seat.new.table_id ≡ seat.old.table_id }
     ensures id { seat.new.id ≡ seat.old.id }
     ensures view { seat.new.view ≡ T.after result }
@@ -56,14 +61,16 @@ pub(crate) fn load<T: Turn>(words: &Words, seat: &mut Seat, word: usize) -> u64
     words.load::<To<T>>(&mut seat.right, word)
 }
 
-/// One store of a shared word, after which the view still holds what is in the TLB.
-pub(crate) fn store<T: Turn>(words: &Words, seat: &mut Seat, word: usize, new: u64)
+/// One store of a shared word, after which the view still holds what is in the TLB. `T` and `_of`
+/// are as those of `load`.
+pub(crate) fn store<T: Turn, Of>(words: &Words, seat: &mut Seat, word: usize, new: u64, _of: &Of)
     requires same { seat.old.table_id ≡ words.now.table_id }
     requires inside { word < words.now.table_id.words }
     requires steps { Steps words.now.key seat.old.id seat.old.view word (λ _. new)
         (λ _. T.after new) (λ _. T.tells new) }
     requires within { IsWithin seat.old.tlb.entries seat.old.view.entries
         → IsWithin seat.old.tlb.entries (T.after new).entries }
+    requires told { IsTold (Stored word new) seat.old.view (T.after new) }
     ensures same { seat.new.table_id ≡ seat.old.table_id }
     ensures id { seat.new.id ≡ seat.old.id }
     ensures view { seat.new.view ≡ T.after new }

@@ -1,19 +1,18 @@
 //! The atomic steps on table words, each with what its seat knows after it.
 
-ghost use Rattle.std.specs.Prelude.{◌≡◌, ℕ, ◌^◌, ◌<◌, [], true, Some, Ok};
+ghost use Rattle.std.specs.Prelude.{◌≡◌, ◌^◌, ◌<◌, [], true, Some, Ok};
 ghost use Rattle.spaces.specs.Layout.{HasPlace, is_frame, layout_of};
 ghost use Rattle.spaces.specs.Edits.{place_of};
 ghost use Rattle.spaces.specs.Held.{word_index, memory_words};
 ghost use Rattle.spaces.specs.Opening.{is_word};
 ghost use Rattle.spaces.specs.Tree.{IsAtHome};
 ghost use Rattle.views.specs.Rule.{IsRoot, memory_of, size};
-ghost use Rattle.views.specs.OnBoard.{IsFit, IsOnBoard, IsWithin};
-ghost use Rattle.views.specs.Board.{Steps};
+ghost use Rattle.views.specs.OnBoard.{IsFit};
 ghost use Rattle.views.specs.OrderTurns.{IsAsked, noted};
 ghost use Rattle.views.specs.Turns.{IsStart, TellsLoad, walked};
 ghost use Rattle.views.specs.Edits.{edit_over};
 
-use crate::rule::{Turn, Words};
+use crate::rule::Words;
 use crate::seat::{Seat, load, store};
 use pte::TABLE_LENGTH;
 use spaces::{Config, Edit, Wish};
@@ -30,22 +29,6 @@ fn word_index(config: &Config, table: u64, index: u16) -> usize
     ((table - config.base) * u64::from(TABLE_LENGTH) + u64::from(index)) as usize
 }
 
-fn load_as<T: Turn>(words: &Words, seat: &mut Seat, word: usize, _root: u64, _walk: Walk) -> u64
-    requires same { seat.old.table_id ≡ words.now.table_id }
-    requires inside { word < words.now.table_id.words }
-    requires steps { Steps words.now.key seat.old.id seat.old.view word (λ n. n) T.after T.tells }
-    requires within { (n : ℕ) → IsWithin seat.old.tlb.entries seat.old.view.entries
-        → IsWithin seat.old.tlb.entries (T.after n).entries }
-    ensures same { seat.new.table_id ≡ seat.old.table_id }
-    ensures id { seat.new.id ≡ seat.old.id }
-    ensures view { seat.new.view ≡ T.after result }
-    ensures tlb { seat.new.tlb ≡ seat.old.tlb }
-    ensures tells { T.tells result }
-    ensures on_board { IsOnBoard seat.new.view }
-{
-    load::<T>(words, seat, word)
-}
-
 /// The first load of a walk, of a word of the root.
 pub fn load_first(words: &Words, seat: &mut Seat, config: &Config, root: u64, walk: Walk) -> u64
     requires fit { IsFit words.now.table_id words.now.key config.now seat.old }
@@ -59,7 +42,7 @@ pub fn load_first(words: &Words, seat: &mut Seat, config: &Config, root: u64, wa
 {
     let (table, index) = walk.wants();
     let at = word_index(config, table, index);
-    load_as::<Brand>(words, seat, at, root, walk)
+    load::<Brand, _>(words, seat, at, &(root, walk))
 }
 
 /// A further load of the walk that the seat has in flight.
@@ -76,23 +59,7 @@ pub fn load_next(words: &Words, seat: &mut Seat, config: &Config, root: u64, wal
 {
     let (table, index) = walk.wants();
     let at = word_index(config, table, index);
-    load_as::<Brand>(words, seat, at, root, walk)
-}
-
-fn read_as<T: Turn>(words: &Words, seat: &mut Seat, word: usize, _table: u64, _index: u16) -> u64
-    requires same { seat.old.table_id ≡ words.now.table_id }
-    requires inside { word < words.now.table_id.words }
-    requires steps { Steps words.now.key seat.old.id seat.old.view word (λ n. n) T.after T.tells }
-    requires within { (n : ℕ) → IsWithin seat.old.tlb.entries seat.old.view.entries
-        → IsWithin seat.old.tlb.entries (T.after n).entries }
-    ensures same { seat.new.table_id ≡ seat.old.table_id }
-    ensures id { seat.new.id ≡ seat.old.id }
-    ensures view { seat.new.view ≡ T.after result }
-    ensures tlb { seat.new.tlb ≡ seat.old.tlb }
-    ensures tells { T.tells result }
-    ensures on_board { IsOnBoard seat.new.view }
-{
-    load::<T>(words, seat, word)
+    load::<Brand, _>(words, seat, at, &(root, walk))
 }
 
 /// A home's reading of a word of its own, for an edit. The view stays.
@@ -107,32 +74,7 @@ pub fn read_home(words: &Words, seat: &mut Seat, config: &Config, table: u64, in
         ≡ Some result }
 {
     let at = word_index(config, table, index);
-    read_as::<Brand>(words, seat, at, table, index)
-}
-
-fn store_as<T: Turn>(
-    words: &Words,
-    seat: &mut Seat,
-    word: usize,
-    new: u64,
-    _edit: Edit,
-    _wish: Wish,
-    _ticket: u32,
-)
-    requires same { seat.old.table_id ≡ words.now.table_id }
-    requires inside { word < words.now.table_id.words }
-    requires steps { Steps words.now.key seat.old.id seat.old.view word (λ _. new)
-        (λ _. T.after new) (λ _. T.tells new) }
-    requires within { IsWithin seat.old.tlb.entries seat.old.view.entries
-        → IsWithin seat.old.tlb.entries (T.after new).entries }
-    ensures same { seat.new.table_id ≡ seat.old.table_id }
-    ensures id { seat.new.id ≡ seat.old.id }
-    ensures view { seat.new.view ≡ T.after new }
-    ensures tlb { seat.new.tlb ≡ seat.old.tlb }
-    ensures tells { T.tells new }
-    ensures on_board { IsOnBoard seat.new.view }
-{
-    store::<T>(words, seat, word, new)
+    load::<Brand, _>(words, seat, at, &(table, index))
 }
 
 /// The one store of an edit that is due over the home's view. An unmap or a protect opens an order
@@ -155,5 +97,5 @@ pub fn store_edit(
     ensures tlb { seat.new.tlb ≡ seat.old.tlb }
 {
     let at = word_index(config, edit.ppn(), edit.index());
-    store_as::<Brand>(words, seat, at, edit.word(), *edit, *wish, ticket)
+    store::<Brand, _>(words, seat, at, edit.word(), &(*edit, *wish, ticket))
 }

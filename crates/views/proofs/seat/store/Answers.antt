@@ -1,4 +1,4 @@
-use Rattle.std.proofs.Common.{ap, sym, subst, slice_index, ◌≡◌}
+use Rattle.std.proofs.Common.{ap, sym, subst, ◌≡◌}
 use Rattle.std.specs.Prelude.{slice_set}
 use Rattle.atomic_table.specs.Table.{keeps}
 use Rattle.views.specs.Board.{Steps}

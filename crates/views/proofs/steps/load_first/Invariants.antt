@@ -3,8 +3,8 @@ use Rattle.spaces.specs.Layout.{layout_of}
 use Rattle.views.specs.Turns.{TellsLoad, walked}
 use Rattle.views.proofs.steps.load_first.Given as goal
 
-abbrev pub ghosts-load_as : goal.ghosts-load_as
-ghosts-load_as a = record {
-  after = walked a.seat.now.view a._root a._walk [];
-  tells = TellsLoad (layout_of a.words.now.key) a.seat.now.view a._root a._walk [];
+abbrev pub ghosts-load : goal.ghosts-load
+ghosts-load a = record {
+  after = walked a.seat.now.view a._of.now.0 a._of.now.1 [];
+  tells = TellsLoad (layout_of a.words.now.key) a.seat.now.view a._of.now.0 a._of.now.1 [];
 }

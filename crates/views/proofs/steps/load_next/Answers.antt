@@ -5,11 +5,11 @@ use Rattle.views.specs.Turns.{asid_at}
 use Rattle.views.proofs.Within.{within_loaded}
 use Rattle.views.proofs.steps.load_next.Goals as goal
 
-pub load_as-requires-clause-steps : goal.load_as-requires-clause-steps
-load_as-requires-clause-steps c =
+pub load-requires-clause-steps : goal.load-requires-clause-steps
+load-requires-clause-steps c =
     rw (c.requires.fit.key_is, c.word_index-at.ensures.value, c.wants-table.ensures.table, c.wants-table.ensures.index)
     (goes c.args.config.now c.args.seat.now.id c.args.seat.now.view c.args.root c.args.walk c.requires.frame c.requires.root c.requires.walks.0 c.requires.walks.1)
 
-pub load_as-requires-clause-within : goal.load_as-requires-clause-within
-load_as-requires-clause-within c n was =
+pub load-requires-clause-within : goal.load-requires-clause-within
+load-requires-clause-within c n was =
     within_loaded c.args.seat.now.tlb.entries c.args.seat.now.view.entries (asid_at c.args.seat.now.view.config c.args.root) (load_of c.args.walk (Some n)) was

@@ -4,8 +4,8 @@ use Rattle.spaces.specs.Held.{memory_words}
 use Rattle.views.specs.Rule.{memory_of}
 use Rattle.views.proofs.steps.read_home.Given as goal
 
-abbrev pub ghosts-read_as : goal.ghosts-read_as
-ghosts-read_as a = record {
+abbrev pub ghosts-load : goal.ghosts-load
+ghosts-load a = record {
   after = λ _. a.seat.now.view;
-  tells = λ n. memory_words (memory_of (layout_of a.words.now.key) a.seat.now.view) a._table a._index ≡ Some n;
+  tells = λ n. memory_words (memory_of (layout_of a.words.now.key) a.seat.now.view) a._of.now.0 a._of.now.1 ≡ Some n;
 }

@@ -11,24 +11,24 @@ word_index-at-requires-clause-word c =
     rw (c.ppn.ensures, c.index.ensures)
     (word-there (layout_of c.args.config.now) c.args.seat.now.view c.requires.fit.local c.args.wish.now c.requires.place c.args.edit.now c.requires.due)
 
-pub store_as-requires-clause-steps : goal.store_as-requires-clause-steps
-store_as-requires-clause-steps c =
+pub store-requires-clause-steps : goal.store-requires-clause-steps
+store-requires-clause-steps c =
     rw (c.requires.fit.key_is, c.word_index-at.ensures.value, c.ppn.ensures, c.index.ensures, c.word.ensures)
     (edits c.args.config.now c.args.seat.now.id c.args.seat.now.view c.args.wish.now c.args.ticket c.args.edit.now c.requires.place c.requires.asked c.requires.due)
 
 pub returns-clause-fit : goal.returns-clause-fit
 returns-clause-fit c =
-    let view : c.store_as.new.seat.view ≡ noted c.args.config.now c.args.wish.now c.args.ticket c.args.seat.now.view c.args.edit.now =
-    c.store_as.ensures.view ∙ ap (λ k. noted k c.args.wish.now c.args.ticket c.args.seat.now.view c.args.edit.now) c.requires.fit.key_is
+    let view : c.store.new.seat.view ≡ noted c.args.config.now c.args.wish.now c.args.ticket c.args.seat.now.view c.args.edit.now =
+    c.store.ensures.view ∙ ap (λ k. noted k c.args.wish.now c.args.ticket c.args.seat.now.view c.args.edit.now) c.requires.fit.key_is
     in
     record {
       limits = c.requires.fit.limits;
       key_is = c.requires.fit.key_is;
       words_are = c.requires.fit.words_are;
-      same = c.store_as.ensures.same ∙ c.requires.fit.same;
+      same = c.store.ensures.same ∙ c.requires.fit.same;
       config = ap (λ v. v.config) view ∙ c.requires.fit.config;
-      number = c.store_as.ensures.id ∙ (c.requires.fit.number ∙ sym (ap (λ v. v.hart) view));
-      on_board = c.store_as.ensures.on_board;
+      number = c.store.ensures.id ∙ (c.requires.fit.number ∙ sym (ap (λ v. v.hart) view));
+      on_board = c.store.ensures.on_board;
       local =
           subst (Local (layout_of c.args.config.now)) (sym view)
           (edited-local (layout_of c.args.config.now) c.args.seat.now.view c.requires.fit.local c.args.wish.now c.requires.place c.args.edit.now c.requires.due (orders_after c.args.config.now c.args.wish.now c.args.ticket c.args.edit.now (c.args.seat.now.view.stores + 1) c.args.seat.now.view.orders));

@@ -1,8 +1,8 @@
 use Rattle.views.specs.OrderTurns.{noted}
 use Rattle.views.proofs.steps.store_edit.Given as goal
 
-abbrev pub ghosts-store_as : goal.ghosts-store_as
-ghosts-store_as a = record {
-  after = λ _. noted a.words.now.key a._wish a._ticket a.seat.now.view a._edit;
+abbrev pub ghosts-store : goal.ghosts-store
+ghosts-store a = record {
+  after = λ _. noted a.words.now.key a._of.now.1 a._of.now.2 a.seat.now.view a._of.now.0;
   tells = λ _. Unit {0};
 }
