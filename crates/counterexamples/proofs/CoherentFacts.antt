@@ -17,11 +17,11 @@ use Rattle.counterexamples.specs.Counterexamples.{CoherentForbids, CoherentAllow
 use Rattle.counterexamples.proofs.Promises.{not_mapped, not_global, coherent_forbids, unacked_coherent, unnamed_coherent, superseded_coherent}
 
 -- the mapping of the page of 4 KiB with a number
-abbrev mapping : Option ℕ → ℕ → ℕ → ℕ → Mapping
+abbrev pub mapping : Option ℕ → ℕ → ℕ → ℕ → Mapping
 mapping asid page ppn bits = record { asid = asid; page = page; ppn = ppn; flags = flags bits }
 
 -- after the change of flags the tables do not let the page be stored to
-writable_gone : ¬ IsMapped two_harts (history_of shootdowns.read_only_until_acknowledged) 0 (mapping (Some 1) 0x400 0x200 (R + W + U + A + D))
+writable_gone : ¬ IsMapped two_harts (words_of two_harts (history_of shootdowns.read_only_until_acknowledged)) 0 (mapping (Some 1) 0x400 0x200 (R + W + U + A + D))
 unfolding kind_of wish_fault path_end edit_of
 writable_gone m =
     not_mapped Sv39 (words_of two_harts (history_of shootdowns.read_only_until_acknowledged)) 0x80001 0x400000 0x200 access.Store user (flags (R + W + U + A + D)) _
@@ -36,7 +36,7 @@ old_flags =
     (inr (1, refl, refl)) (record { from = omega arith; to = omega arith }) 0 (record { there = omega arith; kept = refl; same = refl }) writable_gone
 
 -- the page is mapped anew, to another PPN
-old_frame_gone : ¬ IsMapped three_harts (history_of shootdowns.mapped_anew_until_acknowledged) 0 (mapping (Some 1) 1 0x100 (R + U + A + D))
+old_frame_gone : ¬ IsMapped three_harts (words_of three_harts (history_of shootdowns.mapped_anew_until_acknowledged)) 0 (mapping (Some 1) 1 0x100 (R + U + A + D))
 unfolding kind_of wish_fault path_end edit_of
 old_frame_gone m =
     not_mapped Sv39 (words_of three_harts (history_of shootdowns.mapped_anew_until_acknowledged)) 0x80001 0x1000 0x100 access.Load user (flags (R + U + A + D)) _
@@ -51,7 +51,7 @@ old_ppn =
     (inr (1, refl, refl)) (record { from = omega arith; to = omega arith }) 0 (record { there = omega arith; kept = refl; same = refl }) old_frame_gone
 
 -- the page is unmapped: nothing of it is mapped, for no ASID
-superpage_gone : (asid : Option ℕ) → ¬ IsMapped two_harts (history_of shootdowns.superpage_shootdown) 0 (mapping asid 0x400 0x200 (R + W + U + A + D))
+superpage_gone : (asid : Option ℕ) → ¬ IsMapped two_harts (words_of two_harts (history_of shootdowns.superpage_shootdown)) 0 (mapping asid 0x400 0x200 (R + W + U + A + D))
 unfolding kind_of wish_fault path_end edit_of
 superpage_gone asid m =
     not_mapped Sv39 (words_of two_harts (history_of shootdowns.superpage_shootdown)) 0x80001 0x400000 0x200 access.Load user (flags (R + W + U + A + D)) _
@@ -83,7 +83,7 @@ sender =
 
 -- a kernel page is unmapped, for every ASID: from the root of space 1 too nothing of it is mapped
 kernel_page_gone : (asid : Option ℕ)
-    → ¬ IsMapped kernel.spaces_of_two_homes (history_of kernel.kernel_page_until_acknowledged) 1 (mapping asid 0xffffffffc0000 0x300 (R + W + U + A + D))
+    → ¬ IsMapped kernel.spaces_of_two_homes (words_of kernel.spaces_of_two_homes (history_of kernel.kernel_page_until_acknowledged)) 1 (mapping asid 0xffffffffc0000 0x300 (R + W + U + A + D))
 unfolding kind_of wish_fault path_end edit_of
 kernel_page_gone asid m =
     not_mapped Sv39 (words_of kernel.spaces_of_two_homes (history_of kernel.kernel_page_until_acknowledged)) 0x80002 0xffffffffc0000000 0x300 access.Load user
@@ -98,7 +98,7 @@ kernel_page asid =
     (inr (asid, refl, tt)) (record { from = omega arith; to = omega arith }) 1 (omega arith) (kernel_page_gone (Some asid))
 
 -- the last small page of the superpage, with the old flags
-last_writable_gone : ¬ IsMapped two_harts (history_of shootdowns.read_only_until_acknowledged) 0 (mapping (Some 1) 0x5ff 0x3ff (R + W + U + A + D))
+last_writable_gone : ¬ IsMapped two_harts (words_of two_harts (history_of shootdowns.read_only_until_acknowledged)) 0 (mapping (Some 1) 0x5ff 0x3ff (R + W + U + A + D))
 unfolding kind_of wish_fault path_end edit_of
 last_writable_gone m =
     not_mapped Sv39 (words_of two_harts (history_of shootdowns.read_only_until_acknowledged)) 0x80001 0x5ff000 0x3ff access.Store user (flags (R + W + U + A + D)) _
@@ -113,7 +113,7 @@ last_part =
     (inr (1, refl, refl)) (record { from = omega arith; to = omega arith }) 0 (record { there = omega arith; kept = refl; same = refl }) last_writable_gone
 
 -- neither a flush nor what is refused ends the promise
-gone_after_flush : ¬ IsMapped two_harts (history_of shootdowns.ticket_used_again) 0 (mapping (Some 1) 0x400 0x200 (R + W + U + A + D))
+gone_after_flush : ¬ IsMapped two_harts (words_of two_harts (history_of shootdowns.ticket_used_again)) 0 (mapping (Some 1) 0x400 0x200 (R + W + U + A + D))
 unfolding kind_of wish_fault path_end edit_of
 gone_after_flush m =
     not_mapped Sv39 (words_of two_harts (history_of shootdowns.ticket_used_again)) 0x80001 0x400000 0x200 access.Load user (flags (R + W + U + A + D)) _
@@ -127,7 +127,7 @@ flushed =
     (record { asid = refl; page = record { from = omega arith; to = omega arith }; ppn = refl; flags = refl })
     (inr (1, refl, refl)) (record { from = omega arith; to = omega arith }) 0 (record { there = omega arith; kept = refl; same = refl }) (gone_after_flush)
 
-gone_after_refusals : ¬ IsMapped two_harts (history_of staleness.refused_changes) 0 (mapping (Some 1) 0x400 0x200 (R + W + U + A + D))
+gone_after_refusals : ¬ IsMapped two_harts (words_of two_harts (history_of staleness.refused_changes)) 0 (mapping (Some 1) 0x400 0x200 (R + W + U + A + D))
 unfolding kind_of wish_fault path_end edit_of
 gone_after_refusals m =
     not_mapped Sv39 (words_of two_harts (history_of staleness.refused_changes)) 0x80001 0x400000 0x200 access.Load user (flags (R + W + U + A + D)) _
@@ -142,7 +142,7 @@ refused_changes =
     (inr (1, refl, refl)) (record { from = omega arith; to = omega arith }) 0 (record { there = omega arith; kept = refl; same = refl }) (gone_after_refusals)
 
 -- nor does a change of the same page of another space
-gone_in_space_0 : ¬ IsMapped shootdowns.spaces_of_one_home (history_of staleness.same_page_of_another_space) 0 (mapping (Some 1) 1 0x100 (R + U + A + D))
+gone_in_space_0 : ¬ IsMapped shootdowns.spaces_of_one_home (words_of shootdowns.spaces_of_one_home (history_of staleness.same_page_of_another_space)) 0 (mapping (Some 1) 1 0x100 (R + U + A + D))
 unfolding kind_of wish_fault path_end edit_of
 gone_in_space_0 m =
     not_mapped Sv39 (words_of shootdowns.spaces_of_one_home (history_of staleness.same_page_of_another_space)) 0x80001 0x1000 0x100 access.Load user (flags (R + U + A + D)) _
@@ -157,7 +157,7 @@ other_space =
     (inr (1, refl, refl)) (record { from = omega arith; to = omega arith }) 0 (record { there = omega arith; kept = refl; same = refl }) gone_in_space_0
 
 -- what is mapped for one ASID is not held for every one
-local_alone : ¬ IsMapped two_harts (history_of shootdowns.read_only_until_acknowledged) 0 (mapping None 0x400 0x200 (R + U + A + D))
+local_alone : ¬ IsMapped two_harts (words_of two_harts (history_of shootdowns.read_only_until_acknowledged)) 0 (mapping None 0x400 0x200 (R + U + A + D))
 unfolding kind_of wish_fault path_end edit_of
 local_alone m =
     not_global Sv39 (words_of two_harts (history_of shootdowns.read_only_until_acknowledged)) 0x80001 0x400000 0x200 access.Load user (flags (R + U + A + D)) (inl (omega arith)) refl refl m

@@ -1,5 +1,16 @@
 -- Machines and histories of which the statements of the headline are false.
-use Rattle.std.proofs.Common.{◌≡◌, zero, suc, List, [], ◌∷◌, ◌++◌, refl, ap, ◌∙◌, arith}
+use Rattle.std.proofs.Common.{◌≡◌, ℕ, zero, suc, ◌+◌, List, [], ◌∷◌, ◌++◌, Some, refl, ap, ◌∙◌, arith, inl, inr}
+use Rattle.std.proofs.Math.Path.{fun_ext}
+use Rattle.pte.specs.declared.permission.Access.TheVariants as access
+use Rattle.pte.specs.declared.scheme.Scheme.TheVariants.{Sv39}
+use Rattle.pte.specs.Entry.{kind_of}
+use Rattle.walk.specs.Leads.{Tables}
+use Rattle.spaces.specs.Held.{Held, memory_words}
+use Rattle.tlb.specs.declared.store.Entry.{Entry}
+use Rattle.history.specs.Orders.{Protected}
+use Rattle.history.specs.Setup.{Setup}
+use Rattle.history.specs.Staleness.{Coherent, IsMapped}
+use Rattle.history.specs.Tables.{words_of}
 use Rattle.history.specs.declared.reply.Reply.{Reply}
 use Rattle.history.specs.Turns.{History}
 use Rattle.history.specs.Runs.{with_turn}
@@ -8,12 +19,14 @@ use Rattle.counterexamples.specs.Counterexamples.{request_of}
 use Rattle.counterexamples.specs.MailboxRuns.{mailboxes_of_two, two_requests_wait}
 use Rattle.counterexamples.specs.ShootdownRuns as shootdowns
 use Rattle.counterexamples.specs.UnlawfulRuns as unlawful
-use Rattle.counterexamples.specs.WorkedRuns.{events, history_after, history_of, large_page, replies, small_page, Step, two_harts}
+use Rattle.counterexamples.specs.WorkedRuns.{A, D, events, flags, history_after, history_of, large_page, R, replies, small_page, Step, two_harts, U, user}
 use Rattle.counterexamples.proofs.ClearFacts as clear
 use Rattle.counterexamples.proofs.CoherentFacts as coherent
+use Rattle.counterexamples.proofs.CoherentFacts.{mapping}
+use Rattle.counterexamples.proofs.Promises.{not_mapped}
 use Rattle.counterexamples.proofs.MailboxFacts as mailbox
 use Rattle.counterexamples.proofs.DoneFacts as done
-use Rattle.counterexamples.specs.MachineCounterexamples.{machine_holding, machine_with}
+use Rattle.counterexamples.specs.MachineCounterexamples.{machine_holding, machine_with, no_memory, NoneIsCoherent}
 use Rattle.stepcore.specs.Runs.{after_run, IsClear, IsClearOnceDone, IsCoherent, MailboxesKeepOrder, NothingAfterCloses, with_turns}
 use Rattle.stepcore.proofs.Running.{appended_is, no_turns}
 
@@ -43,24 +56,57 @@ done_other is = done.page_itself (entry 1 (large_page 0x400000) 0x200 ∷ []) (0
 pub done_again : ¬ IsClearOnceDone two_harts (history_of shootdowns.ticket_used_again) (machine_holding [] (entry 1 (large_page 0x400000) 0x200 ∷ []))
 done_again is = done.ticket_used_again (entry 1 (large_page 0x400000) 0x200 ∷ []) (0, omega arith, refl) (is 5 1 (omega arith))
 
--- coherent
-pub coherent_flags : ¬ IsCoherent two_harts (history_of shootdowns.read_only_until_acknowledged) (machine_holding [] (entry 1 (large_page 0x400000) 0x200 ∷ []))
-coherent_flags is = coherent.old_flags (entry 1 (large_page 0x400000) 0x200 ∷ []) (0, omega arith, refl) (is 5 1 (omega arith))
+-- coherent: of a machine with the words of the history as of the history
+of_history : (C : Setup) (H : History) (memory : Held) → ((ppn i : ℕ) → memory_words memory ppn i ≡ words_of C H ppn i) → (entries : List Entry) (k h : ℕ)
+    → Coherent C H (memory_words memory) entries k h → Coherent C H (words_of C H) entries k h
+of_history C H memory same entries k h =
+    subst (λ (words : Tables). Coherent C H words entries k h) (fun_ext (λ ppn. fun_ext (λ i. same ppn i)))
 
-pub coherent_part : ¬ IsCoherent two_harts (history_of shootdowns.read_only_until_acknowledged) (machine_holding [] (read_only_entry 1 (small_page 0x1000) 0x100 ∷ entry 1 (small_page 0x5ff000) 0x3ff ∷ []))
-coherent_part is = coherent.last_part (read_only_entry 1 (small_page 0x1000) 0x100 ∷ entry 1 (small_page 0x5ff000) 0x3ff ∷ []) (1, omega arith, refl) (is 5 1 (omega arith))
+pub coherent_flags : NoneIsCoherent two_harts (history_of shootdowns.read_only_until_acknowledged) [] (entry 1 (large_page 0x400000) 0x200 ∷ [])
+coherent_flags memory same is =
+    coherent.old_flags (entry 1 (large_page 0x400000) 0x200 ∷ []) (0, omega arith, refl)
+    (of_history two_harts (history_of shootdowns.read_only_until_acknowledged) memory same (entry 1 (large_page 0x400000) 0x200 ∷ []) 5 1 (is 5 1 (omega arith)))
 
-pub coherent_every : ¬ IsCoherent two_harts (history_of shootdowns.read_only_until_acknowledged) (machine_holding [] (global_read_only_entry (large_page 0x400000) 0x200 ∷ []))
-coherent_every is = coherent.for_every_asid (global_read_only_entry (large_page 0x400000) 0x200 ∷ []) (0, omega arith, refl) (is 5 1 (omega arith))
+pub coherent_part : NoneIsCoherent two_harts (history_of shootdowns.read_only_until_acknowledged) [] (read_only_entry 1 (small_page 0x1000) 0x100 ∷ entry 1 (small_page 0x5ff000) 0x3ff ∷ [])
+coherent_part memory same is =
+    coherent.last_part (read_only_entry 1 (small_page 0x1000) 0x100 ∷ entry 1 (small_page 0x5ff000) 0x3ff ∷ []) (1, omega arith, refl)
+    (of_history two_harts (history_of shootdowns.read_only_until_acknowledged) memory same (read_only_entry 1 (small_page 0x1000) 0x100 ∷ entry 1 (small_page 0x5ff000) 0x3ff ∷ []) 5 1 (is 5 1 (omega arith)))
 
-pub coherent_nothing : ¬ IsCoherent two_harts (history_of shootdowns.superpage_shootdown) (machine_holding [] (entry 1 (large_page 0x400000) 0x200 ∷ []))
-coherent_nothing is = coherent.nothing_mapped (entry 1 (large_page 0x400000) 0x200 ∷ []) (0, omega arith, refl) (is 5 1 (omega arith))
+pub coherent_every : NoneIsCoherent two_harts (history_of shootdowns.read_only_until_acknowledged) [] (global_read_only_entry (large_page 0x400000) 0x200 ∷ [])
+coherent_every memory same is =
+    coherent.for_every_asid (global_read_only_entry (large_page 0x400000) 0x200 ∷ []) (0, omega arith, refl)
+    (of_history two_harts (history_of shootdowns.read_only_until_acknowledged) memory same (global_read_only_entry (large_page 0x400000) 0x200 ∷ []) 5 1 (is 5 1 (omega arith)))
 
-pub coherent_sender : ¬ IsCoherent two_harts (history_of shootdowns.superpage_shootdown) (machine_holding (entry 1 (large_page 0x400000) 0x200 ∷ []) [])
-coherent_sender is = coherent.sender (entry 1 (large_page 0x400000) 0x200 ∷ []) (0, omega arith, refl) (is 5 0 (omega arith))
+pub coherent_nothing : NoneIsCoherent two_harts (history_of shootdowns.superpage_shootdown) [] (entry 1 (large_page 0x400000) 0x200 ∷ [])
+coherent_nothing memory same is =
+    coherent.nothing_mapped (entry 1 (large_page 0x400000) 0x200 ∷ []) (0, omega arith, refl)
+    (of_history two_harts (history_of shootdowns.superpage_shootdown) memory same (entry 1 (large_page 0x400000) 0x200 ∷ []) 5 1 (is 5 1 (omega arith)))
 
-pub coherent_again : ¬ IsCoherent two_harts (history_of shootdowns.ticket_used_again) (machine_holding [] (entry 1 (large_page 0x400000) 0x200 ∷ []))
-coherent_again is = coherent.flushed (entry 1 (large_page 0x400000) 0x200 ∷ []) (0, omega arith, refl) (is 5 1 (omega arith))
+pub coherent_sender : NoneIsCoherent two_harts (history_of shootdowns.superpage_shootdown) (entry 1 (large_page 0x400000) 0x200 ∷ []) []
+coherent_sender memory same is =
+    coherent.sender (entry 1 (large_page 0x400000) 0x200 ∷ []) (0, omega arith, refl)
+    (of_history two_harts (history_of shootdowns.superpage_shootdown) memory same (entry 1 (large_page 0x400000) 0x200 ∷ []) 5 0 (is 5 0 (omega arith)))
+
+pub coherent_again : NoneIsCoherent two_harts (history_of shootdowns.ticket_used_again) [] (entry 1 (large_page 0x400000) 0x200 ∷ [])
+coherent_again memory same is =
+    coherent.flushed (entry 1 (large_page 0x400000) 0x200 ∷ []) (0, omega arith, refl)
+    (of_history two_harts (history_of shootdowns.ticket_used_again) memory same (entry 1 (large_page 0x400000) 0x200 ∷ []) 5 1 (is 5 1 (omega arith)))
+
+-- a machine without words maps nothing
+nothing_mapped : ¬ IsMapped two_harts (memory_words no_memory) 0 (mapping (Some 1) 0x400 0x200 (R + U + A + D))
+unfolding kind_of memory_words
+nothing_mapped m =
+    not_mapped Sv39 (memory_words no_memory) 0x80001 0x400000 0x200 access.Load user (flags (R + U + A + D)) _
+    (inl (omega arith)) refl refl m
+
+pub coherent_own_words : ¬ IsCoherent two_harts (history_of shootdowns.read_only_until_acknowledged) (machine_holding [] (read_only_entry 1 (large_page 0x400000) 0x200 ∷ []))
+coherent_own_words is =
+    let held = is 5 1 (omega arith) (Protected (Some 1) (large_page 0x400000)) (Some 1) (large_page 0x400000) (inr refl)
+    (record { order = _; is = refl; same_cause = refl; named = refl; acked = refl }) refl
+    (mapping (Some 1) 0x400 0x200 (R + U + A + D))
+    (read_only_entry 1 (large_page 0x400000) 0x200, (0, omega arith, refl), record { asid = refl; page = record { from = omega arith; to = omega arith }; ppn = refl; flags = refl })
+    (inr (1, refl, refl)) (record { from = omega arith; to = omega arith }) in
+    nothing_mapped (held.each 0 (record { there = omega arith; kept = refl; same = refl }))
 
 -- mailboxes
 pub order_kept : MailboxesKeepOrder mailboxes_of_two (history_of two_requests_wait) (machine_with (request_of 1 ∷ request_of 2 ∷ []) [])

@@ -28,6 +28,7 @@ use Rattle.history.specs.Turns.{History}
 use Rattle.history.specs.Orders.{Order, Cause, Unmapped, order_at}
 use Rattle.history.specs.Acknowledgements.{is_acked}
 use Rattle.history.specs.Due.{names}
+use Rattle.history.specs.Tables.{words_of}
 use Rattle.history.specs.Staleness.{is_mapped_anew, is_superseded, HasAnswered, IsAsidOf, IsForAsid, Reaches, IsMapped, IsChange, Clear}
 use Rattle.counterexamples.specs.Counterexamples.{ClearForbids, ClearAllowsAll, CoherentForbids, CoherentAllowsAll}
 
@@ -135,7 +136,7 @@ module _ (C : Setup) (H : History) (k h : ℕ) where
 
   -- a mapping that the tables do not have now may not be held
   pub coherent_forbids : (cause : Cause) (of : Option ℕ) (page : Span) → IsChange cause of page → HasAnswered C H k h cause → is_superseded C H k ≡ false
-      → (e : Entry) (m : Mapping) → IsMappingOf e m → IsForAsid of m → LiesIn page m.page → (s : ℕ) → Reaches C H of s → ¬ IsMapped C H s m
+      → (e : Entry) (m : Mapping) → IsMappingOf e m → IsForAsid of m → LiesIn page m.page → (s : ℕ) → Reaches C H of s → ¬ IsMapped C (words_of C H) s m
       → CoherentForbids C H k h e
   coherent_forbids cause of page change answered old e m is for lies s reached none entries at coherent =
       none ((coherent cause of page change answered old m (e, at, is) for lies).each s reached)

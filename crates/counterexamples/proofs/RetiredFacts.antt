@@ -98,7 +98,7 @@ other_asid_changed =
     (inr (2, refl, refl)) (record { from = omega arith; to = omega arith }) changed_since
 
 -- the space that has ASID 2 now maps the page to another PPN
-old_frame_gone : ¬ IsMapped spaces_of_one_home (history_of run.asid_used_again) 0 (mapping 0x100)
+old_frame_gone : ¬ IsMapped spaces_of_one_home (words_of spaces_of_one_home (history_of run.asid_used_again)) 0 (mapping 0x100)
 unfolding kind_of wish_fault path_end edit_of
 old_frame_gone m =
     not_mapped Sv39 (words_of spaces_of_one_home (history_of run.asid_used_again)) 0x80001 0x1000 0x100 access.Load user (flags (R + U + A + D)) _ (inl (omega arith)) refl refl m

@@ -77,7 +77,7 @@ pub page_behind : Clear two_harts_in_sv48 (history_of run.terapage_until_acknowl
 page_behind = neighbour 0x10000000000 (inr refl)
 
 -- ---- Coherent: nothing of the page is mapped
-terapage_gone : ¬ IsMapped two_harts_in_sv48 (history_of run.terapage_shootdown) 0 (record { asid = Some 1; page = 0xfffffff; ppn = 0x17ffffff; flags = flags (R + W + U + A + D) })
+terapage_gone : ¬ IsMapped two_harts_in_sv48 (words_of two_harts_in_sv48 (history_of run.terapage_shootdown)) 0 (record { asid = Some 1; page = 0xfffffff; ppn = 0x17ffffff; flags = flags (R + W + U + A + D) })
 unfolding kind_of wish_fault path_end edit_of
 terapage_gone m =
     not_mapped Sv48 (words_of two_harts_in_sv48 (history_of run.terapage_shootdown)) 0x80001 0xfffffff000 0x17ffffff access.Load user (flags (R + W + U + A + D)) _

@@ -5,6 +5,7 @@ use Rattle.shoot.specs.Request.{Request}
 use Rattle.pte.specs.declared.address.What.TheVariants.{All}
 use Rattle.history.specs.Setup.{Setup}
 use Rattle.history.specs.Turns.{History}
+use Rattle.history.specs.Tables.{words_of}
 use Rattle.history.specs.Staleness.{Clear, Coherent, HoldsUsedAsids}
 
 -- Clear is false of each TLB that holds the entry, whatever else it holds
@@ -19,11 +20,11 @@ ClearAllowsAll setup history order hart =
 
 abbrev pub CoherentForbids : Setup → History → ℕ → ℕ → Entry → Type 0
 CoherentForbids setup history order hart e =
-    (entries : List Entry) → Contains entries e → ¬ Coherent setup history entries order hart
+    (entries : List Entry) → Contains entries e → ¬ Coherent setup history (words_of setup history) entries order hart
 
 abbrev pub CoherentAllowsAll : Setup → History → ℕ → ℕ → Type 0
 CoherentAllowsAll setup history order hart =
-    (entries : List Entry) → Coherent setup history entries order hart
+    (entries : List Entry) → Coherent setup history (words_of setup history) entries order hart
 
 -- the request of a ticket that asks for everything
 abbrev pub request_of : ℕ → Request

@@ -14,7 +14,7 @@ ghost use Rattle.counterexamples.specs.RetireRuns as retirements;
 ghost use Rattle.counterexamples.specs.ShootdownRuns as shootdowns;
 ghost use Rattle.counterexamples.specs.UnlawfulRuns as unlawful;
 ghost use Rattle.counterexamples.specs.WorkedRuns.{events, history_after, history_of, large_page, replies, small_page, Step, two_harts};
-ghost use Rattle.counterexamples.specs.MachineCounterexamples.{machine_holding, machine_in, machine_walking, machine_with};
+ghost use Rattle.counterexamples.specs.MachineCounterexamples.{NoneIsCoherent, machine_holding, machine_in, machine_walking, machine_with};
 ghost use Rattle.stepcore.specs.Runs.{after_run, AreDue, HartsAreInLiveSpaces, IsClear, IsClearOnceDone, IsCoherent, MailboxesKeepOrder, NothingAfterCloses, TlbsHoldUsedAsids, WalksHoldUsedFrames};
 
 /// Once both harts have acknowledged the unmapping of a page of 2 MiB, no machine is clear in which
@@ -45,23 +45,25 @@ pub fn clear_once_done_is_of_each_hart()
         (machine_holding [] (entry 1 (large_page 0x400000) 0x200 ∷ [])) }
 {}
 
-/// No machine is coherent in which a hart holds a page with the flags that it lost, or for every
-/// ASID what is mapped for one, or anything where nothing is mapped.
+/// No machine that has the words of its history is coherent in which a hart holds a page with the
+/// flags that it lost, or for every ASID what is mapped for one, or anything where nothing is mapped;
+/// and none whose own words don't map what a hart holds, though those of its history do.
 pub fn coherent_is_of_each_hart_and_entry()
-    ensures old_flags { ¬ IsCoherent two_harts (history_of shootdowns.read_only_until_acknowledged)
-        (machine_holding [] (entry 1 (large_page 0x400000) 0x200 ∷ [])) }
-    ensures last_part { ¬ IsCoherent two_harts (history_of shootdowns.read_only_until_acknowledged)
-        (machine_holding [] (read_only_entry 1 (small_page 0x1000) 0x100
-        ∷ entry 1 (small_page 0x5ff000) 0x3ff ∷ [])) }
-    ensures for_every_asid { ¬ IsCoherent two_harts
+    ensures old_flags { NoneIsCoherent two_harts (history_of shootdowns.read_only_until_acknowledged)
+        [] (entry 1 (large_page 0x400000) 0x200 ∷ []) }
+    ensures last_part { NoneIsCoherent two_harts (history_of shootdowns.read_only_until_acknowledged)
+        [] (read_only_entry 1 (small_page 0x1000) 0x100 ∷ entry 1 (small_page 0x5ff000) 0x3ff ∷ []) }
+    ensures for_every_asid { NoneIsCoherent two_harts
         (history_of shootdowns.read_only_until_acknowledged)
-        (machine_holding [] (global_read_only_entry (large_page 0x400000) 0x200 ∷ [])) }
-    ensures nothing_mapped { ¬ IsCoherent two_harts (history_of shootdowns.superpage_shootdown)
-        (machine_holding [] (entry 1 (large_page 0x400000) 0x200 ∷ [])) }
-    ensures sender { ¬ IsCoherent two_harts (history_of shootdowns.superpage_shootdown)
-        (machine_holding (entry 1 (large_page 0x400000) 0x200 ∷ []) []) }
-    ensures ticket_used_again { ¬ IsCoherent two_harts (history_of shootdowns.ticket_used_again)
-        (machine_holding [] (entry 1 (large_page 0x400000) 0x200 ∷ [])) }
+        [] (global_read_only_entry (large_page 0x400000) 0x200 ∷ []) }
+    ensures nothing_mapped { NoneIsCoherent two_harts (history_of shootdowns.superpage_shootdown)
+        [] (entry 1 (large_page 0x400000) 0x200 ∷ []) }
+    ensures sender { NoneIsCoherent two_harts (history_of shootdowns.superpage_shootdown)
+        (entry 1 (large_page 0x400000) 0x200 ∷ []) [] }
+    ensures ticket_used_again { NoneIsCoherent two_harts (history_of shootdowns.ticket_used_again)
+        [] (entry 1 (large_page 0x400000) 0x200 ∷ []) }
+    ensures own_words { ¬ IsCoherent two_harts (history_of shootdowns.read_only_until_acknowledged)
+        (machine_holding [] (read_only_entry 1 (large_page 0x400000) 0x200 ∷ [])) }
 {}
 
 /// Of three accepted requests from hart 0 to hart 1 the first was taken: a machine keeps the order

@@ -3,6 +3,7 @@
 -- until the page is changed once more (Coherent).
 use Rattle.std.specs.Prelude.{ℕ, Bool, true, false, ◌≡◌, ◌+◌, ◌<◌, ◌⊎◌, ◌==◌, ◌&&◌, ◌||◌, List, [], ◌∷◌, length, Option, Some, None, is_none, All, slice_index, IfSome}
 use Rattle.pte.specs.Address.{Span, Holds}
+use Rattle.walk.specs.Leads.{Tables}
 use Rattle.walk.specs.Maps.{Maps, LiesIn}
 use Rattle.history.specs.Setup.{Setup}
 use Rattle.spaces.specs.Layout.{root_ppn, spare_ppn}
@@ -102,32 +103,31 @@ Reaches setup history None s = s < length setup.asids
 abbrev pub IsForAsid : Option ℕ → Mapping → Type 0
 IsForAsid of m = (m.asid ≡ None) ⊎ ((asid : ℕ) × (m.asid ≡ Some asid) × IsAsidOf of asid)
 
--- the tables of the space map the page to the mapping's PPN with its flags, as global exactly if
--- the mapping is for every ASID
-abbrev pub IsMapped : Setup → History → ℕ → Mapping → Type 0
-IsMapped setup history s m =
-    Maps setup.layout.scheme (words_of setup history) (root_ppn setup.layout s) m.page m.ppn m.flags
-    (is_none m.asid)
+-- these words, from the root of the space, map the page to the mapping's PPN with its flags, as
+-- global exactly if the mapping is for every ASID
+abbrev pub IsMapped : Setup → Tables → ℕ → Mapping → Type 0
+IsMapped setup words s m =
+    Maps setup.layout.scheme words (root_ppn setup.layout s) m.page m.ppn m.flags (is_none m.asid)
 
--- there is a space through which the page is reached, and each such space maps it so
-pub record IsMappedNow (setup : Setup) (history : History) (of : Option ℕ)
+-- there is a space through which the page is reached, and these words map it so from each such space
+pub record IsMappedNow (setup : Setup) (history : History) (words : Tables) (of : Option ℕ)
     (m : Mapping) : Type 0 where
   pub some : (s : ℕ) × Reaches setup history of s
-  pub each : (s : ℕ) → Reaches setup history of s → IsMapped setup history s m
+  pub each : (s : ℕ) → Reaches setup history of s → IsMapped setup words s m
 
 -- an unmapping or a change of flags of the page
 abbrev pub IsChange : Cause → Option ℕ → Span → Type 0
 IsChange cause of page = (cause ≡ Unmapped of page) ⊎ (cause ≡ Protected of page)
 
 -- Coherent: once the hart has acknowledged the order of an unmapping or a change, each mapping of
--- the page that these entries of its TLB hold for its address space is mapped now, until the page
--- is unmapped or changed once more
-abbrev pub Coherent : Setup → History → List Entry → ℕ → ℕ → Type 0
-Coherent setup history entries order hart =
+-- the page that these entries of its TLB hold for its address space is mapped by these words, those
+-- of the tables now, until the page is unmapped or changed once more
+abbrev pub Coherent : Setup → History → Tables → List Entry → ℕ → ℕ → Type 0
+Coherent setup history words entries order hart =
     (cause : Cause) (of : Option ℕ) (page : Span) → IsChange cause of page
     → HasAnswered setup history order hart cause → is_superseded setup history order ≡ false
     → (m : Mapping) → IsMappedBy entries m → IsForAsid of m → LiesIn page m.page
-    → IsMappedNow setup history of m
+    → IsMappedNow setup history words of m
 
 -- what a hart may hold of ASIDs: no entry but a global one is of an ASID that no live or retiring
 -- space has

@@ -75,7 +75,7 @@ module _ (C : Setup) (setup : IsSetup C) (user : (H : History) → Lawful C H �
   each_root H of Kernel page s t m global l pages of_is asked at a b maps =
       shared H l pages page s t m.page m.ppn m.flags global asked.is_page asked.right_half (subst (λ (o : Option ℕ). Reaches C H o s) of_is a) (subst (λ (o : Option ℕ). Reaches C H o t) of_is b) at maps
 
-  pub coherent : (H : History) (k h : ℕ) → Lawful C H → HavePages H → Coherent C H (entries_of C H h) k h
+  pub coherent : (H : History) (k h : ℕ) → Lawful C H → HavePages H → Coherent C H (words_of C H) (entries_of C H h) k h
   coherent H k h l pages = λ cause of page change a fresh m by for at.
       let e = by.0 in
       let is = by.2 in

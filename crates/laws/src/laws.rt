@@ -266,7 +266,8 @@ pub fn unmapped_page_stays_clear()
 pub fn changed_page_stays_coherent()
     ensures { (setup : Setup) → IsSetup setup → (history : History) (order hart : ℕ)
         → Lawful setup history → HavePages history
-        → Coherent setup history (entries_of setup history hart) order hart }
+        → Coherent setup history (words_of setup history) (entries_of setup history hart)
+        order hart }
 {}
 
 /// The table words are a tree after every lawful history whose events speak of pages, with the

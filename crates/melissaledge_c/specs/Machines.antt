@@ -12,7 +12,7 @@ use Rattle.spaces.specs.Limits.{MeetsLimits}
 use Rattle.spaces.specs.declared.configuration.TheConstants.{MAX_FRAMES}
 use Rattle.tlb.specs.Mappings.{IsMappedBy, Translates}
 use Rattle.stepcore.specs.Changes.{is_accepted}
-use Rattle.stepcore.specs.Runs.{HartsAreInLiveSpaces, IsClear, IsClearOnceDone, IsCoherent, MailboxesKeepOrder, NothingAfterCloses, TlbsHoldUsedAsids, WalksHoldUsedFrames, entries_in}
+use Rattle.stepcore.specs.Runs.{Promises, entries_in}
 use Rattle.stepcore.specs.Stands.{Stands}
 use Rattle.stepcore.specs.State.{State}
 use Rattle.melissaledge_c.specs.declared.codes.Fault.{Fault}
@@ -59,22 +59,8 @@ pub record IsStep (old : State) (event : Event) (reply : Reply) (new : State) : 
   pub due_is : (setup : Setup) (history : History) → Stands setup old history
       → reply ≡ due setup history event
   pub refused : is_accepted reply ≡ false → new ≡ old
-  pub mailboxes : (setup : Setup) (history : History) → Stands setup old history
-      → MailboxesKeepOrder setup (with_turn event reply history) new
-  pub closed : (setup : Setup) (history : History) → Stands setup old history
-      → NothingAfterCloses setup (with_turn event reply history)
-  pub clear : (setup : Setup) (history : History) → Stands setup old history
-      → IsClear setup (with_turn event reply history) new
-  pub done : (setup : Setup) (history : History) → Stands setup old history
-      → IsClearOnceDone setup (with_turn event reply history) new
-  pub coherent : (setup : Setup) (history : History) → Stands setup old history
-      → IsCoherent setup (with_turn event reply history) new
-  pub asids : (setup : Setup) (history : History) → Stands setup old history
-      → TlbsHoldUsedAsids setup (with_turn event reply history) new
-  pub spaces : (setup : Setup) (history : History) → Stands setup old history
-      → HartsAreInLiveSpaces setup (with_turn event reply history) new
-  pub frames : (setup : Setup) (history : History) → Stands setup old history
-      → WalksHoldUsedFrames setup (with_turn event reply history) new
+  pub promises : (setup : Setup) (history : History) → Stands setup old history
+      → Promises setup (with_turn event reply history) new
 
 -- the machine makes a step to the next, and C is given the reply
 pub record IsStepped (old : State) (event : Event) (next : State) (told : ReplyGiven) : Type 0 where

@@ -49,11 +49,11 @@ module _ (C : Setup) (setup : IsSetup C) (H : History) (l : Lawful C H) (pages :
 
   -- what is mapped now for an address space of the page of an order is mapped now for its own
   own_now : (of : Option ℕ) (place : Place) (page : Span) (h : ℕ) (m : Mapping) → IsAt of place → IsAsked C place page → LiesIn page m.page → IsForAsid of m
-      → IsMappedBy (entries_of C H h) m → IsMappedNow C H of m → (own : Option ℕ) → m.asid ≡ own → IsMappedNow C H own m
+      → IsMappedBy (entries_of C H h) m → IsMappedNow C H (words_of C H) of m → (own : Option ℕ) → m.asid ≡ own → IsMappedNow C H (words_of C H) own m
   own_now (Some a) place page h m at asked lies for by now (Some b) is =
       elim for [
         | inl none ↦ let bad : None ≡ Some b = sym none ∙ is in absurd (cc)
-        | inr some ↦ subst (λ (o : Option ℕ). IsMappedNow C H o m) (ap Some (sym some.2) ∙ sym some.1 ∙ is) now
+        | inr some ↦ subst (λ (o : Option ℕ). IsMappedNow C H (words_of C H) o m) (ap Some (sym some.2) ∙ sym some.1 ∙ is) now
       ]
   own_now (Some a) (Space u) page h m at asked lies for by now None is =
       let s = now.some.0 in

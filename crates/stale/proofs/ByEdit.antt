@@ -230,7 +230,7 @@ module _ (C : Setup) (setup : IsSetup C) (H : History) (l : Lawful C H) (pages :
           by.flags_are
 
       -- what is not of it stays mapped
-      stays : (m : Mapping) → (LeafOf m → ⊥) → IsMappedNow C H m.asid m → IsMappedNow C (turn ∷ H) m.asid m
+      stays : (m : Mapping) → (LeafOf m → ⊥) → IsMappedNow C H (words_of C H) m.asid m → IsMappedNow C (turn ∷ H) (words_of C (turn ∷ H)) m.asid m
       stays m not_so now = record {
         some = (now.some.0, (same_reach m.asid now.some.0).0 now.some.1);
         each = λ s reached.
@@ -260,7 +260,7 @@ module _ (C : Setup) (setup : IsSetup C) (H : History) (l : Lawful C H) (pages :
       ]
 
       -- a mapping of the leaf was mapped
-      was_mapped : (m : Mapping) → LeafOf m → IsMappedNow C H m.asid m
+      was_mapped : (m : Mapping) → LeafOf m → IsMappedNow C H (words_of C H) m.asid m
       was_mapped m is =
           let some = some_of (place_of w) found.there in
           record {

@@ -32,6 +32,7 @@ use Rattle.history.specs.Turns.{History}
 use Rattle.history.specs.Spaces.{asid_of}
 use Rattle.history.specs.Harts.{entries_of, space_of}
 use Rattle.history.specs.Due.{access_reply, due, match_reply}
+use Rattle.history.specs.Tables.{words_of}
 use Rattle.history.specs.Staleness.{IsMappedNow, Reaches}
 use Rattle.history.specs.Runs.{with_turn}
 use Rattle.laws.proofs.Accepted.{passed, is_accepted}
@@ -90,7 +91,7 @@ module _ (C : Setup) (H : History) (hart va : ℕ) (access : Access) (ctx : Ctx)
   reaches_still None s = (λ below. below, λ below. below)
   reaches_still (Some a) s = (λ has. record { there = has.there; kept = has.kept; same = has.same }, λ has. record { there = has.there; kept = has.kept; same = has.same })
 
-  pub mapped_still : (of : Option ℕ) (m : Mapping) → IsMappedNow C H of m ↔ IsMappedNow C (with_turn (Begin hart va access ctx) r H) of m
+  pub mapped_still : (of : Option ℕ) (m : Mapping) → IsMappedNow C H (words_of C H) of m ↔ IsMappedNow C (with_turn (Begin hart va access ctx) r H) (words_of C (with_turn (Begin hart va access ctx) r H)) of m
   mapped_still of m = (
     λ now. record {
       some = (now.some.0, (reaches_still of now.some.0).0 now.some.1);
@@ -134,7 +135,7 @@ module _ (C : Setup) (H : History) (hart va : ℕ) (access : Access) (ctx : Ctx)
             flags = refl;
           }
 
-      uses : (¬ IsMappedNow C H (reach_of entry) (mapping_of entry (page_number va)))
+      uses : (¬ IsMappedNow C H (words_of C H) (reach_of entry) (mapping_of entry (page_number va)))
           → UsesStale C (record { event = Begin hart va access ctx; reply = r }) H hart (mapping_of entry (page_number va))
       uses unmapped =
           let found = find-Some (is_match (asid_of C H (space_of H hart)) va) (entries_of C H hart) entry first in
@@ -144,7 +145,7 @@ module _ (C : Setup) (H : History) (hart va : ℕ) (access : Access) (ctx : Ctx)
           }
 
       -- so it uses a stale mapping exactly if that is not mapped now
-      pub told : (¬ IsMappedNow C H (reach_of entry) (mapping_of entry (page_number va))) → (h : ℕ) (p : Mapping)
+      pub told : (¬ IsMappedNow C H (words_of C H) (reach_of entry) (mapping_of entry (page_number va))) → (h : ℕ) (p : Mapping)
           → UsesStale C (record { event = Begin hart va access ctx; reply = r }) H h p ↔ ((h ≡ hart) × (p ≡ mapping_of entry (page_number va)))
       told unmapped h p = (
         λ u. used h p u.uses,
@@ -152,9 +153,9 @@ module _ (C : Setup) (H : History) (hart va : ℕ) (access : Access) (ctx : Ctx)
             (subst (UsesStale C (record { event = Begin hart va access ctx; reply = r }) H hart) (sym is.1) (uses unmapped)),
       )
 
-      pub untold : IsMappedNow C H (reach_of entry) (mapping_of entry (page_number va)) → (h : ℕ) (p : Mapping)
+      pub untold : IsMappedNow C H (words_of C H) (reach_of entry) (mapping_of entry (page_number va)) → (h : ℕ) (p : Mapping)
           → UsesStale C (record { event = Begin hart va access ctx; reply = r }) H h p → ⊥
-      untold now h p u = u.stale.unmapped (subst (λ (x : Mapping). IsMappedNow C H x.asid x) (sym (used h p u.uses).1) now)
+      untold now h p u = u.stale.unmapped (subst (λ (x : Mapping). IsMappedNow C H (words_of C H) x.asid x) (sym (used h p u.uses).1) now)
 
 -- what a machine shows of it that stands after the access
 module _ (C : Setup) (m : State) (H : History) (hart va : ℕ) (access : Access) (ctx : Ctx) (r : Reply) (st : Stands C m (with_turn (Begin hart va access ctx) r H)) (hit : is_hit r ≡ true) where
@@ -186,12 +187,12 @@ module _ (C : Setup) (m : State) (H : History) (hart va : ℕ) (access : Access)
     pub hit_entry : first_match (entries_of C H hart) (asid_of C H (space_of H hart)) va ≡ Some entry
     hit_entry = by.first ∙ ap Some same
 
-    pub use_told : IsPage entry.page → (¬ IsMappedNow C (with_turn (Begin hart va access ctx) r H) (reach_of entry) (mapping_of entry (page_number va))) → (h : ℕ) (p : Mapping)
+    pub use_told : IsPage entry.page → (¬ IsMappedNow C (with_turn (Begin hart va access ctx) r H) (words_of C (with_turn (Begin hart va access ctx) r H)) (reach_of entry) (mapping_of entry (page_number va))) → (h : ℕ) (p : Mapping)
         → UsesStale C (record { event = Begin hart va access ctx; reply = r }) H h p ↔ ((h ≡ hart) × (p ≡ mapping_of entry (page_number va)))
     use_told is_page unmapped h p =
         told C H hart va access ctx r entry hit_entry is_page hit (λ now. unmapped ((mapped_still C H hart va access ctx r (reach_of entry) (mapping_of entry (page_number va))).0 now)) h p
 
-    pub use_untold : IsPage entry.page → IsMappedNow C (with_turn (Begin hart va access ctx) r H) (reach_of entry) (mapping_of entry (page_number va)) → (h : ℕ) (p : Mapping)
+    pub use_untold : IsPage entry.page → IsMappedNow C (with_turn (Begin hart va access ctx) r H) (words_of C (with_turn (Begin hart va access ctx) r H)) (reach_of entry) (mapping_of entry (page_number va)) → (h : ℕ) (p : Mapping)
         → UsesStale C (record { event = Begin hart va access ctx; reply = r }) H h p → ⊥
     use_untold is_page now h p u =
         untold C H hart va access ctx r entry hit_entry is_page hit ((mapped_still C H hart va access ctx r (reach_of entry) (mapping_of entry (page_number va))).1 now) h p u

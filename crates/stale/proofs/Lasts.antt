@@ -16,6 +16,7 @@ use Rattle.history.specs.Harts.{entries_of, space_of}
 use Rattle.laws.specs.Kept.{HavePages, IsSetup}
 use Rattle.tlb.specs.Entries.{is_match}
 use Rattle.tlb.proofs.Translating.{find-Some}
+use Rattle.history.specs.Tables.{words_of}
 use Rattle.history.specs.Staleness.{IsMappedNow}
 use Rattle.laws.proofs.Asids.{nobody_holds}
 use Rattle.stepcore.specs.State.{State, hart_at}
@@ -61,7 +62,7 @@ module _ (C : Setup) (m : State) (H : History) (st : Stands C m H) where
       none_stale mapped p s =
           let same : p ≡ mapping_of e p.page = mapping_is e p.page p s.is refl in
           let all = (mapped_now C m H st (mapping_of e p.page)).0 (mapped p.page s.in_page s.is.page) in
-          s.stale.unmapped (subst (λ (x : Mapping). IsMappedNow C H x.asid x) (sym same) all)
+          s.stale.unmapped (subst (λ (x : Mapping). IsMappedNow C H (words_of C H) x.asid x) (sym same) all)
 
 -- what an entry holds stale after a turn, and did not before
 module _ (C : Setup) (setup : IsSetup C) (turn : Turn) (H : History) (l : Lawful C (turn ∷ H)) (pages : HavePages (turn ∷ H)) where

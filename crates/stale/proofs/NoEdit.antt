@@ -132,7 +132,7 @@ module _ (C : Setup) (setup : IsSetup C) where
 
     module _ (plain : is_edit turn.event turn.reply ≡ false) where
       -- what is held after the turn and was mapped is mapped still
-      pub stays : (h : ℕ) (m : Mapping) → IsMappedBy (entries_of C (turn ∷ H) h) m → IsMappedNow C H m.asid m → IsMappedNow C (turn ∷ H) m.asid m
+      pub stays : (h : ℕ) (m : Mapping) → IsMappedBy (entries_of C (turn ∷ H) h) m → IsMappedNow C H (words_of C H) m.asid m → IsMappedNow C (turn ∷ H) (words_of C (turn ∷ H)) m.asid m
       stays h m held now =
           let some = reached_after h m held now.some.0 now.some.1 in
           record {
@@ -145,7 +145,7 @@ module _ (C : Setup) (setup : IsSetup C) where
           }
 
       -- what a Load fills was mapped
-      pub filled : (h : ℕ) (e : Entry) (m : Mapping) → Fills C h e turn H → IsMappingOf e m → IsMappedNow C H m.asid m
+      pub filled : (h : ℕ) (e : Entry) (m : Mapping) → Fills C h e turn H → IsMappingOf e m → IsMappedNow C H (words_of C H) m.asid m
       filled h e m f of =
           let space = space_of H h in
           let there = space_there C H h setup.asids l.0 in
@@ -159,7 +159,7 @@ module _ (C : Setup) (setup : IsSetup C) where
             | inl none ↦
                 let global : Maps C.layout.scheme (words_of C H) (root_ppn C.layout space) m.page m.ppn m.flags true =
                 subst (λ (g : Bool). Maps C.layout.scheme (words_of C H) (root_ppn C.layout space) m.page m.ppn m.flags g) none.0 maps in
-                subst (λ (o : Option ℕ). IsMappedNow C H o m) (sym none.1)
+                subst (λ (o : Option ℕ). IsMappedNow C H (words_of C H) o m) (sym none.1)
                 (record {
                   some = (space, there);
                   each = λ s reach.
@@ -169,7 +169,7 @@ module _ (C : Setup) (setup : IsSetup C) where
             | inr some ↦
                 let own : Maps C.layout.scheme (words_of C H) (root_ppn C.layout space) m.page m.ppn m.flags false =
                 subst (λ (g : Bool). Maps C.layout.scheme (words_of C H) (root_ppn C.layout space) m.page m.ppn m.flags g) some.0 maps in
-                subst (λ (o : Option ℕ). IsMappedNow C H o m) (sym some.1)
+                subst (λ (o : Option ℕ). IsMappedNow C H (words_of C H) o m) (sym some.1)
                 (record {
                   some = (space, has);
                   each = λ s reach.

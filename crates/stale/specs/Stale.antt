@@ -16,12 +16,13 @@ use Rattle.history.specs.declared.reply.Reply.TheVariants as reply
 use Rattle.history.specs.Turns.{Turn, History}
 use Rattle.history.specs.Spaces.{asid_of}
 use Rattle.history.specs.Harts.{space_of, entries_of}
+use Rattle.history.specs.Tables.{words_of}
 use Rattle.history.specs.Staleness.{IsMappedNow}
 
 -- the TLB of the hart holds the mapping, and the tables do not map it so now
 pub record Stale (setup : Setup) (history : History) (hart : ℕ) (m : Mapping) : Type 0 where
   pub held : IsMappedBy (entries_of setup history hart) m
-  pub unmapped : ¬ IsMappedNow setup history m.asid m
+  pub unmapped : ¬ IsMappedNow setup history (words_of setup history) m.asid m
 
 -- the turn makes the mapping stale
 pub record BecomesStale (setup : Setup) (turn : Turn) (history : History) (hart : ℕ)

@@ -5,6 +5,7 @@ ghost use Rattle.walk.specs.Answer.{flags_fault};
 ghost use Rattle.walk.specs.Maps.{page_number};
 ghost use Rattle.history.specs.Setup.{Setup};
 ghost use Rattle.history.specs.Turns.{History};
+ghost use Rattle.history.specs.Tables.{words_of};
 ghost use Rattle.history.specs.Staleness.{IsMappedNow};
 ghost use Rattle.walk.specs.Outcome.{Outcome};
 ghost use Rattle.spaces.specs.Held.{memory_words};
@@ -150,7 +151,8 @@ pub fn is_mapped_now(
 ) -> bool
     requires answers { flags_fault access ctx entry.now.flags ≡ None }
     ensures { (setup : Setup) (history : History) → Stands setup machine.now history → IsTrue result
-        ↔ IsMappedNow setup history (reach_of entry.now) (mapping_of entry.now (page_number va)) }
+        ↔ IsMappedNow setup history (words_of setup history) (reach_of entry.now)
+        (mapping_of entry.now (page_number va)) }
 {
     is_mapped(machine, entry, va.get(), access, ctx)
 }

@@ -25,6 +25,7 @@ use Rattle.history.specs.Completion.{ClearOnceDone}
 use Rattle.history.specs.Staleness.{Clear, Coherent, HoldsUsedAsids}
 use Rattle.history.specs.Spaces.{Live, status_of, holder_of}
 use Rattle.history.specs.Tables.{words_of}
+use Rattle.std.proofs.Math.Path.{fun_ext}
 use Rattle.history.specs.Harts.{Walking, entries_of, space_of, walk_of}
 use Rattle.history.proofs.Mailboxes as mailboxes
 use Rattle.laws.proofs.Asids.{holds_used, live_hart}
@@ -33,9 +34,9 @@ use Rattle.laws.proofs.Cohering.{coherent}
 use Rattle.laws.proofs.Completed.{done_clear}
 use Rattle.laws.proofs.MapsKept.{stays_mapped, stays_unmapped, user_plain, window_shared}
 use Rattle.laws.proofs.Walkers.{walks_used}
-use Rattle.stepcore.specs.State.{State, HartState, hart_at, idle_hart, mailbox_index}
+use Rattle.stepcore.specs.State.{State, HartState, hart_at, idle_hart, mailbox_index, words_in}
 use Rattle.stepcore.specs.Stands.{AreSameWalk, Stands}
-use Rattle.stepcore.specs.Runs.{with_turns, appended, AreDue, waiting_in, entries_in}
+use Rattle.stepcore.specs.Runs.{Promises, with_turns, appended, AreDue, waiting_in, entries_in}
 
 -- no reply, no turn; and one answered event more
 pub no_turns : (events : List Event) (H : History) → with_turns events [] H ≡ H
@@ -116,41 +117,57 @@ module _ (C : Setup) (m : State) (H : History) (st : Stands C m H) where
 
   -- each mailbox keeps its order: what was accepted is what was taken, followed by what waits in
   -- the machine
-  pub mailbox_order : (s h : ℕ) → s < C.harts → h < C.harts → accepted C H s h ≡ taken H s h ++ waiting_in m s h
+  mailbox_order : (s h : ℕ) → s < C.harts → h < C.harts → accepted C H s h ≡ taken H s h ++ waiting_in m s h
   mailbox_order s h ls lh =
       mailboxes.lawful_order C H st.lawful s h
       ∙ ap (λ (requests : List Request). taken H s h ++ requests)
       (sym (read_or (λ (mailbox : MailboxState). mailbox.waiting) (slice_get m.mailboxes (mailbox_index s h)) (empty_mailbox 0) ∙ ap (λ (mailbox : MailboxState). mailbox.waiting) (st.mailboxes s h ls lh)))
 
-  pub none_after_close : (s h : ℕ) → NoneAfterClose H s h
+  none_after_close : (s h : ℕ) → NoneAfterClose H s h
   none_after_close s h = mailboxes.no_post_after_close C H s h st.lawful
 
   -- what the TLBs of the machine hold is clear and coherent
-  pub entries_clear : (k h : ℕ) → h < C.harts → Clear C H (entries_in m h) k h
+  entries_clear : (k h : ℕ) → h < C.harts → Clear C H (entries_in m h) k h
   entries_clear k h l =
       subst (λ (entries : List Entry). Clear C H entries k h) (sym (entries_are h l))
       (clear C st.within (stays_unmapped C st.within) (user_plain C st.within) H k h st.lawful st.pages)
 
-  pub entries_done : (k h : ℕ) → h < C.harts → ClearOnceDone C H (entries_in m h) k h
+  entries_done : (k h : ℕ) → h < C.harts → ClearOnceDone C H (entries_in m h) k h
   entries_done k h l =
       subst (λ (entries : List Entry). ClearOnceDone C H entries k h) (sym (entries_are h l))
       (done_clear C H k h st.lawful (clear C st.within (stays_unmapped C st.within) (user_plain C st.within) H k h st.lawful st.pages))
 
-  pub entries_coherent : (k h : ℕ) → h < C.harts → Coherent C H (entries_in m h) k h
+  words_are : words_in m ≡ words_of C H
+  words_are = fun_ext (λ ppn. fun_ext (λ i. st.words ppn i))
+
+  entries_coherent : (k h : ℕ) → h < C.harts → Coherent C H (words_in m) (entries_in m h) k h
   entries_coherent k h l =
-      subst (λ (entries : List Entry). Coherent C H entries k h) (sym (entries_are h l))
-      (coherent C st.within (user_plain C st.within) (stays_mapped C st.within) (window_shared C st.within) H k h st.lawful st.pages)
+      subst (λ (words : Tables). Coherent C H words (entries_in m h) k h) (sym words_are)
+      (subst (λ (entries : List Entry). Coherent C H (words_of C H) entries k h) (sym (entries_are h l))
+      (coherent C st.within (user_plain C st.within) (stays_mapped C st.within) (window_shared C st.within) H k h st.lawful st.pages))
 
   -- nor do they hold what is of an ASID that no space has; harts are in live spaces, and walks at
   -- frames in use
-  pub used_asids : (h : ℕ) → h < C.harts → HoldsUsedAsids C H (entries_in m h)
+  used_asids : (h : ℕ) → h < C.harts → HoldsUsedAsids C H (entries_in m h)
   used_asids h l = subst (λ (entries : List Entry). HoldsUsedAsids C H entries) (sym (entries_are h l)) (holds_used C st.within H h st.lawful st.pages)
 
-  pub live_spaces : (h : ℕ) → h < C.harts → status_of H (hart_at m h).space ≡ Live
+  live_spaces : (h : ℕ) → h < C.harts → status_of H (hart_at m h).space ≡ Live
   live_spaces h l = ap (status_of H) (st.harts h l).space ∙ live_hart C st.within H h st.lawful l
 
-  pub used_frames : (h : ℕ) (walk : Stage) (hart n : ℕ) → h < C.harts → (hart_at m h).walk ≡ Some walk
+  used_frames : (h : ℕ) (walk : Stage) (hart n : ℕ) → h < C.harts → (hart_at m h).walk ≡ Some walk
       → n < slice_index C.layout.spares hart → holder_of H (spare_ppn C.layout hart + n) ≡ None → walk.table ≡ spare_ppn C.layout hart + n → ⊥
   used_frames h walk hart n l walks less unused at =
       let told = walk_told C.layout.scheme (words_of C H) (root_ppn C.layout (space_of H h)) (hart_at m h).walk (walk_of H h) walk (st.harts h l).walk walks in
       (walks_used C st.within H h st.lawful st.pages told.0 told.1).1 hart n (spare_ppn C.layout hart + n) less refl unused (told.2 ∙ ap Some at)
+
+  pub promises : Promises C H m
+  promises = record {
+    mailboxes = mailbox_order;
+    closed = none_after_close;
+    clear = entries_clear;
+    done = entries_done;
+    coherent = entries_coherent;
+    asids = used_asids;
+    spaces = live_spaces;
+    frames = used_frames;
+  }

@@ -15,7 +15,7 @@ use Rattle.history.specs.Spaces.{Live, status_of, holder_of}
 use Rattle.history.specs.Completion.{ClearOnceDone}
 use Rattle.history.specs.Staleness.{Clear, Coherent, HoldsUsedAsids}
 use Rattle.history.specs.Runs.{with_turn, due_replies}
-use Rattle.stepcore.specs.State.{State, HartState, hart_at, mailbox_index}
+use Rattle.stepcore.specs.State.{State, HartState, hart_at, mailbox_index, words_in}
 
 -- the history once these events were answered so, as far as there are replies
 abbrev pub with_turns : List Event → List Reply → History → History
@@ -72,11 +72,12 @@ IsClearOnceDone setup history m =
     (order hart : ℕ) → hart < setup.harts
     → ClearOnceDone setup history (entries_in m hart) order hart
 
--- and what such a hart holds of a page that was unmapped or protected is mapped, until the page is
--- unmapped or protected once more
+-- and what such a hart holds of a page that was unmapped or protected is mapped by the words of
+-- this machine's tables, until the page is unmapped or protected once more
 abbrev pub IsCoherent : Setup → History → State → Type 0
 IsCoherent setup history m =
-    (order hart : ℕ) → hart < setup.harts → Coherent setup history (entries_in m hart) order hart
+    (order hart : ℕ) → hart < setup.harts
+    → Coherent setup history (words_in m) (entries_in m hart) order hart
 
 -- no TLB holds an entry, unless it is global, of an ASID that no live or retiring space has
 abbrev pub TlbsHoldUsedAsids : Setup → History → State → Type 0
@@ -95,3 +96,16 @@ WalksHoldUsedFrames setup history m =
     → n < slice_index setup.layout.spares owner
     → holder_of history (spare_ppn setup.layout owner + n) ≡ None
     → walk.table ≢ spare_ppn setup.layout owner + n
+
+-- The promises, after a history: the mailboxes' two; the two of an unmapping that was acknowledged;
+-- that of any change; and what machines hold of address spaces that no space has, and of unused
+-- frames.
+pub record Promises (setup : Setup) (history : History) (m : State) : Type 0 where
+  pub mailboxes : MailboxesKeepOrder setup history m
+  pub closed : NothingAfterCloses setup history
+  pub clear : IsClear setup history m
+  pub done : IsClearOnceDone setup history m
+  pub coherent : IsCoherent setup history m
+  pub asids : TlbsHoldUsedAsids setup history m
+  pub spaces : HartsAreInLiveSpaces setup history m
+  pub frames : WalksHoldUsedFrames setup history m

@@ -7,7 +7,7 @@ ghost use Rattle.history.specs.Turns.{History};
 ghost use Rattle.history.specs.Runs.{due_replies, with_turn};
 ghost use Rattle.history.specs.Due.{due};
 ghost use Rattle.stepcore.specs.Changes.{Follows, is_accepted, reply_of};
-ghost use Rattle.stepcore.specs.Runs.{after_run, appended, AreDue, HartsAreInLiveSpaces, IsClear, IsClearOnceDone, IsCoherent, MailboxesKeepOrder, NothingAfterCloses, TlbsHoldUsedAsids, WalksHoldUsedFrames};
+ghost use Rattle.stepcore.specs.Runs.{after_run, appended, AreDue, Promises};
 ghost use Rattle.stepcore.specs.Stands.{Stands};
 
 use crate::conditions::reply_of;
@@ -30,9 +30,7 @@ fn append(answer: Result<Reply, Refusal>, replies: &mut Vec<Reply>)
 impl Machine {
     /// Does one event of one hart, or refuses it. It takes no memory. The reply is the one that is
     /// due, and a refusal changes nothing. For every history at which the machine stood, it stands
-    /// at that history with this turn. No TLB holds an entry, unless it is global, of an ASID that
-    /// no live or retiring space has; each hart, so each walk, is in a live space; and no walk has
-    /// come to an unused table frame.
+    /// at that history with this turn, and keeps the promises.
     pub fn step(&mut self, event: Event) -> Reply
         ensures stands { (setup : Setup) (history : History) → Stands setup self.old history
             → Stands setup self.new (with_turn event result history) }
@@ -40,22 +38,8 @@ impl Machine {
         ensures due { (setup : Setup) (history : History) → Stands setup self.old history
             → result ≡ due setup history event }
         ensures refused { is_accepted result ≡ false → self.new ≡ self.old }
-        ensures mailboxes { (setup : Setup) (history : History) → Stands setup self.old history
-            → MailboxesKeepOrder setup (with_turn event result history) self.new }
-        ensures closed { (setup : Setup) (history : History) → Stands setup self.old history
-            → NothingAfterCloses setup (with_turn event result history) }
-        ensures clear { (setup : Setup) (history : History) → Stands setup self.old history
-            → IsClear setup (with_turn event result history) self.new }
-        ensures done { (setup : Setup) (history : History) → Stands setup self.old history
-            → IsClearOnceDone setup (with_turn event result history) self.new }
-        ensures coherent { (setup : Setup) (history : History) → Stands setup self.old history
-            → IsCoherent setup (with_turn event result history) self.new }
-        ensures asids { (setup : Setup) (history : History) → Stands setup self.old history
-            → TlbsHoldUsedAsids setup (with_turn event result history) self.new }
-        ensures spaces { (setup : Setup) (history : History) → Stands setup self.old history
-            → HartsAreInLiveSpaces setup (with_turn event result history) self.new }
-        ensures frames { (setup : Setup) (history : History) → Stands setup self.old history
-            → WalksHoldUsedFrames setup (with_turn event result history) self.new }
+        ensures promises { (setup : Setup) (history : History) → Stands setup self.old history
+            → Promises setup (with_turn event result history) self.new }
     {
         self.recall();
         reply_of(self.do_event(&event))
@@ -80,30 +64,9 @@ impl Machine {
         ensures stands { (setup : Setup) (history : History) → Stands setup self.old history
             → Stands setup self.new
             (after_run events.now replies.old.items replies.new.items history) }
-        ensures mailboxes { (setup : Setup) (history : History) → Stands setup self.old history
-            → MailboxesKeepOrder setup
-            (after_run events.now replies.old.items replies.new.items history) self.new }
-        ensures closed { (setup : Setup) (history : History) → Stands setup self.old history
-            → NothingAfterCloses setup
-            (after_run events.now replies.old.items replies.new.items history) }
-        ensures clear { (setup : Setup) (history : History) → Stands setup self.old history
-            → IsClear setup
-            (after_run events.now replies.old.items replies.new.items history) self.new }
-        ensures done { (setup : Setup) (history : History) → Stands setup self.old history
-            → IsClearOnceDone setup
-            (after_run events.now replies.old.items replies.new.items history) self.new }
-        ensures coherent { (setup : Setup) (history : History) → Stands setup self.old history
-            → IsCoherent setup
-            (after_run events.now replies.old.items replies.new.items history) self.new }
-        ensures asids { (setup : Setup) (history : History) → Stands setup self.old history
-            → TlbsHoldUsedAsids setup
-            (after_run events.now replies.old.items replies.new.items history) self.new }
-        ensures spaces { (setup : Setup) (history : History) → Stands setup self.old history
-            → HartsAreInLiveSpaces setup
-            (after_run events.now replies.old.items replies.new.items history) self.new }
-        ensures frames { (setup : Setup) (history : History) → Stands setup self.old history
-            → WalksHoldUsedFrames setup
-            (after_run events.now replies.old.items replies.new.items history) self.new }
+        ensures promises { (setup : Setup) (history : History) → Stands setup self.old history
+            → Promises setup (after_run events.now replies.old.items replies.new.items history)
+            self.new }
     {
         for event in events {
             replies.reserve(1)?;

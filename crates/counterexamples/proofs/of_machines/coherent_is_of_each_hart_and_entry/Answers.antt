@@ -1,4 +1,4 @@
-use Rattle.counterexamples.proofs.HeadlineFacts.{coherent_again, coherent_every, coherent_flags, coherent_nothing, coherent_part, coherent_sender}
+use Rattle.counterexamples.proofs.HeadlineFacts.{coherent_again, coherent_every, coherent_flags, coherent_nothing, coherent_own_words, coherent_part, coherent_sender}
 use Rattle.counterexamples.proofs.of_machines.coherent_is_of_each_hart_and_entry.Goals as goal
 
 pub returns-clause-old_flags : goal.returns-clause-old_flags
@@ -18,3 +18,6 @@ returns-clause-sender c = coherent_sender
 
 pub returns-clause-ticket_used_again : goal.returns-clause-ticket_used_again
 returns-clause-ticket_used_again c = coherent_again
+
+pub returns-clause-own_words : goal.returns-clause-own_words
+returns-clause-own_words c = coherent_own_words

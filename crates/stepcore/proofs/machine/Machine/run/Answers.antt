@@ -11,7 +11,7 @@ use Rattle.stepcore.specs.Stands.{Stands}
 use Rattle.stepcore.specs.Changes.{reply_of}
 use Rattle.stepcore.proofs.Standing.{answers_due, stands_after, Turn}
 use Rattle.stepcore.specs.Runs.{after_run, appended, with_turns, AreDue}
-use Rattle.stepcore.proofs.Running.{appended_none, no_turns, run_more, appended_more, due_more, all_due, mailbox_order, none_after_close, entries_clear, entries_coherent, entries_done, used_asids, live_spaces, used_frames}
+use Rattle.stepcore.proofs.Running.{appended_none, no_turns, run_more, appended_more, due_more, all_due, promises}
 use Rattle.stepcore.proofs.machine.Machine.run.Goals as goal
 use Rattle.stepcore.proofs.machine.Machine.run.Goals.{in-Begin, in-Load, in_default}
 
@@ -70,53 +70,11 @@ stays : (c : goal.After-from_residual) (C : Setup) (H : History) → Stands C c.
     → Stands C c.loop-event.self (after_run c.args.events.now c.args.replies.now.items c.reserve.new.self.items H)
 stays c C H st = rw c.in_err-reserve.ensures.items (c.loop-event.invariant.stands C H st)
 
-pub returns-in_err-reserve-clause-mailboxes : goal.returns-in_err-reserve-clause-mailboxes
-returns-in_err-reserve-clause-mailboxes c C H st = mailbox_order C _ _ (stays c C H st)
+pub returns-in_err-reserve-clause-promises : goal.returns-in_err-reserve-clause-promises
+returns-in_err-reserve-clause-promises c C H st = promises C _ _ (stays c C H st)
 
-pub returns-in_err-reserve-clause-closed : goal.returns-in_err-reserve-clause-closed
-returns-in_err-reserve-clause-closed c C H st = none_after_close C _ _ (stays c C H st)
-
-pub returns-in_err-reserve-clause-clear : goal.returns-in_err-reserve-clause-clear
-returns-in_err-reserve-clause-clear c C H st = entries_clear C _ _ (stays c C H st)
-
-pub returns-in_err-reserve-clause-coherent : goal.returns-in_err-reserve-clause-coherent
-returns-in_err-reserve-clause-coherent c C H st = entries_coherent C _ _ (stays c C H st)
-
-pub returns-clause-mailboxes : goal.returns-clause-mailboxes
-returns-clause-mailboxes c C H st = mailbox_order C _ _ (c.loop-event.invariant.stands C H st)
-
-pub returns-clause-closed : goal.returns-clause-closed
-returns-clause-closed c C H st = none_after_close C _ _ (c.loop-event.invariant.stands C H st)
-
-pub returns-clause-clear : goal.returns-clause-clear
-returns-clause-clear c C H st = entries_clear C _ _ (c.loop-event.invariant.stands C H st)
-
-pub returns-clause-coherent : goal.returns-clause-coherent
-returns-clause-coherent c C H st = entries_coherent C _ _ (c.loop-event.invariant.stands C H st)
-
-pub returns-in_err-reserve-clause-asids : goal.returns-in_err-reserve-clause-asids
-returns-in_err-reserve-clause-asids c C H st = used_asids C _ _ (stays c C H st)
-
-pub returns-in_err-reserve-clause-spaces : goal.returns-in_err-reserve-clause-spaces
-returns-in_err-reserve-clause-spaces c C H st = live_spaces C _ _ (stays c C H st)
-
-pub returns-in_err-reserve-clause-frames : goal.returns-in_err-reserve-clause-frames
-returns-in_err-reserve-clause-frames c C H st = used_frames C _ _ (stays c C H st)
-
-pub returns-clause-asids : goal.returns-clause-asids
-returns-clause-asids c C H st = used_asids C _ _ (c.loop-event.invariant.stands C H st)
-
-pub returns-clause-spaces : goal.returns-clause-spaces
-returns-clause-spaces c C H st = live_spaces C _ _ (c.loop-event.invariant.stands C H st)
-
-pub returns-clause-frames : goal.returns-clause-frames
-returns-clause-frames c C H st = used_frames C _ _ (c.loop-event.invariant.stands C H st)
-
-pub returns-in_err-reserve-clause-done : goal.returns-in_err-reserve-clause-done
-returns-in_err-reserve-clause-done c C H st = entries_done C _ _ (stays c C H st)
-
-pub returns-clause-done : goal.returns-clause-done
-returns-clause-done c C H st = entries_done C _ _ (c.loop-event.invariant.stands C H st)
+pub returns-clause-promises : goal.returns-clause-promises
+returns-clause-promises c C H st = promises C _ _ (c.loop-event.invariant.stands C H st)
 
 pub returns-clause-all_due : goal.returns-clause-all_due
 returns-clause-all_due c C H st =
