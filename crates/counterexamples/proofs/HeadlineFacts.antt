@@ -1,5 +1,5 @@
 -- Machines and histories of which the statements of the headline are false.
-use Rattle.std.proofs.Common.{◌≡◌, ℕ, zero, suc, ◌+◌, List, [], ◌∷◌, ◌++◌, Some, refl, ap, ◌∙◌, arith, inl, inr}
+use Rattle.std.proofs.Common.{◌≡◌, ℕ, zero, suc, ◌+◌, List, [], ◌∷◌, ◌++◌, Some, refl, ap, subst, ◌∙◌, arith, inl, inr}
 use Rattle.std.proofs.Math.Path.{fun_ext}
 use Rattle.pte.specs.declared.permission.Access.TheVariants as access
 use Rattle.pte.specs.declared.scheme.Scheme.TheVariants.{Sv39}
