@@ -13,8 +13,7 @@ use Rattle.tlb.specs.Entries.{holds, is_match}
 use Rattle.history.specs.Turns.{History}
 use Rattle.history.specs.Orders.{Unmapped}
 use Rattle.history.specs.Staleness.{is_mapped_anew, HasAnswered, Clear}
-use Rattle.counterexamples.specs.WorkedRuns.{history_of, large_page, small_page, two_harts}
-use Rattle.counterexamples.specs.EditRuns.{huge_page}
+use Rattle.counterexamples.specs.WorkedRuns.{history_of, huge_page, large_page, small_page, two_harts}
 use Rattle.counterexamples.specs.ShootdownRuns as shootdowns
 use Rattle.counterexamples.specs.KernelRuns as kernel
 use Rattle.counterexamples.specs.StalenessRuns as staleness

@@ -19,12 +19,11 @@ use Rattle.history.specs.Acknowledgements.{is_acked}
 use Rattle.history.specs.Completion.{IsDoneAt, IsDoneFor}
 use Rattle.history.specs.Occurrences.{Sometime}
 use Rattle.counterexamples.specs.WorkedEntries.{entry, global_entry}
-use Rattle.counterexamples.specs.EditRuns.{huge_page}
-use Rattle.counterexamples.specs.HartRuns.{spaces_of_other_asids}
+use Rattle.counterexamples.specs.ServiceRuns.{spaces_of_other_asids}
 use Rattle.counterexamples.specs.ServiceRuns as services
 use Rattle.counterexamples.specs.ShootdownRuns as shootdowns
 use Rattle.counterexamples.specs.StalenessRuns as staleness
-use Rattle.counterexamples.specs.WorkedRuns.{history_of, IsRun, large_page, small_page, two_harts}
+use Rattle.counterexamples.specs.WorkedRuns.{history_of, huge_page, IsRun, large_page, small_page, two_harts}
 use Rattle.counterexamples.proofs.RunsAreLawful.{lawful_run}
 use Rattle.counterexamples.specs.DoneCounterexamples.{DoneAllowsAll, DoneForbids}
 use Rattle.laws.proofs.Accepted.{turn_of}

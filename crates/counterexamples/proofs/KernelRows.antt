@@ -9,7 +9,3 @@ use Rattle.counterexamples.specs.KernelRuns as run
 pub kernel_page_outlives_an_asid_fence : IsRun run.spaces_of_two_homes run.kernel_page_outlives_an_asid_fence
 unfolding IsRun kind_of wish_fault path_end edit_of byte_of difference
 kernel_page_outlives_an_asid_fence = refl
-
-pub kernel_page_outlives_a_space_request : IsRun run.spaces_of_two_homes run.kernel_page_outlives_a_space_request
-unfolding IsRun kind_of wish_fault path_end edit_of byte_of difference
-kernel_page_outlives_a_space_request = refl

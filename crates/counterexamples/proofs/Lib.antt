@@ -2,11 +2,9 @@ pub mod RunsAreLawful
 pub mod ShootdownRows
 pub mod KernelRows
 mod MailboxRows
-mod EditRows
 mod SuperpageEntries
 mod RefusalRows
 mod StalenessRows
-mod HartRows
 mod Sv48Rows
 mod SetupFacts
 pub mod RetireRows

@@ -5,7 +5,7 @@ use Rattle.pte.specs.Entry.{kind_of}
 use Rattle.spaces.specs.Edits.{wish_fault, path_end, edit_of}
 use Rattle.shoot.specs.HartSet.{byte_of, difference}
 use Rattle.counterexamples.specs.WorkedRuns.{IsRun, three_harts, two_harts}
-use Rattle.counterexamples.specs.HartRuns.{spaces_of_other_asids}
+use Rattle.counterexamples.specs.ServiceRuns.{spaces_of_other_asids}
 use Rattle.counterexamples.specs.ServiceRuns as run
 
 pub service_of_a_page : IsRun spaces_of_other_asids run.service_of_a_page

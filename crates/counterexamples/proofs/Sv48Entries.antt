@@ -13,8 +13,7 @@ use Rattle.history.specs.Orders.{Unmapped}
 use Rattle.history.specs.Staleness.{HasAnswered, IsMapped, Clear}
 use Rattle.history.specs.Tables.{words_of}
 use Rattle.history.specs.Turns.{History}
-use Rattle.counterexamples.specs.WorkedRuns.{history_of, small_page, large_page, flags, R, W, U, A, D, user}
-use Rattle.counterexamples.specs.EditRuns.{huge_page}
+use Rattle.counterexamples.specs.WorkedRuns.{history_of, huge_page, small_page, large_page, flags, R, W, U, A, D, user}
 use Rattle.counterexamples.specs.Sv48Runs as run
 use Rattle.counterexamples.specs.Sv48Runs.{terapage, two_harts_in_sv48}
 use Rattle.counterexamples.specs.WorkedEntries.{entry, global_entry}

@@ -1,9 +1,9 @@
 -- The worked runs with Sv48, computed from the definitions alone.
-use Rattle.std.proofs.Common.{refl, []}
+use Rattle.std.proofs.Common.{refl}
 use Rattle.pte.specs.Entry.{kind_of}
 use Rattle.spaces.specs.Edits.{wish_fault, path_end, edit_of}
 use Rattle.shoot.specs.HartSet.{byte_of, difference}
-use Rattle.counterexamples.specs.WorkedRuns.{IsRun, IsEachDueAfter, two_harts}
+use Rattle.counterexamples.specs.WorkedRuns.{IsRun, two_harts}
 use Rattle.counterexamples.specs.Sv48Runs as run
 
 pub terapage_shootdown : IsRun run.two_harts_in_sv48 run.terapage_shootdown
@@ -14,18 +14,10 @@ pub shootdown_over_four_levels : IsRun run.two_harts_in_sv48 run.shootdown_over_
 unfolding IsRun kind_of wish_fault path_end edit_of byte_of difference
 shootdown_over_four_levels = refl
 
-pub kernel_gigapage_shootdown : IsRun run.spaces_of_two_homes_in_sv48 run.kernel_gigapage_shootdown
+pub pages_that_do_not_fit : IsRun two_harts run.pages_that_do_not_fit
 unfolding IsRun kind_of wish_fault path_end edit_of byte_of difference
-kernel_gigapage_shootdown = refl
-
-pub fences_in_sv48 : IsRun run.one_hart_in_sv48 run.fences_in_sv48
-unfolding IsRun kind_of wish_fault path_end edit_of byte_of difference
-fences_in_sv48 = refl
-
-pub edits_in_sv48 : IsEachDueAfter run.two_harts_in_sv48 run.map_terapage run.edits_in_sv48
-unfolding IsEachDueAfter kind_of wish_fault path_end edit_of byte_of difference
-edits_in_sv48 = refl
-
-pub pages_that_do_not_fit : IsEachDueAfter two_harts [] run.pages_that_do_not_fit
-unfolding IsEachDueAfter kind_of wish_fault path_end edit_of byte_of difference
 pages_that_do_not_fit = refl
+
+pub page_that_does_not_fit_sv48 : IsRun run.two_harts_in_sv48 run.page_that_does_not_fit_sv48
+unfolding IsRun kind_of wish_fault path_end edit_of byte_of difference
+page_that_does_not_fit_sv48 = refl

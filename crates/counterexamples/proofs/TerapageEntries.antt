@@ -1,28 +1,20 @@
 -- What hart 1 holds of the page of 512 GiB of the worked shootdown, before and after its service of
 -- the request.
-use Rattle.std.proofs.Common.{◌≡◌, ℕ, ◌+◌, ◌*◌, ◌<◌, ◌⊎◌, ◌||◌, ◌==◌, false, List, [], ◌∷◌, Some, IsTrue, refl, sym, subst, arith, inl, inr}
-use Rattle.std.proofs.lemmas.Bool.{and_parts, and_from}
+use Rattle.std.proofs.Common.{◌≡◌, ℕ, ◌+◌, ◌*◌, ◌<◌, List, [], ◌∷◌, refl, sym, subst, arith, inl}
+use Rattle.std.proofs.lemmas.Bool.{and_from}
 use Rattle.pte.specs.declared.address.PageSize.TheVariants.{Kib4, Gib512}
-use Rattle.pte.specs.declared.permission.Access.TheVariants as access
-use Rattle.pte.specs.declared.scheme.Scheme.TheVariants.{Sv48}
 use Rattle.pte.specs.Address.{IsPage, Holds, bytes_of, pages_of}
 use Rattle.pte.specs.Entry.{kind_of}
 use Rattle.spaces.specs.Edits.{wish_fault, path_end, edit_of}
 use Rattle.tlb.specs.declared.store.Entry.{Entry}
-use Rattle.tlb.specs.Entries.{holds, is_match}
 use Rattle.tlb.specs.Mappings.{IsMappedBy, Translates}
 use Rattle.tlb.proofs.Overlapping.{holds-Holds}
 use Rattle.tlb.proofs.Translating.{match_translates, translated_match}
 use Rattle.history.specs.Harts.{entries_of}
-use Rattle.history.specs.Orders.{Unmapped}
-use Rattle.history.specs.Staleness.{HasAnswered, IsMapped, Clear}
-use Rattle.history.specs.Tables.{words_of}
-use Rattle.history.specs.Turns.{History}
-use Rattle.counterexamples.specs.WorkedRuns.{history_of, small_page, large_page, flags, R, W, U, A, D, user}
-use Rattle.counterexamples.specs.EditRuns.{huge_page}
+use Rattle.counterexamples.specs.WorkedRuns.{history_of}
 use Rattle.counterexamples.specs.Sv48Runs as run
 use Rattle.counterexamples.specs.Sv48Runs.{terapage, two_harts_in_sv48}
-use Rattle.counterexamples.specs.WorkedEntries.{entry, global_entry}
+use Rattle.counterexamples.specs.WorkedEntries.{entry}
 
 held_until_service : entries_of two_harts_in_sv48 (history_of run.terapage_until_service) 1 ≡ entry 1 (terapage 0x8000000000) 0x10000000 ∷ []
 unfolding kind_of wish_fault path_end edit_of

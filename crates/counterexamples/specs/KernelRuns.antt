@@ -1,12 +1,11 @@
 -- Worked runs of kernel pages: their entries are global, so fences and requests for one address
 -- space let them stand.
 use Rattle.std.specs.Prelude.{◌+◌, List, [], ◌∷◌, ◌++◌, Some, None}
-use Rattle.pte.specs.declared.address.What.TheVariants.{PageOf, SpaceOf}
+use Rattle.pte.specs.declared.address.What.TheVariants.{PageOf}
 use Rattle.pte.specs.declared.permission.Access.TheVariants as access
 use Rattle.walk.specs.declared.found_or_trap.Why.TheVariants.{Invalid}
 use Rattle.spaces.specs.declared.places.Place.TheVariants.{Kernel}
-use Rattle.history.specs.declared.event.Event.TheVariants.{Begin, Load, Map, Unmap, Flush, Switch, Fence, Post, Take, ServeFence, Ack}
-use Rattle.history.specs.declared.event.Scope.TheVariants as scope
+use Rattle.history.specs.declared.event.Event.TheVariants.{Begin, Load, Map, Unmap, Switch, Fence, Post, Take, ServeFence, Ack}
 use Rattle.history.specs.declared.reply.Reply.TheVariants.{Hit, More, Filled, Table, Leaf, Opened, Ok}
 use Rattle.history.specs.Setup.{Setup}
 use Rattle.counterexamples.specs.WorkedRuns.{Step, two_spaces, small_page, flags, R, W, G, A, D, supervisor, hart_0, hart_1, trap, taken}
@@ -48,16 +47,4 @@ kernel_page_outlives_an_asid_fence =
     ∷ (Load 1, More)
     ∷ (Load 1, More)
     ∷ (Load 1, trap 13 Invalid)
-    ∷ []
-
--- it outlives a request for a space
-abbrev pub kernel_page_outlives_a_space_request : List Step
-kernel_page_outlives_a_space_request =
-    kernel_page_in_both_spaces
-    ++ (Flush 0 (scope.Space 1) (hart_0 + hart_1), Opened 0)
-    ∷ (Post 0 0 1, Ok)
-    ∷ (Take 1 0, taken 0 (SpaceOf 2))
-    ∷ (ServeFence 1, Ok)
-    ∷ (Ack 1, Ok)
-    ∷ (Begin 1 0xffffffffc0000008 access.Load supervisor, Hit 0x300008)
     ∷ []

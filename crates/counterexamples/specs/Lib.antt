@@ -2,14 +2,11 @@ pub mod WorkedRuns
 pub mod ShootdownRuns
 pub mod KernelRuns
 pub mod MailboxRuns
-pub mod EditRuns
 pub mod RefusalRuns
 pub mod StalenessRuns
 pub mod UnlawfulRuns
-pub mod HartRuns
 pub mod RetireRuns
 pub mod Sv48Runs
-pub mod RetireRefusals
 pub mod TranslationRuns
 pub mod ServiceRuns
 pub mod WorkedEntries

@@ -1,11 +1,11 @@
 -- Worked runs of refusals: where several apply, the first in the order of docs/PROTOCOL.md is
 -- answered, and nothing changes.
 use Rattle.std.specs.Prelude.{◌+◌, List, [], ◌∷◌, ◌++◌, None}
-use Rattle.pte.specs.declared.address.What.TheVariants.{All}
+use Rattle.pte.specs.declared.address.What.TheVariants.{All, SpaceOf}
 use Rattle.pte.specs.declared.permission.Access.TheVariants as access
 use Rattle.walk.specs.declared.found_or_trap.Why.TheVariants.{NotCanonical, Invalid}
 use Rattle.spaces.specs.declared.places.Place.TheVariants.{Space}
-use Rattle.history.specs.declared.event.Event.TheVariants.{Begin, Load, Map, Unmap, Protect, Flush, Switch, Fence, Post, Take, ServeFence, Ack, AckSelf, Collect, Finish, Close}
+use Rattle.history.specs.declared.event.Event.TheVariants.{Begin, Load, Map, Unmap, Protect, Flush, Switch, Fence, Post, Take, ServeFence, Ack, AckSelf, Collect, Finish, Close, Retire, Reclaim, Create}
 use Rattle.history.specs.declared.event.Scope.TheVariants as scope
 use Rattle.history.specs.declared.refusal.Refusal.{Refusal}
 use Rattle.history.specs.declared.refusal.Refusal.TheVariants.{NoHart, NoSpace, NotHome, WrongHalf, BadFlags, PpnTooLarge, Misaligned, AlreadyMapped, LeafInWay, TableInWay, NoFrame, NotMapped, WrongSize, HomeNotNamed, NoTicket, NotOpen, NotNamed, AlreadyPosted, Closed, Full, Empty, Walking, NotWalking, Serving, NotServing, NotFenced, NotDone, Retiring, InUse, NotAcked, NotRetiring, NotFree, AsidInUse}
@@ -112,3 +112,28 @@ numbered_refusals =
 
 abbrev pub refusals_in_order : List Step
 refusals_in_order = nothing_there ++ while_walking ++ while_serving
+
+-- of two harts and two spaces: hart 2 is not there, which is asked first, of a space that is live,
+-- retiring or free
+abbrev pub no_such_hart : List Step
+no_such_hart =
+    (Retire 2 3, refused NoHart)
+    ∷ (Reclaim 2 3, refused NoHart)
+    ∷ (Create 2 3 1, refused NoHart)
+    ∷ (Retire 0 1, Opened 0)
+    ∷ (Map 2 (Space 1) (small_page 0x1000) 0x100 (flags W), refused NoHart)
+    ∷ (Unmap 1 (Space 1) (small_page 0x1000) hart_2, refused NoHart)
+    ∷ (Protect 1 (Space 1) (small_page 0x1000) (flags W) hart_2, refused NoHart)
+    ∷ (Flush 0 (scope.Space 1) hart_2, refused NoHart)
+    ∷ (Switch 2 1, refused NoHart)
+    ∷ (AckSelf 0 0, Waiting hart_1)
+    ∷ (Post 0 0 1, Ok)
+    ∷ (Take 1 0, taken 0 (SpaceOf 2))
+    ∷ (ServeFence 1, Ok)
+    ∷ (Ack 1, Ok)
+    ∷ (Collect 0 0 1, Done)
+    ∷ (Reclaim 0 1, Ok)
+    ∷ (Retire 2 1, refused NoHart)
+    ∷ (Reclaim 2 1, refused NoHart)
+    ∷ (Unmap 1 (Space 1) (small_page 0x1000) hart_2, refused NoHart)
+    ∷ []

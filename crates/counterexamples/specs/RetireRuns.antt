@@ -2,12 +2,12 @@
 use Rattle.std.specs.Prelude.{◌+◌, List, [], ◌∷◌, ◌++◌, Some}
 use Rattle.pte.specs.declared.permission.Access.TheVariants as access
 use Rattle.pte.specs.declared.address.What.TheVariants.{PageOf, SpaceOf}
-use Rattle.spaces.specs.declared.places.Place.TheVariants.{Space, Kernel}
+use Rattle.spaces.specs.declared.places.Place.TheVariants.{Space}
 use Rattle.history.specs.declared.event.Event.TheVariants.{Begin, Load, Map, Unmap, Protect, Flush, Switch, Post, Take, ServeFence, Ack, AckSelf, Collect, Finish, Retire, Reclaim, Create}
 use Rattle.history.specs.declared.event.Scope.TheVariants as scope
-use Rattle.history.specs.declared.refusal.Refusal.TheVariants.{NoSpace, NotHome, Retiring, InUse, NotAcked, NotRetiring, NotFree, AsidInUse}
+use Rattle.history.specs.declared.refusal.Refusal.TheVariants.{NoSpace, Retiring, InUse, NotAcked, NotRetiring, NotFree, AsidInUse}
 use Rattle.history.specs.declared.reply.Reply.TheVariants.{Hit, More, Filled, Table, Leaf, Opened, Ok, Done, Waiting}
-use Rattle.counterexamples.specs.WorkedRuns.{Step, small_page, flags, R, U, G, A, D, user, supervisor, hart_0, hart_1, refused, taken}
+use Rattle.counterexamples.specs.WorkedRuns.{Step, small_page, flags, R, U, A, D, user, hart_0, hart_1, refused, taken}
 
 -- hart 1 holds a page of space 1, which is retired: it holds it still when it takes the request
 abbrev pub retired_until_service : List Step
@@ -52,48 +52,6 @@ retired_and_created_anew =
     ∷ (Map 0 (Space 1) (small_page 0x1000) 0x101 (flags (R + U + A + D)), Table 0x80004)
     ∷ (Map 0 (Space 1) (small_page 0x1000) 0x101 (flags (R + U + A + D)), Leaf)
     ∷ (Switch 1 1, Ok)
-    ∷ (Begin 1 0x1004 access.Load user, More)
-    ∷ (Load 1, More)
-    ∷ (Load 1, More)
-    ∷ (Load 1, Filled 0x101004)
-    ∷ []
-
--- space 1 is given back, while its ticket is open still
-abbrev given_back : List Step
-given_back =
-    (Map 0 (Space 1) (small_page 0x1000) 0x100 (flags (R + U + A + D)), Table 0x80003)
-    ∷ (Map 0 (Space 0) (small_page 0x1000) 0x101 (flags (R + U + A + D)), Table 0x80004)
-    ∷ (Map 0 (Space 1) (small_page 0x1000) 0x100 (flags (R + U + A + D)), Table 0x80005)
-    ∷ (Map 0 (Space 0) (small_page 0x1000) 0x101 (flags (R + U + A + D)), Table 0x80006)
-    ∷ (Map 0 (Space 1) (small_page 0x1000) 0x100 (flags (R + U + A + D)), Leaf)
-    ∷ (Map 0 (Space 0) (small_page 0x1000) 0x101 (flags (R + U + A + D)), Leaf)
-    ∷ (Retire 1 1, refused NotHome)
-    ∷ (Retire 0 1, Opened 0)
-    ∷ (AckSelf 0 0, Waiting hart_1)
-    ∷ (Post 0 0 1, Ok)
-    ∷ (Take 1 0, taken 0 (SpaceOf 2))
-    ∷ (ServeFence 1, Ok)
-    ∷ (Ack 1, Ok)
-    ∷ (Collect 0 0 1, Done)
-    ∷ (Reclaim 1 1, refused NotHome)
-    ∷ (Reclaim 0 1, Ok)
-    ∷ []
-
--- the lowest frame that was given back goes to another space first, and what that space mapped
--- before stays
-abbrev pub frames_used_again : List Step
-frames_used_again =
-    given_back
-    ++ (Reclaim 0 1, refused NoSpace)
-    ∷ (Map 0 (Space 1) (small_page 0x1000) 0x100 (flags (R + U + A + D)), refused NoSpace)
-    ∷ (Flush 0 (scope.Space 1) (hart_0 + hart_1), refused NoSpace)
-    ∷ (Map 0 (Space 0) (small_page 0x40001000) 0x102 (flags (R + U + A + D)), Table 0x80003)
-    ∷ (Map 0 (Space 0) (small_page 0x40001000) 0x102 (flags (R + U + A + D)), Table 0x80005)
-    ∷ (Map 0 (Space 0) (small_page 0x40001000) 0x102 (flags (R + U + A + D)), Leaf)
-    ∷ (Create 0 1 7, Ok)
-    ∷ (Retire 0 1, Opened 1)
-    ∷ (Retire 0 1, refused Retiring)
-    ∷ (Unmap 0 (Space 1) (small_page 0x1000) hart_0, refused Retiring)
     ∷ (Begin 1 0x1004 access.Load user, More)
     ∷ (Load 1, More)
     ∷ (Load 1, More)
@@ -203,52 +161,6 @@ orders_of_the_new_asid =
     ∷ (Collect 0 3 1, Waiting hart_0)
     ∷ (Post 0 4 1, Ok)
     ∷ (Take 1 0, taken 4 (PageOf (small_page 0x1000) (Some 7)))
-    ∷ []
-
--- the tables of the kernel's window outlive the space: their frame is not given back, and their
--- page is found as before
-abbrev pub kernel_frames_stay : List Step
-kernel_frames_stay =
-    (Map 0 Kernel (small_page 0xffffffffc0000000) 0x300 (flags (R + G + A + D)), Table 0x80003)
-    ∷ (Map 0 (Space 1) (small_page 0x1000) 0x100 (flags (R + U + A + D)), Table 0x80004)
-    ∷ (Map 0 Kernel (small_page 0xffffffffc0000000) 0x300 (flags (R + G + A + D)), Leaf)
-    ∷ (Retire 0 1, Opened 0)
-    ∷ (AckSelf 0 0, Waiting hart_1)
-    ∷ (Post 0 0 1, Ok)
-    ∷ (Take 1 0, taken 0 (SpaceOf 2))
-    ∷ (ServeFence 1, Ok)
-    ∷ (Ack 1, Ok)
-    ∷ (Collect 0 0 1, Done)
-    ∷ (Reclaim 0 1, Ok)
-    ∷ (Map 0 (Space 0) (small_page 0x1000) 0x100 (flags (R + U + A + D)), Table 0x80004)
-    ∷ (Create 0 1 2, Ok)
-    ∷ (Switch 1 1, Ok)
-    ∷ (Retire 0 0, refused InUse)
-    ∷ (Begin 1 0xffffffffc0000004 access.Load supervisor, More)
-    ∷ (Load 1, More)
-    ∷ (Load 1, More)
-    ∷ (Load 1, Filled 0x300004)
-    ∷ []
-
--- space 1 is at home on hart 1, which alone retires it, gives it back and creates it, with frames
--- of its own
-abbrev pub retired_by_its_home : List Step
-retired_by_its_home =
-    (Map 1 (Space 1) (small_page 0x1000) 0x100 (flags (R + U + A + D)), Table 0x8000b)
-    ∷ (Retire 0 1, refused NotHome)
-    ∷ (Retire 1 1, Opened 0)
-    ∷ (AckSelf 1 0, Waiting hart_0)
-    ∷ (Post 1 0 0, Ok)
-    ∷ (Take 0 1, taken 0 (SpaceOf 2))
-    ∷ (ServeFence 0, Ok)
-    ∷ (Ack 0, Ok)
-    ∷ (Collect 1 0 0, Done)
-    ∷ (Reclaim 0 1, refused NotHome)
-    ∷ (Reclaim 1 1, Ok)
-    ∷ (Create 0 1 5, refused NotHome)
-    ∷ (Create 1 1 5, Ok)
-    ∷ (Map 1 (Space 1) (small_page 0x1000) 0x100 (flags (R + U + A + D)), Table 0x8000b)
-    ∷ (Map 1 (Space 1) (small_page 0x1000) 0x100 (flags (R + U + A + D)), Table 0x8000c)
     ∷ []
 
 -- then the page of ASID 2 is unmapped once more, in the space that has the ASID now

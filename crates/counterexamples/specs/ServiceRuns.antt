@@ -12,10 +12,14 @@ use Rattle.history.specs.declared.event.Event.TheVariants.{Begin, Load, Map, Unm
 use Rattle.history.specs.declared.event.Scope.TheVariants as scope
 use Rattle.history.specs.declared.refusal.Refusal.TheVariants.{HomeNotNamed, NotFenced}
 use Rattle.history.specs.declared.reply.Reply.TheVariants.{Hit, More, Filled, Table, Leaf, Opened, Ok, Done, Waiting}
-use Rattle.counterexamples.specs.WorkedRuns.{Step, small_page, flags, R, W, U, G, A, D, user, supervisor, hart_0, hart_1, hart_2, refused, trap, taken}
+use Rattle.history.specs.Setup.{Setup}
+use Rattle.counterexamples.specs.WorkedRuns.{Step, two_spaces, small_page, flags, R, W, U, G, A, D, user, supervisor, hart_0, hart_1, hart_2, refused, trap, taken}
 
--- pages at 0x1000 and 0x2000 of space 0, at 0x1000 of space 1, and a kernel page; the spaces have
--- ASIDs 9 and 4
+-- two spaces of ASIDs 9 and 4, both at home on hart 0
+abbrev pub spaces_of_other_asids : Setup
+spaces_of_other_asids = two_spaces (0 ∷ 0 ∷ []) (9 ∷ 4 ∷ [])
+
+-- pages at 0x1000 and 0x2000 of space 0, at 0x1000 of space 1, and a kernel page
 abbrev pub four_pages : List Step
 four_pages =
     (Map 0 (Space 0) (small_page 0x1000) 0x100 (flags (R + U + A + D)), Table 0x80003)

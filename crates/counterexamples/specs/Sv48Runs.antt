@@ -1,34 +1,24 @@
--- Worked runs with Sv48: four levels, pages of 512 GiB, and a window whose slots point to tables of
--- level 2 (privileged manual
--- 4.5.1).
-use Rattle.std.specs.Prelude.{ℕ, ◌+◌, List, [], ◌∷◌, ◌++◌, Some, None}
+-- Worked runs with Sv48: four levels, and pages of 512 GiB (privileged manual 4.5.1).
+use Rattle.std.specs.Prelude.{ℕ, ◌+◌, List, [], ◌∷◌, ◌++◌, Some}
 use Rattle.pte.specs.Address.{Span}
 use Rattle.pte.specs.declared.address.PageSize.TheVariants.{Gib512}
 use Rattle.pte.specs.declared.address.What.TheVariants.{PageOf}
 use Rattle.pte.specs.declared.permission.Access.TheVariants as access
 use Rattle.pte.specs.declared.scheme.Scheme.TheVariants.{Sv48}
-use Rattle.walk.specs.declared.found_or_trap.Why.TheVariants.{Invalid, NotCanonical}
+use Rattle.walk.specs.declared.found_or_trap.Why.TheVariants.{Invalid}
 use Rattle.spaces.specs.declared.places.Place.TheVariants.{Space, Kernel}
-use Rattle.history.specs.declared.event.Event.TheVariants.{Begin, Load, Map, Unmap, Protect, Switch, Fence, Post, Take, ServeFence, Ack, AckSelf, Collect, Finish}
-use Rattle.history.specs.declared.refusal.Refusal.TheVariants.{WrongHalf, Misaligned, AlreadyMapped, LeafInWay, TableInWay, NotMapped, WrongSize, NotDone}
+use Rattle.history.specs.declared.event.Event.TheVariants.{Begin, Load, Map, Unmap, Protect, Post, Take, ServeFence, Ack, AckSelf, Collect, Finish}
+use Rattle.history.specs.declared.refusal.Refusal.TheVariants.{WrongHalf, NotDone}
 use Rattle.history.specs.declared.reply.Reply.TheVariants.{Hit, More, Filled, Table, Leaf, Opened, Ok, Done, Waiting}
 use Rattle.history.specs.Setup.{Setup}
-use Rattle.counterexamples.specs.WorkedRuns.{Step, one_hart, two_harts, small_page, large_page, flags, R, W, U, G, A, D, user, supervisor, hart_0, hart_1, refused, trap, taken}
-use Rattle.counterexamples.specs.EditRuns.{huge_page}
-use Rattle.counterexamples.specs.KernelRuns.{spaces_of_two_homes}
+use Rattle.counterexamples.specs.WorkedRuns.{Step, huge_page, two_harts, small_page, flags, R, W, U, G, A, D, user, hart_0, hart_1, refused, trap, taken}
 
 -- the same harts and frames, with Sv48
 abbrev pub in_sv48 : Setup → Setup
 in_sv48 C = record C { layout = record C.layout { scheme = Sv48 } }
 
-abbrev pub one_hart_in_sv48 : Setup
-one_hart_in_sv48 = in_sv48 one_hart
-
 abbrev pub two_harts_in_sv48 : Setup
 two_harts_in_sv48 = in_sv48 two_harts
-
-abbrev pub spaces_of_two_homes_in_sv48 : Setup
-spaces_of_two_homes_in_sv48 = in_sv48 spaces_of_two_homes
 
 abbrev pub terapage : ℕ → Span
 terapage base = record { base = base; size = Gib512 }
@@ -98,80 +88,6 @@ shootdown_over_four_levels =
     ∷ (Finish 0 0, Ok)
     ∷ []
 
--- a kernel page of 1 GiB is one leaf of the window's table: hart 1 fills it in space 0, finds it in
--- space 1 and after a fence for an ASID, and drops it for the request
-abbrev pub kernel_gigapage_shootdown : List Step
-kernel_gigapage_shootdown =
-    (Map 0 Kernel (huge_page 0xffffffffc0000000) 0x40000 (flags (R + W + G + A + D)), Leaf)
-    ∷ (Begin 1 0xffffffffc0000008 access.Load supervisor, More)
-    ∷ (Load 1, More)
-    ∷ (Load 1, Filled 0x40000008)
-    ∷ (Switch 1 1, Ok)
-    ∷ (Begin 1 0xffffffffffffffff access.Load supervisor, Hit 0x7fffffff)
-    ∷ (Fence 1 (Some 0xffffffffc0000000) (Some 2), Ok)
-    ∷ (Begin 1 0xffffffffc0000008 access.Load supervisor, Hit 0x40000008)
-    ∷ (Unmap 0 Kernel (huge_page 0xffffffffc0000000) (hart_0 + hart_1), Opened 0)
-    ∷ (Post 0 0 1, Ok)
-    ∷ (Take 1 0, taken 0 (PageOf (huge_page 0xffffffffc0000000) None))
-    ∷ (ServeFence 1, Ok)
-    ∷ (Ack 1, Ok)
-    ∷ (Begin 1 0xffffffffc0000008 access.Load supervisor, More)
-    ∷ (Load 1, More)
-    ∷ (Load 1, trap 13 Invalid)
-    ∷ []
-
--- a fence takes the addresses that are canonical in Sv48, not all of which Sv39 has
-abbrev pub fences_in_sv48 : List Step
-fences_in_sv48 =
-    (Map 0 (Space 0) (huge_page 0x4000000000) 0x40000 (flags (R + U + A + D)), Table 0x80002)
-    ∷ (Map 0 (Space 0) (huge_page 0x4000000000) 0x40000 (flags (R + U + A + D)), Leaf)
-    ∷ (Begin 0 0x4000000004 access.Load user, More)
-    ∷ (Load 0, More)
-    ∷ (Load 0, Filled 0x40000004)
-    ∷ (Begin 0 0x800000000000 access.Load user, trap 13 NotCanonical)
-    ∷ (Fence 0 (Some 0x800000000000) None, Ok)
-    ∷ (Begin 0 0x4000000004 access.Load user, Hit 0x40000004)
-    ∷ (Fence 0 (Some 0x4000000000) None, Ok)
-    ∷ (Begin 0 0x4000000004 access.Load user, More)
-    ∷ []
-
--- each of these on its own, once the page of 512 GiB is mapped
-abbrev pub edits_in_sv48 : List Step
-edits_in_sv48 = (
-  Map 0 Kernel (terapage 0xffffff8000000000) 0x10000000 (flags (R + G + A + D)),
-  refused
-      TableInWay,
-)
-    ∷ (Unmap 0 Kernel (terapage 0xffffff8000000000) hart_0, refused WrongSize)
-    ∷ (Map 0 Kernel (huge_page 0xffffffffc0000000) 0x40000 (flags (R + G + A + D)), Leaf)
-    ∷ (Map 0 Kernel (large_page 0xffffffffc0000000) 0x40000 (flags (R + G + A + D)), Table 0x80002)
-    ∷ (
-      Map 0 Kernel (huge_page 0xffffff7fc0000000) 0x40000 (flags (R + G + A + D)),
-      refused
-          WrongHalf,
-    )
-    ∷ (
-      Map 0 (Space 0) (terapage 0x8000000000) 0x18000000 (flags (R + U + A + D)),
-      refused
-          AlreadyMapped,
-    )
-    ∷ (Map 0 (Space 0) (huge_page 0xffc0000000) 0x40000 (flags (R + U + A + D)), refused LeafInWay)
-    ∷ (Unmap 0 (Space 0) (small_page 0xfffffff000) hart_0, refused WrongSize)
-    ∷ (
-      Map 0 (Space 0) (terapage 0x10000000000) 0x14000000 (flags (R + U + A + D)),
-      refused
-          Misaligned,
-    )
-    ∷ (Unmap 0 (Space 0) (terapage 0x10000000000) hart_0, refused NotMapped)
-    ∷ (Map 0 (Space 0) (terapage 0x7f8000000000) 0x10000000 (flags (R + U + A + D)), Leaf)
-    ∷ (
-      Map 0 (Space 0) (terapage 0xffff800000000000) 0x10000000 (flags (R + U + A + D)),
-      refused
-          WrongHalf,
-    )
-    ∷ (Map 0 (Space 0) (small_page 0x800000000000) 0x100 (flags (R + U + A + D)), refused WrongHalf)
-    ∷ []
-
 -- a page that does not fit Sv39, by its size or its address, is in neither half
 abbrev pub pages_that_do_not_fit : List Step
 pages_that_do_not_fit =
@@ -185,4 +101,15 @@ pages_that_do_not_fit =
     )
     ∷ (Map 0 (Space 0) (small_page 0x4000000000) 0x100 (flags (R + U + A + D)), refused WrongHalf)
     ∷ (Map 0 (Space 0) (huge_page 0x8000000000) 0x40000 (flags (R + U + A + D)), refused WrongHalf)
+    ∷ []
+
+-- nor does one fit Sv48 at an address that Sv48 does not have
+abbrev pub page_that_does_not_fit_sv48 : List Step
+page_that_does_not_fit_sv48 =
+    map_terapage
+    ++ (
+      Map 0 (Space 0) (small_page 0x800000000000) 0x100 (flags (R + U + A + D)),
+      refused
+          WrongHalf,
+    )
     ∷ []

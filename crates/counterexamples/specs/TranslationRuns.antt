@@ -14,8 +14,7 @@ use Rattle.history.specs.declared.event.Event.TheVariants.{Begin, Load, Map, Unm
 use Rattle.history.specs.declared.refusal.Refusal.TheVariants.{NoSpace, Walking, NotWalking}
 use Rattle.history.specs.declared.reply.Reply.TheVariants.{Hit, More, Filled, Table, Leaf, Opened, Ok}
 use Rattle.history.specs.Setup.{Setup}
-use Rattle.counterexamples.specs.WorkedRuns.{Step, small_page, large_page, flags, R, W, X, U, A, D, user, supervisor, hart_0, hart_1, refused, trap}
-use Rattle.counterexamples.specs.EditRuns.{huge_page}
+use Rattle.counterexamples.specs.WorkedRuns.{Step, huge_page, small_page, large_page, flags, R, W, X, U, A, D, user, supervisor, hart_0, hart_1, refused, trap}
 
 -- accesses with SUM or MXR set
 abbrev pub user_mxr : Ctx

@@ -4,7 +4,7 @@
 use Rattle.pte.specs.declared.scheme.Scheme.TheVariants.{Sv39}
 use Rattle.std.specs.Prelude.{ℕ, ◌≡◌, false, List, [], ◌∷◌, map}
 use Rattle.pte.specs.Address.{Span}
-use Rattle.pte.specs.declared.address.PageSize.TheVariants.{Kib4, Mib2}
+use Rattle.pte.specs.declared.address.PageSize.TheVariants.{Kib4, Mib2, Gib1}
 use Rattle.pte.specs.declared.address.What.{What}
 use Rattle.pte.specs.declared.flags.PteFlags.{PteFlags}
 use Rattle.pte.specs.declared.permission.Mode.TheVariants.{User, Super}
@@ -18,7 +18,6 @@ use Rattle.history.specs.declared.reply.Reply.{Reply}
 use Rattle.history.specs.declared.reply.Reply.TheVariants as reply
 use Rattle.history.specs.Setup.{Setup}
 use Rattle.history.specs.Turns.{History}
-use Rattle.history.specs.Due.{due}
 use Rattle.history.specs.Runs.{with_turn, due_replies}
 
 -- a step: what a hart does, and the reply
@@ -42,10 +41,6 @@ history_after H (step ∷ steps) = history_after (with_turn step.0 step.1 H) ste
 
 abbrev pub history_of : List Step → History
 history_of steps = history_after [] steps
-
--- each reply is due right after the same history, so none of the other steps comes before it
-unfoldable pub IsEachDueAfter : Setup → List Step → List Step → Type 0
-IsEachDueAfter C before steps = map (due C (history_of before)) (events steps) ≡ replies steps
 
 -- one space, of ASID 1, at home on hart 0, one slot of window, and 8 spare frames for each hart:
 -- the window's table is frame 0x80000, the root 0x80001, and the first spare frame 0x80002
@@ -94,6 +89,9 @@ small_page base = record { base = base; size = Kib4 }
 
 abbrev pub large_page : ℕ → Span
 large_page base = record { base = base; size = Mib2 }
+
+abbrev pub huge_page : ℕ → Span
+huge_page base = record { base = base; size = Gib1 }
 
 -- the flags of an entry by the letters of the manual
 abbrev pub R : ℕ

@@ -5,12 +5,11 @@
 ghost use Rattle.std.specs.Prelude.{ℕ, Some};
 ghost use Rattle.history.specs.Completion.{IsDoneFor};
 ghost use Rattle.counterexamples.specs.WorkedEntries.{entry, global_entry};
-ghost use Rattle.counterexamples.specs.EditRuns.{huge_page};
-ghost use Rattle.counterexamples.specs.HartRuns.{spaces_of_other_asids};
+ghost use Rattle.counterexamples.specs.ServiceRuns.{spaces_of_other_asids};
 ghost use Rattle.counterexamples.specs.ServiceRuns as services;
 ghost use Rattle.counterexamples.specs.ShootdownRuns as shootdowns;
 ghost use Rattle.counterexamples.specs.StalenessRuns as staleness;
-ghost use Rattle.counterexamples.specs.WorkedRuns.{history_of, large_page, small_page, two_harts};
+ghost use Rattle.counterexamples.specs.WorkedRuns.{history_of, huge_page, large_page, small_page, two_harts};
 ghost use Rattle.counterexamples.specs.DoneCounterexamples.{DoneAllowsAll, DoneForbids};
 
 /// What ClearOnceDone asks of a history is met by a shootdown of a page of 2 MiB, of both harts

@@ -1,5 +1,4 @@
-//! The premises of the laws can be met, by the worked runs of crate `history`: so the laws say
-//! something.
+//! The premises of the laws can be met, by worked runs: so the laws say something.
 
 ghost use Rattle.std.specs.Prelude.{◌≡◌, false, true, None, Some};
 ghost use Rattle.history.specs.Due.{Lawful};

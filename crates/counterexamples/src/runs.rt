@@ -1,7 +1,8 @@
 //! Worked runs: the definitions give the replies that the manual and docs/PROTOCOL.md give by hand.
-//! Each function does nothing, and its clause is the fact.
+//! Each function does nothing, and its clause is the fact. More such runs are cases of
+//! `svsim_examples`: the program is proved to print the replies that are due.
 
-ghost use Rattle.std.specs.Prelude.{ℕ, List, [], map, ◌≡◌, ◌<◌, ◌+◌, ◌*◌};
+ghost use Rattle.std.specs.Prelude.{ℕ, List, map, ◌≡◌, ◌<◌, ◌+◌, ◌*◌};
 ghost use Rattle.pte.specs.declared.address.PageSize.TheVariants.{Kib4, Mib2, Gib512};
 ghost use Rattle.pte.specs.Address.{Holds, bytes_of, pages_of};
 ghost use Rattle.tlb.specs.Mappings.{IsMappedBy, Translates};
@@ -11,17 +12,14 @@ ghost use Rattle.std.specs.List.{range_with_len};
 ghost use Rattle.history.specs.Numbers.{code_of};
 ghost use Rattle.history.specs.Due.{Lawful};
 ghost use Rattle.history.specs.Harts.{entries_of};
-ghost use Rattle.counterexamples.specs.WorkedRuns.{IsEachDueAfter, IsOfThreeHarts, IsRun, Step, history_of, large_page, one_hart, three_harts, two_harts};
+ghost use Rattle.counterexamples.specs.WorkedRuns.{IsOfThreeHarts, IsRun, Step, history_of, large_page, three_harts, two_harts};
 ghost use Rattle.counterexamples.specs.ShootdownRuns as shootdowns;
 ghost use Rattle.counterexamples.specs.StalenessRuns as staleness;
 ghost use Rattle.counterexamples.specs.KernelRuns as kernel;
-ghost use Rattle.counterexamples.specs.HartRuns as harts;
 ghost use Rattle.counterexamples.specs.MailboxRuns as mailboxes;
-ghost use Rattle.counterexamples.specs.EditRuns as edits;
 ghost use Rattle.counterexamples.specs.RefusalRuns as refusals;
 ghost use Rattle.counterexamples.specs.RetireRuns as retirements;
 ghost use Rattle.counterexamples.specs.Sv48Runs as sv48;
-ghost use Rattle.counterexamples.specs.RetireRefusals as retire_refusals;
 
 /// The setup of the worked runs of three harts is that of a configuration with these numbers.
 #[tactic(auto, using(crate::proofs::SetupFacts::three_harts_are_configured))]
@@ -131,30 +129,11 @@ pub fn kernel_page_outlives_an_asid_fence()
     ensures { IsRun kernel.spaces_of_two_homes kernel.kernel_page_outlives_an_asid_fence }
 {}
 
-/// A kernel page outlives the request for a space.
-#[tactic(auto, using(crate::proofs::KernelRows::kernel_page_outlives_a_space_request))]
-pub fn kernel_page_outlives_a_space_request()
-    ensures { IsRun kernel.spaces_of_two_homes kernel.kernel_page_outlives_a_space_request }
-{}
-
 /// A full mailbox has room again only when an acknowledgement is collected, it keeps its order, and
 /// a closed one gives out what waits and accepts nothing.
 #[tactic(auto, using(crate::proofs::MailboxRows::bound_order_and_close))]
 pub fn bound_order_and_close()
     ensures { IsRun mailboxes.mailboxes_of_two mailboxes.bound_order_and_close }
-{}
-
-/// Two harts ask a third: each pair has a mailbox of its own.
-#[tactic(auto, using(crate::proofs::MailboxRows::two_senders))]
-pub fn two_senders()
-    ensures { IsRun three_harts mailboxes.two_senders }
-{}
-
-/// Post asks whether the order names the hart, then whether it was posted, whether the mailbox is
-/// closed, whether it is full.
-#[tactic(auto, using(crate::proofs::MailboxRows::refused_posts))]
-pub fn refused_posts()
-    ensures { IsRun mailboxes.mailboxes_of_two mailboxes.refused_posts }
 {}
 
 /// A mailbox is closed in the middle of a shootdown: what was posted is served and finished, what
@@ -164,30 +143,6 @@ pub fn close_in_mid_shootdown()
     ensures { IsRun two_harts mailboxes.close_in_mid_shootdown }
 {}
 
-/// A hart has 64 tickets, and an opening takes the lowest number that is free.
-#[tactic(auto, using(crate::proofs::MailboxRows::tickets_run_out))]
-pub fn tickets_run_out()
-    ensures { IsRun one_hart mailboxes.tickets_run_out }
-{}
-
-/// Each refusal of an edit, right after a page of 2 MiB was mapped.
-#[tactic(auto, using(crate::proofs::EditRows::refused_edits))]
-pub fn refused_edits()
-    ensures { IsEachDueAfter two_harts shootdowns.map_superpage edits.refused_edits }
-{}
-
-/// A new table needs an unused spare frame of the home.
-#[tactic(auto, using(crate::proofs::EditRows::spare_frames_run_out))]
-pub fn spare_frames_run_out()
-    ensures { IsRun edits.one_spare_frame edits.spare_frames_run_out }
-{}
-
-/// The 17th fill drops the first entry.
-#[tactic(auto, using(crate::proofs::EditRows::seventeen_fills))]
-pub fn seventeen_fills()
-    ensures { IsRun one_hart edits.seventeen_fills }
-{}
-
 /// Of several refusals the first is answered: what does not exist, and what a hart may not do while
 /// it walks or serves.
 #[tactic(auto, using(crate::proofs::RefusalRows::refusals_in_order))]
@@ -195,42 +150,17 @@ pub fn refusals_in_order()
     ensures { IsRun two_harts refusals.refusals_in_order }
 {}
 
+/// That a hart is there is asked before all else, be the space that the step names live, retiring or
+/// free. No file can say these steps.
+#[tactic(auto, using(crate::proofs::RefusalRows::no_such_hart))]
+pub fn refused_to_no_hart()
+    ensures { IsRun shootdowns.spaces_of_one_home refusals.no_such_hart }
+{}
+
 /// The refusals are numbered from 1 on.
 #[tactic(auto, using(crate::proofs::RefusalRows::numbered))]
 pub fn refusals_are_numbered()
     ensures { map code_of refusals.numbered_refusals ≡ range_with_len 1 33 }
-{}
-
-/// A switch drops nothing: in the other space the page is not found, and back again it is.
-#[tactic(auto, using(crate::proofs::HartRows::switch_and_back))]
-pub fn switch_and_back()
-    ensures { IsRun harts.spaces_of_other_asids harts.switch_and_back }
-{}
-
-/// Each form of SFENCE.VMA drops what it names and no more, from the TLB of the hart that executes
-/// it.
-#[tactic(auto, using(crate::proofs::HartRows::own_fences))]
-pub fn own_fences()
-    ensures { IsRun harts.spaces_of_other_asids harts.own_fences }
-{}
-
-/// The hart that unmaps a page uses it until its own acknowledgement, and not after.
-#[tactic(auto, using(crate::proofs::HartRows::own_acknowledgement))]
-pub fn own_acknowledgement()
-    ensures { IsRun two_harts harts.own_acknowledgement }
-{}
-
-/// Each home makes its tables of spare frames of its own.
-#[tactic(auto, using(crate::proofs::HartRows::spare_frames_of_each_home))]
-pub fn spare_frames_of_each_home()
-    ensures { IsRun kernel.spaces_of_two_homes harts.spare_frames_of_each_home }
-{}
-
-/// While a hart serves a request, and in the middle of a walk, it edits, opens, posts, collects,
-/// finishes and closes.
-#[tactic(auto, using(crate::proofs::HartRows::at_work_while_walking))]
-pub fn at_work_while_walking()
-    ensures { IsRun three_harts harts.at_work_while_walking }
 {}
 
 /// A space is retired once no hart is in it, and given back once each hart is collected; it is
@@ -242,16 +172,10 @@ pub fn retired_and_created_anew()
     ensures anew { IsRun shootdowns.spaces_of_one_home retirements.retired_and_created_anew }
 {}
 
-/// A new table takes the lowest frame that is unused, also one that another space gave back.
-#[tactic(auto, using(crate::proofs::RetireRows::frames_used_again))]
-pub fn frames_used_again()
-    ensures { IsRun shootdowns.spaces_of_one_home retirements.frames_used_again }
-{}
-
-/// The ASID of a space that was given back goes to another space.
-#[tactic(auto, using(crate::proofs::RetireRows::asid_used_again))]
+/// The ASID of a space that was given back goes to another space, which then unmaps the page again.
+#[tactic(auto, using(crate::proofs::RetireRows::unmapped_by_the_new_asid))]
 pub fn asid_used_again()
-    ensures { IsRun shootdowns.spaces_of_one_home retirements.asid_used_again }
+    ensures { IsRun shootdowns.spaces_of_one_home retirements.unmapped_by_the_new_asid }
 {}
 
 /// With Sv48 a page of 512 GiB is one leaf of the root, which one load reads. It is unmapped while
@@ -279,30 +203,12 @@ pub fn shootdown_over_four_levels()
     ensures { IsRun sv48.two_harts_in_sv48 sv48.shootdown_over_four_levels }
 {}
 
-/// With Sv48 the window's slots lead to tables of level 2, so a kernel page may have 1 GiB. It is
-/// found in every space, and goes by its request.
-#[tactic(auto, using(crate::proofs::Sv48Rows::kernel_gigapage_shootdown))]
-pub fn kernel_gigapage_shootdown()
-    ensures { IsRun sv48.spaces_of_two_homes_in_sv48 sv48.kernel_gigapage_shootdown }
-{}
-
-/// A fence takes an address that is canonical in Sv48, and drops nothing for one that is not.
-#[tactic(auto, using(crate::proofs::Sv48Rows::fences_in_sv48))]
-pub fn fences_in_sv48()
-    ensures { IsRun sv48.one_hart_in_sv48 sv48.fences_in_sv48 }
-{}
-
-/// Edits in Sv48, right after a page of 512 GiB was mapped: a kernel page of that size meets the
-/// window's pointer, one of 1 GiB does not.
-#[tactic(auto, using(crate::proofs::Sv48Rows::edits_in_sv48))]
-pub fn edits_in_sv48()
-    ensures { IsEachDueAfter sv48.two_harts_in_sv48 sv48.map_terapage sv48.edits_in_sv48 }
-{}
-
-/// A page of 512 GiB, or at an address that is canonical in Sv48 alone, is in neither half of Sv39.
-#[tactic(auto, using(crate::proofs::Sv48Rows::pages_that_do_not_fit))]
+/// A page that does not fit the scheme, by its size or its address, is in neither half. No file can
+/// say these steps.
+#[tactic(auto, using(crate::proofs::Sv48Rows::pages_that_do_not_fit, crate::proofs::Sv48Rows::page_that_does_not_fit_sv48))]
 pub fn pages_that_do_not_fit()
-    ensures { IsEachDueAfter two_harts [] sv48.pages_that_do_not_fit }
+    ensures sv39 { IsRun two_harts sv48.pages_that_do_not_fit }
+    ensures sv48 { IsRun sv48.two_harts_in_sv48 sv48.page_that_does_not_fit_sv48 }
 {}
 
 /// An order is for the ASID that its space had when it was opened, also once the space was created
@@ -312,65 +218,4 @@ pub fn orders_keep_their_asid()
     ensures until_served { IsRun shootdowns.spaces_of_one_home retirements.orders_keep_their_asid }
     ensures of_the_new_asid { IsRun shootdowns.spaces_of_one_home
         retirements.orders_of_the_new_asid }
-{}
-
-/// Giving back a space leaves the kernel's tables, and what they map.
-#[tactic(auto, using(crate::proofs::RetireRows::kernel_frames_stay))]
-pub fn kernel_frames_stay()
-    ensures { IsRun shootdowns.spaces_of_one_home retirements.kernel_frames_stay }
-{}
-
-/// The home of a space alone retires it, gives it back and creates it.
-#[tactic(auto, using(crate::proofs::RetireRows::retired_by_its_home))]
-pub fn retired_by_its_home()
-    ensures { IsRun kernel.spaces_of_two_homes retirements.retired_by_its_home }
-{}
-
-/// Refusals where all spaces are live, in order.
-#[tactic(auto, using(crate::proofs::RetireRows::while_live))]
-pub fn refused_while_live()
-    ensures { IsEachDueAfter retire_refusals.three_spaces [] retire_refusals.while_live }
-{}
-
-/// A Retire needs a free ticket, which is tested last.
-#[tactic(auto, using(crate::proofs::RetireRows::no_ticket_left, crate::proofs::RetireRows::without_ticket, crate::proofs::RetireRows::retired_with_the_last_ticket, crate::proofs::RetireRows::retired_without_ticket))]
-pub fn refused_without_ticket()
-    ensures before { IsRun retire_refusals.three_spaces retire_refusals.no_ticket_left }
-    ensures live { IsEachDueAfter retire_refusals.three_spaces retire_refusals.no_ticket_left
-        retire_refusals.without_ticket }
-    ensures before_retiring { IsRun retire_refusals.three_spaces
-        retire_refusals.retired_with_the_last_ticket }
-    ensures retiring { IsEachDueAfter retire_refusals.three_spaces
-        retire_refusals.retired_with_the_last_ticket retire_refusals.retired_without_ticket }
-{}
-
-/// Refusals where a space is retiring, in order; the kernel's pages and a flush of all are not
-/// refused.
-#[tactic(auto, using(crate::proofs::RetireRows::retiring, crate::proofs::RetireRows::while_retiring))]
-pub fn refused_while_retiring()
-    ensures before { IsRun retire_refusals.three_spaces retire_refusals.retiring }
-    ensures each { IsEachDueAfter retire_refusals.three_spaces retire_refusals.retiring
-        retire_refusals.while_retiring }
-{}
-
-/// Refusals where a space is free, in order.
-#[tactic(auto, using(crate::proofs::RetireRows::free, crate::proofs::RetireRows::while_free))]
-pub fn refused_while_free()
-    ensures before { IsRun retire_refusals.three_spaces retire_refusals.free }
-    ensures each { IsEachDueAfter retire_refusals.three_spaces retire_refusals.free
-        retire_refusals.while_free }
-{}
-
-/// A Reclaim needs each hart collected for the last retirement, whether its ticket is open,
-/// finished or another order's by now.
-#[tactic(auto, using(crate::proofs::RetireRows::collected_once_more))]
-pub fn collected_for_each_retirement()
-    ensures { IsRun retire_refusals.three_spaces retire_refusals.collected_once_more }
-{}
-
-/// While a space retires its ASID is in use, and once it is free another space may be created with
-/// it.
-#[tactic(auto, using(crate::proofs::RetireRows::free_asid_to_another_space))]
-pub fn free_asid_to_another_space()
-    ensures { IsRun retire_refusals.three_spaces retire_refusals.free_asid_to_another_space }
 {}

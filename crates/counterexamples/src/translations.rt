@@ -1,7 +1,7 @@
 //! Worked runs of what a TLB answers and keeps: accesses of each kind, and what stays once a
 //! request is served. Each function does nothing, and its clause is the fact.
 
-ghost use Rattle.counterexamples.specs.HartRuns.{spaces_of_other_asids};
+ghost use Rattle.counterexamples.specs.ServiceRuns.{spaces_of_other_asids};
 ghost use Rattle.counterexamples.specs.ServiceRuns as services;
 ghost use Rattle.counterexamples.specs.ShootdownRuns.{spaces_of_one_home};
 ghost use Rattle.counterexamples.specs.TranslationRuns as translations;
