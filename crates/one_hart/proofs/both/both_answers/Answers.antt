@@ -1,0 +1,4 @@
+use Rattle.one_hart.proofs.both.both_answers.Goals as goal
+
+pub returns-clause-same : goal.returns-clause-same
+returns-clause-same c = ?

@@ -1,0 +1,38 @@
+//! The same calls by the port of a board with one hart, and by a machine.
+
+ghost use Rattle.std.specs.Prelude.{◌≡◌, [], IfOk};
+ghost use Rattle.history.specs.Setup.{setup_of};
+ghost use Rattle.one_hart.specs.Asked.{answers_due};
+ghost use Rattle.one_hart.specs.Alone.{NewPortIsAlone};
+
+use crate::call::{Answer, Call};
+use crate::machine_calls::machine_answers;
+use crate::port_calls::port_answers;
+use board::Board;
+use spaces::{Config, OpenFault};
+use std::alloc::Global;
+use stepcore::Machine;
+
+/// The port of a board that was just opened, if it is the only one, has what the empty history
+/// leaves.
+pub fn new_port_is_alone()
+    ensures { NewPortIsAlone }
+{}
+
+/// Opens a board and a machine with a configuration of one hart, and makes the same calls by both:
+/// their answers are the same, and they are due.
+pub fn both_answers(
+    alloc: Global,
+    config: &Config,
+    calls: &[Call],
+) -> Result<(Vec<Answer>, Vec<Answer>), OpenFault>
+    requires { config.now.harts ≡ 1 }
+    ensures same { IfOk result (λ r. r.0.items ≡ r.1.items) }
+    ensures due { IfOk result (λ r. r.0.items ≡ answers_due (setup_of config.now) [] calls.now) }
+{
+    let (_board, mut ports) = Board::open(alloc, config)?;
+    let mut machine = Machine::open(alloc, config)?;
+    let by_port = port_answers(alloc, &mut ports[0], calls)?;
+    let by_machine = machine_answers(alloc, &mut machine, calls)?;
+    Ok((by_port, by_machine))
+}

@@ -1,0 +1,166 @@
+//! The calls as events of hart 0 of a machine.
+
+ghost use Rattle.std.specs.Prelude.{◌≡◌, IfOk};
+ghost use Rattle.history.specs.Setup.{Setup};
+ghost use Rattle.history.specs.Turns.{History};
+ghost use Rattle.history.specs.declared.event.Event.{Event as EventOf};
+ghost use Rattle.stepcore.specs.Stands.{Stands};
+ghost use Rattle.one_hart.specs.declared.call.Call.TheVariants as call;
+ghost use Rattle.one_hart.specs.Answering.{heard};
+ghost use Rattle.one_hart.specs.Asked.{load_on, turned};
+ghost use Rattle.one_hart.specs.Alone.{AreReplied, IsReplied};
+
+use crate::call::{Answer, Call};
+use history::{Event, Refusal, Reply};
+use pte::{Access, Ctx, SV48_LEVELS};
+use std::alloc::{AllocError, Global};
+use stepcore::Machine;
+
+/// One event.
+fn one_event(machine: &mut Machine, event: Event) -> Answer
+    ensures { (setup : Setup) (history : History) → Stands setup machine.old history →
+        (result ≡ heard (turned setup event history).reply)
+        × Stands setup machine.new (turned setup event history).history }
+{
+    Answer::heard(machine.step(event))
+}
+
+/// A load, if the walk goes on.
+fn load_on(machine: &mut Machine, last: Reply) -> Reply
+    ensures { (setup : Setup) (history : History) → Stands setup machine.old history →
+        (result ≡ (load_on setup (record { reply = last; history = history })).reply)
+        × Stands setup machine.new (load_on setup (record { reply = last; history = history })).history }
+{
+    match last {
+        Reply::More => machine.step(Event::Load { hart: 0 }),
+        Reply::Hit(_)
+        | Reply::Trap(_)
+        | Reply::Filled(_)
+        | Reply::Table(_)
+        | Reply::Leaf
+        | Reply::Opened(_)
+        | Reply::Ok
+        | Reply::Taken(_)
+        | Reply::Done
+        | Reply::Waiting(_)
+        | Reply::Refused(_) => last,
+    }
+}
+
+/// An access, and loads while its walk goes on.
+fn translate(machine: &mut Machine, va: u64, access: Access, ctx: Ctx) -> Answer
+    ensures { IsReplied (call.Translate va access ctx) machine.old result machine.new }
+{
+    let mut reply = machine.step(Event::Begin {
+        hart: 0,
+        va,
+        access,
+        ctx,
+    });
+    for _made in 0..SV48_LEVELS {
+        reply = load_on(machine, reply);
+    }
+    Answer::heard(reply)
+}
+
+/// How far a ticket is, since there is no other hart whose acknowledgement could be collected.
+fn collect(machine: &Machine, ticket: u32) -> Answer
+    ensures { IsReplied (call.Collect ticket) machine.now result machine.now }
+{
+    if machine.harts() == 0 {
+        return Answer::Replied(Reply::Refused(Refusal::NoHart));
+    }
+    let tickets = machine.tickets(0);
+    if !tickets.is_open(ticket) {
+        return Answer::Replied(Reply::Refused(Refusal::NotOpen));
+    }
+    Answer::of_progress(Ok(tickets.progress(ticket)))
+}
+
+/// One call.
+fn answer(machine: &mut Machine, call: &Call) -> Answer
+    ensures { IsReplied call.now machine.old result machine.new }
+{
+    match *call {
+        Call::Translate { va, access, ctx } => translate(machine, va, access, ctx),
+        Call::Map {
+            place,
+            page,
+            ppn,
+            flags,
+        } => one_event(
+            machine,
+            Event::Map {
+                hart: 0,
+                place,
+                page,
+                ppn,
+                flags,
+            },
+        ),
+        Call::Unmap { place, page, named } => one_event(
+            machine,
+            Event::Unmap {
+                hart: 0,
+                place,
+                page,
+                named,
+            },
+        ),
+        Call::Protect {
+            place,
+            page,
+            flags,
+            named,
+        } => one_event(
+            machine,
+            Event::Protect {
+                hart: 0,
+                place,
+                page,
+                flags,
+                named,
+            },
+        ),
+        Call::Flush { scope, named } => one_event(
+            machine,
+            Event::Flush {
+                hart: 0,
+                scope,
+                named,
+            },
+        ),
+        Call::Switch { space } => one_event(machine, Event::Switch { hart: 0, space }),
+        Call::Fence { rs1, rs2 } => one_event(machine, Event::Fence { hart: 0, rs1, rs2 }),
+        Call::Post { ticket, to } => one_event(
+            machine,
+            Event::Post {
+                hart: 0,
+                ticket,
+                to,
+            },
+        ),
+        Call::Serve { from } => one_event(machine, Event::Take { hart: 0, from }),
+        Call::AckSelf { ticket } => one_event(machine, Event::AckSelf { hart: 0, ticket }),
+        Call::Collect { ticket } => collect(machine, ticket),
+        Call::Finish { ticket } => one_event(machine, Event::Finish { hart: 0, ticket }),
+        Call::CloseTo { to } => one_event(machine, Event::Close { hart: 0, to }),
+    }
+}
+
+/// What a machine answers to calls in order, each made by the events of hart 0: a translation by
+/// `Begin`, and `Load` while the reply is `More`; a look for acknowledgements by none, since no
+/// other hart is asked; each other call by the event of its name.
+pub fn machine_answers(
+    alloc: Global,
+    machine: &mut Machine,
+    calls: &[Call],
+) -> Result<Vec<Answer>, AllocError>
+    ensures { IfOk result (λ answers. AreReplied calls.now machine.old answers.items machine.new) }
+{
+    let mut answers = Vec::with_capacity(alloc, calls.len())?;
+    for call in calls {
+        answers.push_reserved(answer(machine, call));
+    }
+    Ok(answers)
+}
