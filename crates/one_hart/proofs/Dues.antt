@@ -45,10 +45,8 @@ use Rattle.board.specs.Answers.{ack_self_answer, answer_or, after_ack_self, afte
 use Rattle.board.specs.Ports.{outbox_to}
 use Rattle.board.specs.Collects.{IsCollected}
 use Rattle.board.specs.Tables.{IsMissed, after_edit, after_fence, after_map, after_switch, edit_answer, map_answer, own_asid, switch_answer}
-use Rattle.one_hart.specs.declared.call.Answer.{Answer}
-use Rattle.one_hart.specs.declared.call.Answer.TheVariants.{Replied}
 use Rattle.one_hart.specs.declared.call.Call.TheVariants as call
-use Rattle.one_hart.specs.Answering.{call_told, heard, map_told, of_translation, opening_told, progress_told, service_told}
+use Rattle.one_hart.specs.Answering.{call_told, heard, map_told, translation_told, opening_told, progress_told, service_told}
 use Rattle.one_hart.specs.Asked.{Turned, loaded, progress_due, turned}
 use Rattle.one_hart.specs.Alone.{IsAlone, IsDue}
 use Rattle.one_hart.proofs.Steps.{Steps, tied, told-due}
@@ -58,25 +56,25 @@ use Rattle.one_hart.proofs.Walked.{at-once, loaded-stops, walked-due}
 
 -- ---- replies that no access gives are heard as they are
 
-heard-opening : (r : Result ℕ Refusal) → Replied (opening_told r) ≡ heard (opening_told r)
+heard-opening : (r : Result ℕ Refusal) → opening_told r ≡ heard (opening_told r)
 heard-opening (Ok ticket) = refl
 heard-opening (Err why) = refl
 
-heard-call : (r : Result (Unit {0}) Refusal) → Replied (call_told r) ≡ heard (call_told r)
+heard-call : (r : Result (Unit {0}) Refusal) → call_told r ≡ heard (call_told r)
 heard-call (Ok nothing) = refl
 heard-call (Err why) = refl
 
-heard-map : (r : Result Mapped Refusal) → Replied (map_told r) ≡ heard (map_told r)
+heard-map : (r : Result Mapped Refusal) → map_told r ≡ heard (map_told r)
 heard-map (Ok (mapped.Table ppn)) = refl
 heard-map (Ok mapped.Leaf) = refl
 heard-map (Err why) = refl
 
-heard-progress : (r : Result Collected Refusal) → Replied (progress_told r) ≡ heard (progress_told r)
+heard-progress : (r : Result Collected Refusal) → progress_told r ≡ heard (progress_told r)
 heard-progress (Ok collected.Done) = refl
 heard-progress (Ok (collected.Waiting harts)) = refl
 heard-progress (Err why) = refl
 
-heard-access : (r : Result ℕ Trap) → of_translation r ≡ heard (access_reply r)
+heard-access : (r : Result ℕ Trap) → translation_told r ≡ heard (access_reply r)
 heard-access (Ok pa) = refl
 heard-access (Err trap) = refl
 
@@ -89,33 +87,33 @@ access-stops (Err trap) = refl
 steps-to : (p after done : PortState) (e : Event) (r : Reply) → after ≡ done → Steps p done e r → Steps p after e r
 steps-to p after done e r same steps = subst (λ (q : PortState). Steps p q e r) (sym same) steps
 
-pub flush_due : (p after : PortState) (s : Scope) (named : ℕ) (r : Result ℕ Refusal) (answer : Answer) → r ≡ flush_answer p s named → after ≡ after_flush p s named
-    → answer ≡ Replied (opening_told r) → IsDue (call.Flush s named) p answer after
+pub flush_due : (p after : PortState) (s : Scope) (named : ℕ) (r : Result ℕ Refusal) (answer : Reply) → r ≡ flush_answer p s named → after ≡ after_flush p s named
+    → answer ≡ opening_told r → IsDue (call.Flush s named) p answer after
 flush_due p after s named r answer is-r is-after same C H is =
     tied C H p after (event.Flush 0 s named) (opening_told (flush_answer p s named)) answer is (steps-to p after (after_flush p s named) _ _ is-after (flush-steps C H p is s named))
-    (same ∙ ap (λ (x : Result ℕ Refusal). Replied (opening_told x)) is-r ∙ heard-opening (flush_answer p s named))
+    (same ∙ ap opening_told is-r ∙ heard-opening (flush_answer p s named))
 
-pub switch_due : (p after : PortState) (space : ℕ) (r : Result (Unit {0}) Refusal) (answer : Answer) → r ≡ switch_answer p space → after ≡ after_switch p space
-    → answer ≡ Replied (call_told r) → IsDue (call.Switch space) p answer after
+pub switch_due : (p after : PortState) (space : ℕ) (r : Result (Unit {0}) Refusal) (answer : Reply) → r ≡ switch_answer p space → after ≡ after_switch p space
+    → answer ≡ call_told r → IsDue (call.Switch space) p answer after
 switch_due p after space r answer is-r is-after same C H is =
     tied C H p after (event.Switch 0 space) (call_told (switch_answer p space)) answer is (steps-to p after (after_switch p space) _ _ is-after (switch-steps C H p is space))
-    (same ∙ ap (λ (x : Result (Unit {0}) Refusal). Replied (call_told x)) is-r ∙ heard-call (switch_answer p space))
+    (same ∙ ap call_told is-r ∙ heard-call (switch_answer p space))
 
-pub fence_due : (p after : PortState) (rs1 rs2 : Option ℕ) (answer : Answer) → after ≡ after_fence p rs1 rs2 → answer ≡ Replied reply.Ok → IsDue (call.Fence rs1 rs2) p answer after
+pub fence_due : (p after : PortState) (rs1 rs2 : Option ℕ) (answer : Reply) → after ≡ after_fence p rs1 rs2 → answer ≡ reply.Ok → IsDue (call.Fence rs1 rs2) p answer after
 fence_due p after rs1 rs2 answer is-after same C H is =
     tied C H p after (event.Fence 0 rs1 rs2) reply.Ok answer is (steps-to p after (after_fence p rs1 rs2) _ _ is-after (fence-steps C H p is rs1 rs2)) same
 
-pub finish_due : (p after : PortState) (ticket : ℕ) (r : Result (Unit {0}) Refusal) (answer : Answer) → r ≡ finish_answer p ticket → after ≡ after_finish_of p ticket
-    → answer ≡ Replied (call_told r) → IsDue (call.Finish ticket) p answer after
+pub finish_due : (p after : PortState) (ticket : ℕ) (r : Result (Unit {0}) Refusal) (answer : Reply) → r ≡ finish_answer p ticket → after ≡ after_finish_of p ticket
+    → answer ≡ call_told r → IsDue (call.Finish ticket) p answer after
 finish_due p after ticket r answer is-r is-after same C H is =
     tied C H p after (event.Finish 0 ticket) (call_told (finish_answer p ticket)) answer is (steps-to p after (after_finish_of p ticket) _ _ is-after (finish-steps C H p is ticket))
-    (same ∙ ap (λ (x : Result (Unit {0}) Refusal). Replied (call_told x)) is-r ∙ heard-call (finish_answer p ticket))
+    (same ∙ ap call_told is-r ∙ heard-call (finish_answer p ticket))
 
-pub ack_due : (p after : PortState) (ticket : ℕ) (r : Result Collected Refusal) (answer : Answer) → r ≡ ack_self_answer p ticket → after ≡ after_ack_self p ticket
-    → answer ≡ Replied (progress_told r) → IsDue (call.AckSelf ticket) p answer after
+pub ack_due : (p after : PortState) (ticket : ℕ) (r : Result Collected Refusal) (answer : Reply) → r ≡ ack_self_answer p ticket → after ≡ after_ack_self p ticket
+    → answer ≡ progress_told r → IsDue (call.AckSelf ticket) p answer after
 ack_due p after ticket r answer is-r is-after same C H is =
     tied C H p after (event.AckSelf 0 ticket) (progress_told (ack_self_answer p ticket)) answer is (steps-to p after (after_ack_self p ticket) _ _ is-after (ack-steps C H p is ticket))
-    (same ∙ ap (λ (x : Result Collected Refusal). Replied (progress_told x)) is-r ∙ heard-progress (ack_self_answer p ticket))
+    (same ∙ ap progress_told is-r ∙ heard-progress (ack_self_answer p ticket))
 
 -- ---- there is no other hart
 
@@ -131,18 +129,18 @@ closes-nothing : {X : Type 0} (a b : Bool) (x y : X) → a ≡ false → cond (a
 closes-nothing false b x y e = refl
 closes-nothing true b x y e = absurd (false≢true (sym e))
 
-pub close_due : (p after : PortState) (to : ℕ) (r : Result (Unit {0}) Refusal) (answer : Answer) → r ≡ close_answer p to → after ≡ after_close_to p to
-    → answer ≡ Replied (call_told r) → IsDue (call.CloseTo to) p answer after
+pub close_due : (p after : PortState) (to : ℕ) (r : Result (Unit {0}) Refusal) (answer : Reply) → r ≡ close_answer p to → after ≡ after_close_to p to
+    → answer ≡ call_told r → IsDue (call.CloseTo to) p answer after
 close_due p after to r answer is-r is-after same C H is =
     let alone = own-pair C H p is to in
     let refused : r ≡ Err NoHart = is-r ∙ answer-first (are_pair p.setup p.hart to) _ _ alone in
     let stays : after ≡ p = is-after ∙ closes-nothing (are_pair p.setup p.hart to) _ _ _ alone in
     tied C H p after (event.Close 0 to) (reply.Refused NoHart) answer is (steps-to p after p _ _ stays (close-steps C H p is to))
-    (same ∙ ap (λ (x : Result (Unit {0}) Refusal). Replied (call_told x)) refused)
+    (same ∙ ap call_told refused)
 
-pub post_due : (p after : PortState) (ticket to : ℕ) (r : Result (Unit {0}) Refusal) (answer : Answer)
+pub post_due : (p after : PortState) (ticket to : ℕ) (r : Result (Unit {0}) Refusal) (answer : Reply)
     → ((why : Refusal) → post_refusal p ticket to ≡ Some why → r ≡ Err why) → OnErr r (after ≡ after_no_post p ticket to)
-    → answer ≡ Replied (call_told r) → IsDue (call.Post ticket to) p answer after
+    → answer ≡ call_told r → IsDue (call.Post ticket to) p answer after
 post_due p after ticket to r answer refuses stays same C H is =
     let alone = own-pair C H p is to in
     let why : post_refusal p ticket to ≡ Some NoHart = refusal-first (are_pair p.setup p.hart to) _ (outbox_refusal (outbox_to p to)) alone in
@@ -150,24 +148,24 @@ post_due p after ticket to r answer refuses stays same C H is =
     let same-port : after ≡ p = subst (λ (x : Result (Unit {0}) Refusal). OnErr x (after ≡ after_no_post p ticket to)) refused stays
     ∙ ap (λ (o : Option Refusal). if is_none o then record p { view = with_armed ticket to p.view } else p) why in
     tied C H p after (event.Post 0 ticket to) (reply.Refused NoHart) answer is (steps-to p after p _ _ same-port (post-steps C H p is ticket to))
-    (same ∙ ap (λ (x : Result (Unit {0}) Refusal). Replied (call_told x)) refused)
+    (same ∙ ap call_told refused)
 
-pub serve_due : (p after : PortState) (from : ℕ) (r : Result Request Refusal) (answer : Answer) → (are_pair p.setup p.hart from ≡ false → r ≡ Err NoHart) → OnErr r (after ≡ p)
-    → answer ≡ Replied (service_told r) → IsDue (call.Serve from) p answer after
+pub serve_due : (p after : PortState) (from : ℕ) (r : Result Request Refusal) (answer : Reply) → (are_pair p.setup p.hart from ≡ false → r ≡ Err NoHart) → OnErr r (after ≡ p)
+    → answer ≡ service_told r → IsDue (call.Serve from) p answer after
 serve_due p after from r answer refuses stays same C H is =
     let refused : r ≡ Err NoHart = refuses (own-pair C H p is from) in
     tied C H p after (event.Take 0 from) (reply.Refused NoHart) answer is
     (steps-to p after p _ _ (subst (λ (x : Result Request Refusal). OnErr x (after ≡ p)) refused stays) (serve-steps C H p is from))
-    (same ∙ ap (λ (x : Result Request Refusal). Replied (service_told x)) refused)
+    (same ∙ ap service_told refused)
 
 collect-told : (hart o : Bool) (c : Collected) (r : Result Collected Refusal) → hart ≡ true → (o ≡ false → r ≡ Err NotOpen) → (o ≡ true → r ≡ Ok c)
-    → Replied (progress_told r) ≡ heard (first_of (when (not hart) NoHart ∷ when (not o) NotOpen ∷ []) (progress_reply c))
+    → progress_told r ≡ heard (first_of (when (not hart) NoHart ∷ when (not o) NotOpen ∷ []) (progress_reply c))
 collect-told hart true c r there none some = rw (there, some refl) (heard-progress (Ok c))
 collect-told hart false c r there none some = rw (there, none refl) refl
 
-pub collect_due : (p after : PortState) (ticket : ℕ) (r : Result Collected Refusal) (answer : Answer) → (is_open p.tickets ticket ≡ false → (r ≡ Err NotOpen) × (after ≡ p))
+pub collect_due : (p after : PortState) (ticket : ℕ) (r : Result Collected Refusal) (answer : Reply) → (is_open p.tickets ticket ≡ false → (r ≡ Err NotOpen) × (after ≡ p))
     → (is_open p.tickets ticket ≡ true → r ≡ Ok (progress_at after.tickets ticket)) → (is_open p.tickets ticket ≡ true → IsCollected p ticket p.setup.harts after)
-    → answer ≡ Replied (progress_told r) → IsDue (call.Collect ticket) p answer after
+    → answer ≡ progress_told r → IsDue (call.Collect ticket) p answer after
 collect_due p after ticket r answer closed opened looks same C H is =
     let stays : after ≡ p =
     by_test (λ _. after ≡ p) (is_open p.tickets ticket) (λ t. let l = looks t in l.is ∙ nothing-looked C H p is ticket l.words) (λ f. (closed f).1) in
@@ -181,33 +179,33 @@ collect_due p after ticket r answer closed opened looks same C H is =
 -- ---- edits
 
 module _ (p after : PortState) (state : Shared ℕ View) (view : HasView p state) where
-  pub map_due : (place : Place) (page : Span) (ppn : ℕ) (flags : PteFlags) (r : Result Mapped Refusal) (answer : Answer) → IsPage page
+  pub map_due : (place : Place) (page : Span) (ppn : ℕ) (flags : PteFlags) (r : Result Mapped Refusal) (answer : Reply) → IsPage page
       → r ≡ map_answer p (wish.Map place page ppn flags) → after ≡ after_map p (wish.Map place page ppn flags)
-      → answer ≡ Replied (map_told r) → IsDue (call.Map place page ppn flags) p answer after
+      → answer ≡ map_told r → IsDue (call.Map place page ppn flags) p answer after
   map_due place page ppn flags r answer is-page is-r is-after same C H is =
       tied C H p after (event.Map 0 place page ppn flags) (map_told (map_answer p (wish.Map place page ppn flags))) answer is
       (steps-to p after (after_map p (wish.Map place page ppn flags)) _ _ is-after (map-steps C H p is state view place page ppn flags is-page))
-      (same ∙ ap (λ (x : Result Mapped Refusal). Replied (map_told x)) is-r ∙ heard-map (map_answer p (wish.Map place page ppn flags)))
+      (same ∙ ap map_told is-r ∙ heard-map (map_answer p (wish.Map place page ppn flags)))
 
-  pub unmap_due : (place : Place) (page : Span) (named : ℕ) (r : Result ℕ Refusal) (answer : Answer) → IsPage page
+  pub unmap_due : (place : Place) (page : Span) (named : ℕ) (r : Result ℕ Refusal) (answer : Reply) → IsPage page
       → r ≡ edit_answer p (wish.Unmap place page) named → after ≡ after_edit p (wish.Unmap place page) named
-      → answer ≡ Replied (opening_told r) → IsDue (call.Unmap place page named) p answer after
+      → answer ≡ opening_told r → IsDue (call.Unmap place page named) p answer after
   unmap_due place page named r answer is-page is-r is-after same C H is =
       tied C H p after (event.Unmap 0 place page named) (opening_told (edit_answer p (wish.Unmap place page) named)) answer is
       (steps-to p after (after_edit p (wish.Unmap place page) named) _ _ is-after (change-steps C H p is state view (wish.Unmap place page) named refl is-page))
-      (same ∙ ap (λ (x : Result ℕ Refusal). Replied (opening_told x)) is-r ∙ heard-opening (edit_answer p (wish.Unmap place page) named))
+      (same ∙ ap opening_told is-r ∙ heard-opening (edit_answer p (wish.Unmap place page) named))
 
-  pub protect_due : (place : Place) (page : Span) (flags : PteFlags) (named : ℕ) (r : Result ℕ Refusal) (answer : Answer) → IsPage page
+  pub protect_due : (place : Place) (page : Span) (flags : PteFlags) (named : ℕ) (r : Result ℕ Refusal) (answer : Reply) → IsPage page
       → r ≡ edit_answer p (wish.Protect place page flags) named → after ≡ after_edit p (wish.Protect place page flags) named
-      → answer ≡ Replied (opening_told r) → IsDue (call.Protect place page flags named) p answer after
+      → answer ≡ opening_told r → IsDue (call.Protect place page flags named) p answer after
   protect_due place page flags named r answer is-page is-r is-after same C H is =
       tied C H p after (event.Protect 0 place page flags named) (opening_told (edit_answer p (wish.Protect place page flags) named)) answer is
       (steps-to p after (after_edit p (wish.Protect place page flags) named) _ _ is-after (change-steps C H p is state view (wish.Protect place page flags) named refl is-page))
-      (same ∙ ap (λ (x : Result ℕ Refusal). Replied (opening_told x)) is-r ∙ heard-opening (edit_answer p (wish.Protect place page flags) named))
+      (same ∙ ap opening_told is-r ∙ heard-opening (edit_answer p (wish.Protect place page flags) named))
 
   -- ---- translations
 
-  at-once-due : (va : ℕ) (access : Access) (ctx : Ctx) (r : Reply) (answer : Answer) (C : Setup) (H : History) (is : IsAlone C H p) → after ≡ p
+  at-once-due : (va : ℕ) (access : Access) (ctx : Ctx) (r : Reply) (answer : Reply) (C : Setup) (H : History) (is : IsAlone C H p) → after ≡ p
       → r ≡ cond (is_canonical p.setup.layout.scheme va) (match_reply va access ctx (first_match p.tlb.entries (own_asid p) va)) (reply.Trap (page_trap access NotCanonical)) → is_more r ≡ false → answer ≡ heard r
       → (let last = loaded (level_count widest) C (turned C (event.Begin 0 va access ctx) H) in (answer ≡ heard last.reply) × IsAlone C last.history after)
   at-once-due va access ctx r answer C H is stays is-r stops same =
@@ -217,18 +215,18 @@ module _ (p after : PortState) (state : Shared ℕ View) (view : HasView p state
       subst (λ (t : Turned). (answer ≡ heard t.reply) × IsAlone C t.history after) (sym (loaded-stops C (level_count widest) once (ap is_more (sym due-is) ∙ stops)))
       (tied C H p after (event.Begin 0 va access ctx) r answer is steps same)
 
-  pub translate_due : (va : ℕ) (access : Access) (ctx : Ctx) (r : Result ℕ Trap) (answer : Answer)
+  pub translate_due : (va : ℕ) (access : Access) (ctx : Ctx) (r : Result ℕ Trap) (answer : Reply)
       → ((¬ IsCanonical p.setup.layout.scheme va) → (r ≡ Err (page_trap access NotCanonical)) × (after ≡ p))
       → ((entry : Entry) → IsCanonical p.setup.layout.scheme va → first_match p.tlb.entries (own_asid p) va ≡ Some entry → (r ≡ answer_of entry va access ctx) × (after ≡ p))
       → (IsCanonical p.setup.layout.scheme va → first_match p.tlb.entries (own_asid p) va ≡ None → IsMissed p va access ctx r after)
-      → answer ≡ of_translation r → IsDue (call.Translate va access ctx) p answer after
+      → answer ≡ translation_told r → IsDue (call.Translate va access ctx) p answer after
   translate_due va access ctx r answer wrong hit miss same C H is =
       by_test (λ _. (let last = loaded (level_count widest) C (turned C (event.Begin 0 va access ctx) H) in (answer ≡ heard last.reply) × IsAlone C last.history after)) (is_canonical p.setup.layout.scheme va)
       (λ test. matched test ((is_canonical-IsCanonical p.setup.layout.scheme va).0 test) (first_match p.tlb.entries (own_asid p) va) refl)
       (λ test.
       let w = wrong (λ canonical. false≢true (sym test ∙ (is_canonical-IsCanonical p.setup.layout.scheme va).1 canonical)) in
       at-once-due va access ctx (reply.Trap (page_trap access NotCanonical)) answer C H is w.1 (sym (ap (λ (v : Bool). cond v (match_reply va access ctx (first_match p.tlb.entries (own_asid p) va)) (reply.Trap (page_trap access NotCanonical))) test)) refl
-      (same ∙ ap of_translation w.0))
+      (same ∙ ap translation_told w.0))
     where
       matched : is_canonical p.setup.layout.scheme va ≡ true → IsCanonical p.setup.layout.scheme va → (o : Option Entry) → first_match p.tlb.entries (own_asid p) va ≡ o
           → (let last = loaded (level_count widest) C (turned C (event.Begin 0 va access ctx) H) in (answer ≡ heard last.reply) × IsAlone C last.history after)
@@ -236,7 +234,7 @@ module _ (p after : PortState) (state : Shared ℕ View) (view : HasView p state
           let h = hit entry canonical found in
           at-once-due va access ctx (access_reply (answer_of entry va access ctx)) answer C H is h.1
           (sym (ap (λ (v : Bool). cond v (match_reply va access ctx (first_match p.tlb.entries (own_asid p) va)) (reply.Trap (page_trap access NotCanonical))) test ∙ ap (match_reply va access ctx) found))
-          (access-stops (answer_of entry va access ctx)) (same ∙ ap of_translation h.0 ∙ heard-access (answer_of entry va access ctx))
+          (access-stops (answer_of entry va access ctx)) (same ∙ ap translation_told h.0 ∙ heard-access (answer_of entry va access ctx))
       matched test canonical None none =
           let done = walked-due C H p is state view va access ctx r after (miss canonical none) canonical test none in
           (same ∙ done.0, done.1)

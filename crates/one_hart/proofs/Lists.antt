@@ -3,23 +3,23 @@ use Rattle.std.proofs.Common.{◌≡◌, ℕ, ◌+◌, ◌<◌, ◌≤◌, List,
 use Rattle.std.proofs.lemmas.List.{drop_all, at_drop_more}
 use Rattle.history.specs.Setup.{Setup}
 use Rattle.history.specs.Turns.{History}
+use Rattle.history.specs.declared.reply.Reply.{Reply}
 use Rattle.one_hart.specs.declared.call.Call.{Call}
-use Rattle.one_hart.specs.declared.call.Answer.{Answer}
 use Rattle.one_hart.specs.Answering.{heard}
 use Rattle.one_hart.specs.Asked.{answers_due, asked, history_due}
 
 -- the first i calls were made: what is left to answer follows what was answered
-pub record SoFar (setup : Setup) (history : History) (calls : List Call) (i : ℕ) (answers : List Answer) (At : History → Type 0) : Type 0 where
+pub record SoFar (setup : Setup) (history : History) (calls : List Call) (i : ℕ) (answers : List Reply) (At : History → Type 0) : Type 0 where
   pub now : History
   pub at : At now
   pub told : answers ++ answers_due setup now (drop i calls) ≡ answers_due setup history calls
   pub left : history_due setup now (drop i calls) ≡ history_due setup history calls
 
-pub begun : (setup : Setup) (history : History) (calls : List Call) (At : History → Type 0) → At history → SoFar setup history calls 0 [] At
-begun setup history calls At at = record { now = history; at = at; told = refl; left = refl }
+pub begun : (setup : Setup) (history : History) (calls : List Call) (answers : List Reply) (At : History → Type 0) → answers ≡ [] → At history → SoFar setup history calls 0 answers At
+begun setup history calls answers At none at = record { now = history; at = at; told = ap (λ (xs : List Reply). xs ++ answers_due setup history calls) none; left = refl }
 
-module _ (setup : Setup) (history : History) (calls : List Call) (i : ℕ) (answers : List Answer) (At After : History → Type 0) (so : SoFar setup history calls i answers At) where
-  pub one-more : (call : Call) (answer : Answer) (longer : List Answer) → drop i calls ≡ call ∷ drop (i + 1) calls → longer ≡ answers ++ answer ∷ []
+module _ (setup : Setup) (history : History) (calls : List Call) (i : ℕ) (answers : List Reply) (At After : History → Type 0) (so : SoFar setup history calls i answers At) where
+  pub one-more : (call : Call) (answer : Reply) (longer : List Reply) → drop i calls ≡ call ∷ drop (i + 1) calls → longer ≡ answers ++ answer ∷ []
       → ((G : History) → At G → (answer ≡ heard (asked setup call G).reply) × After (asked setup call G).history) → SoFar setup history calls (i + 1) longer After
   one-more call answer longer next is does =
       let done = does so.now so.at in
@@ -28,9 +28,9 @@ module _ (setup : Setup) (history : History) (calls : List Call) (i : ℕ) (answ
         now = later;
         at = done.1;
         told =
-            ap (λ (xs : List Answer). xs ++ answers_due setup later (drop (i + 1) calls)) is
+            ap (λ (xs : List Reply). xs ++ answers_due setup later (drop (i + 1) calls)) is
             ∙ append_assoc answers (answer ∷ []) (answers_due setup later (drop (i + 1) calls))
-            ∙ ap (λ (x : Answer). answers ++ x ∷ answers_due setup later (drop (i + 1) calls)) done.0
+            ∙ ap (λ (x : Reply). answers ++ x ∷ answers_due setup later (drop (i + 1) calls)) done.0
             ∙ ap (λ (xs : List Call). answers ++ answers_due setup so.now xs) (sym next)
             ∙ so.told;
         left = ap (history_due setup so.now) (sym next) ∙ so.left;

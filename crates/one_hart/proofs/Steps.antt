@@ -21,7 +21,6 @@ use Rattle.stepcore.specs.Changes.{Follows, is_accepted}
 use Rattle.stepcore.specs.Stands.{Stands}
 use Rattle.stepcore.proofs.Standing.{answers_due, stands_after}
 use Rattle.board.specs.Ports.{PortState}
-use Rattle.one_hart.specs.declared.call.Answer.{Answer}
 use Rattle.one_hart.specs.Answering.{heard}
 use Rattle.one_hart.specs.Asked.{turned}
 use Rattle.one_hart.specs.Alone.{IsAlone, machine_of}
@@ -89,7 +88,7 @@ pub record Steps (p after : PortState) (event : Event) (reply : Reply) : Type 0 
 pub told-due : (C : Setup) (H : History) (p after : PortState) (event : Event) (reply : Reply) → IsAlone C H p → Steps p after event reply → reply ≡ due C H event
 told-due C H p after event reply is steps = steps.told ∙ answers_due C (machine_of p) H is.stands (is-machine C H p is) event
 
-pub tied : (C : Setup) (H : History) (p after : PortState) (event : Event) (reply : Reply) (answer : Answer) → IsAlone C H p → Steps p after event reply → answer ≡ heard reply
+pub tied : (C : Setup) (H : History) (p after : PortState) (event : Event) (reply : Reply) (answer : Reply) → IsAlone C H p → Steps p after event reply → answer ≡ heard reply
     → (answer ≡ heard (turned C event H).reply) × IsAlone C (turned C event H).history after
 tied C H p after event reply answer is steps same =
     let machine = is-machine C H p is in

@@ -57,8 +57,7 @@ use Rattle.views.specs.Walks.{AnswersByLoads, Loads, first, further}
 use Rattle.board.specs.Ports.{PortState}
 use Rattle.board.specs.Promises.{HasView}
 use Rattle.board.specs.Tables.{IsMissed, own_asid, own_root, tlb_filled}
-use Rattle.one_hart.specs.declared.call.Answer.{Answer}
-use Rattle.one_hart.specs.Answering.{heard, of_translation}
+use Rattle.one_hart.specs.Answering.{heard, translation_told}
 use Rattle.one_hart.specs.Asked.{Turned, load_on, loaded, turned}
 use Rattle.one_hart.specs.Alone.{IsAlone, machine_of}
 use Rattle.one_hart.proofs.Steps.{Steps, is-machine, space-below, space-live, spaces-are}
@@ -228,14 +227,14 @@ module _ (C : Setup) (H : History) (p : PortState) (is : IsAlone C H p) where
 
   -- what the loads of a walk come to
   pub record Ends (answer : Result Found Trap) (last : Turned) : Type 0 where
-    pub told : of_translation (address_found answer) ≡ heard last.reply
+    pub told : translation_told (address_found answer) ≡ heard last.reply
     pub stands : Stands C (machine_of (ended-port p answer)) last.history
 
   -- the turned load, where its reply is known
   turned-as : (G : History) (r : Reply) → due C G (event.Load 0) ≡ r → turned C (event.Load 0) G ≡ record { reply = r; history = with_turn (event.Load 0) r G }
   turned-as G r same = ap (λ (x : Reply). let t : Turned = record { reply = x; history = with_turn (event.Load 0) x G } in t) same
 
-  ends-at : (n : ℕ) (G : History) (r : Reply) (answer : Result Found Trap) → due C G (event.Load 0) ≡ r → is_more r ≡ false → of_translation (address_found answer) ≡ heard r
+  ends-at : (n : ℕ) (G : History) (r : Reply) (answer : Result Found Trap) → due C G (event.Load 0) ≡ r → is_more r ≡ false → translation_told (address_found answer) ≡ heard r
       → Stands C (machine_of (ended-port p answer)) (with_turn (event.Load 0) r G) → Ends answer (loaded (suc n) C (record { reply = reply.More; history = G }))
   ends-at n G r answer same stops told stands =
       let last : Turned = record { reply = r; history = with_turn (event.Load 0) r G } in
@@ -374,11 +373,11 @@ module _ (C : Setup) (H : History) (p : PortState) (is : IsAlone C H p) where
         ∙ ap (λ (m : Held). let s : State = record (machine_of (ended-port p missed.found)) { memory = m } in s) (memory-same p.setup.layout refl)
 
     pub walked-due : IsCanonical p.setup.layout.scheme va → is_canonical p.setup.layout.scheme va ≡ true → first_match p.tlb.entries (own_asid p) va ≡ None
-        → (let last = loaded (level_count widest) C (turned C (event.Begin 0 va access ctx) H) in (of_translation answer ≡ heard last.reply) × IsAlone C last.history after)
+        → (let last = loaded (level_count widest) C (turned C (event.Begin 0 va access ctx) H) in (translation_told answer ≡ heard last.reply) × IsAlone C last.history after)
     walked-due canonical test none =
         let last = loaded (level_count widest) C (turned C (event.Begin 0 va access ctx) H) in
         let ends = walked-ends canonical test none in (
-          ap of_translation missed.answer_is ∙ ends.told,
+          ap translation_told missed.answer_is ∙ ends.told,
           record {
             one = is.one;
             setup_is = ap (λ (q : PortState). q.setup) missed.after_is ∙ is.setup_is;

@@ -8,8 +8,8 @@ use Rattle.stepcore.specs.State.{State, live_space}
 use Rattle.stepcore.specs.Stands.{Stands}
 use Rattle.board.specs.Ports.{ArePorts, IsNew, PortState, name_of}
 use Rattle.views.specs.Rule.{memory_of}
+use Rattle.history.specs.declared.reply.Reply.{Reply}
 use Rattle.one_hart.specs.declared.call.Call.{Call}
-use Rattle.one_hart.specs.declared.call.Answer.{Answer}
 use Rattle.one_hart.specs.Answering.{heard}
 use Rattle.one_hart.specs.Asked.{answers_due, asked, history_due}
 
@@ -39,27 +39,27 @@ pub record IsAlone (setup : Setup) (history : History) (port : PortState) : Type
   pub stands : Stands setup (machine_of port) history
 
 -- what the port answers to a call is due, and it then has what the longer history leaves
-abbrev pub IsDue : Call → PortState → Answer → PortState → Type 0
+abbrev pub IsDue : Call → PortState → Reply → PortState → Type 0
 IsDue call old answer new =
     (setup : Setup) (history : History) → IsAlone setup history old →
     (answer ≡ heard (asked setup call history).reply)
     × IsAlone setup (asked setup call history).history new
 
 -- so it is with a list of calls
-abbrev pub AreDue : List Call → PortState → List Answer → PortState → Type 0
+abbrev pub AreDue : List Call → PortState → List Reply → PortState → Type 0
 AreDue calls old answers new =
     (setup : Setup) (history : History) → IsAlone setup history old →
     (answers ≡ answers_due setup history calls)
     × IsAlone setup (history_due setup history calls) new
 
 -- so it is with what a machine answers
-abbrev pub IsReplied : Call → State → Answer → State → Type 0
+abbrev pub IsReplied : Call → State → Reply → State → Type 0
 IsReplied call old answer new =
     (setup : Setup) (history : History) → Stands setup old history →
     (answer ≡ heard (asked setup call history).reply)
     × Stands setup new (asked setup call history).history
 
-abbrev pub AreReplied : List Call → State → List Answer → State → Type 0
+abbrev pub AreReplied : List Call → State → List Reply → State → Type 0
 AreReplied calls old answers new =
     (setup : Setup) (history : History) → Stands setup old history →
     (answers ≡ answers_due setup history calls)

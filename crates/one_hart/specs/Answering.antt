@@ -9,28 +9,17 @@ use Rattle.history.specs.declared.reply.Reply.TheVariants as reply
 use Rattle.stepcore.specs.Answers.{progress_reply}
 use Rattle.board.specs.declared.mapped.Mapped.{Mapped}
 use Rattle.board.specs.declared.mapped.Mapped.TheVariants as mapped
-use Rattle.one_hart.specs.declared.call.Answer.{Answer}
-use Rattle.one_hart.specs.declared.call.Answer.TheVariants.{Address, Replied}
 
--- a machine's reply: an access that a walk answers is answered as one that the TLB answers
-abbrev pub heard : Reply → Answer
-heard (reply.Hit pa) = Address pa
-heard (reply.Filled pa) = Address pa
-heard (reply.Trap trap) = Replied (reply.Trap trap)
-heard reply.More = Replied reply.More
-heard (reply.Table ppn) = Replied (reply.Table ppn)
-heard reply.Leaf = Replied reply.Leaf
-heard (reply.Opened ticket) = Replied (reply.Opened ticket)
-heard reply.Ok = Replied reply.Ok
-heard (reply.Taken request) = Replied (reply.Taken request)
-heard reply.Done = Replied reply.Done
-heard (reply.Waiting harts) = Replied (reply.Waiting harts)
-heard (reply.Refused refusal) = Replied (reply.Refused refusal)
+-- a machine's reply, where an address that a walk found is told as one that the TLB answers: a port
+-- does not say which of them it was
+abbrev pub heard : Reply → Reply
+heard (reply.Filled pa) = reply.Hit pa
+heard reply = reply
 
--- a port's results: of a translation, and as replies those of the other calls
-abbrev pub of_translation : Result ℕ Trap → Answer
-of_translation (Ok pa) = Address pa
-of_translation (Err trap) = Replied (reply.Trap trap)
+-- a port's results as replies
+abbrev pub translation_told : Result ℕ Trap → Reply
+translation_told (Ok pa) = reply.Hit pa
+translation_told (Err trap) = reply.Trap trap
 
 abbrev pub map_told : Result Mapped Refusal → Reply
 map_told (Ok (mapped.Table ppn)) = reply.Table ppn

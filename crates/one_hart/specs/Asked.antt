@@ -14,7 +14,6 @@ use Rattle.stepcore.specs.Answers.{progress_reply}
 use Rattle.stepcore.specs.Stands.{tickets_of}
 use Rattle.one_hart.specs.declared.call.Call.{Call}
 use Rattle.one_hart.specs.declared.call.Call.TheVariants as call
-use Rattle.one_hart.specs.declared.call.Answer.{Answer}
 use Rattle.one_hart.specs.Answering.{heard}
 
 -- the last reply, and the history with all turns
@@ -70,7 +69,7 @@ asked setup (call.Finish ticket) history = turned setup (event.Finish 0 ticket) 
 asked setup (call.CloseTo to) history = turned setup (event.Close 0 to) history
 
 -- the answers to a list of calls, and the history with all of their turns
-abbrev pub answers_due : Setup → History → List Call → List Answer
+abbrev pub answers_due : Setup → History → List Call → List Reply
 answers_due setup history [] = []
 answers_due setup history (call ∷ calls) =
     heard (asked setup call history).reply

@@ -5,10 +5,11 @@ ghost use Rattle.history.specs.Setup.{setup_of};
 ghost use Rattle.one_hart.specs.Asked.{answers_due};
 ghost use Rattle.one_hart.specs.Alone.{NewPortIsAlone};
 
-use crate::call::{Answer, Call};
+use crate::call::Call;
 use crate::machine_calls::machine_answers;
 use crate::port_calls::port_answers;
 use board::Board;
+use history::Reply;
 use spaces::{Config, OpenFault};
 use std::alloc::Global;
 use stepcore::Machine;
@@ -25,7 +26,7 @@ pub fn both_answers(
     alloc: Global,
     config: &Config,
     calls: &[Call],
-) -> Result<(Vec<Answer>, Vec<Answer>), OpenFault>
+) -> Result<(Vec<Reply>, Vec<Reply>), OpenFault>
     requires { config.now.harts ≡ 1 }
     ensures same { IfOk result (λ r. r.0.items ≡ r.1.items) }
     ensures due { IfOk result (λ r. r.0.items ≡ answers_due (setup_of config.now) [] calls.now) }

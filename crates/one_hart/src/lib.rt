@@ -2,13 +2,14 @@
 //! made by the events of hart 0, have the same answers.
 #![tactic(auto)]
 
+mod answering;
 mod both;
 mod call;
 mod machine_calls;
 mod port_calls;
 
 pub use both::{both_answers, new_port_is_alone};
-pub use call::{Answer, Call};
+pub use call::Call;
 pub use machine_calls::machine_answers;
 pub use port_calls::port_answers;
 

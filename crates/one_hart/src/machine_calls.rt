@@ -1,6 +1,6 @@
 //! The calls as events of hart 0 of a machine.
 
-ghost use Rattle.std.specs.Prelude.{◌≡◌, IfOk};
+ghost use Rattle.std.specs.Prelude.{◌≡◌, ◌≤◌, [], IfOk, length, vec_capacity};
 ghost use Rattle.history.specs.Setup.{Setup};
 ghost use Rattle.history.specs.Turns.{History};
 ghost use Rattle.history.specs.declared.event.Event.{Event as EventOf};
@@ -10,19 +10,20 @@ ghost use Rattle.one_hart.specs.Answering.{heard};
 ghost use Rattle.one_hart.specs.Asked.{load_on, turned};
 ghost use Rattle.one_hart.specs.Alone.{AreReplied, IsReplied};
 
-use crate::call::{Answer, Call};
+use crate::answering::{heard, of_progress};
+use crate::call::Call;
 use history::{Event, Refusal, Reply};
 use pte::{Access, Ctx, SV48_LEVELS};
 use std::alloc::{AllocError, Global};
 use stepcore::Machine;
 
 /// One event.
-fn one_event(machine: &mut Machine, event: Event) -> Answer
+fn one_event(machine: &mut Machine, event: Event) -> Reply
     ensures { (setup : Setup) (history : History) → Stands setup machine.old history →
         (result ≡ heard (turned setup event history).reply)
         × Stands setup machine.new (turned setup event history).history }
 {
-    Answer::heard(machine.step(event))
+    heard(machine.step(event))
 }
 
 /// A load, if the walk goes on.
@@ -48,7 +49,7 @@ fn load_on(machine: &mut Machine, last: Reply) -> Reply
 }
 
 /// An access, and loads while its walk goes on.
-fn translate(machine: &mut Machine, va: u64, access: Access, ctx: Ctx) -> Answer
+fn translate(machine: &mut Machine, va: u64, access: Access, ctx: Ctx) -> Reply
     ensures { IsReplied (call.Translate va access ctx) machine.old result machine.new }
 {
     let mut reply = machine.step(Event::Begin {
@@ -60,25 +61,25 @@ fn translate(machine: &mut Machine, va: u64, access: Access, ctx: Ctx) -> Answer
     for _made in 0..SV48_LEVELS {
         reply = load_on(machine, reply);
     }
-    Answer::heard(reply)
+    heard(reply)
 }
 
 /// How far a ticket is, since there is no other hart whose acknowledgement could be collected.
-fn collect(machine: &Machine, ticket: u32) -> Answer
+fn collect(machine: &Machine, ticket: u32) -> Reply
     ensures { IsReplied (call.Collect ticket) machine.now result machine.now }
 {
     if machine.harts() == 0 {
-        return Answer::Replied(Reply::Refused(Refusal::NoHart));
+        return Reply::Refused(Refusal::NoHart);
     }
     let tickets = machine.tickets(0);
     if !tickets.is_open(ticket) {
-        return Answer::Replied(Reply::Refused(Refusal::NotOpen));
+        return Reply::Refused(Refusal::NotOpen);
     }
-    Answer::of_progress(Ok(tickets.progress(ticket)))
+    of_progress(Ok(tickets.progress(ticket)))
 }
 
 /// One call.
-fn answer(machine: &mut Machine, call: &Call) -> Answer
+fn answer(machine: &mut Machine, call: &Call) -> Reply
     ensures { IsReplied call.now machine.old result machine.new }
 {
     match *call {
@@ -148,6 +149,17 @@ fn answer(machine: &mut Machine, call: &Call) -> Answer
     }
 }
 
+/// Calls in order.
+fn answer_all(machine: &mut Machine, calls: &[Call], answers: &mut Vec<Reply>)
+    requires none { answers.old.items ≡ [] }
+    requires room { length calls.now ≤ vec_capacity answers.old }
+    ensures { AreReplied calls.now machine.old answers.new.items machine.new }
+{
+    for call in calls {
+        answers.push_reserved(answer(machine, call));
+    }
+}
+
 /// What a machine answers to calls in order, each made by the events of hart 0: a translation by
 /// `Begin`, and `Load` while the reply is `More`; a look for acknowledgements by none, since no
 /// other hart is asked; each other call by the event of its name.
@@ -155,12 +167,10 @@ pub fn machine_answers(
     alloc: Global,
     machine: &mut Machine,
     calls: &[Call],
-) -> Result<Vec<Answer>, AllocError>
+) -> Result<Vec<Reply>, AllocError>
     ensures { IfOk result (λ answers. AreReplied calls.now machine.old answers.items machine.new) }
 {
     let mut answers = Vec::with_capacity(alloc, calls.len())?;
-    for call in calls {
-        answers.push_reserved(answer(machine, call));
-    }
+    answer_all(machine, calls, &mut answers);
     Ok(answers)
 }

@@ -1,37 +1,38 @@
 //! The calls by the port of the only hart of a board.
 
-ghost use Rattle.std.specs.Prelude.{IfOk};
+ghost use Rattle.std.specs.Prelude.{◌≡◌, ◌≤◌, [], IfOk, length, vec_capacity};
 ghost use Rattle.one_hart.specs.declared.call.Call.TheVariants as call;
 ghost use Rattle.one_hart.specs.Alone.{AreDue, IsDue};
 
-use crate::call::{Answer, Call};
+use crate::answering::{of_call, of_map, of_opening, of_progress, of_service, of_translation};
+use crate::call::Call;
 use board::HartPort;
-use history::Scope;
+use history::{Reply, Scope};
 use pte::{Access, Ctx, Page, PteFlags};
 use spaces::Place;
 use std::alloc::{AllocError, Global};
 
-fn translate(port: &mut HartPort, va: u64, access: Access, ctx: Ctx) -> Answer
+fn translate(port: &mut HartPort, va: u64, access: Access, ctx: Ctx) -> Reply
     ensures { IsDue (call.Translate va access ctx) port.old result port.new }
 {
     port.held();
-    Answer::of_translation(port.translate(va, access, ctx))
+    of_translation(port.translate(va, access, ctx))
 }
 
-fn map(port: &mut HartPort, place: Place, page: Page, ppn: u64, flags: PteFlags) -> Answer
+fn map(port: &mut HartPort, place: Place, page: Page, ppn: u64, flags: PteFlags) -> Reply
     ensures { IsDue (call.Map place page ppn flags) port.old result port.new }
 {
     port.held();
     page.recall();
-    Answer::of_map(port.map_step(place, page, ppn, flags))
+    of_map(port.map_step(place, page, ppn, flags))
 }
 
-fn unmap(port: &mut HartPort, place: Place, page: Page, named: u8) -> Answer
+fn unmap(port: &mut HartPort, place: Place, page: Page, named: u8) -> Reply
     ensures { IsDue (call.Unmap place page named) port.old result port.new }
 {
     port.held();
     page.recall();
-    Answer::of_opening(port.unmap(place, page, named))
+    of_opening(port.unmap(place, page, named))
 }
 
 fn protect(
@@ -40,71 +41,71 @@ fn protect(
     page: Page,
     flags: PteFlags,
     named: u8,
-) -> Answer
+) -> Reply
     ensures { IsDue (call.Protect place page flags named) port.old result port.new }
 {
     port.held();
     page.recall();
-    Answer::of_opening(port.protect(place, page, flags, named))
+    of_opening(port.protect(place, page, flags, named))
 }
 
-fn flush(port: &mut HartPort, scope: Scope, named: u8) -> Answer
+fn flush(port: &mut HartPort, scope: Scope, named: u8) -> Reply
     ensures { IsDue (call.Flush scope named) port.old result port.new }
 {
-    Answer::of_opening(port.flush(scope, named))
+    of_opening(port.flush(scope, named))
 }
 
-fn switch(port: &mut HartPort, space: u8) -> Answer
+fn switch(port: &mut HartPort, space: u8) -> Reply
     ensures { IsDue (call.Switch space) port.old result port.new }
 {
-    Answer::of_call(port.switch(space))
+    of_call(port.switch(space))
 }
 
-fn fence(port: &mut HartPort, rs1: Option<u64>, rs2: Option<u64>) -> Answer
+fn fence(port: &mut HartPort, rs1: Option<u64>, rs2: Option<u64>) -> Reply
     ensures { IsDue (call.Fence rs1 rs2) port.old result port.new }
 {
     port.fence(rs1, rs2);
-    Answer::of_call(Ok(()))
+    of_call(Ok(()))
 }
 
-fn post(port: &mut HartPort, ticket: u32, to: u8) -> Answer
+fn post(port: &mut HartPort, ticket: u32, to: u8) -> Reply
     ensures { IsDue (call.Post ticket to) port.old result port.new }
 {
-    Answer::of_call(port.post(ticket, to))
+    of_call(port.post(ticket, to))
 }
 
-fn serve(port: &mut HartPort, from: u8) -> Answer
+fn serve(port: &mut HartPort, from: u8) -> Reply
     ensures { IsDue (call.Serve from) port.old result port.new }
 {
-    Answer::of_service(port.serve(from))
+    of_service(port.serve(from))
 }
 
-fn ack_self(port: &mut HartPort, ticket: u32) -> Answer
+fn ack_self(port: &mut HartPort, ticket: u32) -> Reply
     ensures { IsDue (call.AckSelf ticket) port.old result port.new }
 {
-    Answer::of_progress(port.ack_self(ticket))
+    of_progress(port.ack_self(ticket))
 }
 
-fn collect(port: &mut HartPort, ticket: u32) -> Answer
+fn collect(port: &mut HartPort, ticket: u32) -> Reply
     ensures { IsDue (call.Collect ticket) port.old result port.new }
 {
-    Answer::of_progress(port.collect(ticket))
+    of_progress(port.collect(ticket))
 }
 
-fn finish(port: &mut HartPort, ticket: u32) -> Answer
+fn finish(port: &mut HartPort, ticket: u32) -> Reply
     ensures { IsDue (call.Finish ticket) port.old result port.new }
 {
-    Answer::of_call(port.finish(ticket))
+    of_call(port.finish(ticket))
 }
 
-fn close_to(port: &mut HartPort, to: u8) -> Answer
+fn close_to(port: &mut HartPort, to: u8) -> Reply
     ensures { IsDue (call.CloseTo to) port.old result port.new }
 {
-    Answer::of_call(port.close_to(to))
+    of_call(port.close_to(to))
 }
 
 /// One call.
-fn answer(port: &mut HartPort, call: &Call) -> Answer
+fn answer(port: &mut HartPort, call: &Call) -> Reply
     ensures { IsDue call.now port.old result port.new }
 {
     match *call {
@@ -134,18 +135,27 @@ fn answer(port: &mut HartPort, call: &Call) -> Answer
     }
 }
 
+/// Calls in order.
+fn answer_all(port: &mut HartPort, calls: &[Call], answers: &mut Vec<Reply>)
+    requires none { answers.old.items ≡ [] }
+    requires room { length calls.now ≤ vec_capacity answers.old }
+    ensures { AreDue calls.now port.old answers.new.items port.new }
+{
+    for call in calls {
+        answers.push_reserved(answer(port, call));
+    }
+}
+
 /// What a port answers to calls in order. If it is the only port of its board, each answer is due
 /// after the calls before it: a board with one hart answers as histories do.
 pub fn port_answers(
     alloc: Global,
     port: &mut HartPort,
     calls: &[Call],
-) -> Result<Vec<Answer>, AllocError>
+) -> Result<Vec<Reply>, AllocError>
     ensures { IfOk result (λ answers. AreDue calls.now port.old answers.items port.new) }
 {
     let mut answers = Vec::with_capacity(alloc, calls.len())?;
-    for call in calls {
-        answers.push_reserved(answer(port, call));
-    }
+    answer_all(port, calls, &mut answers);
     Ok(answers)
 }

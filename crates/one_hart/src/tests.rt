@@ -50,27 +50,27 @@ fn map(page: Page) -> Call {
     }
 }
 
-fn trap(why: Why) -> Answer {
-    Answer::Replied(Reply::Trap(Trap { cause: 13, why }))
+fn trap(why: Why) -> Reply {
+    Reply::Trap(Trap { cause: 13, why })
 }
 
-fn refused(refusal: Refusal) -> Answer {
-    Answer::Replied(Reply::Refused(refusal))
+fn refused(refusal: Refusal) -> Reply {
+    Reply::Refused(refusal)
 }
 
-fn opened(ticket: u32) -> Answer {
-    Answer::Replied(Reply::Opened(ticket))
+fn opened(ticket: u32) -> Reply {
+    Reply::Opened(ticket)
 }
 
-fn rows(page: Page) -> [(Call, Answer); 24] {
+fn rows(page: Page) -> [(Call, Reply); 24] {
     let scope = Scope::Space(1);
     [
         (load(0x1004), trap(Why::Invalid)),
-        (map(page), Answer::Replied(Reply::Table(0x8_0003))),
-        (map(page), Answer::Replied(Reply::Table(0x8_0004))),
-        (map(page), Answer::Replied(Reply::Leaf)),
+        (map(page), Reply::Table(0x8_0003)),
+        (map(page), Reply::Table(0x8_0004)),
+        (map(page), Reply::Leaf),
         (map(page), refused(Refusal::AlreadyMapped)),
-        (load(0x1004), Answer::Address(0x10_0004)),
+        (load(0x1004), Reply::Hit(0x10_0004)),
         (
             Call::Unmap {
                 place: PLACE,
@@ -80,15 +80,15 @@ fn rows(page: Page) -> [(Call, Answer); 24] {
             opened(0),
         ),
         // the TLB answers until the hart serves its own ticket
-        (load(0x1008), Answer::Address(0x10_0008)),
+        (load(0x1008), Reply::Hit(0x10_0008)),
         (
             Call::Collect { ticket: 0 },
-            Answer::Replied(Reply::Waiting(1)),
+            Reply::Waiting(1),
         ),
         (Call::Finish { ticket: 0 }, refused(Refusal::NotDone)),
-        (Call::AckSelf { ticket: 0 }, Answer::Replied(Reply::Done)),
+        (Call::AckSelf { ticket: 0 }, Reply::Done),
         (load(0x1004), trap(Why::Invalid)),
-        (Call::Finish { ticket: 0 }, Answer::Replied(Reply::Ok)),
+        (Call::Finish { ticket: 0 }, Reply::Ok),
         (Call::Collect { ticket: 0 }, refused(Refusal::NotOpen)),
         (Call::Flush { scope, named: 1 }, opened(0)),
         (
@@ -100,13 +100,13 @@ fn rows(page: Page) -> [(Call, Answer); 24] {
         (Call::Serve { from: 1 }, refused(Refusal::NoHart)),
         (Call::CloseTo { to: 0 }, refused(Refusal::NoHart)),
         (Call::Switch { space: 2 }, refused(Refusal::NoSpace)),
-        (Call::Switch { space: 1 }, Answer::Replied(Reply::Ok)),
+        (Call::Switch { space: 1 }, Reply::Ok),
         (
             Call::Fence {
                 rs1: None,
                 rs2: None,
             },
-            Answer::Replied(Reply::Ok),
+            Reply::Ok,
         ),
         (load(1 << 40), trap(Why::NotCanonical)),
     ]
