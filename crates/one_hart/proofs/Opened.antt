@@ -2,6 +2,7 @@
 use Rattle.std.proofs.Common.{◌≡◌, ℕ, zero, suc, ◌+◌, ◌-◌, ◌*◌, ◌<◌, cond, Bool, true, false, List, [], ◌∷◌, length, map, Option, Some, None, replicate, get_or, refl, ap, sym, subst, ◌∙◌, arith}
 use Rattle.std.specs.Prelude.{slice_get, slice_index}
 use Rattle.std.specs.List.{range_with_len}
+use Rattle.std.proofs.lemmas.List.FromFn.{length-range_with_len}
 use Rattle.std.proofs.lemmas.List.{length-map}
 use Rattle.pte.specs.declared.address.TheConstants.{TABLE_LENGTH}
 use Rattle.spaces.specs.declared.places.Place.{Place}
@@ -20,7 +21,7 @@ use Rattle.stepcore.specs.State.{HartState, hart_at, live_space, mailbox_at, spa
 use Rattle.stepcore.specs.Stands.{HartStands, SpaceStands, Stands, mailbox_of, tickets_of}
 use Rattle.views.specs.declared.view.View.{View}
 use Rattle.views.specs.Rule.{memory_of, size, starting}
-use Rattle.board.specs.Ports.{ArePorts, IsNew, PortState, name_of, new_port, next_seat}
+use Rattle.board.specs.Ports.{AreNew, ArePorts, IsNew, PortState, name_of, new_port, next_seat}
 use Rattle.one_hart.specs.Alone.{IsAlone, NewPortIsAlone, machine_of}
 use Rattle.one_hart.proofs.Steps.{space-live}
 
@@ -97,3 +98,10 @@ new_alone setup port within one are new =
     let hart-is : port.hart ≡ 0 = ap (λ xs. get_or xs 0 0) (are.numbered ∙ ap (range_with_len 0) one) in
     subst (λ (D : Setup). IsAlone D [] port) setup-is
     (new-alone port (subst IsSetup (sym setup-is) within) (ap (λ (D : Setup). D.harts) setup-is ∙ one) hart-is new)
+
+-- so has the first port of a board that was just opened with one hart
+pub first_alone : (setup : Setup) (ports : List PortState) (d : PortState) → IsSetup setup → setup.harts ≡ 1 → ArePorts setup (map name_of ports) → AreNew ports
+    → IsAlone setup [] (get_or ports 0 d)
+first_alone setup [] d within one are new = absurd (omega (arith, ap length are.numbered, length-range_with_len 0 setup.harts, one))
+first_alone setup (port ∷ []) d within one are new = new_alone setup port within one are (new 0 port (omega arith))
+first_alone setup (port ∷ other ∷ ports) d within one are new = absurd (omega (arith, ap length are.numbered, length-range_with_len 0 setup.harts, one))

@@ -2,6 +2,7 @@
 
 ghost use Rattle.std.specs.Prelude.{◌≡◌, [], IfOk};
 ghost use Rattle.history.specs.Setup.{setup_of};
+ghost use Rattle.laws.specs.Kept.{IsSetup};
 ghost use Rattle.one_hart.specs.Asked.{answers_due};
 ghost use Rattle.one_hart.specs.Alone.{NewPortIsAlone};
 
@@ -20,6 +21,22 @@ pub fn new_port_is_alone()
     ensures { NewPortIsAlone }
 {}
 
+/// What the port of a board with one hart answers to calls, from its opening on.
+fn board_answers(
+    alloc: Global,
+    config: &Config,
+    calls: &[Call],
+) -> Result<Vec<Reply>, OpenFault>
+    requires one { config.now.harts ≡ 1 }
+    requires setup { IsSetup (setup_of config.now) }
+    ensures { IfOk result (λ answers. answers.items
+        ≡ answers_due (setup_of config.now) [] calls.now) }
+{
+    let (_board, mut ports) = Board::open(alloc, config)?;
+    let answers = port_answers(alloc, &mut ports[0], calls)?;
+    Ok(answers)
+}
+
 /// Opens a board and a machine with a configuration of one hart, and makes the same calls by both:
 /// their answers are the same, and they are due.
 pub fn both_answers(
@@ -31,9 +48,8 @@ pub fn both_answers(
     ensures same { IfOk result (λ r. r.0.items ≡ r.1.items) }
     ensures due { IfOk result (λ r. r.0.items ≡ answers_due (setup_of config.now) [] calls.now) }
 {
-    let (_board, mut ports) = Board::open(alloc, config)?;
     let mut machine = Machine::open(alloc, config)?;
-    let by_port = port_answers(alloc, &mut ports[0], calls)?;
+    let by_board = board_answers(alloc, config, calls)?;
     let by_machine = machine_answers(alloc, &mut machine, calls)?;
-    Ok((by_port, by_machine))
+    Ok((by_board, by_machine))
 }
