@@ -1,7 +1,7 @@
 -- What a port answers to each call is due, by the clauses of the call.
-use Rattle.std.proofs.Common.{◌≡◌, ℕ, ◌<◌, cond, Bool, true, false, not, ◌&&◌, List, [], ◌∷◌, ◌++◌, length, Option, Some, None, refl, ap, sym, subst, ◌∙◌, arith}
-use Rattle.std.specs.Prelude.{Result, Ok, Err, OnErr, IfErr, is_none, if◌then◌else◌}
-use Rattle.std.proofs.lemmas.Bool.{lt-ltb, false_from_ne_true, false≢true}
+use Rattle.std.proofs.Common.{◌≡◌, ℕ, cond, Bool, true, false, not, ◌&&◌, [], ◌∷◌, Option, Some, None, refl, ap, sym, subst, ◌∙◌, arith}
+use Rattle.std.specs.Prelude.{Result, Ok, Err, OnErr, is_none, if◌then◌else◌}
+use Rattle.std.proofs.lemmas.Bool.{lt-ltb, false≢true}
 use Rattle.atomic_table.specs.Table.{State as Shared}
 use Rattle.pte.specs.declared.flags.PteFlags.{PteFlags}
 use Rattle.pte.specs.declared.permission.Access.{Access}
@@ -12,7 +12,6 @@ use Rattle.walk.specs.declared.found_or_trap.Trap.{Trap}
 use Rattle.walk.specs.declared.found_or_trap.Why.TheVariants.{NotCanonical}
 use Rattle.walk.specs.Answer.{page_trap}
 use Rattle.spaces.specs.declared.places.Place.{Place}
-use Rattle.spaces.specs.declared.wishes.Wish.{Wish}
 use Rattle.spaces.specs.declared.wishes.Wish.TheVariants as wish
 use Rattle.tlb.specs.declared.store.Entry.{Entry}
 use Rattle.tlb.specs.Answer.{answer_of}
@@ -28,12 +27,11 @@ use Rattle.history.specs.declared.event.Event.{Event}
 use Rattle.history.specs.declared.event.Event.TheVariants as event
 use Rattle.history.specs.declared.event.Scope.{Scope}
 use Rattle.history.specs.declared.refusal.Refusal.{Refusal}
-use Rattle.history.specs.declared.refusal.Refusal.TheVariants.{Full, NoHart, NotOpen}
+use Rattle.history.specs.declared.refusal.Refusal.TheVariants.{NoHart, NotOpen}
 use Rattle.history.specs.declared.reply.Reply.{Reply}
 use Rattle.history.specs.declared.reply.Reply.TheVariants as reply
 use Rattle.laws.proofs.Tools.{by_test}
 use Rattle.stepcore.specs.Answers.{progress_reply}
-use Rattle.stepcore.specs.Changes.{event_of, is_change}
 use Rattle.stepcore.specs.Stands.{tickets_of}
 use Rattle.views.specs.declared.view.View.{View}
 use Rattle.views.specs.OrderTurns.{with_armed}
@@ -47,7 +45,7 @@ use Rattle.board.specs.Collects.{IsCollected}
 use Rattle.board.specs.Tables.{IsMissed, after_edit, after_fence, after_map, after_switch, edit_answer, map_answer, own_asid, switch_answer}
 use Rattle.one_hart.specs.declared.call.Call.TheVariants as call
 use Rattle.one_hart.specs.Answering.{call_told, heard, map_told, translation_told, opening_told, progress_told, service_told}
-use Rattle.one_hart.specs.Asked.{Turned, loaded, progress_due, turned}
+use Rattle.one_hart.specs.Asked.{Turned, loaded, turned}
 use Rattle.one_hart.specs.Alone.{IsAlone, IsDue}
 use Rattle.one_hart.proofs.Steps.{Steps, tied, told-due}
 use Rattle.one_hart.proofs.Calls.{ack-steps, close-steps, fence-steps, finish-steps, flush-steps, nothing-looked, own-pair, post-steps, serve-steps, switch-steps}
@@ -172,7 +170,7 @@ collect_due p after ticket r answer closed opened looks same C H is =
     let here : p.tickets ≡ tickets_of C H 0 = is.stands.tickets 0 (omega (arith, is.one)) in (
       same ∙ collect-told (is_hart C 0) (is_open p.tickets ticket) (progress_at p.tickets ticket) r (lt-ltb 0 C.harts (omega (arith, is.one))) (λ f. (closed f).0)
           (λ t. opened t ∙ ap (λ (q : PortState). Ok (progress_at q.tickets ticket)) stays)
-      ∙ ap (λ (t : TicketTable). heard (first_of (when (not (is_hart C 0)) NoHart ∷ when (not (is_open t ticket)) NotOpen ∷ []) (progress_reply (progress_at t ticket)))) here,
+          ∙ ap (λ (t : TicketTable). heard (first_of (when (not (is_hart C 0)) NoHart ∷ when (not (is_open t ticket)) NotOpen ∷ []) (progress_reply (progress_at t ticket)))) here,
       subst (IsAlone C H) (sym stays) is,
     )
 

@@ -1,10 +1,9 @@
 -- The calls of a port that edit tables, as events of the machine that it is like.
-use Rattle.std.proofs.Common.{◌≡◌, ℕ, ◌^◌, ◌<◌, cond, Bool, true, false, not, ◌&&◌, List, [], ◌∷◌, length, Option, Some, None, refl, ap, sym, subst, ◌∙◌, arith}
-use Rattle.std.specs.Prelude.{Result, Ok, Err, slice_index}
+use Rattle.std.proofs.Common.{◌≡◌, ℕ, cond, Bool, true, false, not, [], ◌∷◌, length, Some, None, refl, ap, sym, subst, ◌∙◌, arith}
+use Rattle.std.specs.Prelude.{Result, Ok, Err}
 use Rattle.std.proofs.lemmas.Bool.{ltb-true}
 use Rattle.atomic_table.specs.Table.{State as Shared}
 use Rattle.pte.specs.Address.{IsPage, Span}
-use Rattle.pte.specs.declared.address.What.{What}
 use Rattle.pte.specs.declared.address.What.TheVariants.{PageOf}
 use Rattle.pte.specs.declared.entry.Kind.{Kind}
 use Rattle.pte.specs.declared.entry.Kind.TheVariants as kinds
@@ -25,9 +24,7 @@ use Rattle.shoot.specs.Tickets.{after_open, open_answer}
 use Rattle.history.specs.Setup.{Setup}
 use Rattle.history.specs.Spaces.{asid_in}
 use Rattle.history.specs.Turns.{History}
-use Rattle.history.specs.Due.{are_harts, edit_reply, first_of, is_number, map_reply, stored_reply, when}
-use Rattle.history.specs.Refusal.{refusal_of}
-use Rattle.history.specs.declared.event.Event.{Event}
+use Rattle.history.specs.Due.{are_harts, edit_reply, first_of, map_reply, stored_reply, when}
 use Rattle.history.specs.declared.event.Event.TheVariants as event
 use Rattle.history.specs.declared.refusal.Refusal.{Refusal}
 use Rattle.history.specs.declared.refusal.Refusal.TheVariants.{NoHart, NoSpace, Retiring}
@@ -36,7 +33,7 @@ use Rattle.history.specs.declared.reply.Reply.TheVariants as reply
 use Rattle.laws.specs.Kept.{HasPage}
 use Rattle.stepcore.specs.State.{State}
 use Rattle.stepcore.specs.declared.space_state.SpaceState.{SpaceState}
-use Rattle.stepcore.specs.Answers.{asid_of_place, change_answer, edit_in, is_place, open_in, opening_answer, reply_to, retires}
+use Rattle.stepcore.specs.Answers.{asid_of_place, change_answer, edit_in, is_place, opening_answer, reply_to, retires}
 use Rattle.stepcore.specs.Changes.{Follows, event_of, is_accepted, is_change}
 use Rattle.stepcore.proofs.Edits.{IsStored, change_follows, map_follows}
 use Rattle.views.specs.declared.view.View.{View}

@@ -1,27 +1,23 @@
 -- The only port of a board that was just opened has what the empty history leaves.
-use Rattle.std.proofs.Common.{◌≡◌, ℕ, zero, suc, ◌+◌, ◌-◌, ◌*◌, ◌<◌, cond, Bool, true, false, List, [], ◌∷◌, length, map, Option, Some, None, replicate, get_or, refl, ap, sym, subst, ◌∙◌, arith}
-use Rattle.std.specs.Prelude.{slice_get, slice_index}
+use Rattle.std.proofs.Common.{◌≡◌, ℕ, zero, suc, ◌-◌, ◌*◌, ◌<◌, cond, List, [], ◌∷◌, length, map, Option, None, replicate, get_or, refl, ap, sym, subst, ◌∙◌, arith}
+use Rattle.std.specs.Prelude.{slice_get}
 use Rattle.std.specs.List.{range_with_len}
 use Rattle.std.proofs.lemmas.List.FromFn.{length-range_with_len}
 use Rattle.std.proofs.lemmas.List.{length-map}
 use Rattle.pte.specs.declared.address.TheConstants.{TABLE_LENGTH}
 use Rattle.spaces.specs.declared.places.Place.{Place}
 use Rattle.spaces.specs.Held.{Held, held_at, holders_of, memory_words}
-use Rattle.spaces.specs.Holders.{Holders}
 use Rattle.spaces.specs.Layout.{Layout, frame_count, is_frame, layout_of}
 use Rattle.spaces.specs.Opening.{first_words, opening}
 use Rattle.spaces.proofs.Opened.{words-open}
-use Rattle.tlb.specs.Entries.{TlbState}
-use Rattle.shoot.specs.Tickets.{TicketTable, no_tickets}
-use Rattle.history.specs.Setup.{Setup, setup_of}
+use Rattle.shoot.specs.Tickets.{no_tickets}
+use Rattle.history.specs.Setup.{Setup}
 use Rattle.laws.specs.Kept.{IsSetup}
 use Rattle.laws.proofs.Tools.{by_test}
-use Rattle.stepcore.specs.declared.space_state.SpaceState.{SpaceState}
-use Rattle.stepcore.specs.State.{HartState, hart_at, live_space, mailbox_at, space_at, tickets_at}
-use Rattle.stepcore.specs.Stands.{HartStands, SpaceStands, Stands, mailbox_of, tickets_of}
-use Rattle.views.specs.declared.view.View.{View}
-use Rattle.views.specs.Rule.{memory_of, size, starting}
-use Rattle.board.specs.Ports.{AreNew, ArePorts, IsNew, PortState, name_of, new_port, next_seat}
+use Rattle.stepcore.specs.State.{hart_at, live_space, mailbox_at, space_at, tickets_at}
+use Rattle.stepcore.specs.Stands.{HartStands, SpaceStands, mailbox_of, tickets_of}
+use Rattle.views.specs.Rule.{memory_of, starting}
+use Rattle.board.specs.Ports.{AreNew, ArePorts, IsNew, PortState, name_of, next_seat}
 use Rattle.one_hart.specs.Alone.{IsAlone, NewPortIsAlone, machine_of}
 use Rattle.one_hart.proofs.Steps.{space-live}
 

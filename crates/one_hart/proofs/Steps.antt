@@ -1,8 +1,8 @@
 -- One event of the machine that a port is like: it is answered as is due, and the port that has what
 -- the event leaves is alone after the longer history.
-use Rattle.std.proofs.Common.{◌≡◌, ℕ, zero, suc, ◌+◌, ◌<◌, ◌≤◌, Bool, true, false, not, ◌&&◌, List, [], ◌∷◌, length, map, Option, Some, None, slice_get, refl, ap, sym, subst, ◌∙◌, arith, eqb, ltb}
-use Rattle.std.specs.Prelude.{◌==◌, nat_lt, Result, Ok, All, slice_index, unwrap_or}
-use Rattle.std.proofs.lemmas.Bool.{ltb-true, ltb-false, lt-ltb, eq-eqb, false_from_ne_true, false≢true}
+use Rattle.std.proofs.Common.{◌≡◌, ℕ, zero, suc, ◌<◌, false, not, ◌&&◌, List, [], ◌∷◌, length, map, slice_get, refl, ap, sym, subst, ◌∙◌, arith, eqb}
+use Rattle.std.specs.Prelude.{nat_lt, Ok, slice_index, unwrap_or}
+use Rattle.std.proofs.lemmas.Bool.{ltb-true, eq-eqb, false_from_ne_true, false≢true}
 use Rattle.std.proofs.lemmas.List.{length-map}
 use Rattle.std.proofs.lemmas.List.Elements.{All-replicate}
 use Rattle.history.specs.Setup.{Setup}
@@ -15,7 +15,7 @@ use Rattle.laws.specs.Kept.{HasPage}
 use Rattle.laws.proofs.Causes.{space_there}
 use Rattle.laws.proofs.Tools.{and3, by_test}
 use Rattle.stepcore.specs.declared.space_state.SpaceState.{SpaceState}
-use Rattle.stepcore.specs.State.{State, HartState, IsMachine, live_space, no_space}
+use Rattle.stepcore.specs.State.{HartState, IsMachine, live_space, no_space}
 use Rattle.stepcore.specs.Answers.{is_free_phase, is_retiring, reply_to}
 use Rattle.stepcore.specs.Changes.{Follows, is_accepted}
 use Rattle.stepcore.specs.Stands.{Stands}

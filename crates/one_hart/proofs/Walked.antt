@@ -1,11 +1,11 @@
 -- A translation by a port, as the access and the loads of the machine that it is like.
-use Rattle.std.proofs.Common.{◌≡◌, ℕ, zero, suc, ◌+◌, ◌-◌, ◌*◌, ◌<◌, ◌≤◌, cond, Bool, true, false, not, ◌&&◌, List, [], ◌∷◌, length, map, Option, Some, None, refl, ap, sym, subst, ◌∙◌, ◌⊎◌, inl, inr, arith}
-use Rattle.std.specs.Prelude.{Result, Ok, Err, nat_lt, slice_get, slice_index, sum}
+use Rattle.std.proofs.Common.{◌≡◌, ℕ, zero, suc, ◌+◌, ◌-◌, ◌<◌, ◌≤◌, cond, Bool, true, false, List, [], ◌∷◌, length, map, Option, Some, None, refl, ap, sym, subst, ◌∙◌, inl, inr, arith}
+use Rattle.std.specs.Prelude.{Result, Ok, Err, slice_index, sum}
 use Rattle.std.proofs.Math.Path.{fun_ext}
 use mathlib.Core.Option.{some}
 use lib.ListN.{get_elem?}
 use Rattle.atomic_table.specs.Table.{State as Shared}
-use Rattle.std.proofs.lemmas.Bool.{cases_lt, false≢true, false_from_ne_true}
+use Rattle.std.proofs.lemmas.Bool.{cases_lt}
 use Rattle.std.proofs.lemmas.Bool.Decides.{nat_tests}
 use Rattle.std.proofs.lemmas.List.{length-map}
 use Rattle.std.proofs.lemmas.List.Elements.{All-replicate}
@@ -14,7 +14,6 @@ use Rattle.pte.specs.declared.scheme.Scheme.TheVariants.{Sv39, Sv48}
 use Rattle.pte.specs.declared.permission.Access.{Access}
 use Rattle.pte.specs.declared.permission.Ctx.{Ctx}
 use Rattle.pte.specs.Address.{IsCanonical, is_canonical, level_count, top_level, widest}
-use Rattle.pte.proofs.Tests.{is_canonical-IsCanonical}
 use Rattle.walk.specs.declared.found_or_trap.Found.{Found}
 use Rattle.walk.specs.declared.found_or_trap.Trap.{Trap}
 use Rattle.walk.specs.declared.found_or_trap.Why.TheVariants.{NotCanonical}
@@ -23,37 +22,34 @@ use Rattle.walk.specs.declared.walking.Progress.TheVariants as progress
 use Rattle.walk.specs.Answer.{page_trap}
 use Rattle.walk.specs.Leads.{Tables}
 use Rattle.walk.specs.Loads.{GoesOn, answer_after, finish}
-use Rattle.walk.specs.Outcome.{Outcome}
 use Rattle.walk.specs.Stage.{OnPath, Stage, start_of}
 use Rattle.walk.proofs.Ending.{goes-on, on_path-start}
 use Rattle.walk.proofs.Unique.{outcome_computed}
 use Rattle.spaces.specs.Held.{Held, IsLayout, memory_words}
-use Rattle.spaces.specs.Layout.{Layout, frame_count, is_frame, layout_of, root_ppn, spare_ppn}
+use Rattle.spaces.specs.Layout.{Layout, frame_count, is_frame, layout_of}
 use Rattle.spaces.specs.Tree.{IsAtHome, of_root, of_spare, of_window}
 use Rattle.spaces.specs.declared.configuration.Config.{Config}
 use Rattle.spaces.specs.declared.places.Place.{Place}
-use Rattle.tlb.specs.declared.store.Entry.{Entry}
-use Rattle.tlb.specs.Answer.{address_found, answer_of, entry_of}
-use Rattle.tlb.specs.Entries.{TlbState, first_match}
+use Rattle.tlb.specs.Answer.{address_found}
+use Rattle.tlb.specs.Entries.{first_match}
 use Rattle.history.specs.Setup.{Setup, setup_of}
 use Rattle.history.specs.Turns.{History, is_more, with_turn}
-use Rattle.history.specs.Due.{access_reply, due, match_reply}
+use Rattle.history.specs.Due.{due, match_reply}
 use Rattle.history.specs.declared.event.Event.TheVariants as event
 use Rattle.history.specs.declared.reply.Reply.{Reply}
 use Rattle.history.specs.declared.reply.Reply.TheVariants as reply
 use Rattle.laws.proofs.Tools.{by_test}
-use Rattle.stepcore.specs.State.{State, HartState, IsMachine, hart_at, live_space, space_at, words_in}
+use Rattle.stepcore.specs.State.{State, HartState, IsMachine, hart_at, live_space, space_at}
 use Rattle.stepcore.specs.declared.space_state.SpaceState.{SpaceState}
 use Rattle.stepcore.specs.Answers.{asid_of_hart, next_of, progress_answer, reply_to}
-use Rattle.stepcore.specs.Changes.{Follows, put_hart, with_progress}
+use Rattle.stepcore.specs.Changes.{put_hart, with_progress}
 use Rattle.stepcore.specs.Stands.{Stands}
 use Rattle.stepcore.proofs.Standing.{answers_due, stands_after}
-use Rattle.views.specs.declared.view.Read.{Read}
 use Rattle.views.specs.declared.view.View.{View}
 use Rattle.views.specs.Board.{Board}
 use Rattle.views.specs.Rule.{Has, memory_of, tables_in}
 use Rattle.views.specs.OnBoard.{HasReads}
-use Rattle.views.specs.Walks.{AnswersByLoads, Loads, first, further}
+use Rattle.views.specs.Walks.{Loads, first, further}
 use Rattle.board.specs.Ports.{PortState}
 use Rattle.board.specs.Promises.{HasView}
 use Rattle.board.specs.Tables.{IsMissed, own_asid, own_root, tlb_filled}
@@ -267,7 +263,6 @@ module _ (C : Setup) (H : History) (p : PortState) (is : IsAlone C H p) where
   last-reads : (v w : View) (root : ℕ) → Loads v root w → HasReads w
   last-reads v w root (first stage word u is has) = has
   last-reads v w root (further u stage word x loads more is has) = has
-
 
   -- the access begins
   begin-told : (va : ℕ) (access : Access) (ctx : Ctx) → reply_to (machine_of p) (event.Begin 0 va access ctx)

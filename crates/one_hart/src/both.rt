@@ -22,11 +22,7 @@ pub fn new_port_is_alone()
 {}
 
 /// What the port of a board with one hart answers to calls, from its opening on.
-fn board_answers(
-    alloc: Global,
-    config: &Config,
-    calls: &[Call],
-) -> Result<Vec<Reply>, OpenFault>
+fn board_answers(alloc: Global, config: &Config, calls: &[Call]) -> Result<Vec<Reply>, OpenFault>
     requires one { config.now.harts ≡ 1 }
     requires setup { IsSetup (setup_of config.now) }
     ensures { IfOk result (λ answers. answers.items

@@ -35,13 +35,7 @@ fn unmap(port: &mut HartPort, place: Place, page: Page, named: u8) -> Reply
     of_opening(port.unmap(place, page, named))
 }
 
-fn protect(
-    port: &mut HartPort,
-    place: Place,
-    page: Page,
-    flags: PteFlags,
-    named: u8,
-) -> Reply
+fn protect(port: &mut HartPort, place: Place, page: Page, flags: PteFlags, named: u8) -> Reply
     ensures { IsDue (call.Protect place page flags named) port.old result port.new }
 {
     port.held();

@@ -81,10 +81,7 @@ fn rows(page: Page) -> [(Call, Reply); 24] {
         ),
         // the TLB answers until the hart serves its own ticket
         (load(0x1008), Reply::Hit(0x10_0008)),
-        (
-            Call::Collect { ticket: 0 },
-            Reply::Waiting(1),
-        ),
+        (Call::Collect { ticket: 0 }, Reply::Waiting(1)),
         (Call::Finish { ticket: 0 }, refused(Refusal::NotDone)),
         (Call::AckSelf { ticket: 0 }, Reply::Done),
         (load(0x1004), trap(Why::Invalid)),

@@ -1,6 +1,5 @@
-use Rattle.std.proofs.Common.{◌≡◌, [], sym, subst, ◌∙◌}
+use Rattle.std.proofs.Common.{[], sym, subst}
 use Rattle.history.specs.Setup.{setup_of}
-use Rattle.board.specs.Ports.{PortState}
 use Rattle.one_hart.specs.Alone.{IsAlone}
 use Rattle.one_hart.proofs.Opened.{first_alone}
 use Rattle.one_hart.proofs.both.board_answers.Goals as goal

@@ -1,4 +1,4 @@
-use Rattle.std.proofs.Common.{◌≡◌, ap, subst, ◌∙◌}
+use Rattle.std.proofs.Common.{ap, subst, ◌∙◌}
 use Rattle.history.specs.Turns.{with_turn}
 use Rattle.history.specs.declared.reply.Reply.{Reply}
 use Rattle.stepcore.specs.Stands.{Stands}

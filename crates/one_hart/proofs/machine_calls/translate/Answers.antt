@@ -1,6 +1,6 @@
-use Rattle.std.proofs.Common.{◌≡◌, ℕ, ◌+◌, ◌-◌, ap, sym, subst, ◌∙◌, arith}
+use Rattle.std.proofs.Common.{◌+◌, ◌-◌, ap, sym, subst, ◌∙◌, arith}
 use Rattle.pte.specs.Address.{level_count, widest}
-use Rattle.history.specs.Turns.{History, with_turn}
+use Rattle.history.specs.Turns.{with_turn}
 use Rattle.history.specs.declared.event.Event.TheVariants as event
 use Rattle.history.specs.declared.reply.Reply.{Reply}
 use Rattle.stepcore.specs.Stands.{Stands}
@@ -27,8 +27,8 @@ loop-made-preserved c = λ C H st.
       after.history,
       made.1,
       ap (λ (r : Reply). let next : Turned = record { reply = r; history = after.history } in loaded (level_count widest - (i + 1)) C next) made.0
-      ∙ sym (loaded-next C (level_count widest - i) (level_count widest - (i + 1)) last (omega (arith, c.loop-made-test.true)))
-      ∙ before.2,
+          ∙ sym (loaded-next C (level_count widest - i) (level_count widest - (i + 1)) last (omega (arith, c.loop-made-test.true)))
+          ∙ before.2,
     )
 
 pub returns : goal.returns
