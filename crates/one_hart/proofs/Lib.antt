@@ -5,3 +5,4 @@ pub mod Walked
 pub mod Dues
 pub mod Lists
 pub mod Opened
+pub mod CallRuns

@@ -1,3 +1,4 @@
 pub mod Answering
 pub mod Asked
 pub mod Alone
+pub mod Runs

@@ -5,6 +5,7 @@ ghost use Rattle.history.specs.Setup.{setup_of};
 ghost use Rattle.laws.specs.Kept.{IsSetup};
 ghost use Rattle.one_hart.specs.Asked.{answers_due};
 ghost use Rattle.one_hart.specs.Alone.{NewPortIsAlone};
+ghost use Rattle.one_hart.specs.Runs.{EachCallIsARun};
 
 use crate::call::Call;
 use crate::machine_calls::machine_answers;
@@ -19,6 +20,13 @@ use stepcore::Machine;
 /// leaves.
 pub fn new_port_is_alone()
     ensures { NewPortIsAlone }
+{}
+
+/// What a call is answered is the last of the replies that are due to some events, as `Machine::run`
+/// gives them, and the history goes on by these events; but for a look for acknowledgements, which
+/// is no event.
+pub fn each_call_is_a_run()
+    ensures { EachCallIsARun }
 {}
 
 /// What the port of a board with one hart answers to calls, from its opening on.

@@ -8,7 +8,7 @@ mod call;
 mod machine_calls;
 mod port_calls;
 
-pub use both::{both_answers, new_port_is_alone};
+pub use both::{both_answers, each_call_is_a_run, new_port_is_alone};
 pub use call::Call;
 pub use machine_calls::machine_answers;
 pub use port_calls::port_answers;
