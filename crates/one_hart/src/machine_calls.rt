@@ -12,8 +12,9 @@ ghost use Rattle.one_hart.specs.Alone.{AreReplied, IsReplied};
 
 use crate::answering::{heard, of_progress};
 use crate::call::Call;
-use history::{Event, Refusal, Reply};
-use pte::{Access, Ctx, SV48_LEVELS};
+use history::{Event, Refusal, Reply, Scope};
+use pte::{Access, Ctx, Page, PteFlags, SV48_LEVELS};
+use spaces::Place;
 use std::alloc::{AllocError, Global};
 use stepcore::Machine;
 
@@ -78,6 +79,66 @@ fn collect(machine: &Machine, ticket: u32) -> Reply
     of_progress(Ok(tickets.progress(ticket)))
 }
 
+fn map(machine: &mut Machine, place: Place, page: Page, ppn: u64, flags: PteFlags) -> Reply
+    ensures { IsReplied (call.Map place page ppn flags) machine.old result machine.new }
+{
+    let event = Event::Map {
+        hart: 0,
+        place,
+        page,
+        ppn,
+        flags,
+    };
+    one_event(machine, event)
+}
+
+fn unmap(machine: &mut Machine, place: Place, page: Page, named: u8) -> Reply
+    ensures { IsReplied (call.Unmap place page named) machine.old result machine.new }
+{
+    let event = Event::Unmap {
+        hart: 0,
+        place,
+        page,
+        named,
+    };
+    one_event(machine, event)
+}
+
+fn protect(machine: &mut Machine, place: Place, page: Page, flags: PteFlags, named: u8) -> Reply
+    ensures { IsReplied (call.Protect place page flags named) machine.old result machine.new }
+{
+    let event = Event::Protect {
+        hart: 0,
+        place,
+        page,
+        flags,
+        named,
+    };
+    one_event(machine, event)
+}
+
+fn flush(machine: &mut Machine, scope: Scope, named: u8) -> Reply
+    ensures { IsReplied (call.Flush scope named) machine.old result machine.new }
+{
+    let event = Event::Flush {
+        hart: 0,
+        scope,
+        named,
+    };
+    one_event(machine, event)
+}
+
+fn post(machine: &mut Machine, ticket: u32, to: u8) -> Reply
+    ensures { IsReplied (call.Post ticket to) machine.old result machine.new }
+{
+    let event = Event::Post {
+        hart: 0,
+        ticket,
+        to,
+    };
+    one_event(machine, event)
+}
+
 /// One call.
 fn answer(machine: &mut Machine, call: &Call) -> Reply
     ensures { IsReplied call.now machine.old result machine.new }
@@ -89,58 +150,18 @@ fn answer(machine: &mut Machine, call: &Call) -> Reply
             page,
             ppn,
             flags,
-        } => one_event(
-            machine,
-            Event::Map {
-                hart: 0,
-                place,
-                page,
-                ppn,
-                flags,
-            },
-        ),
-        Call::Unmap { place, page, named } => one_event(
-            machine,
-            Event::Unmap {
-                hart: 0,
-                place,
-                page,
-                named,
-            },
-        ),
+        } => map(machine, place, page, ppn, flags),
+        Call::Unmap { place, page, named } => unmap(machine, place, page, named),
         Call::Protect {
             place,
             page,
             flags,
             named,
-        } => one_event(
-            machine,
-            Event::Protect {
-                hart: 0,
-                place,
-                page,
-                flags,
-                named,
-            },
-        ),
-        Call::Flush { scope, named } => one_event(
-            machine,
-            Event::Flush {
-                hart: 0,
-                scope,
-                named,
-            },
-        ),
+        } => protect(machine, place, page, flags, named),
+        Call::Flush { scope, named } => flush(machine, scope, named),
         Call::Switch { space } => one_event(machine, Event::Switch { hart: 0, space }),
         Call::Fence { rs1, rs2 } => one_event(machine, Event::Fence { hart: 0, rs1, rs2 }),
-        Call::Post { ticket, to } => one_event(
-            machine,
-            Event::Post {
-                hart: 0,
-                ticket,
-                to,
-            },
-        ),
+        Call::Post { ticket, to } => post(machine, ticket, to),
         Call::Serve { from } => one_event(machine, Event::Take { hart: 0, from }),
         Call::AckSelf { ticket } => one_event(machine, Event::AckSelf { hart: 0, ticket }),
         Call::Collect { ticket } => collect(machine, ticket),
