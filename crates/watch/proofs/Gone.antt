@@ -1,0 +1,131 @@
+-- What is stale, and what a record makes stale.
+use Rattle.std.proofs.Common.{◌≡◌, ℕ, Bool, true, false, Option, Some, None, [], ◌∷◌, ◌++◌, IsTrue, sym, ◌∙◌, subst, refl, inl, inr, arith}
+use Rattle.std.specs.Prelude.{◌||◌, not}
+use Rattle.std.specs.List.{AllPass, list_all}
+use Rattle.std.proofs.lemmas.Bool.{eq-eqb, and_parts, not-true}
+use Rattle.std.proofs.lemmas.List.Sums.{list_all-from_AllPass}
+use Rattle.pte.specs.declared.scheme.Scheme.{Scheme}
+use Rattle.pte.specs.declared.flags.PteFlags.{PteFlags}
+use Rattle.walk.specs.Leads.{Tables}
+use Rattle.tlb.specs.declared.store.Entry.{Entry}
+use Rattle.watch.specs.declared.trace.Record.{Record}
+use Rattle.watch.specs.declared.trace.Record.TheVariants.{Store, Satp, Fence, RemoteBegin, RemoteEnd, GiveOut, GiveBack, ClaimBegin, ClaimEnd, Use}
+use Rattle.watch.specs.declared.trace.RemoteFence.{RemoteFence}
+use Rattle.watch.specs.declared.trace.Space.{Space}
+use Rattle.watch.specs.Trace.{Trace, stores, words_of, fence_of, satp_of, satp_after, writes_satp, has_written_satp}
+use Rattle.watch.specs.Holding.{Translation, HasLeaf, LiveSince, MayHold, names}
+use Rattle.watch.specs.Staleness.{Permit, IsMapped, Stale, Exposed, HasFencedAll}
+use Rattle.watch.proofs.Held.{words-kept}
+
+-- what the tables have is mapped
+pub Permit-same : (flags : PteFlags) → Permit flags flags
+Permit-same flags = record { user = refl; read = λ h. h; write = λ h. h; execute = λ h. h }
+
+pub leaf-mapped : (scheme : Scheme) (words : Tables) (x : Translation) → HasLeaf scheme words x.root x.entry → IsMapped scheme words x
+leaf-mapped scheme words x leaf = record { flags = x.entry.flags; permit = Permit-same x.entry.flags; leaf = leaf }
+
+-- what is stale was held before
+pub stale-held : (scheme : Scheme) (newest : Record) (trace : Trace) (hart : ℕ) (x : Translation) → Stale scheme (newest ∷ trace) hart x → MayHold scheme trace hart x
+stale-held scheme newest trace hart x stale =
+    elim stale.held [
+      | inl live ↦ absurd (stale.gone (leaf-mapped scheme (words_of (newest ∷ trace)) x live.leaf))
+      | inr h ↦ h.0
+    ]
+
+-- and, if no word is stored, stale
+pub stale-before : (scheme : Scheme) (newest : Record) (trace : Trace) (hart : ℕ) (x : Translation) → stores newest ≡ false → Stale scheme (newest ∷ trace) hart x → Stale scheme trace hart x
+stale-before scheme newest trace hart x none stale = record {
+  held = stale-held scheme newest trace hart x stale;
+  gone = λ m. stale.gone (subst (λ w. IsMapped scheme w x) (sym (words-kept newest (words_of trace) none)) m);
+}
+
+-- of a page that has no leaf now what may be held is stale
+pub unmapped-stale : (scheme : Scheme) (trace : Trace) (hart : ℕ) (x : Translation) → MayHold scheme trace hart x → ((e : Entry) → e.page ≡ x.entry.page → ¬ HasLeaf scheme (words_of trace) x.root e) → Stale scheme trace hart x
+unmapped-stale scheme trace hart x held none = record { held = held; gone = λ m. none (record x.entry { flags = m.flags }) refl m.leaf }
+
+-- where no word is stored, the memory stays
+pub memory-kept : (later earlier : Trace) → list_all (λ (r : Record). not (stores r)) later ≡ true → words_of (later ++ earlier) ≡ words_of earlier
+memory-kept [] earlier kept = refl
+memory-kept (newest ∷ later) earlier kept =
+    let parts = and_parts (not (stores newest)) (list_all (λ (r : Record). not (stores r)) later) kept in
+    words-kept newest (words_of (later ++ earlier)) (not-true (stores newest) parts.0) ∙ memory-kept later earlier parts.1
+
+-- after a fence of all and no store, what may be held is mapped
+all-mapped : (scheme : Scheme) (hart : ℕ) (earlier later : Trace) (x : Translation) → list_all (λ (r : Record). not (stores r)) later ≡ true → MayHold scheme (later ++ Fence hart None None ∷ earlier) hart x
+    → HasLeaf scheme (words_of (later ++ Fence hart None None ∷ earlier)) x.root x.entry
+all-mapped scheme hart earlier [] x kept (inl live) = live.leaf
+all-mapped scheme hart earlier [] x kept (inr h) = absurd (h.1 (refl, refl))
+all-mapped scheme hart earlier (newest ∷ later) x kept (inl live) = live.leaf
+all-mapped scheme hart earlier (newest ∷ later) x kept (inr h) =
+    let parts = and_parts (not (stores newest)) (list_all (λ (r : Record). not (stores r)) later) kept in
+    subst (λ w. HasLeaf scheme w x.root x.entry) (sym (words-kept newest (words_of (later ++ Fence hart None None ∷ earlier)) (not-true (stores newest) parts.0)))
+    (all-mapped scheme hart earlier later x parts.1 h.0)
+
+pub nothing_stale : (scheme : Scheme) (trace : Trace) (hart : ℕ) (x : Translation) → HasFencedAll trace hart → ¬ Stale scheme trace hart x
+nothing_stale scheme trace hart x fenced stale =
+    let there : MayHold scheme (fenced.later ++ Fence hart None None ∷ fenced.earlier) hart x = subst (λ t. MayHold scheme t hart x) fenced.split stale.held in
+    let leaf = all-mapped scheme hart fenced.earlier fenced.later x (list_all-from_AllPass (λ (r : Record). not (stores r)) fenced.later fenced.kept) there in
+    stale.gone (leaf-mapped scheme (words_of trace) x (subst (λ t. HasLeaf scheme (words_of t) x.root x.entry) (sym fenced.split) leaf))
+
+-- a hart that has not written satp holds nothing
+kept-none : (newest : Record) (hart : ℕ) (old : Option Space) → writes_satp hart newest ≡ false → old ≡ None → satp_after hart newest old ≡ None
+kept-none (Satp of space) hart old none is = grind arith
+kept-none (Store of address word) hart old none is = is
+kept-none (GiveOut of frames) hart old none is = is
+kept-none (Fence of rs1 rs2) hart old none is = is
+kept-none (RemoteBegin of token fence) hart old none is = is
+kept-none (RemoteEnd of token) hart old none is = is
+kept-none (GiveBack of frames) hart old none is = is
+kept-none (ClaimBegin of token claim) hart old none is = is
+kept-none (ClaimEnd of token) hart old none is = is
+kept-none (Use of address) hart old none is = is
+
+or_false : (a b : Bool) → (a || b) ≡ false → (a ≡ false) × (b ≡ false)
+or_false true b e = cc
+or_false false b e = (refl, e)
+
+no_satp : (trace : Trace) (hart : ℕ) → has_written_satp trace hart ≡ false → satp_of trace hart ≡ None
+no_satp [] hart none = refl
+no_satp (newest ∷ trace) hart none =
+    let parts = or_false (writes_satp hart newest) (has_written_satp trace hart) none in
+    kept-none newest hart (satp_of trace hart) parts.0 (no_satp trace hart parts.1)
+
+pub nothing_held : (scheme : Scheme) (trace : Trace) (hart : ℕ) (x : Translation) → has_written_satp trace hart ≡ false → ¬ MayHold scheme trace hart x
+nothing_held scheme [] hart x none live = let e = live.space in cc
+nothing_held scheme (newest ∷ trace) hart x none (inl live) = let e = live.space in let n = no_satp (newest ∷ trace) hart none in cc
+nothing_held scheme (newest ∷ trace) hart x none (inr h) = nothing_held scheme trace hart x (or_false (writes_satp hart newest) (has_written_satp trace hart) none).1 h.0
+
+each-fenced : (scheme : Scheme) (trace : Trace) (hart : ℕ) (x : Translation) → (written : Bool) → has_written_satp trace hart ≡ written → (written ≡ true → HasFencedAll trace hart) → ¬ Stale scheme trace hart x
+each-fenced scheme trace hart x true is fenced stale = nothing_stale scheme trace hart x (fenced refl) stale
+each-fenced scheme trace hart x false is fenced stale = nothing_held scheme trace hart x is stale.held
+
+pub nothing_exposed : (scheme : Scheme) (trace : Trace) → ((hart : ℕ) → has_written_satp trace hart ≡ true → HasFencedAll trace hart) → (hart frame : ℕ) → ¬ Exposed scheme trace hart frame
+nothing_exposed scheme trace fenced hart frame e = each-fenced scheme trace hart e.translation (has_written_satp trace hart) refl (fenced hart) e.stale
+
+-- a remote fence of all with no store since it began leaves nothing stale either
+since-mapped : (scheme : Scheme) (by token : ℕ) (fence : RemoteFence) (hart : ℕ) (x : Translation) (earlier during : Trace) → list_all (λ (r : Record). not (stores r)) during ≡ true
+    → LiveSince scheme token (during ++ RemoteBegin by token fence ∷ earlier) hart x → HasLeaf scheme (words_of earlier) x.root x.entry
+since-mapped scheme by token fence hart x earlier [] kept (inl live) = live.leaf
+since-mapped scheme by token fence hart x earlier [] kept (inr h) = let e = eq-eqb token token refl in let n = h.0 in cc
+since-mapped scheme by token fence hart x earlier (newest ∷ during) kept (inl live) =
+    subst (λ w. HasLeaf scheme w x.root x.entry) (memory-kept (newest ∷ during) (RemoteBegin by token fence ∷ earlier) kept) live.leaf
+since-mapped scheme by token fence hart x earlier (newest ∷ during) kept (inr h) =
+    since-mapped scheme by token fence hart x earlier during (and_parts (not (stores newest)) (list_all (λ (r : Record). not (stores r)) during) kept).1 h.1
+
+pub remote_nothing_stale : (scheme : Scheme) (by ender token : ℕ) (fence : RemoteFence) (hart : ℕ) (x : Translation) (earlier during : Trace) → fence_of (during ++ RemoteBegin by token fence ∷ earlier) token ≡ Some fence
+    → fence.range ≡ None → fence.asid ≡ None → IsTrue (names fence hart) → AllPass (λ (r : Record). not (stores r)) during → ¬ Stale scheme (RemoteEnd ender token ∷ during ++ RemoteBegin by token fence ∷ earlier) hart x
+remote_nothing_stale scheme by ender token fence hart x earlier during begun everywhere every named kept stale =
+    let flat = list_all-from_AllPass (λ (r : Record). not (stores r)) during kept in
+    elim stale.held [
+      | inl live ↦ stale.gone (leaf-mapped scheme _ x live.leaf)
+      | inr h ↦
+          h.1 (record {
+            fence = fence;
+            begun = begun;
+            named = named;
+            covered = rw (everywhere, every) refl;
+            not_live = λ since.
+                stale.gone (leaf-mapped scheme _ x
+                (subst (λ w. HasLeaf scheme w x.root x.entry) (sym (memory-kept during (RemoteBegin by token fence ∷ earlier) flat)) (since-mapped scheme by token fence hart x earlier during flat since)));
+          })
+    ]

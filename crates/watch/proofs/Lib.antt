@@ -1,0 +1,5 @@
+pub mod Held
+pub mod Leaves
+pub mod Gone
+pub mod Fenced
+pub mod Judged

@@ -1,0 +1,4 @@
+pub mod Trace
+pub mod Holding
+pub mod Staleness
+pub mod Verdicts
