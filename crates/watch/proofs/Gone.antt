@@ -9,7 +9,7 @@ use Rattle.pte.specs.declared.flags.PteFlags.{PteFlags}
 use Rattle.walk.specs.Leads.{Tables}
 use Rattle.tlb.specs.declared.store.Entry.{Entry}
 use Rattle.watch.specs.declared.trace.Record.{Record}
-use Rattle.watch.specs.declared.trace.Record.TheVariants.{Store, Satp, Fence, RemoteBegin, RemoteEnd, GiveOut, GiveBack, ClaimBegin, ClaimEnd, Use}
+use Rattle.watch.specs.declared.trace.Record.TheVariants.{Satp, Fence, RemoteBegin, RemoteEnd}
 use Rattle.watch.specs.declared.trace.RemoteFence.{RemoteFence}
 use Rattle.watch.specs.declared.trace.Space.{Space}
 use Rattle.watch.specs.Trace.{Trace, stores, words_of, fence_of, satp_of, satp_after, writes_satp, has_written_satp}
@@ -70,15 +70,7 @@ nothing_stale scheme trace hart x fenced stale =
 -- a hart that has not written satp holds nothing
 kept-none : (newest : Record) (hart : ℕ) (old : Option Space) → writes_satp hart newest ≡ false → old ≡ None → satp_after hart newest old ≡ None
 kept-none (Satp of space) hart old none is = grind arith
-kept-none (Store of address word) hart old none is = is
-kept-none (GiveOut of frames) hart old none is = is
-kept-none (Fence of rs1 rs2) hart old none is = is
-kept-none (RemoteBegin of token fence) hart old none is = is
-kept-none (RemoteEnd of token) hart old none is = is
-kept-none (GiveBack of frames) hart old none is = is
-kept-none (ClaimBegin of token claim) hart old none is = is
-kept-none (ClaimEnd of token) hart old none is = is
-kept-none (Use of address) hart old none is = is
+kept-none _ hart old none is = is
 
 or_false : (a b : Bool) → (a || b) ≡ false → (a ≡ false) × (b ≡ false)
 or_false true b e = cc

@@ -5,7 +5,7 @@ use Rattle.std.proofs.lemmas.Bool.{eqb-true, eq-eqb}
 use Rattle.pte.specs.declared.scheme.Scheme.{Scheme}
 use Rattle.walk.specs.Leads.{Tables}
 use Rattle.watch.specs.declared.trace.Record.{Record}
-use Rattle.watch.specs.declared.trace.Record.TheVariants.{Store, Satp, Fence, RemoteBegin, RemoteEnd, GiveOut, GiveBack, ClaimBegin, ClaimEnd, Use}
+use Rattle.watch.specs.declared.trace.Record.TheVariants.{Store, Satp, Fence, RemoteEnd, GiveOut}
 use Rattle.watch.specs.declared.trace.Space.{Space}
 use Rattle.watch.specs.declared.trace.RemoteFence.{RemoteFence}
 use Rattle.watch.specs.Trace.{Trace, stores, words_after, words_of, satp_after, satp_of, hart_of, fence_of}
@@ -15,14 +15,7 @@ use Rattle.watch.specs.Holding.{Translation, HasLeaf, Live, Drops, MayHold, Held
 pub words-kept : (newest : Record) (words : Tables) → stores newest ≡ false → words_after newest words ≡ words
 words-kept (Store hart address word) words none = cc
 words-kept (GiveOut hart frames) words none = cc
-words-kept (Satp hart space) words none = refl
-words-kept (Fence hart rs1 rs2) words none = refl
-words-kept (RemoteBegin hart token fence) words none = refl
-words-kept (RemoteEnd hart token) words none = refl
-words-kept (GiveBack hart frames) words none = refl
-words-kept (ClaimBegin hart token claim) words none = refl
-words-kept (ClaimEnd hart token) words none = refl
-words-kept (Use hart address) words none = refl
+words-kept _ words none = refl
 
 -- a record of another hart leaves a hart's satp
 skipped : (of hart : ℕ) (space old : Option Space) → (of ≡ hart → ⊥) → (if of == hart then space else old) ≡ old
@@ -30,15 +23,7 @@ skipped of hart space old other = grind (arith, eqb-true)
 
 pub satp-kept : (newest : Record) (hart : ℕ) (old : Option Space) → (hart_of newest ≡ hart → ⊥) → satp_after hart newest old ≡ old
 satp-kept (Satp of space) hart old other = skipped of hart space old other
-satp-kept (Store of address word) hart old other = refl
-satp-kept (GiveOut of frames) hart old other = refl
-satp-kept (Fence of rs1 rs2) hart old other = refl
-satp-kept (RemoteBegin of token fence) hart old other = refl
-satp-kept (RemoteEnd of token) hart old other = refl
-satp-kept (GiveBack of frames) hart old other = refl
-satp-kept (ClaimBegin of token claim) hart old other = refl
-satp-kept (ClaimEnd of token) hart old other = refl
-satp-kept (Use of address) hart old other = refl
+satp-kept _ hart old other = refl
 
 -- what is live may be held
 pub live-held : (scheme : Scheme) (trace : Trace) (hart : ℕ) (x : Translation) → Live scheme trace hart x → MayHold scheme trace hart x
@@ -64,14 +49,7 @@ named-of found fence hart is named = ap (λ f. is_named f hart) is ∙ named
 pub drops-fence : (scheme : Scheme) (newest : Record) (trace : Trace) (hart : ℕ) (x : Translation) → Drops scheme newest trace hart x → is_fence_for newest trace hart ≡ true
 drops-fence scheme (Fence of rs1 rs2) trace hart x d = eq-eqb of hart d.0
 drops-fence scheme (RemoteEnd of token) trace hart x d = named-of (fence_of trace token) d.fence hart d.begun d.named
-drops-fence scheme (Store of address word) trace hart x d = absurd d
-drops-fence scheme (GiveOut of frames) trace hart x d = absurd d
-drops-fence scheme (Satp of space) trace hart x d = absurd d
-drops-fence scheme (RemoteBegin of token fence) trace hart x d = absurd d
-drops-fence scheme (GiveBack of frames) trace hart x d = absurd d
-drops-fence scheme (ClaimBegin of token claim) trace hart x d = absurd d
-drops-fence scheme (ClaimEnd of token) trace hart x d = absurd d
-drops-fence scheme (Use of address) trace hart x d = absurd d
+drops-fence scheme _ trace hart x d = absurd d
 
 pub no-fence_no-drop : (scheme : Scheme) (newest : Record) (trace : Trace) (hart : ℕ) (x : Translation) → is_fence_for newest trace hart ≡ false → ¬ Drops scheme newest trace hart x
 no-fence_no-drop scheme newest trace hart x none d = let is : is_fence_for newest trace hart ≡ true = drops-fence scheme newest trace hart x d in cc

@@ -4,7 +4,7 @@ use Rattle.std.specs.Prelude.{◌⊎◌, ◌↔◌}
 use Rattle.std.proofs.lemmas.List.{length-append}
 use Rattle.pte.specs.declared.scheme.Scheme.{Scheme}
 use Rattle.watch.specs.declared.trace.Record.{Record}
-use Rattle.watch.specs.declared.trace.Record.TheVariants.{Store, Satp, Fence, RemoteBegin, RemoteEnd, GiveOut, GiveBack, ClaimBegin, ClaimEnd, Use}
+use Rattle.watch.specs.declared.trace.Record.TheVariants.{GiveOut, GiveBack, ClaimEnd, Use}
 use Rattle.watch.specs.declared.trace.Verdict.{Verdict}
 use Rattle.watch.specs.declared.trace.Verdict.TheVariants.{Free, Reuse, Claimed, Used}
 use Rattle.watch.specs.Trace.{Trace}
@@ -51,51 +51,19 @@ gone-stale scheme (newest ∷ trace) hart x g = g.0
 
 free-stale : (scheme : Scheme) (newest : Record) (trace : Trace) (hart : ℕ) (x : Translation) → Holds scheme Free newest trace hart x → Stale scheme trace hart x
 free-stale scheme (GiveBack of frames) trace hart x h = h.stale
-free-stale scheme (Store of address word) trace hart x h = absurd h
-free-stale scheme (Satp of space) trace hart x h = absurd h
-free-stale scheme (Fence of rs1 rs2) trace hart x h = absurd h
-free-stale scheme (RemoteBegin of token fence) trace hart x h = absurd h
-free-stale scheme (RemoteEnd of token) trace hart x h = absurd h
-free-stale scheme (GiveOut of frames) trace hart x h = absurd h
-free-stale scheme (ClaimBegin of token claim) trace hart x h = absurd h
-free-stale scheme (ClaimEnd of token) trace hart x h = absurd h
-free-stale scheme (Use of address) trace hart x h = absurd h
+free-stale scheme _ trace hart x h = absurd h
 
 reuse-stale : (scheme : Scheme) (newest : Record) (trace : Trace) (hart : ℕ) (x : Translation) → Holds scheme Reuse newest trace hart x → Stale scheme trace hart x
 reuse-stale scheme (GiveOut of frames) trace hart x h = h.stale
-reuse-stale scheme (Store of address word) trace hart x h = absurd h
-reuse-stale scheme (Satp of space) trace hart x h = absurd h
-reuse-stale scheme (Fence of rs1 rs2) trace hart x h = absurd h
-reuse-stale scheme (RemoteBegin of token fence) trace hart x h = absurd h
-reuse-stale scheme (RemoteEnd of token) trace hart x h = absurd h
-reuse-stale scheme (GiveBack of frames) trace hart x h = absurd h
-reuse-stale scheme (ClaimBegin of token claim) trace hart x h = absurd h
-reuse-stale scheme (ClaimEnd of token) trace hart x h = absurd h
-reuse-stale scheme (Use of address) trace hart x h = absurd h
+reuse-stale scheme _ trace hart x h = absurd h
 
 claimed-stale : (scheme : Scheme) (newest : Record) (trace : Trace) (hart : ℕ) (x : Translation) → Holds scheme Claimed newest trace hart x → Stale scheme trace hart x
 claimed-stale scheme (ClaimEnd of token) trace hart x h = since-stale scheme token trace hart x h.stale
-claimed-stale scheme (Store of address word) trace hart x h = absurd h
-claimed-stale scheme (Satp of space) trace hart x h = absurd h
-claimed-stale scheme (Fence of rs1 rs2) trace hart x h = absurd h
-claimed-stale scheme (RemoteBegin of token fence) trace hart x h = absurd h
-claimed-stale scheme (RemoteEnd of token) trace hart x h = absurd h
-claimed-stale scheme (GiveOut of frames) trace hart x h = absurd h
-claimed-stale scheme (GiveBack of frames) trace hart x h = absurd h
-claimed-stale scheme (ClaimBegin of token claim) trace hart x h = absurd h
-claimed-stale scheme (Use of address) trace hart x h = absurd h
+claimed-stale scheme _ trace hart x h = absurd h
 
 used-gone : (scheme : Scheme) (newest : Record) (trace : Trace) (hart : ℕ) (x : Translation) → Holds scheme Used newest trace hart x → TakenForGone scheme trace hart x
 used-gone scheme (Use of address) trace hart x h = h.1
-used-gone scheme (Store of address word) trace hart x h = absurd h
-used-gone scheme (Satp of space) trace hart x h = absurd h
-used-gone scheme (Fence of rs1 rs2) trace hart x h = absurd h
-used-gone scheme (RemoteBegin of token fence) trace hart x h = absurd h
-used-gone scheme (RemoteEnd of token) trace hart x h = absurd h
-used-gone scheme (GiveOut of frames) trace hart x h = absurd h
-used-gone scheme (GiveBack of frames) trace hart x h = absurd h
-used-gone scheme (ClaimBegin of token claim) trace hart x h = absurd h
-used-gone scheme (ClaimEnd of token) trace hart x h = absurd h
+used-gone scheme _ trace hart x h = absurd h
 
 pub verdict-stale : (scheme : Scheme) (verdict : Verdict) (newest : Record) (trace : Trace) (hart : ℕ) (x : Translation) → Holds scheme verdict newest trace hart x → Stale scheme trace hart x
 verdict-stale scheme Free newest trace hart x h = free-stale scheme newest trace hart x h
@@ -108,16 +76,9 @@ abbrev pub WasTaken : Scheme → Trace → ℕ → Translation → Type 0
 WasTaken scheme trace hart x = (number : ℕ) × (HoldsAt scheme trace number Free hart x ⊎ HoldsAt scheme trace number Claimed hart x)
 
 taken-now : (scheme : Scheme) (newest : Record) (trace : Trace) (hart : ℕ) (x : Translation) → TakesForGone scheme newest trace hart x → WasTaken scheme (newest ∷ trace) hart x
-taken-now scheme (Store of address word) trace hart x t = absurd t
-taken-now scheme (Satp of space) trace hart x t = absurd t
-taken-now scheme (Fence of rs1 rs2) trace hart x t = absurd t
-taken-now scheme (RemoteBegin of token fence) trace hart x t = absurd t
-taken-now scheme (RemoteEnd of token) trace hart x t = absurd t
-taken-now scheme (GiveOut of frames) trace hart x t = absurd t
 taken-now scheme (GiveBack of frames) trace hart x t = (length trace, inl (inl (refl, t)))
-taken-now scheme (ClaimBegin of token claim) trace hart x t = absurd t
 taken-now scheme (ClaimEnd of token) trace hart x t = (length trace, inr (inl (refl, t)))
-taken-now scheme (Use of address) trace hart x t = absurd t
+taken-now scheme _ trace hart x t = absurd t
 
 taken-before : (scheme : Scheme) (newest : Record) (trace : Trace) (hart : ℕ) (x : Translation) → WasTaken scheme trace hart x → WasTaken scheme (newest ∷ trace) hart x
 taken-before scheme newest trace hart x w = (w.0, elim (w.1) [ inl f ↦ inl (inr f) | inr c ↦ inr (inr c) ])

@@ -3,3 +3,5 @@ pub mod Leaves
 pub mod Gone
 pub mod Fenced
 pub mod Judged
+pub mod Computed
+pub mod ComputedTraces

@@ -1,0 +1,299 @@
+-- Whether a hart may hold a translation, whether it is stale, and whether a verdict holds, computed
+-- record by record.
+use Rattle.std.proofs.Common.{◌≡◌, ℕ, ◌+◌, ◌*◌, ◌<◌, ◌≤◌, Bool, true, false, Option, Some, None, [], ◌∷◌, IsTrue, ap, ◌∙◌, refl, inl, inr, arith}
+use Rattle.std.specs.Prelude.{◌↔◌, ◌==◌, ◌&&◌, ◌||◌, not, nat_le, nat_lt}
+use Rattle.std.proofs.lemmas.Bool.{and_parts, and_from, cases_lt, eq-eqb, eqb-true, not-true, not_from_false}
+use Rattle.std.proofs.lemmas.Bool.Decides.{nat_tests}
+use Rattle.std.proofs.lemmas.Nat.{pow_pos}
+use Rattle.pte.specs.declared.scheme.Scheme.{Scheme}
+use Rattle.pte.specs.Address.{level_of, pages_of}
+use Rattle.tlb.specs.declared.store.Entry.{Entry}
+use Rattle.tlb.specs.Entries.{is_match}
+use Rattle.tlb.specs.Fence.{is_fenced}
+use Rattle.watch.specs.declared.trace.Claim.{Claim}
+use Rattle.watch.specs.declared.trace.Frames.{Frames}
+use Rattle.watch.specs.declared.trace.Record.{Record}
+use Rattle.watch.specs.declared.trace.Record.TheVariants.{Fence, RemoteEnd, GiveOut, GiveBack, ClaimEnd, Use}
+use Rattle.watch.specs.declared.trace.RemoteFence.{RemoteFence}
+use Rattle.watch.specs.declared.trace.Space.{Space}
+use Rattle.watch.specs.declared.trace.Verdict.{Verdict}
+use Rattle.watch.specs.declared.trace.Verdict.TheVariants.{Free, Reuse, Claimed, Used}
+use Rattle.watch.specs.Trace.{Trace, begins_claim, begins_fence, claim_of, fence_of, is_among, satp_of, words_of}
+use Rattle.watch.specs.Holding.{Drops, DropsAtEnd, Live, LiveSince, MayHold, Translation, is_covered, names}
+use Rattle.watch.specs.Staleness.{Stale, is_frame_of}
+use Rattle.watch.specs.Verdicts.{Holds, IsBroken, IsExposed, Serves, StaleSince, TakenForGone, TakesForGone, is_claimed}
+use Rattle.watch.proofs.Computed.{and_iff, has_leaf, is_mapped, leaf_iff, mapped_iff, not_iff, or_iff}
+
+none_iff : IsTrue false ↔ ⊥
+none_iff = ((λ h. cc), (λ f. absurd f))
+
+false_test : (b : Bool) → IsTrue (not b) ↔ (b ≡ false)
+false_test b = (not-true b, not_from_false b)
+
+equal_test : (a b : ℕ) → IsTrue (a == b) ↔ (a ≡ b)
+equal_test a b = (eqb-true a b, eq-eqb a b)
+
+self_test : (b : Bool) → IsTrue b ↔ IsTrue b
+self_test b = ((λ h. h), (λ h. h))
+
+-- live
+abbrev pub is_space : Option Space → Translation → Bool
+is_space None x = false
+is_space (Some space) x = (space.root == x.root) && (space.asid == x.entry.asid)
+
+abbrev pub is_live : Scheme → Trace → ℕ → Translation → Bool
+is_live scheme trace hart x = is_space (satp_of trace hart) x && has_leaf scheme (words_of trace) x.root x.entry
+
+of-space : (o : Option Space) (x : Translation) → IsTrue (is_space o x) → o ≡ Some (record { root = x.root; asid = x.entry.asid })
+of-space None x h = cc
+of-space (Some space) x h =
+    let parts = and_parts (space.root == x.root) (space.asid == x.entry.asid) h in
+    let root : space.root ≡ x.root = eqb-true _ _ parts.0 in
+    let asid : space.asid ≡ x.entry.asid = eqb-true _ _ parts.1 in
+    λ i. Some (record { root = root i; asid = asid i })
+
+space-of : (o : Option Space) (x : Translation) → o ≡ Some (record { root = x.root; asid = x.entry.asid }) → IsTrue (is_space o x)
+space-of o x is = ap (λ s. is_space s x) is ∙ and_from (x.root == x.root) (x.entry.asid == x.entry.asid) (eq-eqb _ _ refl) (eq-eqb _ _ refl)
+
+live_iff : (scheme : Scheme) (trace : Trace) (hart : ℕ) (x : Translation) → IsTrue (is_live scheme trace hart x) ↔ Live scheme trace hart x
+live_iff scheme trace hart x = (
+  (λ h.
+      let parts = and_parts (is_space (satp_of trace hart) x) _ h in
+      record { space = of-space (satp_of trace hart) x parts.0; leaf = (leaf_iff scheme (words_of trace) x.root x.entry).0 parts.1 }),
+  (λ l. and_from _ _ (space-of (satp_of trace hart) x l.space) ((leaf_iff scheme (words_of trace) x.root x.entry).1 l.leaf)),
+)
+
+abbrev pub is_live_since : Scheme → ℕ → Trace → ℕ → Translation → Bool
+is_live_since scheme token [] hart x = false
+is_live_since scheme token (newest ∷ trace) hart x = is_live scheme (newest ∷ trace) hart x || (not (begins_fence token newest) && is_live_since scheme token trace hart x)
+
+live_since_iff : (scheme : Scheme) (token : ℕ) (trace : Trace) (hart : ℕ) (x : Translation) → IsTrue (is_live_since scheme token trace hart x) ↔ LiveSince scheme token trace hart x
+live_since_iff scheme token [] hart x = none_iff
+live_since_iff scheme token (newest ∷ trace) hart x =
+    or_iff _ _ _ _ (live_iff scheme (newest ∷ trace) hart x) (and_iff _ _ _ _ (false_test (begins_fence token newest)) (live_since_iff scheme token trace hart x))
+
+-- dropped
+abbrev pub is_dropped_by : Scheme → Option RemoteFence → ℕ → Trace → ℕ → Translation → Bool
+is_dropped_by scheme None token trace hart x = false
+is_dropped_by scheme (Some fence) token trace hart x = names fence hart && (is_covered scheme fence x.entry && not (is_live_since scheme token trace hart x))
+
+abbrev pub is_dropped : Scheme → Record → Trace → ℕ → Translation → Bool
+is_dropped scheme (Fence of rs1 rs2) trace hart x = (of == hart) && is_fenced scheme rs1 rs2 x.entry
+is_dropped scheme (RemoteEnd of token) trace hart x = is_dropped_by scheme (fence_of trace token) token trace hart x
+is_dropped scheme _ trace hart x = false
+
+by-drops : (scheme : Scheme) (o : Option RemoteFence) (token : ℕ) (trace : Trace) (hart : ℕ) (x : Translation) → fence_of trace token ≡ o → IsTrue (is_dropped_by scheme o token trace hart x) → DropsAtEnd scheme token trace hart x
+by-drops scheme None token trace hart x is h = cc
+by-drops scheme (Some fence) token trace hart x is h =
+    let parts = and_parts (names fence hart) _ h in
+    let more = and_parts (is_covered scheme fence x.entry) _ parts.1 in
+    record { fence = fence; begun = is; named = parts.0; covered = more.0; not_live = (not_iff _ _ (live_since_iff scheme token trace hart x)).0 more.1 }
+
+at_end_iff : (scheme : Scheme) (token : ℕ) (trace : Trace) (hart : ℕ) (x : Translation) → IsTrue (is_dropped_by scheme (fence_of trace token) token trace hart x) ↔ DropsAtEnd scheme token trace hart x
+at_end_iff scheme token trace hart x = (
+  by-drops scheme (fence_of trace token) token trace hart x refl,
+  (λ d.
+      ap (λ o. is_dropped_by scheme o token trace hart x) d.begun
+      ∙ and_from _ _ d.named (and_from _ _ d.covered ((not_iff _ _ (live_since_iff scheme token trace hart x)).1 d.not_live))),
+)
+
+drops_iff : (scheme : Scheme) (newest : Record) (trace : Trace) (hart : ℕ) (x : Translation) → IsTrue (is_dropped scheme newest trace hart x) ↔ Drops scheme newest trace hart x
+drops_iff scheme (Fence of rs1 rs2) trace hart x = and_iff _ _ _ _ (equal_test of hart) (self_test (is_fenced scheme rs1 rs2 x.entry))
+drops_iff scheme (RemoteEnd of token) trace hart x = at_end_iff scheme token trace hart x
+drops_iff scheme _ trace hart x = none_iff
+
+-- held
+abbrev pub is_held : Scheme → Trace → ℕ → Translation → Bool
+is_held scheme [] hart x = is_live scheme [] hart x
+is_held scheme (newest ∷ trace) hart x = is_live scheme (newest ∷ trace) hart x || (is_held scheme trace hart x && not (is_dropped scheme newest trace hart x))
+
+pub held_iff : (scheme : Scheme) (trace : Trace) (hart : ℕ) (x : Translation) → IsTrue (is_held scheme trace hart x) ↔ MayHold scheme trace hart x
+held_iff scheme [] hart x = live_iff scheme [] hart x
+held_iff scheme (newest ∷ trace) hart x =
+    or_iff _ _ _ _ (live_iff scheme (newest ∷ trace) hart x) (and_iff _ _ _ _ (held_iff scheme trace hart x) (not_iff _ _ (drops_iff scheme newest trace hart x)))
+
+-- stale
+abbrev pub is_stale : Scheme → Trace → ℕ → Translation → Bool
+is_stale scheme trace hart x = is_held scheme trace hart x && not (is_mapped scheme (words_of trace) x)
+
+pub stale_iff : (scheme : Scheme) (trace : Trace) (hart : ℕ) (x : Translation) → IsTrue (is_stale scheme trace hart x) ↔ Stale scheme trace hart x
+stale_iff scheme trace hart x = (
+  (λ h.
+      let parts = and_parts (is_held scheme trace hart x) _ h in
+      record { held = (held_iff scheme trace hart x).0 parts.0; gone = (not_iff _ _ (mapped_iff scheme (words_of trace) x)).0 parts.1 }),
+  (λ s. and_from _ _ ((held_iff scheme trace hart x).1 s.held) ((not_iff _ _ (mapped_iff scheme (words_of trace) x)).1 s.gone)),
+)
+
+-- verdicts
+abbrev pub shares : Frames → Entry → Bool
+shares frames e = nat_lt frames.first (e.ppn + pages_of e.page.size) && (nat_lt e.ppn (frames.first + frames.count) && nat_lt 0 frames.count)
+
+within : (a b : ℕ) → IsTrue (nat_lt a b) → a < b
+within a b h = grind (arith, nat_tests)
+
+from_within : (a b : ℕ) → a < b → IsTrue (nat_lt a b)
+from_within a b h = grind (arith, nat_tests)
+
+at_most : (a b : ℕ) → IsTrue (nat_le a b) → a ≤ b
+at_most a b h = grind (arith, nat_tests)
+
+from_at_most : (a b : ℕ) → a ≤ b → IsTrue (nat_le a b)
+from_at_most a b h = grind (arith, nat_tests)
+
+shared_frame : (frames : Frames) (e : Entry) → IsTrue (shares frames e) → (frame : ℕ) × IsTrue (is_among frames frame) × IsTrue (is_frame_of e frame)
+shared_frame frames e h =
+    let parts = and_parts (nat_lt frames.first (e.ppn + pages_of e.page.size)) _ h in
+    let more = and_parts (nat_lt e.ppn (frames.first + frames.count)) (nat_lt 0 frames.count) parts.1 in
+    let first : frames.first < e.ppn + pages_of e.page.size = within _ _ parts.0 in
+    let last : e.ppn < frames.first + frames.count = within _ _ more.0 in
+    let some : 0 < frames.count = within _ _ more.1 in
+    let room : 0 < pages_of e.page.size = pow_pos (9 * level_of e.page.size) in
+    elim (cases_lt frames.first e.ppn) [
+      | inl before ↦ (
+        e.ppn,
+        and_from _ _ (from_at_most frames.first e.ppn (omega arith)) (from_within e.ppn (frames.first + frames.count) last),
+        and_from _ _ (from_at_most e.ppn e.ppn (omega arith)) (from_within e.ppn (e.ppn + pages_of e.page.size) (omega arith)),
+      )
+      | inr behind ↦ (
+        frames.first,
+        and_from _ _ (from_at_most frames.first frames.first (omega arith)) (from_within frames.first (frames.first + frames.count) (omega arith)),
+        and_from _ _ (from_at_most e.ppn frames.first behind) (from_within frames.first (e.ppn + pages_of e.page.size) first),
+      )
+    ]
+
+frame_shared : (frames : Frames) (e : Entry) (frame : ℕ) → IsTrue (is_among frames frame) → IsTrue (is_frame_of e frame) → IsTrue (shares frames e)
+frame_shared frames e frame among of =
+    let parts = and_parts (nat_le frames.first frame) (nat_lt frame (frames.first + frames.count)) among in
+    let more = and_parts (nat_le e.ppn frame) (nat_lt frame (e.ppn + pages_of e.page.size)) of in
+    let a : frames.first ≤ frame = at_most _ _ parts.0 in
+    let b : frame < frames.first + frames.count = within _ _ parts.1 in
+    let c : e.ppn ≤ frame = at_most _ _ more.0 in
+    let d : frame < e.ppn + pages_of e.page.size = within _ _ more.1 in
+    and_from _ _ (from_within frames.first (e.ppn + pages_of e.page.size) (omega arith))
+    (and_from _ _ (from_within e.ppn (frames.first + frames.count) (omega arith)) (from_within 0 frames.count (omega arith)))
+
+abbrev pub is_exposed : Scheme → Frames → Trace → ℕ → Translation → Bool
+is_exposed scheme frames trace hart x = shares frames x.entry && is_stale scheme trace hart x
+
+exposed_iff : (scheme : Scheme) (frames : Frames) (trace : Trace) (hart : ℕ) (x : Translation) → IsTrue (is_exposed scheme frames trace hart x) ↔ IsExposed scheme frames trace hart x
+exposed_iff scheme frames trace hart x = (
+  (λ h.
+      let parts = and_parts (shares frames x.entry) _ h in
+      let at = shared_frame frames x.entry parts.0 in
+      record { frame = at.0; among = at.1; of_page = at.2; stale = (stale_iff scheme trace hart x).0 parts.1 }),
+  (λ e. and_from _ _ (frame_shared frames x.entry e.frame e.among e.of_page) ((stale_iff scheme trace hart x).1 e.stale)),
+)
+
+abbrev pub is_stale_since : Scheme → ℕ → Trace → ℕ → Translation → Bool
+is_stale_since scheme token [] hart x = false
+is_stale_since scheme token (newest ∷ trace) hart x = is_stale scheme (newest ∷ trace) hart x && (begins_claim token newest || is_stale_since scheme token trace hart x)
+
+unless_iff : (a b : Bool) (B : Type 0) → (IsTrue b ↔ B) → IsTrue (a || b) ↔ (a ≡ false → B)
+unless_iff true b B p = ((λ h e. cc), (λ f. refl))
+unless_iff false b B p = ((λ h e. p.0 h), (λ f. p.1 (f refl)))
+
+stale_since_iff : (scheme : Scheme) (token : ℕ) (trace : Trace) (hart : ℕ) (x : Translation) → IsTrue (is_stale_since scheme token trace hart x) ↔ StaleSince scheme token trace hart x
+stale_since_iff scheme token [] hart x = none_iff
+stale_since_iff scheme token (newest ∷ trace) hart x =
+    and_iff _ _ _ _ (stale_iff scheme (newest ∷ trace) hart x) (unless_iff (begins_claim token newest) _ _ (stale_since_iff scheme token trace hart x))
+
+abbrev pub is_broken_of : Scheme → Option Claim → ℕ → Trace → ℕ → Translation → Bool
+is_broken_of scheme None token trace hart x = false
+is_broken_of scheme (Some claim) token trace hart x = is_claimed claim x && is_stale_since scheme token trace hart x
+
+abbrev pub is_broken : Scheme → ℕ → Trace → ℕ → Translation → Bool
+is_broken scheme token trace hart x = is_broken_of scheme (claim_of trace token) token trace hart x
+
+of-broken : (scheme : Scheme) (o : Option Claim) (token : ℕ) (trace : Trace) (hart : ℕ) (x : Translation) → claim_of trace token ≡ o → IsTrue (is_broken_of scheme o token trace hart x) → IsBroken scheme token trace hart x
+of-broken scheme None token trace hart x is h = cc
+of-broken scheme (Some claim) token trace hart x is h =
+    let parts = and_parts (is_claimed claim x) _ h in
+    record { claim = claim; begun = is; claimed = parts.0; stale = (stale_since_iff scheme token trace hart x).0 parts.1 }
+
+broken_iff : (scheme : Scheme) (token : ℕ) (trace : Trace) (hart : ℕ) (x : Translation) → IsTrue (is_broken scheme token trace hart x) ↔ IsBroken scheme token trace hart x
+broken_iff scheme token trace hart x = (
+  of-broken scheme (claim_of trace token) token trace hart x refl,
+  (λ b. ap (λ o. is_broken_of scheme o token trace hart x) b.begun ∙ and_from _ _ b.claimed ((stale_since_iff scheme token trace hart x).1 b.stale)),
+)
+
+abbrev pub takes : Scheme → Record → Trace → ℕ → Translation → Bool
+takes scheme (GiveBack of frames) trace hart x = is_exposed scheme frames trace hart x
+takes scheme (ClaimEnd of token) trace hart x = is_broken scheme token trace hart x
+takes scheme _ trace hart x = false
+
+takes_iff : (scheme : Scheme) (newest : Record) (trace : Trace) (hart : ℕ) (x : Translation) → IsTrue (takes scheme newest trace hart x) ↔ TakesForGone scheme newest trace hart x
+takes_iff scheme (GiveBack of frames) trace hart x = exposed_iff scheme frames trace hart x
+takes_iff scheme (ClaimEnd of token) trace hart x = broken_iff scheme token trace hart x
+takes_iff scheme _ trace hart x = none_iff
+
+abbrev pub is_taken : Scheme → Trace → ℕ → Translation → Bool
+is_taken scheme [] hart x = false
+is_taken scheme (newest ∷ trace) hart x = is_stale scheme (newest ∷ trace) hart x && (takes scheme newest trace hart x || is_taken scheme trace hart x)
+
+taken_iff : (scheme : Scheme) (trace : Trace) (hart : ℕ) (x : Translation) → IsTrue (is_taken scheme trace hart x) ↔ TakenForGone scheme trace hart x
+taken_iff scheme [] hart x = none_iff
+taken_iff scheme (newest ∷ trace) hart x = and_iff _ _ _ _ (stale_iff scheme (newest ∷ trace) hart x) (or_iff _ _ _ _ (takes_iff scheme newest trace hart x) (taken_iff scheme trace hart x))
+
+abbrev pub is_served_in : Option Space → ℕ → Translation → Bool
+is_served_in None address x = false
+is_served_in (Some space) address x = is_match space.asid address x.entry
+
+in-served : (o : Option Space) (trace : Trace) (hart address : ℕ) (x : Translation) → satp_of trace hart ≡ o → IsTrue (is_served_in o address x) → Serves trace hart address x
+in-served None trace hart address x is h = cc
+in-served (Some space) trace hart address x is h = record { space = space; satp = is; «match» = h }
+
+served_iff : (trace : Trace) (hart address : ℕ) (x : Translation) → IsTrue (is_served_in (satp_of trace hart) address x) ↔ Serves trace hart address x
+served_iff trace hart address x = (
+  in-served (satp_of trace hart) trace hart address x refl,
+  (λ s. ap (λ o. is_served_in o address x) s.satp ∙ s.«match»),
+)
+
+abbrev pub is_free : Scheme → Record → Trace → ℕ → Translation → Bool
+is_free scheme (GiveBack of frames) trace hart x = is_exposed scheme frames trace hart x
+is_free scheme _ trace hart x = false
+
+abbrev pub is_reuse : Scheme → Record → Trace → ℕ → Translation → Bool
+is_reuse scheme (GiveOut of frames) trace hart x = is_exposed scheme frames trace hart x
+is_reuse scheme _ trace hart x = false
+
+abbrev pub is_claim : Scheme → Record → Trace → ℕ → Translation → Bool
+is_claim scheme (ClaimEnd of token) trace hart x = is_broken scheme token trace hart x
+is_claim scheme _ trace hart x = false
+
+abbrev pub is_use : Scheme → Record → Trace → ℕ → Translation → Bool
+is_use scheme (Use of address) trace hart x = (of == hart) && (is_taken scheme trace hart x && is_served_in (satp_of trace hart) address x)
+is_use scheme _ trace hart x = false
+
+abbrev pub has_verdict : Scheme → Verdict → Record → Trace → ℕ → Translation → Bool
+has_verdict scheme Free newest trace hart x = is_free scheme newest trace hart x
+has_verdict scheme Reuse newest trace hart x = is_reuse scheme newest trace hart x
+has_verdict scheme Claimed newest trace hart x = is_claim scheme newest trace hart x
+has_verdict scheme Used newest trace hart x = is_use scheme newest trace hart x
+
+free_iff : (scheme : Scheme) (newest : Record) (trace : Trace) (hart : ℕ) (x : Translation) → IsTrue (is_free scheme newest trace hart x) ↔ Holds scheme Free newest trace hart x
+free_iff scheme (GiveBack of frames) trace hart x = exposed_iff scheme frames trace hart x
+free_iff scheme _ trace hart x = none_iff
+
+reuse_iff : (scheme : Scheme) (newest : Record) (trace : Trace) (hart : ℕ) (x : Translation) → IsTrue (is_reuse scheme newest trace hart x) ↔ Holds scheme Reuse newest trace hart x
+reuse_iff scheme (GiveOut of frames) trace hart x = exposed_iff scheme frames trace hart x
+reuse_iff scheme _ trace hart x = none_iff
+
+claim_iff : (scheme : Scheme) (newest : Record) (trace : Trace) (hart : ℕ) (x : Translation) → IsTrue (is_claim scheme newest trace hart x) ↔ Holds scheme Claimed newest trace hart x
+claim_iff scheme (ClaimEnd of token) trace hart x = broken_iff scheme token trace hart x
+claim_iff scheme _ trace hart x = none_iff
+
+use_iff : (scheme : Scheme) (newest : Record) (trace : Trace) (hart : ℕ) (x : Translation) → IsTrue (is_use scheme newest trace hart x) ↔ Holds scheme Used newest trace hart x
+use_iff scheme (Use of address) trace hart x = (
+  (λ h.
+      let parts = and_parts (of == hart) _ h in
+      let more = and_parts (is_taken scheme trace hart x) _ parts.1 in
+      (eqb-true _ _ parts.0, (taken_iff scheme trace hart x).0 more.0, (served_iff trace hart address x).0 more.1)),
+  (λ h. and_from _ _ (eq-eqb _ _ h.0) (and_from _ _ ((taken_iff scheme trace hart x).1 h.1) ((served_iff trace hart address x).1 h.2))),
+)
+use_iff scheme _ trace hart x = none_iff
+
+pub verdict_iff : (scheme : Scheme) (verdict : Verdict) (newest : Record) (trace : Trace) (hart : ℕ) (x : Translation) → IsTrue (has_verdict scheme verdict newest trace hart x) ↔ Holds scheme verdict newest trace hart x
+verdict_iff scheme Free newest trace hart x = free_iff scheme newest trace hart x
+verdict_iff scheme Reuse newest trace hart x = reuse_iff scheme newest trace hart x
+verdict_iff scheme Claimed newest trace hart x = claim_iff scheme newest trace hart x
+verdict_iff scheme Used newest trace hart x = use_iff scheme newest trace hart x
