@@ -91,8 +91,12 @@ each-fenced : (scheme : Scheme) (trace : Trace) (hart : ℕ) (x : Translation) �
 each-fenced scheme trace hart x true is fenced stale = nothing_stale scheme trace hart x (fenced refl) stale
 each-fenced scheme trace hart x false is fenced stale = nothing_held scheme trace hart x is stale.held
 
+-- where each hart that has written satp has fenced all since, nothing is stale
+pub none_stale : (scheme : Scheme) (trace : Trace) → ((hart : ℕ) → has_written_satp trace hart ≡ true → HasFencedAll trace hart) → (hart : ℕ) (x : Translation) → ¬ Stale scheme trace hart x
+none_stale scheme trace fenced hart x stale = each-fenced scheme trace hart x (has_written_satp trace hart) refl (fenced hart) stale
+
 pub nothing_exposed : (scheme : Scheme) (trace : Trace) → ((hart : ℕ) → has_written_satp trace hart ≡ true → HasFencedAll trace hart) → (hart frame : ℕ) → ¬ Exposed scheme trace hart frame
-nothing_exposed scheme trace fenced hart frame e = each-fenced scheme trace hart e.translation (has_written_satp trace hart) refl (fenced hart) e.stale
+nothing_exposed scheme trace fenced hart frame e = none_stale scheme trace fenced hart e.translation e.stale
 
 -- a remote fence of all with no store since it began leaves nothing stale either
 since-mapped : (scheme : Scheme) (by token : ℕ) (fence : RemoteFence) (hart : ℕ) (x : Translation) (earlier during : Trace) → list_all (λ (r : Record). not (stores r)) during ≡ true

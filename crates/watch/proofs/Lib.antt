@@ -5,3 +5,4 @@ pub mod Fenced
 pub mod Judged
 pub mod Computed
 pub mod ComputedTraces
+pub mod WorkedAnswers

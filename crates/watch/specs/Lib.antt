@@ -2,3 +2,4 @@ pub mod Trace
 pub mod Holding
 pub mod Staleness
 pub mod Verdicts
+pub mod WorkedTraces

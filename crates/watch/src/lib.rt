@@ -5,6 +5,7 @@
 
 mod laws;
 mod trace;
+mod worked_traces;
 
 pub use laws::{
     fence_of_all_leaves_nothing_stale, fence_takes_what_it_covers, hart_without_satp_holds_nothing,
@@ -14,3 +15,6 @@ pub use laws::{
     what_has_changed_is_stale, what_is_mapped_is_not_stale,
 };
 pub use trace::{AddressRange, Claim, Frames, Record, RemoteFence, Space, Verdict};
+pub use worked_traces::{
+    worked_claims, worked_frees, worked_reuses, worked_staleness, worked_uses,
+};
