@@ -1,8 +1,8 @@
--- Whether a hart may hold a translation, whether it is stale, and whether a verdict holds, computed
+-- Whether a hart may hold a translation, whether it is stale, and whether a verdict is given, computed
 -- record by record.
-use Rattle.std.proofs.Common.{◌≡◌, ℕ, ◌+◌, ◌*◌, ◌<◌, ◌≤◌, Bool, true, false, Option, Some, None, [], ◌∷◌, IsTrue, ap, ◌∙◌, refl, inl, inr, arith}
-use Rattle.std.specs.Prelude.{◌↔◌, ◌==◌, ◌&&◌, ◌||◌, not, nat_le, nat_lt}
-use Rattle.std.proofs.lemmas.Bool.{and_parts, and_from, cases_lt, eq-eqb, eqb-true, not-true, not_from_false}
+use Rattle.std.proofs.Common.{sym, ◌≡◌, ℕ, ◌+◌, ◌*◌, ◌<◌, ◌≤◌, Bool, true, false, Option, Some, None, [], ◌∷◌, IsTrue, ap, ◌∙◌, refl, inl, inr, arith}
+use Rattle.std.specs.Prelude.{◌⊎◌, ◌↔◌, ◌==◌, ◌&&◌, ◌||◌, not, nat_le, nat_lt}
+use Rattle.std.proofs.lemmas.Bool.{true≢false, and_parts, and_from, cases_lt, eq-eqb, eqb-true, not-true, not_from_false}
 use Rattle.std.proofs.lemmas.Bool.Decides.{nat_tests}
 use Rattle.std.proofs.lemmas.Nat.{pow_pos}
 use Rattle.pte.specs.declared.scheme.Scheme.{Scheme}
@@ -21,7 +21,7 @@ use Rattle.watch.specs.declared.trace.Verdict.TheVariants.{Free, Reuse, Claimed,
 use Rattle.watch.specs.Trace.{Trace, begins_claim, begins_fence, claim_of, fence_of, is_among, satp_of, words_of}
 use Rattle.watch.specs.Holding.{Drops, DropsAtEnd, Live, LiveSince, MayHold, Translation, is_covered, names}
 use Rattle.watch.specs.Staleness.{Stale, is_frame_of}
-use Rattle.watch.specs.Verdicts.{Holds, IsBroken, IsExposed, Serves, StaleSince, TakenForGone, TakesForGone, is_claimed}
+use Rattle.watch.specs.Verdicts.{WasGiven, IsNew, IsGiven, IsBroken, IsExposed, Serves, StaleSince, TakenForGone, TakesForGone, is_claimed}
 use Rattle.watch.proofs.Computed.{and_iff, has_leaf, is_mapped, leaf_iff, mapped_iff, not_iff, or_iff}
 
 none_iff : IsTrue false ↔ ⊥
@@ -184,22 +184,27 @@ exposed_iff scheme frames trace hart x = (
   (λ e. and_from _ _ (frame_shared frames x.entry e.frame e.among e.of_page) ((stale_iff scheme trace hart x).1 e.stale)),
 )
 
-abbrev pub is_stale_since : Scheme → ℕ → Trace → ℕ → Translation → Bool
-is_stale_since scheme token [] hart x = false
-is_stale_since scheme token (newest ∷ trace) hart x = is_stale scheme (newest ∷ trace) hart x && (begins_claim token newest || is_stale_since scheme token trace hart x)
+abbrev pub is_stale_since : Scheme → (Record → Trace → Bool) → Trace → ℕ → Translation → Bool
+is_stale_since scheme happens [] hart x = false
+is_stale_since scheme happens (newest ∷ trace) hart x = is_stale scheme (newest ∷ trace) hart x && (happens newest trace || is_stale_since scheme happens trace hart x)
 
-unless_iff : (a b : Bool) (B : Type 0) → (IsTrue b ↔ B) → IsTrue (a || b) ↔ (a ≡ false → B)
-unless_iff true b B p = ((λ h e. cc), (λ f. refl))
-unless_iff false b B p = ((λ h e. p.0 h), (λ f. p.1 (f refl)))
+stale_since_iff : (scheme : Scheme) (happens : Record → Trace → Bool) (Happens : Record → Trace → Type 0) → ((newest : Record) (before : Trace) → IsTrue (happens newest before) ↔ Happens newest before) → (trace : Trace) (hart : ℕ) (x : Translation)
+    → IsTrue (is_stale_since scheme happens trace hart x) ↔ StaleSince scheme Happens trace hart x
+stale_since_iff scheme happens Happens same [] hart x = none_iff
+stale_since_iff scheme happens Happens same (newest ∷ trace) hart x =
+    and_iff _ _ _ _ (stale_iff scheme (newest ∷ trace) hart x) (or_iff _ _ _ _ (same newest trace) (stale_since_iff scheme happens Happens same trace hart x))
 
-stale_since_iff : (scheme : Scheme) (token : ℕ) (trace : Trace) (hart : ℕ) (x : Translation) → IsTrue (is_stale_since scheme token trace hart x) ↔ StaleSince scheme token trace hart x
-stale_since_iff scheme token [] hart x = none_iff
-stale_since_iff scheme token (newest ∷ trace) hart x =
-    and_iff _ _ _ _ (stale_iff scheme (newest ∷ trace) hart x) (unless_iff (begins_claim token newest) _ _ (stale_since_iff scheme token trace hart x))
+abbrev pub is_stale_since_claim : Scheme → ℕ → Trace → ℕ → Translation → Bool
+is_stale_since_claim scheme token trace hart x = is_stale_since scheme (λ newest before. begins_claim token newest) trace hart x
+
+since_claim_iff : (scheme : Scheme) (token : ℕ) (trace : Trace) (hart : ℕ) (x : Translation)
+    → IsTrue (is_stale_since_claim scheme token trace hart x) ↔ StaleSince scheme (λ newest before. IsTrue (begins_claim token newest)) trace hart x
+since_claim_iff scheme token trace hart x =
+    stale_since_iff scheme (λ newest before. begins_claim token newest) (λ newest before. IsTrue (begins_claim token newest)) (λ newest before. self_test (begins_claim token newest)) trace hart x
 
 abbrev pub is_broken_of : Scheme → Option Claim → ℕ → Trace → ℕ → Translation → Bool
 is_broken_of scheme None token trace hart x = false
-is_broken_of scheme (Some claim) token trace hart x = is_claimed claim x && is_stale_since scheme token trace hart x
+is_broken_of scheme (Some claim) token trace hart x = is_claimed claim x && is_stale_since_claim scheme token trace hart x
 
 abbrev pub is_broken : Scheme → ℕ → Trace → ℕ → Translation → Bool
 is_broken scheme token trace hart x = is_broken_of scheme (claim_of trace token) token trace hart x
@@ -208,12 +213,12 @@ of-broken : (scheme : Scheme) (o : Option Claim) (token : ℕ) (trace : Trace) (
 of-broken scheme None token trace hart x is h = cc
 of-broken scheme (Some claim) token trace hart x is h =
     let parts = and_parts (is_claimed claim x) _ h in
-    record { claim = claim; begun = is; claimed = parts.0; stale = (stale_since_iff scheme token trace hart x).0 parts.1 }
+    record { claim = claim; begun = is; claimed = parts.0; stale = (since_claim_iff scheme token trace hart x).0 parts.1 }
 
 broken_iff : (scheme : Scheme) (token : ℕ) (trace : Trace) (hart : ℕ) (x : Translation) → IsTrue (is_broken scheme token trace hart x) ↔ IsBroken scheme token trace hart x
 broken_iff scheme token trace hart x = (
   of-broken scheme (claim_of trace token) token trace hart x refl,
-  (λ b. ap (λ o. is_broken_of scheme o token trace hart x) b.begun ∙ and_from _ _ b.claimed ((stale_since_iff scheme token trace hart x).1 b.stale)),
+  (λ b. ap (λ o. is_broken_of scheme o token trace hart x) b.begun ∙ and_from _ _ b.claimed ((since_claim_iff scheme token trace hart x).1 b.stale)),
 )
 
 abbrev pub takes : Scheme → Record → Trace → ℕ → Translation → Bool
@@ -227,12 +232,11 @@ takes_iff scheme (ClaimEnd of token) trace hart x = broken_iff scheme token trac
 takes_iff scheme _ trace hart x = none_iff
 
 abbrev pub is_taken : Scheme → Trace → ℕ → Translation → Bool
-is_taken scheme [] hart x = false
-is_taken scheme (newest ∷ trace) hart x = is_stale scheme (newest ∷ trace) hart x && (takes scheme newest trace hart x || is_taken scheme trace hart x)
+is_taken scheme trace hart x = is_stale_since scheme (λ newest before. takes scheme newest before hart x) trace hart x
 
 taken_iff : (scheme : Scheme) (trace : Trace) (hart : ℕ) (x : Translation) → IsTrue (is_taken scheme trace hart x) ↔ TakenForGone scheme trace hart x
-taken_iff scheme [] hart x = none_iff
-taken_iff scheme (newest ∷ trace) hart x = and_iff _ _ _ _ (stale_iff scheme (newest ∷ trace) hart x) (or_iff _ _ _ _ (takes_iff scheme newest trace hart x) (taken_iff scheme trace hart x))
+taken_iff scheme trace hart x =
+    stale_since_iff scheme (λ newest before. takes scheme newest before hart x) (λ newest before. TakesForGone scheme newest before hart x) (λ newest before. takes_iff scheme newest before hart x) trace hart x
 
 abbrev pub is_served_in : Option Space → ℕ → Translation → Bool
 is_served_in None address x = false
@@ -270,19 +274,19 @@ has_verdict scheme Reuse newest trace hart x = is_reuse scheme newest trace hart
 has_verdict scheme Claimed newest trace hart x = is_claim scheme newest trace hart x
 has_verdict scheme Used newest trace hart x = is_use scheme newest trace hart x
 
-free_iff : (scheme : Scheme) (newest : Record) (trace : Trace) (hart : ℕ) (x : Translation) → IsTrue (is_free scheme newest trace hart x) ↔ Holds scheme Free newest trace hart x
+free_iff : (scheme : Scheme) (newest : Record) (trace : Trace) (hart : ℕ) (x : Translation) → IsTrue (is_free scheme newest trace hart x) ↔ IsGiven scheme Free newest trace hart x
 free_iff scheme (GiveBack of frames) trace hart x = exposed_iff scheme frames trace hart x
 free_iff scheme _ trace hart x = none_iff
 
-reuse_iff : (scheme : Scheme) (newest : Record) (trace : Trace) (hart : ℕ) (x : Translation) → IsTrue (is_reuse scheme newest trace hart x) ↔ Holds scheme Reuse newest trace hart x
+reuse_iff : (scheme : Scheme) (newest : Record) (trace : Trace) (hart : ℕ) (x : Translation) → IsTrue (is_reuse scheme newest trace hart x) ↔ IsGiven scheme Reuse newest trace hart x
 reuse_iff scheme (GiveOut of frames) trace hart x = exposed_iff scheme frames trace hart x
 reuse_iff scheme _ trace hart x = none_iff
 
-claim_iff : (scheme : Scheme) (newest : Record) (trace : Trace) (hart : ℕ) (x : Translation) → IsTrue (is_claim scheme newest trace hart x) ↔ Holds scheme Claimed newest trace hart x
+claim_iff : (scheme : Scheme) (newest : Record) (trace : Trace) (hart : ℕ) (x : Translation) → IsTrue (is_claim scheme newest trace hart x) ↔ IsGiven scheme Claimed newest trace hart x
 claim_iff scheme (ClaimEnd of token) trace hart x = broken_iff scheme token trace hart x
 claim_iff scheme _ trace hart x = none_iff
 
-use_iff : (scheme : Scheme) (newest : Record) (trace : Trace) (hart : ℕ) (x : Translation) → IsTrue (is_use scheme newest trace hart x) ↔ Holds scheme Used newest trace hart x
+use_iff : (scheme : Scheme) (newest : Record) (trace : Trace) (hart : ℕ) (x : Translation) → IsTrue (is_use scheme newest trace hart x) ↔ IsGiven scheme Used newest trace hart x
 use_iff scheme (Use of address) trace hart x = (
   (λ h.
       let parts = and_parts (of == hart) _ h in
@@ -292,8 +296,46 @@ use_iff scheme (Use of address) trace hart x = (
 )
 use_iff scheme _ trace hart x = none_iff
 
-pub verdict_iff : (scheme : Scheme) (verdict : Verdict) (newest : Record) (trace : Trace) (hart : ℕ) (x : Translation) → IsTrue (has_verdict scheme verdict newest trace hart x) ↔ Holds scheme verdict newest trace hart x
+pub verdict_iff : (scheme : Scheme) (verdict : Verdict) (newest : Record) (trace : Trace) (hart : ℕ) (x : Translation) → IsTrue (has_verdict scheme verdict newest trace hart x) ↔ IsGiven scheme verdict newest trace hart x
 verdict_iff scheme Free newest trace hart x = free_iff scheme newest trace hart x
 verdict_iff scheme Reuse newest trace hart x = reuse_iff scheme newest trace hart x
 verdict_iff scheme Claimed newest trace hart x = claim_iff scheme newest trace hart x
 verdict_iff scheme Used newest trace hart x = use_iff scheme newest trace hart x
+
+-- whether it is new
+abbrev pub has_held : Scheme → Verdict → Trace → ℕ → Translation → Bool
+has_held scheme verdict trace hart x = is_stale_since scheme (λ newest before. has_verdict scheme verdict newest before hart x) trace hart x
+
+pub has_held_iff : (scheme : Scheme) (verdict : Verdict) (trace : Trace) (hart : ℕ) (x : Translation) → IsTrue (has_held scheme verdict trace hart x) ↔ WasGiven scheme verdict trace hart x
+has_held_iff scheme verdict trace hart x =
+    stale_since_iff scheme (λ newest before. has_verdict scheme verdict newest before hart x) (λ newest before. IsGiven scheme verdict newest before hart x)
+    (λ newest before. verdict_iff scheme verdict newest before hart x) trace hart x
+
+abbrev pub is_new : Scheme → Verdict → Trace → ℕ → Translation → Bool
+is_new scheme Used trace hart x = true
+is_new scheme Free trace hart x = not (has_held scheme Free trace hart x)
+is_new scheme Reuse trace hart x = not (has_held scheme Reuse trace hart x)
+is_new scheme Claimed trace hart x = not (has_held scheme Claimed trace hart x)
+
+pub new_iff : (scheme : Scheme) (verdict : Verdict) (trace : Trace) (hart : ℕ) (x : Translation) → IsTrue (is_new scheme verdict trace hart x) ↔ IsNew scheme verdict trace hart x
+new_iff scheme Used trace hart x = ((λ h. tt), (λ u. refl))
+new_iff scheme Free trace hart x = not_iff _ _ (has_held_iff scheme Free trace hart x)
+new_iff scheme Reuse trace hart x = not_iff _ _ (has_held_iff scheme Reuse trace hart x)
+new_iff scheme Claimed trace hart x = not_iff _ _ (has_held_iff scheme Claimed trace hart x)
+
+-- what has a test is so or not
+known : (b : Bool) (A : Type 0) → (IsTrue b ↔ A) → A ⊎ (¬ A)
+known true A p = inl (p.0 refl)
+known false A p = inr (λ a. true≢false (sym (p.1 a)))
+
+pub held_known : (scheme : Scheme) (trace : Trace) (hart : ℕ) (x : Translation) → MayHold scheme trace hart x ⊎ (¬ MayHold scheme trace hart x)
+held_known scheme trace hart x = known (is_held scheme trace hart x) _ (held_iff scheme trace hart x)
+
+pub stale_known : (scheme : Scheme) (trace : Trace) (hart : ℕ) (x : Translation) → Stale scheme trace hart x ⊎ (¬ Stale scheme trace hart x)
+stale_known scheme trace hart x = known (is_stale scheme trace hart x) _ (stale_iff scheme trace hart x)
+
+pub verdict_known : (scheme : Scheme) (verdict : Verdict) (newest : Record) (trace : Trace) (hart : ℕ) (x : Translation) → IsGiven scheme verdict newest trace hart x ⊎ (¬ IsGiven scheme verdict newest trace hart x)
+verdict_known scheme verdict newest trace hart x = known (has_verdict scheme verdict newest trace hart x) _ (verdict_iff scheme verdict newest trace hart x)
+
+pub new_known : (scheme : Scheme) (verdict : Verdict) (trace : Trace) (hart : ℕ) (x : Translation) → IsNew scheme verdict trace hart x ⊎ (¬ IsNew scheme verdict trace hart x)
+new_known scheme verdict trace hart x = known (is_new scheme verdict trace hart x) _ (new_iff scheme verdict trace hart x)

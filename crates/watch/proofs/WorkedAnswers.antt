@@ -10,10 +10,10 @@ use Rattle.watch.specs.declared.trace.Verdict.{Verdict}
 use Rattle.watch.specs.Trace.{Trace, has_written_satp, stores}
 use Rattle.watch.specs.Holding.{Translation}
 use Rattle.watch.specs.Staleness.{HasFencedAll}
-use Rattle.watch.specs.WorkedTraces.{IsHeldMapped, IsHeldStale, IsNotHeld, IsSilent, Warns, trace_of}
+use Rattle.watch.specs.WorkedTraces.{IsHeldMapped, IsFirst, IsHeldStale, IsNotHeld, IsRepeated, IsSilent, Warns, trace_of}
 use Rattle.watch.specs.WorkedTraces as worked
 use Rattle.watch.proofs.Computed.{false_iff}
-use Rattle.watch.proofs.ComputedTraces.{has_verdict, held_iff, is_held, is_stale, stale_iff, verdict_iff}
+use Rattle.watch.proofs.ComputedTraces.{has_verdict, held_iff, is_held, is_new, is_stale, new_iff, stale_iff, verdict_iff}
 use Rattle.watch.proofs.Gone.{none_stale}
 use Rattle.watch.proofs.Judged.{verdict-stale}
 
@@ -36,6 +36,14 @@ stale records hart x is = (stale_iff Sv39 (trace_of records) hart x).0 is
 mapped : (records : List Record) (hart : ℕ) (x : Translation) → is_held Sv39 (trace_of records) hart x ≡ true → is_stale Sv39 (trace_of records) hart x ≡ false → IsHeldMapped records hart x
 unfolding IsHeldMapped
 mapped records hart x is none = ((held_iff Sv39 (trace_of records) hart x).0 is, false_iff _ _ (stale_iff Sv39 (trace_of records) hart x) none)
+
+first : (records : List Record) (verdict : Verdict) (hart : ℕ) (x : Translation) → is_new Sv39 verdict (trace_of records) hart x ≡ true → IsFirst records verdict hart x
+unfolding IsFirst
+first records verdict hart x is = (new_iff Sv39 verdict (trace_of records) hart x).0 is
+
+repeated : (records : List Record) (verdict : Verdict) (hart : ℕ) (x : Translation) → is_new Sv39 verdict (trace_of records) hart x ≡ false → IsRepeated records verdict hart x
+unfolding IsRepeated
+repeated records verdict hart x none = false_iff _ _ (new_iff Sv39 verdict (trace_of records) hart x) none
 
 -- both harts fenced all, and no other was in a space
 abbrev fenced : Trace
@@ -228,4 +236,16 @@ pub used_beside : worked.used_beside
 unfolding kind_of
 used_beside = silent _ _ _ _ _ refl
 
-pub ruleset worked_traces = (freed_before_fence, freed_after_own_fence, freed_after_fence, freed_after_full_fences, other_frame_freed, freed_after_fence_elsewhere, freed_after_fence_of_other_asid, freed_after_early_fence, freed_after_remote_fence, freed_within_remote_fence, freed_after_early_remote_fence, freed_after_fence_of_others, freed_after_fill_within_fence, freed_after_leaving, freed_after_leaving_and_fence, superpage_freed, superpage_freed_after_fence, global_freed_after_fence_with_asid, global_freed_after_fence, rights_lost, rights_gained, unmapped, mapped_again, mapped_elsewhere, pointer_cleared, table_given_out, entered_late, reused_before_fence, reused_after_fence, claimed_with_no_fence, claimed_with_fence, claimed_before_store, claimed_of_other_root, claimed_after_protection, used_after_free, used_after_claim, used_after_fence, used_before_free, used_elsewhere, used_beside)
+pub freed_for_the_first_time : worked.freed_for_the_first_time
+unfolding kind_of
+freed_for_the_first_time = first _ _ _ _ refl
+
+pub freed_once_more : worked.freed_once_more
+unfolding kind_of
+freed_once_more = repeated _ _ _ _ refl
+
+pub freed_after_mapped_again : worked.freed_after_mapped_again
+unfolding kind_of
+freed_after_mapped_again = first _ _ _ _ refl
+
+pub ruleset worked_traces = (freed_for_the_first_time, freed_once_more, freed_after_mapped_again, freed_before_fence, freed_after_own_fence, freed_after_fence, freed_after_full_fences, other_frame_freed, freed_after_fence_elsewhere, freed_after_fence_of_other_asid, freed_after_early_fence, freed_after_remote_fence, freed_within_remote_fence, freed_after_early_remote_fence, freed_after_fence_of_others, freed_after_fill_within_fence, freed_after_leaving, freed_after_leaving_and_fence, superpage_freed, superpage_freed_after_fence, global_freed_after_fence_with_asid, global_freed_after_fence, rights_lost, rights_gained, unmapped, mapped_again, mapped_elsewhere, pointer_cleared, table_given_out, entered_late, reused_before_fence, reused_after_fence, claimed_with_no_fence, claimed_with_fence, claimed_before_store, claimed_of_other_root, claimed_after_protection, used_after_free, used_after_claim, used_after_fence, used_before_free, used_elsewhere, used_beside)

@@ -1,5 +1,5 @@
 -- The moments at which a hart may still use a translation that the kernel took for gone.
-use Rattle.std.specs.Prelude.{ℕ, Bool, true, false, ◌≡◌, ◌==◌, ◌&&◌, ◌⊎◌, not, [], ◌∷◌, length}
+use Rattle.std.specs.Prelude.{ℕ, Bool, true, ◌≡◌, ◌==◌, ◌&&◌, ◌⊎◌, not, [], ◌∷◌, length}
 use Rattle.std.specs.Prelude.{Option, Some, None, IsTrue}
 use Rattle.pte.specs.declared.scheme.Scheme.{Scheme}
 use Rattle.tlb.specs.Entries.{is_match}
@@ -30,34 +30,32 @@ is_of_root (Some root) x = (x.root == root) && not x.entry.global
 abbrev pub is_claimed : Claim → Translation → Bool
 is_claimed claim x = is_of_root claim.root x && reaches claim.range x.entry.page
 
--- the hart might hold it as stale at each moment since the newest begin under the token
-abbrev pub StaleSince : Scheme → ℕ → Trace → ℕ → Translation → Type 0
-StaleSince scheme token [] hart x = ⊥
-StaleSince scheme token (newest ∷ trace) hart x =
+-- it happened at some record, and the hart may have held the translation as stale ever since
+abbrev pub StaleSince : Scheme → (Record → Trace → Type 0) → Trace → ℕ → Translation → Type 0
+StaleSince scheme Happens [] hart x = ⊥
+StaleSince scheme Happens (newest ∷ trace) hart x =
     Stale scheme (newest ∷ trace) hart x
-    × (begins_claim token newest ≡ false → StaleSince scheme token trace hart x)
+    × (Happens newest trace ⊎ StaleSince scheme Happens trace hart x)
 
--- the claim under the token is of what the hart may hold as stale ever since it began
+-- the claim under the token is of what the hart may hold, stale since before the claim began
 pub record IsBroken (scheme : Scheme) (token : ℕ) (trace : Trace) (hart : ℕ)
     (x : Translation) : Type 0 where
   pub claim : Claim
   pub begun : claim_of trace token ≡ Some claim
   pub claimed : IsTrue (is_claimed claim x)
-  pub stale : StaleSince scheme token trace hart x
+  pub stale :
+      StaleSince scheme (λ newest before. IsTrue (begins_claim token newest)) trace hart x
 
--- at the record the kernel took the translation for gone, and the hart might hold it: a frame of it
--- was given back, or a claim of it ended
+-- at the record the kernel takes the translation for gone, and the hart may hold it: a frame of it
+-- is given back, or a claim of it ends
 abbrev pub TakesForGone : Scheme → Record → Trace → ℕ → Translation → Type 0
 TakesForGone scheme (GiveBack of frames) trace hart x = IsExposed scheme frames trace hart x
 TakesForGone scheme (ClaimEnd of token) trace hart x = IsBroken scheme token trace hart x
 TakesForGone scheme _ trace hart x = ⊥
 
--- so it was at some record, and the translation has been stale since
 abbrev pub TakenForGone : Scheme → Trace → ℕ → Translation → Type 0
-TakenForGone scheme [] hart x = ⊥
-TakenForGone scheme (newest ∷ trace) hart x =
-    Stale scheme (newest ∷ trace) hart x
-    × (TakesForGone scheme newest trace hart x ⊎ TakenForGone scheme trace hart x)
+TakenForGone scheme trace hart x =
+    StaleSince scheme (λ newest before. TakesForGone scheme newest before hart x) trace hart x
 
 -- the hart may use it for an access to the address: its page has the address, and it is global or
 -- of the ASID in satp
@@ -66,18 +64,28 @@ pub record Serves (trace : Trace) (hart address : ℕ) (x : Translation) : Type 
   pub satp : satp_of trace hart ≡ Some space
   pub «match» : IsTrue (is_match space.asid address x.entry)
 
--- the verdict holds at the record, of a translation that a hart may hold
-abbrev pub Holds : Scheme → Verdict → Record → Trace → ℕ → Translation → Type 0
-Holds scheme Free (GiveBack of frames) trace hart x = IsExposed scheme frames trace hart x
-Holds scheme Reuse (GiveOut of frames) trace hart x = IsExposed scheme frames trace hart x
-Holds scheme Claimed (ClaimEnd of token) trace hart x = IsBroken scheme token trace hart x
-Holds scheme Used (Use of address) trace hart x =
+-- the verdict is given at the record, of a translation that the hart may hold
+abbrev pub IsGiven : Scheme → Verdict → Record → Trace → ℕ → Translation → Type 0
+IsGiven scheme Free (GiveBack of frames) trace hart x = IsExposed scheme frames trace hart x
+IsGiven scheme Reuse (GiveOut of frames) trace hart x = IsExposed scheme frames trace hart x
+IsGiven scheme Claimed (ClaimEnd of token) trace hart x = IsBroken scheme token trace hart x
+IsGiven scheme Used (Use of address) trace hart x =
     (of ≡ hart) × TakenForGone scheme trace hart x × Serves trace hart address x
-Holds scheme _ _ trace hart x = ⊥
+IsGiven scheme _ _ trace hart x = ⊥
 
--- the verdict holds at the record that has this many records before it
-abbrev pub HoldsAt : Scheme → Trace → ℕ → Verdict → ℕ → Translation → Type 0
-HoldsAt scheme [] number verdict hart x = ⊥
-HoldsAt scheme (newest ∷ trace) number verdict hart x =
-    ((length trace ≡ number) × Holds scheme verdict newest trace hart x)
-    ⊎ HoldsAt scheme trace number verdict hart x
+-- it was given at some record, and the translation has been stale since
+abbrev pub WasGiven : Scheme → Verdict → Trace → ℕ → Translation → Type 0
+WasGiven scheme verdict trace hart x =
+    StaleSince scheme (λ newest before. IsGiven scheme verdict newest before hart x) trace hart x
+
+-- each use is a verdict of its own; any other is new once, for as long as the translation is stale
+abbrev pub IsNew : Scheme → Verdict → Trace → ℕ → Translation → Type 0
+IsNew scheme Used trace hart x = Unit {0}
+IsNew scheme verdict trace hart x = ¬ WasGiven scheme verdict trace hart x
+
+-- the verdict is given at the record that has this many records before it
+abbrev pub IsGivenAt : Scheme → Trace → ℕ → Verdict → ℕ → Translation → Type 0
+IsGivenAt scheme [] number verdict hart x = ⊥
+IsGivenAt scheme (newest ∷ trace) number verdict hart x =
+    ((length trace ≡ number) × IsGiven scheme verdict newest trace hart x)
+    ⊎ IsGivenAt scheme trace number verdict hart x

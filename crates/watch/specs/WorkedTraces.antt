@@ -16,7 +16,7 @@ use Rattle.watch.specs.declared.trace.Verdict.TheVariants.{Free, Reuse, Claimed,
 use Rattle.watch.specs.Trace.{Trace}
 use Rattle.watch.specs.Holding.{MayHold, Translation}
 use Rattle.watch.specs.Staleness.{Stale}
-use Rattle.watch.specs.Verdicts.{Holds}
+use Rattle.watch.specs.Verdicts.{IsGiven, IsNew}
 
 -- the trace of records in the order in which they were made
 abbrev pub recorded : Trace → List Record → Trace
@@ -37,14 +37,21 @@ unfoldable pub IsHeldMapped : List Record → ℕ → Translation → Type 0
 IsHeldMapped records hart x =
     MayHold Sv39 (trace_of records) hart x × ¬ Stale Sv39 (trace_of records) hart x
 
--- the verdict holds, or not, at a record after these, of the translation that the hart may hold
+-- the verdict is given, or not, at a record after these, of the translation and the hart
 unfoldable pub Warns : List Record → Record → Verdict → ℕ → Translation → Type 0
-Warns records newest verdict hart x = Holds Sv39 verdict newest (trace_of records) hart x
+Warns records newest verdict hart x = IsGiven Sv39 verdict newest (trace_of records) hart x
 
 unfoldable pub IsSilent : List Record → Record → Verdict → ℕ → Translation → Type 0
-IsSilent records newest verdict hart x = ¬ Holds Sv39 verdict newest (trace_of records) hart x
+IsSilent records newest verdict hart x = ¬ IsGiven Sv39 verdict newest (trace_of records) hart x
 
--- no verdict at all holds at a record after these
+-- the verdict is new at a record after these, or was given before
+unfoldable pub IsFirst : List Record → Verdict → ℕ → Translation → Type 0
+IsFirst records verdict hart x = IsNew Sv39 verdict (trace_of records) hart x
+
+unfoldable pub IsRepeated : List Record → Verdict → ℕ → Translation → Type 0
+IsRepeated records verdict hart x = ¬ IsNew Sv39 verdict (trace_of records) hart x
+
+-- no verdict at all is given at a record after these
 abbrev pub HasNoVerdict : List Record → Record → Type 0
 HasNoVerdict records newest =
     (verdict : Verdict) (hart : ℕ) (x : Translation) → IsSilent records newest verdict hart x
@@ -291,6 +298,21 @@ table_given_out = IsHeldStale (mapped ++ given_out 0x80002 ∷ []) 1 (page writa
 abbrev pub entered_late : Type 0
 entered_late =
     IsNotHeld (pointers ++ leaf_stored 0x100 writable ∷ leaf_cleared ∷ both_enter) 1 (page writable)
+
+-- a verdict is new at the first give-back, and again once the page was mapped in between
+abbrev pub freed_for_the_first_time : Type 0
+freed_for_the_first_time = IsFirst (mapped ++ leaf_cleared ∷ []) Free 1 (page writable)
+
+abbrev pub freed_once_more : Type 0
+freed_once_more =
+    IsRepeated (mapped ++ leaf_cleared ∷ given_back 0x100 ∷ given_out 0x100 ∷ []) Free 1
+    (page writable)
+
+abbrev pub freed_after_mapped_again : Type 0
+freed_after_mapped_again =
+    IsFirst
+    (mapped ++ leaf_cleared ∷ given_back 0x100 ∷ leaf_stored 0x100 writable ∷ leaf_cleared ∷ [])
+    Free 1 (page writable)
 
 -- a frame is given out
 abbrev pub reused_before_fence : Type 0

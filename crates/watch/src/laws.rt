@@ -8,7 +8,7 @@ ghost use Rattle.pte.specs.declared.permission.Access.{Access};
 ghost use Rattle.pte.specs.declared.permission.Ctx.{Ctx};
 ghost use Rattle.pte.specs.declared.flags.PteFlags.{PteFlags};
 ghost use Rattle.pte.specs.declared.TheConstants.{ASID_BITS};
-ghost use Rattle.pte.specs.Address.{Holds as Has, IsPageOf, holds, pages_of};
+ghost use Rattle.pte.specs.Address.{Holds, IsPageOf, holds, pages_of};
 ghost use Rattle.walk.specs.declared.found_or_trap.Found.{Found};
 ghost use Rattle.walk.specs.Leads.{Tables};
 ghost use Rattle.walk.specs.Maps.{Maps, page_number};
@@ -22,12 +22,12 @@ ghost use Rattle.watch.specs.declared.trace.Record.TheVariants as records;
 ghost use Rattle.watch.specs.declared.trace.RemoteFence.{RemoteFence};
 ghost use Rattle.watch.specs.declared.trace.Space.{Space};
 ghost use Rattle.watch.specs.declared.trace.Verdict.{Verdict};
-ghost use Rattle.watch.specs.declared.trace.Verdict.TheVariants.{Claimed, Free, Used};
+ghost use Rattle.watch.specs.declared.trace.Verdict.TheVariants.{Claimed, Free};
 ghost use Rattle.watch.specs.Trace.{Trace, fence_of, hart_of, has_written_satp, stores, words_of};
 ghost use Rattle.watch.specs.Holding.{Drops, HasLeaf, HeldSince, Live, LiveSince, MayHold};
 ghost use Rattle.watch.specs.Holding.{Translation, is_covered, is_fence_for, names};
 ghost use Rattle.watch.specs.Staleness.{Exposed, HasFencedAll, Permit, Stale};
-ghost use Rattle.watch.specs.Verdicts.{Holds, HoldsAt};
+ghost use Rattle.watch.specs.Verdicts.{WasGiven, IsGiven, IsGivenAt, IsNew, TakenForGone};
 
 /// What a walk finds is a leaf that the tables have, and it maps each page of 4 KiB of its page; a
 /// page has one leaf.
@@ -36,7 +36,7 @@ pub fn leaf_is_what_a_walk_finds()
         (ctx : Ctx) (found : Found) → Outcome scheme words root va access ctx (Ok found)
         → HasLeaf scheme words root (entry_of asid found) }
     ensures maps { (scheme : Scheme) (words : Tables) (root : ℕ) (e : Entry) (va : ℕ)
-        → HasLeaf scheme words root e → Has e.page va → Maps scheme words root (page_number va)
+        → HasLeaf scheme words root e → Holds e.page va → Maps scheme words root (page_number va)
         (e.ppn + page_number va % pages_of e.page.size) e.flags e.global }
     ensures one { (scheme : Scheme) (words : Tables) (root : ℕ) (a b : Entry)
         → HasLeaf scheme words root a → HasLeaf scheme words root b → a.page ≡ b.page
@@ -196,23 +196,40 @@ pub fn hart_without_satp_holds_nothing()
 pub fn later_records_change_no_verdict()
     ensures later { (scheme : Scheme) (later trace : Trace) (number : ℕ) (verdict : Verdict)
         (hart : ℕ) (x : Translation) → number < length trace
-        → HoldsAt scheme (later ++ trace) number verdict hart x
-        ↔ HoldsAt scheme trace number verdict hart x }
+        → IsGivenAt scheme (later ++ trace) number verdict hart x
+        ↔ IsGivenAt scheme trace number verdict hart x }
     ensures newest { (scheme : Scheme) (newest : Record) (trace : Trace) (verdict : Verdict)
-        (hart : ℕ) (x : Translation) → HoldsAt scheme (newest ∷ trace) (length trace) verdict hart x
-        ↔ Holds scheme verdict newest trace hart x }
+        (hart : ℕ) (x : Translation) → IsGivenAt scheme (newest ∷ trace) (length trace) verdict hart x
+        ↔ IsGiven scheme verdict newest trace hart x }
     ensures there { (scheme : Scheme) (trace : Trace) (number : ℕ) (verdict : Verdict) (hart : ℕ)
-        (x : Translation) → HoldsAt scheme trace number verdict hart x → number < length trace }
+        (x : Translation) → IsGivenAt scheme trace number verdict hart x → number < length trace }
 {}
 
-/// A verdict is of what the hart may hold as stale; and a use is of what had a verdict before, at
-/// the give-back of its frame or at the end of its claim.
+/// A verdict is of what the hart may hold as stale; and a use is of what had the verdict of a free or
+/// of a claim at an earlier record, and has been stale since.
 pub fn verdicts_are_of_stale_translations()
     ensures stale { (scheme : Scheme) (verdict : Verdict) (newest : Record) (trace : Trace)
-        (hart : ℕ) (x : Translation) → Holds scheme verdict newest trace hart x
+        (hart : ℕ) (x : Translation) → IsGiven scheme verdict newest trace hart x
         → Stale scheme trace hart x }
-    ensures used { (scheme : Scheme) (newest : Record) (trace : Trace) (hart : ℕ) (x : Translation)
-        → Holds scheme Used newest trace hart x
-        → (number : ℕ) × (HoldsAt scheme trace number Free hart x
-        ⊎ HoldsAt scheme trace number Claimed hart x) }
+    ensures taken { (scheme : Scheme) (trace : Trace) (hart : ℕ) (x : Translation)
+        → TakenForGone scheme trace hart x
+        ↔ (WasGiven scheme Free trace hart x ⊎ WasGiven scheme Claimed trace hart x) }
+    ensures at { (scheme : Scheme) (verdict : Verdict) (trace : Trace) (hart : ℕ)
+        (x : Translation) → WasGiven scheme verdict trace hart x
+        → (number : ℕ) × IsGivenAt scheme trace number verdict hart x }
+{}
+
+/// Of each translation it is known whether a hart may hold it, whether it is stale, and which
+/// verdicts are given of it.
+pub fn verdicts_are_known()
+    ensures held { (scheme : Scheme) (trace : Trace) (hart : ℕ) (x : Translation)
+        → MayHold scheme trace hart x ⊎ (¬ MayHold scheme trace hart x) }
+    ensures stale { (scheme : Scheme) (trace : Trace) (hart : ℕ) (x : Translation)
+        → Stale scheme trace hart x ⊎ (¬ Stale scheme trace hart x) }
+    ensures verdict { (scheme : Scheme) (verdict : Verdict) (newest : Record) (trace : Trace)
+        (hart : ℕ) (x : Translation) → IsGiven scheme verdict newest trace hart x
+        ⊎ (¬ IsGiven scheme verdict newest trace hart x) }
+    ensures fresh { (scheme : Scheme) (verdict : Verdict) (trace : Trace) (hart : ℕ)
+        (x : Translation) → IsNew scheme verdict trace hart x
+        ⊎ (¬ IsNew scheme verdict trace hart x) }
 {}

@@ -26,6 +26,9 @@ pub fn worked_frees()
     ensures superpage_freed_after_fence { traces.superpage_freed_after_fence }
     ensures global_freed_after_fence_with_asid { traces.global_freed_after_fence_with_asid }
     ensures global_freed_after_fence { traces.global_freed_after_fence }
+    ensures freed_for_the_first_time { traces.freed_for_the_first_time }
+    ensures freed_once_more { traces.freed_once_more }
+    ensures freed_after_mapped_again { traces.freed_after_mapped_again }
 {}
 
 /// A frame is given out while a hart may hold its page, or no longer may.
