@@ -16,10 +16,12 @@ use Rattle.tlb.specs.Fence.{is_fenced, is_of_address, is_of_space}
 use Rattle.watch.specs.Holding.{is_covered, reaches}
 
 -- a remote fence covers what a fence for some address of its range covers
-shared : (scheme : Scheme) (range : AddressRange) (e : Entry) → IsPageOf scheme e.page → 0 < range.size → IsTrue (reaches (Some range) e.page)
+shared : (scheme : Scheme) (range : AddressRange) (e : Entry) → IsPageOf scheme e.page → IsTrue (reaches (Some range) e.page)
     → (va : ℕ) × (range.start ≤ va) × (va < range.start + range.size) × IsTrue (is_of_address scheme va e)
-shared scheme range e page some on =
-    let parts = and_parts (nat_lt range.start (e.page.base + bytes_of e.page.size)) (nat_lt e.page.base (range.start + range.size)) on in
+shared scheme range e page on =
+    let all = and_parts (nat_lt 0 range.size) _ on in
+    let parts = and_parts (nat_lt range.start (e.page.base + bytes_of e.page.size)) (nat_lt e.page.base (range.start + range.size)) all.1 in
+    let some : 0 < range.size = grind (arith, nat_tests) in
     let start : range.start < e.page.base + bytes_of e.page.size = grind (arith, nat_tests) in
     let end : e.page.base < range.start + range.size = grind (arith, nat_tests) in
     let room : 0 < bytes_of e.page.size = pow_pos (12 + 9 * level_of e.page.size) in
@@ -43,9 +45,13 @@ shared scheme range e page some on =
 reached : (scheme : Scheme) (range : AddressRange) (e : Entry) (va : ℕ) → range.start ≤ va → va < range.start + range.size → IsTrue (is_of_address scheme va e) → IsTrue (reaches (Some range) e.page)
 reached scheme range e va from below on =
     let h = (holds-Holds e.page va).0 (and_parts (is_canonical scheme va) (holds e.page va) on).1 in
-    let start : range.start < e.page.base + bytes_of e.page.size = omega (arith, h.below) in
-    let end : e.page.base < range.start + range.size = omega (arith, h.from) in
-    and_from _ _ (let t : IsTrue (nat_lt range.start (e.page.base + bytes_of e.page.size)) = grind (arith, nat_tests) in t) (let t : IsTrue (nat_lt e.page.base (range.start + range.size)) = grind (arith, nat_tests) in t)
+    let size : 0 < range.size = omega arith in
+    let before : range.start < e.page.base + bytes_of e.page.size = omega (arith, h.below) in
+    let after : e.page.base < range.start + range.size = omega (arith, h.from) in
+    let some : IsTrue (nat_lt 0 range.size) = grind (arith, nat_tests) in
+    let start : IsTrue (nat_lt range.start (e.page.base + bytes_of e.page.size)) = grind (arith, nat_tests) in
+    let end : IsTrue (nat_lt e.page.base (range.start + range.size)) = grind (arith, nat_tests) in
+    and_from _ _ some (and_from _ _ start end)
 
 with_asid : (scheme : Scheme) (va : ℕ) (asid : Option ℕ) (e : Entry) → IsTrue (is_of_address scheme va e) → IsTrue (is_fenced scheme None asid e) → IsTrue (is_fenced scheme (Some va) asid e)
 with_asid scheme va None e there space = there
@@ -55,12 +61,12 @@ address-of : (scheme : Scheme) (va : ℕ) (asid : Option ℕ) (e : Entry) → Is
 address-of scheme va None e on = (on, refl)
 address-of scheme va (Some asid) e on = and_parts (is_of_address scheme va e) (is_of_space asid e) on
 
-pub covered_by_addresses : (scheme : Scheme) (harts : ℕ) (range : AddressRange) (asid : Option ℕ) (e : Entry) → IsPageOf scheme e.page → 0 < range.size
+pub covered_by_addresses : (scheme : Scheme) (harts : ℕ) (range : AddressRange) (asid : Option ℕ) (e : Entry) → IsPageOf scheme e.page
     → IsTrue (is_covered scheme (record { harts = harts; range = Some range; asid = asid }) e) ↔ ((va : ℕ) × (range.start ≤ va) × (va < range.start + range.size) × IsTrue (is_fenced scheme (Some va) asid e))
-covered_by_addresses scheme harts range asid e page some = (
+covered_by_addresses scheme harts range asid e page = (
   (λ on.
       let parts = and_parts (reaches (Some range) e.page) (is_fenced scheme None asid e) on in
-      let at = shared scheme range e page some parts.0 in
+      let at = shared scheme range e page parts.0 in
       (at.0, at.1, at.2, with_asid scheme at.0 asid e at.3 parts.1)),
   (λ at.
       let parts = address-of scheme at.0 asid e at.3 in

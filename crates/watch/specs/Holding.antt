@@ -42,8 +42,9 @@ pub record Live (scheme : Scheme) (trace : Trace) (hart : ℕ) (x : Translation)
 abbrev pub reaches : Option AddressRange → Span → Bool
 reaches None page = true
 reaches (Some range) page =
-    nat_lt range.start (page.base + bytes_of page.size)
-    && nat_lt page.base (range.start + range.size)
+    nat_lt 0 range.size
+    && (nat_lt range.start (page.base + bytes_of page.size)
+    && nat_lt page.base (range.start + range.size))
 
 -- a fence for each address of the range, or for all, with the ASID, takes the entry out
 abbrev pub is_covered : Scheme → RemoteFence → Entry → Bool

@@ -122,7 +122,7 @@ pub fn remote_fence_takes_what_was_not_live()
         → MayHold scheme (records.RemoteEnd by token ∷ trace) hart x
         → Live scheme (records.RemoteEnd by token ∷ trace) hart x }
     ensures addresses { (scheme : Scheme) (harts : ℕ) (range : AddressRange) (asid : Option ℕ)
-        (e : Entry) → IsPageOf scheme e.page → 0 < range.size
+        (e : Entry) → IsPageOf scheme e.page
         → IsTrue (is_covered scheme
         (record { harts = harts; range = Some range; asid = asid }) e)
         ↔ ((va : ℕ) × (range.start ≤ va) × (va < range.start + range.size)
