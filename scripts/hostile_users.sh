@@ -179,14 +179,15 @@ limited() {
         judge "$name" "$status" 5 'no memory' none
     fi
 }
+# (with less than 1,200 KiB the system ends a program of this size before its first instruction)
 unloaded=0
 for which in $all; do
-    for ((size = 1000; size <= 40000; size += 500)); do
+    for ((size = 1500; size <= 40000; size += 500)); do
         (ulimit -v $size; exec "$svsim" $which $which.toml >out 2>err); status=$?
         limited "$which with $size KiB of memory" $which.lines
     done
 done
-for ((size = 1000; size <= 40000; size += 1000)); do
+for ((size = 2000; size <= 40000; size += 1000)); do
     (ulimit -v $size; exec "$svsim" run long.toml >out 2>err); status=$?
     limited "a long run with $size KiB of memory" long.lines
 done
