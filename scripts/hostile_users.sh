@@ -173,21 +173,23 @@ limited() {
         judge "$name" 0 0 '' "$wanted"
     elif grep -q 'error while loading shared libraries\|Cannot allocate memory\|cannot allocate memory' err || [ "$status" = 126 ]; then
         unloaded=$((unloaded + 1))
+    # (there the system, or its loader, ends the program by a signal before it is loaded: strace shows execve and no call of its own)
+    elif [ "$status" = 139 ] && [ "$size" -lt 1200 ] && [ ! -s err ] && [ ! -s out ]; then
+        unloaded=$((unloaded + 1))
     elif grep -q 'no thread' err; then
         judge "$name" "$status" 5 'no thread' none
     else
         judge "$name" "$status" 5 'no memory' none
     fi
 }
-# (with less than 1,200 KiB the system ends a program of this size before its first instruction)
 unloaded=0
 for which in $all; do
-    for ((size = 1500; size <= 40000; size += 500)); do
+    for ((size = 1000; size <= 40000; size += 500)); do
         (ulimit -v $size; exec "$svsim" $which $which.toml >out 2>err); status=$?
         limited "$which with $size KiB of memory" $which.lines
     done
 done
-for ((size = 2000; size <= 40000; size += 1000)); do
+for ((size = 1000; size <= 40000; size += 1000)); do
     (ulimit -v $size; exec "$svsim" run long.toml >out 2>err); status=$?
     limited "a long run with $size KiB of memory" long.lines
 done
