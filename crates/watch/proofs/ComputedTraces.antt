@@ -1,8 +1,8 @@
 -- Whether a hart may hold a translation, whether it is stale, and whether a verdict is given, computed
 -- record by record.
-use Rattle.std.proofs.Common.{sym, ◌≡◌, ℕ, ◌+◌, ◌*◌, ◌<◌, ◌≤◌, Bool, true, false, Option, Some, None, [], ◌∷◌, IsTrue, ap, ◌∙◌, refl, inl, inr, arith}
+use Rattle.std.proofs.Common.{sym, subst, ◌≡◌, ℕ, ◌+◌, ◌*◌, ◌<◌, ◌≤◌, Bool, true, false, Option, Some, None, [], ◌∷◌, IsTrue, ap, ◌∙◌, refl, inl, inr, arith}
 use Rattle.std.specs.Prelude.{◌⊎◌, ◌↔◌, ◌==◌, ◌&&◌, ◌||◌, not, nat_le, nat_lt}
-use Rattle.std.proofs.lemmas.Bool.{true≢false, and_parts, and_from, cases_lt, eq-eqb, eqb-true, not-true, not_from_false}
+use Rattle.std.proofs.lemmas.Bool.{true≢false, and_parts, and_from, or_cases, or_left, or_right, cases_lt, eq-eqb, eqb-true, not-true, not_from_false}
 use Rattle.std.proofs.lemmas.Bool.Decides.{nat_tests}
 use Rattle.std.proofs.lemmas.Nat.{pow_pos}
 use Rattle.pte.specs.declared.scheme.Scheme.{Scheme}
@@ -13,14 +13,14 @@ use Rattle.tlb.specs.Fence.{is_fenced}
 use Rattle.watch.specs.declared.trace.Claim.{Claim}
 use Rattle.watch.specs.declared.trace.Frames.{Frames}
 use Rattle.watch.specs.declared.trace.Record.{Record}
-use Rattle.watch.specs.declared.trace.Record.TheVariants.{Fence, RemoteEnd, GiveOut, GiveBack, ClaimEnd, Use}
+use Rattle.watch.specs.declared.trace.Record.TheVariants.{Satp, Fence, RemoteEnd, GiveOut, GiveBack, ClaimEnd, Use}
 use Rattle.watch.specs.declared.trace.RemoteFence.{RemoteFence}
 use Rattle.watch.specs.declared.trace.Space.{Space}
 use Rattle.watch.specs.declared.trace.Verdict.{Verdict}
 use Rattle.watch.specs.declared.trace.Verdict.TheVariants.{Free, Reuse, Claimed, Used}
-use Rattle.watch.specs.Trace.{Trace, begins_claim, begins_fence, claim_of, fence_of, is_among, satp_of, words_of}
+use Rattle.watch.specs.Trace.{Trace, begins_claim, begins_fence, claim_of, fence_of, has_root, is_among, is_root, is_root_after, satp_of, words_of}
 use Rattle.watch.specs.Holding.{Drops, DropsAtEnd, Live, LiveSince, MayHold, Translation, is_covered, names}
-use Rattle.watch.specs.Staleness.{Stale, is_frame_of}
+use Rattle.watch.specs.Staleness.{IsCurrent, IsMapped, IsRootFor, Stale, is_frame_of}
 use Rattle.watch.specs.Verdicts.{WasGiven, IsNew, IsGiven, IsBroken, IsExposed, Serves, StaleSince, TakenForGone, TakesForGone, is_claimed}
 use Rattle.watch.proofs.Computed.{and_iff, has_leaf, is_mapped, leaf_iff, mapped_iff, not_iff, or_iff}
 
@@ -112,16 +112,90 @@ held_iff scheme [] hart x = live_iff scheme [] hart x
 held_iff scheme (newest ∷ trace) hart x =
     or_iff _ _ _ _ (live_iff scheme (newest ∷ trace) hart x) (and_iff _ _ _ _ (held_iff scheme trace hart x) (not_iff _ _ (drops_iff scheme newest trace hart x)))
 
+-- current
+abbrev pub under : Translation → ℕ → Translation
+under x root = record x { root = root }
+
+abbrev pub in_space : (ℕ → Bool) → Record → Bool
+in_space test (Satp of (Some space)) = test space.root
+in_space test _ = false
+
+-- some address space has a root that passes the test
+abbrev pub in_any_space : (ℕ → Bool) → Trace → Bool
+in_any_space test [] = false
+in_any_space test (newest ∷ trace) = in_space test newest || in_any_space test trace
+
+abbrev pub is_shared : Scheme → Trace → Translation → ℕ → Bool
+is_shared scheme trace x root = is_root trace root && is_mapped scheme (words_of trace) (under x root)
+
+abbrev pub is_current : Scheme → Trace → Translation → Bool
+is_current scheme trace x = is_mapped scheme (words_of trace) x || (x.entry.global && in_any_space (is_shared scheme trace x) trace)
+
+space-passes : (test : ℕ → Bool) (newest : Record) → IsTrue (in_space test newest) → (root : ℕ) × IsTrue (test root)
+space-passes test (Satp of (Some space)) h = (space.root, h)
+space-passes test (Satp of None) h = cc
+space-passes test _ h = cc
+
+some-passes : (test : ℕ → Bool) (trace : Trace) → IsTrue (in_any_space test trace) → (root : ℕ) × IsTrue (test root)
+some-passes test [] h = cc
+some-passes test (newest ∷ trace) h =
+    elim (or_cases (in_space test newest) (in_any_space test trace) h) [
+      | inl now ↦ space-passes test newest now
+      | inr before ↦ some-passes test trace before
+    ]
+
+root-passes : (test : ℕ → Bool) (root : ℕ) (o : Option Space) (of : ℕ) → IsTrue (has_root o root) → IsTrue (test root) → IsTrue (in_space test (Satp of o))
+root-passes test root None of is passes = cc
+root-passes test root (Some space) of is passes = ap test (eqb-true space.root root is) ∙ passes
+
+passes-newest : (test : ℕ → Bool) (root : ℕ) (newest : Record) (old : Bool) → IsTrue (is_root_after root newest old) → IsTrue (test root) → IsTrue (in_space test newest) ⊎ IsTrue old
+passes-newest test root (Satp of space) old is passes =
+    elim (or_cases (has_root space root) old is) [
+      | inl now ↦ inl (root-passes test root space of now passes)
+      | inr before ↦ inr before
+    ]
+passes-newest test root (GiveOut of frames) old is passes = inr (and_parts (not (is_among frames root)) old is).1
+passes-newest test root _ old is passes = inr is
+
+passes-some : (test : ℕ → Bool) (root : ℕ) (trace : Trace) → IsTrue (is_root trace root) → IsTrue (test root) → IsTrue (in_any_space test trace)
+passes-some test root [] is passes = cc
+passes-some test root (newest ∷ trace) is passes =
+    elim (passes-newest test root newest (is_root trace root) is passes) [
+      | inl now ↦ or_left (in_space test newest) (in_any_space test trace) now
+      | inr before ↦ or_right (in_space test newest) (in_any_space test trace) (passes-some test root trace before passes)
+    ]
+
+computed-current : (scheme : Scheme) (trace : Trace) (x : Translation) → IsTrue (is_current scheme trace x) → IsCurrent scheme trace x
+computed-current scheme trace x h =
+    elim (or_cases (is_mapped scheme (words_of trace) x) _ h) [
+      | inl own ↦ record { root = x.root; counts = inl refl; mapped = (mapped_iff scheme (words_of trace) x).0 own }
+      | inr shared ↦
+          let parts = and_parts x.entry.global _ shared in
+          let at = some-passes (is_shared scheme trace x) trace parts.1 in
+          let both = and_parts (is_root trace at.0) _ at.1 in
+          record { root = at.0; counts = inr (parts.0, both.0); mapped = (mapped_iff scheme (words_of trace) (under x at.0)).0 both.1 }
+    ]
+
+current-computed : (scheme : Scheme) (trace : Trace) (x : Translation) (root : ℕ) → IsRootFor trace x root → IsMapped scheme (words_of trace) (under x root) → IsTrue (is_current scheme trace x)
+current-computed scheme trace x root (inl own) mapped =
+    or_left (is_mapped scheme (words_of trace) x) _ ((mapped_iff scheme (words_of trace) x).1 (subst (λ r. IsMapped scheme (words_of trace) (under x r)) own mapped))
+current-computed scheme trace x root (inr g) mapped =
+    or_right (is_mapped scheme (words_of trace) x) _
+    (and_from x.entry.global _ g.0 (passes-some (is_shared scheme trace x) root trace g.1 (and_from (is_root trace root) _ g.1 ((mapped_iff scheme (words_of trace) (under x root)).1 mapped))))
+
+pub current_iff : (scheme : Scheme) (trace : Trace) (x : Translation) → IsTrue (is_current scheme trace x) ↔ IsCurrent scheme trace x
+current_iff scheme trace x = (computed-current scheme trace x, (λ c. current-computed scheme trace x c.root c.counts c.mapped))
+
 -- stale
 abbrev pub is_stale : Scheme → Trace → ℕ → Translation → Bool
-is_stale scheme trace hart x = is_held scheme trace hart x && not (is_mapped scheme (words_of trace) x)
+is_stale scheme trace hart x = is_held scheme trace hart x && not (is_current scheme trace x)
 
 pub stale_iff : (scheme : Scheme) (trace : Trace) (hart : ℕ) (x : Translation) → IsTrue (is_stale scheme trace hart x) ↔ Stale scheme trace hart x
 stale_iff scheme trace hart x = (
   (λ h.
       let parts = and_parts (is_held scheme trace hart x) _ h in
-      record { held = (held_iff scheme trace hart x).0 parts.0; gone = (not_iff _ _ (mapped_iff scheme (words_of trace) x)).0 parts.1 }),
-  (λ s. and_from _ _ ((held_iff scheme trace hart x).1 s.held) ((not_iff _ _ (mapped_iff scheme (words_of trace) x)).1 s.gone)),
+      record { held = (held_iff scheme trace hart x).0 parts.0; gone = (not_iff _ _ (current_iff scheme trace x)).0 parts.1 }),
+  (λ s. and_from _ _ ((held_iff scheme trace hart x).1 s.held) ((not_iff _ _ (current_iff scheme trace x)).1 s.gone)),
 )
 
 -- verdicts

@@ -2,33 +2,65 @@
 use Rattle.std.proofs.Common.{◌≡◌, ℕ, Bool, true, false, Option, Some, None, [], ◌∷◌, ◌++◌, IsTrue, sym, ◌∙◌, subst, refl, inl, inr, arith}
 use Rattle.std.specs.Prelude.{◌||◌, not}
 use Rattle.std.specs.List.{AllPass, list_all}
-use Rattle.std.proofs.lemmas.Bool.{eq-eqb, and_parts, not-true}
+use Rattle.std.proofs.lemmas.Bool.{eq-eqb, and_parts, not-true, or_right, true≢false}
 use Rattle.std.proofs.lemmas.List.Sums.{list_all-from_AllPass}
 use Rattle.pte.specs.declared.scheme.Scheme.{Scheme}
 use Rattle.pte.specs.declared.flags.PteFlags.{PteFlags}
 use Rattle.walk.specs.Leads.{Tables}
 use Rattle.tlb.specs.declared.store.Entry.{Entry}
 use Rattle.watch.specs.declared.trace.Record.{Record}
-use Rattle.watch.specs.declared.trace.Record.TheVariants.{Satp, Fence, RemoteBegin, RemoteEnd}
+use Rattle.watch.specs.declared.trace.Record.TheVariants.{Satp, Fence, RemoteBegin, RemoteEnd, GiveOut}
 use Rattle.watch.specs.declared.trace.RemoteFence.{RemoteFence}
 use Rattle.watch.specs.declared.trace.Space.{Space}
-use Rattle.watch.specs.Trace.{Trace, stores, words_of, fence_of, satp_of, satp_after, writes_satp, has_written_satp}
+use Rattle.watch.specs.Trace.{Trace, has_root, is_root, is_root_after, stores, words_of, fence_of, satp_of, satp_after, writes_satp, has_written_satp}
 use Rattle.watch.specs.Holding.{Translation, HasLeaf, LiveSince, MayHold, names}
-use Rattle.watch.specs.Staleness.{Permit, IsMapped, Stale, Exposed, HasFencedAll}
+use Rattle.watch.specs.Staleness.{Permit, IsMapped, IsRootFor, IsCurrent, Stale, Exposed, HasFencedAll}
 use Rattle.watch.proofs.Held.{words-kept}
+use Rattle.watch.proofs.Leaves.{same_leaf}
 
 -- what the tables have is mapped
 pub Permit-same : (flags : PteFlags) → Permit flags flags
 Permit-same flags = record { user = refl; read = λ h. h; write = λ h. h; execute = λ h. h }
 
-pub leaf-mapped : (scheme : Scheme) (words : Tables) (x : Translation) → HasLeaf scheme words x.root x.entry → IsMapped scheme words x
+leaf-mapped : (scheme : Scheme) (words : Tables) (x : Translation) → HasLeaf scheme words x.root x.entry → IsMapped scheme words x
 leaf-mapped scheme words x leaf = record { flags = x.entry.flags; permit = Permit-same x.entry.flags; leaf = leaf }
+
+-- and current, be it under its own root or, of what is global, under that of another space
+pub mapped-current : (scheme : Scheme) (trace : Trace) (x : Translation) → IsMapped scheme (words_of trace) x → IsCurrent scheme trace x
+mapped-current scheme trace x mapped = record { root = x.root; counts = inl refl; mapped = mapped }
+
+pub leaf-current : (scheme : Scheme) (trace : Trace) (x : Translation) → HasLeaf scheme (words_of trace) x.root x.entry → IsCurrent scheme trace x
+leaf-current scheme trace x leaf = mapped-current scheme trace x (leaf-mapped scheme (words_of trace) x leaf)
+
+pub shared-current : (scheme : Scheme) (trace : Trace) (root : ℕ) (x : Translation) → IsTrue x.entry.global → IsTrue (is_root trace root) → HasLeaf scheme (words_of trace) root x.entry → IsCurrent scheme trace x
+shared-current scheme trace root x global of leaf = record {
+  root = root;
+  counts = inr (global, of);
+  mapped = leaf-mapped scheme (words_of trace) (record x { root = root }) leaf;
+}
+
+-- a record that stores no word takes no root away
+root-kept : (newest : Record) (frame : ℕ) (old : Bool) → stores newest ≡ false → IsTrue old → IsTrue (is_root_after frame newest old)
+root-kept (Satp of space) frame old none is = or_right (has_root space frame) old is
+root-kept (GiveOut of frames) frame old none is = cc
+root-kept _ frame old none is = is
+
+counts-kept : (newest : Record) (trace : Trace) (x : Translation) (root : ℕ) → stores newest ≡ false → IsRootFor trace x root → IsRootFor (newest ∷ trace) x root
+counts-kept newest trace x root none (inl own) = inl own
+counts-kept newest trace x root none (inr g) = inr (g.0, root-kept newest root (is_root trace root) none g.1)
+
+current-kept : (scheme : Scheme) (newest : Record) (trace : Trace) (x : Translation) → stores newest ≡ false → IsCurrent scheme trace x → IsCurrent scheme (newest ∷ trace) x
+current-kept scheme newest trace x none c = record {
+  root = c.root;
+  counts = counts-kept newest trace x c.root none c.counts;
+  mapped = subst (λ w. IsMapped scheme w (record x { root = c.root })) (sym (words-kept newest (words_of trace) none)) c.mapped;
+}
 
 -- what is stale was held before
 pub stale-held : (scheme : Scheme) (newest : Record) (trace : Trace) (hart : ℕ) (x : Translation) → Stale scheme (newest ∷ trace) hart x → MayHold scheme trace hart x
 stale-held scheme newest trace hart x stale =
     elim stale.held [
-      | inl live ↦ absurd (stale.gone (leaf-mapped scheme (words_of (newest ∷ trace)) x live.leaf))
+      | inl live ↦ absurd (stale.gone (leaf-current scheme (newest ∷ trace) x live.leaf))
       | inr h ↦ h.0
     ]
 
@@ -36,12 +68,37 @@ stale-held scheme newest trace hart x stale =
 pub stale-before : (scheme : Scheme) (newest : Record) (trace : Trace) (hart : ℕ) (x : Translation) → stores newest ≡ false → Stale scheme (newest ∷ trace) hart x → Stale scheme trace hart x
 stale-before scheme newest trace hart x none stale = record {
   held = stale-held scheme newest trace hart x stale;
-  gone = λ m. stale.gone (subst (λ w. IsMapped scheme w x) (sym (words-kept newest (words_of trace) none)) m);
+  gone = λ c. stale.gone (current-kept scheme newest trace x none c);
 }
 
--- of a page that has no leaf now what may be held is stale
-pub unmapped-stale : (scheme : Scheme) (trace : Trace) (hart : ℕ) (x : Translation) → MayHold scheme trace hart x → ((e : Entry) → e.page ≡ x.entry.page → ¬ HasLeaf scheme (words_of trace) x.root e) → Stale scheme trace hart x
-unmapped-stale scheme trace hart x held none = record { held = held; gone = λ m. none (record x.entry { flags = m.flags }) refl m.leaf }
+-- of a page that has no leaf now, or another, what may be held is stale
+pub unmapped-stale : (scheme : Scheme) (trace : Trace) (hart : ℕ) (x : Translation) → MayHold scheme trace hart x
+    → ((root : ℕ) (e : Entry) → IsRootFor trace x root → e.page ≡ x.entry.page → ¬ HasLeaf scheme (words_of trace) root e) → Stale scheme trace hart x
+unmapped-stale scheme trace hart x held none = record { held = held; gone = λ c. none c.root (record x.entry { flags = c.mapped.flags }) c.counts refl c.mapped.leaf }
+
+pub changed-stale : (scheme : Scheme) (trace : Trace) (hart : ℕ) (x : Translation) → MayHold scheme trace hart x
+    → ((root : ℕ) (now : Entry) → IsRootFor trace x root → now.page ≡ x.entry.page → HasLeaf scheme (words_of trace) root now
+    → ¬ ((now.ppn ≡ x.entry.ppn) × (now.global ≡ x.entry.global) × Permit now.flags x.entry.flags))
+    → Stale scheme trace hart x
+changed-stale scheme trace hart x held differs = record {
+  held = held;
+  gone = λ c. differs c.root (record x.entry { flags = c.mapped.flags }) c.counts refl c.mapped.leaf (refl, refl, c.mapped.permit);
+}
+
+own-root : (trace : Trace) (x : Translation) (root : ℕ) → x.entry.global ≡ false → IsRootFor trace x root → root ≡ x.root
+own-root trace x root local (inl own) = own
+own-root trace x root local (inr g) = absurd (true≢false (sym g.0 ∙ local))
+
+pub own-stale : (scheme : Scheme) (trace : Trace) (hart : ℕ) (x : Translation) (now : Entry) → x.entry.global ≡ false → MayHold scheme trace hart x → HasLeaf scheme (words_of trace) x.root now → now.page ≡ x.entry.page
+    → ¬ ((now.ppn ≡ x.entry.ppn) × Permit now.flags x.entry.flags) → Stale scheme trace hart x
+own-stale scheme trace hart x now local held leaf page differs = record {
+  held = held;
+  gone = λ c.
+      let old : Entry = record x.entry { flags = c.mapped.flags } in
+      let there : HasLeaf scheme (words_of trace) x.root old = subst (λ r. HasLeaf scheme (words_of trace) r old) (own-root trace x c.root local c.counts) c.mapped.leaf in
+      let same = same_leaf scheme (words_of trace) x.root now old leaf there page in
+      differs (same.ppn, subst (λ f. Permit f x.entry.flags) (sym same.flags) c.mapped.permit);
+}
 
 -- where no word is stored, the memory stays
 pub memory-kept : (later earlier : Trace) → list_all (λ (r : Record). not (stores r)) later ≡ true → words_of (later ++ earlier) ≡ words_of earlier
@@ -65,7 +122,7 @@ pub nothing_stale : (scheme : Scheme) (trace : Trace) (hart : ℕ) (x : Translat
 nothing_stale scheme trace hart x fenced stale =
     let there : MayHold scheme (fenced.later ++ Fence hart None None ∷ fenced.earlier) hart x = subst (λ t. MayHold scheme t hart x) fenced.split stale.held in
     let leaf = all-mapped scheme hart fenced.earlier fenced.later x (list_all-from_AllPass (λ (r : Record). not (stores r)) fenced.later fenced.kept) there in
-    stale.gone (leaf-mapped scheme (words_of trace) x (subst (λ t. HasLeaf scheme (words_of t) x.root x.entry) (sym fenced.split) leaf))
+    stale.gone (leaf-current scheme trace x (subst (λ t. HasLeaf scheme (words_of t) x.root x.entry) (sym fenced.split) leaf))
 
 -- a hart that has not written satp holds nothing
 kept-none : (newest : Record) (hart : ℕ) (old : Option Space) → writes_satp hart newest ≡ false → old ≡ None → satp_after hart newest old ≡ None
@@ -113,7 +170,7 @@ pub remote_nothing_stale : (scheme : Scheme) (by ender token : ℕ) (fence : Rem
 remote_nothing_stale scheme by ender token fence hart x earlier during begun everywhere every named kept stale =
     let flat = list_all-from_AllPass (λ (r : Record). not (stores r)) during kept in
     elim stale.held [
-      | inl live ↦ stale.gone (leaf-mapped scheme _ x live.leaf)
+      | inl live ↦ stale.gone (leaf-current scheme _ x live.leaf)
       | inr h ↦
           h.1 (record {
             fence = fence;
@@ -121,7 +178,7 @@ remote_nothing_stale scheme by ender token fence hart x earlier during begun eve
             named = named;
             covered = rw (everywhere, every) refl;
             not_live = λ since.
-                stale.gone (leaf-mapped scheme _ x
+                stale.gone (leaf-current scheme _ x
                 (subst (λ w. HasLeaf scheme w x.root x.entry) (sym (memory-kept during (RemoteBegin by token fence ∷ earlier) flat)) (since-mapped scheme by token fence hart x earlier during flat since)));
           })
     ]

@@ -180,6 +180,22 @@ pub table_given_out : worked.table_given_out
 unfolding kind_of
 table_given_out = stale _ _ _ refl
 
+pub root_given_out : worked.root_given_out
+unfolding kind_of
+root_given_out = mapped _ _ _ refl refl
+
+pub unmapped_after_root : worked.unmapped_after_root
+unfolding kind_of
+unmapped_after_root = stale _ _ _ refl
+
+pub both_roots_given_out : worked.both_roots_given_out
+unfolding kind_of
+both_roots_given_out = stale _ _ _ refl
+
+pub root_of_page_given_out : worked.root_of_page_given_out
+unfolding kind_of
+root_of_page_given_out = stale _ _ _ refl
+
 pub entered_late : worked.entered_late
 unfolding kind_of
 entered_late = not_held _ _ _ refl
@@ -248,4 +264,4 @@ pub freed_after_mapped_again : worked.freed_after_mapped_again
 unfolding kind_of
 freed_after_mapped_again = first _ _ _ _ refl
 
-pub ruleset worked_traces = (freed_for_the_first_time, freed_once_more, freed_after_mapped_again, freed_before_fence, freed_after_own_fence, freed_after_fence, freed_after_full_fences, other_frame_freed, freed_after_fence_elsewhere, freed_after_fence_of_other_asid, freed_after_early_fence, freed_after_remote_fence, freed_within_remote_fence, freed_after_early_remote_fence, freed_after_fence_of_others, freed_after_fill_within_fence, freed_after_leaving, freed_after_leaving_and_fence, superpage_freed, superpage_freed_after_fence, global_freed_after_fence_with_asid, global_freed_after_fence, rights_lost, rights_gained, unmapped, mapped_again, mapped_elsewhere, pointer_cleared, table_given_out, entered_late, reused_before_fence, reused_after_fence, claimed_with_no_fence, claimed_with_fence, claimed_before_store, claimed_of_other_root, claimed_after_protection, used_after_free, used_after_claim, used_after_fence, used_before_free, used_elsewhere, used_beside)
+pub ruleset worked_traces = (freed_for_the_first_time, freed_once_more, freed_after_mapped_again, freed_before_fence, freed_after_own_fence, freed_after_fence, freed_after_full_fences, other_frame_freed, freed_after_fence_elsewhere, freed_after_fence_of_other_asid, freed_after_early_fence, freed_after_remote_fence, freed_within_remote_fence, freed_after_early_remote_fence, freed_after_fence_of_others, freed_after_fill_within_fence, freed_after_leaving, freed_after_leaving_and_fence, superpage_freed, superpage_freed_after_fence, global_freed_after_fence_with_asid, global_freed_after_fence, rights_lost, rights_gained, unmapped, mapped_again, mapped_elsewhere, pointer_cleared, table_given_out, root_given_out, unmapped_after_root, both_roots_given_out, root_of_page_given_out, entered_late, reused_before_fence, reused_after_fence, claimed_with_no_fence, claimed_with_fence, claimed_before_store, claimed_of_other_root, claimed_after_protection, used_after_free, used_after_claim, used_after_fence, used_before_free, used_elsewhere, used_beside)

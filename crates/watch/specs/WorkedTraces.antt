@@ -294,6 +294,32 @@ pointer_cleared = IsHeldStale (mapped ++ Store 0 0x80001000 0 ∷ []) 1 (page wr
 abbrev pub table_given_out : Type 0
 table_given_out = IsHeldStale (mapped ++ given_out 0x80002 ∷ []) 1 (page writable)
 
+-- the kernel's table stands under both roots. A hart left the first space, and its root's frame is
+-- given out: what is global is not stale, since the second space has it, until the kernel unmaps it,
+-- or the second root is given out too; and what is not global is stale at once
+abbrev pub shared_mapped : List Record
+shared_mapped =
+    Store 0 0x80010000 (table_word 0x80001 false) ∷ global_mapped ++ Satp 1 second_space ∷ []
+
+abbrev pub root_given_out : Type 0
+root_given_out = IsHeldMapped (shared_mapped ++ given_out 0x80000 ∷ []) 1 global_page
+
+abbrev pub unmapped_after_root : Type 0
+unmapped_after_root =
+    IsHeldStale (shared_mapped ++ given_out 0x80000 ∷ leaf_cleared ∷ []) 1 global_page
+
+abbrev pub both_roots_given_out : Type 0
+both_roots_given_out =
+    IsHeldStale (shared_mapped ++ given_out 0x80000 ∷ Satp 1 None ∷ given_out 0x80010 ∷ []) 1
+    global_page
+
+abbrev pub root_of_page_given_out : Type 0
+root_of_page_given_out =
+    IsHeldStale
+    (Store 0 0x80010000 (table_word 0x80001 false) ∷ mapped
+    ++ Satp 1 second_space ∷ given_out 0x80000 ∷ [])
+    1 (page writable)
+
 -- a hart that comes into the space after the page is unmapped holds nothing of it
 abbrev pub entered_late : Type 0
 entered_late =

@@ -23,10 +23,10 @@ ghost use Rattle.watch.specs.declared.trace.RemoteFence.{RemoteFence};
 ghost use Rattle.watch.specs.declared.trace.Space.{Space};
 ghost use Rattle.watch.specs.declared.trace.Verdict.{Verdict};
 ghost use Rattle.watch.specs.declared.trace.Verdict.TheVariants.{Claimed, Free};
-ghost use Rattle.watch.specs.Trace.{Trace, fence_of, hart_of, has_written_satp, stores, words_of};
+ghost use Rattle.watch.specs.Trace.{Trace, fence_of, hart_of, has_written_satp, is_root, stores, words_of};
 ghost use Rattle.watch.specs.Holding.{Drops, HasLeaf, HeldSince, Live, LiveSince, MayHold};
 ghost use Rattle.watch.specs.Holding.{Translation, is_covered, is_fence_for, names};
-ghost use Rattle.watch.specs.Staleness.{Exposed, HasFencedAll, Permit, Stale};
+ghost use Rattle.watch.specs.Staleness.{Exposed, HasFencedAll, IsRootFor, Permit, Stale};
 ghost use Rattle.watch.specs.Verdicts.{WasGiven, IsGiven, IsGivenAt, IsNew, TakenForGone};
 
 /// What a walk finds is a leaf that the tables have, and it maps each page of 4 KiB of its page; a
@@ -140,7 +140,7 @@ pub fn only_stores_make_stale()
 {}
 
 /// What the tables have now is not stale, be it that the page was unmapped and mapped again just
-/// so, or that its leaf has gained rights.
+/// so, that its leaf has gained rights, or that it is global and another address space has it.
 pub fn what_is_mapped_is_not_stale()
     ensures live { (scheme : Scheme) (trace : Trace) (hart : ℕ) (x : Translation)
         → Live scheme trace hart x → ¬ Stale scheme trace hart x }
@@ -150,20 +150,31 @@ pub fn what_is_mapped_is_not_stale()
         (flags : PteFlags) → Permit flags x.entry.flags
         → HasLeaf scheme (words_of trace) x.root (record x.entry { flags = flags })
         → ¬ Stale scheme trace hart x }
+    ensures shared { (scheme : Scheme) (trace : Trace) (hart root : ℕ) (x : Translation)
+        → IsTrue x.entry.global → IsTrue (is_root trace root)
+        → HasLeaf scheme (words_of trace) root x.entry → ¬ Stale scheme trace hart x }
 {}
 
 /// What a hart may hold of a page is stale where the page has no leaf now, or one to another frame,
-/// with fewer rights, or not as global.
+/// with fewer rights, or not as global: under its root and, of what is global, under the root of
+/// each address space.
 pub fn what_has_changed_is_stale()
     ensures unmapped { (scheme : Scheme) (trace : Trace) (hart : ℕ) (x : Translation)
         → MayHold scheme trace hart x
-        → ((e : Entry) → e.page ≡ x.entry.page → ¬ HasLeaf scheme (words_of trace) x.root e)
+        → ((root : ℕ) (e : Entry) → IsRootFor trace x root → e.page ≡ x.entry.page
+        → ¬ HasLeaf scheme (words_of trace) root e)
         → Stale scheme trace hart x }
-    ensures changed { (scheme : Scheme) (trace : Trace) (hart : ℕ) (x : Translation) (now : Entry)
-        → MayHold scheme trace hart x → HasLeaf scheme (words_of trace) x.root now
-        → now.page ≡ x.entry.page
+    ensures changed { (scheme : Scheme) (trace : Trace) (hart : ℕ) (x : Translation)
+        → MayHold scheme trace hart x
+        → ((root : ℕ) (now : Entry) → IsRootFor trace x root → now.page ≡ x.entry.page
+        → HasLeaf scheme (words_of trace) root now
         → ¬ ((now.ppn ≡ x.entry.ppn) × (now.global ≡ x.entry.global)
-        × Permit now.flags x.entry.flags)
+        × Permit now.flags x.entry.flags))
+        → Stale scheme trace hart x }
+    ensures of_its_root { (scheme : Scheme) (trace : Trace) (hart : ℕ) (x : Translation)
+        (now : Entry) → x.entry.global ≡ false → MayHold scheme trace hart x
+        → HasLeaf scheme (words_of trace) x.root now → now.page ≡ x.entry.page
+        → ¬ ((now.ppn ≡ x.entry.ppn) × Permit now.flags x.entry.flags)
         → Stale scheme trace hart x }
 {}
 

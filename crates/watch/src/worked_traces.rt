@@ -69,5 +69,9 @@ pub fn worked_staleness()
     ensures mapped_elsewhere { traces.mapped_elsewhere }
     ensures pointer_cleared { traces.pointer_cleared }
     ensures table_given_out { traces.table_given_out }
+    ensures root_given_out { traces.root_given_out }
+    ensures unmapped_after_root { traces.unmapped_after_root }
+    ensures both_roots_given_out { traces.both_roots_given_out }
+    ensures root_of_page_given_out { traces.root_of_page_given_out }
     ensures entered_late { traces.entered_late }
 {}
