@@ -46,7 +46,7 @@ use Rattle.board.specs.Tables.{IsMissed, after_edit, after_fence, after_map, aft
 use Rattle.one_hart.specs.declared.call.Call.TheVariants as call
 use Rattle.one_hart.specs.Answering.{call_told, heard, map_told, translation_told, opening_told, progress_told, service_told}
 use Rattle.one_hart.specs.Asked.{Turned, loaded, turned}
-use Rattle.one_hart.specs.Alone.{IsAlone, IsDue}
+use Rattle.one_hart.specs.Alone.{IsAlone, IsDueAtPort}
 use Rattle.one_hart.proofs.Steps.{Steps, tied, told-due}
 use Rattle.one_hart.proofs.Calls.{ack-steps, close-steps, fence-steps, finish-steps, flush-steps, nothing-looked, own-pair, post-steps, serve-steps, switch-steps}
 use Rattle.one_hart.proofs.Edited.{change-steps, map-steps}
@@ -86,29 +86,29 @@ steps-to : (p after done : PortState) (e : Event) (r : Reply) → after ≡ done
 steps-to p after done e r same steps = subst (λ (q : PortState). Steps p q e r) (sym same) steps
 
 pub flush_due : (p after : PortState) (s : Scope) (named : ℕ) (r : Result ℕ Refusal) (answer : Reply) → r ≡ flush_answer p s named → after ≡ after_flush p s named
-    → answer ≡ opening_told r → IsDue (call.Flush s named) p answer after
+    → answer ≡ opening_told r → IsDueAtPort (call.Flush s named) p answer after
 flush_due p after s named r answer is-r is-after same C H is =
     tied C H p after (event.Flush 0 s named) (opening_told (flush_answer p s named)) answer is (steps-to p after (after_flush p s named) _ _ is-after (flush-steps C H p is s named))
     (same ∙ ap opening_told is-r ∙ heard-opening (flush_answer p s named))
 
 pub switch_due : (p after : PortState) (space : ℕ) (r : Result (Unit {0}) Refusal) (answer : Reply) → r ≡ switch_answer p space → after ≡ after_switch p space
-    → answer ≡ call_told r → IsDue (call.Switch space) p answer after
+    → answer ≡ call_told r → IsDueAtPort (call.Switch space) p answer after
 switch_due p after space r answer is-r is-after same C H is =
     tied C H p after (event.Switch 0 space) (call_told (switch_answer p space)) answer is (steps-to p after (after_switch p space) _ _ is-after (switch-steps C H p is space))
     (same ∙ ap call_told is-r ∙ heard-call (switch_answer p space))
 
-pub fence_due : (p after : PortState) (rs1 rs2 : Option ℕ) (answer : Reply) → after ≡ after_fence p rs1 rs2 → answer ≡ reply.Ok → IsDue (call.Fence rs1 rs2) p answer after
+pub fence_due : (p after : PortState) (rs1 rs2 : Option ℕ) (answer : Reply) → after ≡ after_fence p rs1 rs2 → answer ≡ reply.Ok → IsDueAtPort (call.Fence rs1 rs2) p answer after
 fence_due p after rs1 rs2 answer is-after same C H is =
     tied C H p after (event.Fence 0 rs1 rs2) reply.Ok answer is (steps-to p after (after_fence p rs1 rs2) _ _ is-after (fence-steps C H p is rs1 rs2)) same
 
 pub finish_due : (p after : PortState) (ticket : ℕ) (r : Result (Unit {0}) Refusal) (answer : Reply) → r ≡ finish_answer p ticket → after ≡ after_finish_of p ticket
-    → answer ≡ call_told r → IsDue (call.Finish ticket) p answer after
+    → answer ≡ call_told r → IsDueAtPort (call.Finish ticket) p answer after
 finish_due p after ticket r answer is-r is-after same C H is =
     tied C H p after (event.Finish 0 ticket) (call_told (finish_answer p ticket)) answer is (steps-to p after (after_finish_of p ticket) _ _ is-after (finish-steps C H p is ticket))
     (same ∙ ap call_told is-r ∙ heard-call (finish_answer p ticket))
 
 pub ack_due : (p after : PortState) (ticket : ℕ) (r : Result Collected Refusal) (answer : Reply) → r ≡ ack_self_answer p ticket → after ≡ after_ack_self p ticket
-    → answer ≡ progress_told r → IsDue (call.AckSelf ticket) p answer after
+    → answer ≡ progress_told r → IsDueAtPort (call.AckSelf ticket) p answer after
 ack_due p after ticket r answer is-r is-after same C H is =
     tied C H p after (event.AckSelf 0 ticket) (progress_told (ack_self_answer p ticket)) answer is (steps-to p after (after_ack_self p ticket) _ _ is-after (ack-steps C H p is ticket))
     (same ∙ ap progress_told is-r ∙ heard-progress (ack_self_answer p ticket))
@@ -128,7 +128,7 @@ closes-nothing false b x y e = refl
 closes-nothing true b x y e = absurd (false≢true (sym e))
 
 pub close_due : (p after : PortState) (to : ℕ) (r : Result (Unit {0}) Refusal) (answer : Reply) → r ≡ close_answer p to → after ≡ after_close_to p to
-    → answer ≡ call_told r → IsDue (call.CloseTo to) p answer after
+    → answer ≡ call_told r → IsDueAtPort (call.CloseTo to) p answer after
 close_due p after to r answer is-r is-after same C H is =
     let alone = own-pair C H p is to in
     let refused : r ≡ Err NoHart = is-r ∙ answer-first (are_pair p.setup p.hart to) _ _ alone in
@@ -138,7 +138,7 @@ close_due p after to r answer is-r is-after same C H is =
 
 pub post_due : (p after : PortState) (ticket to : ℕ) (r : Result (Unit {0}) Refusal) (answer : Reply)
     → ((why : Refusal) → post_refusal p ticket to ≡ Some why → r ≡ Err why) → OnErr r (after ≡ after_no_post p ticket to)
-    → answer ≡ call_told r → IsDue (call.Post ticket to) p answer after
+    → answer ≡ call_told r → IsDueAtPort (call.Post ticket to) p answer after
 post_due p after ticket to r answer refuses stays same C H is =
     let alone = own-pair C H p is to in
     let why : post_refusal p ticket to ≡ Some NoHart = refusal-first (are_pair p.setup p.hart to) _ (outbox_refusal (outbox_to p to)) alone in
@@ -149,7 +149,7 @@ post_due p after ticket to r answer refuses stays same C H is =
     (same ∙ ap call_told refused)
 
 pub serve_due : (p after : PortState) (from : ℕ) (r : Result Request Refusal) (answer : Reply) → (are_pair p.setup p.hart from ≡ false → r ≡ Err NoHart) → OnErr r (after ≡ p)
-    → answer ≡ service_told r → IsDue (call.Serve from) p answer after
+    → answer ≡ service_told r → IsDueAtPort (call.Serve from) p answer after
 serve_due p after from r answer refuses stays same C H is =
     let refused : r ≡ Err NoHart = refuses (own-pair C H p is from) in
     tied C H p after (event.Take 0 from) (reply.Refused NoHart) answer is
@@ -163,7 +163,7 @@ collect-told hart false c r there none some = rw (there, none refl) refl
 
 pub collect_due : (p after : PortState) (ticket : ℕ) (r : Result Collected Refusal) (answer : Reply) → (is_open p.tickets ticket ≡ false → (r ≡ Err NotOpen) × (after ≡ p))
     → (is_open p.tickets ticket ≡ true → r ≡ Ok (progress_at after.tickets ticket)) → (is_open p.tickets ticket ≡ true → IsCollected p ticket p.setup.harts after)
-    → answer ≡ progress_told r → IsDue (call.Collect ticket) p answer after
+    → answer ≡ progress_told r → IsDueAtPort (call.Collect ticket) p answer after
 collect_due p after ticket r answer closed opened looks same C H is =
     let stays : after ≡ p =
     by_test (λ _. after ≡ p) (is_open p.tickets ticket) (λ t. let l = looks t in l.is ∙ nothing-looked C H p is ticket l.words) (λ f. (closed f).1) in
@@ -179,7 +179,7 @@ collect_due p after ticket r answer closed opened looks same C H is =
 module _ (p after : PortState) (state : Shared ℕ View) (view : HasView p state) where
   pub map_due : (place : Place) (page : Span) (ppn : ℕ) (flags : PteFlags) (r : Result Mapped Refusal) (answer : Reply) → IsPage page
       → r ≡ map_answer p (wish.Map place page ppn flags) → after ≡ after_map p (wish.Map place page ppn flags)
-      → answer ≡ map_told r → IsDue (call.Map place page ppn flags) p answer after
+      → answer ≡ map_told r → IsDueAtPort (call.Map place page ppn flags) p answer after
   map_due place page ppn flags r answer is-page is-r is-after same C H is =
       tied C H p after (event.Map 0 place page ppn flags) (map_told (map_answer p (wish.Map place page ppn flags))) answer is
       (steps-to p after (after_map p (wish.Map place page ppn flags)) _ _ is-after (map-steps C H p is state view place page ppn flags is-page))
@@ -187,7 +187,7 @@ module _ (p after : PortState) (state : Shared ℕ View) (view : HasView p state
 
   pub unmap_due : (place : Place) (page : Span) (named : ℕ) (r : Result ℕ Refusal) (answer : Reply) → IsPage page
       → r ≡ edit_answer p (wish.Unmap place page) named → after ≡ after_edit p (wish.Unmap place page) named
-      → answer ≡ opening_told r → IsDue (call.Unmap place page named) p answer after
+      → answer ≡ opening_told r → IsDueAtPort (call.Unmap place page named) p answer after
   unmap_due place page named r answer is-page is-r is-after same C H is =
       tied C H p after (event.Unmap 0 place page named) (opening_told (edit_answer p (wish.Unmap place page) named)) answer is
       (steps-to p after (after_edit p (wish.Unmap place page) named) _ _ is-after (change-steps C H p is state view (wish.Unmap place page) named refl is-page))
@@ -195,7 +195,7 @@ module _ (p after : PortState) (state : Shared ℕ View) (view : HasView p state
 
   pub protect_due : (place : Place) (page : Span) (flags : PteFlags) (named : ℕ) (r : Result ℕ Refusal) (answer : Reply) → IsPage page
       → r ≡ edit_answer p (wish.Protect place page flags) named → after ≡ after_edit p (wish.Protect place page flags) named
-      → answer ≡ opening_told r → IsDue (call.Protect place page flags named) p answer after
+      → answer ≡ opening_told r → IsDueAtPort (call.Protect place page flags named) p answer after
   protect_due place page flags named r answer is-page is-r is-after same C H is =
       tied C H p after (event.Protect 0 place page flags named) (opening_told (edit_answer p (wish.Protect place page flags) named)) answer is
       (steps-to p after (after_edit p (wish.Protect place page flags) named) _ _ is-after (change-steps C H p is state view (wish.Protect place page flags) named refl is-page))
@@ -217,7 +217,7 @@ module _ (p after : PortState) (state : Shared ℕ View) (view : HasView p state
       → ((¬ IsCanonical p.setup.layout.scheme va) → (r ≡ Err (page_trap access NotCanonical)) × (after ≡ p))
       → ((entry : Entry) → IsCanonical p.setup.layout.scheme va → first_match p.tlb.entries (own_asid p) va ≡ Some entry → (r ≡ answer_of entry va access ctx) × (after ≡ p))
       → (IsCanonical p.setup.layout.scheme va → first_match p.tlb.entries (own_asid p) va ≡ None → IsMissed p va access ctx r after)
-      → answer ≡ translation_told r → IsDue (call.Translate va access ctx) p answer after
+      → answer ≡ translation_told r → IsDueAtPort (call.Translate va access ctx) p answer after
   translate_due va access ctx r answer wrong hit miss same C H is =
       by_test (λ _. (let last = loaded (level_count widest) C (turned C (event.Begin 0 va access ctx) H) in (answer ≡ heard last.reply) × IsAlone C last.history after)) (is_canonical p.setup.layout.scheme va)
       (λ test. matched test ((is_canonical-IsCanonical p.setup.layout.scheme va).0 test) (first_match p.tlb.entries (own_asid p) va) refl)

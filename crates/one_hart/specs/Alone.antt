@@ -39,15 +39,15 @@ pub record IsAlone (setup : Setup) (history : History) (port : PortState) : Type
   pub stands : Stands setup (machine_of port) history
 
 -- what the port answers to a call is due, and it then has what the longer history leaves
-abbrev pub IsDue : Call → PortState → Reply → PortState → Type 0
-IsDue call old answer new =
+abbrev pub IsDueAtPort : Call → PortState → Reply → PortState → Type 0
+IsDueAtPort call old answer new =
     (setup : Setup) (history : History) → IsAlone setup history old →
     (answer ≡ heard (asked setup call history).reply)
     × IsAlone setup (asked setup call history).history new
 
 -- so it is with a list of calls
-abbrev pub AreDue : List Call → PortState → List Reply → PortState → Type 0
-AreDue calls old answers new =
+abbrev pub AreDueAtPort : List Call → PortState → List Reply → PortState → Type 0
+AreDueAtPort calls old answers new =
     (setup : Setup) (history : History) → IsAlone setup history old →
     (answers ≡ answers_due setup history calls)
     × IsAlone setup (history_due setup history calls) new

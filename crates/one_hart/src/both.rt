@@ -1,8 +1,11 @@
 //! The same calls by the port of a board with one hart, and by a machine.
 
-ghost use Rattle.std.specs.Prelude.{◌≡◌, [], IfOk};
+ghost use Rattle.std.specs.Prelude.{◌≡◌, [], Err, IfOk, OnOk};
 ghost use Rattle.history.specs.Setup.{setup_of};
 ghost use Rattle.laws.specs.Kept.{IsSetup};
+ghost use Rattle.spaces.specs.Limits.{MeetsLimits};
+ghost use Rattle.spaces.specs.declared.faults.OpenFault.TheVariants as OpenFault;
+ghost use Rattle.spaces.specs.declared.configuration.TheConstants.{MAX_FRAMES, MAX_LIVE_FRAMES};
 ghost use Rattle.one_hart.specs.Asked.{answers_due};
 ghost use Rattle.one_hart.specs.Alone.{NewPortIsAlone};
 ghost use Rattle.one_hart.specs.Runs.{EachCallIsARun};
@@ -33,7 +36,10 @@ pub fn each_call_is_a_run()
 fn board_answers(alloc: Global, config: &Config, calls: &[Call]) -> Result<Vec<Reply>, OpenFault>
     requires one { config.now.harts ≡ 1 }
     requires setup { IsSetup (setup_of config.now) }
-    ensures { IfOk result (λ answers. answers.items
+    ensures limits { OnOk result (MeetsLimits MAX_LIVE_FRAMES config.now) }
+    ensures bad_layout { result ≡ Err OpenFault.BadLayout
+        → ¬ MeetsLimits MAX_LIVE_FRAMES config.now }
+    ensures due { IfOk result (λ answers. answers.items
         ≡ answers_due (setup_of config.now) [] calls.now) }
 {
     let (_board, mut ports) = Board::open(alloc, config)?;
@@ -42,13 +48,18 @@ fn board_answers(alloc: Global, config: &Config, calls: &[Call]) -> Result<Vec<R
 }
 
 /// Opens a board and a machine with a configuration of one hart, and makes the same calls by both:
-/// their answers are the same, and they are due.
+/// their answers are the same, and they are due. Refused with `BadLayout` only for a configuration
+/// that breaks a limit of either, and with `NoMemory` if memory runs out.
 pub fn both_answers(
     alloc: Global,
     config: &Config,
     calls: &[Call],
 ) -> Result<(Vec<Reply>, Vec<Reply>), OpenFault>
     requires { config.now.harts ≡ 1 }
+    ensures limits { OnOk result (MeetsLimits MAX_FRAMES config.now
+        × MeetsLimits MAX_LIVE_FRAMES config.now) }
+    ensures bad_layout { result ≡ Err OpenFault.BadLayout
+        → ¬ (MeetsLimits MAX_FRAMES config.now × MeetsLimits MAX_LIVE_FRAMES config.now) }
     ensures same { IfOk result (λ r. r.0.items ≡ r.1.items) }
     ensures due { IfOk result (λ r. r.0.items ≡ answers_due (setup_of config.now) [] calls.now) }
 {
