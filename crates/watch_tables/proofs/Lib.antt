@@ -1,0 +1,4 @@
+pub mod Numbers
+pub mod Paths
+pub mod Subtrees
+pub mod Passing

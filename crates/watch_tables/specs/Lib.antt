@@ -1,0 +1,4 @@
+pub mod Words
+pub mod Paths
+pub mod Leaves
+pub mod Through

@@ -1,0 +1,69 @@
+//! Leaves.
+
+ghost use Rattle.std.specs.Prelude.{◌≡◌, ◌↔◌, IsTrue};
+ghost use Rattle.pte.specs.Address.{pages_of};
+ghost use Rattle.watch.specs.Staleness.{Permit};
+
+use pte::{Kind, Page, PageSize, PteFlags};
+use tlb::Entry;
+
+/// What the leaf of a page has.
+#[derive(Clone, Copy, PartialEq, Eq, Debug)]
+pub struct Leaf {
+    /// The PPN, a multiple of the page's size in pages of 4 KiB.
+    pub ppn: u64,
+    /// The flags.
+    pub flags: PteFlags,
+    /// Whether G is set in the leaf or in a pointer above it.
+    pub global: bool,
+}
+
+/// Whether the new flags permit what the old ones do.
+fn permits(new: PteFlags, old: PteFlags) -> bool
+    ensures { IsTrue result ↔ Permit new old }
+{
+    new.is_user() == old.is_user()
+        && (new.may_read() || !old.may_read())
+        && (new.may_write() || !old.may_write())
+        && (new.may_execute() || !old.may_execute())
+}
+
+impl Leaf {
+    ghost use Rattle.watch_tables.specs.Paths.{IsAtLeast, entry_at, leaf_from};
+
+    /// The leaf of a page of a size that an entry of a kind is, below pointers of which one has G or
+    /// none has; `None` for what is no leaf, and for one that is not aligned.
+    pub(crate) fn from_kind(global: bool, size: PageSize, kind: Kind) -> Option<Leaf>
+        ensures { result ≡ leaf_from global (pages_of size) kind }
+    {
+        match kind {
+            Kind::Leaf { ppn, flags } if ppn % size.pages() == 0 => Some(Leaf {
+                ppn,
+                flags,
+                global: global || flags.is_global(),
+            }),
+            _ => None,
+        }
+    }
+
+    /// The entry of a TLB for the leaf of a page, in the address space of an ASID.
+    pub fn entry(self, asid: u16, page: Page) -> Entry
+        ensures { result ≡ entry_at asid page self }
+    {
+        Entry {
+            asid,
+            global: self.global,
+            page,
+            ppn: self.ppn,
+            flags: self.flags,
+        }
+    }
+
+    /// Whether the leaf has the PPN of a TLB's entry and at least its rights, and is as global as
+    /// it is.
+    pub(crate) fn is_at_least(&self, entry: &Entry) -> bool
+        ensures { IsTrue result ↔ IsAtLeast self.now entry.now }
+    {
+        self.ppn == entry.ppn && self.global == entry.global && permits(self.flags, entry.flags)
+    }
+}
