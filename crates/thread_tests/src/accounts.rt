@@ -1,13 +1,40 @@
 //! What the steps and answers of one hart of eight say of its tickets, its pages and its mailboxes,
 //! and whether each answer is one that may be given.
 
-use crate::runs::*;
 use crate::scripts::{BASES, bit, ppn_of};
 use harts::*;
 use history::{LiveStep, Refusal, Reply, Scope};
 use pte::{Page, What};
 use spaces::Place;
 use std::alloc::{AllocError, Global};
+use walk::{Trap, Why};
+
+pub(crate) const OK: LiveReply = LiveReply::Replied(Reply::Ok);
+
+pub(crate) const LEAF: LiveReply = LiveReply::Replied(Reply::Leaf);
+
+pub(crate) const DONE: LiveReply = LiveReply::Replied(Reply::Done);
+
+pub(crate) const INVALID: LiveReply = LiveReply::Replied(Reply::Trap(Trap {
+    cause: 13,
+    why: Why::Invalid,
+}));
+
+pub(crate) fn table(ppn: u64) -> LiveReply {
+    LiveReply::Replied(Reply::Table(ppn))
+}
+
+pub(crate) fn opened(ticket: u32) -> LiveReply {
+    LiveReply::Replied(Reply::Opened(ticket))
+}
+
+pub(crate) fn waiting(harts: u8) -> LiveReply {
+    LiveReply::Replied(Reply::Waiting(harts))
+}
+
+pub(crate) fn refused(refusal: Refusal) -> LiveReply {
+    LiveReply::Replied(Reply::Refused(refusal))
+}
 
 /// The version of a page that an unmapping took away.
 #[derive(Clone, Copy, PartialEq, Eq)]

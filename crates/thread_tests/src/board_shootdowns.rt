@@ -1,10 +1,18 @@
 ghost use Rattle.std.specs.Prelude.{◌≡◌, map};
 ghost use Rattle.board.specs.Ports.{ArePorts, name_of};
 
-use crate::board_tables::{USER, invalid, layout, page, ports_of, readable};
+use crate::board_tables::{OWN, PAGE, invalid, layout, open_ports};
+use crate::calls::Answer::{
+    Accepted, Done, Found, Leaf, Opened, Refused, Table, TakenPage, TakenSpace, Waiting,
+};
+use crate::calls::Call::{AckSelf, Collect, Finish, Flush, Load, Map, Post, Serve, Switch, Unmap};
+use crate::calls::Leaves::{Global, Readable};
+use crate::calls::*;
+use crate::runs::{Pair, assert_pairs};
 use board::*;
+use history::Refusal::{AlreadyPosted, BadFlags, Full, NotDone, NotHome, NotOpen};
 use history::{Refusal, Scope};
-use pte::{Access, Page, PteFlags, What};
+use pte::{Access, Page};
 use reclaim::unmap_and_drop;
 use shoot::Collected;
 use spaces::Place;
@@ -13,195 +21,172 @@ use std::thread;
 use std::thread::Threads;
 use walk::Trap;
 
-/// The ports of harts 0 and 1 of two, of which hart 0 mapped the page to PPN 0x100.
-fn with_page(ports: Option<Vec<HartPort>>, page: Page) -> Option<(HartPort, HartPort)> {
-    let mut ports = ports?;
-    let one = ports.pop()?;
-    let mut zero = ports.pop()?;
-    for _ in 0..2 {
-        let _table = zero.map_step(Place::Space(0), page, 0x100, readable());
-    }
-    if zero.map_step(Place::Space(0), page, 0x100, readable()) != Ok(Mapped::Leaf) {
-        return None;
-    }
-    Some((zero, one))
-}
+/// Hart 0 maps the page to PPN 0x100.
+const MAPPED: [Row; 3] = [
+    (0, Map(OWN, PAGE, 0x100, Readable), Table(0x8_0003)),
+    (0, Map(OWN, PAGE, 0x100, Readable), Table(0x8_0004)),
+    (0, Map(OWN, PAGE, 0x100, Readable), Leaf),
+];
+
+const OLD_ACKNOWLEDGEMENT: [Row; 13] = [
+    (0, Unmap(OWN, PAGE, 0b11), Opened(0)),
+    (0, Post(0, 1), Accepted),
+    (1, Serve(0), TakenPage(0, PAGE, Some(1))),
+    (0, Collect(0), Waiting(0b01)),
+    (0, AckSelf(0), Done),
+    (0, Finish(0), Accepted),
+    (0, Map(OWN, PAGE, 0x100, Readable), Leaf),
+    (1, Load(0x1004), Found(0x10_0004)),
+    (0, Unmap(OWN, PAGE, 0b11), Opened(0)),
+    (0, Post(0, 1), Accepted),
+    (0, Collect(0), Waiting(0b11)),
+    (1, Serve(0), TakenPage(0, PAGE, Some(1))),
+    (0, Collect(0), Waiting(0b01)),
+];
 
 // The same word as before counts for no new order.
 #[test]
 fn old_acknowledgement(rt: HostRuntime) {
-    let Some(page) = page(0x1000) else {
-        assert!(&rt; false);
-        return;
-    };
-    let Some((mut zero, mut one)) = with_page(ports_of(rt.alloc(), 2), page) else {
-        assert!(&rt; false);
-        return;
-    };
-    let place = Place::Space(0);
-    assert!(&rt; zero.unmap(place, page, 0b11) == Ok(0));
-    assert!(&rt; zero.post(0, 1) == Ok(()));
-    assert!(&rt; one.serve(0).is_ok());
-    assert!(&rt; zero.collect(0) == Ok(Collected::Waiting(0b01)));
-    assert!(&rt; zero.ack_self(0) == Ok(Collected::Done));
-    assert!(&rt; zero.finish(0) == Ok(()));
-    assert!(&rt; zero.map_step(place, page, 0x100, readable()) == Ok(Mapped::Leaf));
-    assert!(&rt; one.translate(0x1004, Access::Load, USER) == Ok(0x10_0004));
-    assert!(&rt; zero.unmap(place, page, 0b11) == Ok(0));
-    assert!(&rt; zero.post(0, 1) == Ok(()));
-    assert!(&rt; zero.collect(0) == Ok(Collected::Waiting(0b11)));
-    assert!(&rt; one.serve(0).is_ok());
-    assert!(&rt; zero.collect(0) == Ok(Collected::Waiting(0b01)));
+    let mut ports = open_ports(&rt, rt.alloc(), 2);
+    assert_calls(&rt, &mut ports, MAPPED.as_slice());
+    assert_calls(&rt, &mut ports, OLD_ACKNOWLEDGEMENT.as_slice());
 }
+
+const WHOLE: [Row; 19] = [
+    (1, Load(0x1004), Found(0x10_0004)),
+    (0, Load(0x1004), Found(0x10_0004)),
+    (0, Collect(0), Refused(NotOpen)),
+    (0, Unmap(OWN, PAGE, 0b11), Opened(0)),
+    (0, Collect(0), Waiting(0b11)),
+    (0, Post(0, 1), Accepted),
+    (0, Collect(0), Waiting(0b11)),
+    // nobody has dropped it yet
+    (1, Load(0x1004), Found(0x10_0004)),
+    (1, Serve(0), TakenPage(0, PAGE, Some(1))),
+    (1, Load(0x1004), INVALID),
+    (0, Finish(0), Refused(NotDone)),
+    (0, Collect(0), Waiting(0b01)),
+    (0, Load(0x1004), Found(0x10_0004)),
+    (0, AckSelf(0), Done),
+    (0, Load(0x1004), INVALID),
+    (0, Collect(0), Done),
+    (0, Finish(0), Accepted),
+    (0, Collect(0), Refused(NotOpen)),
+    (0, Collect(64), Refused(NotOpen)),
+];
 
 // Both harts hold the page until each has dropped it; the sender is done once both are collected.
 #[test]
 fn whole_shootdown(rt: HostRuntime) {
-    let Some(page) = page(0x1000) else {
-        assert!(&rt; false);
-        return;
-    };
-    let Some((mut zero, mut one)) = with_page(ports_of(rt.alloc(), 2), page) else {
-        assert!(&rt; false);
-        return;
-    };
-    assert!(&rt; one.translate(0x1004, Access::Load, USER) == Ok(0x10_0004));
-    assert!(&rt; zero.translate(0x1004, Access::Load, USER) == Ok(0x10_0004));
-    assert!(&rt; zero.collect(0) == Err(Refusal::NotOpen));
-    assert!(&rt; zero.unmap(Place::Space(0), page, 0b11) == Ok(0));
-    assert!(&rt; zero.collect(0) == Ok(Collected::Waiting(0b11)));
-    assert!(&rt; zero.post(0, 1) == Ok(()));
-    assert!(&rt; zero.collect(0) == Ok(Collected::Waiting(0b11)));
-    // nobody has dropped it yet
-    assert!(&rt; one.translate(0x1004, Access::Load, USER) == Ok(0x10_0004));
-    let asked = What::PageOf(page, Some(1));
-    assert!(&rt;
-        one.serve(0)
-            .is_ok_and(|request| request.ticket == 0 && request.what == asked)
-    );
-    assert!(&rt; one.translate(0x1004, Access::Load, USER) == invalid(13));
-    assert!(&rt; zero.finish(0) == Err(Refusal::NotDone));
-    assert!(&rt; zero.collect(0) == Ok(Collected::Waiting(0b01)));
-    assert!(&rt; zero.translate(0x1004, Access::Load, USER) == Ok(0x10_0004));
-    assert!(&rt; zero.ack_self(0) == Ok(Collected::Done));
-    assert!(&rt; zero.translate(0x1004, Access::Load, USER) == invalid(13));
-    assert!(&rt; zero.collect(0) == Ok(Collected::Done));
-    assert!(&rt; zero.finish(0) == Ok(()));
-    assert!(&rt; zero.collect(0) == Err(Refusal::NotOpen));
-    assert!(&rt; zero.collect(64) == Err(Refusal::NotOpen));
+    let mut ports = open_ports(&rt, rt.alloc(), 2);
+    assert_calls(&rt, &mut ports, MAPPED.as_slice());
+    assert_calls(&rt, &mut ports, WHOLE.as_slice());
 }
+
+/// The first page of the kernel window.
+const TOP: u64 = 0xFFFF_FFFF_C000_0000;
+
+const KERNEL_LOAD: Call = Load(0xFFFF_FFFF_C000_0004);
+
+const WINDOW: Place = Place::Kernel;
+
+const OF_THE_KERNEL: [Row; 15] = [
+    (1, Map(WINDOW, TOP, 0x100, Global), Refused(NotHome)),
+    (0, Map(WINDOW, TOP, 0x100, Readable), Refused(BadFlags)),
+    (0, Map(WINDOW, TOP, 0x100, Global), Table(0x8_0003)),
+    (0, Map(WINDOW, TOP, 0x100, Global), Leaf),
+    (1, KERNEL_LOAD, Found(0x10_0004)),
+    (0, Unmap(WINDOW, TOP, 0b11), Opened(0)),
+    (1, Switch(1), Accepted),
+    (1, KERNEL_LOAD, Found(0x10_0004)),
+    (0, Post(0, 1), Accepted),
+    (1, Serve(0), TakenPage(0, TOP, None)),
+    (1, KERNEL_LOAD, INVALID),
+    (1, Switch(0), Accepted),
+    (1, KERNEL_LOAD, INVALID),
+    (0, Collect(0), Waiting(0b01)),
+    (0, AckSelf(0), Done),
+];
 
 // A page of the kernel is in every address space: hart 1 holds it under both ASIDs until it serves
 // the request, and under none afterwards.
 #[test]
 fn shootdown_of_a_kernel_page(rt: HostRuntime) {
-    let (Some(mut ports), Some(page)) = (ports_of(rt.alloc(), 2), page(0xFFFF_FFFF_C000_0000))
-    else {
-        assert!(&rt; false);
-        return;
-    };
-    let (Some(mut one), Some(mut zero)) = (ports.pop(), ports.pop()) else {
-        assert!(&rt; false);
-        return;
-    };
-    let flags = readable() | PteFlags::G;
-    let va = 0xFFFF_FFFF_C000_0004;
-    assert!(&rt; one.map_step(Place::Kernel, page, 0x100, flags) == Err(Refusal::NotHome));
-    assert!(&rt; zero.map_step(Place::Kernel, page, 0x100, readable()) == Err(Refusal::BadFlags));
-    let _table = zero.map_step(Place::Kernel, page, 0x100, flags);
-    assert!(&rt; zero.map_step(Place::Kernel, page, 0x100, flags) == Ok(Mapped::Leaf));
-    assert!(&rt; one.translate(va, Access::Load, USER) == Ok(0x10_0004));
-    assert!(&rt; zero.unmap(Place::Kernel, page, 0b11) == Ok(0));
-    assert!(&rt; one.switch(1) == Ok(()));
-    assert!(&rt; one.translate(va, Access::Load, USER) == Ok(0x10_0004));
-    assert!(&rt; zero.post(0, 1) == Ok(()));
-    assert!(&rt;
-        one.serve(0)
-            .is_ok_and(|request| request.what == What::PageOf(page, None))
-    );
-    assert!(&rt; one.translate(va, Access::Load, USER) == invalid(13));
-    assert!(&rt; one.switch(0) == Ok(()));
-    assert!(&rt; one.translate(va, Access::Load, USER) == invalid(13));
-    assert!(&rt; zero.collect(0) == Ok(Collected::Waiting(0b01)));
-    assert!(&rt; zero.ack_self(0) == Ok(Collected::Done));
+    let mut ports = open_ports(&rt, rt.alloc(), 2);
+    assert_calls(&rt, &mut ports, OF_THE_KERNEL.as_slice());
 }
+
+const ASKED: [Row; 8] = [
+    (0, Load(0x1004), Found(0x10_0004)),
+    (1, Flush(Scope::Space(0), 0b11), Opened(0)),
+    (1, Post(0, 0), Accepted),
+    (1, Collect(0), Waiting(0b11)),
+    (0, Serve(1), TakenSpace(0, 1)),
+    (1, Collect(0), Waiting(0b10)),
+    (1, AckSelf(0), Done),
+    (1, Finish(0), Accepted),
+];
 
 // Hart 1 asks hart 0: what hart 0 acknowledges, it acknowledges to the hart that asked.
 #[test]
 fn asked_by_hart_1(rt: HostRuntime) {
-    let Some(page) = page(0x1000) else {
-        assert!(&rt; false);
-        return;
-    };
-    let Some((mut zero, mut one)) = with_page(ports_of(rt.alloc(), 2), page) else {
-        assert!(&rt; false);
-        return;
-    };
-    assert!(&rt; zero.translate(0x1004, Access::Load, USER) == Ok(0x10_0004));
-    assert!(&rt; one.flush(Scope::Space(0), 0b11) == Ok(0));
-    assert!(&rt; one.post(0, 0) == Ok(()));
-    assert!(&rt; one.collect(0) == Ok(Collected::Waiting(0b11)));
-    assert!(&rt; zero.serve(1).is_ok());
-    assert!(&rt; one.collect(0) == Ok(Collected::Waiting(0b10)));
-    assert!(&rt; one.ack_self(0) == Ok(Collected::Done));
-    assert!(&rt; one.finish(0) == Ok(()));
+    let mut ports = open_ports(&rt, rt.alloc(), 2);
+    assert_calls(&rt, &mut ports, MAPPED.as_slice());
+    assert_calls(&rt, &mut ports, ASKED.as_slice());
 }
+
+const TWO_SENDERS: [Row; 9] = [
+    (0, Flush(Scope::Space(0), 0b011), Opened(0)),
+    (2, Flush(Scope::Space(0), 0b110), Opened(0)),
+    (0, Post(0, 1), Accepted),
+    (2, Post(0, 1), Accepted),
+    (1, Serve(0), TakenSpace(0, 1)),
+    (2, Collect(0), Waiting(0b110)),
+    (0, Collect(0), Waiting(0b001)),
+    (1, Serve(2), TakenSpace(0, 1)),
+    (2, Collect(0), Waiting(0b100)),
+];
 
 // Harts 0 and 2 ask hart 1 for the same under the same ticket: whose request it served, it
 // acknowledged, and no other.
 #[test]
 fn two_senders_ask_one_hart(rt: HostRuntime) {
-    let Some(mut ports) = ports_of(rt.alloc(), 3) else {
-        assert!(&rt; false);
-        return;
-    };
-    let (Some(mut two), Some(mut one), Some(mut zero)) = (ports.pop(), ports.pop(), ports.pop())
-    else {
-        assert!(&rt; false);
-        return;
-    };
-    assert!(&rt; zero.flush(Scope::Space(0), 0b011) == Ok(0));
-    assert!(&rt; two.flush(Scope::Space(0), 0b110) == Ok(0));
-    assert!(&rt; zero.post(0, 1) == Ok(()));
-    assert!(&rt; two.post(0, 1) == Ok(()));
-    assert!(&rt; one.serve(0).is_ok());
-    assert!(&rt; two.collect(0) == Ok(Collected::Waiting(0b110)));
-    assert!(&rt; zero.collect(0) == Ok(Collected::Waiting(0b001)));
-    assert!(&rt; one.serve(2).is_ok());
-    assert!(&rt; two.collect(0) == Ok(Collected::Waiting(0b100)));
+    let mut ports = open_ports(&rt, rt.alloc(), 3);
+    assert_calls(&rt, &mut ports, TWO_SENDERS.as_slice());
 }
+
+const ROOM: [Row; 22] = [
+    (0, Flush(Scope::Space(0), 0b11), Opened(0)),
+    (0, Post(0, 1), Accepted),
+    (0, Flush(Scope::Space(0), 0b11), Opened(1)),
+    (0, Post(1, 1), Accepted),
+    (0, Flush(Scope::Space(0), 0b11), Opened(2)),
+    (0, Post(2, 1), Accepted),
+    (0, Flush(Scope::Space(0), 0b11), Opened(3)),
+    (0, Post(3, 1), Accepted),
+    (0, Flush(Scope::All, 0b11), Opened(4)),
+    (0, Post(4, 1), Refused(Full)),
+    (1, Serve(0), TakenSpace(0, 1)),
+    (1, Serve(0), TakenSpace(1, 1)),
+    (0, Collect(3), Waiting(0b11)),
+    (0, Post(4, 1), Refused(Full)),
+    (0, Collect(1), Waiting(0b01)),
+    (0, Collect(1), Waiting(0b01)),
+    (0, Post(4, 1), Accepted),
+    (0, Post(4, 1), Refused(AlreadyPosted)),
+    (0, Flush(Scope::All, 0b11), Opened(5)),
+    (0, Post(5, 1), Refused(Full)),
+    (0, Collect(0), Waiting(0b01)),
+    (0, Post(5, 1), Accepted),
+];
 
 // The capacity of 4 counts the requests that are not collected: each one that is makes room for one
 // more.
 #[test]
 fn collecting_makes_room(rt: HostRuntime) {
-    let Some(page) = page(0x1000) else {
-        assert!(&rt; false);
-        return;
-    };
-    let Some((mut zero, mut one)) = with_page(ports_of(rt.alloc(), 2), page) else {
-        assert!(&rt; false);
-        return;
-    };
-    for ticket in 0..4 {
-        assert!(&rt; zero.flush(Scope::Space(0), 0b11) == Ok(ticket));
-        assert!(&rt; zero.post(ticket, 1) == Ok(()));
-    }
-    assert!(&rt; zero.flush(Scope::All, 0b11) == Ok(4));
-    assert!(&rt; zero.post(4, 1) == Err(Refusal::Full));
-    for _ in 0..2 {
-        assert!(&rt; one.serve(0).is_ok());
-    }
-    assert!(&rt; zero.collect(3) == Ok(Collected::Waiting(0b11)));
-    assert!(&rt; zero.post(4, 1) == Err(Refusal::Full));
-    assert!(&rt; zero.collect(1) == Ok(Collected::Waiting(0b01)));
-    assert!(&rt; zero.collect(1) == Ok(Collected::Waiting(0b01)));
-    assert!(&rt; zero.post(4, 1) == Ok(()));
-    assert!(&rt; zero.post(4, 1) == Err(Refusal::AlreadyPosted));
-    assert!(&rt; zero.flush(Scope::All, 0b11) == Ok(5));
-    assert!(&rt; zero.post(5, 1) == Err(Refusal::Full));
-    assert!(&rt; zero.collect(0) == Ok(Collected::Waiting(0b01)));
-    assert!(&rt; zero.post(5, 1) == Ok(()));
+    let mut ports = open_ports(&rt, rt.alloc(), 2);
+    assert_calls(&rt, &mut ports, MAPPED.as_slice());
+    assert_calls(&rt, &mut ports, ROOM.as_slice());
 }
 
 /// The PPN of a round.
@@ -345,6 +330,8 @@ fn in_two_threads(
     Ok((as_expected, served, as_found, board.close(ports)))
 }
 
+const ALL_SERVED: [Pair; 2] = [(0, 1, 300, 300), (1, 0, 0, 0)];
+
 #[test]
 fn shootdowns_by_two_threads(rt: HostRuntime) -> Result<(), Fail> {
     let (Some((board, ports)), Some(page)) = (
@@ -356,11 +343,6 @@ fn shootdowns_by_two_threads(rt: HostRuntime) -> Result<(), Fail> {
     let (as_expected, served, as_found, report) = in_two_threads(&rt, board, ports, page, 300)?;
     assert!(&rt; as_expected);
     assert!(&rt; served == 300 && as_found);
-    assert!(&rt; report.pairs.len() == 2);
-    let there = &report.pairs[0];
-    assert!(&rt; there.sender == 0 && there.receiver == 1);
-    assert!(&rt; there.accepted == 300 && there.taken == 300 && there.waiting.is_empty());
-    let back = &report.pairs[1];
-    assert!(&rt; back.accepted == 0 && back.taken == 0 && back.waiting.is_empty());
+    assert_pairs(&rt, report.pairs.as_slice(), ALL_SERVED.as_slice());
     Ok(())
 }

@@ -1,12 +1,20 @@
 ghost use Rattle.std.specs.Prelude.{◌≡◌};
 
+use crate::calls::Answer::{Accepted, Done, Found, Leaf, Opened, Refused, Table, Trapped};
+use crate::calls::Call::{AckSelf, Fence, Load, Map, Protect, Store, Switch, Unmap};
+use crate::calls::Leaves::{Readable, Writable};
+use crate::calls::*;
 use arrayvec::ArrayVec;
 use board::*;
 use history::Refusal;
-use pte::{Access, Ctx, Mode, Page, PageSize, PteFlags, Scheme, VirtAddr};
+use history::Refusal::{
+    AlreadyMapped, HomeNotNamed, NoHart, NoSpace, NoTicket, NotHome, NotMapped,
+};
+use pte::{Access, Page, Scheme};
 use shoot::Collected;
 use spaces::{Config, Place, Space};
 use std::alloc::Global;
+use std::process::Abort;
 use std::thread;
 use std::thread::Threads;
 use walk::{Trap, Why};
@@ -40,25 +48,6 @@ pub(crate) fn ports_of(alloc: Global, harts: u16) -> Option<Vec<HartPort>> {
     Some(ports)
 }
 
-pub(crate) const USER: Ctx = Ctx {
-    mode: Mode::User,
-    sum: false,
-    mxr: false,
-};
-
-/// The page of 4 KiB at an address.
-pub(crate) fn page(va: u64) -> Option<Page> {
-    Page::new(VirtAddr::new(va)?, PageSize::Kib4).ok()
-}
-
-pub(crate) fn readable() -> PteFlags {
-    PteFlags::R | PteFlags::U | PteFlags::A | PteFlags::D
-}
-
-fn writable() -> PteFlags {
-    PteFlags::R | PteFlags::W | PteFlags::U | PteFlags::A | PteFlags::D
-}
-
 pub(crate) fn invalid(cause: u8) -> Result<u64, Trap> {
     Err(Trap {
         cause,
@@ -66,113 +55,118 @@ pub(crate) fn invalid(cause: u8) -> Result<u64, Trap> {
     })
 }
 
+/// The ports of this many harts.
+pub(crate) fn open_ports(rt: &impl Abort, alloc: Global, harts: u16) -> Vec<HartPort> {
+    let ports = ports_of(alloc, harts).unwrap_or(Vec::new(alloc));
+    assert!(rt; ports.len() == usize::from(harts));
+    ports
+}
+
+/// The page of the tests.
+pub(crate) const PAGE: u64 = 0x1000;
+
+pub(crate) const OWN: Place = Place::Space(0);
+
+const SECOND: Place = Place::Space(1);
+
+const READ_BACK: [Row; 12] = [
+    (0, Load(0x1004), INVALID),
+    (0, Map(OWN, PAGE, 0x100, Readable), Table(0x8_0003)),
+    (0, Map(OWN, PAGE, 0x100, Readable), Table(0x8_0004)),
+    (0, Map(OWN, PAGE, 0x100, Readable), Leaf),
+    (0, Map(OWN, PAGE, 0x100, Readable), Refused(AlreadyMapped)),
+    (0, Load(0x1004), Found(0x10_0004)),
+    (0, Unmap(OWN, PAGE, 1), Opened(0)),
+    // the TLB answers until the hart serves its own ticket
+    (0, Load(0x1008), Found(0x10_0008)),
+    (0, AckSelf(0), Done),
+    (0, Load(0x1004), INVALID),
+    (0, Map(OWN, PAGE, 0x101, Readable), Leaf),
+    (0, Load(0x1004), Found(0x10_1004)),
+];
+
 #[test]
 fn home_reads_back(rt: HostRuntime) {
-    let (Some(mut ports), Some(page)) = (ports_of(rt.alloc(), 1), page(0x1000)) else {
-        assert!(&rt; false);
-        return;
-    };
-    let Some(mut port) = ports.pop() else {
-        assert!(&rt; false);
-        return;
-    };
-    let place = Place::Space(0);
-    assert!(&rt; port.translate(0x1004, Access::Load, USER) == invalid(13));
-    assert!(&rt; port.map_step(place, page, 0x100, readable()) == Ok(Mapped::Table(0x8_0003)));
-    assert!(&rt; port.map_step(place, page, 0x100, readable()) == Ok(Mapped::Table(0x8_0004)));
-    assert!(&rt; port.map_step(place, page, 0x100, readable()) == Ok(Mapped::Leaf));
-    assert!(&rt; port.map_step(place, page, 0x100, readable()) == Err(Refusal::AlreadyMapped));
-    assert!(&rt; port.translate(0x1004, Access::Load, USER) == Ok(0x10_0004));
-    assert!(&rt; port.unmap(place, page, 1) == Ok(0));
-    // the TLB answers until the hart serves its own ticket
-    assert!(&rt; port.translate(0x1008, Access::Load, USER) == Ok(0x10_0008));
-    assert!(&rt; port.ack_self(0) == Ok(Collected::Done));
-    assert!(&rt; port.translate(0x1004, Access::Load, USER) == invalid(13));
-    assert!(&rt; port.map_step(place, page, 0x101, readable()) == Ok(Mapped::Leaf));
-    assert!(&rt; port.translate(0x1004, Access::Load, USER) == Ok(0x10_1004));
+    let mut ports = open_ports(&rt, rt.alloc(), 1);
+    assert_calls(&rt, &mut ports, READ_BACK.as_slice());
 }
+
+/// There is no such space.
+const ABSENT: Place = Place::Space(2);
+
+const REFUSED_EDITS: [Row; 13] = [
+    (0, Map(OWN, PAGE, 0x100, Writable), Table(0x8_0003)),
+    (0, Map(OWN, PAGE, 0x100, Writable), Table(0x8_0004)),
+    (0, Map(OWN, PAGE, 0x100, Writable), Leaf),
+    (1, Map(OWN, PAGE, 0x200, Writable), Refused(NotHome)),
+    (1, Map(ABSENT, PAGE, 0x200, Writable), Refused(NoSpace)),
+    (0, Unmap(ABSENT, PAGE, 0b100), Refused(NoHart)),
+    (0, Unmap(ABSENT, PAGE, 0b10), Refused(NoSpace)),
+    (0, Unmap(SECOND, PAGE, 0b10), Refused(NotMapped)),
+    (0, Unmap(OWN, PAGE, 0b10), Refused(HomeNotNamed)),
+    (0, Protect(OWN, PAGE, Readable, 0b10), Refused(HomeNotNamed)),
+    (1, Unmap(OWN, PAGE, 0b11), Refused(NotHome)),
+    // both harts still find the page as it was mapped, by loads of their own
+    (0, Store(0x1000), Found(0x10_0000)),
+    (1, Store(0x1000), Found(0x10_0000)),
+];
+
+const NO_TICKETS: [Row; 4] = [
+    (0, Protect(OWN, PAGE, Readable, 0b11), Refused(NoTicket)),
+    (0, Unmap(OWN, PAGE, 0b11), Refused(NoTicket)),
+    (1, Fence(None, None), Accepted),
+    (1, Store(0x1000), Found(0x10_0000)),
+];
 
 #[test]
 fn refused_edits_store_nothing(rt: HostRuntime) {
-    let (Some(mut ports), Some(page)) = (ports_of(rt.alloc(), 2), page(0x1000)) else {
-        assert!(&rt; false);
-        return;
-    };
-    let (Some(mut one), Some(mut zero)) = (ports.pop(), ports.pop()) else {
-        assert!(&rt; false);
-        return;
-    };
-    let place = Place::Space(0);
-    for _ in 0..3 {
-        let _stored = zero.map_step(place, page, 0x100, writable());
-    }
-    assert!(&rt; one.map_step(place, page, 0x200, writable()) == Err(Refusal::NotHome));
-    assert!(&rt; one.map_step(Place::Space(2), page, 0x200, writable()) == Err(Refusal::NoSpace));
-    assert!(&rt; zero.unmap(Place::Space(2), page, 0b100) == Err(Refusal::NoHart));
-    assert!(&rt; zero.unmap(Place::Space(2), page, 0b10) == Err(Refusal::NoSpace));
-    assert!(&rt; zero.unmap(Place::Space(1), page, 0b10) == Err(Refusal::NotMapped));
-    assert!(&rt; zero.unmap(place, page, 0b10) == Err(Refusal::HomeNotNamed));
-    assert!(&rt; zero.protect(place, page, readable(), 0b10) == Err(Refusal::HomeNotNamed));
-    assert!(&rt; one.unmap(place, page, 0b11) == Err(Refusal::NotHome));
-    // both harts still find the page as it was mapped, by loads of their own
-    assert!(&rt; zero.translate(0x1000, Access::Store, USER) == Ok(0x10_0000));
-    assert!(&rt; one.translate(0x1000, Access::Store, USER) == Ok(0x10_0000));
+    let mut ports = open_ports(&rt, rt.alloc(), 2);
+    assert_calls(&rt, &mut ports, REFUSED_EDITS.as_slice());
     // 64 tickets are opened by edits, and then none
     for ticket in 0..64 {
-        let flags = if ticket % 2 == 0 {
-            readable()
+        let leaves = if ticket % 2 == 0 {
+            Leaves::Readable
         } else {
-            writable()
+            Leaves::Writable
         };
-        assert!(&rt; zero.protect(place, page, flags, 0b11) == Ok(ticket));
+        let row = (
+            0,
+            Call::Protect(OWN, PAGE, leaves, 0b11),
+            Answer::Opened(ticket),
+        );
+        assert_call(&rt, &mut ports, &row);
     }
-    assert!(&rt; zero.protect(place, page, readable(), 0b11) == Err(Refusal::NoTicket));
-    assert!(&rt; zero.unmap(place, page, 0b11) == Err(Refusal::NoTicket));
-    one.fence(None, None);
-    assert!(&rt; one.translate(0x1000, Access::Store, USER) == Ok(0x10_0000));
+    assert_calls(&rt, &mut ports, NO_TICKETS.as_slice());
 }
+
+const APART: [Row; 20] = [
+    (0, Map(OWN, PAGE, 0x100, Writable), Table(0x8_0003)),
+    (0, Map(OWN, PAGE, 0x100, Writable), Table(0x8_0004)),
+    (0, Map(OWN, PAGE, 0x100, Writable), Leaf),
+    (0, Map(SECOND, PAGE, 0x200, Writable), Table(0x8_0005)),
+    (0, Map(SECOND, PAGE, 0x200, Writable), Table(0x8_0006)),
+    (0, Map(SECOND, PAGE, 0x200, Writable), Leaf),
+    (1, Switch(2), Refused(NoSpace)),
+    (1, Store(0x1004), Found(0x10_0004)),
+    (1, Switch(1), Accepted),
+    (1, Store(0x1004), Found(0x20_0004)),
+    (0, Protect(OWN, PAGE, Readable, 1), Opened(0)),
+    (0, Protect(SECOND, PAGE, Readable, 1), Opened(1)),
+    // the TLB holds the entries of both spaces, until a fence for one ASID drops its own
+    (1, Store(0x1004), Found(0x20_0004)),
+    (1, Fence(None, Some(2)), Accepted),
+    (1, Store(0x1004), DENIED),
+    (1, Switch(0), Accepted),
+    (1, Store(0x1004), Found(0x10_0004)),
+    (1, Fence(Some(0x1000), None), Accepted),
+    (1, Store(0x1004), DENIED),
+    (1, Load(0x40_0000_0000), Trapped(13, Why::NotCanonical)),
+];
 
 #[test]
 fn spaces_and_fences_are_told_apart(rt: HostRuntime) {
-    let (Some(mut ports), Some(page)) = (ports_of(rt.alloc(), 2), page(0x1000)) else {
-        assert!(&rt; false);
-        return;
-    };
-    let (Some(mut one), Some(mut zero)) = (ports.pop(), ports.pop()) else {
-        assert!(&rt; false);
-        return;
-    };
-    for _ in 0..3 {
-        let _first = zero.map_step(Place::Space(0), page, 0x100, writable());
-    }
-    for _ in 0..3 {
-        let _second = zero.map_step(Place::Space(1), page, 0x200, writable());
-    }
-    assert!(&rt; one.switch(2) == Err(Refusal::NoSpace));
-    assert!(&rt; one.translate(0x1004, Access::Store, USER) == Ok(0x10_0004));
-    assert!(&rt; one.switch(1) == Ok(()));
-    assert!(&rt; one.translate(0x1004, Access::Store, USER) == Ok(0x20_0004));
-    assert!(&rt; zero.protect(Place::Space(0), page, readable(), 1) == Ok(0));
-    assert!(&rt; zero.protect(Place::Space(1), page, readable(), 1) == Ok(1));
-    // the TLB holds the entries of both spaces, until a fence for one ASID drops its own
-    assert!(&rt; one.translate(0x1004, Access::Store, USER) == Ok(0x20_0004));
-    one.fence(None, Some(2));
-    let denied = Err(Trap {
-        cause: 15,
-        why: Why::Denied,
-    });
-    assert!(&rt; one.translate(0x1004, Access::Store, USER) == denied);
-    assert!(&rt; one.switch(0) == Ok(()));
-    assert!(&rt; one.translate(0x1004, Access::Store, USER) == Ok(0x10_0004));
-    one.fence(Some(0x1000), None);
-    assert!(&rt; one.translate(0x1004, Access::Store, USER) == denied);
-    assert!(&rt;
-        one.translate(0x40_0000_0000, Access::Load, USER)
-            == Err(Trap {
-                cause: 13,
-                why: Why::NotCanonical,
-            })
-    );
+    let mut ports = open_ports(&rt, rt.alloc(), 2);
+    assert_calls(&rt, &mut ports, APART.as_slice());
 }
 
 /// Two harts; space 0 at home on hart 0, and three spaces at home on hart 1.
@@ -187,44 +181,49 @@ fn two_homes() -> Config {
     config
 }
 
-/// Hart 1 maps the page in a space of its own.
-fn map_whole(port: &mut HartPort, space: u8, page: Page, ppn: u64) -> bool {
-    for _ in 0..2 {
-        let _table = port.map_step(Place::Space(space), page, ppn, readable());
-    }
-    port.map_step(Place::Space(space), page, ppn, readable()) == Ok(Mapped::Leaf)
-}
+const THIRD: Place = Place::Space(2);
+
+const FOURTH: Place = Place::Space(3);
+
+const OTHER_HOME: [Row; 27] = [
+    (0, Switch(1), Accepted),
+    (0, Load(0x1004), INVALID),
+    (1, Map(SECOND, PAGE, 0x100, Readable), Table(0x8_000d)),
+    (1, Map(SECOND, PAGE, 0x100, Readable), Table(0x8_000e)),
+    (1, Map(SECOND, PAGE, 0x100, Readable), Leaf),
+    (0, Load(0x1004), Found(0x10_0004)),
+    (0, Switch(2), Accepted),
+    (0, Load(0x1004), INVALID),
+    (1, Map(THIRD, PAGE, 0x200, Readable), Table(0x8_000f)),
+    (1, Map(THIRD, PAGE, 0x200, Readable), Table(0x8_0010)),
+    (1, Map(THIRD, PAGE, 0x200, Readable), Leaf),
+    (0, Load(0x1004), Found(0x20_0004)),
+    (0, Switch(3), Accepted),
+    (0, Load(0x1004), INVALID),
+    (1, Map(FOURTH, PAGE, 0x300, Readable), Table(0x8_0011)),
+    (1, Map(FOURTH, PAGE, 0x300, Readable), Table(0x8_0012)),
+    (1, Map(FOURTH, PAGE, 0x300, Readable), Leaf),
+    (0, Load(0x1004), Found(0x30_0004)),
+    (1, Unmap(THIRD, PAGE, 0b11), Opened(0)),
+    (0, Fence(None, None), Accepted),
+    (0, Load(0x1004), Found(0x30_0004)),
+    (0, Switch(2), Accepted),
+    (0, Load(0x1004), INVALID),
+    (0, Switch(1), Accepted),
+    (0, Load(0x1004), Found(0x10_0004)),
+    (0, Switch(0), Accepted),
+    (0, Load(0x1004), INVALID),
+];
 
 // Hart 0 finds in each space of hart 1 what hart 1 stored there, by loads of its own, and in none
 // what stands in another.
 #[test]
 fn reads_each_space_of_another_home(rt: HostRuntime) {
-    let opened = Board::open(rt.alloc(), &two_homes()).ok();
-    let (Some((_board, mut ports)), Some(page)) = (opened, page(0x1000)) else {
+    let Ok((_board, mut ports)) = Board::open(rt.alloc(), &two_homes()) else {
         assert!(&rt; false);
         return;
     };
-    let (Some(mut one), Some(mut zero)) = (ports.pop(), ports.pop()) else {
-        assert!(&rt; false);
-        return;
-    };
-    for space in 1..4_u8 {
-        assert!(&rt; zero.switch(space) == Ok(()));
-        assert!(&rt; zero.translate(0x1004, Access::Load, USER) == invalid(13));
-        assert!(&rt; map_whole(&mut one, space, page, 0x100 * u64::from(space)));
-        assert!(&rt;
-            zero.translate(0x1004, Access::Load, USER) == Ok(0x10_0000 * u64::from(space) + 4)
-        );
-    }
-    assert!(&rt; one.unmap(Place::Space(2), page, 0b11) == Ok(0));
-    zero.fence(None, None);
-    assert!(&rt; zero.translate(0x1004, Access::Load, USER) == Ok(0x30_0004));
-    assert!(&rt; zero.switch(2) == Ok(()));
-    assert!(&rt; zero.translate(0x1004, Access::Load, USER) == invalid(13));
-    assert!(&rt; zero.switch(1) == Ok(()));
-    assert!(&rt; zero.translate(0x1004, Access::Load, USER) == Ok(0x10_0004));
-    assert!(&rt; zero.switch(0) == Ok(()));
-    assert!(&rt; zero.translate(0x1004, Access::Load, USER) == invalid(13));
+    assert_calls(&rt, &mut ports, OTHER_HOME.as_slice());
 }
 
 // By turns hart 0 maps the page to 0x100 and to 0x101, and unmaps it. Whether it was answered as

@@ -1,13 +1,20 @@
 ghost use Rattle.std.specs.Prelude.{◌≡◌, IfOk, map};
 ghost use Rattle.board.specs.Ports.{ArePorts, name_of};
 
+use crate::calls::Answer::{Accepted, Done, Opened, Refused, TakenAll, TakenSpace, Waiting};
+use crate::calls::Call::{AckSelf, Close, Collect, Finish, Flush, Post, Serve};
+use crate::calls::{Answer, Call, Row, assert_call, assert_calls, request_taken};
+use crate::runs::{Pair, assert_pairs};
 use arrayvec::ArrayVec;
 use board::*;
+use history::Refusal::{
+    AlreadyPosted, Closed, Empty, Full, HomeNotNamed, NoHart, NoSpace, NotDone, NotNamed, NotOpen,
+};
 use history::{Refusal, Scope};
 use pte::{Scheme, What};
-use shoot::Collected;
 use spaces::{Config, OpenFault, Space};
 use std::alloc::Global;
+use std::process::Abort;
 use std::test::Fail;
 use std::thread;
 use std::thread::Threads;
@@ -30,70 +37,66 @@ fn two_harts(scheme: Scheme, harts: u16) -> Config {
     }
 }
 
-/// The ports of harts 0 and 1, if there are just these.
-fn two_ports(alloc: Global, scheme: Scheme) -> Option<(HartPort, HartPort)> {
-    let (_board, mut ports) = Board::open(alloc, &two_harts(scheme, 2)).ok()?;
-    let one = ports.pop()?;
-    let zero = ports.pop()?;
-    if ports.is_empty() {
-        Some((zero, one))
-    } else {
-        None
-    }
+/// The ports of both harts.
+fn two_ports(rt: &impl Abort, alloc: Global, scheme: Scheme) -> Vec<HartPort> {
+    let ports = match Board::open(alloc, &two_harts(scheme, 2)) {
+        Ok((_board, ports)) => ports,
+        Err(_) => Vec::new(alloc),
+    };
+    assert!(rt; ports.len() == 2);
+    ports
 }
+
+const REQUESTS: [Row; 25] = [
+    (0, Flush(Scope::Space(0), 0b100), Refused(NoHart)),
+    (0, Flush(Scope::Space(1), 0b11), Refused(NoSpace)),
+    (0, Flush(Scope::All, 0b10), Refused(HomeNotNamed)),
+    (0, Flush(Scope::Space(0), 0b11), Opened(0)),
+    (0, Flush(Scope::All, 0b01), Opened(1)),
+    (0, Post(0, 0), Refused(NoHart)),
+    (0, Post(0, 2), Refused(NoHart)),
+    (0, Post(2, 1), Refused(NotOpen)),
+    (0, Post(1, 1), Refused(NotNamed)),
+    (0, Post(0, 1), Accepted),
+    (0, Post(0, 1), Refused(AlreadyPosted)),
+    (1, Serve(1), Refused(NoHart)),
+    (1, Serve(0), TakenSpace(0, 7)),
+    (1, Serve(0), Refused(Empty)),
+    (0, AckSelf(2), Refused(NotOpen)),
+    (0, AckSelf(0), Waiting(0b10)),
+    (0, Finish(0), Refused(NotDone)),
+    (0, AckSelf(1), Done),
+    (0, Finish(1), Accepted),
+    (0, Finish(1), Refused(NotOpen)),
+    (0, Close(0), Refused(NoHart)),
+    (0, Close(1), Accepted),
+    (0, Close(1), Refused(Closed)),
+    (0, Flush(Scope::All, 0b11), Opened(1)),
+    (0, Post(1, 1), Refused(Closed)),
+];
 
 #[test]
 fn requests_go_from_port_to_port(rt: HostRuntime) {
-    let opened = two_ports(rt.alloc(), Scheme::Sv39);
-    assert!(&rt; opened.is_some());
-    let Some((mut zero, mut one)) = opened else {
-        return;
-    };
-    assert!(&rt; zero.flush(Scope::Space(0), 0b100) == Err(Refusal::NoHart));
-    assert!(&rt; zero.flush(Scope::Space(1), 0b11) == Err(Refusal::NoSpace));
-    assert!(&rt; zero.flush(Scope::All, 0b10) == Err(Refusal::HomeNotNamed));
-    assert!(&rt; zero.flush(Scope::Space(0), 0b11) == Ok(0));
-    assert!(&rt; zero.flush(Scope::All, 0b01) == Ok(1));
-    assert!(&rt; zero.post(0, 0) == Err(Refusal::NoHart));
-    assert!(&rt; zero.post(0, 2) == Err(Refusal::NoHart));
-    assert!(&rt; zero.post(2, 1) == Err(Refusal::NotOpen));
-    assert!(&rt; zero.post(1, 1) == Err(Refusal::NotNamed));
-    assert!(&rt; zero.post(0, 1) == Ok(()));
-    assert!(&rt; zero.post(0, 1) == Err(Refusal::AlreadyPosted));
-    assert!(&rt; one.serve(1) == Err(Refusal::NoHart));
-    assert!(&rt;
-        one.serve(0).is_ok_and(|request| request.ticket == 0 && request.what == What::SpaceOf(7))
-    );
-    assert!(&rt; one.serve(0) == Err(Refusal::Empty));
-    assert!(&rt; zero.ack_self(2) == Err(Refusal::NotOpen));
-    assert!(&rt; zero.ack_self(0) == Ok(Collected::Waiting(0b10)));
-    assert!(&rt; zero.finish(0) == Err(Refusal::NotDone));
-    assert!(&rt; zero.ack_self(1) == Ok(Collected::Done));
-    assert!(&rt; zero.finish(1) == Ok(()));
-    assert!(&rt; zero.finish(1) == Err(Refusal::NotOpen));
-    assert!(&rt; zero.close_to(0) == Err(Refusal::NoHart));
-    assert!(&rt; zero.close_to(1) == Ok(()));
-    assert!(&rt; zero.close_to(1) == Err(Refusal::Closed));
-    assert!(&rt; zero.flush(Scope::All, 0b11) == Ok(1));
-    assert!(&rt; zero.post(1, 1) == Err(Refusal::Closed));
+    let mut ports = two_ports(&rt, rt.alloc(), Scheme::Sv39);
+    assert_calls(&rt, &mut ports, REQUESTS.as_slice());
 }
+
+const TWO_REASONS: [Row; 8] = [
+    (0, Flush(Scope::Space(1), 0b100), Refused(NoHart)),
+    (0, Flush(Scope::Space(1), 0b10), Refused(NoSpace)),
+    (0, Post(9, 0), Refused(NoHart)),
+    (0, Close(1), Accepted),
+    (0, Post(9, 1), Refused(NotOpen)),
+    (0, Flush(Scope::All, 0b01), Opened(0)),
+    (0, Post(0, 1), Refused(NotNamed)),
+    (0, Close(2), Refused(NoHart)),
+];
 
 // Of two reasons to refuse a call, the one that comes first in the order of the rules is answered.
 #[test]
 fn refusals_come_in_their_order(rt: HostRuntime) {
-    let opened = two_ports(rt.alloc(), Scheme::Sv39);
-    assert!(&rt; opened.is_some());
-    let Some((mut zero, _one)) = opened else {
-        return;
-    };
-    assert!(&rt; zero.flush(Scope::Space(1), 0b100) == Err(Refusal::NoHart));
-    assert!(&rt; zero.flush(Scope::Space(1), 0b10) == Err(Refusal::NoSpace));
-    assert!(&rt; zero.post(9, 0) == Err(Refusal::NoHart));
-    assert!(&rt; zero.close_to(1) == Ok(()));
-    assert!(&rt; zero.post(9, 1) == Err(Refusal::NotOpen));
-    assert!(&rt; zero.flush(Scope::All, 0b01) == Ok(0));
-    assert!(&rt; zero.post(0, 1) == Err(Refusal::NotNamed));
-    assert!(&rt; zero.close_to(2) == Err(Refusal::NoHart));
+    let mut ports = two_ports(&rt, rt.alloc(), Scheme::Sv39);
+    assert_calls(&rt, &mut ports, TWO_REASONS.as_slice());
 }
 
 #[test]
@@ -104,52 +107,60 @@ fn layout_is_refused(rt: HostRuntime) {
     }
 }
 
+const CLOSED_EARLY: [Row; 13] = [
+    (0, Flush(Scope::All, 0b11), Opened(0)),
+    (0, Flush(Scope::All, 0b11), Opened(1)),
+    (0, Post(0, 1), Accepted),
+    (0, Close(1), Accepted),
+    (0, Close(1), Refused(Closed)),
+    (0, Post(1, 1), Refused(Closed)),
+    (1, Serve(0), TakenAll(0)),
+    (0, Collect(0), Waiting(0b01)),
+    (0, AckSelf(0), Done),
+    (0, Finish(0), Accepted),
+    (0, AckSelf(1), Waiting(0b10)),
+    (0, Finish(1), Refused(NotDone)),
+    (1, Serve(0), Refused(Empty)),
+];
+
 // The mailbox is closed while its one request waits: that one is served, and no other comes after
 // it.
 #[test]
 fn closed_before_it_is_served(rt: HostRuntime) {
     for scheme in [Scheme::Sv39, Scheme::Sv48] {
-        let opened = two_ports(rt.alloc(), scheme);
-        assert!(&rt; opened.is_some());
-        let Some((mut zero, mut one)) = opened else {
-            return;
-        };
-        assert!(&rt; zero.flush(Scope::All, 0b11) == Ok(0));
-        assert!(&rt; zero.flush(Scope::All, 0b11) == Ok(1));
-        assert!(&rt; zero.post(0, 1) == Ok(()));
-        assert!(&rt; zero.close_to(1) == Ok(()));
-        assert!(&rt; zero.close_to(1) == Err(Refusal::Closed));
-        assert!(&rt; zero.post(1, 1) == Err(Refusal::Closed));
-        assert!(&rt; one.serve(0).is_ok_and(|request| request.ticket == 0));
-        assert!(&rt; zero.collect(0) == Ok(Collected::Waiting(0b01)));
-        assert!(&rt; zero.ack_self(0) == Ok(Collected::Done));
-        assert!(&rt; zero.finish(0) == Ok(()));
-        assert!(&rt; zero.ack_self(1) == Ok(Collected::Waiting(0b10)));
-        assert!(&rt; zero.finish(1) == Err(Refusal::NotDone));
-        assert!(&rt; one.serve(0) == Err(Refusal::Empty));
+        let mut ports = two_ports(&rt, rt.alloc(), scheme);
+        assert_calls(&rt, &mut ports, CLOSED_EARLY.as_slice());
     }
 }
+
+const FILLED: [Row; 9] = [
+    (0, Flush(Scope::All, 0b11), Opened(0)),
+    (0, Flush(Scope::All, 0b11), Opened(1)),
+    (0, Flush(Scope::All, 0b11), Opened(2)),
+    (0, Flush(Scope::All, 0b11), Opened(3)),
+    (0, Flush(Scope::All, 0b11), Opened(4)),
+    (0, Post(0, 1), Accepted),
+    (0, Post(1, 1), Accepted),
+    (0, Post(2, 1), Accepted),
+    (0, Post(3, 1), Accepted),
+];
+
+const STAYS_FULL: [Row; 2] = [
+    (0, Post(4, 1), Refused(Full)),
+    (0, Collect(0), Waiting(0b11)),
+];
 
 // However often hart 0 looks, hart 1 has not served.
 #[test]
 fn hart_that_never_serves(rt: HostRuntime) {
     for scheme in [Scheme::Sv39, Scheme::Sv48] {
-        let opened = two_ports(rt.alloc(), scheme);
-        assert!(&rt; opened.is_some());
-        let Some((mut zero, _one)) = opened else {
-            return;
-        };
-        for ticket in 0..5 {
-            assert!(&rt; zero.flush(Scope::All, 0b11) == Ok(ticket));
-        }
-        for ticket in 0..4 {
-            assert!(&rt; zero.post(ticket, 1) == Ok(()));
-        }
+        let mut ports = two_ports(&rt, rt.alloc(), scheme);
+        assert_calls(&rt, &mut ports, FILLED.as_slice());
         for _ in 0..1_000 {
-            assert!(&rt; zero.post(4, 1) == Err(Refusal::Full));
-            assert!(&rt; zero.collect(0) == Ok(Collected::Waiting(0b11)));
+            assert_calls(&rt, &mut ports, STAYS_FULL.as_slice());
         }
-        assert!(&rt; zero.finish(0) == Err(Refusal::NotDone));
+        let unfinished = (0, Call::Finish(0), Answer::Refused(Refusal::NotDone));
+        assert_call(&rt, &mut ports, &unfinished);
     }
 }
 
@@ -217,6 +228,9 @@ fn in_two_threads(
     Ok((posted, served, board.close(ports)))
 }
 
+// Four are accepted, and three served.
+const CROSSED: [Pair; 2] = [(0, 1, 4, 3), (1, 0, 0, 0)];
+
 #[test]
 fn requests_cross_threads(rt: HostRuntime) -> Result<(), Fail> {
     let Ok((board, ports)) = Board::open(rt.alloc(), &two_harts(Scheme::Sv39, 2)) else {
@@ -226,14 +240,8 @@ fn requests_cross_threads(rt: HostRuntime) -> Result<(), Fail> {
     assert!(&rt; posted);
     assert!(&rt; served == 3);
     assert!(&rt; report.pairs.len() == 2);
-    let there = &report.pairs[0];
-    assert!(&rt; there.sender == 0 && there.receiver == 1);
-    assert!(&rt; there.accepted == 4 && there.taken == 3);
-    assert!(&rt; there.waiting.len() == 1);
-    assert!(&rt; there.waiting[0].ticket == 3 && there.waiting[0].what == What::All);
-    let back = &report.pairs[1];
-    assert!(&rt; back.sender == 1 && back.receiver == 0);
-    assert!(&rt; back.accepted == 0 && back.taken == 0);
-    assert!(&rt; back.waiting.is_empty());
+    assert_pairs(&rt, report.pairs.as_slice(), CROSSED.as_slice());
+    let left = &report.pairs[0].waiting;
+    assert!(&rt; left.len() == 1 && request_taken(&left[0]) == Answer::TakenAll(3));
     Ok(())
 }

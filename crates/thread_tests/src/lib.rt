@@ -13,9 +13,13 @@ mod boards;
 #[cfg(test)]
 mod both_harts;
 #[cfg(test)]
+mod calls;
+#[cfg(test)]
 mod endings;
 #[cfg(test)]
 mod gates;
+#[cfg(test)]
+mod live_calls;
 #[cfg(test)]
 mod mailbox_ends;
 #[cfg(test)]

@@ -1,7 +1,6 @@
 //! What a hart may find in the spaces of the others, and take from them, given what they did.
 
-use crate::accounts::{Account, Asked, Gone, number_of};
-use crate::runs::*;
+use crate::accounts::{Account, Asked, Gone, INVALID, number_of};
 use crate::scripts::ppn_of;
 use harts::*;
 use history::{LiveStep, Reply};

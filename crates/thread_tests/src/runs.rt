@@ -1,24 +1,18 @@
-ghost use Rattle.std.specs.Prelude.{◌<◌};
-ghost use Rattle.shoot.specs.declared.TheConstants.{MAX_TICKETS};
-
+use crate::calls::{Answer, Call, Row};
+use crate::live_calls::{answer_of, step_of};
 use arrayvec::ArrayVec;
 use harts::*;
-use history::{LiveStep, Refusal, Reply};
-use pte::{Access, Ctx, Mode, Page, PageSize, PteFlags, Scheme, VirtAddr, What};
-use shoot::Request;
-use spaces::{Config, Place, Space};
+use history::LiveStep;
+use pte::Scheme;
+use spaces::{Config, Space};
 use std::alloc::Global;
 use std::process::Abort;
 use std::sync::Wait;
 use std::test::Fail;
 use std::thread::Threads;
-use walk::{Trap, Why};
 
-pub(crate) const USER: Ctx = Ctx {
-    mode: Mode::User,
-    sum: false,
-    mxr: false,
-};
+/// More turns than any run of a test takes.
+pub(crate) const MANY_TURNS: u32 = 1_000_000_000;
 
 /// This many harts, each the home of the space of its number, whose ASID is one more. Each hart has
 /// 8 spare frames, and the mailboxes have a capacity of 4.
@@ -62,115 +56,81 @@ pub(crate) fn run<R: Threads + Wait + Sync, G: Gate + Sync>(
     Some(run_live(rt, alloc, config, setup, scripts, turns, gate))
 }
 
-/// The page of 4 KiB at an address.
-pub(crate) fn page(va: u64) -> Option<Page> {
-    Page::new(VirtAddr::new(va)?, PageSize::Kib4).ok()
+/// A step of a script, and its answer.
+pub(crate) type Step = (Call, Answer);
+
+/// The steps of setup of rows.
+pub(crate) fn setup_of(alloc: Global, rows: &[Row]) -> Result<Vec<(u8, LiveStep)>, Fail> {
+    let mut setup = Vec::with_capacity(alloc, rows.len())?;
+    for (hart, call, _) in rows {
+        let Some(step) = step_of(call) else {
+            return Err(Fail::new("not a page"));
+        };
+        setup.push((*hart, step))?;
+    }
+    Ok(setup)
 }
 
-pub(crate) fn readable() -> PteFlags {
-    PteFlags::R | PteFlags::U | PteFlags::A | PteFlags::D
+/// The steps of a script of rows.
+pub(crate) fn script_of(alloc: Global, rows: &[Step]) -> Result<Vec<LiveStep>, Fail> {
+    let mut script = Vec::with_capacity(alloc, rows.len())?;
+    for (call, _) in rows {
+        let Some(step) = step_of(call) else {
+            return Err(Fail::new("not a page"));
+        };
+        script.push(step)?;
+    }
+    Ok(script)
 }
 
-pub(crate) fn writable() -> PteFlags {
-    PteFlags::R | PteFlags::W | PteFlags::U | PteFlags::A | PteFlags::D
-}
-
-/// A step that maps a page of a space to a PPN, for reads of the user.
-pub(crate) fn map(space: u8, page: Page, ppn: u64) -> LiveStep {
-    LiveStep::Map {
-        place: Place::Space(space),
-        page,
-        ppn,
-        flags: readable(),
+/// The run, which there is.
+pub(crate) fn report_of<R: Threads + Wait + Sync, G: Gate + Sync>(
+    rt: &R,
+    alloc: Global,
+    config: &Config,
+    setup: &[(u8, LiveStep)],
+    scripts: &[Vec<LiveStep>],
+    turns: u32,
+    gate: &G,
+) -> Result<LiveReport, Fail> {
+    match run(rt, alloc, config, setup, scripts, turns, gate) {
+        Some(Ok(report)) => Ok(report),
+        _ => Err(Fail::new("no run")),
     }
 }
 
-pub(crate) fn unmap(space: u8, page: Page, named: u8) -> LiveStep {
-    LiveStep::Unmap {
-        place: Place::Space(space),
-        page,
-        named,
+/// Each step of setup has the answer of its row.
+pub(crate) fn assert_answers(rt: &impl Abort, replies: &[LiveReply], rows: &[Row]) {
+    assert_eq!(rt; replies.len(), rows.len());
+    for (number, (reply, row)) in replies.iter().zip(rows).enumerate() {
+        assert!(rt;
+            answer_of(reply) == row.2,
+            "row {number} has another answer"
+        );
     }
 }
 
-/// A step that loads as a user.
-pub(crate) fn load(va: u64) -> LiveStep {
-    LiveStep::Translate {
-        va,
-        access: Access::Load,
-        ctx: USER,
+/// Each step of a script has the answer of its row, and those that are missing have none.
+pub(crate) fn assert_script(rt: &impl Abort, replies: &[LiveReply], rows: &[Step]) {
+    let answered = rows.iter().filter(|row| row.1 != Answer::Missing).count();
+    assert_eq!(rt; replies.len(), answered);
+    for (number, (reply, row)) in replies.iter().zip(rows).enumerate() {
+        assert!(rt;
+            answer_of(reply) == row.1,
+            "row {number} has another answer"
+        );
     }
 }
 
-pub(crate) fn post(ticket: u32, to: u8) -> LiveStep {
-    LiveStep::Post { ticket, to }
-}
-
-pub(crate) fn serve(from: u8) -> LiveStep {
-    LiveStep::Serve { from }
-}
-
-pub(crate) fn ackself(ticket: u32) -> LiveStep {
-    LiveStep::AckSelf { ticket }
-}
-
-pub(crate) fn wait(ticket: u32) -> LiveStep {
-    LiveStep::Wait { ticket }
-}
-
-pub(crate) const OK: LiveReply = LiveReply::Replied(Reply::Ok);
-
-pub(crate) const LEAF: LiveReply = LiveReply::Replied(Reply::Leaf);
-
-pub(crate) const DONE: LiveReply = LiveReply::Replied(Reply::Done);
-
-pub(crate) const INVALID: LiveReply = LiveReply::Replied(Reply::Trap(Trap {
-    cause: 13,
-    why: Why::Invalid,
-}));
-
-pub(crate) fn table(ppn: u64) -> LiveReply {
-    LiveReply::Replied(Reply::Table(ppn))
-}
-
-pub(crate) fn opened(ticket: u32) -> LiveReply {
-    LiveReply::Replied(Reply::Opened(ticket))
-}
-
-pub(crate) fn waiting(harts: u8) -> LiveReply {
-    LiveReply::Replied(Reply::Waiting(harts))
-}
-
-pub(crate) fn refused(refusal: Refusal) -> LiveReply {
-    LiveReply::Replied(Reply::Refused(refusal))
-}
-
-pub(crate) const TIMEOUT: LiveReply = LiveReply::Timeout;
-
-/// The physical address that a translation gives.
-pub(crate) fn found(pa: u64) -> LiveReply {
-    LiveReply::Translated(pa)
-}
-
-/// The request of a ticket is taken.
-pub(crate) fn taken(ticket: u32, what: What) -> LiveReply
-    requires { ticket < MAX_TICKETS }
-{
-    LiveReply::Replied(Reply::Taken(Request { ticket, what }))
-}
-
-/// Each step of setup, run alone, has the answer beside it.
+/// Each step of setup, run alone by two harts, has the answer of its row.
 pub(crate) fn assert_setup<R: Threads + Wait + Sync + Abort>(
     rt: &R,
     alloc: Global,
     turns: u32,
-    rows: &[(u8, LiveStep, LiveReply)],
+    rows: &[Row],
 ) -> Result<LiveReport, Fail> {
-    let mut setup = Vec::with_capacity(alloc, rows.len())?;
-    for (hart, step, _) in rows {
-        setup.push((*hart, *step))?;
-    }
-    let ran = run(
+    let setup = setup_of(alloc, rows)?;
+    let report = report_of(
         rt,
         alloc,
         &homes(2),
@@ -178,15 +138,50 @@ pub(crate) fn assert_setup<R: Threads + Wait + Sync + Abort>(
         &[],
         turns,
         &OpenGate,
-    );
-    let Some(Ok(report)) = ran else {
-        return Err(Fail::new("no run"));
-    };
-    assert_eq!(rt; report.setup.len(), rows.len());
-    for (answer, row) in report.setup.iter().zip(rows) {
-        assert_eq!(rt; *answer, row.2);
-    }
+    )?;
+    assert_answers(rt, report.setup.as_slice(), rows);
     Ok(report)
+}
+
+/// Each step of the scripts of two harts, run with no setup, has the answer of its row.
+pub(crate) fn assert_scripts<R: Threads + Wait + Sync + Abort, G: Gate + Sync>(
+    rt: &R,
+    alloc: Global,
+    here: &[Step],
+    there: &[Step],
+    turns: u32,
+    gate: &G,
+) -> Result<LiveReport, Fail> {
+    let scripts = vec![in alloc; script_of(alloc, here)?, script_of(alloc, there)?]?;
+    let ran = report_of(rt, alloc, &homes(2), &[], scripts.as_slice(), turns, gate)?;
+    assert!(rt; ran.scripts.len() == 2);
+    assert_script(rt, ran.scripts[0].as_slice(), here);
+    assert_script(rt, ran.scripts[1].as_slice(), there);
+    Ok(ran)
+}
+
+/// What became of the requests of a hart to another: how many were accepted, and how many of these
+/// were taken. The others wait.
+pub(crate) type Pair = (u8, u8, u64, u64);
+
+/// The pairs, in their order.
+pub(crate) fn assert_pairs(rt: &impl Abort, pairs: &[PairReport], rows: &[Pair]) {
+    assert_eq!(rt; pairs.len(), rows.len());
+    for (number, (pair, row)) in pairs.iter().zip(rows).enumerate() {
+        assert!(rt;
+            (pair.sender, pair.receiver) == (row.0, row.1),
+            "another pair at {number}"
+        );
+        assert!(rt;
+            (pair.accepted, pair.taken) == (row.2, row.3),
+            "other counts at {number}"
+        );
+        let waiting = row.2.checked_sub(row.3);
+        assert!(rt;
+            waiting == Some(pair.waiting.len() as u64),
+            "others wait at {number}"
+        );
+    }
 }
 
 /// This many requests of a pair were accepted and taken, and none waits.

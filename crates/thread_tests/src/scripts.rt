@@ -1,8 +1,8 @@
 //! Scripts that look random.
 
-use crate::runs::*;
+use crate::calls::{USER, page, readable, writable};
 use history::{LiveStep, Scope};
-use pte::Page;
+use pte::{Access, Page};
 use spaces::Place;
 use std::alloc::{AllocError, Global};
 
@@ -59,6 +59,49 @@ pub(crate) fn page_of(number: u8) -> Option<Page> {
 /// The PPN by which it is known which space has a page, and which of its steps of mapping it was.
 pub(crate) fn ppn_of(space: u8, version: u16) -> u64 {
     0x10_0000 * (u64::from(space) + 1) + u64::from(version)
+}
+
+/// A step that maps a page of a space to a PPN, for reads of the user.
+pub(crate) fn map(space: u8, page: Page, ppn: u64) -> LiveStep {
+    LiveStep::Map {
+        place: Place::Space(space),
+        page,
+        ppn,
+        flags: readable(),
+    }
+}
+
+pub(crate) fn unmap(space: u8, page: Page, named: u8) -> LiveStep {
+    LiveStep::Unmap {
+        place: Place::Space(space),
+        page,
+        named,
+    }
+}
+
+/// A step that loads as a user.
+pub(crate) fn load(va: u64) -> LiveStep {
+    LiveStep::Translate {
+        va,
+        access: Access::Load,
+        ctx: USER,
+    }
+}
+
+pub(crate) fn post(ticket: u32, to: u8) -> LiveStep {
+    LiveStep::Post { ticket, to }
+}
+
+pub(crate) fn serve(from: u8) -> LiveStep {
+    LiveStep::Serve { from }
+}
+
+pub(crate) fn ackself(ticket: u32) -> LiveStep {
+    LiveStep::AckSelf { ticket }
+}
+
+pub(crate) fn wait(ticket: u32) -> LiveStep {
+    LiveStep::Wait { ticket }
 }
 
 /// A script of a hart as it grows.

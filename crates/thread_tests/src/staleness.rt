@@ -1,9 +1,11 @@
+use crate::calls::Answer::{Accepted, Done, Found, Leaf, Opened, Table, TakenPage, Waiting};
+use crate::calls::Call::{AckSelf, Load, Map, Post, Serve, Unmap, Wait};
+use crate::calls::Leaves::Readable;
+use crate::calls::*;
 use crate::gates::Steps;
 use crate::runs::*;
 use harts::*;
-use history::LiveStep;
-use pte::{Page, What};
-use std::alloc::{AllocError, Global};
+use spaces::Place;
 use std::test::Fail;
 
 // Hart 0 unmaps a page once all others have loaded it. Once it has posted to all, they load it
@@ -44,70 +46,59 @@ impl Gate for Rounds {
     }
 }
 
+const OWN: Place = Place::Space(0);
+
+/// Hart 0 maps the page: eight roots and the kernel's table are below its spare frames.
+const MAPPED: [Row; 3] = [
+    (0, Map(OWN, 0x1000, 0x100, Readable), Table(0x8_0009)),
+    (0, Map(OWN, 0x1000, 0x100, Readable), Table(0x8_000a)),
+    (0, Map(OWN, 0x1000, 0x100, Readable), Leaf),
+];
+
 // The page is unmapped, and at the end mapped anew.
-fn unmaps(alloc: Global, page: Page) -> Result<Vec<LiveStep>, AllocError> {
-    let mut script = Vec::new(alloc);
-    script.push(unmap(0, page, 0b1111_1111))?;
-    for other in 1..8 {
-        script.push(post(0, other))?;
-    }
-    script.push(ackself(0))?;
-    script.push(wait(0))?;
-    script.push(map(0, page, 0x101))?;
-    Ok(script)
-}
+const UNMAPS: [Step; 11] = [
+    (Unmap(OWN, 0x1000, 0b1111_1111), Opened(0)),
+    (Post(0, 1), Accepted),
+    (Post(0, 2), Accepted),
+    (Post(0, 3), Accepted),
+    (Post(0, 4), Accepted),
+    (Post(0, 5), Accepted),
+    (Post(0, 6), Accepted),
+    (Post(0, 7), Accepted),
+    (AckSelf(0), Waiting(0b1111_1110)),
+    (Wait(0), Done),
+    (Map(OWN, 0x1000, 0x101, Readable), Leaf),
+];
 
 // The page is loaded before and after each thing that hart 0 does.
-fn loads(alloc: Global) -> Result<Vec<LiveStep>, AllocError> {
-    let steps = [
-        load(0x1004),
-        load(0x1004),
-        serve(0),
-        load(0x1004),
-        load(0x1004),
-    ];
-    let script = Vec::from_array(alloc, steps)?;
-    Ok(script)
-}
+const LOADS: [Step; 5] = [
+    (Load(0x1004), Found(0x10_0004)),
+    (Load(0x1004), Found(0x10_0004)),
+    (Serve(0), TakenPage(0, 0x1000, Some(1))),
+    (Load(0x1004), INVALID),
+    (Load(0x1004), Found(0x10_1004)),
+];
 
 // As long as a hart has not served, it may use what it holds. Once the wait of the hart that asked
 // was answered with `Done`, it finds nothing, and then what is mapped anew.
 #[test]
 fn nothing_is_found_once_waited(rt: HostRuntime) -> Result<(), Fail> {
     let alloc = rt.alloc();
-    let Some(page) = page(0x1000) else {
-        return Err(Fail::new("not a page"));
-    };
-    let here = (0, map(0, page, 0x100));
-    let mut scripts = vec![in alloc; unmaps(alloc, page)?]?;
+    let setup = setup_of(alloc, MAPPED.as_slice())?;
+    let mut scripts = vec![in alloc; script_of(alloc, UNMAPS.as_slice())?]?;
     for _ in 1..8 {
-        scripts.push(loads(alloc)?)?;
+        scripts.push(script_of(alloc, LOADS.as_slice())?)?;
     }
+    let (setup, scripts) = (setup.as_slice(), scripts.as_slice());
     let gate = Rounds {
         steps: Steps::new(),
     };
-    let ran = run(
-        &rt,
-        alloc,
-        &homes(8),
-        [here, here, here].as_slice(),
-        scripts.as_slice(),
-        1_000_000_000,
-        &gate,
-    );
-    let Some(Ok(ran)) = ran else {
-        return Err(Fail::new("no run"));
-    };
-    assert!(&rt; ran.setup.as_slice() == [table(0x8_0009), table(0x8_000a), LEAF].as_slice());
+    let ran = report_of(&rt, alloc, &homes(8), setup, scripts, MANY_TURNS, &gate)?;
+    assert_answers(&rt, ran.setup.as_slice(), MAPPED.as_slice());
     assert!(&rt; ran.scripts.len() == 8);
-    let all = waiting(0b1111_1110);
-    let unmapped = [opened(0), OK, OK, OK, OK, OK, OK, OK, all, DONE, LEAF];
-    assert!(&rt; ran.scripts[0].as_slice() == unmapped.as_slice());
-    let old = found(0x10_0004);
-    let request = taken(0, What::PageOf(page, Some(1)));
-    let loaded = [old, old, request, INVALID, found(0x10_1004)];
+    assert_script(&rt, ran.scripts[0].as_slice(), UNMAPS.as_slice());
     for answers in ran.scripts.iter().skip(1) {
-        assert!(&rt; answers.as_slice() == loaded.as_slice());
+        assert_script(&rt, answers.as_slice(), LOADS.as_slice());
     }
     for other in 1..8 {
         assert_pair(&rt, ran.report.pairs.as_slice(), 0, other, 1);

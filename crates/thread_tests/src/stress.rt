@@ -1,9 +1,9 @@
-use crate::accounts::Account;
+use crate::accounts::{Account, DONE, LEAF, table};
 use crate::readers::Reader;
-use crate::runs::*;
-use crate::scripts::{Dice, bit, page_of, script};
+use crate::runs::{homes, run};
+use crate::scripts::{Dice, map, page_of, ppn_of, script};
 use harts::*;
-use history::{LiveStep, Refusal};
+use history::LiveStep;
 use std::alloc::{AllocError, Global};
 use std::process::Abort;
 use std::sync::Wait;
@@ -18,9 +18,9 @@ fn setup(alloc: Global) -> Result<Vec<(u8, LiveStep)>, AllocError> {
             continue;
         };
         for _ in 0..3 {
-            setup.push((hart, map(hart, first, crate::scripts::ppn_of(hart, 0))))?;
+            setup.push((hart, map(hart, first, ppn_of(hart, 0))))?;
         }
-        setup.push((hart, map(hart, second, crate::scripts::ppn_of(hart, 1))))?;
+        setup.push((hart, map(hart, second, ppn_of(hart, 1))))?;
     }
     Ok(setup)
 }
