@@ -19,33 +19,32 @@ fn are_kinds(rt: &impl Abort, rows: &[(u64, Kind)]) {
     }
 }
 
+const NO_MEANING: [(u64, Kind); 18] = [
+    (0, Kind::Invalid),
+    (0x4, Kind::Invalid),
+    (0x10, Kind::Invalid),
+    (0xE, Kind::Invalid),
+    (0x20_0000_0000_0000, Kind::Invalid),
+    (u64::MAX - 1, Kind::Invalid),
+    (0x5, Kind::Reserved),
+    (0xD, Kind::Reserved),
+    (0x48D_14D5, Kind::Reserved),
+    (0x48D_14DD, Kind::Reserved),
+    (0x11, Kind::Reserved),
+    (0x41, Kind::Reserved),
+    (0x81, Kind::Reserved),
+    (0x31, Kind::Reserved),
+    (0x61, Kind::Reserved),
+    (0xA1, Kind::Reserved),
+    (0xD1, Kind::Reserved),
+    (0x2000_0481, Kind::Reserved),
+];
+
 /// V clear is invalid, whatever else is set; then a W without R is reserved, and a pointer with U,
 /// A or D.
 #[test]
 fn words_of_no_meaning(rt: HostRuntime) {
-    are_kinds(
-        &rt,
-        &[
-            (0, Kind::Invalid),
-            (0x4, Kind::Invalid),
-            (0x10, Kind::Invalid),
-            (0xE, Kind::Invalid),
-            (0x20_0000_0000_0000, Kind::Invalid),
-            (u64::MAX - 1, Kind::Invalid),
-            (0x5, Kind::Reserved),
-            (0xD, Kind::Reserved),
-            (0x48D_14D5, Kind::Reserved),
-            (0x48D_14DD, Kind::Reserved),
-            (0x11, Kind::Reserved),
-            (0x41, Kind::Reserved),
-            (0x81, Kind::Reserved),
-            (0x31, Kind::Reserved),
-            (0x61, Kind::Reserved),
-            (0xA1, Kind::Reserved),
-            (0xD1, Kind::Reserved),
-            (0x2000_0481, Kind::Reserved),
-        ],
-    );
+    are_kinds(&rt, NO_MEANING.as_slice());
 }
 
 /// Each of bits 63 to 54 is reserved where V is set, and counts for nothing where it is clear.
@@ -82,33 +81,31 @@ fn are_leaves(rt: &impl Abort, rows: &[(u64, u64, u8)]) {
     }
 }
 
+const POINTERS: [(u64, u64, bool); 5] = [
+    (0x1, 0, false),
+    (0x21, 0, true),
+    (0x2000_0401, 0x8_0001, false),
+    (0x2000_0701, 0x8_0001, false),
+    (0x3F_FFFF_FFFF_FC21, 0xFFF_FFFF_FFFF, true),
+];
+
+const LEAVES: [(u64, u64, u8); 9] = [
+    (0x3, 0, 0x02),
+    (0x7, 0, 0x06),
+    (0x9, 0, 0x08),
+    (0xB, 0, 0x0A),
+    (0xF, 0, 0x0E),
+    (0x48D_14D7, 0x1_2345, 0xD6),
+    (0x48D_17D7, 0x1_2345, 0xD6),
+    (0x48D_1529, 0x1_2345, 0x28),
+    (0x3F_FFFF_FFFF_FCFF, 0xFFF_FFFF_FFFF, 0xFE),
+];
+
 /// PPNs from bit 10 on, of 44 bits, and flags from bit 1 on; RSW, bits 9 and 8, counts for nothing.
 #[test]
 fn words_with_a_meaning(rt: HostRuntime) {
-    are_pointers(
-        &rt,
-        &[
-            (0x1, 0, false),
-            (0x21, 0, true),
-            (0x2000_0401, 0x8_0001, false),
-            (0x2000_0701, 0x8_0001, false),
-            (0x3F_FFFF_FFFF_FC21, 0xFFF_FFFF_FFFF, true),
-        ],
-    );
-    are_leaves(
-        &rt,
-        &[
-            (0x3, 0, 0x02),
-            (0x7, 0, 0x06),
-            (0x9, 0, 0x08),
-            (0xB, 0, 0x0A),
-            (0xF, 0, 0x0E),
-            (0x48D_14D7, 0x1_2345, 0xD6),
-            (0x48D_17D7, 0x1_2345, 0xD6),
-            (0x48D_1529, 0x1_2345, 0x28),
-            (0x3F_FFFF_FFFF_FCFF, 0xFFF_FFFF_FFFF, 0xFE),
-        ],
-    );
+    are_pointers(&rt, POINTERS.as_slice());
+    are_leaves(&rt, LEAVES.as_slice());
 }
 
 /// What is seen of flags: whether there are R, W, X, U, G, A and D.
@@ -125,18 +122,19 @@ fn seen(bits: u8) -> [bool; 7] {
     ]
 }
 
+const BITS: [(u8, [bool; 7]); 7] = [
+    (0x02, [true, false, false, false, false, false, false]),
+    (0x04, [false, true, false, false, false, false, false]),
+    (0x08, [false, false, true, false, false, false, false]),
+    (0x10, [false, false, false, true, false, false, false]),
+    (0x20, [false, false, false, false, true, false, false]),
+    (0x40, [false, false, false, false, false, true, false]),
+    (0x80, [false, false, false, false, false, false, true]),
+];
+
 #[test]
 fn flags_by_their_bits(rt: HostRuntime) {
-    let rows = [
-        (0x02, [true, false, false, false, false, false, false]),
-        (0x04, [false, true, false, false, false, false, false]),
-        (0x08, [false, false, true, false, false, false, false]),
-        (0x10, [false, false, false, true, false, false, false]),
-        (0x20, [false, false, false, false, true, false, false]),
-        (0x40, [false, false, false, false, false, true, false]),
-        (0x80, [false, false, false, false, false, false, true]),
-    ];
-    for (bits, want) in rows {
+    for (bits, want) in BITS {
         assert!(rt; seen(bits) == want, "{bits:x}");
     }
 }
@@ -145,26 +143,27 @@ fn is_made(ppn: u64, bits: u8, made: &Result<Pte, LeafFault>) -> bool {
     Pte::leaf(ppn, flags(bits)) == *made
 }
 
+const MADE: [(u64, u8, Result<Pte, LeafFault>); 12] = [
+    (0x100, 0xD2, Ok(Pte(0x4_00D3))),
+    (0x300, 0xE6, Ok(Pte(0xC_00E7))),
+    (0x100, 0x08, Ok(Pte(0x4_0009))),
+    (0x100, 0x58, Ok(Pte(0x4_0059))),
+    (0xFFF_FFFF_FFFF, 0xFE, Ok(Pte(0x3F_FFFF_FFFF_FCFF))),
+    (0x100, 0x00, Err(LeafFault::BadFlags)),
+    (0x100, 0xF0, Err(LeafFault::BadFlags)),
+    (0x100, 0x04, Err(LeafFault::BadFlags)),
+    (0x100, 0x0C, Err(LeafFault::BadFlags)),
+    (1 << 44, 0x02, Err(LeafFault::PpnTooLarge)),
+    (u64::MAX, 0x02, Err(LeafFault::PpnTooLarge)),
+    (1 << 44, 0x04, Err(LeafFault::BadFlags)),
+];
+
 #[test]
 fn entries_that_are_made(rt: HostRuntime) {
     assert!(rt; Pte::table(0x8_0002, false) == Pte(0x2000_0801));
     assert!(rt; Pte::table(0x8_0000, true) == Pte(0x2000_0021));
-    let rows = [
-        (0x100, 0xD2, Ok(Pte(0x4_00D3))),
-        (0x300, 0xE6, Ok(Pte(0xC_00E7))),
-        (0x100, 0x08, Ok(Pte(0x4_0009))),
-        (0x100, 0x58, Ok(Pte(0x4_0059))),
-        (0xFFF_FFFF_FFFF, 0xFE, Ok(Pte(0x3F_FFFF_FFFF_FCFF))),
-        (0x100, 0x00, Err(LeafFault::BadFlags)),
-        (0x100, 0xF0, Err(LeafFault::BadFlags)),
-        (0x100, 0x04, Err(LeafFault::BadFlags)),
-        (0x100, 0x0C, Err(LeafFault::BadFlags)),
-        (1 << 44, 0x02, Err(LeafFault::PpnTooLarge)),
-        (u64::MAX, 0x02, Err(LeafFault::PpnTooLarge)),
-        (1 << 44, 0x04, Err(LeafFault::BadFlags)),
-    ];
-    for (ppn, bits, made) in &rows {
-        assert!(rt; is_made(*ppn, *bits, made), "{ppn:x} {bits:x}");
+    for (ppn, bits, made) in MADE {
+        assert!(rt; is_made(ppn, bits, &made), "{ppn:x} {bits:x}");
     }
 }
 
@@ -178,6 +177,36 @@ const SUPER: Ctx = Ctx {
     mode: Mode::Super,
     sum: false,
     mxr: false,
+};
+
+const USER_SUM: Ctx = Ctx {
+    mode: Mode::User,
+    sum: true,
+    mxr: false,
+};
+
+const USER_MXR: Ctx = Ctx {
+    mode: Mode::User,
+    sum: false,
+    mxr: true,
+};
+
+const SUPER_SUM: Ctx = Ctx {
+    mode: Mode::Super,
+    sum: true,
+    mxr: false,
+};
+
+const SUPER_MXR: Ctx = Ctx {
+    mode: Mode::Super,
+    sum: false,
+    mxr: true,
+};
+
+const SUPER_BOTH: Ctx = Ctx {
+    mode: Mode::Super,
+    sum: true,
+    mxr: true,
 };
 
 /// Flags, a context, and whether a fetch, a load and a store are allowed.
@@ -195,51 +224,44 @@ fn are_permitted(rt: &impl Abort, rows: &[Permitted]) {
     }
 }
 
+const OF_USER_MODE: [Permitted; 10] = [
+    (0x1E, USER, [true, true, true]),
+    (0x0E, USER, [false, false, false]),
+    (0x0E, USER_SUM, [false, false, false]),
+    (0x1E, USER_SUM, [true, true, true]),
+    (0x12, USER, [false, true, false]),
+    (0x16, USER, [false, true, true]),
+    (0x18, USER, [true, false, false]),
+    (0x12, USER_MXR, [false, true, false]),
+    (0x18, USER_MXR, [true, true, false]),
+    (0x08, USER_MXR, [false, false, false]),
+];
+
 /// U-mode needs U, whatever SUM says; MXR adds loads where X is.
 #[test]
 fn permissions_of_user_mode(rt: HostRuntime) {
-    let sum = Ctx { sum: true, ..USER };
-    let mxr = Ctx { mxr: true, ..USER };
-    are_permitted(
-        &rt,
-        &[
-            (0x1E, USER, [true, true, true]),
-            (0x0E, USER, [false, false, false]),
-            (0x0E, sum, [false, false, false]),
-            (0x1E, sum, [true, true, true]),
-            (0x12, USER, [false, true, false]),
-            (0x16, USER, [false, true, true]),
-            (0x18, USER, [true, false, false]),
-            (0x12, mxr, [false, true, false]),
-            (0x18, mxr, [true, true, false]),
-            (0x08, mxr, [false, false, false]),
-        ],
-    );
+    are_permitted(&rt, OF_USER_MODE.as_slice());
 }
+
+const OF_SUPERVISOR_MODE: [Permitted; 12] = [
+    (0x0E, SUPER, [true, true, true]),
+    (0x0E, SUPER_SUM, [true, true, true]),
+    (0x1E, SUPER, [false, false, false]),
+    (0x1E, SUPER_SUM, [false, true, true]),
+    (0x1E, SUPER_MXR, [false, false, false]),
+    (0x18, SUPER_SUM, [false, false, false]),
+    (0x18, SUPER_BOTH, [false, true, false]),
+    (0x02, SUPER, [false, true, false]),
+    (0x02, SUPER_MXR, [false, true, false]),
+    (0x08, SUPER, [true, false, false]),
+    (0x08, SUPER_MXR, [true, true, false]),
+    (0x06, SUPER, [false, true, true]),
+];
 
 /// S-mode needs U clear, or SUM for a load or a store; no fetch from a page with U.
 #[test]
 fn permissions_of_supervisor_mode(rt: HostRuntime) {
-    let sum = Ctx { sum: true, ..SUPER };
-    let mxr = Ctx { mxr: true, ..SUPER };
-    let both = Ctx { sum: true, ..mxr };
-    are_permitted(
-        &rt,
-        &[
-            (0x0E, SUPER, [true, true, true]),
-            (0x0E, sum, [true, true, true]),
-            (0x1E, SUPER, [false, false, false]),
-            (0x1E, sum, [false, true, true]),
-            (0x1E, mxr, [false, false, false]),
-            (0x18, sum, [false, false, false]),
-            (0x18, both, [false, true, false]),
-            (0x02, SUPER, [false, true, false]),
-            (0x02, mxr, [false, true, false]),
-            (0x08, SUPER, [true, false, false]),
-            (0x08, mxr, [true, true, false]),
-            (0x06, SUPER, [false, true, true]),
-        ],
-    );
+    are_permitted(&rt, OF_SUPERVISOR_MODE.as_slice());
 }
 
 fn has_causes(access: Access, page: u8, outside: u8) -> bool {
@@ -253,23 +275,24 @@ fn exception_codes(rt: HostRuntime) {
     assert!(rt; has_causes(Access::Store, 15, 7));
 }
 
+const CANONICAL: [(u64, bool); 10] = [
+    (0, true),
+    (0x3F_FFFF_FFFF, true),
+    (0x40_0000_0000, false),
+    (0x7F_FFFF_FFFF, false),
+    (0x80_0000_0000, false),
+    (0x8000_0000_0000_0000, false),
+    (0xFFFF_FF80_0000_0000, false),
+    (0xFFFF_FFBF_FFFF_FFFF, false),
+    (0xFFFF_FFC0_0000_0000, true),
+    (u64::MAX, true),
+];
+
 /// Bits 63 to 39 equal bit 38.
 #[test]
 fn canonical_addresses(rt: HostRuntime) {
-    let rows = [
-        (0, true),
-        (0x3F_FFFF_FFFF, true),
-        (0x40_0000_0000, false),
-        (0x7F_FFFF_FFFF, false),
-        (0x80_0000_0000, false),
-        (0x8000_0000_0000_0000, false),
-        (0xFFFF_FF80_0000_0000, false),
-        (0xFFFF_FFBF_FFFF_FFFF, false),
-        (0xFFFF_FFC0_0000_0000, true),
-        (u64::MAX, true),
-    ];
-    for (va, is_canonical) in &rows {
-        assert!(rt; VirtAddr::new(*va).is_some() == *is_canonical, "{va:x}");
+    for (va, is_canonical) in CANONICAL {
+        assert!(rt; VirtAddr::new(va).is_some() == is_canonical, "{va:x}");
     }
 }
 
@@ -284,28 +307,29 @@ fn is_canonical(va: u64, in_39: bool, in_48: bool) -> bool {
     is_wide && narrow.is_some() == in_39 && VirtAddr::new(va) == narrow
 }
 
+const CANONICAL_IN_EACH: [(u64, bool, bool); 14] = [
+    (0, true, true),
+    (0x3F_FFFF_FFFF, true, true),
+    (0x40_0000_0000, false, true),
+    (0x7FFF_FFFF_FFFF, false, true),
+    (0x8000_0000_0000, false, false),
+    (0xFFFF_FFFF_FFFF, false, false),
+    (0x1_0000_0000_0000, false, false),
+    (0x8000_0000_0000_0000, false, false),
+    (0xFFFF_0000_0000_0000, false, false),
+    (0xFFFF_7FFF_FFFF_FFFF, false, false),
+    (0xFFFF_8000_0000_0000, false, true),
+    (0xFFFF_FFBF_FFFF_FFFF, false, true),
+    (0xFFFF_FFC0_0000_0000, true, true),
+    (u64::MAX, true, true),
+];
+
 /// In Sv39 bits 63 to 39 equal bit 38, in Sv48 bits 63 to 48 equal bit 47: an address, and whether
 /// it is canonical in each.
 #[test]
 fn canonical_addresses_of_each_scheme(rt: HostRuntime) {
-    let rows = [
-        (0, true, true),
-        (0x3F_FFFF_FFFF, true, true),
-        (0x40_0000_0000, false, true),
-        (0x7FFF_FFFF_FFFF, false, true),
-        (0x8000_0000_0000, false, false),
-        (0xFFFF_FFFF_FFFF, false, false),
-        (0x1_0000_0000_0000, false, false),
-        (0x8000_0000_0000_0000, false, false),
-        (0xFFFF_0000_0000_0000, false, false),
-        (0xFFFF_7FFF_FFFF_FFFF, false, false),
-        (0xFFFF_8000_0000_0000, false, true),
-        (0xFFFF_FFBF_FFFF_FFFF, false, true),
-        (0xFFFF_FFC0_0000_0000, true, true),
-        (u64::MAX, true, true),
-    ];
-    for (va, in_39, in_48) in &rows {
-        assert!(rt; is_canonical(*va, *in_39, *in_48), "{va:x}");
+    for (va, in_39, in_48) in CANONICAL_IN_EACH {
+        assert!(rt; is_canonical(va, in_39, in_48), "{va:x}");
     }
 }
 
@@ -328,21 +352,22 @@ fn has_fields(va: VirtAddr, vpns: [u16; 4], offset: u16) -> bool {
     [va.vpn(3), va.vpn(2), va.vpn(1), va.vpn(0)] == vpns && va.offset() == offset
 }
 
+const FIELDS: [(u64, [u16; 4], u16); 7] = [
+    (0x2A_F879_FABC, [0, 0x0AB, 0x1C3, 0x19F], 0xABC),
+    (0xFFFF_FFFF_FFFF_F000, [511, 511, 511, 511], 0),
+    (0xFFFF_FFC0_0020_1FFF, [511, 256, 1, 1], 0xFFF),
+    (0x80_8040_3ABC, [1, 2, 2, 3], 0xABC),
+    (0x7FFF_FFFF_FFFF, [255, 511, 511, 511], 0xFFF),
+    (0xFFFF_8000_0000_0000, [256, 0, 0, 0], 0),
+    (0x7F_FFFF_FFFF, [0, 511, 511, 511], 0xFFF),
+];
+
 /// VPN[3] is bits 47 to 39, VPN[2] bits 38 to 30, VPN[1] bits 29 to 21, VPN[0] bits 20 to 12, and
 /// the offset bits 11 to 0.
 #[test]
 fn fields_of_an_address(rt: HostRuntime) {
-    let rows = [
-        (0x2A_F879_FABC, [0, 0x0AB, 0x1C3, 0x19F], 0xABC),
-        (0xFFFF_FFFF_FFFF_F000, [511, 511, 511, 511], 0),
-        (0xFFFF_FFC0_0020_1FFF, [511, 256, 1, 1], 0xFFF),
-        (0x80_8040_3ABC, [1, 2, 2, 3], 0xABC),
-        (0x7FFF_FFFF_FFFF, [255, 511, 511, 511], 0xFFF),
-        (0xFFFF_8000_0000_0000, [256, 0, 0, 0], 0),
-        (0x7F_FFFF_FFFF, [0, 511, 511, 511], 0xFFF),
-    ];
-    for (va, vpns, offset) in &rows {
-        assert!(rt; has_fields(address(&rt, *va), *vpns, *offset), "{va:x}");
+    for (va, vpns, offset) in FIELDS {
+        assert!(rt; has_fields(address(&rt, va), vpns, offset), "{va:x}");
     }
 }
 
@@ -371,27 +396,28 @@ fn has_base(va: VirtAddr, size: PageSize, base: u64) -> bool {
     page.base().get() == base && page.size() == size
 }
 
+const BASES: [(u64, PageSize, bool); 14] = [
+    (0x1000, PageSize::Kib4, true),
+    (0x800, PageSize::Kib4, false),
+    (0x20_0000, PageSize::Mib2, true),
+    (0x10_0000, PageSize::Mib2, false),
+    (0x20_1000, PageSize::Mib2, false),
+    (0x4000_0000, PageSize::Gib1, true),
+    (0x2000_0000, PageSize::Gib1, false),
+    (0x4020_0000, PageSize::Gib1, false),
+    (0, PageSize::Gib512, true),
+    (0x80_0000_0000, PageSize::Gib512, true),
+    (0x40_0000_0000, PageSize::Gib512, false),
+    (0x80_4000_0000, PageSize::Gib512, false),
+    (0xFFFF_FF80_0000_0000, PageSize::Gib512, true),
+    (0xFFFF_FFC0_0000_0000, PageSize::Gib512, false),
+];
+
 /// Which bases a page of a size may have, and the base of the page that has 0x80403ABC.
 #[test]
 fn bases_of_pages(rt: HostRuntime) {
-    let bases = [
-        (0x1000, PageSize::Kib4, true),
-        (0x800, PageSize::Kib4, false),
-        (0x20_0000, PageSize::Mib2, true),
-        (0x10_0000, PageSize::Mib2, false),
-        (0x20_1000, PageSize::Mib2, false),
-        (0x4000_0000, PageSize::Gib1, true),
-        (0x2000_0000, PageSize::Gib1, false),
-        (0x4020_0000, PageSize::Gib1, false),
-        (0, PageSize::Gib512, true),
-        (0x80_0000_0000, PageSize::Gib512, true),
-        (0x40_0000_0000, PageSize::Gib512, false),
-        (0x80_4000_0000, PageSize::Gib512, false),
-        (0xFFFF_FF80_0000_0000, PageSize::Gib512, true),
-        (0xFFFF_FFC0_0000_0000, PageSize::Gib512, false),
-    ];
-    for (base, size, is_page) in &bases {
-        assert!(rt; is_base(address(&rt, *base), *size) == *is_page, "{base:x}");
+    for (base, size, is_page) in BASES {
+        assert!(rt; is_base(address(&rt, base), size) == is_page, "{base:x}");
     }
     let va = address(&rt, 0x80_8040_3ABC);
     assert!(rt; has_base(va, PageSize::Kib4, 0x80_8040_3000));
@@ -406,27 +432,28 @@ fn fits_as(base: VirtAddr, size: PageSize, in_39: bool, in_48: bool) -> bool {
     page.base() == base && page.fits(Scheme::Sv39) == in_39 && page.fits(Scheme::Sv48) == in_48
 }
 
+const FITTING: [(u64, PageSize, bool, bool); 12] = [
+    (0x3F_FFFF_F000, PageSize::Kib4, true, true),
+    (0x40_0000_0000, PageSize::Kib4, false, true),
+    (0x3F_C000_0000, PageSize::Gib1, true, true),
+    (0x40_0000_0000, PageSize::Gib1, false, true),
+    (0x40_0000_0000, PageSize::Mib2, false, true),
+    (0, PageSize::Gib512, false, true),
+    (0x80_0000_0000, PageSize::Gib512, false, true),
+    (0xFFFF_FF80_0000_0000, PageSize::Gib512, false, true),
+    (0xFFFF_8000_0000_0000, PageSize::Gib512, false, true),
+    (0xFFFF_FFBF_FFFF_F000, PageSize::Kib4, false, true),
+    (0xFFFF_FFC0_0000_0000, PageSize::Gib1, true, true),
+    (0xFFFF_FFFF_FFFF_F000, PageSize::Kib4, true, true),
+];
+
 /// A base, a size, and whether there is that page in Sv39 and in Sv48.
 #[test]
 fn pages_that_fit_a_scheme(rt: HostRuntime) {
-    let rows = [
-        (0x3F_FFFF_F000, PageSize::Kib4, true, true),
-        (0x40_0000_0000, PageSize::Kib4, false, true),
-        (0x3F_C000_0000, PageSize::Gib1, true, true),
-        (0x40_0000_0000, PageSize::Gib1, false, true),
-        (0x40_0000_0000, PageSize::Mib2, false, true),
-        (0, PageSize::Gib512, false, true),
-        (0x80_0000_0000, PageSize::Gib512, false, true),
-        (0xFFFF_FF80_0000_0000, PageSize::Gib512, false, true),
-        (0xFFFF_8000_0000_0000, PageSize::Gib512, false, true),
-        (0xFFFF_FFBF_FFFF_F000, PageSize::Kib4, false, true),
-        (0xFFFF_FFC0_0000_0000, PageSize::Gib1, true, true),
-        (0xFFFF_FFFF_FFFF_F000, PageSize::Kib4, true, true),
-    ];
-    for (base, size, in_39, in_48) in &rows {
-        let base = address(&rt, *base);
+    for (base, size, in_39, in_48) in FITTING {
+        let base = address(&rt, base);
         assert!(rt;
-            fits_as(base, *size, *in_39, *in_48),
+            fits_as(base, size, in_39, in_48),
             "{:x} {size:?}",
             base.get()
         );
@@ -445,51 +472,48 @@ fn overlap_as(one: &Page, other: &Page, overlaps: bool) -> bool {
     one.overlaps(other) == overlaps && other.overlaps(one) == overlaps
 }
 
+const OVERLAPPING: [(u64, PageSize, bool); 11] = [
+    (0x3F_F000, PageSize::Kib4, false),
+    (0x40_0000, PageSize::Kib4, true),
+    (0x40_1000, PageSize::Kib4, true),
+    (0x5F_F000, PageSize::Kib4, true),
+    (0x60_0000, PageSize::Kib4, false),
+    (0x20_0000, PageSize::Mib2, false),
+    (0x40_0000, PageSize::Mib2, true),
+    (0, PageSize::Gib1, true),
+    (0x4000_0000, PageSize::Gib1, false),
+    (0, PageSize::Gib512, true),
+    (0x80_0000_0000, PageSize::Gib512, false),
+];
+
+const IN_LARGE: [(u64, bool); 4] = [
+    (0x3F_FFFF, false),
+    (0x40_0000, true),
+    (0x5F_FFFF, true),
+    (0x60_0000, false),
+];
+
+const IN_WIDEST: [(u64, bool); 4] = [
+    (0x7F_FFFF_FFFF, false),
+    (0x80_0000_0000, true),
+    (0xFF_FFFF_FFFF, true),
+    (0x100_0000_0000, false),
+];
+
 /// What lies in the 2 MiB at 0x400000: addresses, and pages with an address in common.
 #[test]
 fn parts_of_a_page(rt: HostRuntime) {
     let large = Page::around(address(&rt, 0x40_0000), PageSize::Mib2);
-    lie_in(
-        &rt,
-        &large,
-        &[
-            (0x3F_FFFF, false),
-            (0x40_0000, true),
-            (0x5F_FFFF, true),
-            (0x60_0000, false),
-        ],
-    );
-    let pages = [
-        (0x3F_F000, PageSize::Kib4, false),
-        (0x40_0000, PageSize::Kib4, true),
-        (0x40_1000, PageSize::Kib4, true),
-        (0x5F_F000, PageSize::Kib4, true),
-        (0x60_0000, PageSize::Kib4, false),
-        (0x20_0000, PageSize::Mib2, false),
-        (0x40_0000, PageSize::Mib2, true),
-        (0, PageSize::Gib1, true),
-        (0x4000_0000, PageSize::Gib1, false),
-        (0, PageSize::Gib512, true),
-        (0x80_0000_0000, PageSize::Gib512, false),
-    ];
-    for (base, size, overlaps) in &pages {
-        let page = Page::around(address(&rt, *base), *size);
-        assert!(rt; overlap_as(&large, &page, *overlaps), "{base:x}");
+    lie_in(&rt, &large, IN_LARGE.as_slice());
+    for (base, size, overlaps) in OVERLAPPING {
+        let page = Page::around(address(&rt, base), size);
+        assert!(rt; overlap_as(&large, &page, overlaps), "{base:x}");
     }
     let last = Page::around(address(&rt, u64::MAX), PageSize::Kib4);
     lie_in(&rt, &last, &[(u64::MAX, true)]);
     assert!(rt; last.overlaps(&last));
     let widest = Page::around(address(&rt, 0x80_0000_0000), PageSize::Gib512);
-    lie_in(
-        &rt,
-        &widest,
-        &[
-            (0x7F_FFFF_FFFF, false),
-            (0x80_0000_0000, true),
-            (0xFF_FFFF_FFFF, true),
-            (0x100_0000_0000, false),
-        ],
-    );
+    lie_in(&rt, &widest, IN_WIDEST.as_slice());
     let highest = Page::around(address(&rt, u64::MAX), PageSize::Gib512);
     lie_in(&rt, &highest, &[(u64::MAX, true)]);
     assert!(rt; highest.overlaps(&highest));

@@ -43,40 +43,41 @@ fn faults_of_entries_and_pages(rt: HostRuntime) -> Result<(), Fail> {
     Ok(())
 }
 
+const TRAPS: [(u8, Why, &str); 9] = [
+    (
+        12,
+        Why::NotCanonical,
+        "exception 12: the address is not canonical",
+    ),
+    (
+        5,
+        Why::Outside,
+        "exception 5: the table's word lies outside memory",
+    ),
+    (13, Why::Invalid, "exception 13: V is clear"),
+    (13, Why::Reserved, "exception 13: the word is reserved"),
+    (
+        13,
+        Why::TooDeep,
+        "exception 13: there is a pointer at level 0",
+    ),
+    (
+        12,
+        Why::Denied,
+        "exception 12: the flags do not permit the access",
+    ),
+    (
+        13,
+        Why::Misaligned,
+        "exception 13: the superpage's PPN is no multiple of its size",
+    ),
+    (13, Why::NotAccessed, "exception 13: A is clear"),
+    (15, Why::NotDirty, "exception 15: D is clear"),
+];
+
 #[test]
 fn traps(rt: HostRuntime) -> Result<(), Fail> {
-    let rows = [
-        (
-            12,
-            Why::NotCanonical,
-            "exception 12: the address is not canonical",
-        ),
-        (
-            5,
-            Why::Outside,
-            "exception 5: the table's word lies outside memory",
-        ),
-        (13, Why::Invalid, "exception 13: V is clear"),
-        (13, Why::Reserved, "exception 13: the word is reserved"),
-        (
-            13,
-            Why::TooDeep,
-            "exception 13: there is a pointer at level 0",
-        ),
-        (
-            12,
-            Why::Denied,
-            "exception 12: the flags do not permit the access",
-        ),
-        (
-            13,
-            Why::Misaligned,
-            "exception 13: the superpage's PPN is no multiple of its size",
-        ),
-        (13, Why::NotAccessed, "exception 13: A is clear"),
-        (15, Why::NotDirty, "exception 15: D is clear"),
-    ];
-    for (cause, why, text) in rows {
+    for (cause, why, text) in TRAPS {
         assert!(rt; is_told(&rt, &Trap { cause, why }, text)?, "{text}");
     }
     Ok(())

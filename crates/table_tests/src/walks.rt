@@ -2,10 +2,16 @@
 
 ghost use Rattle.std.specs.Prelude.{◌≡◌};
 
+use pte::Access::{Fetch, Load, Store};
+use pte::PageSize::{Gib1, Gib512, Kib4, Mib2};
+use pte::Scheme::{Sv39, Sv48};
 use pte::{Access, Ctx, Kind, Mode, Page, PageSize, Pte, Scheme, VirtAddr};
 use std::cell::Cell;
 use std::ops::ControlFlow;
 use std::process::Abort;
+use walk::Why::{
+    Denied, Invalid, Misaligned, NotAccessed, NotCanonical, NotDirty, Outside, Reserved, TooDeep,
+};
 use walk::{Found, Progress, Trap, Walk, Why, Words, flags_fault, translate, translate_in};
 
 /// Three frames at 0x80000 to 0x80002: a root and a middle table whose word at index 2 is not 0,
@@ -34,8 +40,15 @@ impl Words for Memory {
     }
 }
 
-/// A pointer to 0x80001, a pointer to 0x80002, and a leaf: PPN 0x12345 with R, W, U, A and D.
-const WORDS: [u64; 3] = [0x2000_0401, 0x2000_0801, 0x48D_14D7];
+/// The word of a pointer to 0x80001, of one to 0x80002, and of a leaf: PPN 0x12345 with R, W, U, A
+/// and D.
+const MIDDLE: u64 = 0x2000_0401;
+
+const LOW: u64 = 0x2000_0801;
+
+const LEAF: u64 = 0x48D_14D7;
+
+const WORDS: [u64; 3] = [MIDDLE, LOW, LEAF];
 
 const ROOT: u64 = 0x8_0000;
 
@@ -63,136 +76,124 @@ fn memory_of([root, middle, low]: [u64; 3]) -> Memory {
     }
 }
 
-/// What is printed of an answer: the physical address, the size, and whether it is global.
-type Answer = Result<(u64, PageSize, bool), Trap>;
+const SUM: Ctx = Ctx {
+    mode: Mode::Super,
+    sum: true,
+    mxr: false,
+};
 
-/// One access over the words of the three frames.
-#[derive(Drop)]
-struct Row {
-    name: &'static str,
-    words: [u64; 3],
-    ctx: Ctx,
-    access: Access,
-    va: u64,
-    answer: Answer,
-}
+const MXR: Ctx = Ctx {
+    mode: Mode::User,
+    sum: false,
+    mxr: true,
+};
 
-fn user_load(name: &'static str, words: [u64; 3], answer: Answer) -> Row {
-    Row {
-        name,
-        words,
-        ctx: USER,
-        access: Access::Load,
-        va: VA,
-        answer,
+/// What is printed of an answer: the physical address, the size, and whether it is global; or the
+/// cause of a trap, and why.
+type Answer = Result<(u64, PageSize, bool), (u8, Why)>;
+
+/// The page of 4 KiB to which the leaf maps VA, and the same where it is global.
+const SMALL: Answer = Ok((0x1234_5ABC, Kib4, false));
+
+const SMALL_GLOBAL: Answer = Ok((0x1234_5ABC, Kib4, true));
+
+/// The pages of 2 MiB, of PPN 0x12200, and of 1 GiB, of PPN 0x40000, that have VA.
+const MIB: Answer = Ok((0x1220_3ABC, Mib2, false));
+
+const MIB_GLOBAL: Answer = Ok((0x1220_3ABC, Mib2, true));
+
+const GIB: Answer = Ok((0x4040_3ABC, Gib1, false));
+
+const GIB_GLOBAL: Answer = Ok((0x4040_3ABC, Gib1, true));
+
+fn answer_of(found: Result<Found, Trap>) -> Answer {
+    match found {
+        Ok(found) => Ok((found.pa, found.page.size(), found.global)),
+        Err(trap) => Err((trap.cause, trap.why)),
     }
 }
 
-fn small(pa: u64) -> Answer {
-    Ok((pa, PageSize::Kib4, false))
+/// The words of the three frames, an access, and its answer.
+type Row = ([u64; 3], Ctx, Access, u64, Answer);
+
+fn are_answered(rt: &impl Abort, rows: &[Row]) {
+    for (number, (words, ctx, access, va, want)) in rows.iter().enumerate() {
+        let answer = answer_of(translate(&memory_of(*words), ROOT, *va, *access, *ctx));
+        assert!(rt; answer == *want, "row {number}");
+    }
 }
 
-fn trap(cause: u8, why: Why) -> Answer {
-    Err(Trap { cause, why })
+/// The words of the three frames, an access of VA from user mode, and its answer.
+type VaRow = ([u64; 3], Access, Answer);
+
+fn are_answered_at_va(rt: &impl Abort, rows: &[VaRow]) {
+    for (number, (words, access, want)) in rows.iter().enumerate() {
+        let answer = answer_of(translate(&memory_of(*words), ROOT, VA, *access, USER));
+        assert!(rt; answer == *want, "row {number}");
+    }
 }
 
-fn answer_to(words: [u64; 3], va: u64, access: Access, ctx: Ctx) -> Answer {
-    let found = translate(&memory_of(words), ROOT, va, access, ctx)?;
-    Ok((found.pa, found.page.size(), found.global))
-}
-
-fn answer(row: &Row) -> Answer {
-    answer_to(row.words, row.va, row.access, row.ctx)
-}
-
-fn with_root(root: u64) -> [u64; 3] {
-    [root, WORDS[1], WORDS[2]]
-}
-
-fn with_middle(middle: u64) -> [u64; 3] {
-    [WORDS[0], middle, WORDS[2]]
-}
-
-fn with_low(low: u64) -> [u64; 3] {
-    [WORDS[0], WORDS[1], low]
-}
+const OF_EACH_SIZE: [VaRow; 7] = [
+    // 4 KiB
+    (WORDS, Load, SMALL),
+    // 2 MiB, PPN 0x12200
+    ([MIDDLE, 0x488_00D7, LEAF], Load, MIB),
+    // 1 GiB, PPN 0x40000
+    ([0x1000_00D7, LOW, LEAF], Load, GIB),
+    // 2 MiB, PPN 0x12201
+    ([MIDDLE, 0x488_04D7, LEAF], Load, Err((13, Misaligned))),
+    // RSW set
+    ([MIDDLE, LOW, 0x48D_17D7], Load, SMALL),
+    // pointer with G
+    ([0x2000_0421, LOW, LEAF], Load, SMALL_GLOBAL),
+    // leaf with G
+    ([MIDDLE, LOW, 0x48D_14F7], Load, SMALL_GLOBAL),
+];
 
 #[test]
 fn pages_of_each_size(rt: HostRuntime) {
-    let rows = [
-        user_load("4 KiB", WORDS, small(0x1234_5ABC)),
-        user_load(
-            "2 MiB, PPN 0x12200",
-            with_middle(0x488_00D7),
-            Ok((0x1220_3ABC, PageSize::Mib2, false)),
-        ),
-        user_load(
-            "1 GiB, PPN 0x40000",
-            with_root(0x1000_00D7),
-            Ok((0x4040_3ABC, PageSize::Gib1, false)),
-        ),
-        user_load(
-            "2 MiB, PPN 0x12201",
-            with_middle(0x488_04D7),
-            trap(13, Why::Misaligned),
-        ),
-        user_load("RSW set", with_low(0x48D_17D7), small(0x1234_5ABC)),
-        user_load(
-            "pointer with G",
-            with_root(0x2000_0421),
-            Ok((0x1234_5ABC, PageSize::Kib4, true)),
-        ),
-        user_load(
-            "leaf with G",
-            with_low(0x48D_14F7),
-            Ok((0x1234_5ABC, PageSize::Kib4, true)),
-        ),
-    ];
-    for row in &rows {
-        assert_eq!(rt; answer(row), row.answer, "{}", row.name);
-    }
+    are_answered_at_va(&rt, OF_EACH_SIZE.as_slice());
 }
+
+const OF_EACH_HALF: [Row; 5] = [
+    (WORDS, USER, Load, 0x3F_FFFF_FFFF, Err((13, Invalid))),
+    (WORDS, USER, Load, 0x40_0000_0000, Err((13, NotCanonical))),
+    (
+        WORDS,
+        USER,
+        Store,
+        0xFFFF_FFBF_FFFF_FFFF,
+        Err((15, NotCanonical)),
+    ),
+    (WORDS, USER, Load, 0xFFFF_FFC0_0000_0000, Err((13, Invalid))),
+    (WORDS, USER, Load, 0xFFFF_FFC0_8040_3ABC, Err((13, Invalid))),
+];
 
 /// The ends of the two halves, and an address of the high half whose fields but the top one are
 /// those of VA.
 #[test]
 fn addresses_of_each_half(rt: HostRuntime) {
-    let rows = [
-        (0x3F_FFFF_FFFF, Access::Load, 13, Why::Invalid),
-        (0x40_0000_0000, Access::Load, 13, Why::NotCanonical),
-        (0xFFFF_FFBF_FFFF_FFFF, Access::Store, 15, Why::NotCanonical),
-        (0xFFFF_FFC0_0000_0000, Access::Load, 13, Why::Invalid),
-        (0xFFFF_FFC0_8040_3ABC, Access::Load, 13, Why::Invalid),
-    ];
-    for (va, access, cause, why) in &rows {
-        let answer = answer_to(WORDS, *va, *access, USER);
-        assert_eq!(rt; answer, trap(*cause, *why), "{:x}", *va);
-    }
+    are_answered(&rt, OF_EACH_HALF.as_slice());
 }
+
+const ENDING: [VaRow; 4] = [
+    // pointer with U
+    ([0x2000_0411, LOW, LEAF], Load, Err((13, Reserved))),
+    // third pointer
+    ([MIDDLE, LOW, 0x2000_0401], Load, Err((13, TooDeep))),
+    // bit 63 set
+    (
+        [MIDDLE, LOW, 0x8000_0000_048D_14D7],
+        Load,
+        Err((13, Reserved)),
+    ),
+    // W without R
+    ([MIDDLE, LOW, 0x48D_14D5], Load, Err((13, Reserved))),
+];
 
 #[test]
 fn paths_that_end(rt: HostRuntime) {
-    let rows = [
-        user_load(
-            "pointer with U",
-            with_root(0x2000_0411),
-            trap(13, Why::Reserved),
-        ),
-        user_load(
-            "third pointer",
-            with_low(0x2000_0401),
-            trap(13, Why::TooDeep),
-        ),
-        user_load(
-            "bit 63 set",
-            with_low(0x8000_0000_048D_14D7),
-            trap(13, Why::Reserved),
-        ),
-        user_load("W without R", with_low(0x48D_14D5), trap(13, Why::Reserved)),
-    ];
-    for row in &rows {
-        assert_eq!(rt; answer(row), row.answer, "{}", row.name);
-    }
+    are_answered_at_va(&rt, ENDING.as_slice());
 }
 
 /// The word of a leaf at level 0, an access of VA, and the answer.
@@ -200,171 +201,175 @@ type LeafRow = (u64, Ctx, Access, Answer);
 
 fn answers_by_leaf(rt: &impl Abort, rows: &[LeafRow]) {
     for (low, ctx, access, want) in rows {
-        let answer = answer_to(with_low(*low), VA, *access, *ctx);
-        assert_eq!(rt; answer, *want, "{:x} {:?} {:?}", *low, *ctx, *access);
+        let row = ([MIDDLE, LOW, *low], *ctx, *access, VA, *want);
+        are_answered(rt, &[row]);
     }
 }
 
 /// Leaves with V and A, and with R, X and U; X and U; R, W, X and D; or R, W, U and D.
+const READABLE: u64 = 0x48D_145B;
+
+const EXECUTE_ONLY: u64 = 0x48D_1459;
+
+const OF_SUPERVISOR: u64 = 0x48D_14CF;
+
+const WRITABLE: u64 = 0x48D_14D7;
+
+const BY_PERMISSION: [LeafRow; 13] = [
+    (READABLE, SUM, Fetch, Err((12, Denied))),
+    (READABLE, SUM, Load, SMALL),
+    (READABLE, SUPER, Load, Err((13, Denied))),
+    (READABLE, USER, Fetch, SMALL),
+    (WRITABLE, SUM, Store, SMALL),
+    (WRITABLE, SUPER, Store, Err((15, Denied))),
+    (EXECUTE_ONLY, USER, Load, Err((13, Denied))),
+    (EXECUTE_ONLY, MXR, Load, SMALL),
+    (EXECUTE_ONLY, USER, Store, Err((15, Denied))),
+    (OF_SUPERVISOR, SUPER, Fetch, SMALL),
+    (OF_SUPERVISOR, SUPER, Store, SMALL),
+    (OF_SUPERVISOR, USER, Load, Err((13, Denied))),
+    (OF_SUPERVISOR, USER, Fetch, Err((12, Denied))),
+];
+
 #[test]
 fn accesses_by_permission(rt: HostRuntime) {
-    let readable = 0x48D_145B;
-    let execute_only = 0x48D_1459;
-    let supervisor = 0x48D_14CF;
-    let writable = 0x48D_14D7;
-    let sum = Ctx { sum: true, ..SUPER };
-    let mxr = Ctx { mxr: true, ..USER };
-    let ok = small(0x1234_5ABC);
-    answers_by_leaf(
-        &rt,
-        &[
-            (readable, sum, Access::Fetch, trap(12, Why::Denied)),
-            (readable, sum, Access::Load, ok),
-            (readable, SUPER, Access::Load, trap(13, Why::Denied)),
-            (readable, USER, Access::Fetch, ok),
-            (writable, sum, Access::Store, ok),
-            (writable, SUPER, Access::Store, trap(15, Why::Denied)),
-            (execute_only, USER, Access::Load, trap(13, Why::Denied)),
-            (execute_only, mxr, Access::Load, ok),
-            (execute_only, USER, Access::Store, trap(15, Why::Denied)),
-            (supervisor, SUPER, Access::Fetch, ok),
-            (supervisor, SUPER, Access::Store, ok),
-            (supervisor, USER, Access::Load, trap(13, Why::Denied)),
-            (supervisor, USER, Access::Fetch, trap(12, Why::Denied)),
-        ],
-    );
+    answers_by_leaf(&rt, BY_PERMISSION.as_slice());
 }
 
-/// Permission is tested first, then A, then D for a store: leaves with V, R and U, and with W; W
-/// and D; W and A; or X.
+/// Leaves with V, R and U, and with W; W and D; W and A; or X.
+const NEITHER: u64 = 0x48D_1417;
+
+const DIRTY_ALONE: u64 = 0x48D_1497;
+
+const NOT_DIRTY: u64 = 0x48D_1457;
+
+const EXECUTABLE: u64 = 0x48D_141B;
+
+const BY_A_AND_D: [LeafRow; 8] = [
+    (NEITHER, USER, Load, Err((13, NotAccessed))),
+    (NEITHER, USER, Store, Err((15, NotAccessed))),
+    (NEITHER, USER, Fetch, Err((12, Denied))),
+    (DIRTY_ALONE, USER, Load, Err((13, NotAccessed))),
+    (DIRTY_ALONE, USER, Store, Err((15, NotAccessed))),
+    (EXECUTABLE, USER, Fetch, Err((12, NotAccessed))),
+    (NOT_DIRTY, USER, Load, SMALL),
+    (NOT_DIRTY, USER, Store, Err((15, NotDirty))),
+];
+
+/// Permission is tested first, then A, then D for a store.
 #[test]
 fn accesses_by_a_and_d(rt: HostRuntime) {
-    let neither = 0x48D_1417;
-    let dirty_alone = 0x48D_1497;
-    let not_dirty = 0x48D_1457;
-    let executable = 0x48D_141B;
-    let ok = small(0x1234_5ABC);
-    answers_by_leaf(
-        &rt,
-        &[
-            (neither, USER, Access::Load, trap(13, Why::NotAccessed)),
-            (neither, USER, Access::Store, trap(15, Why::NotAccessed)),
-            (neither, USER, Access::Fetch, trap(12, Why::Denied)),
-            (dirty_alone, USER, Access::Load, trap(13, Why::NotAccessed)),
-            (dirty_alone, USER, Access::Store, trap(15, Why::NotAccessed)),
-            (executable, USER, Access::Fetch, trap(12, Why::NotAccessed)),
-            (not_dirty, USER, Access::Load, ok),
-            (not_dirty, USER, Access::Store, trap(15, Why::NotDirty)),
-        ],
-    );
+    answers_by_leaf(&rt, BY_A_AND_D.as_slice());
 }
+
+const OUTSIDE: [VaRow; 4] = [
+    ([0x2000_0C01, LOW, LEAF], Load, Err((5, Outside))),
+    ([0x2000_0C01, LOW, LEAF], Store, Err((7, Outside))),
+    ([0x2000_0C01, LOW, LEAF], Fetch, Err((1, Outside))),
+    ([MIDDLE, 0x2000_0C01, LEAF], Load, Err((5, Outside))),
+];
 
 /// A table outside memory raises the access fault of the access.
 #[test]
 fn tables_outside_memory(rt: HostRuntime) {
-    let rows = [
-        (with_root(0x2000_0C01), Access::Load, 5),
-        (with_root(0x2000_0C01), Access::Store, 7),
-        (with_root(0x2000_0C01), Access::Fetch, 1),
-        (with_middle(0x2000_0C01), Access::Load, 5),
-    ];
-    for (words, access, cause) in &rows {
-        let answer = answer_to(*words, VA, *access, USER);
-        assert_eq!(rt; answer, trap(*cause, Why::Outside), "{:?}", *access);
-    }
+    are_answered_at_va(&rt, OUTSIDE.as_slice());
 }
+
+const SUPERPAGES: [VaRow; 11] = [
+    ([MIDDLE, 0x488_00C7, LEAF], Load, Err((13, Denied))),
+    ([0x1000_00C7, LOW, LEAF], Load, Err((13, Denied))),
+    ([MIDDLE, 0x488_04C7, LEAF], Load, Err((13, Denied))),
+    ([MIDDLE, 0x488_04D7, LEAF], Fetch, Err((12, Denied))),
+    ([MIDDLE, 0x488_0417, LEAF], Load, Err((13, Misaligned))),
+    ([MIDDLE, 0x488_0457, LEAF], Store, Err((15, Misaligned))),
+    ([MIDDLE, 0x48C_00D7, LEAF], Load, Err((13, Misaligned))),
+    ([0x1008_00D7, LOW, LEAF], Load, Err((13, Misaligned))),
+    ([0x1800_00D7, LOW, LEAF], Load, Err((13, Misaligned))),
+    ([MIDDLE, 0x488_0017, LEAF], Load, Err((13, NotAccessed))),
+    ([0x1000_0057, LOW, LEAF], Store, Err((15, NotDirty))),
+];
 
 /// At a superpage permission is tested before the alignment of the PPN, and that before A and D.
 #[test]
 fn superpages_that_fault(rt: HostRuntime) {
-    let rows = [
-        (with_middle(0x488_00C7), Access::Load, 13, Why::Denied),
-        (with_root(0x1000_00C7), Access::Load, 13, Why::Denied),
-        (with_middle(0x488_04C7), Access::Load, 13, Why::Denied),
-        (with_middle(0x488_04D7), Access::Fetch, 12, Why::Denied),
-        (with_middle(0x488_0417), Access::Load, 13, Why::Misaligned),
-        (with_middle(0x488_0457), Access::Store, 15, Why::Misaligned),
-        (with_middle(0x48C_00D7), Access::Load, 13, Why::Misaligned),
-        (with_root(0x1008_00D7), Access::Load, 13, Why::Misaligned),
-        (with_root(0x1800_00D7), Access::Load, 13, Why::Misaligned),
-        (with_middle(0x488_0017), Access::Load, 13, Why::NotAccessed),
-        (with_root(0x1000_0057), Access::Store, 15, Why::NotDirty),
-    ];
-    for (words, access, cause, why) in &rows {
-        let answer = answer_to(*words, VA, *access, USER);
-        assert_eq!(rt; answer, trap(*cause, *why), "{:?} {:?}", *access, *why);
-    }
+    are_answered_at_va(&rt, SUPERPAGES.as_slice());
 }
+
+const GLOBAL: [VaRow; 5] = [
+    ([0x2000_0421, LOW, LEAF], Load, SMALL_GLOBAL),
+    ([MIDDLE, 0x2000_0821, LEAF], Load, SMALL_GLOBAL),
+    ([MIDDLE, LOW, 0x48D_14F7], Load, SMALL_GLOBAL),
+    ([MIDDLE, 0x488_00F7, LEAF], Load, MIB_GLOBAL),
+    ([0x1000_00F7, LOW, LEAF], Load, GIB_GLOBAL),
+];
 
 /// G on the leaf or on any pointer above it.
 #[test]
 fn global_paths(rt: HostRuntime) {
-    let rows = [
-        (with_root(0x2000_0421), 0x1234_5ABC, PageSize::Kib4),
-        (with_middle(0x2000_0821), 0x1234_5ABC, PageSize::Kib4),
-        (with_low(0x48D_14F7), 0x1234_5ABC, PageSize::Kib4),
-        (with_middle(0x488_00F7), 0x1220_3ABC, PageSize::Mib2),
-        (with_root(0x1000_00F7), 0x4040_3ABC, PageSize::Gib1),
-    ];
-    for (words, pa, size) in &rows {
-        let answer = answer_to(*words, VA, Access::Load, USER);
-        assert_eq!(rt; answer, Ok((*pa, *size, true)));
-    }
+    are_answered_at_va(&rt, GLOBAL.as_slice());
 }
+
+/// The words of the three frames, and the base and the PPN of the page that a load finds.
+const FOUND: [([u64; 3], u64, u64); 3] = [
+    (WORDS, 0x8040_3000, 0x1_2345),
+    ([MIDDLE, 0x488_00D7, LEAF], 0x8040_0000, 0x1_2200),
+    ([0x1000_00D7, LOW, LEAF], 0x8000_0000, 0x4_0000),
+];
 
 /// The page that is found begins at a multiple of its size.
 #[test]
 fn pages_that_are_found(rt: HostRuntime) {
-    let rows = [
-        (WORDS, 0x8040_3000, 0x1_2345),
-        (with_middle(0x488_00D7), 0x8040_0000, 0x1_2200),
-        (with_root(0x1000_00D7), 0x8000_0000, 0x4_0000),
-    ];
-    for (words, base, ppn) in &rows {
-        let found = translate(&memory_of(*words), ROOT, VA, Access::Load, USER).map(|found| (
+    for (words, base, ppn) in FOUND {
+        let found = translate(&memory_of(words), ROOT, VA, Access::Load, USER).map(|found| (
             found.page.base().get(),
             found.ppn,
         ));
-        assert_eq!(rt; found, Ok((*base, *ppn)));
+        assert!(rt; found == Ok((base, ppn)), "{base:x}");
     }
 }
 
+const HOSTILE: [Row; 6] = [
+    // root to itself at each level
+    (
+        [0x2000_0001, LOW, LEAF],
+        USER,
+        Load,
+        0x8040_2ABC,
+        Err((13, TooDeep)),
+    ),
+    // root to itself twice
+    ([0x2000_0001, LOW, LEAF], USER, Load, VA, Err((13, Invalid))),
+    // all ones
+    ([u64::MAX, LOW, LEAF], USER, Load, VA, Err((13, Reserved))),
+    // all ones but V
+    (
+        [u64::MAX - 1, LOW, LEAF],
+        USER,
+        Load,
+        VA,
+        Err((13, Invalid)),
+    ),
+    // the highest table
+    (
+        [0x3F_FFFF_FFFF_FC01, LOW, LEAF],
+        USER,
+        Load,
+        VA,
+        Err((5, Outside)),
+    ),
+    // the highest page
+    (
+        [MIDDLE, LOW, 0x3F_FFFF_FFFF_FCD7],
+        USER,
+        Load,
+        0x8040_3FFF,
+        Ok((0xFF_FFFF_FFFF_FFFF, Kib4, false)),
+    ),
+];
+
 #[test]
 fn hostile_words(rt: HostRuntime) {
-    let to_itself = with_root(0x2000_0001);
-    let rows = [
-        Row {
-            va: 0x8040_2ABC,
-            ..user_load(
-                "root to itself at each level",
-                to_itself,
-                trap(13, Why::TooDeep),
-            )
-        },
-        user_load("root to itself twice", to_itself, trap(13, Why::Invalid)),
-        user_load("all ones", with_root(u64::MAX), trap(13, Why::Reserved)),
-        user_load(
-            "all ones but V",
-            with_root(u64::MAX - 1),
-            trap(13, Why::Invalid),
-        ),
-        user_load(
-            "the highest table",
-            with_root(0x3F_FFFF_FFFF_FC01),
-            trap(5, Why::Outside),
-        ),
-        Row {
-            va: 0x8040_3FFF,
-            ..user_load(
-                "the highest page",
-                with_low(0x3F_FFFF_FFFF_FCD7),
-                small(0xFF_FFFF_FFFF_FFFF),
-            )
-        },
-    ];
-    for row in &rows {
-        assert_eq!(rt; answer(row), row.answer, "{}", row.name);
-    }
+    are_answered(&rt, HOSTILE.as_slice());
 }
 
 /// The walk after these words, if it goes on after each.
@@ -476,42 +481,49 @@ fn fed_walks_end(rt: HostRuntime) {
     }
 }
 
+/// The words of the three frames, an address, and how many words a load from there reads.
+const LOADS: [([u64; 3], u64, u32); 6] = [
+    (WORDS, VA, 3),
+    ([MIDDLE, 0x488_00D7, LEAF], VA, 2),
+    ([0x1000_00D7, LOW, LEAF], VA, 1),
+    ([MIDDLE, LOW, 0x2000_0401], VA, 3),
+    ([0x2000_0C01, LOW, LEAF], VA, 2),
+    (WORDS, 0x40_0000_0000, 0),
+];
+
 /// A walk reads one word a level and no more, which no clause says.
 #[test]
 fn loads_are_counted(rt: HostRuntime) {
-    let rows = [
-        (WORDS, VA, 3),
-        (with_middle(0x488_00D7), VA, 2),
-        (with_root(0x1000_00D7), VA, 1),
-        (with_low(0x2000_0401), VA, 3),
-        (with_root(0x2000_0C01), VA, 2),
-        (WORDS, 0x40_0000_0000, 0),
-    ];
-    for (words, va, want) in &rows {
-        let memory = memory_of(*words);
-        let _ = translate(&memory, ROOT, *va, Access::Load, USER);
-        assert_eq!(rt; memory.loads.get(), *want);
+    for (words, va, want) in LOADS {
+        let memory = memory_of(words);
+        let _ = translate(&memory, ROOT, va, Access::Load, USER);
+        assert!(rt; memory.loads.get() == want, "{va:x}");
     }
 }
+
+/// The low byte of a leaf, an access from user mode, and why it is refused.
+const BY_FLAGS: [(u64, Access, Option<Why>); 6] = [
+    (0x13, Fetch, Some(Denied)),
+    (0x13, Load, Some(NotAccessed)),
+    (0x53, Load, None),
+    (0x53, Store, Some(Denied)),
+    (0x57, Store, Some(NotDirty)),
+    (0xD7, Store, None),
+];
 
 /// What flags alone refuse, as a TLB entry answers: the words are leaves with V, R and U, then with
 /// A, W and D too.
 #[test]
 fn flags_refuse(rt: HostRuntime) {
-    let rows = [
-        (0x13, Access::Fetch, Some(Why::Denied)),
-        (0x13, Access::Load, Some(Why::NotAccessed)),
-        (0x53, Access::Load, None),
-        (0x53, Access::Store, Some(Why::Denied)),
-        (0x57, Access::Store, Some(Why::NotDirty)),
-        (0xD7, Access::Store, None),
-    ];
-    for (word, access, want) in &rows {
-        let Kind::Leaf { flags, .. } = Pte(*word).kind() else {
+    for (word, access, want) in BY_FLAGS {
+        let Kind::Leaf { flags, .. } = Pte(word).kind() else {
             assert!(rt; false, "no leaf");
             return;
         };
-        assert_eq!(rt; flags_fault(flags, *access, USER), *want);
+        assert!(rt;
+            flags_fault(flags, access, USER) == want,
+            "{word:x} {access:?}"
+        );
     }
 }
 
@@ -545,8 +557,11 @@ impl Words for FourFrames {
     }
 }
 
+/// The word of a pointer to 0x80003.
+const LOWEST: u64 = 0x2000_0C01;
+
 /// Pointers to 0x80001, 0x80002 and 0x80003, and a leaf: PPN 0x12345 with R, W, U, A and D.
-const DEEP_WORDS: [u64; 4] = [0x2000_0401, 0x2000_0801, 0x2000_0C01, 0x48D_14D7];
+const DEEP_WORDS: [u64; 4] = [MIDDLE, LOW, LOWEST, LEAF];
 
 /// VPN 1, 2, 2 and 3, offset 0xABC.
 const DEEP_VA: u64 = 0x80_8040_3ABC;
@@ -561,120 +576,149 @@ fn four_frames([root, upper, middle, low]: [u64; 4]) -> FourFrames {
     }
 }
 
-/// What a load by U-mode of the words gives, and how many words it reads.
+/// What a load by U-mode from an address gives, and how many words it reads.
 fn deep_load(scheme: Scheme, words: [u64; 4], va: u64) -> (Answer, u32) {
     let memory = four_frames(words);
-    let answer = translate_in(scheme, &memory, ROOT, va, Access::Load, USER).map(|found| (
-        found.pa,
-        found.page.size(),
-        found.global,
-    ));
-    (answer, memory.loads.get())
+    let found = translate_in(scheme, &memory, ROOT, va, Access::Load, USER);
+    (answer_of(found), memory.loads.get())
 }
 
-fn with_deep_root(root: u64) -> [u64; 4] {
-    let [_, upper, middle, low] = DEEP_WORDS;
-    [root, upper, middle, low]
+/// The words of the four frames, an address, what a load in Sv48 gives there, and how many words it
+/// reads.
+type Sv48Row = ([u64; 4], u64, Answer, u32);
+
+fn are_answered_in_sv48(rt: &impl Abort, rows: &[Sv48Row]) {
+    for (number, (words, va, want, loads)) in rows.iter().enumerate() {
+        let (answer, read) = deep_load(Scheme::Sv48, *words, *va);
+        assert!(rt; answer == *want && read == *loads, "row {number}");
+    }
 }
+
+const OF_SV48: [Sv48Row; 9] = [
+    (DEEP_WORDS, DEEP_VA, SMALL, 4),
+    ([0x2000_0421, LOW, LOWEST, LEAF], DEEP_VA, SMALL_GLOBAL, 4),
+    ([MIDDLE, LOW, 0x488_00D7, 0], DEEP_VA, MIB, 3),
+    ([MIDDLE, 0x1000_00D7, LOWEST, 0], DEEP_VA, GIB, 2),
+    (
+        [0x40_0000_00D7, LOW, LOWEST, LEAF],
+        DEEP_VA,
+        Ok((0x100_8040_3ABC, Gib512, false)),
+        1,
+    ),
+    (
+        [0x40_0000_04D7, LOW, LOWEST, LEAF],
+        DEEP_VA,
+        Err((13, Misaligned)),
+        1,
+    ),
+    (
+        [0x50_0000_00D7, LOW, LOWEST, LEAF],
+        DEEP_VA,
+        Err((13, Misaligned)),
+        1,
+    ),
+    (
+        [0x2000_1001, LOW, LOWEST, LEAF],
+        DEEP_VA,
+        Err((5, Outside)),
+        2,
+    ),
+    (
+        [MIDDLE, LOW, LOWEST, MIDDLE],
+        DEEP_VA,
+        Err((13, TooDeep)),
+        4,
+    ),
+];
 
 /// A page of each size of Sv48, by one load a level.
 #[test]
 fn pages_of_sv48(rt: HostRuntime) {
-    let [root, upper, middle, _] = DEEP_WORDS;
-    let global = with_deep_root(0x2000_0421);
-    let rows = [
-        (DEEP_WORDS, small(0x1234_5ABC), 4),
-        (global, Ok((0x1234_5ABC, PageSize::Kib4, true)), 4),
-        (
-            [root, upper, 0x488_00D7, 0],
-            Ok((0x1220_3ABC, PageSize::Mib2, false)),
-            3,
-        ),
-        (
-            [root, 0x1000_00D7, middle, 0],
-            Ok((0x4040_3ABC, PageSize::Gib1, false)),
-            2,
-        ),
-        (
-            with_deep_root(0x40_0000_00D7),
-            Ok((0x100_8040_3ABC, PageSize::Gib512, false)),
-            1,
-        ),
-        (with_deep_root(0x40_0000_04D7), trap(13, Why::Misaligned), 1),
-        (with_deep_root(0x50_0000_00D7), trap(13, Why::Misaligned), 1),
-        (with_deep_root(0x2000_1001), trap(5, Why::Outside), 2),
-        ([root, upper, middle, root], trap(13, Why::TooDeep), 4),
-    ];
-    for (words, answer, loads) in &rows {
-        assert_eq!(rt; deep_load(Scheme::Sv48, *words, DEEP_VA), (*answer, *loads));
-    }
+    are_answered_in_sv48(&rt, OF_SV48.as_slice());
 }
+
+const HOSTILE_OF_SV48: [Sv48Row; 7] = [
+    // root to itself at each level, and then twice
+    (
+        [0x2000_0001, LOW, LOWEST, LEAF],
+        0x80_4020_1ABC,
+        Err((13, TooDeep)),
+        4,
+    ),
+    (
+        [0x2000_0001, LOW, LOWEST, LEAF],
+        DEEP_VA,
+        Err((13, Invalid)),
+        2,
+    ),
+    // all ones, and all ones but V
+    (
+        [u64::MAX, LOW, LOWEST, LEAF],
+        DEEP_VA,
+        Err((13, Reserved)),
+        1,
+    ),
+    (
+        [u64::MAX - 1, LOW, LOWEST, LEAF],
+        DEEP_VA,
+        Err((13, Invalid)),
+        1,
+    ),
+    // the highest table
+    (
+        [0x3F_FFFF_FFFF_FC01, LOW, LOWEST, LEAF],
+        DEEP_VA,
+        Err((5, Outside)),
+        2,
+    ),
+    // the highest page of 4 KiB, and of 512 GiB
+    (
+        [MIDDLE, LOW, LOWEST, 0x3F_FFFF_FFFF_FCD7],
+        0x80_8040_3FFF,
+        Ok((0xFF_FFFF_FFFF_FFFF, Kib4, false)),
+        4,
+    ),
+    (
+        [0x3F_FFE0_0000_00D7, LOW, LOWEST, LEAF],
+        0xFF_FFFF_FFFF,
+        Ok((0xFF_FFFF_FFFF_FFFF, Gib512, false)),
+        1,
+    ),
+];
 
 /// The last page of 512 GiB and of 4 KiB, and words that end a walk of Sv48, with the loads that
 /// they take.
 #[test]
 fn hostile_words_of_sv48(rt: HostRuntime) {
-    let [root, upper, middle, _] = DEEP_WORDS;
-    let to_itself = with_deep_root(0x2000_0001);
-    let last_table = with_deep_root(0x3F_FFFF_FFFF_FC01);
-    let last_leaf = [root, upper, middle, 0x3F_FFFF_FFFF_FCD7];
-    let rows = [
-        (to_itself, 0x80_4020_1ABC, trap(13, Why::TooDeep), 4),
-        (to_itself, DEEP_VA, trap(13, Why::Invalid), 2),
-        (
-            with_deep_root(u64::MAX),
-            DEEP_VA,
-            trap(13, Why::Reserved),
-            1,
-        ),
-        (
-            with_deep_root(u64::MAX - 1),
-            DEEP_VA,
-            trap(13, Why::Invalid),
-            1,
-        ),
-        (last_table, DEEP_VA, trap(5, Why::Outside), 2),
-        (last_leaf, 0x80_8040_3FFF, small(0xFF_FFFF_FFFF_FFFF), 4),
-        (
-            with_deep_root(0x3F_FFE0_0000_00D7),
-            0xFF_FFFF_FFFF,
-            Ok((0xFF_FFFF_FFFF_FFFF, PageSize::Gib512, false)),
-            1,
-        ),
-    ];
-    for (words, va, answer, loads) in &rows {
-        assert_eq!(rt;
-            deep_load(Scheme::Sv48, *words, *va),
-            (*answer, *loads),
-            "{:x}",
-            *va
-        );
-    }
+    are_answered_in_sv48(&rt, HOSTILE_OF_SV48.as_slice());
 }
+
+/// A scheme, an address, what a load of the deep words gives there, and how many words it reads.
+type HalfRow = (Scheme, u64, Answer, u32);
+
+const HALVES: [HalfRow; 9] = [
+    (Sv39, DEEP_VA, Err((13, NotCanonical)), 0),
+    (Sv39, 0x3F_FFFF_FFFF, Err((13, Invalid)), 1),
+    (Sv39, 0x40_0000_0000, Err((13, NotCanonical)), 0),
+    (Sv48, 0x40_0000_0000, Err((13, Invalid)), 1),
+    (Sv48, 0x7FFF_FFFF_FFFF, Err((13, Invalid)), 1),
+    (Sv48, 0x8000_0000_0000, Err((13, NotCanonical)), 0),
+    (Sv48, 0xFFFF_7FFF_FFFF_FFFF, Err((13, NotCanonical)), 0),
+    (Sv48, 0xFFFF_8000_0000_0000, Err((13, Invalid)), 1),
+    (Sv39, 0xFFFF_8000_0000_0000, Err((13, NotCanonical)), 0),
+];
+
+const WORKED: [Row; 1] = [(WORDS, USER, Load, VA, SMALL)];
 
 /// The ends of the two halves of each scheme: an address that is not canonical is refused before
 /// any word is read.
 #[test]
 fn halves_of_each_scheme(rt: HostRuntime) {
-    let rows = [
-        (Scheme::Sv39, DEEP_VA, Why::NotCanonical, 0),
-        (Scheme::Sv39, 0x3F_FFFF_FFFF, Why::Invalid, 1),
-        (Scheme::Sv39, 0x40_0000_0000, Why::NotCanonical, 0),
-        (Scheme::Sv48, 0x40_0000_0000, Why::Invalid, 1),
-        (Scheme::Sv48, 0x7FFF_FFFF_FFFF, Why::Invalid, 1),
-        (Scheme::Sv48, 0x8000_0000_0000, Why::NotCanonical, 0),
-        (Scheme::Sv48, 0xFFFF_7FFF_FFFF_FFFF, Why::NotCanonical, 0),
-        (Scheme::Sv48, 0xFFFF_8000_0000_0000, Why::Invalid, 1),
-        (Scheme::Sv39, 0xFFFF_8000_0000_0000, Why::NotCanonical, 0),
-    ];
-    for (scheme, va, why, loads) in &rows {
-        let answer = deep_load(*scheme, DEEP_WORDS, *va);
-        assert_eq!(rt; answer, (trap(13, *why), *loads), "{:?} {:x}", *scheme, *va);
+    for (scheme, va, want, loads) in HALVES {
+        let (answer, read) = deep_load(scheme, DEEP_WORDS, va);
+        assert!(rt; answer == want && read == loads, "{va:x}");
     }
-    assert_eq!(rt;
-        answer_to(WORDS, VA, Access::Load, USER),
-        small(0x1234_5ABC)
-    );
+    are_answered(&rt, WORKED.as_slice());
     let old = translate_in(
         Scheme::Sv39,
         &memory_of(WORDS),
@@ -683,7 +727,7 @@ fn halves_of_each_scheme(rt: HostRuntime) {
         Access::Load,
         USER,
     );
-    assert_eq!(rt; old.map(|found| found.pa), Ok(0x1234_5ABC));
+    assert!(rt; answer_of(old) == SMALL);
 }
 
 /// The walk of a load by U-mode under Sv48 after these words.
@@ -719,7 +763,7 @@ fn fed_word_by_word_in_sv48(rt: HostRuntime) {
 /// The 512 GiB that are found begin at a multiple of their size.
 #[test]
 fn widest_page_that_is_found(rt: HostRuntime) {
-    let memory = four_frames(with_deep_root(0x40_0000_00D7));
+    let memory = four_frames([0x40_0000_00D7, LOW, LOWEST, LEAF]);
     let found = translate_in(Scheme::Sv48, &memory, ROOT, DEEP_VA, Access::Store, USER).map(
         |found| (found.page.base().get(), found.ppn),
     );

@@ -1,12 +1,18 @@
 //! Edits that are fed by hand, word by word. The words are the manual's (privileged manual 4.4.1):
 //! a PPN times 1024, the flags, and V.
 
-use super::{A, D, G, KERNEL, R, U, W, X, page, user_flags};
-use pte::{Page, PageSize, PteFlags, Scheme};
+use super::{
+    A, Base, Call, Changed, G, LARGE_6, OWN, R, RUAD, RUAD_100, RUAD_1000_0000, RWGAD_4_0000,
+    RWGAD_300, SMALL, TOP, TOP_GIB, U, W, WINDOW, X, flags, page,
+};
+use crate::edits::Call::{Map, Protect, Unmap};
+use pte::{PageSize, Scheme};
+use spaces::MapFault::{
+    AlreadyMapped, BadFlags, LeafInWay, Misaligned, NoFrame, NotHome, NotMapped, PpnTooLarge,
+    TableInWay, WrongHalf, WrongSize,
+};
 use spaces::{Config, EditWalk, MapFault, Next, Place, Wish};
 use std::process::Abort;
-
-const SPACE: Place = Place::Space(0);
 
 /// The words of pointers to the tables at 0x80002, 0x80003 and 0x80004.
 const TO_2: u64 = 0x2000_0801;
@@ -31,13 +37,7 @@ fn config_of(scheme: Scheme) -> Config {
 /// Begins an edit of hart 0, feeds it the words, each of which it is to wait for at the table and
 /// the index that stand before it, and returns what it ends with, at the last of them. The lowest
 /// unused spare frame is at 0x80005, or there is none.
-fn fed(
-    rt: &impl Abort,
-    scheme: Scheme,
-    wish: &Wish,
-    has_spare: bool,
-    loads: &[(u64, u16, u64)],
-) -> Result<(u64, u16, u64), MapFault> {
+fn fed(rt: &impl Abort, scheme: Scheme, wish: &Wish, has_spare: bool, loads: &[Load]) -> Changed {
     let mut walk = begun(rt, scheme, 0, wish)?;
     let spare = if has_spare { Some(0x8_0005) } else { None };
     let last = loads.len().checked_sub(1).expect(rt, "a load");
@@ -73,179 +73,309 @@ fn refusal(rt: &impl Abort, scheme: Scheme, hart: u8, wish: &Wish) -> Option<Map
     begun(rt, scheme, hart, wish).err()
 }
 
-fn mapped(place: Place, page: Page, ppn: u64, flags: PteFlags) -> Wish {
-    Wish::Map {
-        place,
-        page,
-        ppn,
-        flags,
+/// A load of an edit: the table and the index that it waits for, and the word that is there.
+type Load = (u64, u16, u64);
+
+/// An edit of hart 0: whether there is a spare frame, and what is asked of which page.
+type Asked = (bool, Place, Base, Call);
+
+/// An edit, its loads, and what it ends with.
+type FedRow = (Asked, &'static [Load], Changed);
+
+fn wish_of(rt: &impl Abort, place: Place, base: Base, call: Call) -> Wish {
+    let page = page(rt, base.0, base.1);
+    match call {
+        Call::Map(ppn, bits) => Wish::Map {
+            place,
+            page,
+            ppn,
+            flags: flags(bits),
+        },
+        Call::Unmap => Wish::Unmap { place, page },
+        Call::Protect(bits) => Wish::Protect {
+            place,
+            page,
+            flags: flags(bits),
+        },
     }
 }
 
-fn unmapped(place: Place, page: Page) -> Wish {
-    Wish::Unmap { place, page }
+/// Each edit ends as its row says.
+fn are_fed(rt: &impl Abort, scheme: Scheme, rows: &[FedRow]) {
+    for (number, (asked, loads, end)) in rows.iter().enumerate() {
+        let wish = wish_of(rt, asked.1, asked.2, asked.3);
+        assert!(rt;
+            fed(rt, scheme, &wish, asked.0, loads) == *end,
+            "row {number}"
+        );
+    }
 }
 
-fn protected(place: Place, page: Page, flags: PteFlags) -> Wish {
-    Wish::Protect { place, page, flags }
-}
+const LARGE: Base = (0, PageSize::Mib2);
+
+/// The loads of a root and of a middle table that lead to the next.
+const ROOT: Load = (0x8_0001, 0, TO_2);
+
+const MIDDLE: Load = (0x8_0002, 0, TO_3);
+
+/// A leaf of 2 MiB in the middle table, of PPN 0x200 with R, W, U, A and D.
+const LEAF_ABOVE: Load = (0x8_0002, 0, 0x8_00D7);
+
+const TO_MAP: [FedRow; 8] = [
+    (
+        (true, OWN, SMALL, RUAD_100),
+        &[(0x8_0001, 0, 0)],
+        Ok((0x8_0001, 0, 0x2000_1401)),
+    ),
+    (
+        (false, OWN, SMALL, RUAD_100),
+        &[(0x8_0001, 0, 0)],
+        Err(NoFrame),
+    ),
+    (
+        (true, OWN, SMALL, RUAD_100),
+        &[ROOT, (0x8_0002, 0, 0)],
+        Ok((0x8_0002, 0, 0x2000_1401)),
+    ),
+    (
+        (false, OWN, SMALL, RUAD_100),
+        &[ROOT, MIDDLE, (0x8_0003, 1, 0)],
+        Ok((0x8_0003, 1, LEAF)),
+    ),
+    (
+        (true, OWN, SMALL, RUAD_100),
+        &[ROOT, MIDDLE, (0x8_0003, 1, LEAF)],
+        Err(AlreadyMapped),
+    ),
+    (
+        (false, OWN, SMALL, RUAD_100),
+        &[ROOT, LEAF_ABOVE],
+        Err(LeafInWay),
+    ),
+    (
+        (true, OWN, LARGE, Map(0x200, RUAD)),
+        &[ROOT, MIDDLE],
+        Err(TableInWay),
+    ),
+    (
+        (true, OWN, LARGE, Map(0x200, RUAD)),
+        &[ROOT, (0x8_0002, 0, 0)],
+        Ok((0x8_0002, 0, 0x8_00D3)),
+    ),
+];
 
 #[test]
 fn fed_to_map(rt: HostRuntime) {
-    let scheme = Scheme::Sv39;
-    let small = mapped(
-        SPACE,
-        page(&rt, 0x1000, PageSize::Kib4),
-        0x100,
-        user_flags(),
-    );
-    let large = mapped(SPACE, page(&rt, 0, PageSize::Mib2), 0x200, user_flags());
-    let root = (0x8_0001, 0, TO_2);
-    let middle = (0x8_0002, 0, TO_3);
-    let pointer = Ok((0x8_0001, 0, 0x2000_1401));
-    assert!(rt; fed(&rt, scheme, &small, true, &[(0x8_0001, 0, 0)]) == pointer);
-    assert!(rt; fed(&rt, scheme, &small, false, &[(0x8_0001, 0, 0)]) == Err(MapFault::NoFrame));
-    let below = Ok((0x8_0002, 0, 0x2000_1401));
-    assert!(rt; fed(&rt, scheme, &small, true, &[root, (0x8_0002, 0, 0)]) == below);
-    let leaf = Ok((0x8_0003, 1, LEAF));
-    assert!(rt;
-        fed(
-            &rt,
-            scheme,
-            &small,
-            false,
-            &[root, middle, (0x8_0003, 1, 0)]
-        ) == leaf
-    );
-    assert!(rt;
-        fed(
-            &rt,
-            scheme,
-            &small,
-            true,
-            &[root, middle, (0x8_0003, 1, LEAF)]
-        ) == Err(MapFault::AlreadyMapped)
-    );
-    assert!(rt;
-        fed(&rt, scheme, &small, false, &[root, (0x8_0002, 0, 0x8_00D7)])
-            == Err(MapFault::LeafInWay)
-    );
-    assert!(rt; fed(&rt, scheme, &large, true, &[root, middle]) == Err(MapFault::TableInWay));
-    let wide = Ok((0x8_0002, 0, 0x8_00D3));
-    assert!(rt; fed(&rt, scheme, &large, true, &[root, (0x8_0002, 0, 0)]) == wide);
+    are_fed(&rt, Scheme::Sv39, TO_MAP.as_slice());
 }
+
+const TO_UNMAP_AND_PROTECT: [FedRow; 10] = [
+    (
+        (true, OWN, SMALL, Unmap),
+        &[ROOT, MIDDLE, (0x8_0003, 1, LEAF)],
+        Ok((0x8_0003, 1, 0)),
+    ),
+    (
+        (true, OWN, SMALL, Protect(R | U | A)),
+        &[ROOT, MIDDLE, (0x8_0003, 1, LEAF)],
+        Ok((0x8_0003, 1, 0x4_0053)),
+    ),
+    (
+        (true, OWN, SMALL, Unmap),
+        &[ROOT, MIDDLE, (0x8_0003, 1, 0)],
+        Err(NotMapped),
+    ),
+    (
+        (true, OWN, SMALL, Unmap),
+        &[(0x8_0001, 0, 0)],
+        Err(NotMapped),
+    ),
+    (
+        (true, OWN, SMALL, Unmap),
+        &[ROOT, LEAF_ABOVE],
+        Err(WrongSize),
+    ),
+    (
+        (true, OWN, SMALL, Protect(R | U | A)),
+        &[ROOT, MIDDLE, (0x8_0003, 1, 0)],
+        Err(NotMapped),
+    ),
+    (
+        (true, OWN, SMALL, Protect(R | U | A)),
+        &[(0x8_0001, 0, 0)],
+        Err(NotMapped),
+    ),
+    (
+        (true, OWN, SMALL, Protect(R | U | A)),
+        &[ROOT, LEAF_ABOVE],
+        Err(WrongSize),
+    ),
+    ((true, OWN, LARGE, Unmap), &[ROOT, MIDDLE], Err(WrongSize)),
+    (
+        (true, OWN, LARGE, Protect(R | U)),
+        &[ROOT, MIDDLE],
+        Err(WrongSize),
+    ),
+];
 
 #[test]
 fn fed_to_unmap_and_protect(rt: HostRuntime) {
-    let scheme = Scheme::Sv39;
-    let small = page(&rt, 0x1000, PageSize::Kib4);
-    let large = page(&rt, 0, PageSize::Mib2);
-    let root = (0x8_0001, 0, TO_2);
-    let middle = (0x8_0002, 0, TO_3);
-    let there = [root, middle, (0x8_0003, 1, LEAF)];
-    let gone = Ok((0x8_0003, 1, 0));
-    assert!(rt; fed(&rt, scheme, &unmapped(SPACE, small), true, &there) == gone);
-    let weaker = protected(SPACE, small, R | U | A);
-    assert!(rt; fed(&rt, scheme, &weaker, true, &there) == Ok((0x8_0003, 1, 0x4_0053)));
-    for wish in [unmapped(SPACE, small), protected(SPACE, small, R | U | A)] {
-        let empty = [root, middle, (0x8_0003, 1, 0)];
-        assert!(rt; fed(&rt, scheme, &wish, true, &empty) == Err(MapFault::NotMapped));
-        assert!(rt; fed(&rt, scheme, &wish, true, &[(0x8_0001, 0, 0)]) == Err(MapFault::NotMapped));
-        let above = [root, (0x8_0002, 0, 0x8_00D7)];
-        assert!(rt; fed(&rt, scheme, &wish, true, &above) == Err(MapFault::WrongSize));
-    }
-    for wish in [unmapped(SPACE, large), protected(SPACE, large, R | U)] {
-        assert!(rt; fed(&rt, scheme, &wish, true, &[root, middle]) == Err(MapFault::WrongSize));
-    }
+    are_fed(&rt, Scheme::Sv39, TO_UNMAP_AND_PROTECT.as_slice());
 }
+
+/// The load of the window's table that leads to the table at 0x80004.
+const WINDOW_LOAD: Load = (0x8_0000, 0, TO_4 | 0x20);
+
+const OF_THE_KERNEL: [FedRow; 2] = [
+    (
+        (true, WINDOW, TOP, RWGAD_300),
+        &[(0x8_0000, 0, 0)],
+        Ok((0x8_0000, 0, 0x2000_1421)),
+    ),
+    (
+        (true, WINDOW, TOP, RWGAD_300),
+        &[WINDOW_LOAD, (0x8_0004, 0, 0)],
+        Ok((0x8_0004, 0, 0xC_00E7)),
+    ),
+];
+
+const HIGH_GIB: Base = (LAST_SLOT, PageSize::Gib1);
+
+const OF_THE_KERNEL_IN_SV48: [FedRow; 1] = [(
+    (true, WINDOW, HIGH_GIB, RWGAD_4_0000),
+    &[(0x8_0000, 0, 0)],
+    Ok((0x8_0000, 0, 0x1000_00E7)),
+)];
 
 /// A page of the kernel is looked for from its window's table on, one load fewer.
 #[test]
 fn fed_for_the_kernel(rt: HostRuntime) {
-    let rwgad = R | W | G | A | D;
-    let small = page(&rt, KERNEL, PageSize::Kib4);
-    let wish = mapped(Place::Kernel, small, 0x300, rwgad);
-    let pointer = Ok((0x8_0000, 0, 0x2000_1421));
-    assert!(rt; fed(&rt, Scheme::Sv39, &wish, true, &[(0x8_0000, 0, 0)]) == pointer);
-    let leaf = Ok((0x8_0004, 0, 0xC_00E7));
-    let table = (0x8_0000, 0, TO_4 | 0x20);
-    assert!(rt; fed(&rt, Scheme::Sv39, &wish, true, &[table, (0x8_0004, 0, 0)]) == leaf);
-    let gib = page(&rt, LAST_SLOT, PageSize::Gib1);
-    let wide = Ok((0x8_0000, 0, 0x1000_00E7));
-    let wish = mapped(Place::Kernel, gib, 0x4_0000, rwgad);
-    assert!(rt; fed(&rt, Scheme::Sv48, &wish, true, &[(0x8_0000, 0, 0)]) == wide);
+    are_fed(&rt, Scheme::Sv39, OF_THE_KERNEL.as_slice());
+    are_fed(&rt, Scheme::Sv48, OF_THE_KERNEL_IN_SV48.as_slice());
 }
+
+/// The load of the low one of the two middle tables of Sv48 that leads to the next.
+const LOW_MIDDLE: Load = (0x8_0003, 0, TO_4);
+
+const UNDER_SV48: [FedRow; 4] = [
+    (
+        (true, OWN, SMALL, RUAD_100),
+        &[ROOT, MIDDLE, LOW_MIDDLE, (0x8_0004, 1, 0)],
+        Ok((0x8_0004, 1, LEAF)),
+    ),
+    (
+        (true, OWN, SMALL, Unmap),
+        &[ROOT, MIDDLE, LOW_MIDDLE, (0x8_0004, 1, LEAF)],
+        Ok((0x8_0004, 1, 0)),
+    ),
+    (
+        (true, OWN, SMALL, Protect(R | U)),
+        &[ROOT, MIDDLE, LOW_MIDDLE, (0x8_0004, 1, LEAF)],
+        Ok((0x8_0004, 1, 0x4_0013)),
+    ),
+    (
+        (true, OWN, WIDEST, RUAD_1000_0000),
+        &[(0x8_0001, 1, 0)],
+        Ok((0x8_0001, 1, 0x40_0000_00D3)),
+    ),
+];
 
 #[test]
 fn fed_under_sv48(rt: HostRuntime) {
-    let small = page(&rt, 0x1000, PageSize::Kib4);
-    let wish = mapped(SPACE, small, 0x100, user_flags());
-    let root = (0x8_0001, 0, TO_2);
-    let high = (0x8_0002, 0, TO_3);
-    let middle = (0x8_0003, 0, TO_4);
-    let leaf = Ok((0x8_0004, 1, LEAF));
-    assert!(rt;
-        fed(
-            &rt,
-            Scheme::Sv48,
-            &wish,
-            true,
-            &[root, high, middle, (0x8_0004, 1, 0)]
-        ) == leaf
-    );
-    let there = [root, high, middle, (0x8_0004, 1, LEAF)];
-    let gone = Ok((0x8_0004, 1, 0));
-    assert!(rt; fed(&rt, Scheme::Sv48, &unmapped(SPACE, small), true, &there) == gone);
-    let weaker = protected(SPACE, small, R | U);
-    assert!(rt; fed(&rt, Scheme::Sv48, &weaker, true, &there) == Ok((0x8_0004, 1, 0x4_0013)));
-    let widest = page(&rt, 0x80_0000_0000, PageSize::Gib512);
-    let wish = mapped(SPACE, widest, 0x1000_0000, user_flags());
-    let wide = Ok((0x8_0001, 1, 0x40_0000_00D3));
-    assert!(rt; fed(&rt, Scheme::Sv48, &wish, true, &[(0x8_0001, 1, 0)]) == wide);
+    are_fed(&rt, Scheme::Sv48, UNDER_SV48.as_slice());
 }
+
+/// The scheme, the hart, what is asked of which page, and why it is refused at once, if it is.
+type BeginRow = (Scheme, u8, Place, Base, Call, Option<MapFault>);
+
+const WIDEST: Base = (0x80_0000_0000, PageSize::Gib512);
+
+/// The slot of the window of Sv48, as a page.
+const SLOT_48: Base = (LAST_SLOT, PageSize::Gib512);
+
+const AT_THE_BEGIN: [BeginRow; 16] = [
+    (Scheme::Sv39, 1, OWN, SMALL, RUAD_100, Some(NotHome)),
+    (Scheme::Sv39, 0, OWN, SMALL, RUAD_100, None),
+    (Scheme::Sv39, 0, OWN, TOP, Unmap, Some(WrongHalf)),
+    (Scheme::Sv39, 0, WINDOW, SMALL, Unmap, Some(WrongHalf)),
+    (Scheme::Sv39, 0, OWN, WIDEST, Unmap, Some(WrongHalf)),
+    (
+        Scheme::Sv39,
+        0,
+        OWN,
+        SMALL,
+        Map(0x100, W | X | U),
+        Some(BadFlags),
+    ),
+    (
+        Scheme::Sv39,
+        0,
+        OWN,
+        SMALL,
+        Protect(RUAD | G),
+        Some(BadFlags),
+    ),
+    (Scheme::Sv39, 0, WINDOW, TOP, Protect(R), Some(BadFlags)),
+    (
+        Scheme::Sv39,
+        0,
+        OWN,
+        SMALL,
+        Map(1 << 44, RUAD),
+        Some(PpnTooLarge),
+    ),
+    (
+        Scheme::Sv39,
+        0,
+        OWN,
+        LARGE_6,
+        Map(0x201, RUAD),
+        Some(Misaligned),
+    ),
+    (
+        Scheme::Sv39,
+        0,
+        WINDOW,
+        TOP_GIB,
+        Map(0x800_0000, R | G),
+        Some(TableInWay),
+    ),
+    (Scheme::Sv39, 0, WINDOW, TOP_GIB, Unmap, Some(WrongSize)),
+    (
+        Scheme::Sv39,
+        0,
+        WINDOW,
+        TOP_GIB,
+        Protect(R | G),
+        Some(WrongSize),
+    ),
+    (
+        Scheme::Sv48,
+        0,
+        WINDOW,
+        SLOT_48,
+        Map(0x800_0000, R | G),
+        Some(TableInWay),
+    ),
+    (Scheme::Sv48, 0, WINDOW, SLOT_48, Unmap, Some(WrongSize)),
+    (
+        Scheme::Sv48,
+        0,
+        WINDOW,
+        SLOT_48,
+        Protect(R | G),
+        Some(WrongSize),
+    ),
+];
 
 /// What no word decides is refused before the first load.
 #[test]
 fn refused_at_the_begin(rt: HostRuntime) {
-    let small = page(&rt, 0x1000, PageSize::Kib4);
-    let large = page(&rt, 0x60_0000, PageSize::Mib2);
-    let window = page(&rt, KERNEL, PageSize::Kib4);
-    let widest = page(&rt, 0x80_0000_0000, PageSize::Gib512);
-    let good = mapped(SPACE, small, 0x100, user_flags());
-    assert!(rt; refusal(&rt, Scheme::Sv39, 1, &good) == Some(MapFault::NotHome));
-    assert!(rt; refusal(&rt, Scheme::Sv39, 0, &good) == None);
-    let rows = [
-        (unmapped(SPACE, window), MapFault::WrongHalf),
-        (unmapped(Place::Kernel, small), MapFault::WrongHalf),
-        (unmapped(SPACE, widest), MapFault::WrongHalf),
-        (mapped(SPACE, small, 0x100, W | X | U), MapFault::BadFlags),
-        (
-            protected(SPACE, small, user_flags() | G),
-            MapFault::BadFlags,
-        ),
-        (protected(Place::Kernel, window, R), MapFault::BadFlags),
-        (
-            mapped(SPACE, small, 1 << 44, user_flags()),
-            MapFault::PpnTooLarge,
-        ),
-        (
-            mapped(SPACE, large, 0x201, user_flags()),
-            MapFault::Misaligned,
-        ),
-    ];
-    for (wish, fault) in rows {
-        assert!(rt; refusal(&rt, Scheme::Sv39, 0, &wish) == Some(fault));
-    }
-    for (scheme, base, size) in [
-        (Scheme::Sv39, KERNEL, PageSize::Gib1),
-        (Scheme::Sv48, LAST_SLOT, PageSize::Gib512),
-    ] {
-        let slot = page(&rt, base, size);
-        let wish = mapped(Place::Kernel, slot, 0x800_0000, R | G);
-        assert!(rt; refusal(&rt, scheme, 0, &wish) == Some(MapFault::TableInWay));
-        let gone = unmapped(Place::Kernel, slot);
-        assert!(rt; refusal(&rt, scheme, 0, &gone) == Some(MapFault::WrongSize));
-        let other = protected(Place::Kernel, slot, R | G);
-        assert!(rt; refusal(&rt, scheme, 0, &other) == Some(MapFault::WrongSize));
+    for (number, (scheme, hart, place, base, call, fault)) in AT_THE_BEGIN.iter().enumerate() {
+        let wish = wish_of(&rt, *place, *base, *call);
+        assert!(rt;
+            refusal(&rt, *scheme, *hart, &wish) == *fault,
+            "row {number}"
+        );
     }
 }

@@ -1,12 +1,19 @@
 //! The same under Sv48, and pages of Sv48 under Sv39.
 
 use super::{
-    A, Call, D, G, KERNEL, R, W, edited, map, opened, page, spares_of, two_harts, user_flags,
+    Base, Call, EditRow, OWN, RGAD, RGAD_4_0000, RGAD_300, RUAD, RUAD_4_0000, RUAD_100, RUAD_300,
+    RUAD_1000_0000, RWGAD_4_0000, RWUAD_1000_0000, SMALL, TOP_GIB, W, WINDOW, edits, opened,
+    spares_of, two_harts, words,
 };
-use pte::{Access, Ctx, Mode, Page, PageSize, Scheme};
+use crate::edits::Call::{Map, Protect, Unmap};
+use pte::{Access, Ctx, Mode, PageSize, Scheme};
+use spaces::MapFault::{
+    AlreadyMapped, BadFlags, LeafInWay, Misaligned, NoFrame, NotMapped, TableInWay, WrongHalf,
+    WrongSize,
+};
 use spaces::{Config, MapFault, Memory, Place};
 use std::process::Abort;
-use walk::{Words, translate_in};
+use walk::translate_in;
 
 /// The default configuration for Sv48: the window's table is 0x80000, the root 0x80001, and spares
 /// begin at 0x80002.
@@ -17,18 +24,11 @@ fn of_sv48() -> Config {
     }
 }
 
-/// An edit of hart 0, and the word that it changes or why it is refused.
-type EditRow = (Place, Page, Call, Result<(u64, u16, u64), MapFault>);
+/// What a load reaches: the physical address, the size, and whether it is global.
+type Reached = Option<(u64, PageSize, bool)>;
 
-fn edits(rt: &impl Abort, memory: &mut Memory, rows: &[EditRow]) {
-    for (place, page, call, answer) in rows {
-        assert!(rt; edited(rt, memory, 0, *place, *page, *call) == *answer);
-    }
-}
-
-/// What a load reaches from the root of space 0: the physical address, the size, and whether it is
-/// global.
-fn loaded(rt: &impl Abort, memory: &Memory, va: u64, mode: Mode) -> Option<(u64, PageSize, bool)> {
+/// What a load reaches from the root of space 0.
+fn loaded(rt: &impl Abort, memory: &Memory, va: u64, mode: Mode) -> Reached {
     assert!(rt; memory.has(Place::Space(0)), "the space is there");
     let ctx = Ctx {
         mode,
@@ -41,119 +41,156 @@ fn loaded(rt: &impl Abort, memory: &Memory, va: u64, mode: Mode) -> Option<(u64,
         .ok()
 }
 
+const FIRST_WORDS: [(u64, u16, Option<u64>); 3] = [
+    (0x8_0001, 511, Some(0x2000_0021)),
+    (0x8_0001, 510, Some(0)),
+    (0x8_0000, 511, Some(0)),
+];
+
+/// The first pages of 512 GiB, and those of the slots 255, 256 and 511 of a root of Sv48.
+const FIRST: Base = (0, PageSize::Gib512);
+
+const SLOT_255: Base = (0x7F80_0000_0000, PageSize::Gib512);
+
+const SLOT_256: Base = (0xFFFF_8000_0000_0000, PageSize::Gib512);
+
+const SLOT_511: Base = (0xFFFF_FF80_0000_0000, PageSize::Gib512);
+
+const WIDEST: Base = (0x80_0000_0000, PageSize::Gib512);
+
+const INSIDE: Base = (0x80_4000_0000, PageSize::Gib1);
+
+const WORKED: [EditRow; 12] = [
+    (0, OWN, SMALL, RUAD_100, Ok((0x8_0001, 0, 0x2000_0801))),
+    (0, OWN, SMALL, RUAD_100, Ok((0x8_0002, 0, 0x2000_0C01))),
+    (0, OWN, SMALL, RUAD_100, Ok((0x8_0003, 0, 0x2000_1001))),
+    (0, OWN, SMALL, RUAD_100, Ok((0x8_0004, 1, 0x4_00D3))),
+    (0, OWN, SMALL, RUAD_100, Err(AlreadyMapped)),
+    (0, OWN, WIDEST, Map(0x1000_0001, RUAD | W), Err(Misaligned)),
+    (0, OWN, WIDEST, Map(0x1400_0000, RUAD | W), Err(Misaligned)),
+    (
+        0,
+        OWN,
+        WIDEST,
+        RWUAD_1000_0000,
+        Ok((0x8_0001, 1, 0x40_0000_00D7)),
+    ),
+    (0, OWN, INSIDE, RUAD_4_0000, Err(LeafInWay)),
+    (0, OWN, INSIDE, Unmap, Err(WrongSize)),
+    (0, OWN, FIRST, RWUAD_1000_0000, Err(TableInWay)),
+    (0, OWN, FIRST, Unmap, Err(WrongSize)),
+];
+
+/// Addresses, and what a load from user mode reaches there.
+const REACHED: [(u64, Reached); 4] = [
+    (0x1004, Some((0x10_0004, PageSize::Kib4, false))),
+    (0x2004, None),
+    (
+        0x80_8040_3ABC,
+        Some((0x100_8040_3ABC, PageSize::Gib512, false)),
+    ),
+    (0x100_0000_0000, None),
+];
+
+const TAKEN_AWAY: [EditRow; 4] = [
+    (
+        0,
+        OWN,
+        WIDEST,
+        Protect(RUAD),
+        Ok((0x8_0001, 1, 0x40_0000_00D3)),
+    ),
+    (0, OWN, WIDEST, Unmap, Ok((0x8_0001, 1, 0))),
+    (0, OWN, WIDEST, Unmap, Err(NotMapped)),
+    (0, OWN, SMALL, Unmap, Ok((0x8_0004, 1, 0))),
+];
+
 /// Under Sv48 a page of 4 KiB takes three tables and a leaf, 512 GiB one leaf in the root.
 #[test]
 fn table_of_words_of_sv48(rt: HostRuntime) {
     let mut memory = opened(&rt, rt.alloc(), &of_sv48());
     assert!(rt; memory.scheme() == Scheme::Sv48);
-    assert!(rt; memory.word(0x8_0001, 511) == Some(0x2000_0021));
-    assert!(rt; memory.word(0x8_0001, 510) == Some(0));
-    assert!(rt; memory.word(0x8_0000, 511) == Some(0));
-    let space = Place::Space(0);
-    let small = page(&rt, 0x1000, PageSize::Kib4);
-    let widest = page(&rt, 0x80_0000_0000, PageSize::Gib512);
-    let first = page(&rt, 0, PageSize::Gib512);
-    let inside = page(&rt, 0x80_4000_0000, PageSize::Gib1);
-    let ruad = Call::Map(0x100, user_flags());
-    let rwuad = Call::Map(0x1000_0000, W | user_flags());
-    let odd = Call::Map(0x1000_0001, W | user_flags());
-    let half = Call::Map(0x1400_0000, W | user_flags());
-    let gib = Call::Map(0x4_0000, user_flags());
-    edits(
-        &rt,
-        &mut memory,
-        &[
-            (space, small, ruad, Ok((0x8_0001, 0, 0x2000_0801))),
-            (space, small, ruad, Ok((0x8_0002, 0, 0x2000_0C01))),
-            (space, small, ruad, Ok((0x8_0003, 0, 0x2000_1001))),
-            (space, small, ruad, Ok((0x8_0004, 1, 0x4_00D3))),
-            (space, small, ruad, Err(MapFault::AlreadyMapped)),
-            (space, widest, odd, Err(MapFault::Misaligned)),
-            (space, widest, half, Err(MapFault::Misaligned)),
-            (space, widest, rwuad, Ok((0x8_0001, 1, 0x40_0000_00D7))),
-            (space, inside, gib, Err(MapFault::LeafInWay)),
-            (space, inside, Call::Unmap, Err(MapFault::WrongSize)),
-            (space, first, rwuad, Err(MapFault::TableInWay)),
-            (space, first, Call::Unmap, Err(MapFault::WrongSize)),
-        ],
-    );
-    let rows = [
-        (0x1004, Some((0x10_0004, PageSize::Kib4, false))),
-        (0x2004, None),
-        (
-            0x80_8040_3ABC,
-            Some((0x100_8040_3ABC, PageSize::Gib512, false)),
-        ),
-        (0x100_0000_0000, None),
-    ];
-    for (va, answer) in &rows {
-        assert!(rt; loaded(&rt, &memory, *va, Mode::User) == *answer);
+    words(&rt, &memory, FIRST_WORDS.as_slice());
+    edits(&rt, &mut memory, WORKED.as_slice());
+    for (va, reached) in REACHED {
+        assert!(rt; loaded(&rt, &memory, va, Mode::User) == reached, "{va:x}");
     }
-    edits(
-        &rt,
-        &mut memory,
-        &[
-            (
-                space,
-                widest,
-                Call::Protect(user_flags()),
-                Ok((0x8_0001, 1, 0x40_0000_00D3)),
-            ),
-            (space, widest, Call::Unmap, Ok((0x8_0001, 1, 0))),
-            (space, widest, Call::Unmap, Err(MapFault::NotMapped)),
-            (space, small, Call::Unmap, Ok((0x8_0004, 1, 0))),
-        ],
-    );
+    edits(&rt, &mut memory, TAKEN_AWAY.as_slice());
 }
+
+const IN_SLOT: Base = (0xFFFF_FF80_0000_1000, PageSize::Kib4);
+
+const BELOW_SLOT: Base = (0xFFFF_FF7F_C000_0000, PageSize::Gib1);
+
+const OF_THE_WINDOW: [EditRow; 8] = [
+    (
+        0,
+        WINDOW,
+        TOP_GIB,
+        RWGAD_4_0000,
+        Ok((0x8_0000, 511, 0x1000_00E7)),
+    ),
+    (0, WINDOW, SLOT_511, Map(0x1000_0000, RGAD), Err(TableInWay)),
+    (0, WINDOW, SLOT_511, Unmap, Err(WrongSize)),
+    (0, WINDOW, BELOW_SLOT, RWGAD_4_0000, Err(WrongHalf)),
+    (0, WINDOW, IN_SLOT, RUAD_300, Err(BadFlags)),
+    (0, WINDOW, IN_SLOT, RGAD_300, Ok((0x8_0000, 0, 0x2000_0821))),
+    (0, WINDOW, IN_SLOT, RGAD_300, Ok((0x8_0002, 0, 0x2000_0C21))),
+    (0, WINDOW, IN_SLOT, RGAD_300, Ok((0x8_0003, 1, 0xC_00E3))),
+];
+
+/// Addresses, and what a load from supervisor mode reaches there.
+const REACHED_BY_THE_KERNEL: [(u64, Reached); 3] = [
+    (
+        0xFFFF_FFFF_C000_0008,
+        Some((0x4000_0008, PageSize::Gib1, true)),
+    ),
+    (
+        0xFFFF_FF80_0000_1008,
+        Some((0x30_0008, PageSize::Kib4, true)),
+    ),
+    (0xFFFF_FF80_0000_0008, None),
+];
+
+const GIB_TAKEN_AWAY: [EditRow; 1] = [(0, WINDOW, TOP_GIB, Unmap, Ok((0x8_0000, 511, 0)))];
 
 /// Under Sv48 a window's slot points to a table of level 2: there a kernel page may have 1 GiB, and
 /// none 512 GiB.
 #[test]
 fn window_of_sv48(rt: HostRuntime) {
     let mut memory = opened(&rt, rt.alloc(), &of_sv48());
-    let kernel = Place::Kernel;
-    let large = page(&rt, KERNEL, PageSize::Gib1);
-    let slot = page(&rt, 0xFFFF_FF80_0000_0000, PageSize::Gib512);
-    let small = page(&rt, 0xFFFF_FF80_0000_1000, PageSize::Kib4);
-    let below = page(&rt, 0xFFFF_FF7F_C000_0000, PageSize::Gib1);
-    let rgad = Call::Map(0x1000_0000, R | G | A | D);
-    let rwgad = Call::Map(0x4_0000, R | W | G | A | D);
-    let ruad = Call::Map(0x300, user_flags());
-    let leaf = Call::Map(0x300, R | G | A | D);
-    edits(
-        &rt,
-        &mut memory,
-        &[
-            (kernel, large, rwgad, Ok((0x8_0000, 511, 0x1000_00E7))),
-            (kernel, slot, rgad, Err(MapFault::TableInWay)),
-            (kernel, slot, Call::Unmap, Err(MapFault::WrongSize)),
-            (kernel, below, rwgad, Err(MapFault::WrongHalf)),
-            (kernel, small, ruad, Err(MapFault::BadFlags)),
-            (kernel, small, leaf, Ok((0x8_0000, 0, 0x2000_0821))),
-            (kernel, small, leaf, Ok((0x8_0002, 0, 0x2000_0C21))),
-            (kernel, small, leaf, Ok((0x8_0003, 1, 0xC_00E3))),
-        ],
-    );
-    let rows = [
-        (
-            0xFFFF_FFFF_C000_0008,
-            Some((0x4000_0008, PageSize::Gib1, true)),
-        ),
-        (
-            0xFFFF_FF80_0000_1008,
-            Some((0x30_0008, PageSize::Kib4, true)),
-        ),
-        (0xFFFF_FF80_0000_0008, None),
-    ];
-    for (va, answer) in &rows {
-        assert!(rt; loaded(&rt, &memory, *va, Mode::Super) == *answer);
+    edits(&rt, &mut memory, OF_THE_WINDOW.as_slice());
+    for (va, reached) in REACHED_BY_THE_KERNEL {
+        assert!(rt; loaded(&rt, &memory, va, Mode::Super) == reached, "{va:x}");
     }
-    edits(
-        &rt,
-        &mut memory,
-        &[(kernel, large, Call::Unmap, Ok((0x8_0000, 511, 0)))],
-    );
+    edits(&rt, &mut memory, GIB_TAKEN_AWAY.as_slice());
 }
+
+const WINDOW_WORDS: [(u64, u16, Option<u64>); 2] = [
+    (0x8_0002, 510, Some(0x2000_0021)),
+    (0x8_0002, 511, Some(0x2000_0421)),
+];
+
+const LOW_GIB: Base = (0xFFFF_FF00_0000_0000, PageSize::Gib1);
+
+const HIGH_GIB: Base = (0xFFFF_FF80_0000_0000, PageSize::Gib1);
+
+const IN_BOTH_SLOTS: [EditRow; 2] = [
+    (
+        0,
+        WINDOW,
+        LOW_GIB,
+        RGAD_4_0000,
+        Ok((0x8_0000, 0, 0x1000_00E3)),
+    ),
+    (
+        0,
+        WINDOW,
+        HIGH_GIB,
+        RGAD_4_0000,
+        Ok((0x8_0001, 0, 0x1000_00E3)),
+    ),
+];
 
 /// Two slots of the window: slots 510 and 511 of the root at 0x80002 point to the tables 0x80000
 /// and 0x80001.
@@ -164,79 +201,72 @@ fn two_window_slots_of_sv48(rt: HostRuntime) {
         ..of_sv48()
     };
     let mut memory = opened(&rt, rt.alloc(), &config);
-    assert!(rt; memory.word(0x8_0002, 510) == Some(0x2000_0021));
-    assert!(rt; memory.word(0x8_0002, 511) == Some(0x2000_0421));
-    let low = page(&rt, 0xFFFF_FF00_0000_0000, PageSize::Gib1);
-    let high = page(&rt, 0xFFFF_FF80_0000_0000, PageSize::Gib1);
-    let rgad = Call::Map(0x4_0000, R | G | A | D);
-    edits(
-        &rt,
-        &mut memory,
-        &[
-            (Place::Kernel, low, rgad, Ok((0x8_0000, 0, 0x1000_00E3))),
-            (Place::Kernel, high, rgad, Ok((0x8_0001, 0, 0x1000_00E3))),
-        ],
-    );
+    words(&rt, &memory, WINDOW_WORDS.as_slice());
+    edits(&rt, &mut memory, IN_BOTH_SLOTS.as_slice());
 }
+
+const SMALL_C0: Base = (0xC0_0000_0000, PageSize::Kib4);
+
+const SPACE_SLOTS: [EditRow; 6] = [
+    (
+        0,
+        OWN,
+        SLOT_255,
+        RUAD_1000_0000,
+        Ok((0x8_0001, 255, 0x40_0000_00D3)),
+    ),
+    (0, OWN, SLOT_256, RUAD_1000_0000, Err(WrongHalf)),
+    (0, OWN, SLOT_511, RUAD_1000_0000, Err(WrongHalf)),
+    (
+        0,
+        OWN,
+        FIRST,
+        RUAD_1000_0000,
+        Ok((0x8_0001, 0, 0x40_0000_00D3)),
+    ),
+    (0, OWN, SMALL_C0, RUAD_100, Ok((0x8_0001, 1, 0x2000_0801))),
+    (0, OWN, SMALL_C0, RUAD_100, Ok((0x8_0002, 256, 0x2000_0C01))),
+];
 
 /// The user's half of Sv48 is slots 0 to 255 of a root, each of 512 GiB.
 #[test]
 fn slots_of_a_space_of_sv48(rt: HostRuntime) {
     let mut memory = opened(&rt, rt.alloc(), &of_sv48());
-    let ruad = Call::Map(0x1000_0000, user_flags());
-    let rows = [
-        (0x7F80_0000_0000, Ok((0x8_0001, 255, 0x40_0000_00D3))),
-        (0xFFFF_8000_0000_0000, Err(MapFault::WrongHalf)),
-        (0xFFFF_FF80_0000_0000, Err(MapFault::WrongHalf)),
-        (0, Ok((0x8_0001, 0, 0x40_0000_00D3))),
-    ];
-    for (base, answer) in rows {
-        let widest = page(&rt, base, PageSize::Gib512);
-        assert!(rt; edited(&rt, &mut memory, 0, Place::Space(0), widest, ruad) == answer);
-    }
-    let second = page(&rt, 0xC0_0000_0000, PageSize::Kib4);
-    let small = Call::Map(0x100, user_flags());
-    assert!(rt;
-        edited(&rt, &mut memory, 0, Place::Space(0), second, small)
-            == Ok((0x8_0001, 1, 0x2000_0801))
-    );
-    assert!(rt;
-        edited(&rt, &mut memory, 0, Place::Space(0), second, small)
-            == Ok((0x8_0002, 256, 0x2000_0C01))
-    );
+    edits(&rt, &mut memory, SPACE_SLOTS.as_slice());
 }
+
+const UNFIT: [(Place, Base); 7] = [
+    (OWN, FIRST),
+    (OWN, (0x80_0000_0000, PageSize::Gib512)),
+    (OWN, (0x80_0000_1000, PageSize::Kib4)),
+    (OWN, (0x7F80_0000_0000, PageSize::Mib2)),
+    (WINDOW, (0x7F_C000_0000, PageSize::Kib4)),
+    (WINDOW, SLOT_511),
+    (WINDOW, (0xFFFF_FFBF_C000_0000, PageSize::Gib1)),
+];
+
+const CALLS: [Call; 4] = [RUAD_1000_0000, Map(1, W), Unmap, Protect(W)];
 
 /// Pages of Sv48 alone, by their size or by their base, whose slots in a root of Sv39 would be the
 /// place's own: they are refused there, after the home and before the flags, whatever is asked.
 #[test]
 fn pages_that_do_not_fit(rt: HostRuntime) {
     let mut memory = opened(&rt, rt.alloc(), &two_harts(&[(0, 1)]));
-    let space = Place::Space(0);
-    let bases = [
-        (space, 0, PageSize::Gib512),
-        (space, 0x80_0000_0000, PageSize::Gib512),
-        (space, 0x80_0000_1000, PageSize::Kib4),
-        (space, 0x7F80_0000_0000, PageSize::Mib2),
-        (Place::Kernel, 0x7F_C000_0000, PageSize::Kib4),
-        (Place::Kernel, 0xFFFF_FF80_0000_0000, PageSize::Gib512),
-        (Place::Kernel, 0xFFFF_FFBF_C000_0000, PageSize::Gib1),
-    ];
-    for (place, base, size) in bases {
-        let unfit = page(&rt, base, size);
-        for call in [
-            map(0x1000_0000, user_flags()),
-            map(1, W),
-            Call::Unmap,
-            Call::Protect(W),
-        ] {
-            assert!(rt;
-                edited(&rt, &mut memory, 0, place, unfit, call) == Err(MapFault::WrongHalf)
-            );
-            assert!(rt; edited(&rt, &mut memory, 1, place, unfit, call) == Err(MapFault::NotHome));
+    for (place, base) in UNFIT {
+        for call in CALLS {
+            for (hart, fault) in [(0, MapFault::WrongHalf), (1, MapFault::NotHome)] {
+                edits(&rt, &mut memory, &[(hart, place, base, call, Err(fault))]);
+            }
         }
     }
     assert!(rt; memory.scheme() == Scheme::Sv39);
 }
+
+const OF_TWO_FRAMES: [EditRow; 3] = [
+    (0, OWN, SMALL, RUAD_100, Ok((0x8_0001, 0, 0x2000_0801))),
+    (0, OWN, SMALL, RUAD_100, Ok((0x8_0002, 0, 0x2000_0C01))),
+    (0, OWN, SMALL, RUAD_100, Err(NoFrame)),
+];
 
 /// Three tables are missing, and there are two spare frames.
 #[test]
@@ -246,16 +276,5 @@ fn frames_run_out_in_sv48(rt: HostRuntime) {
         ..of_sv48()
     };
     let mut memory = opened(&rt, rt.alloc(), &config);
-    let small = page(&rt, 0x1000, PageSize::Kib4);
-    let ruad = Call::Map(0x100, user_flags());
-    let space = Place::Space(0);
-    edits(
-        &rt,
-        &mut memory,
-        &[
-            (space, small, ruad, Ok((0x8_0001, 0, 0x2000_0801))),
-            (space, small, ruad, Ok((0x8_0002, 0, 0x2000_0C01))),
-            (space, small, ruad, Err(MapFault::NoFrame)),
-        ],
-    );
+    edits(&rt, &mut memory, OF_TWO_FRAMES.as_slice());
 }
