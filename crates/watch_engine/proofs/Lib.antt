@@ -1,0 +1,11 @@
+pub mod Lists
+pub mod Moments
+pub mod Steps
+pub mod Remembering
+pub mod Opening
+pub mod Records
+pub mod Places
+pub mod Gathering
+pub mod Standings
+pub mod Judging
+pub mod SpaceRoots

@@ -1,0 +1,82 @@
+-- Places in the list, and bits.
+use Rattle.std.proofs.Common.{◌≡◌, ℕ, Bool, true, false, ◌+◌, ◌/◌, ◌%◌, ◌^◌, ◌<◌, ◌≤◌, suc, Option, Some, None, List, [], ◌∷◌, ◌++◌, length, map, take, drop, get_or, set, ap, sym, ◌∙◌, refl, arith}
+use Rattle.std.specs.Prelude.{◌==◌, cond}
+use Rattle.std.specs.Int.{bit_at}
+use Rattle.std.proofs.lemmas.List.{append-nil, drop_all, take_all}
+use Rattle.std.proofs.Math.Pow.{pow_mono}
+use Rattle.std.proofs.Math.Nat.{div-eq_of_lt}
+use Rattle.watch_engine.specs.declared.held.Held.{Held}
+use Rattle.watch_engine.specs.declared.held.LiveEntry.{LiveEntry}
+use Rattle.watch_engine.specs.Held.{held_from, is_of, live_translation, place_in, remembered, remembered_all}
+
+-- a number of 64 bits has no bit from 64 on
+pub high_bit : (n k : ℕ) → n < 2 ^ 64 → 64 ≤ k → (bit_at n k == 1) ≡ false
+high_bit n k small high =
+    let more : 2 ^ 64 ≤ 2 ^ k = pow_mono high in
+    let none : n / 2 ^ k ≡ 0 = div-eq_of_lt (omega arith) in
+    ap (λ q. q % 2 == 1) none
+
+module _ (l : LiveEntry) where
+  abbrev test : Held → Bool
+  test = is_of l.hart (live_translation l)
+
+  pub not_placed : (n count : ℕ) (held : List Held) → place_in (is_of l.hart (live_translation l)) n held ≡ None → remembered count l held ≡ held ++ held_from count l ∷ []
+  not_placed n count [] e = refl
+  not_placed n count (i ∷ held) e =
+      let go : (b : Bool) → cond b (Some n) (place_in test (n + 1) held) ≡ None → cond b (record i { last_live = count } ∷ held) (i ∷ remembered count l held) ≡ i ∷ held ++ held_from count l ∷ [] =
+      λ b. elim b as (λ b. cond b (Some n) (place_in test (n + 1) held) ≡ None → cond b (record i { last_live = count } ∷ held) (i ∷ remembered count l held) ≡ i ∷ held ++ held_from count l ∷ []) [
+        | true ↦ λ e. cc
+        | false ↦ λ e. ap (λ is. i ∷ is) (not_placed (n + 1) count held e)
+      ] in
+      go (is_of l.hart (live_translation l) i) e
+
+  pub record Placed (n place : ℕ) (held : List Held) : Type 0 where
+    pub at : ℕ
+    pub from : place ≡ n + at
+    pub within : at < length held
+    pub is : (count : ℕ) (i : Held) → i ≡ get_or held at i → set held at (record i { last_live = count }) ≡ remembered count l held
+
+  pub placed : (n place : ℕ) (held : List Held) → place_in (is_of l.hart (live_translation l)) n held ≡ Some place → Placed n place held
+  placed n place [] e = cc
+  placed n place (i ∷ held) e =
+      let go : (b : Bool) → is_of l.hart (live_translation l) i ≡ b → cond b (Some n) (place_in test (n + 1) held) ≡ Some place → Placed n place (i ∷ held) =
+      λ b. elim b as (λ b. is_of l.hart (live_translation l) i ≡ b → cond b (Some n) (place_in test (n + 1) held) ≡ Some place → Placed n place (i ∷ held)) [
+        | true ↦ λ t e. record {
+          at = 0;
+          from = let same : n ≡ place = cc in omega arith;
+          within = omega arith;
+          is = λ count j same. ap (λ (k : Held). record k { last_live = count } ∷ held) same ∙ sym (ap (λ b. cond b (record i { last_live = count } ∷ held) (i ∷ remembered count l held)) t);
+        }
+        | false ↦ λ t e.
+            let rest = placed (n + 1) place held e in
+            record {
+              at = suc rest.at;
+              from = omega (arith, rest.from);
+              within = omega (arith, rest.within);
+              is = λ count j same. ap (λ is. i ∷ is) (rest.is count j same) ∙ sym (ap (λ b. cond b (record i { last_live = count } ∷ held) (i ∷ remembered count l held)) t);
+            }
+      ] in
+      go (is_of l.hart (live_translation l) i) refl e
+
+pub remembered_push : (count : ℕ) (live : List LiveEntry) (l : LiveEntry) (held : List Held) → remembered_all count (live ++ l ∷ []) held ≡ remembered count l (remembered_all count live held)
+remembered_push count [] l held = refl
+remembered_push count (m ∷ live) l held = remembered_push count live l (remembered count m held)
+
+pub none_placed : (o : Option ℕ) → ((n : ℕ) → o ≡ Some n → ⊥) → o ≡ None
+none_placed None f = refl
+none_placed (Some n) f = absurd (f n refl)
+
+-- a slice of all, written back
+pub whole : (n : ℕ) (xs ys : List Held) → length xs ≡ length ys → n ≡ length ys → take n (xs ++ drop (length xs) ys) ≡ xs
+whole n xs ys same long =
+    (λ j. take n (xs ++ drop_all (length xs) ys (omega arith) j)) ∙ ((λ j. take n (append-nil xs j)) ∙ take_all n xs (omega arith))
+
+map_length : (f : Held → Held) (xs : List Held) → length (map f xs) ≡ length xs
+map_length f [] = refl
+map_length f (x ∷ xs) = ap suc (map_length f xs)
+
+pub mapped_whole : (f : Held → Held) (n : ℕ) (new slice items : List Held) → new ≡ map f slice → slice ≡ items → length slice ≡ n → take n (new ++ drop (length new) items) ≡ map f items
+mapped_whole f n new slice items is same long =
+    let of : new ≡ map f items = is ∙ ap (map f) same in
+    let as_long : length new ≡ length items = ap length of ∙ map_length f items in
+    whole n new items as_long (sym long ∙ ap length same) ∙ of

@@ -1,0 +1,119 @@
+-- The roots of address spaces, and what their tables have now.
+use Rattle.std.proofs.Common.{◌≡◌, ℕ, Bool, true, false, Option, Some, None, List, [], ◌∷◌, ◌++◌, filter, IsTrue, ap, sym, ◌∙◌, subst, refl, inl, inr}
+use Rattle.std.specs.Prelude.{◌==◌, ◌&&◌, ◌||◌, cond, not}
+use Rattle.std.specs.List.{list_any}
+use Rattle.std.proofs.lemmas.Bool.{and_parts, and_from, cases_eq, eq-eqb, eqb-true, ne_eqb, or_cases, or_left, or_right}
+use Rattle.std.proofs.lemmas.List.Folds.{list_any-append}
+use Rattle.pte.specs.declared.scheme.Scheme.{Scheme}
+use Rattle.walk.proofs.Unique.{same_bool}
+use Rattle.watch.specs.declared.trace.Frames.{Frames}
+use Rattle.watch.specs.declared.trace.Record.TheVariants.{Satp, GiveOut}
+use Rattle.watch.specs.declared.trace.Space.{Space}
+use Rattle.watch.specs.Trace.{Trace, is_among, is_root, words_of}
+use Rattle.watch.specs.Holding.{Translation}
+use Rattle.watch.specs.Staleness.{IsCurrent, IsMapped, IsRootFor}
+use Rattle.watch.proofs.Computed.{is_mapped, mapped_iff}
+use Rattle.watch.proofs.ComputedTraces.{current_iff, is_current}
+use Rattle.watch_engine.specs.Held.{is_current_by, with_root, without_frames}
+use Rattle.watch_engine.specs.Standing.{AreRoots}
+
+any-at : (test : ℕ → Bool) (roots : List ℕ) → list_any test roots ≡ true → (r : ℕ) × (test r ≡ true) × (list_any (λ q. q == r) roots ≡ true)
+any-at test [] h = cc
+any-at test (q ∷ roots) h =
+    elim (or_cases (test q) (list_any test roots) h) [
+      | inl now ↦ (q, now, or_left (q == q) (list_any (λ p. p == q) roots) (eq-eqb q q refl))
+      | inr more ↦ let at = any-at test roots more in (at.0, at.1, or_right (q == at.0) (list_any (λ p. p == at.0) roots) at.2)
+    ]
+
+at-any : (test : ℕ → Bool) (r : ℕ) (roots : List ℕ) → test r ≡ true → list_any (λ q. q == r) roots ≡ true → list_any test roots ≡ true
+at-any test r [] passes h = cc
+at-any test r (q ∷ roots) passes h =
+    elim (or_cases (q == r) (list_any (λ p. p == r) roots) h) [
+      | inl same ↦ or_left (test q) (list_any test roots) (ap test (eqb-true q r same) ∙ passes)
+      | inr more ↦ or_right (test q) (list_any test roots) (at-any test r roots passes more)
+    ]
+
+-- what the roots give is current
+module _ (scheme : Scheme) (trace : Trace) (roots : List ℕ) (are : AreRoots trace roots) (x : Translation) where
+  abbrev under : ℕ → Translation
+  under root = record x { root = root }
+
+  abbrev test : Translation → Bool
+  test = is_mapped scheme (words_of trace)
+
+  by-current : IsTrue (is_current_by test roots x) → IsCurrent scheme trace x
+  by-current h =
+      elim (or_cases (test x) _ h) [
+        | inl own ↦ record { root = x.root; counts = inl refl; mapped = (mapped_iff scheme (words_of trace) x).0 own }
+        | inr shared ↦
+            let parts = and_parts x.entry.global _ shared in
+            let at = any-at (λ r. test (under r)) roots parts.1 in
+            record { root = at.0; counts = inr (parts.0, sym (are at.0) ∙ at.2); mapped = (mapped_iff scheme (words_of trace) (under at.0)).0 at.1 }
+      ]
+
+  counted : (root : ℕ) → IsRootFor trace x root → IsMapped scheme (words_of trace) (under root) → IsTrue (is_current_by test roots x)
+  counted root (inl own) mapped = or_left (test x) _ ((mapped_iff scheme (words_of trace) x).1 (subst (λ r. IsMapped scheme (words_of trace) (under r)) own mapped))
+  counted root (inr g) mapped =
+      or_right (test x) _ (and_from x.entry.global _ g.0 (at-any (λ r. test (under r)) root roots ((mapped_iff scheme (words_of trace) (under root)).1 mapped) (are root ∙ g.1)))
+
+  pub roots_current : is_current_by test roots x ≡ is_current scheme trace x
+  roots_current =
+      let iff = current_iff scheme trace x in
+      same_bool (is_current_by test roots x) (is_current scheme trace x) ((λ h. iff.1 (by-current h)), (λ h. let c = iff.0 h in counted c.root c.counts c.mapped))
+
+-- a hart goes to a space
+swapped : (a b : Bool) → (a || (b || false)) ≡ (b || a)
+swapped true true = refl
+swapped true false = refl
+swapped false true = refl
+swapped false false = refl
+
+entered : (trace : Trace) (roots : List ℕ) (new : ℕ) (known : Bool) → list_any (λ r. r == new) roots ≡ known → AreRoots trace roots → (root : ℕ)
+    → list_any (λ r. r == root) (cond known roots (roots ++ new ∷ [])) ≡ ((new == root) || is_root trace root)
+entered trace roots new true known are root =
+    elim (cases_eq new root) [
+      | inl same ↦ subst (λ n. list_any (λ r. r == n) roots ≡ true) same known ∙ sym (ap (λ b. b || is_root trace root) (eq-eqb new root same))
+      | inr other ↦ are root ∙ sym (ap (λ b. b || is_root trace root) (ne_eqb new root other))
+    ]
+entered trace roots new false known are root =
+    list_any-append (λ r. r == root) roots (new ∷ []) ∙ (ap (λ b. b || ((new == root) || false)) (are root) ∙ swapped (is_root trace root) (new == root))
+
+pub roots_entered : (trace : Trace) (by : ℕ) (space : Option Space) (roots : List ℕ) → AreRoots trace roots → AreRoots (Satp by space ∷ trace) (with_root space roots)
+roots_entered trace by None roots are root = are root
+roots_entered trace by (Some space) roots are root = entered trace roots space.root (list_any (λ r. r == space.root) roots) refl are root
+
+-- frames are given out
+none-and : (b : Bool) → false ≡ (b && false)
+none-and true = refl
+none-and false = refl
+
+kept-at : (p : ℕ → Bool) (root q : ℕ) (rest kept : Bool) (b : Bool) → p q ≡ b → kept ≡ (p root && rest) → cond b ((q == root) || kept) kept ≡ (p root && ((q == root) || rest))
+kept-at p root q rest kept true is more =
+    elim (cases_eq q root) [
+      | inl same ↦
+          let one : (q == root) ≡ true = eq-eqb q root same in
+          let there : p root ≡ true = ap p (sym same) ∙ is in
+          ap (λ b. b || kept) one ∙ sym (ap (λ b. b && ((q == root) || rest)) there ∙ ap (λ b. b || rest) one)
+      | inr other ↦
+          let none : (q == root) ≡ false = ne_eqb q root other in
+          ap (λ b. b || kept) none ∙ (more ∙ sym (ap (λ b. p root && (b || rest)) none))
+    ]
+kept-at p root q rest kept false is more =
+    elim (cases_eq q root) [
+      | inl same ↦
+          let gone : p root ≡ false = ap p (sym same) ∙ is in
+          more ∙ (ap (λ b. b && rest) gone ∙ sym (ap (λ b. b && ((q == root) || rest)) gone))
+      | inr other ↦ more ∙ sym (ap (λ b. p root && (b || rest)) (ne_eqb q root other))
+    ]
+
+any-cond : (b : Bool) (p : ℕ → Bool) (q : ℕ) (kept : List ℕ) → list_any p (cond b (q ∷ kept) kept) ≡ cond b (p q || list_any p kept) (list_any p kept)
+any-cond true p q kept = refl
+any-cond false p q kept = refl
+
+kept-any : (p : ℕ → Bool) (root : ℕ) (roots : List ℕ) → list_any (λ r. r == root) (filter p roots) ≡ (p root && list_any (λ r. r == root) roots)
+kept-any p root [] = none-and (p root)
+kept-any p root (q ∷ roots) =
+    any-cond (p q) (λ r. r == root) q (filter p roots) ∙ kept-at p root q (list_any (λ r. r == root) roots) (list_any (λ r. r == root) (filter p roots)) (p q) refl (kept-any p root roots)
+
+pub roots_left : (trace : Trace) (by : ℕ) (frames : Frames) (roots : List ℕ) → AreRoots trace roots → AreRoots (GiveOut by frames ∷ trace) (without_frames frames roots)
+roots_left trace by frames roots are root = kept-any (λ r. not (is_among frames r)) root roots ∙ ap (λ b. not (is_among frames root) && b) (are root)

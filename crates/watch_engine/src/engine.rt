@@ -1,0 +1,343 @@
+//! One trace, record by record.
+
+ghost use Rattle.std.specs.Prelude.{ℕ, ◌≡◌, ◌<◌, ◌^◌, ◌-◌, ◌∷◌, ◌↔◌, [], get_or, length, Err, IfOk, None, OnErr, OnOk};
+ghost use Rattle.watch.specs.Trace.{Trace, words_of};
+ghost use Rattle.watch.specs.declared.trace.Record.TheVariants as records;
+ghost use Rattle.watch_engine.specs.Watching.{Follows};
+ghost use Rattle.watch_engine.specs.Warnings.{AreWarnings};
+
+use crate::cause::Cause;
+use crate::held::Held;
+use crate::list::{drop_fenced, drop_remote, mark, remember_all, settle};
+use crate::live::{add_live_of, live_of_all, live_through_word};
+use crate::open::{OpenClaim, OpenFence, end_claim, end_fence, newest_claim, newest_fence};
+use crate::roots::{add_root, drop_roots};
+use crate::tables::Tables;
+use crate::warning::{Warning, warnings};
+use pte::Scheme;
+use std::alloc::{AllocError, Global};
+use thiserror::Error;
+use watch::{Claim, Frames, Record, RemoteFence, Space};
+
+/// How many harts a record can name.
+const HARTS: usize = 256;
+
+/// Why a record is not taken: nothing has changed.
+#[derive(Clone, Copy, PartialEq, Eq, Debug, Error)]
+pub enum RecordFault {
+    /// There is not enough memory.
+    #[error("there is not enough memory")]
+    NoMemory,
+    /// 2^64 - 1 records have been taken.
+    #[error("there are too many records")]
+    TooManyRecords,
+}
+
+impl From<AllocError> for RecordFault {
+    ghost use Rattle.watch_engine.specs.declared.engine.RecordFault.TheVariants.{NoMemory};
+
+    ghost from_gives = { λ _ e. e ≡ NoMemory };
+
+    fn from(_error: AllocError) -> RecordFault {
+        RecordFault::NoMemory
+    }
+}
+
+/// What a trace leaves: what each hart may hold, and what has begun and not ended. In contracts a
+/// watch follows the trace of its records.
+#[derive(Drop)]
+pub struct Watch<T: Tables> {
+    alloc: Global,
+    scheme: Scheme,
+    tables: T,
+    satps: [Option<Space>; HARTS],
+    roots: Vec<u64>,
+    held: Vec<Held>,
+    fences: Vec<OpenFence>,
+    claims: Vec<OpenClaim>,
+    count: u64,
+}
+
+impl<T: Tables> Watch<T> {
+    /// A watch of a scheme that has seen no record, over tables of which nothing is stored.
+    pub fn new(alloc: Global, scheme: Scheme, tables: T) -> Watch<T>
+        requires { T.words tables ≡ words_of [] }
+        ensures scheme { result.scheme ≡ scheme }
+        ensures follows { Follows T.words [] result }
+    {
+        Watch {
+            alloc,
+            scheme,
+            tables,
+            satps: [None; HARTS],
+            roots: Vec::new(alloc),
+            held: Vec::new(alloc),
+            fences: Vec::new(alloc),
+            claims: Vec::new(alloc),
+            count: 0,
+        }
+    }
+
+    // What is in the satp of a hart.
+    fn satp(&self, hart: u8) -> Option<Space>
+        ensures { result ≡ get_or self.now.satps hart None }
+    {
+        self.satps[hart as usize]
+    }
+
+    // A word is stored.
+    fn store(&mut self, address: u64, word: u64) -> Result<(), AllocError>
+        requires { self.old.count < 2 ^ 64 - 1 }
+        ensures scheme { self.new.scheme ≡ self.old.scheme }
+        ensures ok { (hart : ℕ) (trace : Trace) → Follows T.words trace self.old
+            → OnOk result (Follows T.words (records.Store hart address word ∷ trace) self.new) }
+        ensures err { (trace : Trace) → Follows T.words trace self.old
+            → OnErr result (Follows T.words trace self.new) }
+    {
+        let live = live_through_word(self.alloc, &self.tables, self.scheme, &self.satps, address)?;
+        remember_all(&mut self.held, live.as_slice(), self.count)?;
+        self.tables.store(address, word)?;
+        self.count += 1;
+        settle(
+            &mut self.held,
+            &self.tables,
+            self.scheme,
+            self.roots.as_slice(),
+            self.count,
+        );
+        Ok(())
+    }
+
+    // A hart writes satp.
+    fn write_satp(&mut self, hart: u8, space: Option<Space>) -> Result<(), AllocError>
+        requires { self.old.count < 2 ^ 64 - 1 }
+        ensures scheme { self.new.scheme ≡ self.old.scheme }
+        ensures ok { (trace : Trace) → Follows T.words trace self.old
+            → OnOk result (Follows T.words (records.Satp hart space ∷ trace) self.new) }
+        ensures err { (trace : Trace) → Follows T.words trace self.old
+            → OnErr result (Follows T.words trace self.new) }
+    {
+        let left = self.satp(hart);
+        let mut live = Vec::new(self.alloc);
+        add_live_of(self.alloc, &self.tables, self.scheme, hart, left, &mut live)?;
+        remember_all(&mut self.held, live.as_slice(), self.count)?;
+        add_root(&mut self.roots, space)?;
+        self.satps[hart as usize] = space;
+        self.count += 1;
+        settle(
+            &mut self.held,
+            &self.tables,
+            self.scheme,
+            self.roots.as_slice(),
+            self.count,
+        );
+        Ok(())
+    }
+
+    // A hart executes a fence.
+    fn fence(&mut self, hart: u8, rs1: Option<u64>, rs2: Option<u64>)
+        requires { self.old.count < 2 ^ 64 - 1 }
+        ensures scheme { self.new.scheme ≡ self.old.scheme }
+        ensures follows { (trace : Trace) → Follows T.words trace self.old
+            → Follows T.words (records.Fence hart rs1 rs2 ∷ trace) self.new }
+    {
+        drop_fenced(&mut self.held, self.scheme, hart, rs1, rs2);
+        self.count += 1;
+    }
+
+    // A remote fence begins.
+    fn begin_fence(&mut self, token: u64, fence: RemoteFence) -> Result<(), AllocError>
+        requires { self.old.count < 2 ^ 64 - 1 }
+        ensures scheme { self.new.scheme ≡ self.old.scheme }
+        ensures ok { (hart : ℕ) (trace : Trace) → Follows T.words trace self.old
+            → OnOk result (Follows T.words
+            (records.RemoteBegin hart token fence ∷ trace) self.new) }
+        ensures err { (trace : Trace) → Follows T.words trace self.old
+            → OnErr result (Follows T.words trace self.new) }
+    {
+        let begun = self.count + 1;
+        self.fences.push(OpenFence {
+            token,
+            fence,
+            begun,
+        })?;
+        self.count = begun;
+        Ok(())
+    }
+
+    // A remote fence ends.
+    fn end_fence(&mut self, token: u64)
+        requires { self.old.count < 2 ^ 64 - 1 }
+        ensures scheme { self.new.scheme ≡ self.old.scheme }
+        ensures follows { (hart : ℕ) (trace : Trace) → Follows T.words trace self.old
+            → Follows T.words (records.RemoteEnd hart token ∷ trace) self.new }
+    {
+        let fence = newest_fence(self.fences.as_slice(), token);
+        drop_remote(&mut self.held, self.scheme, &fence);
+        end_fence(&mut self.fences, token);
+        self.count += 1;
+    }
+
+    // A flush begins.
+    fn begin_claim(&mut self, token: u64, claim: Claim) -> Result<(), AllocError>
+        requires { self.old.count < 2 ^ 64 - 1 }
+        ensures scheme { self.new.scheme ≡ self.old.scheme }
+        ensures ok { (hart : ℕ) (trace : Trace) → Follows T.words trace self.old
+            → OnOk result (Follows T.words
+            (records.ClaimBegin hart token claim ∷ trace) self.new) }
+        ensures err { (trace : Trace) → Follows T.words trace self.old
+            → OnErr result (Follows T.words trace self.new) }
+    {
+        let begun = self.count + 1;
+        self.claims.push(OpenClaim {
+            token,
+            claim,
+            begun,
+        })?;
+        self.count = begun;
+        Ok(())
+    }
+
+    // Frames are given out.
+    fn give_out(&mut self, frames: Frames) -> Result<Vec<Warning>, AllocError>
+        requires { self.old.count < 2 ^ 64 - 1 }
+        ensures scheme { self.new.scheme ≡ self.old.scheme }
+        ensures warnings { (hart : ℕ) (trace : Trace) → Follows T.words trace self.old
+            → IfOk result (λ warnings. AreWarnings self.old.scheme (records.GiveOut hart frames)
+            trace warnings.items) }
+        ensures ok { (hart : ℕ) (trace : Trace) → Follows T.words trace self.old
+            → OnOk result (Follows T.words (records.GiveOut hart frames ∷ trace) self.new) }
+        ensures err { (trace : Trace) → Follows T.words trace self.old
+            → OnErr result (Follows T.words trace self.new) }
+    {
+        let cause = Cause::Out(frames);
+        let given = warnings(self.alloc, self.held.as_slice(), &cause)?;
+        let live = live_of_all(self.alloc, &self.tables, self.scheme, &self.satps)?;
+        remember_all(&mut self.held, live.as_slice(), self.count)?;
+        mark(&mut self.held, &cause);
+        self.tables.clear(frames);
+        drop_roots(&mut self.roots, frames);
+        self.count += 1;
+        settle(
+            &mut self.held,
+            &self.tables,
+            self.scheme,
+            self.roots.as_slice(),
+            self.count,
+        );
+        Ok(given)
+    }
+
+    // Frames are given back.
+    fn give_back(&mut self, frames: Frames) -> Result<Vec<Warning>, AllocError>
+        requires { self.old.count < 2 ^ 64 - 1 }
+        ensures scheme { self.new.scheme ≡ self.old.scheme }
+        ensures warnings { (hart : ℕ) (trace : Trace) → Follows T.words trace self.old
+            → IfOk result (λ warnings. AreWarnings self.old.scheme (records.GiveBack hart frames)
+            trace warnings.items) }
+        ensures ok { (hart : ℕ) (trace : Trace) → Follows T.words trace self.old
+            → OnOk result (Follows T.words (records.GiveBack hart frames ∷ trace) self.new) }
+        ensures err { (trace : Trace) → Follows T.words trace self.old
+            → OnErr result (Follows T.words trace self.new) }
+    {
+        let cause = Cause::Back(frames);
+        let given = warnings(self.alloc, self.held.as_slice(), &cause)?;
+        mark(&mut self.held, &cause);
+        self.count += 1;
+        Ok(given)
+    }
+
+    // A flush returns.
+    fn end_claim(&mut self, token: u64) -> Result<Vec<Warning>, AllocError>
+        requires { self.old.count < 2 ^ 64 - 1 }
+        ensures scheme { self.new.scheme ≡ self.old.scheme }
+        ensures warnings { (hart : ℕ) (trace : Trace) → Follows T.words trace self.old
+            → IfOk result (λ warnings. AreWarnings self.old.scheme (records.ClaimEnd hart token)
+            trace warnings.items) }
+        ensures ok { (hart : ℕ) (trace : Trace) → Follows T.words trace self.old
+            → OnOk result (Follows T.words (records.ClaimEnd hart token ∷ trace) self.new) }
+        ensures err { (trace : Trace) → Follows T.words trace self.old
+            → OnErr result (Follows T.words trace self.new) }
+    {
+        let claim = newest_claim(self.claims.as_slice(), token);
+        let cause = Cause::Claim(claim);
+        let given = warnings(self.alloc, self.held.as_slice(), &cause)?;
+        mark(&mut self.held, &cause);
+        end_claim(&mut self.claims, token);
+        self.count += 1;
+        Ok(given)
+    }
+
+    // A hart accesses an address.
+    fn access(&mut self, hart: u8, address: u64) -> Result<Vec<Warning>, AllocError>
+        requires { self.old.count < 2 ^ 64 - 1 }
+        ensures scheme { self.new.scheme ≡ self.old.scheme }
+        ensures warnings { (trace : Trace) → Follows T.words trace self.old
+            → IfOk result (λ warnings. AreWarnings self.old.scheme (records.Use hart address)
+            trace warnings.items) }
+        ensures ok { (trace : Trace) → Follows T.words trace self.old
+            → OnOk result (Follows T.words (records.Use hart address ∷ trace) self.new) }
+        ensures err { (trace : Trace) → Follows T.words trace self.old
+            → OnErr result (Follows T.words trace self.new) }
+    {
+        let space = self.satp(hart);
+        let cause = Cause::Access {
+            hart,
+            space,
+            address,
+        };
+        let given = warnings(self.alloc, self.held.as_slice(), &cause)?;
+        self.count += 1;
+        Ok(given)
+    }
+    /// Takes the next record, and answers its warnings: each verdict that is given at the record and
+    /// new, each once, where translations that differ only in A and D, or if they are global only in
+    /// root and ASID, share one. `TooManyRecords` exactly if 2^64 - 1 records have been taken, and
+    /// `NoMemory` only where memory runs out: then the watch still follows the trace before.
+    pub fn record(&mut self, newest: Record) -> Result<Vec<Warning>, RecordFault>
+        ensures scheme { self.new.scheme ≡ self.old.scheme }
+        ensures warnings { (trace : Trace) → Follows T.words trace self.old
+            → IfOk result (λ warnings.
+            AreWarnings self.old.scheme newest trace warnings.items) }
+        ensures ok { (trace : Trace) → Follows T.words trace self.old
+            → OnOk result (Follows T.words (newest ∷ trace) self.new) }
+        ensures err { (trace : Trace) → Follows T.words trace self.old
+            → OnErr result (Follows T.words trace self.new) }
+        ensures full { (trace : Trace) → Follows T.words trace self.old
+            → (result ≡ Err RecordFault.TooManyRecords) ↔ (length trace ≡ 2 ^ 64 - 1) }
+    {
+        if self.count == u64::MAX {
+            return Err(RecordFault::TooManyRecords);
+        }
+        match newest {
+            Record::Store { address, word, .. } => {
+                self.store(address, word)?;
+                return Ok(Vec::new(self.alloc));
+            }
+            Record::Satp { hart, space } => {
+                self.write_satp(hart, space)?;
+                return Ok(Vec::new(self.alloc));
+            }
+            Record::Fence { hart, rs1, rs2 } => {
+                self.fence(hart, rs1, rs2);
+                return Ok(Vec::new(self.alloc));
+            }
+            Record::RemoteBegin { token, fence, .. } => {
+                self.begin_fence(token, fence)?;
+                return Ok(Vec::new(self.alloc));
+            }
+            Record::RemoteEnd { token, .. } => {
+                self.end_fence(token);
+                return Ok(Vec::new(self.alloc));
+            }
+            Record::ClaimBegin { token, claim, .. } => {
+                self.begin_claim(token, claim)?;
+                return Ok(Vec::new(self.alloc));
+            }
+            Record::GiveOut { frames, .. } => return Ok(self.give_out(frames)?),
+            Record::GiveBack { frames, .. } => return Ok(self.give_back(frames)?),
+            Record::ClaimEnd { token, .. } => return Ok(self.end_claim(token)?),
+            Record::Use { hart, address } => return Ok(self.access(hart, address)?),
+        }
+    }
+}

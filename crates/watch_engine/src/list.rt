@@ -1,0 +1,116 @@
+//! The list of what harts may hold.
+
+ghost use Rattle.std.specs.Prelude.{ℕ, Bool, ◌≡◌, ◌↔◌, ◌++◌, ◌∷◌, [], map, filter, Option, OnOk, OnErr, IfOk, IsTrue, take};
+ghost use Rattle.watch.proofs.Computed.{is_mapped};
+ghost use Rattle.watch_engine.specs.declared.held.Held.{Held as HeldOf};
+ghost use Rattle.watch_engine.specs.Held.{is_current_by, is_of, live_translation, marked_if, outlives_fence, outlives_remote, place_in, remembered, remembered_all, settled, translation_of};
+ghost use Rattle.watch_engine.specs.Causes.{applies, verdict_of};
+
+use crate::cause::Cause;
+use crate::held::{Held, LiveEntry};
+use crate::open::OpenFence;
+use crate::roots::is_current;
+use crate::tables::Tables;
+use pte::Scheme;
+use std::alloc::AllocError;
+
+// The place of a translation in the list.
+fn place_of(held: &[Held], live: &LiveEntry) -> Option<usize>
+    ensures { result ≡ place_in (is_of live.now.hart (live_translation live.now)) 0 held.now }
+{
+    for (place, item) in held.iter().enumerate() {
+        if item.is_of(live) {
+            return Some(place);
+        }
+    }
+    None
+}
+
+// With a translation that is live now. At `Err` nothing changed.
+pub(crate) fn remember(held: &mut Vec<Held>, live: &LiveEntry, count: u64) -> Result<(), AllocError>
+    ensures ok { OnOk result (held.new.items ≡ remembered count live.now held.old.items) }
+    ensures err { OnErr result (held.new.items ≡ held.old.items) }
+{
+    let Some(place) = place_of(held.as_slice(), live) else {
+        return Ok(held.push(Held::from_live(live, count))?);
+    };
+    held[place].last_live = count;
+    Ok(())
+}
+
+// With translations that are live now. At `Err` some of them are there.
+pub(crate) fn remember_all(
+    held: &mut Vec<Held>,
+    live: &[LiveEntry],
+    count: u64,
+) -> Result<(), AllocError>
+    ensures ok { OnOk result (held.new.items ≡ remembered_all count live.now held.old.items) }
+    ensures err { OnErr result ((n : ℕ)
+        × (held.new.items ≡ remembered_all count (take n live.now) held.old.items)) }
+{
+    for item in live {
+        remember(held, item, count)?;
+    }
+    Ok(())
+}
+
+fn settle_each<T: Tables>(held: &mut [Held], tables: &T, scheme: Scheme, roots: &[u64], count: u64)
+    ensures { held.new ≡ map (λ i. settled (is_current_by (is_mapped scheme (T.words tables.now))
+        roots.now (translation_of i)) count i) held.old }
+{
+    for item in held.iter_mut() {
+        let current = is_current(tables, scheme, roots, item.root, &item.entry);
+        item.settle(current, count);
+    }
+}
+
+// With what the tables have now.
+pub(crate) fn settle<T: Tables>(
+    held: &mut Vec<Held>,
+    tables: &T,
+    scheme: Scheme,
+    roots: &[u64],
+    count: u64,
+)
+    ensures { held.new.items ≡ map (λ i. settled (is_current_by
+        (is_mapped scheme (T.words tables.now)) roots.now (translation_of i)) count i)
+        held.old.items }
+{
+    settle_each(held.as_mut_slice(), tables, scheme, roots, count);
+}
+
+fn mark_each(held: &mut [Held], cause: &Cause)
+    ensures { held.new ≡ map (marked_if (verdict_of cause.now) (applies cause.now)) held.old }
+{
+    for item in held.iter_mut() {
+        item.mark_by(cause);
+    }
+}
+
+// With the verdict of those that the cause is of.
+pub(crate) fn mark(held: &mut Vec<Held>, cause: &Cause)
+    ensures { held.new.items
+        ≡ map (marked_if (verdict_of cause.now) (applies cause.now)) held.old.items }
+{
+    mark_each(held.as_mut_slice(), cause);
+}
+
+// Without what a fence of the hart drops.
+pub(crate) fn drop_fenced(
+    held: &mut Vec<Held>,
+    scheme: Scheme,
+    hart: u8,
+    rs1: Option<u64>,
+    rs2: Option<u64>,
+)
+    ensures { held.new.items ≡ filter (outlives_fence scheme hart rs1 rs2) held.old.items }
+{
+    held.retain(|item| item.outlives_fence(scheme, hart, rs1, rs2));
+}
+
+// Without what the end of a remote fence drops.
+pub(crate) fn drop_remote(held: &mut Vec<Held>, scheme: Scheme, fence: &Option<OpenFence>)
+    ensures { held.new.items ≡ filter (outlives_remote scheme fence.now) held.old.items }
+{
+    held.retain(|item| item.outlives_remote(scheme, fence));
+}

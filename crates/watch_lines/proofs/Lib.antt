@@ -1,0 +1,10 @@
+pub mod Numerals
+pub mod Positions
+pub mod Hexadecimal
+pub mod CountLemmas
+pub mod Spaced
+pub mod WorkedLines
+pub mod PrintedNumbers
+pub mod PrintedLines
+pub mod PrintedRecords
+pub mod WorkedWarnings
