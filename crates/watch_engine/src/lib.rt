@@ -12,8 +12,6 @@ mod open;
 mod page_tables;
 mod roots;
 mod tables;
-#[cfg(test)]
-mod tests;
 mod warning;
 
 pub use engine::{RecordFault, Watch};

@@ -7,8 +7,6 @@ mod leaf;
 mod leaves;
 mod path;
 mod tables;
-#[cfg(test)]
-mod tests;
 mod through;
 
 pub use laws::{

@@ -1,13 +1,13 @@
 //! A table of each level, with leaves of two sizes in both halves of the addresses, below pointers
 //! with G and without.
 
-use crate::{Leaf, PageTables};
 use bitflags::Flags;
 use pte::{Page, PageSize, PteFlags, Scheme, VirtAddr};
 use std::alloc::AllocError;
 use std::test::Fail;
 use tlb::Entry;
 use watch::{Frames, Space};
+use watch_tables::{Leaf, PageTables};
 
 /// The root of Sv39, and that of Sv48, which has the other below it twice.
 const ROOT_OF_SV39: u64 = 0x8_0000;

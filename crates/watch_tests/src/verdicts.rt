@@ -1,11 +1,11 @@
 //! A page that two harts may hold is unmapped, with each fence and without one.
 
-use crate::{Warning, Watch};
 use pte::Scheme;
 use std::alloc::Global;
 use std::process::Abort;
 use std::test::Fail;
 use watch::{AddressRange, Claim, Frames, Record, RemoteFence, Space, Verdict};
+use watch_engine::{Warning, Watch};
 use watch_tables::PageTables;
 
 /// Two roots of Sv39, each with a pointer to one table of level 1.
