@@ -1,4 +1,4 @@
--- Whether the tables of a root have an entry, computed load by load.
+-- The tests of specs/Computed are of what the tables of a root have.
 use Rattle.std.proofs.Common.{◌≡◌, ℕ, zero, suc, ◌+◌, ◌-◌, ◌≤◌, ◌%◌, Bool, true, false, Option, Some, None, IsTrue, ap, sym, ◌∙◌, subst, refl, inl, inr, arith}
 use Rattle.std.specs.Prelude.{◌⊎◌, ◌↔◌, ◌==◌, ◌&&◌, ◌||◌, not, nat_le}
 use Rattle.std.proofs.lemmas.Bool.{and_parts, and_from, cases_lt, eq-eqb, eqb-true, not-true, not_from_false, false_from_ne_true, or_cases, or_left, or_right, true≢false}
@@ -7,7 +7,7 @@ use Rattle.pte.specs.declared.flags.PteFlags.{PteFlags}
 use Rattle.pte.specs.declared.entry.Kind.{Kind}
 use Rattle.pte.specs.declared.entry.Kind.TheVariants as kinds
 use Rattle.pte.specs.Address.{IsPageOf, Span, bytes_of, is_canonical, level_of, pages_of, top_level}
-use Rattle.pte.specs.Entry.{is_global, is_user, kind_of, may_execute, may_read, may_write}
+use Rattle.pte.specs.Entry.{is_global, is_user, kind_of, may_read, may_write}
 use Rattle.pte.proofs.Schemes.{is_canonical-IsCanonical}
 use Rattle.walk.specs.Leads.{IsGlobalAt, Leads, Tables, word_at}
 use Rattle.walk.specs.Pointers.{table_after}
@@ -17,6 +17,7 @@ use Rattle.walk.proofs.Unique.{same_bool}
 use Rattle.tlb.specs.declared.store.Entry.{Entry}
 use Rattle.watch.specs.Holding.{HasLeaf, Translation}
 use Rattle.watch.specs.Staleness.{IsMapped, Permit}
+use Rattle.watch.specs.Computed.{at_table, has_leaf, is_global_up, is_global_word, is_leaf_kind, is_leaf_word, is_mapped, is_mapped_kind, is_mapped_word, is_page_of, is_same, permits, with_flags, word_there}
 use Rattle.std.proofs.lemmas.Bool.Decides.{nat_tests}
 
 -- facts by their tests
@@ -39,30 +40,13 @@ implies_iff : (a b : Bool) → IsTrue (not a || b) ↔ (IsTrue a → IsTrue b)
 implies_iff true b = ((λ h t. h), (λ f. f refl))
 implies_iff false b = ((λ h t. cc), (λ f. refl))
 
-abbrev pub is_same : Bool → Bool → Bool
-is_same true b = b
-is_same false b = not b
-
 same_iff : (a b : Bool) → IsTrue (is_same a b) ↔ (a ≡ b)
 same_iff true b = ((λ h. sym h), (λ e. sym e))
 same_iff false b = ((λ h. sym (not-true b h)), (λ e. not_from_false b (sym e)))
 
 -- the word that leads at level i
-abbrev pub at_table : Tables → ℕ → ℕ → Option ℕ → Option ℕ
-at_table words va i None = None
-at_table words va i (Some table) = word_at words va i table
-
-abbrev pub word_there : Scheme → Tables → ℕ → ℕ → ℕ → Option ℕ
-word_there scheme words root va i = at_table words va i (table_after scheme words root va (top_level scheme - i))
-
-abbrev pub is_global_word : Option ℕ → Bool
-is_global_word None = false
-is_global_word (Some word) = is_global word
 
 -- G is on the word that leads at level i, or on one that leads above it, of n levels
-abbrev pub is_global_up : Scheme → Tables → ℕ → ℕ → ℕ → ℕ → Bool
-is_global_up scheme words root va i zero = false
-is_global_up scheme words root va i (suc n) = is_global_word (word_there scheme words root va i) || is_global_up scheme words root va (i + 1) n
 
 module _ (scheme : Scheme) (words : Tables) (root va : ℕ) where
   at-some : (i w : ℕ) (o : Option ℕ) → at_table words va i o ≡ Some w → (t : ℕ) × (o ≡ Some t) × (word_at words va i t ≡ Some w)
@@ -111,25 +95,6 @@ module _ (scheme : Scheme) (words : Tables) (root va : ℕ) where
   global_iff n i at = (up-global n i at, global-up n i at)
 
 -- the tables have the entry
-abbrev pub is_leaf_kind : Kind → Entry → Bool
-is_leaf_kind kinds.Invalid e = false
-is_leaf_kind kinds.Reserved e = false
-is_leaf_kind (kinds.Table ppn global) e = false
-is_leaf_kind (kinds.Leaf ppn flags) e = (ppn == e.ppn) && (flags.0 == e.flags.0)
-
-abbrev pub is_leaf_word : Option ℕ → Entry → Bool
-is_leaf_word None e = false
-is_leaf_word (Some word) e = is_leaf_kind (kind_of word) e
-
-abbrev pub is_page_of : Scheme → Span → Bool
-is_page_of scheme page = nat_le (level_of page.size) (top_level scheme) && (is_canonical scheme page.base && (page.base % bytes_of page.size == 0))
-
-abbrev pub has_leaf : Scheme → Tables → ℕ → Entry → Bool
-has_leaf scheme words root e =
-    is_page_of scheme e.page
-    && (is_leaf_word (word_there scheme words root e.page.base (level_of e.page.size)) e
-    && ((e.ppn % pages_of e.page.size == 0)
-    && is_same e.global (is_global_up scheme words root e.page.base (level_of e.page.size) (top_level scheme + 1 - level_of e.page.size))))
 
 page_iff : (scheme : Scheme) (page : Span) → IsTrue (is_page_of scheme page) ↔ IsPageOf scheme page
 page_iff scheme page = (
@@ -201,10 +166,6 @@ module _ (scheme : Scheme) (words : Tables) (root : ℕ) (e : Entry) where
   leaf_iff = (leaf-computed, computed-leaf)
 
 -- the tables have at least its rights
-abbrev pub permits : PteFlags → PteFlags → Bool
-permits new old =
-    is_same (is_user new.0) (is_user old.0)
-    && ((not (may_read old.0) || may_read new.0) && ((not (may_write old.0) || may_write new.0) && (not (may_execute old.0) || may_execute new.0)))
 
 permit_iff : (new old : PteFlags) → IsTrue (permits new old) ↔ Permit new old
 permit_iff new old = (
@@ -215,22 +176,6 @@ permit_iff new old = (
       record { user = (same_iff _ _).0 user.0; read = (implies_iff _ _).0 read.0; write = (implies_iff _ _).0 write.0; execute = (implies_iff _ _).0 write.1 }),
   (λ p. and_from _ _ ((same_iff _ _).1 p.user) (and_from _ _ ((implies_iff _ _).1 p.read) (and_from _ _ ((implies_iff _ _).1 p.write) ((implies_iff _ _).1 p.execute)))),
 )
-
-abbrev pub with_flags : Translation → PteFlags → Entry
-with_flags x flags = record x.entry { flags = flags }
-
-abbrev pub is_mapped_kind : Scheme → Tables → Translation → Kind → Bool
-is_mapped_kind scheme words x kinds.Invalid = false
-is_mapped_kind scheme words x kinds.Reserved = false
-is_mapped_kind scheme words x (kinds.Table ppn global) = false
-is_mapped_kind scheme words x (kinds.Leaf ppn flags) = permits flags x.entry.flags && has_leaf scheme words x.root (with_flags x flags)
-
-abbrev pub is_mapped_word : Scheme → Tables → Translation → Option ℕ → Bool
-is_mapped_word scheme words x None = false
-is_mapped_word scheme words x (Some word) = is_mapped_kind scheme words x (kind_of word)
-
-abbrev pub is_mapped : Scheme → Tables → Translation → Bool
-is_mapped scheme words x = is_mapped_word scheme words x (word_there scheme words x.root x.entry.page.base (level_of x.entry.page.size))
 
 module _ (scheme : Scheme) (words : Tables) (x : Translation) where
   mapped-kind : (kind : Kind) → IsTrue (is_mapped_kind scheme words x kind) → IsMapped scheme words x

@@ -1,5 +1,4 @@
--- Whether a hart may hold a translation, whether it is stale, and whether a verdict is given, computed
--- record by record.
+-- The tests of specs/ComputedTraces are of what a hart may hold, of what is stale, and of verdicts.
 use Rattle.std.proofs.Common.{sym, subst, ◌≡◌, ℕ, ◌+◌, ◌*◌, ◌<◌, ◌≤◌, Bool, true, false, Option, Some, None, [], ◌∷◌, IsTrue, ap, ◌∙◌, refl, inl, inr, arith}
 use Rattle.std.specs.Prelude.{◌⊎◌, ◌↔◌, ◌==◌, ◌&&◌, ◌||◌, not, nat_le, nat_lt}
 use Rattle.std.proofs.lemmas.Bool.{true≢false, and_parts, and_from, or_cases, or_left, or_right, cases_lt, eq-eqb, eqb-true, not-true, not_from_false}
@@ -8,7 +7,6 @@ use Rattle.std.proofs.lemmas.Nat.{pow_pos}
 use Rattle.pte.specs.declared.scheme.Scheme.{Scheme}
 use Rattle.pte.specs.Address.{level_of, pages_of}
 use Rattle.tlb.specs.declared.store.Entry.{Entry}
-use Rattle.tlb.specs.Entries.{is_match}
 use Rattle.tlb.specs.Fence.{is_fenced}
 use Rattle.watch.specs.declared.trace.Claim.{Claim}
 use Rattle.watch.specs.declared.trace.Frames.{Frames}
@@ -18,11 +16,13 @@ use Rattle.watch.specs.declared.trace.RemoteFence.{RemoteFence}
 use Rattle.watch.specs.declared.trace.Space.{Space}
 use Rattle.watch.specs.declared.trace.Verdict.{Verdict}
 use Rattle.watch.specs.declared.trace.Verdict.TheVariants.{Free, Reuse, Claimed, Used}
-use Rattle.watch.specs.Trace.{Trace, begins_claim, begins_fence, claim_of, fence_of, has_root, is_among, is_root, is_root_after, satp_of, words_of}
-use Rattle.watch.specs.Holding.{Drops, DropsAtEnd, Live, LiveSince, MayHold, Translation, is_covered, names}
+use Rattle.watch.specs.Trace.{Trace, begins_claim, begins_fence, claim_of, fence_of, has_root, is_among, is_root, is_root_after, is_used, satp_of, words_of}
+use Rattle.watch.specs.Holding.{BelongsTo, Drops, DropsAtEnd, Live, LiveSince, MayHold, Translation, is_covered, names}
 use Rattle.watch.specs.Staleness.{IsCurrent, IsMapped, IsRootFor, Stale, is_frame_of}
 use Rattle.watch.specs.Verdicts.{WasGiven, IsNew, IsGiven, IsBroken, IsExposed, Serves, StaleSince, TakenForGone, TakesForGone, is_claimed}
-use Rattle.watch.proofs.Computed.{and_iff, has_leaf, is_mapped, leaf_iff, mapped_iff, not_iff, or_iff}
+use Rattle.watch.specs.Computed.{is_mapped}
+use Rattle.watch.specs.ComputedTraces.{belongs_to, has_held, has_verdict, in_any_space, in_space, is_broken, is_broken_of, is_claim, is_current, is_dropped, is_dropped_by, is_exposed, is_free, is_held, is_live, is_live_in, is_live_since, is_new, is_reuse, is_served_in, is_shared, is_stale, is_stale_since, is_stale_since_claim, is_taken, is_use, shares, takes, under}
+use Rattle.watch.proofs.Computed.{and_iff, leaf_iff, mapped_iff, not_iff, or_iff}
 
 none_iff : IsTrue false ↔ ⊥
 none_iff = ((λ h. cc), (λ f. absurd f))
@@ -37,50 +37,40 @@ self_test : (b : Bool) → IsTrue b ↔ IsTrue b
 self_test b = ((λ h. h), (λ h. h))
 
 -- live
-abbrev pub is_space : Option Space → Translation → Bool
-is_space None x = false
-is_space (Some space) x = (space.root == x.root) && (space.asid == x.entry.asid)
-
-abbrev pub is_live : Scheme → Trace → ℕ → Translation → Bool
-is_live scheme trace hart x = is_space (satp_of trace hart) x && has_leaf scheme (words_of trace) x.root x.entry
-
-of-space : (o : Option Space) (x : Translation) → IsTrue (is_space o x) → o ≡ Some (record { root = x.root; asid = x.entry.asid })
-of-space None x h = cc
-of-space (Some space) x h =
+same_space : (space : Space) (x : Translation) → IsTrue ((space.root == x.root) && (space.asid == x.entry.asid)) → space ≡ record { root = x.root; asid = x.entry.asid }
+same_space space x h =
     let parts = and_parts (space.root == x.root) (space.asid == x.entry.asid) h in
     let root : space.root ≡ x.root = eqb-true _ _ parts.0 in
     let asid : space.asid ≡ x.entry.asid = eqb-true _ _ parts.1 in
-    λ i. Some (record { root = root i; asid = asid i })
+    λ i. record { root = root i; asid = asid i }
 
-space-of : (o : Option Space) (x : Translation) → o ≡ Some (record { root = x.root; asid = x.entry.asid }) → IsTrue (is_space o x)
-space-of o x is = ap (λ s. is_space s x) is ∙ and_from (x.root == x.root) (x.entry.asid == x.entry.asid) (eq-eqb _ _ refl) (eq-eqb _ _ refl)
+space_same : (space : Space) (x : Translation) → space ≡ record { root = x.root; asid = x.entry.asid } → IsTrue ((space.root == x.root) && (space.asid == x.entry.asid))
+space_same space x is =
+    and_from (space.root == x.root) (space.asid == x.entry.asid) (eq-eqb space.root x.root (ap (λ (s : Space). s.root) is)) (eq-eqb space.asid x.entry.asid (ap (λ (s : Space). s.asid) is))
 
-live_iff : (scheme : Scheme) (trace : Trace) (hart : ℕ) (x : Translation) → IsTrue (is_live scheme trace hart x) ↔ Live scheme trace hart x
+pub belongs_iff : (space : Space) (x : Translation) → IsTrue (belongs_to space x) ↔ BelongsTo space x
+belongs_iff space x = or_iff _ _ _ _ (self_test x.entry.global) (same_space space x, space_same space x)
+
+live-of : (scheme : Scheme) (trace : Trace) (hart : ℕ) (x : Translation) (o : Option Space) → satp_of trace hart ≡ o → IsTrue (is_live_in scheme (words_of trace) o x) → Live scheme trace hart x
+live-of scheme trace hart x None is h = cc
+live-of scheme trace hart x (Some space) is h =
+    let parts = and_parts (belongs_to space x) _ h in
+    record { space = space; satp = is; belongs = (belongs_iff space x).0 parts.0; leaf = (leaf_iff scheme (words_of trace) space.root x.entry).0 parts.1 }
+
+pub live_iff : (scheme : Scheme) (trace : Trace) (hart : ℕ) (x : Translation) → IsTrue (is_live scheme trace hart x) ↔ Live scheme trace hart x
 live_iff scheme trace hart x = (
-  (λ h.
-      let parts = and_parts (is_space (satp_of trace hart) x) _ h in
-      record { space = of-space (satp_of trace hart) x parts.0; leaf = (leaf_iff scheme (words_of trace) x.root x.entry).0 parts.1 }),
-  (λ l. and_from _ _ (space-of (satp_of trace hart) x l.space) ((leaf_iff scheme (words_of trace) x.root x.entry).1 l.leaf)),
+  live-of scheme trace hart x (satp_of trace hart) refl,
+  (λ l.
+      ap (λ o. is_live_in scheme (words_of trace) o x) l.satp
+      ∙ and_from _ _ ((belongs_iff l.space x).1 l.belongs) ((leaf_iff scheme (words_of trace) l.space.root x.entry).1 l.leaf)),
 )
 
-abbrev pub is_live_since : Scheme → ℕ → Trace → ℕ → Translation → Bool
-is_live_since scheme token [] hart x = false
-is_live_since scheme token (newest ∷ trace) hart x = is_live scheme (newest ∷ trace) hart x || (not (begins_fence token newest) && is_live_since scheme token trace hart x)
-
-live_since_iff : (scheme : Scheme) (token : ℕ) (trace : Trace) (hart : ℕ) (x : Translation) → IsTrue (is_live_since scheme token trace hart x) ↔ LiveSince scheme token trace hart x
+pub live_since_iff : (scheme : Scheme) (token : ℕ) (trace : Trace) (hart : ℕ) (x : Translation) → IsTrue (is_live_since scheme token trace hart x) ↔ LiveSince scheme token trace hart x
 live_since_iff scheme token [] hart x = none_iff
 live_since_iff scheme token (newest ∷ trace) hart x =
     or_iff _ _ _ _ (live_iff scheme (newest ∷ trace) hart x) (and_iff _ _ _ _ (false_test (begins_fence token newest)) (live_since_iff scheme token trace hart x))
 
 -- dropped
-abbrev pub is_dropped_by : Scheme → Option RemoteFence → ℕ → Trace → ℕ → Translation → Bool
-is_dropped_by scheme None token trace hart x = false
-is_dropped_by scheme (Some fence) token trace hart x = names fence hart && (is_covered scheme fence x.entry && not (is_live_since scheme token trace hart x))
-
-abbrev pub is_dropped : Scheme → Record → Trace → ℕ → Translation → Bool
-is_dropped scheme (Fence of rs1 rs2) trace hart x = (of == hart) && is_fenced scheme rs1 rs2 x.entry
-is_dropped scheme (RemoteEnd of token) trace hart x = is_dropped_by scheme (fence_of trace token) token trace hart x
-is_dropped scheme _ trace hart x = false
 
 by-drops : (scheme : Scheme) (o : Option RemoteFence) (token : ℕ) (trace : Trace) (hart : ℕ) (x : Translation) → fence_of trace token ≡ o → IsTrue (is_dropped_by scheme o token trace hart x) → DropsAtEnd scheme token trace hart x
 by-drops scheme None token trace hart x is h = cc
@@ -97,15 +87,12 @@ at_end_iff scheme token trace hart x = (
       ∙ and_from _ _ d.named (and_from _ _ d.covered ((not_iff _ _ (live_since_iff scheme token trace hart x)).1 d.not_live))),
 )
 
-drops_iff : (scheme : Scheme) (newest : Record) (trace : Trace) (hart : ℕ) (x : Translation) → IsTrue (is_dropped scheme newest trace hart x) ↔ Drops scheme newest trace hart x
+pub drops_iff : (scheme : Scheme) (newest : Record) (trace : Trace) (hart : ℕ) (x : Translation) → IsTrue (is_dropped scheme newest trace hart x) ↔ Drops scheme newest trace hart x
 drops_iff scheme (Fence of rs1 rs2) trace hart x = and_iff _ _ _ _ (equal_test of hart) (self_test (is_fenced scheme rs1 rs2 x.entry))
 drops_iff scheme (RemoteEnd of token) trace hart x = at_end_iff scheme token trace hart x
 drops_iff scheme _ trace hart x = none_iff
 
 -- held
-abbrev pub is_held : Scheme → Trace → ℕ → Translation → Bool
-is_held scheme [] hart x = is_live scheme [] hart x
-is_held scheme (newest ∷ trace) hart x = is_live scheme (newest ∷ trace) hart x || (is_held scheme trace hart x && not (is_dropped scheme newest trace hart x))
 
 pub held_iff : (scheme : Scheme) (trace : Trace) (hart : ℕ) (x : Translation) → IsTrue (is_held scheme trace hart x) ↔ MayHold scheme trace hart x
 held_iff scheme [] hart x = live_iff scheme [] hart x
@@ -113,23 +100,8 @@ held_iff scheme (newest ∷ trace) hart x =
     or_iff _ _ _ _ (live_iff scheme (newest ∷ trace) hart x) (and_iff _ _ _ _ (held_iff scheme trace hart x) (not_iff _ _ (drops_iff scheme newest trace hart x)))
 
 -- current
-abbrev pub under : Translation → ℕ → Translation
-under x root = record x { root = root }
-
-abbrev pub in_space : (ℕ → Bool) → Record → Bool
-in_space test (Satp of (Some space)) = test space.root
-in_space test _ = false
 
 -- some address space has a root that passes the test
-abbrev pub in_any_space : (ℕ → Bool) → Trace → Bool
-in_any_space test [] = false
-in_any_space test (newest ∷ trace) = in_space test newest || in_any_space test trace
-
-abbrev pub is_shared : Scheme → Trace → Translation → ℕ → Bool
-is_shared scheme trace x root = is_root trace root && is_mapped scheme (words_of trace) (under x root)
-
-abbrev pub is_current : Scheme → Trace → Translation → Bool
-is_current scheme trace x = is_mapped scheme (words_of trace) x || (x.entry.global && in_any_space (is_shared scheme trace x) trace)
 
 space-passes : (test : ℕ → Bool) (newest : Record) → IsTrue (in_space test newest) → (root : ℕ) × IsTrue (test root)
 space-passes test (Satp of (Some space)) h = (space.root, h)
@@ -148,27 +120,29 @@ root-passes : (test : ℕ → Bool) (root : ℕ) (o : Option Space) (of : ℕ) �
 root-passes test root None of is passes = cc
 root-passes test root (Some space) of is passes = ap test (eqb-true space.root root is) ∙ passes
 
-passes-newest : (test : ℕ → Bool) (root : ℕ) (newest : Record) (old : Bool) → IsTrue (is_root_after root newest old) → IsTrue (test root) → IsTrue (in_space test newest) ⊎ IsTrue old
-passes-newest test root (Satp of space) old is passes =
+passes-newest : (test : ℕ → Bool) (root : ℕ) (newest : Record) (used old : Bool) → IsTrue (is_root_after root newest used old) → IsTrue (test root) → IsTrue (in_space test newest) ⊎ IsTrue old
+passes-newest test root (Satp of space) used old is passes =
     elim (or_cases (has_root space root) old is) [
       | inl now ↦ inl (root-passes test root space of now passes)
       | inr before ↦ inr before
     ]
-passes-newest test root (GiveOut of frames) old is passes = inr (and_parts (not (is_among frames root)) old is).1
-passes-newest test root _ old is passes = inr is
+passes-newest test root (GiveOut of frames) used old is passes = inr (and_parts (not (is_among frames root) || used) old is).1
+passes-newest test root _ used old is passes = inr is
 
 passes-some : (test : ℕ → Bool) (root : ℕ) (trace : Trace) → IsTrue (is_root trace root) → IsTrue (test root) → IsTrue (in_any_space test trace)
 passes-some test root [] is passes = cc
 passes-some test root (newest ∷ trace) is passes =
-    elim (passes-newest test root newest (is_root trace root) is passes) [
+    elim (passes-newest test root newest (is_used trace root) (is_root trace root) is passes) [
       | inl now ↦ or_left (in_space test newest) (in_any_space test trace) now
       | inr before ↦ or_right (in_space test newest) (in_any_space test trace) (passes-some test root trace before passes)
     ]
 
 computed-current : (scheme : Scheme) (trace : Trace) (x : Translation) → IsTrue (is_current scheme trace x) → IsCurrent scheme trace x
 computed-current scheme trace x h =
-    elim (or_cases (is_mapped scheme (words_of trace) x) _ h) [
-      | inl own ↦ record { root = x.root; counts = inl refl; mapped = (mapped_iff scheme (words_of trace) x).0 own }
+    elim (or_cases (not x.entry.global && is_mapped scheme (words_of trace) x) _ h) [
+      | inl own ↦
+          let parts = and_parts (not x.entry.global) _ own in
+          record { root = x.root; counts = inl (not-true x.entry.global parts.0, refl); mapped = (mapped_iff scheme (words_of trace) x).0 parts.1 }
       | inr shared ↦
           let parts = and_parts x.entry.global _ shared in
           let at = some-passes (is_shared scheme trace x) trace parts.1 in
@@ -178,17 +152,16 @@ computed-current scheme trace x h =
 
 current-computed : (scheme : Scheme) (trace : Trace) (x : Translation) (root : ℕ) → IsRootFor trace x root → IsMapped scheme (words_of trace) (under x root) → IsTrue (is_current scheme trace x)
 current-computed scheme trace x root (inl own) mapped =
-    or_left (is_mapped scheme (words_of trace) x) _ ((mapped_iff scheme (words_of trace) x).1 (subst (λ r. IsMapped scheme (words_of trace) (under x r)) own mapped))
+    or_left (not x.entry.global && is_mapped scheme (words_of trace) x) _
+    (and_from (not x.entry.global) _ (not_from_false x.entry.global own.0) ((mapped_iff scheme (words_of trace) x).1 (subst (λ r. IsMapped scheme (words_of trace) (under x r)) own.1 mapped)))
 current-computed scheme trace x root (inr g) mapped =
-    or_right (is_mapped scheme (words_of trace) x) _
+    or_right (not x.entry.global && is_mapped scheme (words_of trace) x) _
     (and_from x.entry.global _ g.0 (passes-some (is_shared scheme trace x) root trace g.1 (and_from (is_root trace root) _ g.1 ((mapped_iff scheme (words_of trace) (under x root)).1 mapped))))
 
 pub current_iff : (scheme : Scheme) (trace : Trace) (x : Translation) → IsTrue (is_current scheme trace x) ↔ IsCurrent scheme trace x
 current_iff scheme trace x = (computed-current scheme trace x, (λ c. current-computed scheme trace x c.root c.counts c.mapped))
 
 -- stale
-abbrev pub is_stale : Scheme → Trace → ℕ → Translation → Bool
-is_stale scheme trace hart x = is_held scheme trace hart x && not (is_current scheme trace x)
 
 pub stale_iff : (scheme : Scheme) (trace : Trace) (hart : ℕ) (x : Translation) → IsTrue (is_stale scheme trace hart x) ↔ Stale scheme trace hart x
 stale_iff scheme trace hart x = (
@@ -199,8 +172,6 @@ stale_iff scheme trace hart x = (
 )
 
 -- verdicts
-abbrev pub shares : Frames → Entry → Bool
-shares frames e = nat_lt frames.first (e.ppn + pages_of e.page.size) && (nat_lt e.ppn (frames.first + frames.count) && nat_lt 0 frames.count)
 
 within : (a b : ℕ) → IsTrue (nat_lt a b) → a < b
 within a b h = grind (arith, nat_tests)
@@ -246,9 +217,6 @@ frame_shared frames e frame among of =
     and_from _ _ (from_within frames.first (e.ppn + pages_of e.page.size) (omega arith))
     (and_from _ _ (from_within e.ppn (frames.first + frames.count) (omega arith)) (from_within 0 frames.count (omega arith)))
 
-abbrev pub is_exposed : Scheme → Frames → Trace → ℕ → Translation → Bool
-is_exposed scheme frames trace hart x = shares frames x.entry && is_stale scheme trace hart x
-
 exposed_iff : (scheme : Scheme) (frames : Frames) (trace : Trace) (hart : ℕ) (x : Translation) → IsTrue (is_exposed scheme frames trace hart x) ↔ IsExposed scheme frames trace hart x
 exposed_iff scheme frames trace hart x = (
   (λ h.
@@ -258,30 +226,16 @@ exposed_iff scheme frames trace hart x = (
   (λ e. and_from _ _ (frame_shared frames x.entry e.frame e.among e.of_page) ((stale_iff scheme trace hart x).1 e.stale)),
 )
 
-abbrev pub is_stale_since : Scheme → (Record → Trace → Bool) → Trace → ℕ → Translation → Bool
-is_stale_since scheme happens [] hart x = false
-is_stale_since scheme happens (newest ∷ trace) hart x = is_stale scheme (newest ∷ trace) hart x && (happens newest trace || is_stale_since scheme happens trace hart x)
-
 stale_since_iff : (scheme : Scheme) (happens : Record → Trace → Bool) (Happens : Record → Trace → Type 0) → ((newest : Record) (before : Trace) → IsTrue (happens newest before) ↔ Happens newest before) → (trace : Trace) (hart : ℕ) (x : Translation)
     → IsTrue (is_stale_since scheme happens trace hart x) ↔ StaleSince scheme Happens trace hart x
 stale_since_iff scheme happens Happens same [] hart x = none_iff
 stale_since_iff scheme happens Happens same (newest ∷ trace) hart x =
     and_iff _ _ _ _ (stale_iff scheme (newest ∷ trace) hart x) (or_iff _ _ _ _ (same newest trace) (stale_since_iff scheme happens Happens same trace hart x))
 
-abbrev pub is_stale_since_claim : Scheme → ℕ → Trace → ℕ → Translation → Bool
-is_stale_since_claim scheme token trace hart x = is_stale_since scheme (λ newest before. begins_claim token newest) trace hart x
-
 since_claim_iff : (scheme : Scheme) (token : ℕ) (trace : Trace) (hart : ℕ) (x : Translation)
     → IsTrue (is_stale_since_claim scheme token trace hart x) ↔ StaleSince scheme (λ newest before. IsTrue (begins_claim token newest)) trace hart x
 since_claim_iff scheme token trace hart x =
     stale_since_iff scheme (λ newest before. begins_claim token newest) (λ newest before. IsTrue (begins_claim token newest)) (λ newest before. self_test (begins_claim token newest)) trace hart x
-
-abbrev pub is_broken_of : Scheme → Option Claim → ℕ → Trace → ℕ → Translation → Bool
-is_broken_of scheme None token trace hart x = false
-is_broken_of scheme (Some claim) token trace hart x = is_claimed claim x && is_stale_since_claim scheme token trace hart x
-
-abbrev pub is_broken : Scheme → ℕ → Trace → ℕ → Translation → Bool
-is_broken scheme token trace hart x = is_broken_of scheme (claim_of trace token) token trace hart x
 
 of-broken : (scheme : Scheme) (o : Option Claim) (token : ℕ) (trace : Trace) (hart : ℕ) (x : Translation) → claim_of trace token ≡ o → IsTrue (is_broken_of scheme o token trace hart x) → IsBroken scheme token trace hart x
 of-broken scheme None token trace hart x is h = cc
@@ -295,26 +249,14 @@ broken_iff scheme token trace hart x = (
   (λ b. ap (λ o. is_broken_of scheme o token trace hart x) b.begun ∙ and_from _ _ b.claimed ((since_claim_iff scheme token trace hart x).1 b.stale)),
 )
 
-abbrev pub takes : Scheme → Record → Trace → ℕ → Translation → Bool
-takes scheme (GiveBack of frames) trace hart x = is_exposed scheme frames trace hart x
-takes scheme (ClaimEnd of token) trace hart x = is_broken scheme token trace hart x
-takes scheme _ trace hart x = false
-
 takes_iff : (scheme : Scheme) (newest : Record) (trace : Trace) (hart : ℕ) (x : Translation) → IsTrue (takes scheme newest trace hart x) ↔ TakesForGone scheme newest trace hart x
 takes_iff scheme (GiveBack of frames) trace hart x = exposed_iff scheme frames trace hart x
 takes_iff scheme (ClaimEnd of token) trace hart x = broken_iff scheme token trace hart x
 takes_iff scheme _ trace hart x = none_iff
 
-abbrev pub is_taken : Scheme → Trace → ℕ → Translation → Bool
-is_taken scheme trace hart x = is_stale_since scheme (λ newest before. takes scheme newest before hart x) trace hart x
-
 taken_iff : (scheme : Scheme) (trace : Trace) (hart : ℕ) (x : Translation) → IsTrue (is_taken scheme trace hart x) ↔ TakenForGone scheme trace hart x
 taken_iff scheme trace hart x =
     stale_since_iff scheme (λ newest before. takes scheme newest before hart x) (λ newest before. TakesForGone scheme newest before hart x) (λ newest before. takes_iff scheme newest before hart x) trace hart x
-
-abbrev pub is_served_in : Option Space → ℕ → Translation → Bool
-is_served_in None address x = false
-is_served_in (Some space) address x = is_match space.asid address x.entry
 
 in-served : (o : Option Space) (trace : Trace) (hart address : ℕ) (x : Translation) → satp_of trace hart ≡ o → IsTrue (is_served_in o address x) → Serves trace hart address x
 in-served None trace hart address x is h = cc
@@ -325,28 +267,6 @@ served_iff trace hart address x = (
   in-served (satp_of trace hart) trace hart address x refl,
   (λ s. ap (λ o. is_served_in o address x) s.satp ∙ s.«match»),
 )
-
-abbrev pub is_free : Scheme → Record → Trace → ℕ → Translation → Bool
-is_free scheme (GiveBack of frames) trace hart x = is_exposed scheme frames trace hart x
-is_free scheme _ trace hart x = false
-
-abbrev pub is_reuse : Scheme → Record → Trace → ℕ → Translation → Bool
-is_reuse scheme (GiveOut of frames) trace hart x = is_exposed scheme frames trace hart x
-is_reuse scheme _ trace hart x = false
-
-abbrev pub is_claim : Scheme → Record → Trace → ℕ → Translation → Bool
-is_claim scheme (ClaimEnd of token) trace hart x = is_broken scheme token trace hart x
-is_claim scheme _ trace hart x = false
-
-abbrev pub is_use : Scheme → Record → Trace → ℕ → Translation → Bool
-is_use scheme (Use of address) trace hart x = (of == hart) && (is_taken scheme trace hart x && is_served_in (satp_of trace hart) address x)
-is_use scheme _ trace hart x = false
-
-abbrev pub has_verdict : Scheme → Verdict → Record → Trace → ℕ → Translation → Bool
-has_verdict scheme Free newest trace hart x = is_free scheme newest trace hart x
-has_verdict scheme Reuse newest trace hart x = is_reuse scheme newest trace hart x
-has_verdict scheme Claimed newest trace hart x = is_claim scheme newest trace hart x
-has_verdict scheme Used newest trace hart x = is_use scheme newest trace hart x
 
 free_iff : (scheme : Scheme) (newest : Record) (trace : Trace) (hart : ℕ) (x : Translation) → IsTrue (is_free scheme newest trace hart x) ↔ IsGiven scheme Free newest trace hart x
 free_iff scheme (GiveBack of frames) trace hart x = exposed_iff scheme frames trace hart x
@@ -377,19 +297,11 @@ verdict_iff scheme Claimed newest trace hart x = claim_iff scheme newest trace h
 verdict_iff scheme Used newest trace hart x = use_iff scheme newest trace hart x
 
 -- whether it is new
-abbrev pub has_held : Scheme → Verdict → Trace → ℕ → Translation → Bool
-has_held scheme verdict trace hart x = is_stale_since scheme (λ newest before. has_verdict scheme verdict newest before hart x) trace hart x
 
 pub has_held_iff : (scheme : Scheme) (verdict : Verdict) (trace : Trace) (hart : ℕ) (x : Translation) → IsTrue (has_held scheme verdict trace hart x) ↔ WasGiven scheme verdict trace hart x
 has_held_iff scheme verdict trace hart x =
     stale_since_iff scheme (λ newest before. has_verdict scheme verdict newest before hart x) (λ newest before. IsGiven scheme verdict newest before hart x)
     (λ newest before. verdict_iff scheme verdict newest before hart x) trace hart x
-
-abbrev pub is_new : Scheme → Verdict → Trace → ℕ → Translation → Bool
-is_new scheme Used trace hart x = true
-is_new scheme Free trace hart x = not (has_held scheme Free trace hart x)
-is_new scheme Reuse trace hart x = not (has_held scheme Reuse trace hart x)
-is_new scheme Claimed trace hart x = not (has_held scheme Claimed trace hart x)
 
 pub new_iff : (scheme : Scheme) (verdict : Verdict) (trace : Trace) (hart : ℕ) (x : Translation) → IsTrue (is_new scheme verdict trace hart x) ↔ IsNew scheme verdict trace hart x
 new_iff scheme Used trace hart x = ((λ h. tt), (λ u. refl))

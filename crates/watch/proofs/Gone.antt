@@ -5,51 +5,33 @@ use Rattle.std.specs.List.{AllPass, list_all}
 use Rattle.std.proofs.lemmas.Bool.{eq-eqb, and_parts, not-true, or_right, true≢false}
 use Rattle.std.proofs.lemmas.List.Sums.{list_all-from_AllPass}
 use Rattle.pte.specs.declared.scheme.Scheme.{Scheme}
-use Rattle.pte.specs.declared.flags.PteFlags.{PteFlags}
-use Rattle.walk.specs.Leads.{Tables}
 use Rattle.tlb.specs.declared.store.Entry.{Entry}
 use Rattle.watch.specs.declared.trace.Record.{Record}
 use Rattle.watch.specs.declared.trace.Record.TheVariants.{Satp, Fence, RemoteBegin, RemoteEnd, GiveOut}
 use Rattle.watch.specs.declared.trace.RemoteFence.{RemoteFence}
 use Rattle.watch.specs.declared.trace.Space.{Space}
-use Rattle.watch.specs.Trace.{Trace, has_root, is_root, is_root_after, stores, words_of, fence_of, satp_of, satp_after, writes_satp, has_written_satp}
+use Rattle.watch.specs.Trace.{Trace, has_root, is_root, is_root_after, is_used, stores, words_of, fence_of, satp_of, satp_after, writes_satp, has_written_satp}
 use Rattle.watch.specs.Holding.{Translation, HasLeaf, LiveSince, MayHold, names}
 use Rattle.watch.specs.Staleness.{Permit, IsMapped, IsRootFor, IsCurrent, Stale, Exposed, HasFencedAll}
 use Rattle.watch.proofs.Held.{words-kept}
 use Rattle.watch.proofs.Leaves.{same_leaf}
+use Rattle.watch.proofs.Roots.{live-current}
 
--- what the tables have is mapped
-pub Permit-same : (flags : PteFlags) → Permit flags flags
-Permit-same flags = record { user = refl; read = λ h. h; write = λ h. h; execute = λ h. h }
-
-leaf-mapped : (scheme : Scheme) (words : Tables) (x : Translation) → HasLeaf scheme words x.root x.entry → IsMapped scheme words x
-leaf-mapped scheme words x leaf = record { flags = x.entry.flags; permit = Permit-same x.entry.flags; leaf = leaf }
-
--- and current, be it under its own root or, of what is global, under that of another space
-pub mapped-current : (scheme : Scheme) (trace : Trace) (x : Translation) → IsMapped scheme (words_of trace) x → IsCurrent scheme trace x
-mapped-current scheme trace x mapped = record { root = x.root; counts = inl refl; mapped = mapped }
-
-pub leaf-current : (scheme : Scheme) (trace : Trace) (x : Translation) → HasLeaf scheme (words_of trace) x.root x.entry → IsCurrent scheme trace x
-leaf-current scheme trace x leaf = mapped-current scheme trace x (leaf-mapped scheme (words_of trace) x leaf)
-
-pub shared-current : (scheme : Scheme) (trace : Trace) (root : ℕ) (x : Translation) → IsTrue x.entry.global → IsTrue (is_root trace root) → HasLeaf scheme (words_of trace) root x.entry → IsCurrent scheme trace x
-shared-current scheme trace root x global of leaf = record {
-  root = root;
-  counts = inr (global, of);
-  mapped = leaf-mapped scheme (words_of trace) (record x { root = root }) leaf;
-}
+-- what is mapped under a root that counts for it is current
+pub mapped-current : (scheme : Scheme) (trace : Trace) (root : ℕ) (x : Translation) → IsRootFor trace x root → IsMapped scheme (words_of trace) (record x { root = root }) → IsCurrent scheme trace x
+mapped-current scheme trace root x counts mapped = record { root = root; counts = counts; mapped = mapped }
 
 -- a record that stores no word takes no root away
-root-kept : (newest : Record) (frame : ℕ) (old : Bool) → stores newest ≡ false → IsTrue old → IsTrue (is_root_after frame newest old)
-root-kept (Satp of space) frame old none is = or_right (has_root space frame) old is
-root-kept (GiveOut of frames) frame old none is = cc
-root-kept _ frame old none is = is
+root-kept : (newest : Record) (frame : ℕ) (used old : Bool) → stores newest ≡ false → IsTrue old → IsTrue (is_root_after frame newest used old)
+root-kept (Satp of space) frame used old none is = or_right (has_root space frame) old is
+root-kept (GiveOut of frames) frame used old none is = cc
+root-kept _ frame used old none is = is
 
 counts-kept : (newest : Record) (trace : Trace) (x : Translation) (root : ℕ) → stores newest ≡ false → IsRootFor trace x root → IsRootFor (newest ∷ trace) x root
 counts-kept newest trace x root none (inl own) = inl own
-counts-kept newest trace x root none (inr g) = inr (g.0, root-kept newest root (is_root trace root) none g.1)
+counts-kept newest trace x root none (inr g) = inr (g.0, root-kept newest root (is_used trace root) (is_root trace root) none g.1)
 
-current-kept : (scheme : Scheme) (newest : Record) (trace : Trace) (x : Translation) → stores newest ≡ false → IsCurrent scheme trace x → IsCurrent scheme (newest ∷ trace) x
+pub current-kept : (scheme : Scheme) (newest : Record) (trace : Trace) (x : Translation) → stores newest ≡ false → IsCurrent scheme trace x → IsCurrent scheme (newest ∷ trace) x
 current-kept scheme newest trace x none c = record {
   root = c.root;
   counts = counts-kept newest trace x c.root none c.counts;
@@ -60,7 +42,7 @@ current-kept scheme newest trace x none c = record {
 pub stale-held : (scheme : Scheme) (newest : Record) (trace : Trace) (hart : ℕ) (x : Translation) → Stale scheme (newest ∷ trace) hart x → MayHold scheme trace hart x
 stale-held scheme newest trace hart x stale =
     elim stale.held [
-      | inl live ↦ absurd (stale.gone (leaf-current scheme (newest ∷ trace) x live.leaf))
+      | inl live ↦ absurd (stale.gone (live-current scheme (newest ∷ trace) hart x live))
       | inr h ↦ h.0
     ]
 
@@ -86,7 +68,7 @@ changed-stale scheme trace hart x held differs = record {
 }
 
 own-root : (trace : Trace) (x : Translation) (root : ℕ) → x.entry.global ≡ false → IsRootFor trace x root → root ≡ x.root
-own-root trace x root local (inl own) = own
+own-root trace x root local (inl own) = own.1
 own-root trace x root local (inr g) = absurd (true≢false (sym g.0 ∙ local))
 
 pub own-stale : (scheme : Scheme) (trace : Trace) (hart : ℕ) (x : Translation) (now : Entry) → x.entry.global ≡ false → MayHold scheme trace hart x → HasLeaf scheme (words_of trace) x.root now → now.page ≡ x.entry.page
@@ -100,29 +82,21 @@ own-stale scheme trace hart x now local held leaf page differs = record {
       differs (same.ppn, subst (λ f. Permit f x.entry.flags) (sym same.flags) c.mapped.permit);
 }
 
--- where no word is stored, the memory stays
-pub memory-kept : (later earlier : Trace) → list_all (λ (r : Record). not (stores r)) later ≡ true → words_of (later ++ earlier) ≡ words_of earlier
-memory-kept [] earlier kept = refl
-memory-kept (newest ∷ later) earlier kept =
+-- after a fence of all and no store, what may be held is current
+all-current : (scheme : Scheme) (hart : ℕ) (earlier later : Trace) (x : Translation) → list_all (λ (r : Record). not (stores r)) later ≡ true → MayHold scheme (later ++ Fence hart None None ∷ earlier) hart x
+    → IsCurrent scheme (later ++ Fence hart None None ∷ earlier) x
+all-current scheme hart earlier [] x kept (inl live) = live-current scheme (Fence hart None None ∷ earlier) hart x live
+all-current scheme hart earlier [] x kept (inr h) = absurd (h.1 (refl, refl))
+all-current scheme hart earlier (newest ∷ later) x kept (inl live) = live-current scheme (newest ∷ later ++ Fence hart None None ∷ earlier) hart x live
+all-current scheme hart earlier (newest ∷ later) x kept (inr h) =
     let parts = and_parts (not (stores newest)) (list_all (λ (r : Record). not (stores r)) later) kept in
-    words-kept newest (words_of (later ++ earlier)) (not-true (stores newest) parts.0) ∙ memory-kept later earlier parts.1
-
--- after a fence of all and no store, what may be held is mapped
-all-mapped : (scheme : Scheme) (hart : ℕ) (earlier later : Trace) (x : Translation) → list_all (λ (r : Record). not (stores r)) later ≡ true → MayHold scheme (later ++ Fence hart None None ∷ earlier) hart x
-    → HasLeaf scheme (words_of (later ++ Fence hart None None ∷ earlier)) x.root x.entry
-all-mapped scheme hart earlier [] x kept (inl live) = live.leaf
-all-mapped scheme hart earlier [] x kept (inr h) = absurd (h.1 (refl, refl))
-all-mapped scheme hart earlier (newest ∷ later) x kept (inl live) = live.leaf
-all-mapped scheme hart earlier (newest ∷ later) x kept (inr h) =
-    let parts = and_parts (not (stores newest)) (list_all (λ (r : Record). not (stores r)) later) kept in
-    subst (λ w. HasLeaf scheme w x.root x.entry) (sym (words-kept newest (words_of (later ++ Fence hart None None ∷ earlier)) (not-true (stores newest) parts.0)))
-    (all-mapped scheme hart earlier later x parts.1 h.0)
+    current-kept scheme newest (later ++ Fence hart None None ∷ earlier) x (not-true (stores newest) parts.0) (all-current scheme hart earlier later x parts.1 h.0)
 
 pub nothing_stale : (scheme : Scheme) (trace : Trace) (hart : ℕ) (x : Translation) → HasFencedAll trace hart → ¬ Stale scheme trace hart x
 nothing_stale scheme trace hart x fenced stale =
     let there : MayHold scheme (fenced.later ++ Fence hart None None ∷ fenced.earlier) hart x = subst (λ t. MayHold scheme t hart x) fenced.split stale.held in
-    let leaf = all-mapped scheme hart fenced.earlier fenced.later x (list_all-from_AllPass (λ (r : Record). not (stores r)) fenced.later fenced.kept) there in
-    stale.gone (leaf-current scheme trace x (subst (λ t. HasLeaf scheme (words_of t) x.root x.entry) (sym fenced.split) leaf))
+    let current = all-current scheme hart fenced.earlier fenced.later x (list_all-from_AllPass (λ (r : Record). not (stores r)) fenced.later fenced.kept) there in
+    stale.gone (subst (λ t. IsCurrent scheme t x) (sym fenced.split) current)
 
 -- a hart that has not written satp holds nothing
 kept-none : (newest : Record) (hart : ℕ) (old : Option Space) → writes_satp hart newest ≡ false → old ≡ None → satp_after hart newest old ≡ None
@@ -140,8 +114,8 @@ no_satp (newest ∷ trace) hart none =
     kept-none newest hart (satp_of trace hart) parts.0 (no_satp trace hart parts.1)
 
 pub nothing_held : (scheme : Scheme) (trace : Trace) (hart : ℕ) (x : Translation) → has_written_satp trace hart ≡ false → ¬ MayHold scheme trace hart x
-nothing_held scheme [] hart x none live = let e = live.space in cc
-nothing_held scheme (newest ∷ trace) hart x none (inl live) = let e = live.space in let n = no_satp (newest ∷ trace) hart none in cc
+nothing_held scheme [] hart x none live = let e = live.satp in cc
+nothing_held scheme (newest ∷ trace) hart x none (inl live) = let e = live.satp in let n = no_satp (newest ∷ trace) hart none in cc
 nothing_held scheme (newest ∷ trace) hart x none (inr h) = nothing_held scheme trace hart x (or_false (writes_satp hart newest) (has_written_satp trace hart) none).1 h.0
 
 each-fenced : (scheme : Scheme) (trace : Trace) (hart : ℕ) (x : Translation) → (written : Bool) → has_written_satp trace hart ≡ written → (written ≡ true → HasFencedAll trace hart) → ¬ Stale scheme trace hart x
@@ -156,21 +130,21 @@ pub nothing_exposed : (scheme : Scheme) (trace : Trace) → ((hart : ℕ) → ha
 nothing_exposed scheme trace fenced hart frame e = none_stale scheme trace fenced hart e.translation e.stale
 
 -- a remote fence of all with no store since it began leaves nothing stale either
-since-mapped : (scheme : Scheme) (by token : ℕ) (fence : RemoteFence) (hart : ℕ) (x : Translation) (earlier during : Trace) → list_all (λ (r : Record). not (stores r)) during ≡ true
-    → LiveSince scheme token (during ++ RemoteBegin by token fence ∷ earlier) hart x → HasLeaf scheme (words_of earlier) x.root x.entry
-since-mapped scheme by token fence hart x earlier [] kept (inl live) = live.leaf
-since-mapped scheme by token fence hart x earlier [] kept (inr h) = let e = eq-eqb token token refl in let n = h.0 in cc
-since-mapped scheme by token fence hart x earlier (newest ∷ during) kept (inl live) =
-    subst (λ w. HasLeaf scheme w x.root x.entry) (memory-kept (newest ∷ during) (RemoteBegin by token fence ∷ earlier) kept) live.leaf
-since-mapped scheme by token fence hart x earlier (newest ∷ during) kept (inr h) =
-    since-mapped scheme by token fence hart x earlier during (and_parts (not (stores newest)) (list_all (λ (r : Record). not (stores r)) during) kept).1 h.1
+since-current : (scheme : Scheme) (by token : ℕ) (fence : RemoteFence) (hart : ℕ) (x : Translation) (earlier during : Trace) → list_all (λ (r : Record). not (stores r)) during ≡ true
+    → LiveSince scheme token (during ++ RemoteBegin by token fence ∷ earlier) hart x → IsCurrent scheme (during ++ RemoteBegin by token fence ∷ earlier) x
+since-current scheme by token fence hart x earlier [] kept (inl live) = live-current scheme (RemoteBegin by token fence ∷ earlier) hart x live
+since-current scheme by token fence hart x earlier [] kept (inr h) = let e = eq-eqb token token refl in let n = h.0 in cc
+since-current scheme by token fence hart x earlier (newest ∷ during) kept (inl live) = live-current scheme (newest ∷ during ++ RemoteBegin by token fence ∷ earlier) hart x live
+since-current scheme by token fence hart x earlier (newest ∷ during) kept (inr h) =
+    let parts = and_parts (not (stores newest)) (list_all (λ (r : Record). not (stores r)) during) kept in
+    current-kept scheme newest (during ++ RemoteBegin by token fence ∷ earlier) x (not-true (stores newest) parts.0) (since-current scheme by token fence hart x earlier during parts.1 h.1)
 
 pub remote_nothing_stale : (scheme : Scheme) (by ender token : ℕ) (fence : RemoteFence) (hart : ℕ) (x : Translation) (earlier during : Trace) → fence_of (during ++ RemoteBegin by token fence ∷ earlier) token ≡ Some fence
     → fence.range ≡ None → fence.asid ≡ None → IsTrue (names fence hart) → AllPass (λ (r : Record). not (stores r)) during → ¬ Stale scheme (RemoteEnd ender token ∷ during ++ RemoteBegin by token fence ∷ earlier) hart x
 remote_nothing_stale scheme by ender token fence hart x earlier during begun everywhere every named kept stale =
     let flat = list_all-from_AllPass (λ (r : Record). not (stores r)) during kept in
     elim stale.held [
-      | inl live ↦ stale.gone (leaf-current scheme _ x live.leaf)
+      | inl live ↦ stale.gone (live-current scheme _ hart x live)
       | inr h ↦
           h.1 (record {
             fence = fence;
@@ -178,7 +152,6 @@ remote_nothing_stale scheme by ender token fence hart x earlier during begun eve
             named = named;
             covered = rw (everywhere, every) refl;
             not_live = λ since.
-                stale.gone (leaf-current scheme _ x
-                (subst (λ w. HasLeaf scheme w x.root x.entry) (sym (memory-kept during (RemoteBegin by token fence ∷ earlier) flat)) (since-mapped scheme by token fence hart x earlier during flat since)));
+                stale.gone (current-kept scheme (RemoteEnd ender token) (during ++ RemoteBegin by token fence ∷ earlier) x refl (since-current scheme by token fence hart x earlier during flat since));
           })
     ]

@@ -60,8 +60,10 @@ not_taken scheme newest trace hart x none held = inr (held, no-fence_no-drop sch
 -- a record of another hart that stores no word adds nothing
 pub live-before : (scheme : Scheme) (newest : Record) (trace : Trace) (hart : ℕ) (x : Translation) → (hart_of newest ≡ hart → ⊥) → stores newest ≡ false → Live scheme (newest ∷ trace) hart x → Live scheme trace hart x
 live-before scheme newest trace hart x other none live = record {
-  space = sym (satp-kept newest hart (satp_of trace hart) other) ∙ live.space;
-  leaf = subst (λ w. HasLeaf scheme w x.root x.entry) (words-kept newest (words_of trace) none) live.leaf;
+  space = live.space;
+  satp = sym (satp-kept newest hart (satp_of trace hart) other) ∙ live.satp;
+  belongs = live.belongs;
+  leaf = subst (λ w. HasLeaf scheme w live.space.root x.entry) (words-kept newest (words_of trace) none) live.leaf;
 }
 
 pub nothing_added : (scheme : Scheme) (newest : Record) (trace : Trace) (hart : ℕ) (x : Translation) → (hart_of newest ≡ hart → ⊥) → stores newest ≡ false → MayHold scheme (newest ∷ trace) hart x → MayHold scheme trace hart x

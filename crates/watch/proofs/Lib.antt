@@ -1,8 +1,11 @@
 pub mod Held
 pub mod Leaves
+pub mod Roots
+pub mod Global
 pub mod Gone
 pub mod Fenced
 pub mod Judged
 pub mod Computed
 pub mod ComputedTraces
+pub mod GlobalTests
 pub mod WorkedAnswers

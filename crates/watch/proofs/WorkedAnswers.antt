@@ -13,7 +13,8 @@ use Rattle.watch.specs.Staleness.{HasFencedAll}
 use Rattle.watch.specs.WorkedTraces.{IsHeldMapped, IsFirst, IsHeldStale, IsNotHeld, IsRepeated, IsSilent, Warns, trace_of}
 use Rattle.watch.specs.WorkedTraces as worked
 use Rattle.watch.proofs.Computed.{false_iff}
-use Rattle.watch.proofs.ComputedTraces.{has_verdict, held_iff, is_held, is_new, is_stale, new_iff, stale_iff, verdict_iff}
+use Rattle.watch.specs.ComputedTraces.{has_verdict, is_held, is_new, is_stale}
+use Rattle.watch.proofs.ComputedTraces.{held_iff, new_iff, stale_iff, verdict_iff}
 use Rattle.watch.proofs.Gone.{none_stale}
 use Rattle.watch.proofs.Judged.{verdict-stale}
 
@@ -196,6 +197,54 @@ pub root_of_page_given_out : worked.root_of_page_given_out
 unfolding kind_of
 root_of_page_given_out = stale _ _ _ refl
 
+pub used_root_given_out : worked.used_root_given_out
+unfolding kind_of
+used_root_given_out = mapped _ _ _ refl refl
+
+pub filled_from_used_root : worked.filled_from_used_root
+unfolding kind_of
+filled_from_used_root = mapped _ _ _ refl refl
+
+pub unused_root_given_out : worked.unused_root_given_out
+unfolding kind_of
+unused_root_given_out = stale _ _ _ refl
+
+pub own_root_given_out : worked.own_root_given_out
+unfolding kind_of
+own_root_given_out = stale _ _ _ refl
+
+pub unmapped_in_one_space : worked.unmapped_in_one_space
+unfolding kind_of
+unmapped_in_one_space = mapped _ _ _ refl refl
+
+pub unmapped_in_both_spaces : worked.unmapped_in_both_spaces
+unfolding kind_of
+unmapped_in_both_spaces = stale _ _ _ refl
+
+pub global_filled_in_other_space : worked.global_filled_in_other_space
+unfolding kind_of
+global_filled_in_other_space = mapped _ _ _ refl refl
+
+pub global_dropped_in_other_space : worked.global_dropped_in_other_space
+unfolding kind_of
+global_dropped_in_other_space = not_held _ _ _ refl
+
+pub global_of_no_root : worked.global_of_no_root
+unfolding kind_of
+global_of_no_root = mapped _ _ _ refl refl
+
+pub page_of_no_root : worked.page_of_no_root
+unfolding kind_of
+page_of_no_root = not_held _ _ _ refl
+
+pub global_after_fences_with_asid : worked.global_after_fences_with_asid
+unfolding kind_of
+global_after_fences_with_asid = mapped _ _ _ refl refl
+
+pub page_after_fence_with_asid : worked.page_after_fence_with_asid
+unfolding kind_of
+page_after_fence_with_asid = not_held _ _ _ refl
+
 pub entered_late : worked.entered_late
 unfolding kind_of
 entered_late = not_held _ _ _ refl
@@ -248,6 +297,10 @@ pub used_elsewhere : worked.used_elsewhere
 unfolding kind_of
 used_elsewhere = silent _ _ _ _ _ refl
 
+pub global_used_elsewhere : worked.global_used_elsewhere
+unfolding kind_of
+global_used_elsewhere = warned _ _ _ _ _ refl
+
 pub used_beside : worked.used_beside
 unfolding kind_of
 used_beside = silent _ _ _ _ _ refl
@@ -264,4 +317,4 @@ pub freed_after_mapped_again : worked.freed_after_mapped_again
 unfolding kind_of
 freed_after_mapped_again = first _ _ _ _ refl
 
-pub ruleset worked_traces = (freed_for_the_first_time, freed_once_more, freed_after_mapped_again, freed_before_fence, freed_after_own_fence, freed_after_fence, freed_after_full_fences, other_frame_freed, freed_after_fence_elsewhere, freed_after_fence_of_other_asid, freed_after_early_fence, freed_after_remote_fence, freed_within_remote_fence, freed_after_early_remote_fence, freed_after_fence_of_others, freed_after_fill_within_fence, freed_after_leaving, freed_after_leaving_and_fence, superpage_freed, superpage_freed_after_fence, global_freed_after_fence_with_asid, global_freed_after_fence, rights_lost, rights_gained, unmapped, mapped_again, mapped_elsewhere, pointer_cleared, table_given_out, root_given_out, unmapped_after_root, both_roots_given_out, root_of_page_given_out, entered_late, reused_before_fence, reused_after_fence, claimed_with_no_fence, claimed_with_fence, claimed_before_store, claimed_of_other_root, claimed_after_protection, used_after_free, used_after_claim, used_after_fence, used_before_free, used_elsewhere, used_beside)
+pub ruleset worked_traces = (freed_for_the_first_time, freed_once_more, freed_after_mapped_again, freed_before_fence, freed_after_own_fence, freed_after_fence, freed_after_full_fences, other_frame_freed, freed_after_fence_elsewhere, freed_after_fence_of_other_asid, freed_after_early_fence, freed_after_remote_fence, freed_within_remote_fence, freed_after_early_remote_fence, freed_after_fence_of_others, freed_after_fill_within_fence, freed_after_leaving, freed_after_leaving_and_fence, superpage_freed, superpage_freed_after_fence, global_freed_after_fence_with_asid, global_freed_after_fence, rights_lost, rights_gained, unmapped, mapped_again, mapped_elsewhere, pointer_cleared, table_given_out, root_given_out, unmapped_after_root, both_roots_given_out, root_of_page_given_out, used_root_given_out, filled_from_used_root, unused_root_given_out, own_root_given_out, unmapped_in_one_space, unmapped_in_both_spaces, global_filled_in_other_space, global_dropped_in_other_space, global_of_no_root, page_of_no_root, global_after_fences_with_asid, page_after_fence_with_asid, global_used_elsewhere, entered_late, reused_before_fence, reused_after_fence, claimed_with_no_fence, claimed_with_fence, claimed_before_store, claimed_of_other_root, claimed_after_protection, used_after_free, used_after_claim, used_after_fence, used_before_free, used_elsewhere, used_beside)

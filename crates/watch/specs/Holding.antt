@@ -14,9 +14,11 @@ use Rattle.watch.specs.declared.trace.Record.{Record}
 use Rattle.watch.specs.declared.trace.Record.TheVariants.{Fence, RemoteEnd}
 use Rattle.watch.specs.declared.trace.AddressRange.{AddressRange}
 use Rattle.watch.specs.declared.trace.RemoteFence.{RemoteFence}
+use Rattle.watch.specs.declared.trace.Space.{Space}
 use Rattle.watch.specs.Trace.{Trace, words_of, satp_of, fence_of, begins_fence}
 
--- a translation: the entry of a TLB, and the root whose tables it came from
+-- a translation: the entry of a TLB, and the root whose tables it came from. Of what is global
+-- neither the root nor the ASID says anything
 pub record Translation : Type 0 where
   pub root : ℕ
   pub entry : Entry
@@ -33,10 +35,18 @@ pub record HasLeaf (scheme : Scheme) (words : Tables) (root : ℕ) (e : Entry) :
   pub aligned : e.ppn % pages_of e.page.size ≡ 0
   pub global : IsTrue e.global ↔ IsGlobalAt scheme words root e.page.base (level_of e.page.size)
 
--- the hart can fill the entry now: its satp has the root and the ASID, and the tables have the leaf
+-- the translation is of the address space: it came from its root and has its ASID or, where it is
+-- global, it is of all, whatever its root and its ASID (4.3.1, G)
+abbrev pub BelongsTo : Space → Translation → Type 0
+BelongsTo space x = IsTrue x.entry.global ⊎ (space ≡ record { root = x.root; asid = x.entry.asid })
+
+-- the hart can fill the entry now: it is of the address space in the hart's satp, and the tables of
+-- that space have the leaf
 pub record Live (scheme : Scheme) (trace : Trace) (hart : ℕ) (x : Translation) : Type 0 where
-  pub space : satp_of trace hart ≡ Some (record { root = x.root; asid = x.entry.asid })
-  pub leaf : HasLeaf scheme (words_of trace) x.root x.entry
+  pub space : Space
+  pub satp : satp_of trace hart ≡ Some space
+  pub belongs : BelongsTo space x
+  pub leaf : HasLeaf scheme (words_of trace) space.root x.entry
 
 -- some address of the range lies in the page
 abbrev pub reaches : Option AddressRange → Span → Bool

@@ -1,6 +1,7 @@
 -- Which of the translations that a hart may hold are stale: the tables no longer give them
 -- (privileged manual 4.2.1).
-use Rattle.std.specs.Prelude.{ℕ, Bool, ◌≡◌, ◌+◌, ◌&&◌, ◌⊎◌, ◌++◌, ◌∷◌, nat_le, nat_lt, not, None, IsTrue}
+use Rattle.std.specs.Prelude.{ℕ, Bool, false, ◌≡◌, ◌+◌, ◌&&◌, ◌⊎◌, ◌++◌, ◌∷◌, nat_le, nat_lt, not}
+use Rattle.std.specs.Prelude.{None, IsTrue}
 use Rattle.std.specs.List.{AllPass}
 use Rattle.pte.specs.declared.scheme.Scheme.{Scheme}
 use Rattle.pte.specs.declared.flags.PteFlags.{PteFlags}
@@ -29,7 +30,9 @@ pub record IsMapped (scheme : Scheme) (words : Tables) (x : Translation) : Type 
 -- the tables of the root count for the translation: the root is its own or, where it is global, that
 -- of any address space, since what is global is in all of them (4.3.1, G)
 abbrev pub IsRootFor : Trace → Translation → ℕ → Type 0
-IsRootFor trace x root = (root ≡ x.root) ⊎ (IsTrue x.entry.global × IsTrue (is_root trace root))
+IsRootFor trace x root =
+    ((x.entry.global ≡ false) × (root ≡ x.root))
+    ⊎ (IsTrue x.entry.global × IsTrue (is_root trace root))
 
 -- the tables of such a root have it now
 pub record IsCurrent (scheme : Scheme) (trace : Trace) (x : Translation) : Type 0 where

@@ -2,6 +2,7 @@
 -- under a token. A trace is a list of records, the newest first.
 use Rattle.std.specs.Prelude.{ℕ, Bool, true, false, ◌+◌, ◌/◌, ◌%◌, ◌==◌, ◌&&◌, ◌||◌, not, if◌then◌else◌}
 use Rattle.std.specs.Prelude.{nat_le, nat_lt, List, [], ◌∷◌, Option, Some, None}
+use Rattle.std.specs.List.{list_any}
 use Rattle.pte.specs.declared.address.PageSize.TheVariants.{Kib4}
 use Rattle.pte.specs.Address.{bytes_of}
 use Rattle.walk.specs.Leads.{Tables}
@@ -64,20 +65,26 @@ abbrev pub satp_of : Trace → ℕ → Option Space
 satp_of [] hart = None
 satp_of (newest ∷ trace) hart = satp_after hart newest (satp_of trace hart)
 
--- the frame is the root table of an address space: it was written to a satp, and has not been given
--- out since
+-- the frame is the root table of the address space
 abbrev pub has_root : Option Space → ℕ → Bool
 has_root None frame = false
 has_root (Some space) frame = space.root == frame
 
-abbrev pub is_root_after : ℕ → Record → Bool → Bool
-is_root_after frame (Satp hart space) old = has_root space frame || old
-is_root_after frame (GiveOut hart frames) old = not (is_among frames frame) && old
-is_root_after frame _ old = old
+-- some hart's satp has the frame as its root
+abbrev pub is_used : Trace → ℕ → Bool
+is_used trace frame = list_any (λ made. has_root (satp_of trace (hart_of made)) frame) trace
+
+-- the frame is the root table of an address space: it was written to a satp, and has not been given
+-- out since while no hart's satp had it
+abbrev pub is_root_after : ℕ → Record → Bool → Bool → Bool
+is_root_after frame (Satp hart space) used old = has_root space frame || old
+is_root_after frame (GiveOut hart frames) used old = (not (is_among frames frame) || used) && old
+is_root_after frame _ used old = old
 
 abbrev pub is_root : Trace → ℕ → Bool
 is_root [] frame = false
-is_root (newest ∷ trace) frame = is_root_after frame newest (is_root trace frame)
+is_root (newest ∷ trace) frame =
+    is_root_after frame newest (is_used trace frame) (is_root trace frame)
 
 -- the remote fence that has begun under a token and not ended
 abbrev pub fence_after : ℕ → Record → Option RemoteFence → Option RemoteFence

@@ -83,6 +83,13 @@ pointers =
     Store 0 0x80000000 (table_word 0x80001 false) ∷ Store 0 0x80001000 (table_word 0x80002 false)
     ∷ []
 
+abbrev pub first_pointer_cleared : Record
+first_pointer_cleared = Store 0 0x80000000 0
+
+-- of a pointer from the second root to the same table
+abbrev pub second_pointer : Record
+second_pointer = Store 0 0x80010000 (table_word 0x80001 false)
+
 abbrev pub leaf_stored : ℕ → PteFlags → Record
 leaf_stored ppn given = Store 0 0x80002008 (leaf_word ppn given)
 
@@ -294,31 +301,91 @@ pointer_cleared = IsHeldStale (mapped ++ Store 0 0x80001000 0 ∷ []) 1 (page wr
 abbrev pub table_given_out : Type 0
 table_given_out = IsHeldStale (mapped ++ given_out 0x80002 ∷ []) 1 (page writable)
 
--- the kernel's table stands under both roots. A hart left the first space, and its root's frame is
--- given out: what is global is not stale, since the second space has it, until the kernel unmaps it,
--- or the second root is given out too; and what is not global is stale at once
+-- the kernel's table stands under both roots; hart 0 is in the first space, hart 1 in the second
 abbrev pub shared_mapped : List Record
-shared_mapped =
-    Store 0 0x80010000 (table_word 0x80001 false) ∷ global_mapped ++ Satp 1 second_space ∷ []
+shared_mapped = second_pointer ∷ global_mapped ++ Satp 1 second_space ∷ []
+
+-- hart 0 leaves the first space, and its root's frame is given out: what is global is not stale,
+-- since the second space has it, until the kernel unmaps it, or the second root is given out too;
+-- and what is not global is stale at once
+abbrev pub first_root_given_out : List Record
+first_root_given_out = shared_mapped ++ Satp 0 None ∷ given_out 0x80000 ∷ []
 
 abbrev pub root_given_out : Type 0
-root_given_out = IsHeldMapped (shared_mapped ++ given_out 0x80000 ∷ []) 1 global_page
+root_given_out = IsHeldMapped first_root_given_out 1 global_page
 
 abbrev pub unmapped_after_root : Type 0
-unmapped_after_root =
-    IsHeldStale (shared_mapped ++ given_out 0x80000 ∷ leaf_cleared ∷ []) 1 global_page
+unmapped_after_root = IsHeldStale (first_root_given_out ++ leaf_cleared ∷ []) 1 global_page
 
 abbrev pub both_roots_given_out : Type 0
 both_roots_given_out =
-    IsHeldStale (shared_mapped ++ given_out 0x80000 ∷ Satp 1 None ∷ given_out 0x80010 ∷ []) 1
-    global_page
+    IsHeldStale (first_root_given_out ++ Satp 1 None ∷ given_out 0x80010 ∷ []) 1 global_page
 
 abbrev pub root_of_page_given_out : Type 0
 root_of_page_given_out =
     IsHeldStale
-    (Store 0 0x80010000 (table_word 0x80001 false) ∷ mapped
-    ++ Satp 1 second_space ∷ given_out 0x80000 ∷ [])
+    (second_pointer ∷ mapped
+    ++ Satp 0 None ∷ Satp 1 second_space ∷ given_out 0x80000 ∷ [])
     1 (page writable)
+
+-- the second root is given out while hart 1 is in its space, and its pointer is stored again: it is
+-- a root still, also for hart 0, whose own space loses the page; had hart 1 left, it would be none,
+-- even for what was filled from it
+abbrev pub only_second_again : List Record
+only_second_again = given_out 0x80010 ∷ second_pointer ∷ first_pointer_cleared ∷ []
+
+abbrev pub used_root_given_out : Type 0
+used_root_given_out = IsHeldMapped (shared_mapped ++ only_second_again) 0 global_page
+
+abbrev pub filled_from_used_root : Type 0
+filled_from_used_root =
+    IsHeldMapped (shared_mapped ++ only_second_again ++ full_fence 1 ∷ []) 1 global_page
+
+abbrev pub unused_root_given_out : Type 0
+unused_root_given_out =
+    IsHeldStale (shared_mapped ++ Satp 1 None ∷ only_second_again) 0 global_page
+
+abbrev pub own_root_given_out : Type 0
+own_root_given_out =
+    IsHeldStale (shared_mapped ++ Satp 1 None ∷ only_second_again) 0
+    (record global_page { root = 0x80010 })
+
+-- what is global is mapped as long as one of the spaces has it
+abbrev pub unmapped_in_one_space : Type 0
+unmapped_in_one_space = IsHeldMapped (shared_mapped ++ first_pointer_cleared ∷ []) 0 global_page
+
+abbrev pub unmapped_in_both_spaces : Type 0
+unmapped_in_both_spaces =
+    IsHeldStale (shared_mapped ++ first_pointer_cleared ∷ Store 0 0x80010000 0 ∷ []) 0 global_page
+
+-- a hart fills it in each space that has it, whatever its root and its ASID; a full fence drops it
+-- where the hart's space has it not, though it is mapped in another
+abbrev pub global_filled_in_other_space : Type 0
+global_filled_in_other_space = IsHeldMapped (shared_mapped ++ full_fence 1 ∷ []) 1 global_page
+
+abbrev pub global_dropped_in_other_space : Type 0
+global_dropped_in_other_space =
+    IsNotHeld (global_mapped ++ Satp 1 second_space ∷ full_fence 1 ∷ []) 1 global_page
+
+abbrev pub global_of_no_root : Type 0
+global_of_no_root =
+    IsHeldMapped global_mapped 1
+    (record { root = 0; entry = record global_page.entry { asid = 0 } })
+
+abbrev pub page_of_no_root : Type 0
+page_of_no_root = IsNotHeld mapped 1 (record (page writable) { root = 0 })
+
+-- fences with an ASID leave what is global, with its own ASID and with that of the hart's space; they
+-- drop what is not
+abbrev pub global_after_fences_with_asid : Type 0
+global_after_fences_with_asid =
+    IsHeldMapped
+    (global_mapped ++ Satp 1 second_space ∷ Fence 1 None (Some 1) ∷ Fence 1 None (Some 2) ∷ []) 1
+    global_page
+
+abbrev pub page_after_fence_with_asid : Type 0
+page_after_fence_with_asid =
+    IsNotHeld (mapped ++ Satp 1 second_space ∷ Fence 1 None (Some 1) ∷ []) 1 (page writable)
 
 -- a hart that comes into the space after the page is unmapped holds nothing of it
 abbrev pub entered_late : Type 0
@@ -380,7 +447,7 @@ claimed_after_protection =
     (page writable)
 
 -- hart 1 uses the page: after the frame was given back, after a flush returned; with a fence in
--- between; before either, as it may; in another space
+-- between; before either, as it may; in another space, where it uses what is global
 abbrev pub used_after_free : Type 0
 used_after_free =
     Warns (mapped ++ leaf_cleared ∷ given_back 0x100 ∷ []) (Use 1 0x1ABC) Used 1 (page writable)
@@ -403,6 +470,11 @@ abbrev pub used_elsewhere : Type 0
 used_elsewhere =
     IsSilent (mapped ++ leaf_cleared ∷ given_back 0x100 ∷ Satp 1 second_space ∷ []) (Use 1 0x1ABC)
     Used 1 (page writable)
+
+abbrev pub global_used_elsewhere : Type 0
+global_used_elsewhere =
+    Warns (global_mapped ++ leaf_cleared ∷ given_back 0x100 ∷ Satp 1 second_space ∷ [])
+    (Use 1 0x1ABC) Used 1 global_page
 
 abbrev pub used_beside : Type 0
 used_beside =

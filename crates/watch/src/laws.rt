@@ -17,16 +17,18 @@ ghost use Rattle.tlb.specs.declared.store.Entry.{Entry};
 ghost use Rattle.tlb.specs.Answer.{entry_of};
 ghost use Rattle.tlb.specs.Fence.{is_fenced};
 ghost use Rattle.watch.specs.declared.trace.AddressRange.{AddressRange};
+ghost use Rattle.watch.specs.declared.trace.Frames.{Frames};
 ghost use Rattle.watch.specs.declared.trace.Record.{Record};
 ghost use Rattle.watch.specs.declared.trace.Record.TheVariants as records;
 ghost use Rattle.watch.specs.declared.trace.RemoteFence.{RemoteFence};
 ghost use Rattle.watch.specs.declared.trace.Space.{Space};
 ghost use Rattle.watch.specs.declared.trace.Verdict.{Verdict};
 ghost use Rattle.watch.specs.declared.trace.Verdict.TheVariants.{Claimed, Free};
-ghost use Rattle.watch.specs.Trace.{Trace, fence_of, hart_of, has_written_satp, is_root, stores, words_of};
+ghost use Rattle.watch.specs.Trace.{Trace, fence_of, hart_of, has_written_satp, is_among, is_root};
+ghost use Rattle.watch.specs.Trace.{satp_of, stores, words_of};
 ghost use Rattle.watch.specs.Holding.{Drops, HasLeaf, HeldSince, Live, LiveSince, MayHold};
 ghost use Rattle.watch.specs.Holding.{Translation, is_covered, is_fence_for, names};
-ghost use Rattle.watch.specs.Staleness.{Exposed, HasFencedAll, IsRootFor, Permit, Stale};
+ghost use Rattle.watch.specs.Staleness.{Exposed, HasFencedAll, IsCurrent, IsRootFor, Permit, Stale};
 ghost use Rattle.watch.specs.Verdicts.{WasGiven, IsGiven, IsGivenAt, IsNew, TakenForGone};
 
 /// What a walk finds is a leaf that the tables have, and it maps each page of 4 KiB of its page; a
@@ -144,15 +146,57 @@ pub fn only_stores_make_stale()
 pub fn what_is_mapped_is_not_stale()
     ensures live { (scheme : Scheme) (trace : Trace) (hart : ℕ) (x : Translation)
         → Live scheme trace hart x → ¬ Stale scheme trace hart x }
-    ensures again { (scheme : Scheme) (trace : Trace) (hart : ℕ) (x : Translation)
-        → HasLeaf scheme (words_of trace) x.root x.entry → ¬ Stale scheme trace hart x }
-    ensures gained { (scheme : Scheme) (trace : Trace) (hart : ℕ) (x : Translation)
-        (flags : PteFlags) → Permit flags x.entry.flags
-        → HasLeaf scheme (words_of trace) x.root (record x.entry { flags = flags })
+    ensures again { (scheme : Scheme) (trace : Trace) (hart root : ℕ) (x : Translation)
+        → IsRootFor trace x root → HasLeaf scheme (words_of trace) root x.entry
+        → ¬ Stale scheme trace hart x }
+    ensures gained { (scheme : Scheme) (trace : Trace) (hart root : ℕ) (x : Translation)
+        (flags : PteFlags) → IsRootFor trace x root → Permit flags x.entry.flags
+        → HasLeaf scheme (words_of trace) root (record x.entry { flags = flags })
         → ¬ Stale scheme trace hart x }
     ensures shared { (scheme : Scheme) (trace : Trace) (hart root : ℕ) (x : Translation)
         → IsTrue x.entry.global → IsTrue (is_root trace root)
         → HasLeaf scheme (words_of trace) root x.entry → ¬ Stale scheme trace hart x }
+{}
+
+/// The root in a hart's satp is the root of an address space, and of the frames that are given out
+/// just those stay roots that a satp has; so what a hart can fill is current.
+pub fn root_in_satp_is_a_root()
+    ensures satp { (trace : Trace) (hart : ℕ) (space : Space) → satp_of trace hart ≡ Some space
+        → IsTrue (is_root trace space.root) }
+    ensures given_out { (by : ℕ) (frames : Frames) (trace : Trace) (frame : ℕ)
+        → IsTrue (is_among frames frame)
+        → IsTrue (is_root (records.GiveOut by frames ∷ trace) frame)
+        ↔ ((hart : ℕ) × (space : Space) × (satp_of trace hart ≡ Some space)
+        × (space.root ≡ frame)) }
+    ensures current { (scheme : Scheme) (trace : Trace) (hart : ℕ) (x : Translation)
+        → Live scheme trace hart x → IsCurrent scheme trace x }
+{}
+
+/// What is global is in every address space (4.3.1, G): its root and its ASID change nothing of
+/// whether it is live, held or stale, nor of verdicts.
+pub fn root_and_asid_of_global_change_nothing()
+    ensures live { (scheme : Scheme) (trace : Trace) (hart : ℕ) (x : Translation) (root asid : ℕ)
+        → IsTrue x.entry.global
+        → Live scheme trace hart (record { root = root; entry = record x.entry { asid = asid } })
+        ↔ Live scheme trace hart x }
+    ensures held { (scheme : Scheme) (trace : Trace) (hart : ℕ) (x : Translation) (root asid : ℕ)
+        → IsTrue x.entry.global
+        → MayHold scheme trace hart (record { root = root; entry = record x.entry { asid = asid } })
+        ↔ MayHold scheme trace hart x }
+    ensures stale { (scheme : Scheme) (trace : Trace) (hart : ℕ) (x : Translation) (root asid : ℕ)
+        → IsTrue x.entry.global
+        → Stale scheme trace hart (record { root = root; entry = record x.entry { asid = asid } })
+        ↔ Stale scheme trace hart x }
+    ensures given { (scheme : Scheme) (verdict : Verdict) (newest : Record) (trace : Trace)
+        (hart : ℕ) (x : Translation) (root asid : ℕ) → IsTrue x.entry.global
+        → IsGiven scheme verdict newest trace hart
+        (record { root = root; entry = record x.entry { asid = asid } })
+        ↔ IsGiven scheme verdict newest trace hart x }
+    ensures fresh { (scheme : Scheme) (verdict : Verdict) (trace : Trace) (hart : ℕ)
+        (x : Translation) (root asid : ℕ) → IsTrue x.entry.global
+        → IsNew scheme verdict trace hart
+        (record { root = root; entry = record x.entry { asid = asid } })
+        ↔ IsNew scheme verdict trace hart x }
 {}
 
 /// What a hart may hold of a page is stale where the page has no leaf now, or one to another frame,

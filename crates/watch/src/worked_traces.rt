@@ -56,6 +56,7 @@ pub fn worked_uses()
     ensures used_after_fence { traces.used_after_fence }
     ensures used_before_free { traces.used_before_free }
     ensures used_elsewhere { traces.used_elsewhere }
+    ensures global_used_elsewhere { traces.global_used_elsewhere }
     ensures used_beside { traces.used_beside }
 {}
 
@@ -69,9 +70,32 @@ pub fn worked_staleness()
     ensures mapped_elsewhere { traces.mapped_elsewhere }
     ensures pointer_cleared { traces.pointer_cleared }
     ensures table_given_out { traces.table_given_out }
+    ensures entered_late { traces.entered_late }
+{}
+
+/// What is global is mapped as long as the tables of an address space have it; a root that is given
+/// out is one no longer, unless a hart's satp has it.
+#[tactic(auto, using(crate::proofs::WorkedAnswers::worked_traces))]
+pub fn worked_roots()
     ensures root_given_out { traces.root_given_out }
     ensures unmapped_after_root { traces.unmapped_after_root }
     ensures both_roots_given_out { traces.both_roots_given_out }
     ensures root_of_page_given_out { traces.root_of_page_given_out }
-    ensures entered_late { traces.entered_late }
+    ensures used_root_given_out { traces.used_root_given_out }
+    ensures filled_from_used_root { traces.filled_from_used_root }
+    ensures unused_root_given_out { traces.unused_root_given_out }
+    ensures own_root_given_out { traces.own_root_given_out }
+    ensures unmapped_in_one_space { traces.unmapped_in_one_space }
+    ensures unmapped_in_both_spaces { traces.unmapped_in_both_spaces }
+{}
+
+/// What is global is of every address space: which hart fills it, and which fence drops it.
+#[tactic(auto, using(crate::proofs::WorkedAnswers::worked_traces))]
+pub fn worked_globals()
+    ensures global_filled_in_other_space { traces.global_filled_in_other_space }
+    ensures global_dropped_in_other_space { traces.global_dropped_in_other_space }
+    ensures global_of_no_root { traces.global_of_no_root }
+    ensures page_of_no_root { traces.page_of_no_root }
+    ensures global_after_fences_with_asid { traces.global_after_fences_with_asid }
+    ensures page_after_fence_with_asid { traces.page_after_fence_with_asid }
 {}
