@@ -1,127 +1,317 @@
--- What is live now is gathered hart by hart.
-use Rattle.std.proofs.Common.{◌≡◌, ℕ, true, ◌+◌, ◌<◌, ◌≤◌, zero, suc, Option, Some, None, List, [], ◌∷◌, ◌++◌, length, get_or, map, sym, ◌∙◌, subst, refl, inl, inr, arith}
-use Rattle.std.specs.Prelude.{◌↔◌, Contains}
-use Rattle.std.proofs.lemmas.Bool.{or_cases, or_left, or_right, cases_lt}
+-- What is remembered of leaves is gathered hart by hart and space by space.
+use Rattle.std.proofs.Common.{◌≡◌, ℕ, Bool, true, false, ◌+◌, ◌<◌, ◌≤◌, ◌⊎◌, zero, suc, Option, Some, None, List, [], ◌∷◌, ◌++◌, length, get_or, ap, sym, ◌∙◌, subst, refl, inl, inr, arith}
+use Rattle.std.specs.Prelude.{◌↔◌, ◌==◌, ◌&&◌, nat_le, cond, Contains}
+use Rattle.std.proofs.lemmas.Bool.{and_parts, and_from, eq-eqb, eqb-true, or_cases, or_left, or_right, true≢false, not-true, not_from_false}
 use Rattle.pte.specs.declared.scheme.Scheme.{Scheme}
-use Rattle.walk.specs.Leads.{Tables}
+use Rattle.walk.specs.Leads.{Leads, Tables, word_at}
+use Rattle.walk.specs.Maps.{page_number}
 use Rattle.tlb.specs.declared.store.Entry.{Entry}
 use Rattle.watch.specs.declared.trace.Space.{Space}
-use Rattle.watch.specs.Holding.{HasLeaf, Translation}
-use Rattle.watch_tables.specs.Leaves.{IsLeafOf}
-use Rattle.watch_engine.specs.declared.held.LiveEntry.{LiveEntry}
-use Rattle.watch_engine.specs.Held.{Anything, AreAllLive, AreLiveOf, EachLive, GoesBy, IsLive, held_from, is_listed, is_of, live_entry, live_translation}
-use Rattle.watch_engine.proofs.Lists.{is_itself}
+use Rattle.watch.specs.Trace.{index_of}
+use Rattle.watch.specs.Holding.{BelongsTo, HasLeaf, Translation}
+use Rattle.watch_engine.specs.declared.held.LastLive.{LastLive}
+use Rattle.watch_engine.specs.declared.left.Left.{Left}
+use Rattle.watch_engine.specs.declared.left.PastFence.{PastFence}
+use Rattle.watch_tables.specs.declared.leaf.RootLeaf.{RootLeaf}
+use Rattle.watch_engine.specs.Held.{IsNormalized, held_from, is_listed, is_of, last_live_in, last_translation, normalized, own, translation_in}
+use Rattle.watch_engine.specs.Left.{AnyLeft, IsLeftHeld, is_taken_since}
+use Rattle.watch_engine.specs.Seen.{AreAdded, AreSeen, EachSeen, IsSeen, PassesAny, is_kept, kept_for, live_for, with_kept, with_leaves, with_live}
+use Rattle.watch_tables.specs.Paths.{IsUnchangedSince}
+use Rattle.watch_tables.specs.Through.{HasRootLeaf, IsLeafThrough, Passes}
+use Rattle.watch_engine.proofs.Leaving.{any_member}
+use Rattle.watch_engine.proofs.Lists.{at_most, from_at_most, is_itself}
 
-pub each_append : (P : LiveEntry → Type 0) (xs ys : List LiveEntry) → EachLive P xs → EachLive P ys → EachLive P (xs ++ ys)
+-- lists
+pub each_append : (P : LastLive → Type 0) (xs ys : List LastLive) → EachSeen P xs → EachSeen P ys → EachSeen P (xs ++ ys)
 each_append P [] ys e f = f
 each_append P (x ∷ xs) ys e f = (e.0, each_append P xs ys e.1 f)
 
-pub each_live : (P Q : LiveEntry → Type 0) → ((l : LiveEntry) → P l → Q l) → (xs : List LiveEntry) → EachLive P xs → EachLive Q xs
-each_live P Q f [] e = tt
-each_live P Q f (x ∷ xs) e = (f x e.0, each_live P Q f xs e.1)
+pub each_seen : (P Q : LastLive → Type 0) → ((s : LastLive) → P s → Q s) → (seen : List LastLive) → EachSeen P seen → EachSeen Q seen
+each_seen P Q f [] e = tt
+each_seen P Q f (s ∷ seen) e = (f s e.0, each_seen P Q f seen e.1)
 
-pub listed_left : (hart : ℕ) (x : Translation) (ls ms : List LiveEntry) → is_listed hart x ls ≡ true → is_listed hart x (ls ++ ms) ≡ true
-listed_left hart x [] ms h = cc
-listed_left hart x (l ∷ ls) ms h =
-    elim (or_cases (is_of hart x (held_from 0 l)) (is_listed hart x ls) h) [
+listed-left : (hart : ℕ) (x : Translation) (n : ℕ) (ls ms : List LastLive) → is_listed hart x n ls ≡ true → is_listed hart x n (ls ++ ms) ≡ true
+listed-left hart x n [] ms h = cc
+listed-left hart x n (l ∷ ls) ms h =
+    elim (or_cases (is_of hart x (held_from l) && nat_le n l.last_live) (is_listed hart x n ls) h) [
       | inl here ↦ or_left _ _ here
-      | inr there ↦ or_right (is_of hart x (held_from 0 l)) _ (listed_left hart x ls ms there)
+      | inr there ↦ or_right (is_of hart x (held_from l) && nat_le n l.last_live) _ (listed-left hart x n ls ms there)
     ]
 
-pub listed_right : (hart : ℕ) (x : Translation) (ls ms : List LiveEntry) → is_listed hart x ms ≡ true → is_listed hart x (ls ++ ms) ≡ true
-listed_right hart x [] ms h = h
-listed_right hart x (l ∷ ls) ms h = or_right (is_of hart x (held_from 0 l)) _ (listed_right hart x ls ms h)
+listed-right : (hart : ℕ) (x : Translation) (n : ℕ) (ls ms : List LastLive) → is_listed hart x n ms ≡ true → is_listed hart x n (ls ++ ms) ≡ true
+listed-right hart x n [] ms h = h
+listed-right hart x n (l ∷ ls) ms h = or_right (is_of hart x (held_from l) && nat_le n l.last_live) _ (listed-right hart x n ls ms h)
 
--- leaves as what is live
-listed_at : (hart root : ℕ) (leaves : List Entry) (k : ℕ) (e : Entry) → k < length leaves → get_or leaves k e ≡ e → is_listed hart (record { root = root; entry = e }) (map (live_entry hart root) leaves) ≡ true
-listed_at hart root [] k e within at = absurd (omega arith)
-listed_at hart root (f ∷ leaves) zero e within at =
-    or_left _ _ (subst (λ (x : Entry). is_of hart (record { root = root; entry = x }) (held_from 0 (live_entry hart root f)) ≡ true) at (is_itself (held_from 0 (live_entry hart root f))))
-listed_at hart root (f ∷ leaves) (suc k) e within at = or_right (is_of hart (record { root = root; entry = e }) (held_from 0 (live_entry hart root f))) _ (listed_at hart root leaves k e (omega arith) at)
+-- translations of a space
+belongs-at : (space : Space) (e : Entry) (b : Bool) → e.global ≡ b → BelongsTo space (translation_in space e)
+belongs-at space e true is = inl is
+belongs-at space e false is = inr (λ j. record { root = own (sym is j) space.root; asid = own (sym is j) space.asid })
 
-each_at : (P : Entry → Type 0) (Q : LiveEntry → Type 0) (hart root : ℕ) → ((e : Entry) → P e → Q (live_entry hart root e)) → (leaves : List Entry) → ((k : ℕ) (d : Entry) → k < length leaves → P (get_or leaves k d)) → EachLive Q (map (live_entry hart root) leaves)
-each_at P Q hart root f [] g = tt
-each_at P Q hart root f (e ∷ leaves) g = (f e (g 0 e (omega arith)), each_at P Q hart root f leaves (λ k d within. g (suc k) d (omega arith)))
+pub belongs_in : (space : Space) (e : Entry) → BelongsTo space (translation_in space e)
+belongs_in space e = belongs-at space e e.global refl
 
-default_same : (leaves : List Entry) (k : ℕ) (d e : Entry) → k < length leaves → get_or leaves k d ≡ get_or leaves k e
-default_same [] k d e within = absurd (omega arith)
-default_same (f ∷ leaves) zero d e within = refl
-default_same (f ∷ leaves) (suc k) d e within = default_same leaves k d e (omega arith)
+is-at : (of : Space) (x : Translation) (b : Bool) → x.entry.global ≡ b → BelongsTo of x → IsNormalized x → translation_in of (record x.entry { asid = 0 }) ≡ x
+is-at of x true is belongs norm =
+    let a : translation_in of (record x.entry { asid = 0 }) ≡ record { root = 0; entry = record x.entry { asid = 0 } } =
+    (λ j. record { root = own (is j) of.root; entry = record x.entry { asid = own (is j) of.asid } }) in
+    let b : normalized x ≡ record { root = 0; entry = record x.entry { asid = 0 } } =
+    (λ j. record { root = own (is j) x.root; entry = record x.entry { asid = own (is j) x.entry.asid } }) in
+    a ∙ (sym b ∙ norm)
+is-at of x false is (inl global) norm = absurd (true≢false (sym global ∙ is))
+is-at of x false is (inr same) norm =
+    λ j. record { root = own (is j) (same j).root; entry = record x.entry { asid = own (is j) (same j).asid } }
 
-pub live_leaves : (scheme : Scheme) (words : Tables) (hart : ℕ) (space : Space) (leaves : List Entry) → ((e : Entry) → Contains leaves e ↔ IsLeafOf scheme words space e)
-    → AreLiveOf scheme words Anything hart (Some space) (map (live_entry hart space.root) leaves)
-live_leaves scheme words hart space leaves are =
-    let of : (e : Entry) → IsLeafOf scheme words space e → (hart ≡ hart) × IsLive scheme words (Some space) (record { root = space.root; entry = e }) =
-    λ e p. (refl, record { satp = λ j. Some (record { root = space.root; asid = sym p.asid j }); leaf = p.leaf }) in
-    record {
-      each = each_at (IsLeafOf scheme words space) (λ l. (l.hart ≡ hart) × IsLive scheme words (Some space) (live_translation l)) hart space.root of leaves
-          (λ k d within. (are (get_or leaves k d)).0 (k, within, default_same leaves k (get_or leaves k d) d within));
-      all = λ x l goes.
-          let root : space.root ≡ x.root = let e = l.satp in cc in
-          let asid : space.asid ≡ x.entry.asid = let e = l.satp in cc in
-          let at = (are x.entry).1 (record { asid = sym asid; leaf = subst (λ r. HasLeaf scheme words r x.entry) (sym root) l.leaf }) in
-          (λ j. is_listed hart (record { root = sym root j; entry = x.entry }) (map (live_entry hart space.root) leaves)) ∙ listed_at hart space.root leaves at.0 x.entry at.1 at.2;
+pub translation_is : (of : Space) (x : Translation) → BelongsTo of x → IsNormalized x → translation_in of (record x.entry { asid = 0 }) ≡ x
+translation_is of x belongs norm = is-at of x x.entry.global refl belongs norm
+
+pub with_asid : (scheme : Scheme) (words : Tables) (root asid : ℕ) (e : Entry) → HasLeaf scheme words root e → HasLeaf scheme words root (record e { asid = asid })
+with_asid scheme words root asid e leaf = record { table = leaf.table; word = leaf.word; page = leaf.page; leads = leaf.leads; kind = leaf.kind; aligned = leaf.aligned; global = leaf.global }
+
+module _ (scheme : Scheme) (words : Tables) (since : ℕ → ℕ → ℕ) (satps : List (Option Space)) (left : List Left) (drops : List PastFence) (now : ℕ) where
+  abbrev Seen : LastLive → Type 0
+  Seen = IsSeen scheme words since satps left drops now
+
+  -- what is known of a leaf
+  pub record IsLeafSeen (leaf : RootLeaf) : Type 0 where
+    pub leaf_is : HasLeaf scheme words leaf.root leaf.entry
+    pub age : (n : ℕ) → (leaf.since ≤ n) ↔ IsUnchangedSince scheme words since leaf.root leaf.entry n
+
+  module _ (leaf : RootLeaf) (is : IsLeafSeen leaf) where
+    live-seen : (hart : ℕ) (space : Space) → get_or satps hart None ≡ Some space → space.root ≡ leaf.root → Seen (last_live_in hart space leaf.entry now)
+    live-seen hart space satp root =
+        inl (
+          record {
+            of = space;
+            satp = satp;
+            belongs = belongs_in space leaf.entry;
+            leaf = with_asid scheme words space.root (own leaf.entry.global space.asid) leaf.entry (subst (λ r. HasLeaf scheme words r leaf.entry) (sym root) is.leaf_is);
+          },
+          refl,
+        )
+
+    each-live_for : (hart : ℕ) (s : Option Space) → get_or satps hart None ≡ s → EachSeen Seen (live_for now leaf hart s)
+    each-live_for hart None satp = tt
+    each-live_for hart (Some space) satp =
+        let go : (b : Bool) → (space.root == leaf.root) ≡ b → EachSeen Seen (cond b (last_live_in hart space leaf.entry now ∷ []) []) =
+        λ b. elim b as (λ b. (space.root == leaf.root) ≡ b → EachSeen Seen (cond b (last_live_in hart space leaf.entry now ∷ []) [])) [
+          | true ↦ λ t. (live-seen hart space satp (eqb-true _ _ t), tt)
+          | false ↦ λ t. tt
+        ] in
+        go (space.root == leaf.root) refl
+
+    each-with_live : (n : ℕ) (rest : List (Option Space)) (seen : List LastLive) → ((k : ℕ) → get_or rest k None ≡ get_or satps (k + n) None) → EachSeen Seen seen → EachSeen Seen (with_live now leaf n rest seen)
+    each-with_live n [] seen at e = e
+    each-with_live n (s ∷ rest) seen at e =
+        each-with_live (n + 1) rest (seen ++ live_for now leaf n s)
+        (λ k. at (suc k) ∙ (let same : suc k + n ≡ k + (n + 1) = omega arith in ap (λ m. get_or satps m None) same))
+        (each_append Seen seen (live_for now leaf n s) e (each-live_for n s (let same : 0 + n ≡ n = omega arith in ap (λ m. get_or satps m None) (sym same) ∙ sym (at 0))))
+
+    kept-seen : (l : Left) → ((Q : Left → Type 0) → Q l → AnyLeft Q left) → is_kept scheme drops leaf l ≡ true → Seen (last_live_in l.hart l.space leaf.entry l.left)
+    kept-seen l among h =
+        let p = and_parts (l.space.root == leaf.root) _ h in
+        let q = and_parts (nat_le leaf.since l.left) _ p.1 in
+        let root : l.space.root ≡ leaf.root = eqb-true _ _ p.0 in
+        let old = (is.age l.left).0 (at_most leaf.since l.left q.0) in
+        let x : Translation = last_translation (last_live_in l.hart l.space leaf.entry l.left) in
+        inr (among (λ m. (m.left ≡ l.left) × IsLeftHeld scheme words since drops m l.hart x) (
+          refl,
+          record {
+            by = refl;
+            belongs = belongs_in l.space leaf.entry;
+            leaf = with_asid scheme words l.space.root (own leaf.entry.global l.space.asid) leaf.entry (subst (λ r. HasLeaf scheme words r leaf.entry) (sym root) is.leaf_is);
+            unchanged = record { unchanged = λ at table from leads. old.unchanged at table from (subst (λ r. Leads scheme words r leaf.entry.page.base at table (word_at words leaf.entry.page.base at table)) root leads) };
+            kept = not-true _ q.1;
+          },
+        ))
+
+    each-with_kept : (rest : List Left) (seen : List LastLive) → ((Q : Left → Type 0) → AnyLeft Q rest → AnyLeft Q left) → EachSeen Seen seen → EachSeen Seen (with_kept scheme drops leaf rest seen)
+    each-with_kept [] seen among e = e
+    each-with_kept (l ∷ rest) seen among e =
+        let go : (b : Bool) → is_kept scheme drops leaf l ≡ b → EachSeen Seen (cond b (last_live_in l.hart l.space leaf.entry l.left ∷ []) []) =
+        λ b. elim b as (λ b. is_kept scheme drops leaf l ≡ b → EachSeen Seen (cond b (last_live_in l.hart l.space leaf.entry l.left ∷ []) [])) [
+          | true ↦ λ t. (kept-seen l (λ Q q. among Q (inl q)) t, tt)
+          | false ↦ λ t. tt
+        ] in
+        each-with_kept rest (seen ++ kept_for scheme drops leaf l) (λ Q a. among Q (inr a))
+        (each_append Seen seen (kept_for scheme drops leaf l) e (go (is_kept scheme drops leaf l) refl))
+
+    each-leaf : (seen : List LastLive) → EachSeen Seen seen → EachSeen Seen (with_kept scheme drops leaf left (with_live now leaf 0 satps seen))
+    each-leaf seen e =
+        each-with_kept left (with_live now leaf 0 satps seen) (λ Q a. a)
+        (each-with_live 0 satps seen (λ k. let same : k ≡ k + 0 = omega arith in ap (λ m. get_or satps m None) same) e)
+
+  -- what is listed stays so
+  still-live : (leaf : RootLeaf) (hart : ℕ) (x : Translation) (m n : ℕ) (rest : List (Option Space)) (seen : List LastLive) → is_listed hart x m seen ≡ true → is_listed hart x m (with_live now leaf n rest seen) ≡ true
+  still-live leaf hart x m n [] seen h = h
+  still-live leaf hart x m n (s ∷ rest) seen h = still-live leaf hart x m (n + 1) rest (seen ++ live_for now leaf n s) (listed-left hart x m seen (live_for now leaf n s) h)
+
+  still-kept : (leaf : RootLeaf) (hart : ℕ) (x : Translation) (m : ℕ) (rest : List Left) (seen : List LastLive) → is_listed hart x m seen ≡ true → is_listed hart x m (with_kept scheme drops leaf rest seen) ≡ true
+  still-kept leaf hart x m [] seen h = h
+  still-kept leaf hart x m (l ∷ rest) seen h = still-kept leaf hart x m rest (seen ++ kept_for scheme drops leaf l) (listed-left hart x m seen (kept_for scheme drops leaf l) h)
+
+  still-leaves : (hart : ℕ) (x : Translation) (m : ℕ) (leaves : List RootLeaf) (seen : List LastLive) → is_listed hart x m seen ≡ true → is_listed hart x m (with_leaves scheme now satps left drops leaves seen) ≡ true
+  still-leaves hart x m [] seen h = h
+  still-leaves hart x m (leaf ∷ leaves) seen h =
+      still-leaves hart x m leaves (with_kept scheme drops leaf left (with_live now leaf 0 satps seen))
+      (still-kept leaf hart x m left (with_live now leaf 0 satps seen) (still-live leaf hart x m 0 satps seen h))
+
+  -- the leaf of a translation
+  abbrev pub IsOf : RootLeaf → ℕ → Translation → Type 0
+  IsOf leaf root x = (root ≡ leaf.root) × (record x.entry { asid = 0 } ≡ leaf.entry)
+
+  listed-one : (hart : ℕ) (x : Translation) (of : Space) (leaf : RootLeaf) (n : ℕ) → BelongsTo of x → IsNormalized x → record x.entry { asid = 0 } ≡ leaf.entry → is_listed hart x n (last_live_in hart of leaf.entry n ∷ []) ≡ true
+  listed-one hart x of leaf n belongs norm same =
+      let s : LastLive = last_live_in hart of leaf.entry n in
+      let is : last_translation s ≡ x = sym (ap (translation_in of) same) ∙ translation_is of x belongs norm in
+      or_left _ _ (and_from _ _ (subst (λ (y : Translation). is_of hart y (held_from s) ≡ true) is (is_itself (held_from s))) (from_at_most n n (omega arith)))
+
+  live-listed : (leaf : RootLeaf) (hart : ℕ) (x : Translation) (of : Space) → BelongsTo of x → IsNormalized x → IsOf leaf of.root x → (k n : ℕ) (rest : List (Option Space)) (seen : List LastLive) → k + n ≡ hart → get_or rest k None ≡ Some of
+      → is_listed hart x now (with_live now leaf n rest seen) ≡ true
+  live-listed leaf hart x of belongs norm is k n [] seen at satp = cc
+  live-listed leaf hart x of belongs norm is zero n (s ∷ rest) seen at satp =
+      still-live leaf hart x now (n + 1) rest (seen ++ live_for now leaf n s)
+      (listed-right hart x now seen (live_for now leaf n s)
+      (let one : live_for now leaf n s ≡ last_live_in hart of leaf.entry now ∷ [] =
+      ap (live_for now leaf n) satp ∙ (ap (λ b. cond b (last_live_in n of leaf.entry now ∷ []) []) (eq-eqb of.root leaf.root is.0) ∙ (let same : n ≡ hart = omega arith in ap (λ h. last_live_in h of leaf.entry now ∷ []) same)) in
+      ap (is_listed hart x now) one ∙ listed-one hart x of leaf now belongs norm is.1))
+  live-listed leaf hart x of belongs norm is (suc k) n (s ∷ rest) seen at satp =
+      live-listed leaf hart x of belongs norm is k (n + 1) rest (seen ++ live_for now leaf n s) (omega arith) satp
+
+  kept-listed : (leaf : RootLeaf) (hart : ℕ) (x : Translation) (n : ℕ) → IsLeafSeen leaf → IsNormalized x → (rest : List Left) (seen : List LastLive)
+      → AnyLeft (λ l. (l.left ≡ n) × IsLeftHeld scheme words since drops l hart x × IsOf leaf l.space.root x) rest → is_listed hart x n (with_kept scheme drops leaf rest seen) ≡ true
+  kept-listed leaf hart x n seen_leaf norm [] seen a = absurd a
+  kept-listed leaf hart x n seen_leaf norm (l ∷ rest) seen (inr a) = kept-listed leaf hart x n seen_leaf norm rest (seen ++ kept_for scheme drops leaf l) a
+  kept-listed leaf hart x n seen_leaf norm (l ∷ rest) seen (inl (at, held, of)) =
+      let s : LastLive = last_live_in l.hart l.space leaf.entry l.left in
+      let is : last_translation s ≡ x = sym (ap (translation_in l.space) of.1) ∙ translation_is l.space x held.belongs norm in
+      let entry : s.entry ≡ x.entry = ap (λ (y : Translation). y.entry) is in
+      let page : leaf.entry.page ≡ x.entry.page = ap (λ (e : Entry). e.page) (sym of.1) in
+      let old : IsUnchangedSince scheme words since leaf.root leaf.entry l.left =
+      subst (λ r. IsUnchangedSince scheme words since r leaf.entry l.left) of.0
+      (subst (λ (e : Entry). IsUnchangedSince scheme words since l.space.root e l.left) of.1
+      (record { unchanged = λ at table from leads. held.unchanged.unchanged at table from leads })) in
+      let kept : is_kept scheme drops leaf l ≡ true =
+      and_from _ _ (eq-eqb l.space.root leaf.root of.0)
+      (and_from _ _ (from_at_most leaf.since l.left ((seen_leaf.age l.left).1 old)) (not_from_false _ (ap (is_taken_since scheme drops l) entry ∙ held.kept))) in
+      let one : kept_for scheme drops leaf l ≡ last_live_in hart l.space leaf.entry n ∷ [] =
+      ap (λ b. cond b (s ∷ []) []) kept ∙ (λ j. last_live_in (held.by j) l.space leaf.entry (at j) ∷ []) in
+      still-kept leaf hart x n rest (seen ++ kept_for scheme drops leaf l)
+      (listed-right hart x n seen (kept_for scheme drops leaf l)
+      (ap (is_listed hart x n) one ∙ listed-one hart x l.space leaf n held.belongs norm of.1))
+
+  -- all leaves
+  abbrev EachLeaf : (RootLeaf → Type 0) → List RootLeaf → Type 0
+  EachLeaf P [] = Unit {0}
+  EachLeaf P (leaf ∷ leaves) = P leaf × EachLeaf P leaves
+
+  each_of : (P : RootLeaf → Type 0) (leaves : List RootLeaf) → ((k : ℕ) (d : RootLeaf) → k < length leaves → P (get_or leaves k d)) → EachLeaf P leaves
+  each_of P [] f = tt
+  each_of P (leaf ∷ leaves) f = (f 0 leaf (omega arith), each_of P leaves (λ k d within. f (suc k) d (omega arith)))
+
+  each-leaves : (leaves : List RootLeaf) (seen : List LastLive) → EachLeaf IsLeafSeen leaves → EachSeen Seen seen → EachSeen Seen (with_leaves scheme now satps left drops leaves seen)
+  each-leaves [] seen f e = e
+  each-leaves (leaf ∷ leaves) seen f e = each-leaves leaves (with_kept scheme drops leaf left (with_live now leaf 0 satps seen)) f.1 (each-leaf leaf f.0 seen e)
+
+  -- what one leaf has listed
+  leaf-listed : (hart : ℕ) (x : Translation) (n : ℕ) (leaf : RootLeaf) → ((seen : List LastLive) → is_listed hart x n (with_kept scheme drops leaf left (with_live now leaf 0 satps seen)) ≡ true)
+      → (leaves : List RootLeaf) (k : ℕ) (seen : List LastLive) → k < length leaves → get_or leaves k leaf ≡ leaf → is_listed hart x n (with_leaves scheme now satps left drops leaves seen) ≡ true
+  leaf-listed hart x n leaf lists [] k seen within at = absurd (omega arith)
+  leaf-listed hart x n leaf lists (f ∷ leaves) zero seen within at =
+      still-leaves hart x n leaves (with_kept scheme drops f left (with_live now f 0 satps seen))
+      (subst (λ (g : RootLeaf). is_listed hart x n (with_kept scheme drops g left (with_live now g 0 satps seen)) ≡ true) (sym at) (lists seen))
+  leaf-listed hart x n leaf lists (f ∷ leaves) (suc k) seen within at =
+      leaf-listed hart x n leaf lists leaves k (with_kept scheme drops f left (with_live now f 0 satps seen)) (omega arith) at
+
+  same-default : (leaves : List RootLeaf) (k : ℕ) (d e : RootLeaf) → k < length leaves → get_or leaves k d ≡ get_or leaves k e
+  same-default [] k d e within = absurd (omega arith)
+  same-default (f ∷ leaves) zero d e within = refl
+  same-default (f ∷ leaves) (suc k) d e within = same-default leaves k d e (omega arith)
+
+  module _ (table index : ℕ) (leaves : List RootLeaf) (exact : (root : ℕ) (e : Entry) → HasRootLeaf leaves root e ↔ IsLeafThrough scheme words root table index e)
+      (age : (leaf : RootLeaf) → Contains leaves leaf → (n : ℕ) → (leaf.since ≤ n) ↔ IsUnchangedSince scheme words since leaf.root leaf.entry n) where
+    abbrev Goes : ℕ → Entry → Type 0
+    Goes root e = Passes scheme words root table index e.page
+
+    contained : (leaf : RootLeaf) → Contains leaves leaf → IsLeafSeen leaf
+    contained leaf among = record {
+      leaf_is = ((exact leaf.root leaf.entry).0 (record { since = leaf.since; among = among })).leaf;
+      age = age leaf among;
     }
 
--- of these leaves only those that go are all there
-pub live_through : (scheme : Scheme) (words after : Tables) (hart : ℕ) (space : Space) (leaves : List Entry) → ((e : Entry) → Contains leaves e → IsLeafOf scheme words space e)
-    → ((e : Entry) → IsLeafOf scheme words space e → ¬ IsLeafOf scheme after space e → Contains leaves e)
-    → AreLiveOf scheme words (GoesBy scheme after) hart (Some space) (map (live_entry hart space.root) leaves)
-live_through scheme words after hart space leaves sound taken =
-    let of : (e : Entry) → IsLeafOf scheme words space e → (hart ≡ hart) × IsLive scheme words (Some space) (record { root = space.root; entry = e }) =
-    λ e p. (refl, record { satp = λ j. Some (record { root = space.root; asid = sym p.asid j }); leaf = p.leaf }) in
-    record {
-      each = each_at (IsLeafOf scheme words space) (λ l. (l.hart ≡ hart) × IsLive scheme words (Some space) (live_translation l)) hart space.root of leaves
-          (λ k d within. sound (get_or leaves k d) (k, within, default_same leaves k (get_or leaves k d) d within));
-      all = λ x l goes.
-          let root : space.root ≡ x.root = let e = l.satp in cc in
-          let asid : space.asid ≡ x.entry.asid = let e = l.satp in cc in
-          let at = taken x.entry (record { asid = sym asid; leaf = subst (λ r. HasLeaf scheme words r x.entry) (sym root) l.leaf }) (λ p. goes (subst (λ r. HasLeaf scheme after r x.entry) root p.leaf)) in
-          (λ j. is_listed hart (record { root = sym root j; entry = x.entry }) (map (live_entry hart space.root) leaves)) ∙ listed_at hart space.root leaves at.0 x.entry at.1 at.2;
+    listed-by : (hart : ℕ) (x : Translation) (n root : ℕ) → HasLeaf scheme words root x.entry → Goes root x.entry
+        → ((leaf : RootLeaf) → IsLeafSeen leaf → IsOf leaf root x → (seen : List LastLive) → is_listed hart x n (with_kept scheme drops leaf left (with_live now leaf 0 satps seen)) ≡ true)
+        → (seen : List LastLive) → is_listed hart x n (with_leaves scheme now satps left drops leaves seen) ≡ true
+    listed-by hart x n root has goes lists seen =
+        let e : Entry = record x.entry { asid = 0 } in
+        let there = (exact root e).1 (record { asid = refl; leaf = with_asid scheme words root 0 x.entry has; passes = goes }) in
+        let leaf : RootLeaf = record { root = root; entry = e; since = there.since } in
+        leaf-listed hart x n leaf (lists leaf (contained leaf there.among) (refl, refl)) leaves there.among.0 seen there.among.1 there.among.2
+
+    pub leaves_added : (old : List LastLive) → AreAdded scheme words since satps left drops now Goes old (with_leaves scheme now satps left drops leaves old)
+    leaves_added old = record {
+      each = λ e. each-leaves leaves old (each_of IsLeafSeen leaves (λ k d within. contained (get_or leaves k d) (k, within, same-default leaves k (get_or leaves k d) d within))) e;
+      still = λ hart x n h. still-leaves hart x n leaves old h;
+      live = λ hart x norm l goes.
+          listed-by hart x now l.of.root l.leaf goes
+          (λ leaf is of seen. still-kept leaf hart x now left (with_live now leaf 0 satps seen)
+          (live-listed leaf hart x l.of l.belongs norm of hart 0 satps seen (omega arith) l.satp)) old;
+      kept = λ hart x n norm a.
+          let m = any_member (λ l. (l.left ≡ n) × IsLeftHeld scheme words since drops l hart x × Goes l.space.root x.entry) left a in
+          listed-by hart x n m.one.space.root m.has.1.leaf m.has.2
+          (λ leaf is of seen. kept-listed leaf hart x n is norm left (with_live now leaf 0 satps seen)
+          (m.among (λ l. (l.left ≡ n) × IsLeftHeld scheme words since drops l hart x × IsOf leaf l.space.root x) (m.has.0, m.has.1, of))) old;
     }
 
-pub no_live : (scheme : Scheme) (words : Tables) (Goes : Translation → Type 0) (hart : ℕ) → AreLiveOf scheme words Goes hart None []
-no_live scheme words Goes hart = record { each = tt; all = λ x l goes. let e = l.satp in cc }
+-- word by word
+abbrev pub AddedBy : Scheme → Tables → (ℕ → ℕ → ℕ) → List (Option Space) → List Left → List PastFence → ℕ → ℕ → List LastLive → List LastLive → Type 0
+AddedBy scheme words since satps left drops now address old new =
+    AreAdded scheme words since satps left drops now (λ (root : ℕ) (e : Entry). Passes scheme words root (page_number address) (index_of address) e.page) old new
 
--- what is live for the harts below a number
-pub record AreLiveBelow (scheme : Scheme) (words : Tables) (Goes : Translation → Type 0) (satps : List (Option Space)) (n : ℕ) (live : List LiveEntry) : Type 0 where
-  pub each : EachLive (λ l. IsLive scheme words (get_or satps l.hart None) (live_translation l)) live
-  pub all : (hart : ℕ) (x : Translation) → hart < n → IsLive scheme words (get_or satps hart None) x → Goes x → is_listed hart x live ≡ true
+abbrev pub SeenIn : Scheme → Tables → (ℕ → ℕ → ℕ) → List (Option Space) → List Left → List PastFence → ℕ → List ℕ → List LastLive → Type 0
+SeenIn scheme words since satps left drops now addresses seen =
+    AreSeen scheme words since satps left drops now (λ (root : ℕ) (e : Entry). PassesAny scheme words root addresses e) seen
 
-pub none_below : (scheme : Scheme) (words : Tables) (Goes : Translation → Type 0) (satps : List (Option Space)) → AreLiveBelow scheme words Goes satps 0 []
-none_below scheme words Goes satps = record { each = tt; all = λ hart x less l goes. absurd (omega arith) }
+any-more : (scheme : Scheme) (words : Tables) (root : ℕ) (addresses : List ℕ) (address : ℕ) (e : Entry) → PassesAny scheme words root (addresses ++ address ∷ []) e
+    → PassesAny scheme words root addresses e ⊎ Passes scheme words root (page_number address) (index_of address) e.page
+any-more scheme words root [] address e (inl p) = inr p
+any-more scheme words root [] address e (inr a) = absurd a
+any-more scheme words root (b ∷ addresses) address e (inl p) = inl (inl p)
+any-more scheme words root (b ∷ addresses) address e (inr a) =
+    elim (any-more scheme words root addresses address e a) [
+      | inl q ↦ inl (inr q)
+      | inr p ↦ inr p
+    ]
 
-pub one_more : (scheme : Scheme) (words : Tables) (Goes : Translation → Type 0) (satps : List (Option Space)) (n : ℕ) (live mine : List LiveEntry) (space : Option Space) → space ≡ get_or satps n None → AreLiveBelow scheme words Goes satps n live → AreLiveOf scheme words Goes n space mine
-    → AreLiveBelow scheme words Goes satps (n + 1) (live ++ mine)
-one_more scheme words Goes satps n live mine space is below of = record {
-  each = each_append _ live mine below.each
-      (each_live _ _ (λ l p. subst (λ h. IsLive scheme words (get_or satps h None) (live_translation l)) (sym p.0) (subst (λ s. IsLive scheme words s (live_translation l)) is p.1)) mine of.each);
-  all = λ hart x less l goes.
-      elim (cases_lt hart n) [
-        | inl before ↦ listed_left hart x live mine (below.all hart x before l goes)
-        | inr more ↦
-            let same : hart ≡ n = omega arith in
-            subst (λ h. is_listed h x (live ++ mine) ≡ true) (sym same)
-            (listed_right n x live mine (of.all x (subst (λ s. IsLive scheme words s x) (sym is) (subst (λ h. IsLive scheme words (get_or satps h None) x) same l)) goes))
-      ];
-}
+module _ (scheme : Scheme) (words : Tables) (since : ℕ → ℕ → ℕ) (satps : List (Option Space)) (left : List Left) (drops : List PastFence) (now : ℕ) where
+  pub none_seen : SeenIn scheme words since satps left drops now [] []
+  none_seen = record {
+    each = tt;
+    live = λ hart x norm l goes. absurd goes;
+    kept = λ hart x n norm a. let m = any_member _ left a in absurd m.has.2;
+  }
 
-past_end : (satps : List (Option Space)) (hart : ℕ) → length satps ≤ hart → get_or satps hart None ≡ None
-past_end [] hart long = refl
-past_end (s ∷ satps) zero long = absurd (omega arith)
-past_end (s ∷ satps) (suc hart) long = past_end satps hart (omega arith)
+  pub one_more : (addresses : List ℕ) (address : ℕ) (old new : List LastLive) → SeenIn scheme words since satps left drops now addresses old → AddedBy scheme words since satps left drops now address old new
+      → SeenIn scheme words since satps left drops now (addresses ++ address ∷ []) new
+  one_more addresses address old new seen added = record {
+    each = added.each seen.each;
+    live = λ hart x norm l goes. elim (any-more scheme words l.of.root addresses address x.entry goes) [
+      | inl before ↦ added.still hart x now (seen.live hart x norm l before)
+      | inr this ↦ added.live hart x norm l this
+    ];
+    kept = λ hart x n norm a.
+        let m = any_member (λ l. (l.left ≡ n) × IsLeftHeld scheme words since drops l hart x × PassesAny scheme words l.space.root (addresses ++ address ∷ []) x.entry) left a in
+        elim (any-more scheme words m.one.space.root addresses address x.entry m.has.2) [
+          | inl before ↦ added.still hart x n (seen.kept hart x n norm
+              (m.among (λ l. (l.left ≡ n) × IsLeftHeld scheme words since drops l hart x × PassesAny scheme words l.space.root addresses x.entry) (m.has.0, m.has.1, before)))
+          | inr this ↦ added.kept hart x n norm
+              (m.among (λ l. (l.left ≡ n) × IsLeftHeld scheme words since drops l hart x × Passes scheme words l.space.root (page_number address) (index_of address) x.entry.page) (m.has.0, m.has.1, this))
+        ];
+  }
 
-pub all_below : (scheme : Scheme) (words : Tables) (Goes : Translation → Type 0) (satps : List (Option Space)) (n : ℕ) (live : List LiveEntry) → length satps ≤ n → AreLiveBelow scheme words Goes satps n live → AreAllLive scheme words Goes satps live
-all_below scheme words Goes satps n live long below = record {
-  each = below.each;
-  all = λ hart x l goes.
-      elim (cases_lt hart n) [
-        | inl less ↦ below.all hart x less l goes
-        | inr more ↦ let e = l.satp in let none = past_end satps hart (omega arith) in cc
-      ];
-}
-
-pub same_default : {X : Type 0} (xs : List X) (k : ℕ) (d e : X) → k < length xs → get_or xs k d ≡ get_or xs k e
-same_default [] k d e within = absurd (omega arith)
-same_default (x ∷ xs) zero d e within = refl
-same_default (x ∷ xs) (suc k) d e within = same_default xs k d e (omega arith)
+  pub seen_of : (address : ℕ) (old new : List LastLive) → old ≡ [] → AddedBy scheme words since satps left drops now address old new
+      → AreSeen scheme words since satps left drops now (λ (root : ℕ) (e : Entry). Passes scheme words root (page_number address) (index_of address) e.page) new
+  seen_of address old new none added = record {
+    each = added.each (subst (EachSeen (IsSeen scheme words since satps left drops now)) (sym none) tt);
+    live = added.live;
+    kept = added.kept;
+  }

@@ -1,6 +1,6 @@
 -- The warnings are those that are due.
 use Rattle.std.proofs.Common.{◌≡◌, ℕ, Bool, true, false, ◌<◌, ◌≤◌, zero, suc, Option, Some, None, List, [], ◌∷◌, ◌++◌, length, get_or, ap, sym, ◌∙◌, subst, refl, inl, inr, arith}
-use Rattle.std.specs.Prelude.{◌⊎◌, ◌↔◌, ◌==◌, ◌&&◌, ◌||◌, cond, not, is_some, Contains}
+use Rattle.std.specs.Prelude.{◌⊎◌, ◌↔◌, ◌==◌, ◌&&◌, ◌||◌, cond, not, is_some, nat_le, Contains}
 use Rattle.std.specs.List.{list_any}
 use Rattle.std.specs.Option.{unwrap_or}
 use Rattle.std.proofs.lemmas.Bool.{and_parts, and_from, eq-eqb, eqb-true, or_cases, or_left, or_right, or_parts, not-true, not_from_false, true≢false, false_from_ne_true, cases_Bool}
@@ -17,22 +17,25 @@ use Rattle.watch.specs.Trace.{Trace, satp_of}
 use Rattle.watch.specs.Holding.{Translation}
 use Rattle.watch.specs.Staleness.{Stale}
 use Rattle.watch.specs.Verdicts.{IsGiven, Serves, StaleSince, TakenForGone}
-use Rattle.watch.proofs.ComputedTraces.{has_held_iff, has_verdict, is_held, is_live, is_new, is_stale, new_iff, stale_iff, verdict_iff}
+use Rattle.watch.specs.ComputedTraces.{has_verdict, is_held, is_live, is_new, is_stale}
+use Rattle.watch.proofs.ComputedTraces.{has_held_iff, new_iff, stale_iff, verdict_iff}
+use Rattle.watch.proofs.Global.{given_placed, new_placed}
+use Rattle.watch.proofs.GlobalTests.{live-not_stale}
 use Rattle.watch.proofs.Judged.{taken_had, verdict-stale}
 use Rattle.watch_engine.specs.declared.cause.Cause.{Cause}
 use Rattle.watch_engine.specs.declared.cause.Cause.TheVariants.{Back, Out, Claim, Access}
 use Rattle.watch_engine.specs.declared.held.Held.{Held}
 use Rattle.watch_engine.specs.declared.open.OpenClaim.{OpenClaim}
 use Rattle.watch_engine.specs.declared.warning.Warning.{Warning}
-use Rattle.watch_engine.specs.Held.{is_of, is_same, is_served_in, since_after, translation_of}
+use Rattle.watch_engine.specs.Held.{Each, IsNormalized, is_of, is_same, is_served_in, knows, normalized, own, since_after, translation_of}
 use Rattle.watch_engine.specs.Causes.{is_given_by, verdict_of}
 use Rattle.watch_engine.specs.Open.{IsOpenClaim}
-use Rattle.watch_engine.specs.Follows.{AreHeld, Each, IsKnown, has, stale_since_of}
+use Rattle.watch_engine.specs.Follows.{AreHeld, IsKnown, last_live_of, stale_since_of}
 use Rattle.watch_engine.specs.Warnings.{AreApart, AreWarnings, IsDue, IsStaleFrom, Shows, StaleFrom, has_same_rights, is_line, is_same_page, is_same_scope, is_shown, joined, shown_of, warning_of, with_warning}
 use Rattle.watch_engine.proofs.Lists.{bool_same, of_same, same_bool, same_size}
 use Rattle.watch_engine.proofs.Moments.{since_range, stale_some}
 use Rattle.watch_engine.proofs.Records.{claimed_by, freed_by, known_some, reused_by}
-use Rattle.watch_engine.proofs.Remembering.{live_not_stale}
+use Rattle.watch_engine.proofs.Remembering.{fine_of}
 
 -- what one warning shows
 pub line_shows : (a b : Translation) → is_line a b ≡ true → Shows a b
@@ -229,17 +232,18 @@ module _ (cause : Cause) where
             ∙ any_last (is_shown i) warnings (warning_of (verdict_of cause) i) (shows-own i (verdict_of cause))
       ]
 
-  pub joined_all : (K : Held → Type 0) (hart : ℕ) (x : Translation) → ((i : Held) → K i → is_of hart x i ≡ true → is_given_by cause i ≡ true) → (held : List Held) (warnings : List Warning) → Each K held → has hart x held ≡ true
+  pub joined_all : (K : Held → Type 0) (hart : ℕ) (x : Translation) (n : ℕ) → ((i : Held) → K i → is_of hart x i ≡ true → is_given_by cause i ≡ true) → (held : List Held) (warnings : List Warning) → Each K held → knows hart x n held ≡ true
       → list_any (λ w. (w.hart == hart) && is_line (shown_of w) x) (joined cause held warnings) ≡ true
-  joined_all K hart x f [] warnings k h = cc
-  joined_all K hart x f (i ∷ held) warnings k h =
-      elim (or_cases (is_of hart x i) (has hart x held) h) [
+  joined_all K hart x n f [] warnings k h = cc
+  joined_all K hart x n f (i ∷ held) warnings k h =
+      elim (or_cases (is_of hart x i && nat_le n i.last_live) (knows hart x n held) h) [
         | inl here ↦
-            let same = of_same hart x i here in
-            let own = add-own i warnings (f i k.0 here) in
+            let of = (and_parts (is_of hart x i) (nat_le n i.last_live) here).0 in
+            let same = of_same hart x i of in
+            let own_line = add-own i warnings (f i k.0 of) in
             joined-any _ held (with_warning cause i warnings)
-            ((λ j. list_any (λ w. (w.hart == sym same.hart j) && is_line (shown_of w) (sym same.translation j)) (with_warning cause i warnings)) ∙ own)
-        | inr there ↦ joined_all K hart x f held (with_warning cause i warnings) k.1 there
+            ((λ j. list_any (λ w. (w.hart == sym same.hart j) && is_line (shown_of w) (sym same.translation j)) (with_warning cause i warnings)) ∙ own_line)
+        | inr there ↦ joined_all K hart x n f held (with_warning cause i warnings) k.1 there
       ]
 
   add-apart : (i : Held) (warnings : List Warning) → PairsApart warnings → PairsApart (with_warning cause i warnings)
@@ -259,41 +263,87 @@ module _ (cause : Cause) where
   joined_apart [] warnings p = p
   joined_apart (i ∷ held) warnings p = joined_apart held (with_warning cause i warnings) (add-apart i warnings p)
 
+-- what is global is due whatever its root and its ASID
+own-twice : (b : Bool) (n : ℕ) → own b (own b n) ≡ own b n
+own-twice true n = refl
+own-twice false n = refl
+
+normalized_twice : (x : Translation) → IsNormalized (normalized x)
+normalized_twice x = λ j. record { root = own-twice x.entry.global x.root j; entry = record x.entry { asid = own-twice x.entry.global x.entry.asid j } }
+
+due-at : (scheme : Scheme) (v : Verdict) (newest : Record) (trace : Trace) (hart : ℕ) (x : Translation) (b : Bool) → x.entry.global ≡ b → IsDue scheme v newest trace hart x → IsDue scheme v newest trace hart (record { root = own b x.root; entry = record x.entry { asid = own b x.entry.asid } })
+due-at scheme v newest trace hart x true is due = record { given = (given_placed scheme trace hart x 0 0 is v newest).1 due.given; fresh = (new_placed scheme trace hart x 0 0 is v).1 due.fresh }
+due-at scheme v newest trace hart x false is due = due
+
+due_normalized : (scheme : Scheme) (v : Verdict) (newest : Record) (trace : Trace) (hart : ℕ) (x : Translation) → IsDue scheme v newest trace hart x → IsDue scheme v newest trace hart (normalized x)
+due_normalized scheme v newest trace hart x due = due-at scheme v newest trace hart x x.entry.global refl due
+
+shows_normalized : (a x : Translation) → Shows a (normalized x) → Shows a x
+shows_normalized a x s =
+    let local : a.entry.global ≡ false → x.entry.global ≡ false = λ e. sym s.global ∙ e in
+    record {
+      page = s.page;
+      ppn = s.ppn;
+      user = s.user;
+      read = s.read;
+      write = s.write;
+      execute = s.execute;
+      global = s.global;
+      root = λ e. s.root e ∙ ap (λ b. own b x.root) (local e);
+      asid = λ e. s.asid e ∙ ap (λ b. own b x.entry.asid) (local e);
+    }
+
 -- where the cause is of what is due, the warnings are
 module _ (scheme : Scheme) (newest : Record) (trace : Trace) (cause : Cause) where
   pub record Causes : Type 0 where
     pub due : (i : Held) → IsKnown scheme trace i → IsDue scheme (verdict_of cause) newest trace i.hart (translation_of i) ↔ (is_given_by cause i ≡ true)
     pub only : (v : Verdict) (hart : ℕ) (x : Translation) → IsGiven scheme v newest trace hart x → v ≡ verdict_of cause
 
-  pub are_warnings : Causes → (held : List Held) → AreHeld scheme trace held → AreWarnings scheme newest trace (joined cause held [])
-  are_warnings causes held are =
-      let v : Verdict = verdict_of cause in
-      let P : Warning → Type 0 = λ w. (w.verdict ≡ v) × (IsDue scheme w.verdict newest trace w.hart (shown_of w) × IsStaleFrom scheme w.stale_since trace w.hart (shown_of w)) in
-      let each : EachWarning P (joined cause held []) =
-      joined_each cause (IsKnown scheme trace) P
-      (λ i known given.
-      let due = (causes.due i known).1 given in
-      let stale = (stale_iff scheme trace i.hart (translation_of i)).1 (verdict-stale scheme v newest trace i.hart (translation_of i) due.given) in
-      (refl, (due, known_since scheme trace i known stale))) held [] are.each tt in
-      record {
-        each = λ w c. subst (λ (u : Warning). IsDue scheme u.verdict newest trace u.hart (shown_of u) × IsStaleFrom scheme u.stale_since trace u.hart (shown_of u)) c.2 (each_contained P (joined cause held []) c.0 w each c.1).1;
-        all = λ u hart x due.
-            let is : u ≡ v = causes.only u hart x due.given in
-            let mine : IsDue scheme v newest trace hart x = subst (λ u. IsDue scheme u newest trace hart x) is due in
-            let stale : is_stale scheme trace hart x ≡ true = (stale_iff scheme trace hart x).1 (verdict-stale scheme u newest trace hart x due.given) in
-            let held_now : is_held scheme trace hart x ≡ true = (and_parts (is_held scheme trace hart x) _ stale).0 in
-            let dead : is_live scheme trace hart x ≡ false = false_from_ne_true _ (λ live. true≢false (sym stale ∙ live_not_stale scheme trace hart x live)) in
-            let any = joined_all cause (IsKnown scheme trace) hart x
-            (λ i known of.
-            let same = of_same hart x i of in
-            (causes.due i known).0 (subst (λ h. IsDue scheme v newest trace h (translation_of i)) (sym same.hart) (subst (λ (y : Translation). IsDue scheme v newest trace hart y) (sym same.translation) mine)))
-            held [] are.each (are.all hart x held_now dead) in
-            let at = any_at (λ w. (w.hart == hart) && is_line (shown_of w) x) (joined cause held []) any in
-            let parts = and_parts (at.0.hart == hart) (is_line (shown_of at.0) x) at.2 in
-            let verdict : at.0.verdict ≡ v = subst (λ (w : Warning). w.verdict ≡ v) at.1.2 (each_contained P (joined cause held []) at.1.0 at.0 each at.1.1).0 in
-            (at.0, at.1, verdict ∙ sym is, eqb-true _ _ parts.0, line_shows (shown_of at.0) x parts.1);
-        once = pairs_all (joined cause held []) (joined_apart cause held [] tt);
-      }
+  module _ (IsLeft : ℕ → Translation → ℕ → Type 0) (causes : Causes) (held : List Held) (are : AreHeld scheme trace IsLeft held) where
+    abbrev Right : Warning → Type 0
+    Right w = (w.verdict ≡ verdict_of cause) × (IsDue scheme w.verdict newest trace w.hart (shown_of w) × IsStaleFrom scheme w.stale_since trace w.hart (shown_of w))
+
+    all_right : EachWarning Right (joined cause held [])
+    all_right =
+        joined_each cause (IsKnown scheme trace) Right
+        (λ i known given.
+        let due = (causes.due i known).1 given in
+        let stale = (stale_iff scheme trace i.hart (translation_of i)).1 (verdict-stale scheme (verdict_of cause) newest trace i.hart (translation_of i) due.given) in
+        (refl, (due, known_since scheme trace i known stale))) held [] are.each tt
+
+    -- what is due of a translation has its warning
+    has_warning : (hart : ℕ) (x : Translation) → IsNormalized x → IsDue scheme (verdict_of cause) newest trace hart x
+        → (w : Warning) × Contains (joined cause held []) w × (w.verdict ≡ verdict_of cause) × (w.hart ≡ hart) × Shows (shown_of w) x
+    has_warning hart x norm due =
+        let v : Verdict = verdict_of cause in
+        let stale : is_stale scheme trace hart x ≡ true = (stale_iff scheme trace hart x).1 (verdict-stale scheme v newest trace hart x due.given) in
+        let held_now : is_held scheme trace hart x ≡ true = (and_parts (is_held scheme trace hart x) _ stale).0 in
+        let dead : is_live scheme trace hart x ≡ false = false_from_ne_true _ (λ live. true≢false (sym stale ∙ live-not_stale scheme trace hart x live)) in
+        let n : ℕ = last_live_of scheme trace hart x in
+        let known : knows hart x n held ≡ true = elim (are.all hart x norm held_now dead) [
+          | inl known ↦ known
+          | inr left ↦ absurd (true≢false (sym stale ∙ fine_of scheme trace hart x n (are.left hart x n left)))
+        ] in
+        let any = joined_all cause (IsKnown scheme trace) hart x n
+        (λ i known of.
+        let same = of_same hart x i of in
+        (causes.due i known).0 (subst (λ h. IsDue scheme v newest trace h (translation_of i)) (sym same.hart) (subst (λ (y : Translation). IsDue scheme v newest trace hart y) (sym same.translation) due)))
+        held [] are.each known in
+        let at = any_at (λ w. (w.hart == hart) && is_line (shown_of w) x) (joined cause held []) any in
+        let parts = and_parts (at.0.hart == hart) (is_line (shown_of at.0) x) at.2 in
+        let verdict : at.0.verdict ≡ v = subst (λ (w : Warning). w.verdict ≡ v) at.1.2 (each_contained Right (joined cause held []) at.1.0 at.0 all_right at.1.1).0 in
+        (at.0, at.1, verdict, eqb-true _ _ parts.0, line_shows (shown_of at.0) x parts.1)
+
+    pub are_warnings : AreWarnings scheme newest trace (joined cause held [])
+    are_warnings = record {
+      each = λ w c. subst (λ (u : Warning). IsDue scheme u.verdict newest trace u.hart (shown_of u) × IsStaleFrom scheme u.stale_since trace u.hart (shown_of u)) c.2 (each_contained Right (joined cause held []) c.0 w all_right c.1).1;
+      all = λ u hart x due.
+          let is : u ≡ verdict_of cause = causes.only u hart x due.given in
+          let mine : IsDue scheme (verdict_of cause) newest trace hart x = subst (λ u. IsDue scheme u newest trace hart x) is due in
+          let w = has_warning hart (normalized x) (normalized_twice x) (due_normalized scheme (verdict_of cause) newest trace hart x mine) in
+          (w.0, w.1, w.2 ∙ sym is, w.3, shows_normalized (shown_of w.0) x w.4);
+      once = pairs_all (joined cause held []) (joined_apart cause held [] tt);
+    }
 
 -- the causes
 and_due : (scheme : Scheme) (v : Verdict) (newest : Record) (trace : Trace) (hart : ℕ) (x : Translation) → IsDue scheme v newest trace hart x ↔ ((has_verdict scheme v newest trace hart x && is_new scheme v trace hart x) ≡ true)

@@ -1,15 +1,15 @@
--- Lists in which a hart and a translation stand at most once.
-use Rattle.std.proofs.Common.{◌≡◌, ℕ, Bool, true, false, List, [], ◌∷◌, IsTrue, ap, sym, ◌∙◌, subst, refl, inl, inr, arith}
-use Rattle.std.specs.Prelude.{◌↔◌, ◌==◌, ◌&&◌, ◌||◌, cond, map, filter}
-use Rattle.std.proofs.lemmas.Bool.{and_parts, and_from, eq-eqb, eqb-true, or_cases, or_left, or_right, or_from, or_parts, not-true, true≢false}
+-- Lists of what harts may hold.
+use Rattle.std.proofs.Common.{◌≡◌, ℕ, ◌<◌, ◌≤◌, Bool, true, false, List, [], ◌∷◌, IsTrue, ap, sym, ◌∙◌, refl, inl, inr, arith}
+use Rattle.std.specs.Prelude.{◌↔◌, ◌==◌, ◌&&◌, ◌||◌, nat_le, nat_lt, cond, map, filter}
+use Rattle.std.proofs.lemmas.Bool.{and_parts, and_from, eq-eqb, eqb-true, or_cases, or_left, or_right, not-true, true≢false}
+use Rattle.std.proofs.lemmas.Bool.Decides.{nat_tests}
 use Rattle.pte.specs.declared.address.PageSize.{PageSize}
 use Rattle.pte.specs.declared.address.PageSize.TheVariants.{Kib4, Mib2, Gib1, Gib512}
 use Rattle.pte.specs.Address.{level_of}
 use Rattle.tlb.specs.declared.store.Entry.{Entry}
 use Rattle.watch.specs.Holding.{Translation}
 use Rattle.watch_engine.specs.declared.held.Held.{Held}
-use Rattle.watch_engine.specs.Held.{is_of, is_same, is_same_entry, translation_of}
-use Rattle.watch_engine.specs.Follows.{Distinct, Each, has}
+use Rattle.watch_engine.specs.Held.{Each, is_of, is_same, is_same_entry, knows, translation_of}
 
 -- equal by the test
 pub same_bool : (a b : Bool) → is_same a b ≡ true → a ≡ b
@@ -73,11 +73,17 @@ of_same hart x i h =
 pub is_itself : (i : Held) → is_of i.hart (translation_of i) i ≡ true
 is_itself i = and_from _ _ (eq-eqb i.hart i.hart refl) (and_from _ _ (eq-eqb i.root i.root refl) (entry_same i.entry))
 
--- of two harts and translations that one item is of, both are one
-pub of_both : (hart : ℕ) (x : Translation) (i j : Held) → is_of hart x i ≡ true → is_of hart x j ≡ true → is_of i.hart (translation_of i) j ≡ true
-of_both hart x i j a b =
-    let s = of_same hart x i a in
-    subst (λ (h : ℕ). is_of h (translation_of i) j ≡ true) (sym s.hart) (subst (λ (y : Translation). is_of hart y j ≡ true) (sym s.translation) b)
+pub at_most : (a b : ℕ) → nat_le a b ≡ true → a ≤ b
+at_most a b h = grind (arith, nat_tests)
+
+pub from_at_most : (a b : ℕ) → a ≤ b → nat_le a b ≡ true
+from_at_most a b h = grind (arith, nat_tests)
+
+pub within : (a b : ℕ) → nat_lt a b ≡ true → a < b
+within a b h = grind (arith, nat_tests)
+
+pub from_within : (a b : ℕ) → a < b → nat_lt a b ≡ true
+from_within a b h = grind (arith, nat_tests)
 
 -- Each
 pub each_weaker : (P Q : Held → Type 0) → ((i : Held) → P i → Q i) → (held : List Held) → Each P held → Each Q held
@@ -102,74 +108,53 @@ each_filter P Q p g (i ∷ held) e =
     ] in
     go (p i) refl
 
--- an item that is there has what each has
-pub each_has : (P : Held → Type 0) (hart : ℕ) (x : Translation) (held : List Held) → Each P held → has hart x held ≡ true → (i : Held) × (is_of hart x i ≡ true) × P i
-each_has P hart x [] e h = cc
-each_has P hart x (i ∷ held) e h =
-    elim (or_cases (is_of hart x i) (has hart x held) h) [
-      | inl here ↦ (i, here, e.0)
-      | inr there ↦ each_has P hart x held e.1 there
+-- an item that is known
+pub record Knowing (P : Held → Type 0) (hart : ℕ) (x : Translation) (n : ℕ) : Type 0 where
+  pub item : Held
+  pub of : is_of hart x item ≡ true
+  pub last : n ≤ item.last_live
+  pub has : P item
+
+pub each_knows : (P : Held → Type 0) (hart : ℕ) (x : Translation) (n : ℕ) (held : List Held) → Each P held → knows hart x n held ≡ true → Knowing P hart x n
+each_knows P hart x n [] e h = cc
+each_knows P hart x n (i ∷ held) e h =
+    elim (or_cases (is_of hart x i && nat_le n i.last_live) (knows hart x n held) h) [
+      | inl here ↦ let p = and_parts (is_of hart x i) (nat_le n i.last_live) here in record { item = i; of = p.0; last = at_most n i.last_live p.1; has = e.0 }
+      | inr there ↦ each_knows P hart x n held e.1 there
     ]
 
 -- the items that a test leaves
-pub has_filter : (P : Held → Type 0) (p : Held → Bool) (hart : ℕ) (x : Translation) → ((i : Held) → P i → is_of hart x i ≡ true → p i ≡ true)
-    → (held : List Held) → Each P held → has hart x held ≡ true → has hart x (filter p held) ≡ true
-has_filter P p hart x keep [] e h = h
-has_filter P p hart x keep (i ∷ held) e h =
-    let go : (b : Bool) → p i ≡ b → has hart x (cond b (i ∷ filter p held) (filter p held)) ≡ true =
-    λ b. elim b as (λ b. p i ≡ b → has hart x (cond b (i ∷ filter p held) (filter p held)) ≡ true) [
-      | true ↦ λ t. elim (or_cases (is_of hart x i) (has hart x held) h) [
+pub knows_filter : (P : Held → Type 0) (p : Held → Bool) (hart : ℕ) (x : Translation) (n : ℕ) → ((i : Held) → P i → is_of hart x i ≡ true → n ≤ i.last_live → p i ≡ true)
+    → (held : List Held) → Each P held → knows hart x n held ≡ true → knows hart x n (filter p held) ≡ true
+knows_filter P p hart x n keep [] e h = h
+knows_filter P p hart x n keep (i ∷ held) e h =
+    let go : (b : Bool) → p i ≡ b → knows hart x n (cond b (i ∷ filter p held) (filter p held)) ≡ true =
+    λ b. elim b as (λ b. p i ≡ b → knows hart x n (cond b (i ∷ filter p held) (filter p held)) ≡ true) [
+      | true ↦ λ t. elim (or_cases (is_of hart x i && nat_le n i.last_live) (knows hart x n held) h) [
         | inl here ↦ or_left _ _ here
-        | inr there ↦ or_right (is_of hart x i) _ (has_filter P p hart x keep held e.1 there)
+        | inr there ↦ or_right (is_of hart x i && nat_le n i.last_live) _ (knows_filter P p hart x n keep held e.1 there)
       ]
-      | false ↦ λ t. elim (or_cases (is_of hart x i) (has hart x held) h) [
-        | inl here ↦ absurd (true≢false (sym (keep i e.0 here) ∙ t))
-        | inr there ↦ has_filter P p hart x keep held e.1 there
+      | false ↦ λ t. elim (or_cases (is_of hart x i && nat_le n i.last_live) (knows hart x n held) h) [
+        | inl here ↦ let q = and_parts (is_of hart x i) (nat_le n i.last_live) here in absurd (true≢false (sym (keep i e.0 q.0 (at_most n i.last_live q.1)) ∙ t))
+        | inr there ↦ knows_filter P p hart x n keep held e.1 there
       ]
     ] in
     go (p i) refl
 
-pub filter_has-not : (p : Held → Bool) (hart : ℕ) (x : Translation) (held : List Held) → has hart x held ≡ false → has hart x (filter p held) ≡ false
-filter_has-not p hart x [] h = refl
-filter_has-not p hart x (i ∷ held) h =
-    let parts = or_parts (is_of hart x i) (has hart x held) h in
-    let rest = filter_has-not p hart x held parts.1 in
-    elim (p i) as (λ b. has hart x (cond b (i ∷ filter p held) (filter p held)) ≡ false) [
-      | true ↦ or_from _ _ parts.0 rest
-      | false ↦ rest
-    ]
-
-pub distinct_filter : (p : Held → Bool) (held : List Held) → Distinct held → Distinct (filter p held)
-distinct_filter p [] d = tt
-distinct_filter p (i ∷ held) d =
-    elim (p i) as (λ b. Distinct (cond b (i ∷ filter p held) (filter p held))) [
-      | true ↦ (filter_has-not p i.hart (translation_of i) held d.0, distinct_filter p held d.1)
-      | false ↦ distinct_filter p held d.1
-    ]
-
--- a change that leaves the hart and the translation
+-- a change that leaves the hart, the translation and when it was live
 pub record KeepsKey (f : Held → Held) : Type 0 where
   pub hart : (i : Held) → (f i).hart ≡ i.hart
   pub root : (i : Held) → (f i).root ≡ i.root
   pub entry : (i : Held) → (f i).entry ≡ i.entry
-
-pub key_of : (f : Held → Held) → KeepsKey f → (hart : ℕ) (x : Translation) (i : Held) → is_of hart x (f i) ≡ is_of hart x i
-key_of f k hart x i =
-    λ j. ((k.hart i j == hart) && ((k.root i j == x.root) && is_same_entry (k.entry i j) x.entry))
+  pub last : (i : Held) → (f i).last_live ≡ i.last_live
 
 pub key_translation : (f : Held → Held) → KeepsKey f → (i : Held) → translation_of (f i) ≡ translation_of i
 key_translation f k i = λ j. record { root = k.root i j; entry = k.entry i j }
 
-pub has_map : (f : Held → Held) → KeepsKey f → (hart : ℕ) (x : Translation) (held : List Held) → has hart x (map f held) ≡ has hart x held
-has_map f k hart x [] = refl
-has_map f k hart x (i ∷ held) = λ j. key_of f k hart x i j || has_map f k hart x held j
-
-pub distinct_map : (f : Held → Held) → KeepsKey f → (held : List Held) → Distinct held → Distinct (map f held)
-distinct_map f k [] d = tt
-distinct_map f k (i ∷ held) d = (
-  (λ j. has (k.hart i j) (key_translation f k i j) (map f held)) ∙ (has_map f k i.hart (translation_of i) held ∙ d.0),
-  distinct_map f k held d.1,
-)
+pub knows_map : (f : Held → Held) → KeepsKey f → (hart : ℕ) (x : Translation) (n : ℕ) (held : List Held) → knows hart x n (map f held) ≡ knows hart x n held
+knows_map f k hart x n [] = refl
+knows_map f k hart x n (i ∷ held) =
+    λ j. (((k.hart i j == hart) && ((k.root i j == x.root) && is_same_entry (k.entry i j) x.entry)) && nat_le n (k.last i j)) || knows_map f k hart x n held j
 
 pub map_same : (held : List Held) → map (λ (i : Held). i) held ≡ held
 map_same [] = refl

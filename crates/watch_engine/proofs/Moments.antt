@@ -6,7 +6,7 @@ use Rattle.pte.specs.declared.scheme.Scheme.{Scheme}
 use Rattle.watch.specs.declared.trace.Verdict.{Verdict}
 use Rattle.watch.specs.Trace.{Trace, begins_claim, begins_fence}
 use Rattle.watch.specs.Holding.{Translation}
-use Rattle.watch.proofs.ComputedTraces.{is_current, has_held, is_held, is_live, is_live_since, is_stale, is_stale_since_claim}
+use Rattle.watch.specs.ComputedTraces.{is_current, has_held, is_held, is_live, is_live_since, is_stale, is_stale_since_claim}
 use Rattle.watch_engine.specs.Held.{is_by, since_after}
 use Rattle.watch_engine.specs.Open.{claim_begun, fence_begun}
 use Rattle.watch_engine.specs.Follows.{last_live_of, stale_since_of}

@@ -6,8 +6,8 @@ use Rattle.std.proofs.lemmas.List.{append-nil, drop_all, take_all}
 use Rattle.std.proofs.Math.Pow.{pow_mono}
 use Rattle.std.proofs.Math.Nat.{div-eq_of_lt}
 use Rattle.watch_engine.specs.declared.held.Held.{Held}
-use Rattle.watch_engine.specs.declared.held.LiveEntry.{LiveEntry}
-use Rattle.watch_engine.specs.Held.{held_from, is_of, live_translation, place_in, remembered, remembered_all}
+use Rattle.watch_engine.specs.declared.held.LastLive.{LastLive}
+use Rattle.watch_engine.specs.Held.{held_from, is_of, last_translation, later, place_in, remembered, remembered_all}
 
 -- a number of 64 bits has no bit from 64 on
 pub high_bit : (n k : ℕ) → n < 2 ^ 64 → 64 ≤ k → (bit_at n k == 1) ≡ false
@@ -16,36 +16,39 @@ high_bit n k small high =
     let none : n / 2 ^ k ≡ 0 = div-eq_of_lt (omega arith) in
     ap (λ q. q % 2 == 1) none
 
-module _ (l : LiveEntry) where
-  abbrev test : Held → Bool
-  test = is_of l.hart (live_translation l)
+abbrev pub touched : LastLive → Held → Held
+touched l i = record i { last_live = later i.last_live l.last_live }
 
-  pub not_placed : (n count : ℕ) (held : List Held) → place_in (is_of l.hart (live_translation l)) n held ≡ None → remembered count l held ≡ held ++ held_from count l ∷ []
-  not_placed n count [] e = refl
-  not_placed n count (i ∷ held) e =
-      let go : (b : Bool) → cond b (Some n) (place_in test (n + 1) held) ≡ None → cond b (record i { last_live = count } ∷ held) (i ∷ remembered count l held) ≡ i ∷ held ++ held_from count l ∷ [] =
-      λ b. elim b as (λ b. cond b (Some n) (place_in test (n + 1) held) ≡ None → cond b (record i { last_live = count } ∷ held) (i ∷ remembered count l held) ≡ i ∷ held ++ held_from count l ∷ []) [
+module _ (l : LastLive) where
+  abbrev test : Held → Bool
+  test = is_of l.hart (last_translation l)
+
+  pub not_placed : (n : ℕ) (held : List Held) → place_in (is_of l.hart (last_translation l)) n held ≡ None → remembered l held ≡ held ++ held_from l ∷ []
+  not_placed n [] e = refl
+  not_placed n (i ∷ held) e =
+      let go : (b : Bool) → cond b (Some n) (place_in test (n + 1) held) ≡ None → cond b (touched l i ∷ held) (i ∷ remembered l held) ≡ i ∷ held ++ held_from l ∷ [] =
+      λ b. elim b as (λ b. cond b (Some n) (place_in test (n + 1) held) ≡ None → cond b (touched l i ∷ held) (i ∷ remembered l held) ≡ i ∷ held ++ held_from l ∷ []) [
         | true ↦ λ e. cc
-        | false ↦ λ e. ap (λ is. i ∷ is) (not_placed (n + 1) count held e)
+        | false ↦ λ e. ap (λ is. i ∷ is) (not_placed (n + 1) held e)
       ] in
-      go (is_of l.hart (live_translation l) i) e
+      go (is_of l.hart (last_translation l) i) e
 
   pub record Placed (n place : ℕ) (held : List Held) : Type 0 where
     pub at : ℕ
     pub from : place ≡ n + at
     pub within : at < length held
-    pub is : (count : ℕ) (i : Held) → i ≡ get_or held at i → set held at (record i { last_live = count }) ≡ remembered count l held
+    pub is : (i : Held) → i ≡ get_or held at i → set held at (touched l i) ≡ remembered l held
 
-  pub placed : (n place : ℕ) (held : List Held) → place_in (is_of l.hart (live_translation l)) n held ≡ Some place → Placed n place held
+  pub placed : (n place : ℕ) (held : List Held) → place_in (is_of l.hart (last_translation l)) n held ≡ Some place → Placed n place held
   placed n place [] e = cc
   placed n place (i ∷ held) e =
-      let go : (b : Bool) → is_of l.hart (live_translation l) i ≡ b → cond b (Some n) (place_in test (n + 1) held) ≡ Some place → Placed n place (i ∷ held) =
-      λ b. elim b as (λ b. is_of l.hart (live_translation l) i ≡ b → cond b (Some n) (place_in test (n + 1) held) ≡ Some place → Placed n place (i ∷ held)) [
+      let go : (b : Bool) → is_of l.hart (last_translation l) i ≡ b → cond b (Some n) (place_in test (n + 1) held) ≡ Some place → Placed n place (i ∷ held) =
+      λ b. elim b as (λ b. is_of l.hart (last_translation l) i ≡ b → cond b (Some n) (place_in test (n + 1) held) ≡ Some place → Placed n place (i ∷ held)) [
         | true ↦ λ t e. record {
           at = 0;
           from = let same : n ≡ place = cc in omega arith;
           within = omega arith;
-          is = λ count j same. ap (λ (k : Held). record k { last_live = count } ∷ held) same ∙ sym (ap (λ b. cond b (record i { last_live = count } ∷ held) (i ∷ remembered count l held)) t);
+          is = λ j same. ap (λ (k : Held). touched l k ∷ held) same ∙ sym (ap (λ b. cond b (touched l i ∷ held) (i ∷ remembered l held)) t);
         }
         | false ↦ λ t e.
             let rest = placed (n + 1) place held e in
@@ -53,14 +56,14 @@ module _ (l : LiveEntry) where
               at = suc rest.at;
               from = omega (arith, rest.from);
               within = omega (arith, rest.within);
-              is = λ count j same. ap (λ is. i ∷ is) (rest.is count j same) ∙ sym (ap (λ b. cond b (record i { last_live = count } ∷ held) (i ∷ remembered count l held)) t);
+              is = λ j same. ap (λ is. i ∷ is) (rest.is j same) ∙ sym (ap (λ b. cond b (touched l i ∷ held) (i ∷ remembered l held)) t);
             }
       ] in
-      go (is_of l.hart (live_translation l) i) refl e
+      go (is_of l.hart (last_translation l) i) refl e
 
-pub remembered_push : (count : ℕ) (live : List LiveEntry) (l : LiveEntry) (held : List Held) → remembered_all count (live ++ l ∷ []) held ≡ remembered count l (remembered_all count live held)
-remembered_push count [] l held = refl
-remembered_push count (m ∷ live) l held = remembered_push count live l (remembered count m held)
+pub remembered_push : (live : List LastLive) (l : LastLive) (held : List Held) → remembered_all (live ++ l ∷ []) held ≡ remembered l (remembered_all live held)
+remembered_push [] l held = refl
+remembered_push (m ∷ live) l held = remembered_push live l (remembered m held)
 
 pub none_placed : (o : Option ℕ) → ((n : ℕ) → o ≡ Some n → ⊥) → o ≡ None
 none_placed None f = refl

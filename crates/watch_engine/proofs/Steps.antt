@@ -1,18 +1,18 @@
 -- What a record leaves of what is known.
-use Rattle.std.proofs.Common.{◌≡◌, ℕ, Bool, true, false, None, List, ◌∷◌, length, ap, sym, ◌∙◌, subst, inl, inr}
+use Rattle.std.proofs.Common.{◌≡◌, ℕ, ◌≤◌, ◌⊎◌, Bool, true, false, None, List, ◌∷◌, length, ap, sym, ◌∙◌, subst, inl, inr, arith}
 use Rattle.std.specs.Prelude.{◌&&◌, ◌||◌, cond, not, map, filter}
-use Rattle.std.proofs.lemmas.Bool.{and_parts, not-true, true≢false, cases_Bool}
+use Rattle.std.proofs.lemmas.Bool.{and_parts, and_from, or_right, not-true, true≢false, cases_Bool}
 use Rattle.pte.specs.declared.scheme.Scheme.{Scheme}
 use Rattle.watch.specs.declared.trace.Record.{Record}
 use Rattle.watch.specs.declared.trace.Verdict.TheVariants.{Free, Reuse, Claimed}
 use Rattle.watch.specs.Trace.{Trace}
 use Rattle.watch.specs.Holding.{Translation}
-use Rattle.watch.proofs.ComputedTraces.{is_current, has_held, has_verdict, is_dropped, is_held, is_live, is_stale}
+use Rattle.watch.specs.ComputedTraces.{is_current, has_held, has_verdict, is_dropped, is_held, is_live, is_stale}
 use Rattle.watch_engine.specs.declared.held.Held.{Held}
-use Rattle.watch_engine.specs.Held.{since_after, translation_of}
-use Rattle.watch_engine.specs.Follows.{AreHeld, Each, IsKnown, has, last_live_of, stale_since_of}
-use Rattle.watch_engine.proofs.Lists.{KeepsKey, distinct_filter, distinct_map, each_both, each_filter, each_map, has_filter, has_map, of_same}
-use Rattle.watch_engine.proofs.Moments.{held_stale, live_now}
+use Rattle.watch_engine.specs.Held.{IsNormalized, knows, since_after, translation_of}
+use Rattle.watch_engine.specs.Follows.{AreHeld, IsKnown, last_live_of, stale_since_of}
+use Rattle.watch_engine.proofs.Lists.{KeepsKey, each_filter, each_map, knows_filter, knows_map, of_same}
+use Rattle.watch_engine.proofs.Moments.{held_stale, last_within, live_now}
 
 -- what is known after a record, by whether the tables have it then, the number of records, and the verdicts given
 abbrev pub advanced : Bool → ℕ → Bool → Bool → Bool → Held → Held
@@ -26,10 +26,17 @@ module _ (scheme : Scheme) (newest : Record) (trace : Trace) where
       advanced (is_current scheme (newest ∷ trace) (translation_of i)) (length (newest ∷ trace))
       (has_verdict scheme Free newest trace i.hart (translation_of i)) (has_verdict scheme Reuse newest trace i.hart (translation_of i)) (has_verdict scheme Claimed newest trace i.hart (translation_of i)) i
 
+  pub last_grows : (hart : ℕ) (x : Translation) (n : ℕ) → n ≤ last_live_of scheme trace hart x → n ≤ last_live_of scheme (newest ∷ trace) hart x
+  last_grows hart x n less =
+      let within = last_within scheme trace hart x in
+      elim (is_live scheme (newest ∷ trace) hart x) as (λ b. n ≤ cond b (length (newest ∷ trace)) (last_live_of scheme trace hart x)) [
+        | true ↦ omega arith
+        | false ↦ less
+      ]
+
   -- what is held after the record is known after it
-  pub known-after : (i : Held) → IsKnown scheme trace i → is_held scheme (newest ∷ trace) i.hart (translation_of i) ≡ true
-      → (is_live scheme (newest ∷ trace) i.hart (translation_of i) ≡ false → i.last_live ≡ last_live_of scheme trace i.hart (translation_of i)) → IsKnown scheme (newest ∷ trace) (After i)
-  known-after i known held last =
+  pub known-after : (i : Held) → IsKnown scheme trace i → is_held scheme (newest ∷ trace) i.hart (translation_of i) ≡ true → IsKnown scheme (newest ∷ trace) (After i)
+  known-after i known held =
       let x : Translation = translation_of i in
       let h : ℕ = i.hart in
       let n : ℕ = length (newest ∷ trace) in
@@ -37,8 +44,7 @@ module _ (scheme : Scheme) (newest : Record) (trace : Trace) where
       let r : Bool = has_verdict scheme Reuse newest trace h x in
       let c : Bool = has_verdict scheme Claimed newest trace h x in
       let stale = held_stale scheme (newest ∷ trace) h x held in
-      let later : is_live scheme (newest ∷ trace) h x ≡ false → i.last_live ≡ last_live_of scheme (newest ∷ trace) h x =
-      λ dead. last dead ∙ sym (ap (λ b. cond b n (last_live_of scheme trace h x)) dead) in
+      let later : i.last_live ≤ last_live_of scheme (newest ∷ trace) h x = last_grows h x i.last_live known.last in
       let go : (m : Bool) → is_stale scheme (newest ∷ trace) h x ≡ not m → IsKnown scheme (newest ∷ trace) (advanced m n f r c i) =
       λ m. elim m as (λ m. is_stale scheme (newest ∷ trace) h x ≡ not m → IsKnown scheme (newest ∷ trace) (advanced m n f r c i)) [
         | true ↦ λ s. record {
@@ -60,57 +66,77 @@ module _ (scheme : Scheme) (newest : Record) (trace : Trace) where
       ] in
       go (is_current scheme (newest ∷ trace) x) stale
 
-  -- what was live and is not after the record is there, with the moment
-  abbrev pub IsFresh : Held → Type 0
-  IsFresh i = is_live scheme trace i.hart (translation_of i) ≡ true → is_live scheme (newest ∷ trace) i.hart (translation_of i) ≡ false → i.last_live ≡ length trace
+  abbrev pub LiveAfter : ℕ → Translation → Bool
+  LiveAfter hart x = is_live scheme (newest ∷ trace) hart x
 
-  last-after : (i : Held) → IsKnown scheme trace i → IsFresh i → is_live scheme (newest ∷ trace) i.hart (translation_of i) ≡ false → i.last_live ≡ last_live_of scheme trace i.hart (translation_of i)
-  last-after i known fresh dead =
-      elim (cases_Bool (is_live scheme trace i.hart (translation_of i))) [
-        | inl live ↦ fresh live dead ∙ sym (live_now scheme trace i.hart (translation_of i) live)
-        | inr not_live ↦ known.last not_live
-      ]
-
-  pub record Leaves (held : List Held) (p : Held → Bool) (f : Held → Held) : Type 0 where
+  -- what the record leaves of what was left in spaces, and of the items, by a test and a change
+  pub record Leaves (Old New : ℕ → Translation → ℕ → Type 0) (held : List Held) (p : Held → Bool) (f : Held → Held) : Type 0 where
     pub keeps : KeepsKey f
-    pub fresh : Each IsFresh held
-    pub there : (hart : ℕ) (x : Translation) → is_live scheme trace hart x ≡ true → is_live scheme (newest ∷ trace) hart x ≡ false → has hart x held ≡ true
+    pub left : (hart : ℕ) (x : Translation) (n : ℕ) → New hart x n → Old hart x n × (is_dropped scheme newest trace hart x ≡ false) × (is_current scheme (newest ∷ trace) x ≡ true)
+    pub live : (hart : ℕ) (x : Translation) → IsNormalized x → is_live scheme trace hart x ≡ true → LiveAfter hart x ≡ false → (knows hart x (length trace) held ≡ true) ⊎ New hart x (length trace)
+    pub stays : (hart : ℕ) (x : Translation) (n : ℕ) → IsNormalized x → Old hart x n → last_live_of scheme trace hart x ≤ n → LiveAfter hart x ≡ false → is_dropped scheme newest trace hart x ≡ false → (knows hart x n held ≡ true) ⊎ New hart x n
     pub kept : (i : Held) → IsKnown scheme trace i → p i ≡ true → is_held scheme (newest ∷ trace) i.hart (translation_of i) ≡ true
-    pub dropped : (i : Held) → IsKnown scheme trace i → IsFresh i → p i ≡ false → is_live scheme (newest ∷ trace) i.hart (translation_of i) ≡ false → is_dropped scheme newest trace i.hart (translation_of i) ≡ true
+    pub dropped : (i : Held) → IsKnown scheme trace i → last_live_of scheme trace i.hart (translation_of i) ≤ i.last_live → p i ≡ false → LiveAfter i.hart (translation_of i) ≡ false → is_dropped scheme newest trace i.hart (translation_of i) ≡ true
     pub after : (i : Held) → IsKnown scheme trace i → is_held scheme (newest ∷ trace) i.hart (translation_of i) ≡ true → f i ≡ After i
 
-  pub held-before : (hart : ℕ) (x : Translation) → is_held scheme (newest ∷ trace) hart x ≡ true → is_live scheme (newest ∷ trace) hart x ≡ false → (is_held scheme trace hart x ≡ true) × (is_dropped scheme newest trace hart x ≡ false)
+  pub held-before : (hart : ℕ) (x : Translation) → is_held scheme (newest ∷ trace) hart x ≡ true → LiveAfter hart x ≡ false → (is_held scheme trace hart x ≡ true) × (is_dropped scheme newest trace hart x ≡ false)
   held-before hart x held dead =
       let more : (is_held scheme trace hart x && not (is_dropped scheme newest trace hart x)) ≡ true = sym (ap (λ b. b || (is_held scheme trace hart x && not (is_dropped scheme newest trace hart x))) dead) ∙ held in
       let parts = and_parts (is_held scheme trace hart x) _ more in
       (parts.0, not-true _ parts.1)
 
-  pub step : (held : List Held) (p : Held → Bool) (f : Held → Held) → Leaves held p f → AreHeld scheme trace held → AreHeld scheme (newest ∷ trace) (map f (filter p held))
-  step held p f leaves are =
-      let both = each_both (IsKnown scheme trace) IsFresh held are.each leaves.fresh in
-      let one : (i : Held) → (IsKnown scheme trace i × IsFresh i) → p i ≡ true → IsKnown scheme (newest ∷ trace) (f i) =
-      λ i k t.
-      let stays = leaves.kept i k.0 t in
-      subst (IsKnown scheme (newest ∷ trace)) (sym (leaves.after i k.0 stays)) (known-after i k.0 stays (last-after i k.0 k.1)) in
-      record {
-        each = each_map (λ i. IsKnown scheme (newest ∷ trace) (f i)) (IsKnown scheme (newest ∷ trace)) f (λ i k. k) (filter p held) (each_filter _ _ p one held both);
-        all = λ hart x h dead.
-            let was = held-before hart x h dead in
-            has_map f leaves.keeps hart x (filter p held)
-            ∙ has_filter _ p hart x
-            (λ i k of. elim (cases_Bool (p i)) [
-              | inl t ↦ t
-              | inr t ↦
-                  let same = of_same hart x i of in
-                  let not_live : is_live scheme (newest ∷ trace) i.hart (translation_of i) ≡ false = (λ j. is_live scheme (newest ∷ trace) (same.hart j) (same.translation j)) ∙ dead in
-                  let gone = leaves.dropped i k.0 k.1 t not_live in
-                  let here : is_dropped scheme newest trace i.hart (translation_of i) ≡ false = (λ j. is_dropped scheme newest trace (same.hart j) (same.translation j)) ∙ was.1 in
-                  absurd (true≢false (sym gone ∙ here))
-            ])
-            held both
-            (elim (cases_Bool (is_live scheme trace hart x)) [
-              | inl live ↦ leaves.there hart x live dead
-              | inr not_live ↦ are.all hart x was.0 not_live
-            ]);
-        once = distinct_map f leaves.keeps (filter p held) (distinct_filter p held are.once);
-      }
+  pub held-on : (hart : ℕ) (x : Translation) → is_held scheme trace hart x ≡ true → is_dropped scheme newest trace hart x ≡ false → is_held scheme (newest ∷ trace) hart x ≡ true
+  held-on hart x held stays =
+      or_right (is_live scheme (newest ∷ trace) hart x) (is_held scheme trace hart x && not (is_dropped scheme newest trace hart x))
+      (and_from _ _ held (ap not stays))
+
+  module _ (Old New : ℕ → Translation → ℕ → Type 0) (held : List Held) (p : Held → Bool) (f : Held → Held) (leaves : Leaves Old New held p f) (are : AreHeld scheme trace Old held) where
+    -- what is known survives the test
+    survives : (hart : ℕ) (x : Translation) → LiveAfter hart x ≡ false → is_dropped scheme newest trace hart x ≡ false → knows hart x (last_live_of scheme trace hart x) held ≡ true
+        → knows hart x (last_live_of scheme trace hart x) (map f (filter p held)) ≡ true
+    survives hart x dead stays known =
+        knows_map f leaves.keeps hart x (last_live_of scheme trace hart x) (filter p held)
+        ∙ knows_filter (IsKnown scheme trace) p hart x (last_live_of scheme trace hart x)
+        (λ i k of last. elim (cases_Bool (p i)) [
+          | inl t ↦ t
+          | inr t ↦
+              let same = of_same hart x i of in
+              let dead_here : LiveAfter i.hart (translation_of i) ≡ false = (λ j. LiveAfter (same.hart j) (same.translation j)) ∙ dead in
+              let last_here : last_live_of scheme trace i.hart (translation_of i) ≤ i.last_live =
+              subst (λ h. last_live_of scheme trace h (translation_of i) ≤ i.last_live) (sym same.hart)
+              (subst (λ (y : Translation). last_live_of scheme trace hart y ≤ i.last_live) (sym same.translation) last) in
+              let gone = leaves.dropped i k last_here t dead_here in
+              let here : is_dropped scheme newest trace i.hart (translation_of i) ≡ false = (λ j. is_dropped scheme newest trace (same.hart j) (same.translation j)) ∙ stays in
+              absurd (true≢false (sym gone ∙ here))
+        ]) held are.each known
+
+    pub step : AreHeld scheme (newest ∷ trace) New (map f (filter p held))
+    step =
+        let one : (i : Held) → IsKnown scheme trace i → p i ≡ true → IsKnown scheme (newest ∷ trace) (f i) =
+        λ i k t.
+        let stays = leaves.kept i k t in
+        subst (IsKnown scheme (newest ∷ trace)) (sym (leaves.after i k stays)) (known-after i k stays) in
+        record {
+          each = each_map (λ i. IsKnown scheme (newest ∷ trace) (f i)) (IsKnown scheme (newest ∷ trace)) f (λ i k. k) (filter p held) (each_filter _ _ p one held are.each);
+          left = λ hart x n new.
+              let l = leaves.left hart x n new in
+              let old = are.left hart x n l.0 in
+              record { held = held-on hart x old.held l.1; last = last_grows hart x n old.last; current = l.2 };
+          all = λ hart x norm h dead.
+              let was = held-before hart x h dead in
+              let last : ℕ = last_live_of scheme trace hart x in
+              let same : last ≡ last_live_of scheme (newest ∷ trace) hart x = sym (ap (λ b. cond b (length (newest ∷ trace)) (last_live_of scheme trace hart x)) dead) in
+              let Goal : ℕ → Type 0 = λ n. (knows hart x n (map f (filter p held)) ≡ true) ⊎ New hart x n in
+              let done : (knows hart x last held ≡ true) ⊎ New hart x last → Goal last =
+              λ s. elim s [
+                | inl known ↦ inl (survives hart x dead was.1 known)
+                | inr new ↦ inr new
+              ] in
+              subst Goal same (done (elim (cases_Bool (is_live scheme trace hart x)) [
+                | inl live ↦ subst (λ n. (knows hart x n held ≡ true) ⊎ New hart x n) (sym (live_now scheme trace hart x live)) (leaves.live hart x norm live dead)
+                | inr not_live ↦ elim (are.all hart x norm was.0 not_live) [
+                  | inl known ↦ inl known
+                  | inr old ↦ leaves.stays hart x last norm old (omega arith) dead was.1
+                ]
+              ]));
+        }

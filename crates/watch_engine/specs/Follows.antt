@@ -1,14 +1,13 @@
--- What is kept of a trace: for each hart what it may hold besides what is live for it.
-use Rattle.std.specs.Prelude.{ℕ, Bool, true, false, ◌≡◌, if◌then◌else◌, length}
-use Rattle.std.specs.Prelude.{List, [], ◌∷◌, Option, None}
-use Rattle.std.specs.List.{list_any}
+-- What is kept of a trace: for each hart what it may hold and the tables do not tell.
+use Rattle.std.specs.Prelude.{ℕ, true, false, ◌≡◌, if◌then◌else◌, length}
+use Rattle.std.specs.Prelude.{◌≤◌, ◌⊎◌, List, [], ◌∷◌, Option, None}
 use Rattle.pte.specs.declared.scheme.Scheme.{Scheme}
 use Rattle.watch.specs.declared.trace.Verdict.TheVariants.{Free, Reuse, Claimed}
 use Rattle.watch.specs.Trace.{Trace}
 use Rattle.watch.specs.Holding.{Translation}
-use Rattle.watch.proofs.ComputedTraces.{has_held, is_held, is_live, is_stale}
+use Rattle.watch.specs.ComputedTraces.{has_held, is_current, is_held, is_live, is_stale}
 use Rattle.watch_engine.specs.declared.held.Held.{Held}
-use Rattle.watch_engine.specs.Held.{is_of, since_after, translation_of}
+use Rattle.watch_engine.specs.Held.{Each, IsNormalized, knows, since_after, translation_of}
 
 -- the number of records after which it was live last
 abbrev pub last_live_of : Scheme → Trace → ℕ → Translation → ℕ
@@ -28,29 +27,27 @@ stale_since_of scheme (newest ∷ trace) hart x =
 -- what is known of a translation is so
 pub record IsKnown (scheme : Scheme) (trace : Trace) (i : Held) : Type 0 where
   pub held : is_held scheme trace i.hart (translation_of i) ≡ true
-  pub last :
-      is_live scheme trace i.hart (translation_of i) ≡ false
-      → i.last_live ≡ last_live_of scheme trace i.hart (translation_of i)
+  pub last : i.last_live ≤ last_live_of scheme trace i.hart (translation_of i)
   pub since : i.stale_since ≡ stale_since_of scheme trace i.hart (translation_of i)
   pub freed : i.freed ≡ has_held scheme Free trace i.hart (translation_of i)
   pub reused : i.reused ≡ has_held scheme Reuse trace i.hart (translation_of i)
   pub claimed : i.claimed ≡ has_held scheme Claimed trace i.hart (translation_of i)
 
-abbrev pub Each : (Held → Type 0) → List Held → Type 0
-Each P [] = Unit {0}
-Each P (i ∷ held) = P i × Each P held
+-- the hart may hold it, and did so after these many records, and it is not stale
+pub record IsHeldFrom (scheme : Scheme) (trace : Trace) (hart : ℕ) (x : Translation)
+    (n : ℕ) : Type 0 where
+  pub held : is_held scheme trace hart x ≡ true
+  pub last : n ≤ last_live_of scheme trace hart x
+  pub current : is_current scheme trace x ≡ true
 
-abbrev pub has : ℕ → Translation → List Held → Bool
-has hart x held = list_any (is_of hart x) held
-
-abbrev pub Distinct : List Held → Type 0
-Distinct [] = Unit {0}
-Distinct (i ∷ held) = (has i.hart (translation_of i) held ≡ false) × Distinct held
-
--- these are what harts may hold, each once, but for what is live
-pub record AreHeld (scheme : Scheme) (trace : Trace) (held : List Held) : Type 0 where
+-- these are what harts may hold, and what they have left: each is held, and together they are all
+-- that is held but for what is live
+pub record AreHeld (scheme : Scheme) (trace : Trace) (IsLeft : ℕ → Translation → ℕ → Type 0)
+    (held : List Held) : Type 0 where
   pub each : Each (IsKnown scheme trace) held
+  pub left : (hart : ℕ) (x : Translation) (n : ℕ) → IsLeft hart x n → IsHeldFrom scheme trace hart x n
   pub all :
-      (hart : ℕ) (x : Translation) → is_held scheme trace hart x ≡ true
-      → is_live scheme trace hart x ≡ false → has hart x held ≡ true
-  pub once : Distinct held
+      (hart : ℕ) (x : Translation) → IsNormalized x → is_held scheme trace hart x ≡ true
+      → is_live scheme trace hart x ≡ false
+      → (knows hart x (last_live_of scheme trace hart x) held ≡ true)
+      ⊎ IsLeft hart x (last_live_of scheme trace hart x)

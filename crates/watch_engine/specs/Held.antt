@@ -1,11 +1,9 @@
--- What harts may hold besides what is live for them: a list in which a hart and a translation stand
--- at most once.
+-- What harts may hold and the tables do not tell: a list of translations, each with its hart.
 use Rattle.std.specs.Prelude.{ℕ, Bool, true, false, not, ◌+◌, ◌≡◌, ◌==◌, ◌&&◌, ◌||◌, nat_le, nat_lt, if◌then◌else◌}
-use Rattle.std.specs.Prelude.{List, [], ◌∷◌, ◌++◌, filter, Option, Some, None, is_some, get_or}
+use Rattle.std.specs.Prelude.{List, [], ◌∷◌, ◌++◌, filter, Option, Some, None, is_some}
 use Rattle.std.specs.List.{list_any}
 use Rattle.pte.specs.declared.scheme.Scheme.{Scheme}
 use Rattle.pte.specs.Address.{level_of, pages_of}
-use Rattle.walk.specs.Leads.{Tables}
 use Rattle.tlb.specs.declared.store.Entry.{Entry}
 use Rattle.tlb.specs.Entries.{is_match}
 use Rattle.tlb.specs.Fence.{is_fenced}
@@ -13,11 +11,11 @@ use Rattle.watch.specs.declared.trace.Frames.{Frames}
 use Rattle.watch.specs.declared.trace.Space.{Space}
 use Rattle.watch.specs.declared.trace.Verdict.{Verdict}
 use Rattle.watch.specs.declared.trace.Verdict.TheVariants.{Free, Reuse, Claimed, Used}
-use Rattle.watch.specs.Trace.{is_among}
-use Rattle.watch.specs.Holding.{HasLeaf, Translation, is_covered, names}
+use Rattle.watch.specs.Trace.{has_root, is_among}
+use Rattle.watch.specs.Holding.{Translation, is_covered, names}
 use Rattle.watch.specs.Verdicts.{is_claimed}
 use Rattle.watch_engine.specs.declared.held.Held.{Held}
-use Rattle.watch_engine.specs.declared.held.LiveEntry.{LiveEntry}
+use Rattle.watch_engine.specs.declared.held.LastLive.{LastLive}
 use Rattle.watch_engine.specs.declared.open.OpenClaim.{OpenClaim}
 use Rattle.watch_engine.specs.declared.open.OpenFence.{OpenFence}
 
@@ -33,45 +31,83 @@ is_same_entry a b =
     && ((level_of a.page.size == level_of b.page.size)
     && ((a.ppn == b.ppn) && (a.flags.0 == b.flags.0)))))
 
+-- what is global is of all address spaces: in place of its root and its ASID it has 0
+abbrev pub own : Bool → ℕ → ℕ
+own true n = 0
+own false n = n
+
+-- the translation of an address space with this leaf
+abbrev pub translation_in : Space → Entry → Translation
+translation_in space e =
+    record {
+      root = own e.global space.root;
+      entry = record e { asid = own e.global space.asid };
+    }
+
+-- a translation, with 0 in place of what says nothing
+abbrev pub normalized : Translation → Translation
+normalized x = translation_in (record { root = x.root; asid = x.entry.asid }) x.entry
+
+abbrev pub IsNormalized : Translation → Type 0
+IsNormalized x = normalized x ≡ x
+
 abbrev pub translation_of : Held → Translation
 translation_of i = record { root = i.root; entry = i.entry }
 
-abbrev pub live_translation : LiveEntry → Translation
-live_translation l = record { root = l.root; entry = l.entry }
+abbrev pub last_translation : LastLive → Translation
+last_translation s = record { root = s.root; entry = s.entry }
 
 -- it is the translation, held by the hart
 abbrev pub is_of : ℕ → Translation → Held → Bool
 is_of hart x i = (i.hart == hart) && ((i.root == x.root) && is_same_entry i.entry x.entry)
 
--- what is live now, as one that may be held
-abbrev pub held_from : ℕ → LiveEntry → Held
-held_from now l =
+-- a leaf that was live for the hart in the space, last after so many records
+abbrev pub last_live_in : ℕ → Space → Entry → ℕ → LastLive
+last_live_in hart space e last =
     record {
-      hart = l.hart;
-      root = l.root;
-      entry = l.entry;
-      last_live = now;
+      hart = hart;
+      root = own e.global space.root;
+      entry = record e { asid = own e.global space.asid };
+      last_live = last;
+    }
+
+-- what was live, as one that may be held
+abbrev pub held_from : LastLive → Held
+held_from s =
+    record {
+      hart = s.hart;
+      root = s.root;
+      entry = s.entry;
+      last_live = s.last_live;
       stale_since = None;
       freed = false;
       reused = false;
       claimed = false;
     }
 
--- an entry of a root, as what is live for a hart
-abbrev pub live_entry : ℕ → ℕ → Entry → LiveEntry
-live_entry hart root entry = record { hart = hart; root = root; entry = entry }
+-- the later of two moments
+abbrev pub later : ℕ → ℕ → ℕ
+later a b = if nat_lt a b then b else a
 
--- with a translation that is live now
-abbrev pub remembered : ℕ → LiveEntry → List Held → List Held
-remembered now l [] = held_from now l ∷ []
-remembered now l (i ∷ held) =
-    if is_of l.hart (live_translation l) i
-    then record i { last_live = now } ∷ held
-    else i ∷ remembered now l held
+-- with a translation that was live
+abbrev pub remembered : LastLive → List Held → List Held
+remembered s [] = held_from s ∷ []
+remembered s (i ∷ held) =
+    if is_of s.hart (last_translation s) i
+    then record i { last_live = later i.last_live s.last_live } ∷ held
+    else i ∷ remembered s held
 
-abbrev pub remembered_all : ℕ → List LiveEntry → List Held → List Held
-remembered_all now [] held = held
-remembered_all now (l ∷ live) held = remembered_all now live (remembered now l held)
+abbrev pub remembered_all : List LastLive → List Held → List Held
+remembered_all [] held = held
+remembered_all (s ∷ seen) held = remembered_all seen (remembered s held)
+
+-- it is known that the hart may hold the translation, live last after so many records or more
+abbrev pub knows : ℕ → Translation → ℕ → List Held → Bool
+knows hart x last held = list_any (λ i. is_of hart x i && nat_le last i.last_live) held
+
+abbrev pub is_listed : ℕ → Translation → ℕ → List LastLive → Bool
+is_listed hart x last seen =
+    list_any (λ s. is_of hart x (held_from s) && nat_le last s.last_live) seen
 
 -- since when it has been stale, after a record that leaves it stale or not
 abbrev pub since_after : Bool → ℕ → Option ℕ → Option ℕ
@@ -82,7 +118,8 @@ since_after true now (Some since) = Some since
 -- the tables of its root have it or, where it is global, those of one of the roots
 abbrev pub is_current_by : (Translation → Bool) → List ℕ → Translation → Bool
 is_current_by test roots x =
-    test x || (x.entry.global && list_any (λ root. test (record x { root = root })) roots)
+    (not x.entry.global && test x)
+    || (x.entry.global && list_any (λ root. test (record x { root = root })) roots)
 
 -- with the root of a space that a hart goes to
 abbrev pub with_root : Option Space → List ℕ → List ℕ
@@ -90,9 +127,15 @@ with_root None roots = roots
 with_root (Some space) roots =
     if list_any (λ r. r == space.root) roots then roots else roots ++ space.root ∷ []
 
--- without the frames that are given out
-abbrev pub without_frames : Frames → List ℕ → List ℕ
-without_frames frames roots = filter (λ root. not (is_among frames root)) roots
+-- without the frames that are given out, but for those in a satp
+abbrev pub is_root_in : List (Option Space) → ℕ → Bool
+is_root_in satps frame = list_any (λ space. has_root space frame) satps
+
+abbrev pub stays : Frames → List (Option Space) → ℕ → Bool
+stays frames satps root = not (is_among frames root) || is_root_in satps root
+
+abbrev pub without_frames : Frames → List (Option Space) → List ℕ → List ℕ
+without_frames frames satps roots = filter (stays frames satps) roots
 
 -- after a record that may change what the tables have, by whether they have it now
 abbrev pub settled : Bool → ℕ → Held → Held
@@ -158,41 +201,6 @@ abbrev pub place_in : (Held → Bool) → ℕ → List Held → Option ℕ
 place_in test n [] = None
 place_in test n (i ∷ held) = if test i then Some n else place_in test (n + 1) held
 
--- what is known of it may go by a change of satp or of the words
-abbrev pub is_listed : ℕ → Translation → List LiveEntry → Bool
-is_listed hart x live = list_any (λ l. is_of hart x (held_from 0 l)) live
-
-abbrev pub EachLive : (LiveEntry → Type 0) → List LiveEntry → Type 0
-EachLive P [] = Unit {0}
-EachLive P (l ∷ live) = P l × EachLive P live
-
--- the hart can fill it now
-pub record IsLive (scheme : Scheme) (words : Tables) (space : Option Space)
-    (x : Translation) : Type 0 where
-  pub satp : space ≡ Some (record { root = x.root; asid = x.entry.asid })
-  pub leaf : HasLeaf scheme words x.root x.entry
-
--- any translation
-abbrev pub Anything : Translation → Type 0
-Anything x = Unit {0}
-
--- the tables no longer have it once these are the words
-abbrev pub GoesBy : Scheme → Tables → Translation → Type 0
-GoesBy scheme words x = ¬ HasLeaf scheme words x.root x.entry
-
--- only what is live for the harts with these satps, and all of it that goes
-pub record AreAllLive (scheme : Scheme) (words : Tables) (Goes : Translation → Type 0)
-    (satps : List (Option Space)) (live : List LiveEntry) : Type 0 where
-  pub each :
-      EachLive (λ l. IsLive scheme words (get_or satps l.hart None) (live_translation l)) live
-  pub all :
-      (hart : ℕ) (x : Translation) → IsLive scheme words (get_or satps hart None) x → Goes x
-      → is_listed hart x live ≡ true
-
--- the same of one hart
-pub record AreLiveOf (scheme : Scheme) (words : Tables) (Goes : Translation → Type 0) (hart : ℕ)
-    (space : Option Space) (live : List LiveEntry) : Type 0 where
-  pub each :
-      EachLive (λ l. (l.hart ≡ hart) × IsLive scheme words space (live_translation l)) live
-  pub all :
-      (x : Translation) → IsLive scheme words space x → Goes x → is_listed hart x live ≡ true
+abbrev pub Each : (Held → Type 0) → List Held → Type 0
+Each P [] = Unit {0}
+Each P (i ∷ held) = P i × Each P held

@@ -1,7 +1,11 @@
 pub mod Held
+pub mod Left
+pub mod Seen
+pub mod Touched
 pub mod Causes
 pub mod Open
 pub mod Follows
 pub mod Warnings
+pub mod WorkedWarnings
 pub mod Standing
 pub mod Watching

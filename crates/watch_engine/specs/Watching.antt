@@ -1,10 +1,12 @@
 -- What a watch follows.
+use Rattle.std.specs.Prelude.{ℕ}
 use Rattle.walk.specs.Leads.{Tables}
 use Rattle.watch.specs.Trace.{Trace}
 use Rattle.watch_engine.specs.declared.engine.Watch.{Watch}
 use Rattle.watch_engine.specs.Standing.{Stands}
 
 -- the watch has seen the records of the trace
-abbrev pub Follows : {T : Type 0} → (T → Tables) → Trace → Watch T → Type 0
-Follows words trace w =
-    Stands w.scheme trace (words w.tables) w.satps w.roots.items w.held.items w.fences.items w.claims.items w.count
+abbrev pub Follows : {T : Type 0} → (T → Tables) → (T → ℕ → ℕ → ℕ) → Trace → Watch T → Type 0
+Follows words since trace w =
+    Stands w.scheme trace (words w.tables) (since w.tables) w.satps w.roots.items w.held.items
+    w.left.items w.drops.items w.fences.items w.claims.items w.count

@@ -1,18 +1,21 @@
 //! One trace, record by record.
 
-ghost use Rattle.std.specs.Prelude.{ℕ, ◌≡◌, ◌<◌, ◌^◌, ◌-◌, ◌∷◌, ◌↔◌, [], get_or, length, Err, IfOk, None, OnErr, OnOk};
-ghost use Rattle.watch.specs.Trace.{Trace, words_of};
+ghost use Rattle.std.specs.Prelude.{ℕ, ◌≡◌, ◌<◌, ◌^◌, ◌-◌, ◌∷◌, ◌↔◌, [], false, get_or, length, true, Err, IfOk, None, OnErr, OnOk, option_map};
+ghost use Rattle.watch.specs.Trace.{Trace, claim_of, words_of};
 ghost use Rattle.watch.specs.declared.trace.Record.TheVariants as records;
 ghost use Rattle.watch_engine.specs.Watching.{Follows};
+ghost use Rattle.watch_engine.specs.Open.{claim_begun};
 ghost use Rattle.watch_engine.specs.Warnings.{AreWarnings};
 
 use crate::cause::Cause;
 use crate::held::Held;
-use crate::list::{drop_fenced, drop_remote, mark, remember_all, settle};
-use crate::live::{add_live_of, live_of_all, live_through_word};
+use crate::left::{Left, PastFence, add_ended, add_fence, add_left, drop_left, drop_rootless};
+use crate::list::{drop_fenced, drop_remote, mark, remember_all, settle_where};
 use crate::open::{OpenClaim, OpenFence, end_claim, end_fence, newest_claim, newest_fence};
 use crate::roots::{add_root, drop_roots};
+use crate::seen::{add_seen, add_seen_in};
 use crate::tables::Tables;
+use crate::touched::{drop_live, settle_touched};
 use crate::warning::{Warning, warnings};
 use pte::Scheme;
 use std::alloc::{AllocError, Global};
@@ -53,9 +56,19 @@ pub struct Watch<T: Tables> {
     satps: [Option<Space>; HARTS],
     roots: Vec<u64>,
     held: Vec<Held>,
+    left: Vec<Left>,
+    drops: Vec<PastFence>,
     fences: Vec<OpenFence>,
     claims: Vec<OpenClaim>,
     count: u64,
+}
+
+// Words of frames that are given out were not 0, or a root among them is none any more.
+fn may_differ(addresses: &[u64], keeps: bool) -> bool
+    ensures words { result ≡ false → addresses.now ≡ [] }
+    ensures roots { result ≡ false → keeps ≡ true }
+{
+    !addresses.is_empty() || !keeps
 }
 
 impl<T: Tables> Watch<T> {
@@ -63,7 +76,7 @@ impl<T: Tables> Watch<T> {
     pub fn new(alloc: Global, scheme: Scheme, tables: T) -> Watch<T>
         requires { T.words tables ≡ words_of [] }
         ensures scheme { result.scheme ≡ scheme }
-        ensures follows { Follows T.words [] result }
+        ensures follows { Follows T.words T.since [] result }
     {
         Watch {
             alloc,
@@ -72,6 +85,8 @@ impl<T: Tables> Watch<T> {
             satps: [None; HARTS],
             roots: Vec::new(alloc),
             held: Vec::new(alloc),
+            left: Vec::new(alloc),
+            drops: Vec::new(alloc),
             fences: Vec::new(alloc),
             claims: Vec::new(alloc),
             count: 0,
@@ -89,20 +104,41 @@ impl<T: Tables> Watch<T> {
     fn store(&mut self, address: u64, word: u64) -> Result<(), AllocError>
         requires { self.old.count < 2 ^ 64 - 1 }
         ensures scheme { self.new.scheme ≡ self.old.scheme }
-        ensures ok { (hart : ℕ) (trace : Trace) → Follows T.words trace self.old
-            → OnOk result (Follows T.words (records.Store hart address word ∷ trace) self.new) }
-        ensures err { (trace : Trace) → Follows T.words trace self.old
-            → OnErr result (Follows T.words trace self.new) }
+        ensures ok { (hart : ℕ) (trace : Trace) → Follows T.words T.since trace self.old
+            → OnOk result (Follows T.words T.since (records.Store hart address word ∷ trace) self.new) }
+        ensures err { (trace : Trace) → Follows T.words T.since trace self.old
+            → OnErr result (Follows T.words T.since trace self.new) }
     {
-        let live = live_through_word(self.alloc, &self.tables, self.scheme, &self.satps, address)?;
-        remember_all(&mut self.held, live.as_slice(), self.count)?;
-        self.tables.store(address, word)?;
+        let mut seen = Vec::new(self.alloc);
+        let ways = add_seen(
+            self.alloc,
+            &self.tables,
+            self.scheme,
+            &self.satps,
+            self.left.as_slice(),
+            self.drops.as_slice(),
+            address,
+            self.count,
+            &mut seen,
+        )?;
+        remember_all(&mut self.held, seen.as_slice())?;
+        self.tables.store(address, word, self.count + 1)?;
         self.count += 1;
-        settle(
+        drop_live(
+            &mut self.held,
+            &self.tables,
+            self.scheme,
+            &self.satps,
+            address,
+            ways.as_slice(),
+        );
+        settle_touched(
             &mut self.held,
             &self.tables,
             self.scheme,
             self.roots.as_slice(),
+            address,
+            ways.as_slice(),
             self.count,
         );
         Ok(())
@@ -112,19 +148,20 @@ impl<T: Tables> Watch<T> {
     fn write_satp(&mut self, hart: u8, space: Option<Space>) -> Result<(), AllocError>
         requires { self.old.count < 2 ^ 64 - 1 }
         ensures scheme { self.new.scheme ≡ self.old.scheme }
-        ensures ok { (trace : Trace) → Follows T.words trace self.old
-            → OnOk result (Follows T.words (records.Satp hart space ∷ trace) self.new) }
-        ensures err { (trace : Trace) → Follows T.words trace self.old
-            → OnErr result (Follows T.words trace self.new) }
+        ensures ok { (trace : Trace) → Follows T.words T.since trace self.old
+            → OnOk result (Follows T.words T.since (records.Satp hart space ∷ trace) self.new) }
+        ensures err { (trace : Trace) → Follows T.words T.since trace self.old
+            → OnErr result (Follows T.words T.since trace self.new) }
     {
-        let left = self.satp(hart);
-        let mut live = Vec::new(self.alloc);
-        add_live_of(self.alloc, &self.tables, self.scheme, hart, left, &mut live)?;
-        remember_all(&mut self.held, live.as_slice(), self.count)?;
-        add_root(&mut self.roots, space)?;
+        let old = self.satp(hart);
+        let fences = self.drops.as_slice().len();
+        add_left(&mut self.left, hart, old, self.count, fences)?;
+        let is_new = add_root(&mut self.roots, space)?;
+        drop_left(&mut self.left, hart, space);
         self.satps[hart as usize] = space;
         self.count += 1;
-        settle(
+        settle_where(
+            is_new,
             &mut self.held,
             &self.tables,
             self.scheme,
@@ -135,25 +172,29 @@ impl<T: Tables> Watch<T> {
     }
 
     // A hart executes a fence.
-    fn fence(&mut self, hart: u8, rs1: Option<u64>, rs2: Option<u64>)
+    fn fence(&mut self, hart: u8, rs1: Option<u64>, rs2: Option<u64>) -> Result<(), AllocError>
         requires { self.old.count < 2 ^ 64 - 1 }
         ensures scheme { self.new.scheme ≡ self.old.scheme }
-        ensures follows { (trace : Trace) → Follows T.words trace self.old
-            → Follows T.words (records.Fence hart rs1 rs2 ∷ trace) self.new }
+        ensures ok { (trace : Trace) → Follows T.words T.since trace self.old
+            → OnOk result (Follows T.words T.since (records.Fence hart rs1 rs2 ∷ trace) self.new) }
+        ensures err { (trace : Trace) → Follows T.words T.since trace self.old
+            → OnErr result (Follows T.words T.since trace self.new) }
     {
+        add_fence(&mut self.left, &mut self.drops, hart, rs1, rs2)?;
         drop_fenced(&mut self.held, self.scheme, hart, rs1, rs2);
         self.count += 1;
+        Ok(())
     }
 
     // A remote fence begins.
     fn begin_fence(&mut self, token: u64, fence: RemoteFence) -> Result<(), AllocError>
         requires { self.old.count < 2 ^ 64 - 1 }
         ensures scheme { self.new.scheme ≡ self.old.scheme }
-        ensures ok { (hart : ℕ) (trace : Trace) → Follows T.words trace self.old
-            → OnOk result (Follows T.words
+        ensures ok { (hart : ℕ) (trace : Trace) → Follows T.words T.since trace self.old
+            → OnOk result (Follows T.words T.since
             (records.RemoteBegin hart token fence ∷ trace) self.new) }
-        ensures err { (trace : Trace) → Follows T.words trace self.old
-            → OnErr result (Follows T.words trace self.new) }
+        ensures err { (trace : Trace) → Follows T.words T.since trace self.old
+            → OnErr result (Follows T.words T.since trace self.new) }
     {
         let begun = self.count + 1;
         self.fences.push(OpenFence {
@@ -166,27 +207,31 @@ impl<T: Tables> Watch<T> {
     }
 
     // A remote fence ends.
-    fn end_fence(&mut self, token: u64)
+    fn end_fence(&mut self, token: u64) -> Result<(), AllocError>
         requires { self.old.count < 2 ^ 64 - 1 }
         ensures scheme { self.new.scheme ≡ self.old.scheme }
-        ensures follows { (hart : ℕ) (trace : Trace) → Follows T.words trace self.old
-            → Follows T.words (records.RemoteEnd hart token ∷ trace) self.new }
+        ensures ok { (hart : ℕ) (trace : Trace) → Follows T.words T.since trace self.old
+            → OnOk result (Follows T.words T.since (records.RemoteEnd hart token ∷ trace) self.new) }
+        ensures err { (trace : Trace) → Follows T.words T.since trace self.old
+            → OnErr result (Follows T.words T.since trace self.new) }
     {
         let fence = newest_fence(self.fences.as_slice(), token);
+        add_ended(&mut self.drops, &fence)?;
         drop_remote(&mut self.held, self.scheme, &fence);
         end_fence(&mut self.fences, token);
         self.count += 1;
+        Ok(())
     }
 
     // A flush begins.
     fn begin_claim(&mut self, token: u64, claim: Claim) -> Result<(), AllocError>
         requires { self.old.count < 2 ^ 64 - 1 }
         ensures scheme { self.new.scheme ≡ self.old.scheme }
-        ensures ok { (hart : ℕ) (trace : Trace) → Follows T.words trace self.old
-            → OnOk result (Follows T.words
+        ensures ok { (hart : ℕ) (trace : Trace) → Follows T.words T.since trace self.old
+            → OnOk result (Follows T.words T.since
             (records.ClaimBegin hart token claim ∷ trace) self.new) }
-        ensures err { (trace : Trace) → Follows T.words trace self.old
-            → OnErr result (Follows T.words trace self.new) }
+        ensures err { (trace : Trace) → Follows T.words T.since trace self.old
+            → OnErr result (Follows T.words T.since trace self.new) }
     {
         let begun = self.count + 1;
         self.claims.push(OpenClaim {
@@ -202,23 +247,37 @@ impl<T: Tables> Watch<T> {
     fn give_out(&mut self, frames: Frames) -> Result<Vec<Warning>, AllocError>
         requires { self.old.count < 2 ^ 64 - 1 }
         ensures scheme { self.new.scheme ≡ self.old.scheme }
-        ensures warnings { (hart : ℕ) (trace : Trace) → Follows T.words trace self.old
+        ensures warnings { (hart : ℕ) (trace : Trace) → Follows T.words T.since trace self.old
             → IfOk result (λ warnings. AreWarnings self.old.scheme (records.GiveOut hart frames)
             trace warnings.items) }
-        ensures ok { (hart : ℕ) (trace : Trace) → Follows T.words trace self.old
-            → OnOk result (Follows T.words (records.GiveOut hart frames ∷ trace) self.new) }
-        ensures err { (trace : Trace) → Follows T.words trace self.old
-            → OnErr result (Follows T.words trace self.new) }
+        ensures ok { (hart : ℕ) (trace : Trace) → Follows T.words T.since trace self.old
+            → OnOk result (Follows T.words T.since (records.GiveOut hart frames ∷ trace) self.new) }
+        ensures err { (trace : Trace) → Follows T.words T.since trace self.old
+            → OnErr result (Follows T.words T.since trace self.new) }
     {
         let cause = Cause::Out(frames);
         let given = warnings(self.alloc, self.held.as_slice(), &cause)?;
-        let live = live_of_all(self.alloc, &self.tables, self.scheme, &self.satps)?;
-        remember_all(&mut self.held, live.as_slice(), self.count)?;
+        let addresses = self.tables.stored_in(self.alloc, frames)?;
+        let mut seen = Vec::new(self.alloc);
+        add_seen_in(
+            self.alloc,
+            &self.tables,
+            self.scheme,
+            &self.satps,
+            self.left.as_slice(),
+            self.drops.as_slice(),
+            addresses.as_slice(),
+            self.count,
+            &mut seen,
+        )?;
+        remember_all(&mut self.held, seen.as_slice())?;
         mark(&mut self.held, &cause);
         self.tables.clear(frames);
-        drop_roots(&mut self.roots, frames);
+        let keeps = drop_roots(&mut self.roots, frames, &self.satps);
+        drop_rootless(&mut self.left, self.roots.as_slice());
         self.count += 1;
-        settle(
+        settle_where(
+            may_differ(addresses.as_slice(), keeps),
             &mut self.held,
             &self.tables,
             self.scheme,
@@ -232,13 +291,13 @@ impl<T: Tables> Watch<T> {
     fn give_back(&mut self, frames: Frames) -> Result<Vec<Warning>, AllocError>
         requires { self.old.count < 2 ^ 64 - 1 }
         ensures scheme { self.new.scheme ≡ self.old.scheme }
-        ensures warnings { (hart : ℕ) (trace : Trace) → Follows T.words trace self.old
+        ensures warnings { (hart : ℕ) (trace : Trace) → Follows T.words T.since trace self.old
             → IfOk result (λ warnings. AreWarnings self.old.scheme (records.GiveBack hart frames)
             trace warnings.items) }
-        ensures ok { (hart : ℕ) (trace : Trace) → Follows T.words trace self.old
-            → OnOk result (Follows T.words (records.GiveBack hart frames ∷ trace) self.new) }
-        ensures err { (trace : Trace) → Follows T.words trace self.old
-            → OnErr result (Follows T.words trace self.new) }
+        ensures ok { (hart : ℕ) (trace : Trace) → Follows T.words T.since trace self.old
+            → OnOk result (Follows T.words T.since (records.GiveBack hart frames ∷ trace) self.new) }
+        ensures err { (trace : Trace) → Follows T.words T.since trace self.old
+            → OnErr result (Follows T.words T.since trace self.new) }
     {
         let cause = Cause::Back(frames);
         let given = warnings(self.alloc, self.held.as_slice(), &cause)?;
@@ -251,13 +310,13 @@ impl<T: Tables> Watch<T> {
     fn end_claim(&mut self, token: u64) -> Result<Vec<Warning>, AllocError>
         requires { self.old.count < 2 ^ 64 - 1 }
         ensures scheme { self.new.scheme ≡ self.old.scheme }
-        ensures warnings { (hart : ℕ) (trace : Trace) → Follows T.words trace self.old
+        ensures warnings { (hart : ℕ) (trace : Trace) → Follows T.words T.since trace self.old
             → IfOk result (λ warnings. AreWarnings self.old.scheme (records.ClaimEnd hart token)
             trace warnings.items) }
-        ensures ok { (hart : ℕ) (trace : Trace) → Follows T.words trace self.old
-            → OnOk result (Follows T.words (records.ClaimEnd hart token ∷ trace) self.new) }
-        ensures err { (trace : Trace) → Follows T.words trace self.old
-            → OnErr result (Follows T.words trace self.new) }
+        ensures ok { (hart : ℕ) (trace : Trace) → Follows T.words T.since trace self.old
+            → OnOk result (Follows T.words T.since (records.ClaimEnd hart token ∷ trace) self.new) }
+        ensures err { (trace : Trace) → Follows T.words T.since trace self.old
+            → OnErr result (Follows T.words T.since trace self.new) }
     {
         let claim = newest_claim(self.claims.as_slice(), token);
         let cause = Cause::Claim(claim);
@@ -272,13 +331,13 @@ impl<T: Tables> Watch<T> {
     fn access(&mut self, hart: u8, address: u64) -> Result<Vec<Warning>, AllocError>
         requires { self.old.count < 2 ^ 64 - 1 }
         ensures scheme { self.new.scheme ≡ self.old.scheme }
-        ensures warnings { (trace : Trace) → Follows T.words trace self.old
+        ensures warnings { (trace : Trace) → Follows T.words T.since trace self.old
             → IfOk result (λ warnings. AreWarnings self.old.scheme (records.Use hart address)
             trace warnings.items) }
-        ensures ok { (trace : Trace) → Follows T.words trace self.old
-            → OnOk result (Follows T.words (records.Use hart address ∷ trace) self.new) }
-        ensures err { (trace : Trace) → Follows T.words trace self.old
-            → OnErr result (Follows T.words trace self.new) }
+        ensures ok { (trace : Trace) → Follows T.words T.since trace self.old
+            → OnOk result (Follows T.words T.since (records.Use hart address ∷ trace) self.new) }
+        ensures err { (trace : Trace) → Follows T.words T.since trace self.old
+            → OnErr result (Follows T.words T.since trace self.new) }
     {
         let space = self.satp(hart);
         let cause = Cause::Access {
@@ -290,20 +349,33 @@ impl<T: Tables> Watch<T> {
         self.count += 1;
         Ok(given)
     }
+
+    /// How many records there were up to the begin of the claim that is open under a token, the
+    /// newest begin of several. `None` if no claim is.
+    pub fn claim_begun(&self, token: u64) -> Option<u64>
+        ensures { (trace : Trace) → Follows T.words T.since trace self.now
+            → result ≡ option_map (λ _. claim_begun token trace) (claim_of trace token) }
+    {
+        match newest_claim(self.claims.as_slice(), token) {
+            None => None,
+            Some(claim) => Some(claim.begun),
+        }
+    }
+
     /// Takes the next record, and answers its warnings: each verdict that is given at the record and
     /// new, each once, where translations that differ only in A and D, or if they are global only in
     /// root and ASID, share one. `TooManyRecords` exactly if 2^64 - 1 records have been taken, and
     /// `NoMemory` only where memory runs out: then the watch still follows the trace before.
     pub fn record(&mut self, newest: Record) -> Result<Vec<Warning>, RecordFault>
         ensures scheme { self.new.scheme ≡ self.old.scheme }
-        ensures warnings { (trace : Trace) → Follows T.words trace self.old
+        ensures warnings { (trace : Trace) → Follows T.words T.since trace self.old
             → IfOk result (λ warnings.
             AreWarnings self.old.scheme newest trace warnings.items) }
-        ensures ok { (trace : Trace) → Follows T.words trace self.old
-            → OnOk result (Follows T.words (newest ∷ trace) self.new) }
-        ensures err { (trace : Trace) → Follows T.words trace self.old
-            → OnErr result (Follows T.words trace self.new) }
-        ensures full { (trace : Trace) → Follows T.words trace self.old
+        ensures ok { (trace : Trace) → Follows T.words T.since trace self.old
+            → OnOk result (Follows T.words T.since (newest ∷ trace) self.new) }
+        ensures err { (trace : Trace) → Follows T.words T.since trace self.old
+            → OnErr result (Follows T.words T.since trace self.new) }
+        ensures full { (trace : Trace) → Follows T.words T.since trace self.old
             → (result ≡ Err RecordFault.TooManyRecords) ↔ (length trace ≡ 2 ^ 64 - 1) }
     {
         if self.count == u64::MAX {
@@ -319,7 +391,7 @@ impl<T: Tables> Watch<T> {
                 return Ok(Vec::new(self.alloc));
             }
             Record::Fence { hart, rs1, rs2 } => {
-                self.fence(hart, rs1, rs2);
+                self.fence(hart, rs1, rs2)?;
                 return Ok(Vec::new(self.alloc));
             }
             Record::RemoteBegin { token, fence, .. } => {
@@ -327,7 +399,7 @@ impl<T: Tables> Watch<T> {
                 return Ok(Vec::new(self.alloc));
             }
             Record::RemoteEnd { token, .. } => {
-                self.end_fence(token);
+                self.end_fence(token)?;
                 return Ok(Vec::new(self.alloc));
             }
             Record::ClaimBegin { token, claim, .. } => {

@@ -42,7 +42,7 @@ fn is_of_address(scheme: Scheme, rs1: u64, entry: &Entry) -> bool
     entry.page.contains(va)
 }
 
-fn is_fenced(scheme: Scheme, rs1: Option<u64>, rs2: Option<u64>, entry: &Entry) -> bool
+pub(crate) fn is_fenced(scheme: Scheme, rs1: Option<u64>, rs2: Option<u64>, entry: &Entry) -> bool
     ensures { result ≡ is_fenced scheme rs1 rs2 entry.now }
 {
     match (rs1, rs2) {
@@ -62,13 +62,13 @@ fn asid_register(asid: Option<u16>) -> Option<u64>
     }
 }
 
-fn is_covered(scheme: Scheme, fence: &RemoteFence, entry: &Entry) -> bool
+pub(crate) fn is_covered(scheme: Scheme, fence: &RemoteFence, entry: &Entry) -> bool
     ensures { result ≡ is_covered scheme fence.now entry.now }
 {
     reaches(&fence.range, &entry.page) && is_fenced(scheme, None, asid_register(fence.asid), entry)
 }
 
-fn names(fence: &RemoteFence, hart: u8) -> bool
+pub(crate) fn names(fence: &RemoteFence, hart: u8) -> bool
     ensures { result ≡ names fence.now hart }
 {
     let harts = fence.harts;

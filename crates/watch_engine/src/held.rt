@@ -1,10 +1,10 @@
-//! What harts may hold besides what is live for them.
+//! What harts may hold and the tables do not tell.
 
 ghost use Rattle.std.specs.Prelude.{ℕ, Bool, ◌≡◌, ◌↔◌, ◌++◌, ◌∷◌, [], map, Option, OnOk, OnErr, IfOk, Contains, IsTrue};
-ghost use Rattle.watch_engine.specs.Held.{held_from, is_of, is_same_entry, marked, settled, translation_of};
+ghost use Rattle.watch_engine.specs.Held.{held_from, is_of, is_same_entry, last_live_in, last_translation, later, marked, settled, translation_of};
 
 use tlb::Entry;
-use watch::Verdict;
+use watch::{Space, Verdict};
 
 /// A translation that a hart may hold, and what is known of it.
 #[derive(Clone, Copy, PartialEq, Eq, Debug)]
@@ -13,7 +13,7 @@ pub(crate) struct Held {
     /// The PPN of the root table that it came from.
     pub(crate) root: u64,
     pub(crate) entry: Entry,
-    /// The number of records after which it was live last, unless it is live.
+    /// The number of records after which it was live last, as far as is known.
     pub(crate) last_live: u64,
     /// The number of records since which it has been stale.
     pub(crate) stale_since: Option<u64>,
@@ -25,12 +25,46 @@ pub(crate) struct Held {
     pub(crate) claimed: bool,
 }
 
-/// A translation that is live for a hart.
+/// A translation that was live for a hart. Of what is global, root and ASID are 0.
 #[derive(Clone, Copy, PartialEq, Eq, Debug)]
-pub(crate) struct LiveEntry {
+pub(crate) struct LastLive {
     pub(crate) hart: u8,
     pub(crate) root: u64,
     pub(crate) entry: Entry,
+    /// The number of records after which it was live last.
+    pub(crate) last_live: u64,
+}
+
+impl LastLive {
+    /// A leaf of an address space.
+    pub(crate) fn of_leaf(hart: u8, space: Space, entry: &Entry, last_live: u64) -> LastLive
+        ensures { result ≡ last_live_in hart space entry.now last_live }
+    {
+        if entry.global {
+            LastLive {
+                hart,
+                root: 0,
+                entry: Entry { asid: 0, ..*entry },
+                last_live,
+            }
+        } else {
+            LastLive {
+                hart,
+                root: space.root,
+                entry: Entry {
+                    asid: space.asid,
+                    ..*entry
+                },
+                last_live,
+            }
+        }
+    }
+}
+
+fn later(a: u64, b: u64) -> u64
+    ensures { result ≡ later a b }
+{
+    if a < b { b } else { a }
 }
 
 fn is_same_entry(entry: &Entry, other: &Entry) -> bool
@@ -45,15 +79,15 @@ fn is_same_entry(entry: &Entry, other: &Entry) -> bool
 }
 
 impl Held {
-    /// What is live now, as one that may be held.
-    pub(crate) fn from_live(live: &LiveEntry, count: u64) -> Held
-        ensures { result ≡ held_from count live.now }
+    /// What was live, as one that may be held.
+    pub(crate) fn from_live(live: &LastLive) -> Held
+        ensures { result ≡ held_from live.now }
     {
         Held {
             hart: live.hart,
             root: live.root,
             entry: live.entry,
-            last_live: count,
+            last_live: live.last_live,
             stale_since: None,
             freed: false,
             reused: false,
@@ -61,11 +95,19 @@ impl Held {
         }
     }
 
-    pub(crate) fn is_of(&self, live: &LiveEntry) -> bool
-        ensures { result ≡ is_of live.now.hart (record { root = live.now.root; entry = live.now.entry }) self.now }
+    pub(crate) fn is_of(&self, live: &LastLive) -> bool
+        ensures { result ≡ is_of live.now.hart (last_translation live.now) self.now }
     {
         self.hart == live.hart && self.root == live.root && is_same_entry(&self.entry, &live.entry)
     }
+
+    /// With a moment at which it was live.
+    pub(crate) fn touch(&mut self, last_live: u64)
+        ensures { self.new ≡ record self.old { last_live = later self.old.last_live last_live } }
+    {
+        self.last_live = later(self.last_live, last_live);
+    }
+
     /// With whether the tables have it now.
     pub(crate) fn settle(&mut self, mapped: bool, count: u64)
         ensures { self.new ≡ settled mapped count self.old }

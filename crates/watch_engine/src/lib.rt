@@ -6,14 +6,25 @@ mod cause;
 mod engine;
 mod fence;
 mod held;
+mod laws;
+mod left;
 mod list;
-mod live;
 mod open;
 mod page_tables;
 mod roots;
+mod seen;
 mod tables;
+mod touched;
 mod warning;
+mod worked_warnings;
 
 pub use engine::{RecordFault, Watch};
+pub use laws::{
+    no_warnings_if_none_is_due, shown_are_stale_from_one_moment, shown_by_one_agree,
+    shows_is_an_equivalence, stale_from_one_moment, warnings_say_the_same,
+};
 pub use tables::Tables;
 pub use warning::Warning;
+pub use worked_warnings::{
+    worked_moments, worked_no_warnings, worked_one_warning, worked_shows, worked_two_warnings,
+};

@@ -1,13 +1,13 @@
 //! The list of what harts may hold.
 
-ghost use Rattle.std.specs.Prelude.{ℕ, Bool, ◌≡◌, ◌↔◌, ◌++◌, ◌∷◌, [], map, filter, Option, OnOk, OnErr, IfOk, IsTrue, take};
-ghost use Rattle.watch.proofs.Computed.{is_mapped};
+ghost use Rattle.std.specs.Prelude.{ℕ, Bool, ◌≡◌, ◌↔◌, ◌++◌, ◌∷◌, [], map, filter, Option, OnOk, OnErr, IfOk, IsTrue, take, if◌then◌else◌};
+ghost use Rattle.watch.specs.Computed.{is_mapped};
 ghost use Rattle.watch_engine.specs.declared.held.Held.{Held as HeldOf};
-ghost use Rattle.watch_engine.specs.Held.{is_current_by, is_of, live_translation, marked_if, outlives_fence, outlives_remote, place_in, remembered, remembered_all, settled, translation_of};
+ghost use Rattle.watch_engine.specs.Held.{is_current_by, is_of, last_translation, marked_if, outlives_fence, outlives_remote, place_in, remembered, remembered_all, settled, translation_of};
 ghost use Rattle.watch_engine.specs.Causes.{applies, verdict_of};
 
 use crate::cause::Cause;
-use crate::held::{Held, LiveEntry};
+use crate::held::{Held, LastLive};
 use crate::open::OpenFence;
 use crate::roots::is_current;
 use crate::tables::Tables;
@@ -15,8 +15,8 @@ use pte::Scheme;
 use std::alloc::AllocError;
 
 // The place of a translation in the list.
-fn place_of(held: &[Held], live: &LiveEntry) -> Option<usize>
-    ensures { result ≡ place_in (is_of live.now.hart (live_translation live.now)) 0 held.now }
+fn place_of(held: &[Held], live: &LastLive) -> Option<usize>
+    ensures { result ≡ place_in (is_of live.now.hart (last_translation live.now)) 0 held.now }
 {
     for (place, item) in held.iter().enumerate() {
         if item.is_of(live) {
@@ -26,30 +26,26 @@ fn place_of(held: &[Held], live: &LiveEntry) -> Option<usize>
     None
 }
 
-// With a translation that is live now. At `Err` nothing changed.
-pub(crate) fn remember(held: &mut Vec<Held>, live: &LiveEntry, count: u64) -> Result<(), AllocError>
-    ensures ok { OnOk result (held.new.items ≡ remembered count live.now held.old.items) }
+// With a translation that was live. At `Err` nothing changed.
+pub(crate) fn remember(held: &mut Vec<Held>, live: &LastLive) -> Result<(), AllocError>
+    ensures ok { OnOk result (held.new.items ≡ remembered live.now held.old.items) }
     ensures err { OnErr result (held.new.items ≡ held.old.items) }
 {
     let Some(place) = place_of(held.as_slice(), live) else {
-        return Ok(held.push(Held::from_live(live, count))?);
+        return Ok(held.push(Held::from_live(live))?);
     };
-    held[place].last_live = count;
+    held[place].touch(live.last_live);
     Ok(())
 }
 
-// With translations that are live now. At `Err` some of them are there.
-pub(crate) fn remember_all(
-    held: &mut Vec<Held>,
-    live: &[LiveEntry],
-    count: u64,
-) -> Result<(), AllocError>
-    ensures ok { OnOk result (held.new.items ≡ remembered_all count live.now held.old.items) }
+// With translations that were live. At `Err` some of them are there.
+pub(crate) fn remember_all(held: &mut Vec<Held>, live: &[LastLive]) -> Result<(), AllocError>
+    ensures ok { OnOk result (held.new.items ≡ remembered_all live.now held.old.items) }
     ensures err { OnErr result ((n : ℕ)
-        × (held.new.items ≡ remembered_all count (take n live.now) held.old.items)) }
+        × (held.new.items ≡ remembered_all (take n live.now) held.old.items)) }
 {
     for item in live {
-        remember(held, item, count)?;
+        remember(held, item)?;
     }
     Ok(())
 }
@@ -65,18 +61,30 @@ fn settle_each<T: Tables>(held: &mut [Held], tables: &T, scheme: Scheme, roots: 
 }
 
 // With what the tables have now.
-pub(crate) fn settle<T: Tables>(
+fn settle<T: Tables>(held: &mut Vec<Held>, tables: &T, scheme: Scheme, roots: &[u64], count: u64)
+    ensures { held.new.items ≡ map (λ i. settled (is_current_by
+        (is_mapped scheme (T.words tables.now)) roots.now (translation_of i)) count i)
+        held.old.items }
+{
+    settle_each(held.as_mut_slice(), tables, scheme, roots, count);
+}
+
+// With what the tables have now, if that may have changed.
+pub(crate) fn settle_where<T: Tables>(
+    changed: bool,
     held: &mut Vec<Held>,
     tables: &T,
     scheme: Scheme,
     roots: &[u64],
     count: u64,
 )
-    ensures { held.new.items ≡ map (λ i. settled (is_current_by
+    ensures { held.new.items ≡ (if changed then map (λ i. settled (is_current_by
         (is_mapped scheme (T.words tables.now)) roots.now (translation_of i)) count i)
-        held.old.items }
+        held.old.items else held.old.items) }
 {
-    settle_each(held.as_mut_slice(), tables, scheme, roots, count);
+    if changed {
+        settle(held, tables, scheme, roots, count);
+    }
 }
 
 fn mark_each(held: &mut [Held], cause: &Cause)

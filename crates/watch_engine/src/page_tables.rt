@@ -4,39 +4,44 @@ use crate::tables::Tables;
 use pte::Scheme;
 use std::alloc::{AllocError, Global};
 use tlb::Entry;
-use watch::{Frames, Space};
-use watch_tables::PageTables;
+use watch::Frames;
+use watch_tables::{PageTables, RootLeaf, Way};
 
 impl Tables for PageTables {
-    ghost use Rattle.watch_tables.specs.Words.{words};
+    ghost use Rattle.watch_tables.specs.Words.{since, words};
 
     ghost words = { words };
 
-    fn store(&mut self, address: u64, word: u64) -> Result<(), AllocError> {
-        PageTables::store(self, address, word)
+    ghost since = { since };
+
+    fn store(&mut self, address: u64, word: u64, count: u64) -> Result<(), AllocError> {
+        PageTables::store(self, address, word, count)
     }
 
     fn clear(&mut self, frames: Frames) {
         PageTables::clear(self, frames);
     }
 
-    fn leaves(
-        &self,
-        alloc: Global,
-        scheme: Scheme,
-        space: Space,
-    ) -> Result<Vec<Entry>, AllocError> {
-        PageTables::leaves(self, alloc, scheme, space)
+    fn stored_in(&self, alloc: Global, frames: Frames) -> Result<Vec<u64>, AllocError> {
+        PageTables::stored_in(self, alloc, frames)
+    }
+
+    fn ways(&self, alloc: Global, scheme: Scheme, address: u64) -> Result<Vec<Way>, AllocError> {
+        PageTables::ways(self, alloc, scheme, address)
     }
 
     fn leaves_through(
         &self,
         alloc: Global,
         scheme: Scheme,
-        space: Space,
         address: u64,
-    ) -> Result<Vec<Entry>, AllocError> {
-        PageTables::leaves_through(self, alloc, scheme, space, address)
+        ways: &[Way],
+    ) -> Result<Vec<RootLeaf>, AllocError> {
+        PageTables::leaves_through(self, alloc, scheme, address, ways)
+    }
+
+    fn has_leaf(&self, scheme: Scheme, root: u64, entry: &Entry) -> bool {
+        PageTables::has_leaf(self, scheme, root, entry)
     }
 
     fn is_mapped(&self, scheme: Scheme, root: u64, entry: &Entry) -> bool {

@@ -1,10 +1,10 @@
 //! The roots of address spaces, and what their tables have now.
 
-ghost use Rattle.std.specs.Prelude.{◌≡◌, ◌==◌, OnErr, OnOk};
-ghost use Rattle.std.specs.List.{list_any};
-ghost use Rattle.watch.specs.Trace.{is_among};
-ghost use Rattle.watch.proofs.Computed.{is_mapped};
-ghost use Rattle.watch_engine.specs.Held.{is_current_by, with_root, without_frames};
+ghost use Rattle.std.specs.Prelude.{◌≡◌, ◌==◌, IfOk, OnErr, OnOk, false};
+ghost use Rattle.std.specs.List.{list_all, list_any};
+ghost use Rattle.watch.specs.Trace.{has_root as space_has_root, is_among};
+ghost use Rattle.watch.specs.Computed.{is_mapped};
+ghost use Rattle.watch_engine.specs.Held.{is_current_by, is_root_in, stays, with_root, without_frames};
 
 use crate::tables::Tables;
 use pte::Scheme;
@@ -19,7 +19,7 @@ fn is_among(frames: Frames, ppn: u64) -> bool
     ppn >= frames.first && ppn - frames.first < frames.count
 }
 
-fn has_root(roots: &[u64], frame: u64) -> bool
+pub(crate) fn has_root(roots: &[u64], frame: u64) -> bool
     ensures { result ≡ list_any (λ r. r == frame) roots.now }
 {
     for root in roots {
@@ -30,25 +30,69 @@ fn has_root(roots: &[u64], frame: u64) -> bool
     false
 }
 
-// With the root of a space that a hart goes to. At `Err` nothing changed.
-pub(crate) fn add_root(roots: &mut Vec<u64>, space: Option<Space>) -> Result<(), AllocError>
+// With the root of a space that a hart goes to, and whether it is new. At `Err` nothing changed.
+pub(crate) fn add_root(roots: &mut Vec<u64>, space: Option<Space>) -> Result<bool, AllocError>
     ensures ok { OnOk result (roots.new.items ≡ with_root space roots.old.items) }
+    ensures same { IfOk result (λ new. new ≡ false → roots.new.items ≡ roots.old.items) }
     ensures err { OnErr result (roots.new.items ≡ roots.old.items) }
 {
     let Some(space) = space else {
-        return Ok(());
+        return Ok(false);
     };
-    if !has_root(roots.as_slice(), space.root) {
-        roots.push(space.root)?;
+    if has_root(roots.as_slice(), space.root) {
+        return Ok(false);
     }
-    Ok(())
+    roots.push(space.root)?;
+    Ok(true)
 }
 
-// Without frames that are given out.
-pub(crate) fn drop_roots(roots: &mut Vec<u64>, frames: Frames)
-    ensures { roots.new.items ≡ without_frames frames roots.old.items }
+// The space has the root.
+pub(crate) fn is_root_of(space: &Option<Space>, frame: u64) -> bool
+    ensures { result ≡ space_has_root space.now frame }
 {
-    roots.retain(|root| !is_among(frames, *root));
+    match space {
+        None => false,
+        Some(space) => space.root == frame,
+    }
+}
+
+// Some satp has the root.
+fn is_root_in(satps: &[Option<Space>], frame: u64) -> bool
+    ensures { result ≡ is_root_in satps.now frame }
+{
+    for space in satps {
+        if is_root_of(space, frame) {
+            return true;
+        }
+    }
+    false
+}
+
+fn stays(root: u64, frames: Frames, satps: &[Option<Space>]) -> bool
+    ensures { result ≡ stays frames satps.now root }
+{
+    !is_among(frames, root) || is_root_in(satps, root)
+}
+
+fn keeps_all(roots: &[u64], frames: Frames, satps: &[Option<Space>]) -> bool
+    ensures { result ≡ list_all (stays frames satps.now) roots.now }
+{
+    for root in roots {
+        if !stays(*root, frames, satps) {
+            return false;
+        }
+    }
+    true
+}
+
+// Without frames that are given out, but for those in a satp; and whether all stay.
+pub(crate) fn drop_roots(roots: &mut Vec<u64>, frames: Frames, satps: &[Option<Space>]) -> bool
+    ensures roots { roots.new.items ≡ without_frames frames satps.now roots.old.items }
+    ensures all { result ≡ list_all (stays frames satps.now) roots.old.items }
+{
+    let all = keeps_all(roots.as_slice(), frames, satps);
+    roots.retain(|root| stays(*root, frames, satps));
+    all
 }
 
 // The tables of the root have the entry.
@@ -83,6 +127,9 @@ pub(crate) fn is_current<T: Tables>(
     ensures { result ≡ is_current_by (is_mapped scheme (T.words tables.now)) roots.now
         (record { root = root; entry = entry.now }) }
 {
-    is_mapped(tables, scheme, root, entry)
-        || entry.global && is_mapped_in_any(tables, scheme, roots, entry)
+    if entry.global {
+        is_mapped_in_any(tables, scheme, roots, entry)
+    } else {
+        is_mapped(tables, scheme, root, entry)
+    }
 }

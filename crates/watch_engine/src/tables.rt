@@ -1,56 +1,81 @@
 //! The page tables of a trace.
 
-ghost use Rattle.std.specs.Prelude.{ℕ, ◌≡◌, ◌↔◌, Option, OnOk, OnErr, IfOk, Contains, IsTrue};
+ghost use Rattle.std.specs.Prelude.{ℕ, ◌≡◌, ◌≤◌, ◌↔◌, Option, Some, OnOk, OnErr, IfOk, Contains, IsTrue, false};
 ghost use Rattle.pte.specs.declared.scheme.Scheme.{Scheme as SchemeOf};
 ghost use Rattle.tlb.specs.declared.store.Entry.{Entry as EntryOf};
 ghost use Rattle.walk.specs.Maps.{page_number};
-ghost use Rattle.walk.specs.Stores.{stored};
-ghost use Rattle.watch.specs.Trace.{index_of, words_after};
+ghost use Rattle.watch.specs.Trace.{index_of, is_among, words_after};
 ghost use Rattle.watch.specs.declared.trace.Record.TheVariants.{GiveOut, Store};
+ghost use Rattle.watch.specs.Holding.{HasLeaf};
 ghost use Rattle.watch.specs.Staleness.{IsMapped};
-ghost use Rattle.watch_tables.specs.Leaves.{IsLeafOf};
+ghost use Rattle.watch_tables.specs.declared.leaf.RootLeaf.{RootLeaf as RootLeafOf};
+ghost use Rattle.watch_tables.specs.Paths.{IsUnchangedSince};
+ghost use Rattle.watch_tables.specs.Through.{HasRootLeaf, IsLeafThrough};
+ghost use Rattle.watch_tables.specs.Ways.{AreWays};
+ghost use Rattle.watch_tables.specs.Words.{AreFilled};
 
 use pte::Scheme;
 use std::alloc::{AllocError, Global};
 use tlb::Entry;
-use watch::{Frames, Space};
+use watch::Frames;
+use watch_tables::{RootLeaf, Way};
 
-/// The words of memory as page table entries.
+/// The words of memory as page table entries, and since when each is what it is.
 pub trait Tables {
     // the word at an index of the table at a PPN
     ghost words: { Self → ℕ → ℕ → Option ℕ };
 
-    /// Stores a word at a physical address. At `Err` nothing changed.
-    fn store(&mut self, address: u64, word: u64) -> Result<(), AllocError>
+    // the number of records after which it was stored, where it is not 0
+    ghost since: { Self → ℕ → ℕ → ℕ };
+
+    /// Stores a word at a physical address, as that of so many records. At `Err` nothing changed.
+    fn store(&mut self, address: u64, word: u64, count: u64) -> Result<(), AllocError>
         ensures ok { OnOk result ((hart : ℕ)
             → words self.new ≡ words_after (Store hart address word) (words self.old)) }
-        ensures err { OnErr result (words self.new ≡ words self.old) };
+        ensures others { OnOk result ((t i : ℕ)
+            → ¬ ((t ≡ page_number address) × (i ≡ index_of address))
+            → since self.new t i ≡ since self.old t i) }
+        ensures count { OnOk result (¬ (word ≡ 0)
+            → since self.new (page_number address) (index_of address) ≡ count) }
+        ensures err { OnErr result (words self.new ≡ words self.old) }
+        ensures err_since { OnErr result (since self.new ≡ since self.old) };
 
     /// Makes each word of the frames 0.
     fn clear(&mut self, frames: Frames)
-        ensures { (hart : ℕ) → words self.new ≡ words_after (GiveOut hart frames) (words self.old) };
+        ensures words { (hart : ℕ)
+            → words self.new ≡ words_after (GiveOut hart frames) (words self.old) }
+        ensures others { (t i : ℕ) → is_among frames t ≡ false
+            → since self.new t i ≡ since self.old t i };
 
-    /// The leaves of an address space, as entries for its ASID.
-    fn leaves(&self, alloc: Global, scheme: Scheme, space: Space) -> Result<Vec<Entry>, AllocError>
-        ensures { IfOk result (λ leaves. (e : EntryOf)
-            → Contains leaves.items e ↔ IsLeafOf scheme (words self.now) space e) };
+    /// The physical addresses of the words of the frames that are not 0.
+    fn stored_in(&self, alloc: Global, frames: Frames) -> Result<Vec<u64>, AllocError>
+        ensures { IfOk result (λ addresses. AreFilled (words self.now) frames addresses.items) };
 
-    /// The leaves of an address space that a store to a physical address may take: each one of the
-    /// space that it would take is there, whatever word it stores.
+    /// The ways from roots to the table of the word at a physical address.
+    fn ways(&self, alloc: Global, scheme: Scheme, address: u64) -> Result<Vec<Way>, AllocError>
+        ensures { IfOk result (λ ways. AreWays scheme (words self.now) (since self.now)
+            (page_number address) ways.items) };
+
+    /// The leaves whose paths pass through the word at a physical address, to whose table these are
+    /// the ways.
     fn leaves_through(
         &self,
         alloc: Global,
         scheme: Scheme,
-        space: Space,
         address: u64,
-    ) -> Result<Vec<Entry>, AllocError>
-        ensures of_space { IfOk result (λ leaves. (e : EntryOf)
-            → Contains leaves.items e → IsLeafOf scheme (words self.now) space e) }
-        ensures taken { IfOk result (λ leaves. (word : ℕ) (e : EntryOf)
-            → IsLeafOf scheme (words self.now) space e
-            → ¬ IsLeafOf scheme
-            (stored (words self.now) (page_number address) (index_of address) word) space e
-            → Contains leaves.items e) };
+        ways: &[Way],
+    ) -> Result<Vec<RootLeaf>, AllocError>
+        requires { AreWays scheme (words self.now) (since self.now) (page_number address) ways.now }
+        ensures exact { IfOk result (λ leaves. (root : ℕ) (e : EntryOf)
+            → HasRootLeaf leaves.items root e
+            ↔ IsLeafThrough scheme (words self.now) root (page_number address) (index_of address) e) }
+        ensures since { IfOk result (λ leaves. (x : RootLeafOf) → Contains leaves.items x
+            → (n : ℕ) → (x.since ≤ n)
+            ↔ IsUnchangedSince scheme (words self.now) (since self.now) x.root x.entry n) };
+
+    /// Whether the tables under a root have the leaf, whatever its ASID.
+    fn has_leaf(&self, scheme: Scheme, root: u64, entry: &Entry) -> bool
+        ensures { IsTrue result ↔ HasLeaf scheme (words self.now) root entry.now };
 
     /// Whether the tables under a root map what the entry says, with at least its rights.
     fn is_mapped(&self, scheme: Scheme, root: u64, entry: &Entry) -> bool

@@ -1,4 +1,12 @@
 pub mod Numbers
+pub mod PointerPairs
+pub mod Storing
+pub mod Filled
+pub mod Memory
 pub mod Paths
-pub mod Subtrees
-pub mod Passing
+pub mod PathWords
+pub mod PathSince
+pub mod Climbing
+pub mod WaysBelow
+pub mod LeavesBelow
+pub mod Gathering

@@ -7,7 +7,7 @@ use Rattle.pte.specs.declared.address.PageSize.{PageSize}
 use Rattle.pte.specs.declared.address.PageSize.TheVariants.{Kib4, Mib2, Gib1, Gib512}
 use Rattle.pte.specs.Address.{IsCanonical, IsPageOf, Span, address_bits, level_bytes, level_of, top_level, vpn_of}
 use Rattle.pte.proofs.Schemes.{bits_levels}
-use Rattle.watch_tables.specs.Leaves.{vpn_from}
+use Rattle.watch_tables.specs.Ways.{vpn_from}
 
 -- the VPNs from a level up are those above it, and its own
 pub vpn-split : (scheme : Scheme) (i va : ℕ) → i ≤ top_level scheme → vpn_from scheme i va ≡ vpn_from scheme (i + 1) va * 512 + vpn_of va i

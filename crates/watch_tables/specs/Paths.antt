@@ -1,11 +1,11 @@
 -- The tables and leaves that a path leads to (privileged manual 4.3.2, virtual address translation
 -- process, steps 1 to 6; 4.3.1, G).
-use Rattle.std.specs.Prelude.{ℕ, Bool, ◌≡◌, ◌+◌, ◌%◌, ◌==◌, ◌||◌, ◌↔◌, if◌then◌else◌, Option, Some}
+use Rattle.std.specs.Prelude.{ℕ, Bool, ◌≡◌, ◌≤◌, ◌+◌, ◌%◌, ◌==◌, ◌||◌, ◌↔◌, if◌then◌else◌, Option, Some}
 use Rattle.std.specs.Prelude.{None, IsTrue}
 use Rattle.pte.specs.declared.scheme.Scheme.{Scheme}
 use Rattle.pte.specs.declared.entry.Kind.{Kind}
 use Rattle.pte.specs.declared.entry.Kind.TheVariants as kinds
-use Rattle.pte.specs.Address.{Span}
+use Rattle.pte.specs.Address.{Span, level_of, vpn_of}
 use Rattle.pte.specs.Entry.{kind_of, is_global}
 use Rattle.walk.specs.Leads.{Tables, word_at, Leads, IsGlobalAt}
 use Rattle.tlb.specs.declared.store.Entry.{Entry}
@@ -24,6 +24,19 @@ pub record IsReached (scheme : Scheme) (words : Tables) (root va level : ℕ)
     (at : Reached) : Type 0 where
   pub leads : Leads scheme words root va level at.table (word_at words va level at.table)
   pub global : IsTrue at.global ↔ IsGlobalAt scheme words root va (level + 1)
+
+-- each word on the path of the address, from the root's down to that of the level, was stored within
+-- the first `count` records
+pub record IsPathSince (scheme : Scheme) (words : Tables) (since : ℕ → ℕ → ℕ)
+    (root va level count : ℕ) : Type 0 where
+  pub unchanged : (at table : ℕ) → level ≤ at
+      → Leads scheme words root va at table (word_at words va at table)
+      → since table (vpn_of va at) ≤ count
+
+-- the same of the path of an entry's page
+abbrev pub IsUnchangedSince : Scheme → Tables → (ℕ → ℕ → ℕ) → ℕ → Entry → ℕ → Type 0
+IsUnchangedSince scheme words since root e count =
+    IsPathSince scheme words since root e.page.base (level_of e.page.size) count
 
 -- the table that an entry of a kind points to, behind pointers of which one has G or none has
 abbrev pub pointed_from : Bool → Kind → Option Reached
@@ -47,10 +60,10 @@ abbrev pub leaf_of : Entry → Leaf
 leaf_of e = record { ppn = e.ppn; flags = e.flags; global = e.global }
 
 -- the entry for the leaf of a page
-abbrev pub entry_at : ℕ → Span → Leaf → Entry
-entry_at asid page leaf =
+abbrev pub entry_at : Span → Leaf → Entry
+entry_at page leaf =
     record {
-      asid = asid;
+      asid = 0;
       global = leaf.global;
       page = page;
       ppn = leaf.ppn;

@@ -9,13 +9,24 @@ use tlb::Entry;
 
 /// What the leaf of a page has.
 #[derive(Clone, Copy, PartialEq, Eq, Debug)]
-pub struct Leaf {
+pub(crate) struct Leaf {
     /// The PPN, a multiple of the page's size in pages of 4 KiB.
-    pub ppn: u64,
+    ppn: u64,
     /// The flags.
-    pub flags: PteFlags,
+    flags: PteFlags,
     /// Whether G is set in the leaf or in a pointer above it.
-    pub global: bool,
+    global: bool,
+}
+
+/// A leaf of the tables of a root.
+#[derive(Clone, Copy, PartialEq, Eq, Debug)]
+pub struct RootLeaf {
+    /// The PPN of the root table.
+    pub root: u64,
+    /// What a TLB may hold of the leaf, with ASID 0.
+    pub entry: Entry,
+    /// How many records had been when the newest word on the leaf's path was stored.
+    pub since: u64,
 }
 
 /// Whether the new flags permit what the old ones do.
@@ -29,7 +40,7 @@ fn permits(new: PteFlags, old: PteFlags) -> bool
 }
 
 impl Leaf {
-    ghost use Rattle.watch_tables.specs.Paths.{IsAtLeast, entry_at, leaf_from};
+    ghost use Rattle.watch_tables.specs.Paths.{IsAtLeast, entry_at, leaf_from, leaf_of};
 
     /// The leaf of a page of a size that an entry of a kind is, below pointers of which one has G or
     /// none has; `None` for what is no leaf, and for one that is not aligned.
@@ -46,17 +57,24 @@ impl Leaf {
         }
     }
 
-    /// The entry of a TLB for the leaf of a page, in the address space of an ASID.
-    pub fn entry(self, asid: u16, page: Page) -> Entry
-        ensures { result ≡ entry_at asid page self }
+    /// The entry of a TLB for the leaf of a page, with ASID 0.
+    pub(crate) fn entry(self, page: Page) -> Entry
+        ensures { result ≡ entry_at page self }
     {
         Entry {
-            asid,
+            asid: 0,
             global: self.global,
             page,
             ppn: self.ppn,
             flags: self.flags,
         }
+    }
+
+    /// Whether the leaf has what a TLB's entry has.
+    pub(crate) fn is_of(&self, entry: &Entry) -> bool
+        ensures { IsTrue result ↔ (self.now ≡ leaf_of entry.now) }
+    {
+        self.ppn == entry.ppn && self.flags == entry.flags && self.global == entry.global
     }
 
     /// Whether the leaf has the PPN of a TLB's entry and at least its rights, and is as global as

@@ -6,11 +6,16 @@ mod laws;
 mod leaf;
 mod leaves;
 mod path;
+mod pointers;
 mod tables;
-mod through;
+mod way;
+mod ways;
 
 pub use laws::{
-    leaves_through_a_word_are_what_a_store_can_take, word_of_an_address_is_by_its_number,
+    leaf_changes_below_a_changed_word, path_passes_a_first_word_or_none,
+    path_through_a_word_has_a_way, what_leads_goes_by_the_words_on_its_path,
+    word_of_an_address_is_by_its_number,
 };
-pub use leaf::Leaf;
+pub use leaf::RootLeaf;
 pub use tables::PageTables;
+pub use way::Way;

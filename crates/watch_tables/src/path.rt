@@ -13,7 +13,6 @@ use crate::leaf::Leaf;
 use crate::tables::PageTables;
 use pte::{Kind, Page, Pte, Scheme, VirtAddr};
 use tlb::Entry;
-use walk::Words;
 
 /// A table that pointers lead to.
 #[derive(Clone, Copy, PartialEq, Eq, Debug)]
@@ -41,11 +40,11 @@ impl Reached {
 
 impl PageTables {
     /// The kind of the word at an index, below 512, of the table at a PPN.
-    pub(crate) fn kind(&self, table: u64, index: u16) -> Kind
+    fn kind(&self, table: u64, index: u16) -> Kind
         ensures { result ≡ kind_in (words self.now table index) }
     {
-        match self.word(table, index) {
-            Some(word) => Pte(word).kind(),
+        match self.stored_at(table, index) {
+            Some(stored) => Pte(stored.word).kind(),
             None => Kind::Invalid,
         }
     }
@@ -74,7 +73,7 @@ impl PageTables {
     }
 
     /// The leaf of just this page, of its base and its size, in the tables of the root at a PPN.
-    pub fn leaf_at(&self, scheme: Scheme, root: u64, page: Page) -> Option<Leaf>
+    fn leaf_at(&self, scheme: Scheme, root: u64, page: Page) -> Option<Leaf>
         ensures { (e : EntryOf) → e.page ≡ page
             → HasLeaf scheme (words self.now) root e ↔ (result ≡ Some (leaf_of e)) }
     {
@@ -87,6 +86,16 @@ impl PageTables {
             return None;
         };
         Leaf::from_kind(at.global, size, self.kind(at.table, base.vpn(level)))
+    }
+
+    /// Whether the tables of the root at a PPN have an entry now, whatever its ASID.
+    pub fn has_leaf(&self, scheme: Scheme, root: u64, entry: &Entry) -> bool
+        ensures { IsTrue result ↔ HasLeaf scheme (words self.now) root entry.now }
+    {
+        match self.leaf_at(scheme, root, entry.page) {
+            Some(leaf) => leaf.is_of(entry),
+            None => false,
+        }
     }
 
     /// Whether the tables of the root at a PPN have the page of an entry now, with its PPN and at

@@ -1,18 +1,18 @@
 use Rattle.std.proofs.Common.{◌∙◌, sym, ap, ℕ, take, ◌++◌, ◌∷◌, []}
 use Rattle.std.proofs.lemmas.List.{take_more}
-use Rattle.watch_engine.specs.declared.held.LiveEntry.{LiveEntry}
+use Rattle.watch_engine.specs.declared.held.LastLive.{LastLive}
 use Rattle.watch_engine.specs.Held.{remembered, remembered_all}
 use Rattle.watch_engine.proofs.Places.{remembered_push}
 use Rattle.watch_engine.proofs.list.remember_all.Goals as goal
 
 pub loop-item-preserved : goal.loop-item-preserved
 loop-item-preserved c =
-    let l : LiveEntry = c.item-item.result in
+    let l : LastLive = c.item-item.result in
     let at : ℕ = c.loop-item.item-index in
     let live = c.args.live.now in
     let one = c.in_ok-remember.ensures in
     let more = take_more live at l c.loop-item-test.true in
-    one.ok ∙ (ap (remembered c.args.count l) c.loop-item.invariant
-    ∙ (sym (remembered_push c.args.count (take at live) l c.args.held.now.items)
-    ∙ ((λ j. remembered_all c.args.count (take at live ++ c.item-item.is j ∷ []) c.args.held.now.items)
-    ∙ sym (ap (λ ls. remembered_all c.args.count ls c.args.held.now.items) more))))
+    one.ok ∙ (ap (remembered l) c.loop-item.invariant
+    ∙ (sym (remembered_push (take at live) l c.args.held.now.items)
+    ∙ ((λ j. remembered_all (take at live ++ c.item-item.is j ∷ []) c.args.held.now.items)
+    ∙ sym (ap (λ ls. remembered_all ls c.args.held.now.items) more))))

@@ -1,4 +1,4 @@
-use Rattle.watch.proofs.Computed.{is_mapped}
+use Rattle.watch.specs.Computed.{is_mapped}
 use Rattle.watch_engine.specs.Held.{is_current_by, settled, translation_of}
 use Rattle.watch_engine.proofs.Places.{mapped_whole}
 use Rattle.watch_engine.proofs.list.settle.Goals as goal

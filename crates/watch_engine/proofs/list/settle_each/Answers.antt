@@ -1,7 +1,7 @@
 use Rattle.std.proofs.Common.{rules, ◌<◌, ◌≤◌, ◌≡◌, ◌∙◌, length, get_or, sym, Bool, map, ◌++◌, append-nil}
 use Rattle.std.proofs.lemmas.List.{drop_all, take_all}
 use Rattle.std.proofs.lemmas.List.Edits.{map_over_more}
-use Rattle.watch.proofs.Computed.{is_mapped}
+use Rattle.watch.specs.Computed.{is_mapped}
 use Rattle.watch_engine.specs.declared.held.Held.{Held}
 use Rattle.watch_engine.specs.Held.{is_current_by, settled, translation_of}
 use Rattle.watch_engine.proofs.list.settle_each.Goals as goal

@@ -1,5 +1,5 @@
 use Rattle.std.proofs.Common.{◌≡◌, map, take, drop, ◌++◌}
-use Rattle.watch.proofs.Computed.{is_mapped}
+use Rattle.watch.specs.Computed.{is_mapped}
 use Rattle.watch_engine.specs.Held.{is_current_by, settled, translation_of}
 use Rattle.watch_engine.proofs.list.settle_each.Given as goal
 

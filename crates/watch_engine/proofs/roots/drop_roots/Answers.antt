@@ -2,5 +2,5 @@ use Rattle.std.proofs.Common.{rules}
 use Rattle.std.proofs.lemmas.Fn.{filter_same}
 use Rattle.watch_engine.proofs.roots.drop_roots.Goals as goal
 
-pub returns : goal.returns
-returns c = filter_same _ _ _ (λ x b g called. search rules) _ _ c.retain.ensures.filtered
+pub returns-clause-roots : goal.returns-clause-roots
+returns-clause-roots c = filter_same _ _ _ (λ x b g called. search rules) _ _ c.retain.ensures.filtered

@@ -1,6 +1,6 @@
 use Rattle.std.proofs.Common.{◌≡◌, drop}
 use Rattle.std.specs.List.{list_any}
-use Rattle.watch.proofs.Computed.{is_mapped}
+use Rattle.watch.specs.Computed.{is_mapped}
 use Rattle.watch_engine.proofs.roots.is_mapped_in_any.Given as goal
 
 abbrev pub invariant-loop-root : goal.invariant-loop-root

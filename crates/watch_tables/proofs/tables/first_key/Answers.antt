@@ -4,9 +4,10 @@ use Rattle.std.specs.BTreeMap.{BTreeMap, get}
 use Rattle.std.specs.declared.ops.Bound.TheVariants.{Included, Excluded}
 use Rattle.std.specs.BTreeMap.Range.{IsInRange, IsRangeOf}
 use Rattle.std.proofs.lemmas.Map.Keys.{le_from_not_gt}
+use Rattle.watch_tables.specs.declared.tables.StoredWord.{StoredWord}
 use Rattle.watch_tables.proofs.tables.first_key.Goals as goal
 
-none_unless : (o : Option ℕ) → (IsSome o → ⊥) → o ≡ None
+none_unless : (o : Option StoredWord) → (IsSome o → ⊥) → o ≡ None
 none_unless None h = refl
 none_unless (Some x) h = absurd (h refl)
 
@@ -17,7 +18,7 @@ before_end : (start end q : ℕ) → IsInRange nat_cmp (Included start) (Exclude
 before_end start end q inside = search (rules, inside.1)
 
 -- before the first key of a range is none
-none_before_first : (map : BTreeMap ℕ ℕ) (start end : ℕ) (first : ℕ × ℕ) (found rest : List (ℕ × ℕ)) → found ≡ first ∷ rest → IsRangeOf nat_cmp (Included start) (Excluded end) map found
+none_before_first : (map : BTreeMap ℕ StoredWord) (start end : ℕ) (first : ℕ × StoredWord) (found rest : List (ℕ × StoredWord)) → found ≡ first ∷ rest → IsRangeOf nat_cmp (Included start) (Excluded end) map found
     → (q : ℕ) → start ≤ q → q < first.0 → get nat_cmp map q ≡ None
 none_before_first map start end first found rest is part q from before =
     let of_cons = subst (IsRangeOf nat_cmp (Included start) (Excluded end) map) is part in

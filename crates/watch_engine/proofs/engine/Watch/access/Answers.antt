@@ -6,7 +6,7 @@ use Rattle.watch_engine.specs.declared.cause.Cause.TheVariants.{Access}
 use Rattle.watch_engine.specs.declared.held.Held.{Held}
 use Rattle.watch_engine.specs.Warnings.{AreWarnings, joined}
 use Rattle.watch_engine.proofs.Judging.{are_warnings, use_causes}
-use Rattle.watch_engine.proofs.Standings.{use_stands}
+use Rattle.watch_engine.proofs.PlainChanges.{use_stands}
 use Rattle.watch_engine.proofs.engine.Watch.access.Goals as goal
 
 pub returns-clause-warnings : goal.returns-clause-warnings
@@ -18,7 +18,7 @@ returns-clause-warnings g c = λ trace at.
     let space : Option Space = c.satp-space.result in
     let satp : satp_of trace hart ≡ space = sym (c.satp-space.ensures ∙ at.satp hart) in
     subst (AreWarnings scheme (records.Use hart address) trace) (sym (c.in_ok-given.ensures ∙ ap (λ (h : List Held). joined (Access hart space address) h []) c.as_slice.ensures.value))
-    (are_warnings scheme (records.Use hart address) trace (Access hart space address) (use_causes scheme hart address trace space satp) held at.are)
+    (are_warnings scheme (records.Use hart address) trace (Access hart space address) _ (use_causes scheme hart address trace space satp) held at.are)
 
 pub returns-clause-ok : goal.returns-clause-ok
 returns-clause-ok g c = λ trace at. use_stands at c.args.hart c.args.address

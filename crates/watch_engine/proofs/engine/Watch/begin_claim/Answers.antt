@@ -1,4 +1,4 @@
-use Rattle.watch_engine.proofs.Standings.{claim_begin_stands}
+use Rattle.watch_engine.proofs.PlainChanges.{claim_begin_stands}
 use Rattle.watch_engine.proofs.engine.Watch.begin_claim.Goals as goal
 
 pub returns-clause-ok : goal.returns-clause-ok

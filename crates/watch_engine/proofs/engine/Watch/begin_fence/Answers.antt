@@ -1,4 +1,4 @@
-use Rattle.watch_engine.proofs.Standings.{remote_begin_stands}
+use Rattle.watch_engine.proofs.PlainChanges.{remote_begin_stands}
 use Rattle.watch_engine.proofs.engine.Watch.begin_fence.Goals as goal
 
 pub returns-clause-ok : goal.returns-clause-ok

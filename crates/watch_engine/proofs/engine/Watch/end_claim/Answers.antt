@@ -8,7 +8,7 @@ use Rattle.watch_engine.specs.Held.{is_claimed_by, marked_if}
 use Rattle.watch_engine.specs.Open.{IsOpenClaim, newest_claim}
 use Rattle.watch_engine.specs.Warnings.{AreWarnings, joined}
 use Rattle.watch_engine.proofs.Judging.{are_warnings, claim_causes}
-use Rattle.watch_engine.proofs.Standings.{claim_end_stands}
+use Rattle.watch_engine.proofs.PlainChanges.{claim_end_stands}
 use Rattle.watch_engine.proofs.engine.Watch.end_claim.Goals as goal
 
 pub returns-clause-warnings : goal.returns-clause-warnings
@@ -19,7 +19,7 @@ returns-clause-warnings g c = λ hart trace at.
     let found : Option OpenClaim = c.newest_claim-claim.result in
     let is : found ≡ newest_claim token None c.args.self.now.claims.items = c.newest_claim-claim.ensures ∙ ap (newest_claim token None) c.as_slice.ensures.value in
     subst (AreWarnings scheme (records.ClaimEnd hart token) trace) (sym (c.in_ok-given.ensures ∙ ap (λ (h : List Held). joined (Claim found) h []) c.as_slice-2.ensures.value))
-    (are_warnings scheme (records.ClaimEnd hart token) trace (Claim found) (claim_causes scheme hart token trace found (subst (IsOpenClaim trace token) (sym is) (at.claim token))) held at.are)
+    (are_warnings scheme (records.ClaimEnd hart token) trace (Claim found) _ (claim_causes scheme hart token trace found (subst (IsOpenClaim trace token) (sym is) (at.claim token))) held at.are)
 
 pub returns-clause-ok : goal.returns-clause-ok
 returns-clause-ok g c = λ hart trace at.

@@ -4,7 +4,7 @@ use Rattle.watch_engine.specs.declared.cause.Cause.TheVariants.{Back}
 use Rattle.watch_engine.specs.declared.held.Held.{Held}
 use Rattle.watch_engine.specs.Warnings.{AreWarnings, joined}
 use Rattle.watch_engine.proofs.Judging.{are_warnings, back_causes}
-use Rattle.watch_engine.proofs.Standings.{back_stands}
+use Rattle.watch_engine.proofs.PlainChanges.{back_stands}
 use Rattle.watch_engine.proofs.engine.Watch.give_back.Goals as goal
 
 pub returns-clause-warnings : goal.returns-clause-warnings
@@ -13,7 +13,7 @@ returns-clause-warnings g c = λ hart trace at.
     let frames = c.args.frames in
     let held : List Held = c.args.self.now.held.items in
     subst (AreWarnings scheme (records.GiveBack hart frames) trace) (sym (c.in_ok-given.ensures ∙ ap (λ (h : List Held). joined (Back frames) h []) c.as_slice.ensures.value))
-    (are_warnings scheme (records.GiveBack hart frames) trace (Back frames) (back_causes scheme hart frames trace) held at.are)
+    (are_warnings scheme (records.GiveBack hart frames) trace (Back frames) _ (back_causes scheme hart frames trace) held at.are)
 
 pub returns-clause-ok : goal.returns-clause-ok
 returns-clause-ok g c = λ hart trace at. back_stands at hart c.args.frames _ c.mark.ensures

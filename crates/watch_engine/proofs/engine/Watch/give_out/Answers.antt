@@ -1,22 +1,40 @@
-use Rattle.std.proofs.Common.{◌∙◌, sym, ap, subst, List, map, ◌+◌, [], ℕ}
+use Rattle.std.proofs.Common.{◌≡◌, ◌∙◌, sym, ap, subst, List, map, filter, ◌+◌, ◌∷◌, [], ℕ, Bool}
+use Rattle.std.specs.Prelude.{cond}
 use Rattle.walk.specs.Leads.{Tables}
 use Rattle.watch.specs.declared.trace.Record.TheVariants as records
 use Rattle.watch.specs.declared.trace.Verdict.TheVariants.{Reuse}
+use Rattle.watch.specs.Computed.{is_mapped}
 use Rattle.watch_engine.specs.declared.cause.Cause.TheVariants.{Out}
 use Rattle.watch_engine.specs.declared.held.Held.{Held}
-use Rattle.watch_engine.specs.declared.held.LiveEntry.{LiveEntry}
-use Rattle.watch_engine.specs.Held.{Anything, AreAllLive, is_exposed_by, marked_if, settled}
+use Rattle.watch_engine.specs.declared.held.LastLive.{LastLive}
+use Rattle.watch_engine.specs.declared.left.Left.{Left}
+use Rattle.watch_engine.specs.declared.left.PastFence.{PastFence}
+use Rattle.watch_engine.specs.Held.{is_current_by, is_exposed_by, marked_if, remembered_all, settled, translation_of}
 use Rattle.watch_engine.specs.Warnings.{AreWarnings, joined}
+use Rattle.watch_engine.specs.Left.{has_its_root}
+use Rattle.watch_engine.specs.Standing.{Stands}
+use Rattle.watch_engine.proofs.FrameChanges.{frames_stand}
+use Rattle.watch_engine.proofs.Gathering.{SeenIn}
 use Rattle.watch_engine.proofs.Judging.{are_warnings, out_causes}
-use Rattle.watch_engine.proofs.Standings.{on_err, out_stands, some_remembered, tested}
+use Rattle.watch_engine.proofs.Standings.{on_err, some_remembered}
 use Rattle.watch_engine.proofs.engine.Watch.give_out.Goals as goal
 
 pub returns-in_err-remember_all-clause-err : goal.returns-in_err-remember_all-clause-err
 returns-in_err-remember_all-clause-err g c = λ trace at.
-    let live : List LiveEntry = c.as_slice-2.result.now in
-    let all = subst (AreAllLive c.args.self.now.scheme (g.T.Tables.words c.args.self.now.tables) Anything c.args.self.now.satps) (sym c.as_slice-2.ensures.value) c.in_ok-live.ensures in
+    let watch = c.args.self.now in
+    let scheme = watch.scheme in
+    let words : Tables = g.T.Tables.words watch.tables in
+    let since = g.T.Tables.since watch.tables in
+    let seen : List LastLive = c.as_slice-5.result.now in
+    let left : List Left = watch.left.items in
+    let drops : List PastFence = watch.drops.items in
+    let addresses : List ℕ = c.in_ok-addresses.addresses.items in
+    let all = subst (SeenIn scheme words since watch.satps left drops watch.count addresses) (sym c.as_slice-5.ensures.value)
+    (subst (λ (many : List ℕ). SeenIn scheme words since watch.satps left drops watch.count many c.add_seen_in.new.seen.items) c.as_slice-4.ensures.value
+    (subst (λ (ds : List PastFence). SeenIn scheme words since watch.satps left ds watch.count c.as_slice-4.result.now c.add_seen_in.new.seen.items) c.as_slice-3.ensures.value
+    (subst (λ (ls : List Left). SeenIn scheme words since watch.satps ls c.as_slice-3.result.now watch.count c.as_slice-4.result.now c.add_seen_in.new.seen.items) c.as_slice-2.ensures.value c.in_ok-add_seen_in.ensures))) in
     let e = c.in_err-remember_all.ensures.err in
-    on_err _ _ (some_remembered at Anything live all e.0 _ e.1)
+    on_err _ _ (some_remembered at seen all.each e.0 _ e.1)
 
 pub returns-clause-warnings : goal.returns-clause-warnings
 returns-clause-warnings g c = λ hart trace at.
@@ -24,17 +42,32 @@ returns-clause-warnings g c = λ hart trace at.
     let frames = c.args.frames in
     let held : List Held = c.args.self.now.held.items in
     subst (AreWarnings scheme (records.GiveOut hart frames) trace) (sym (c.in_ok-given.ensures ∙ ap (λ (h : List Held). joined (Out frames) h []) c.as_slice.ensures.value))
-    (are_warnings scheme (records.GiveOut hart frames) trace (Out frames) (out_causes scheme hart frames trace) held at.are)
+    (are_warnings scheme (records.GiveOut hart frames) trace (Out frames) _ (out_causes scheme hart frames trace) held at.are)
 
 pub returns-clause-ok : goal.returns-clause-ok
 returns-clause-ok g c = λ hart trace at.
-    let live : List LiveEntry = c.as_slice-2.result.now in
-    let scheme = c.args.self.now.scheme in
+    let watch = c.args.self.now in
+    let scheme = watch.scheme in
+    let words : Tables = g.T.Tables.words watch.tables in
+    let since = g.T.Tables.since watch.tables in
+    let seen : List LastLive = c.as_slice-5.result.now in
+    let left : List Left = watch.left.items in
+    let drops : List PastFence = watch.drops.items in
+    let addresses : List ℕ = c.in_ok-addresses.addresses.items in
+    let all = subst (SeenIn scheme words since watch.satps left drops watch.count addresses) (sym c.as_slice-5.ensures.value)
+    (subst (λ (many : List ℕ). SeenIn scheme words since watch.satps left drops watch.count many c.add_seen_in.new.seen.items) c.as_slice-4.ensures.value
+    (subst (λ (ds : List PastFence). SeenIn scheme words since watch.satps left ds watch.count c.as_slice-4.result.now c.add_seen_in.new.seen.items) c.as_slice-3.ensures.value
+    (subst (λ (ls : List Left). SeenIn scheme words since watch.satps ls c.as_slice-3.result.now watch.count c.as_slice-4.result.now c.add_seen_in.new.seen.items) c.as_slice-2.ensures.value c.in_ok-add_seen_in.ensures))) in
+    let held : List Held = watch.held.items in
     let frames = c.args.frames in
     let new : Tables = g.T.Tables.words c.clear.new.self in
-    let all = subst (AreAllLive scheme (g.T.Tables.words c.args.self.now.tables) Anything c.args.self.now.satps) (sym c.as_slice-2.ensures.value) c.in_ok-live.ensures in
-    let left : List ℕ = c.drop_roots.new.roots.items in
-    let marks = c.mark.ensures ∙ ap (map (marked_if Reuse (is_exposed_by frames))) c.in_ok-remember_all.ensures.ok in
-    out_stands at hart frames live new left _ c.drop_roots.ensures all (c.clear.ensures hart)
-    (c.settle.ensures
-    ∙ (λ j. map (λ i. settled (tested at new (c.as_slice-3.ensures.value j) i) (c.args.self.now.count + 1) i) (marks j)))
+    let these : List ℕ = c.drop_roots-keeps.new.roots.items in
+    let mark : Held → Held = marked_if Reuse (is_exposed_by frames) in
+    let settle : List ℕ → Held → Held = λ rs i. settled (is_current_by (is_mapped scheme new) rs (translation_of i)) (watch.count + 1) i in
+    let marks : c.mark.new.held.items ≡ map mark (remembered_all seen held) = c.mark.ensures ∙ ap (map mark) c.in_ok-remember_all.ensures.ok in
+    let changed : Bool = c.may_differ.result in
+    subst (λ (ls : List Left). Stands scheme (records.GiveOut hart frames ∷ trace) new (g.T.Tables.since c.clear.new.self) watch.satps these c.settle_where.new.held.items ls drops watch.fences.items watch.claims.items (watch.count + 1))
+    (sym (c.drop_rootless.ensures ∙ ap (λ (rs : List ℕ). filter (has_its_root rs) left) c.as_slice-6.ensures.value))
+    (frames_stand at hart frames new (g.T.Tables.since c.clear.new.self) (c.clear.ensures.words hart) c.clear.ensures.others addresses c.in_ok-addresses.ensures these c.drop_roots-keeps.ensures.roots changed
+    (λ same. (sym c.as_slice-7.ensures.value ∙ c.may_differ.ensures.words same, sym c.drop_roots-keeps.ensures.all ∙ c.may_differ.ensures.roots same)) seen all _
+    (c.settle_where.ensures ∙ (λ j. cond changed (map (settle (c.as_slice-8.ensures.value j)) (marks j)) (marks j))))

@@ -1,34 +1,74 @@
-use Rattle.std.proofs.Common.{◌≡◌, ◌∙◌, sym, subst, List, map, ◌+◌}
+use Rattle.std.proofs.Common.{◌≡◌, ◌∙◌, sym, subst, List, map, filter, ◌+◌, ℕ}
 use Rattle.walk.specs.Leads.{Tables}
-use Rattle.walk.specs.Maps.{page_number}
-use Rattle.walk.specs.Stores.{stored}
 use Rattle.watch.specs.Trace.{index_of}
-use Rattle.watch_engine.specs.declared.held.LiveEntry.{LiveEntry}
-use Rattle.watch_engine.specs.Held.{AreAllLive, GoesBy, settled}
-use Rattle.watch_engine.proofs.Standings.{all_remembered, on_err, other_words, some_remembered, store_stands, tested}
+use Rattle.watch.specs.Computed.{is_mapped}
+use Rattle.watch_engine.specs.declared.held.Held.{Held}
+use Rattle.watch_engine.specs.declared.held.LastLive.{LastLive}
+use Rattle.watch_engine.specs.declared.left.Left.{Left}
+use Rattle.watch_engine.specs.declared.left.PastFence.{PastFence}
+use Rattle.watch_tables.specs.declared.way.Way.{Way}
+use Rattle.watch_engine.specs.Held.{is_current_by, remembered_all, translation_of}
+use Rattle.watch_engine.specs.Touched.{is_kept_after, is_touched, settled_if}
+use Rattle.watch_engine.specs.Standing.{Stands}
+use Rattle.watch_engine.proofs.Gathering.{AddedBy, seen_of}
+use Rattle.watch_engine.proofs.Standings.{all_remembered, on_err, some_remembered}
+use Rattle.watch_engine.proofs.WordChanges.{store_stands}
 use Rattle.watch_engine.proofs.engine.Watch.store.Goals as goal
 
 pub returns-in_err-remember_all-clause-err : goal.returns-in_err-remember_all-clause-err
 returns-in_err-remember_all-clause-err g c = λ trace at.
-    let live : List LiveEntry = c.as_slice.result.now in
-    let all = subst (AreAllLive c.args.self.now.scheme (g.T.Tables.words c.args.self.now.tables) (GoesBy c.args.self.now.scheme (stored (g.T.Tables.words c.args.self.now.tables) (page_number c.args.address) (index_of c.args.address) c.args.word)) c.args.self.now.satps) (sym c.as_slice.ensures.value) (c.in_ok-live.ensures c.args.word) in
+    let watch = c.args.self.now in
+    let scheme = watch.scheme in
+    let words = g.T.Tables.words watch.tables in
+    let since = g.T.Tables.since watch.tables in
+    let seen : List LastLive = c.as_slice-3.result.now in
+    let left : List Left = watch.left.items in
+    let drops : List PastFence = watch.drops.items in
+    let added = subst (AddedBy scheme words since watch.satps left drops watch.count c.args.address c.new-seen.result.items) (sym c.as_slice-3.ensures.value)
+    (subst (λ (ds : List PastFence). AddedBy scheme words since watch.satps left ds watch.count c.args.address c.new-seen.result.items c.add_seen.new.seen.items) c.as_slice-2.ensures.value
+    (subst (λ (ls : List Left). AddedBy scheme words since watch.satps ls c.as_slice-2.result.now watch.count c.args.address c.new-seen.result.items c.add_seen.new.seen.items) c.as_slice.ensures.value c.in_ok-ways.ensures.seen)) in
+    let all = seen_of scheme words since watch.satps left drops watch.count c.args.address c.new-seen.result.items seen c.new-seen.ensures.items added in
     let e = c.in_err-remember_all.ensures.err in
-    on_err _ _ (some_remembered at _ live all e.0 _ e.1)
+    on_err _ _ (some_remembered at seen all.each e.0 _ e.1)
 
 pub returns-in_err-store-clause-err : goal.returns-in_err-store-clause-err
 returns-in_err-store-clause-err g c = λ trace at.
-    let live : List LiveEntry = c.as_slice.result.now in
-    let all = subst (AreAllLive c.args.self.now.scheme (g.T.Tables.words c.args.self.now.tables) (GoesBy c.args.self.now.scheme (stored (g.T.Tables.words c.args.self.now.tables) (page_number c.args.address) (index_of c.args.address) c.args.word)) c.args.self.now.satps) (sym c.as_slice.ensures.value) (c.in_ok-live.ensures c.args.word) in
-    on_err _ _ (other_words (all_remembered at _ live all _ c.in_ok-remember_all.ensures.ok) _ c.in_err-store.ensures.err)
+    let watch = c.args.self.now in
+    let scheme = watch.scheme in
+    let words : Tables = g.T.Tables.words watch.tables in
+    let since = g.T.Tables.since watch.tables in
+    let seen : List LastLive = c.as_slice-3.result.now in
+    let left : List Left = watch.left.items in
+    let drops : List PastFence = watch.drops.items in
+    let added = subst (AddedBy scheme words since watch.satps left drops watch.count c.args.address c.new-seen.result.items) (sym c.as_slice-3.ensures.value)
+    (subst (λ (ds : List PastFence). AddedBy scheme words since watch.satps left ds watch.count c.args.address c.new-seen.result.items c.add_seen.new.seen.items) c.as_slice-2.ensures.value
+    (subst (λ (ls : List Left). AddedBy scheme words since watch.satps ls c.as_slice-2.result.now watch.count c.args.address c.new-seen.result.items c.add_seen.new.seen.items) c.as_slice.ensures.value c.in_ok-ways.ensures.seen)) in
+    let all = seen_of scheme words since watch.satps left drops watch.count c.args.address c.new-seen.result.items seen c.new-seen.ensures.items added in
+    let stands = all_remembered at seen all.each _ c.in_ok-remember_all.ensures.ok in
+    on_err _ _
+    (subst (λ (w : Tables). Stands scheme trace w (g.T.Tables.since c.store.new.self) watch.satps watch.roots.items c.remember_all.new.held.items left drops watch.fences.items watch.claims.items watch.count) (sym c.in_err-store.ensures.err)
+    (subst (λ (s : ℕ → ℕ → ℕ). Stands scheme trace words s watch.satps watch.roots.items c.remember_all.new.held.items left drops watch.fences.items watch.claims.items watch.count) (sym c.in_err-store.ensures.err_since) stands))
 
 pub returns-clause-ok : goal.returns-clause-ok
 returns-clause-ok g c = λ hart trace at.
-    let live : List LiveEntry = c.as_slice.result.now in
-    let scheme = c.args.self.now.scheme in
+    let watch = c.args.self.now in
+    let scheme = watch.scheme in
+    let words : Tables = g.T.Tables.words watch.tables in
+    let since = g.T.Tables.since watch.tables in
+    let seen : List LastLive = c.as_slice-3.result.now in
+    let left : List Left = watch.left.items in
+    let drops : List PastFence = watch.drops.items in
+    let held : List Held = watch.held.items in
+    let added = subst (AddedBy scheme words since watch.satps left drops watch.count c.args.address c.new-seen.result.items) (sym c.as_slice-3.ensures.value)
+    (subst (λ (ds : List PastFence). AddedBy scheme words since watch.satps left ds watch.count c.args.address c.new-seen.result.items c.add_seen.new.seen.items) c.as_slice-2.ensures.value
+    (subst (λ (ls : List Left). AddedBy scheme words since watch.satps ls c.as_slice-2.result.now watch.count c.args.address c.new-seen.result.items c.add_seen.new.seen.items) c.as_slice.ensures.value c.in_ok-ways.ensures.seen)) in
+    let all = seen_of scheme words since watch.satps left drops watch.count c.args.address c.new-seen.result.items seen c.new-seen.ensures.items added in
+    let ways : List Way = c.in_ok-ways.ways.items in
     let new : Tables = g.T.Tables.words c.store.new.self in
-    let words : Tables = g.T.Tables.words c.args.self.now.tables in
-    let is : new ≡ stored words (page_number c.args.address) (index_of c.args.address) c.args.word = c.in_ok-store.ensures.ok hart in
-    let all = subst (λ (ls : List LiveEntry). AreAllLive scheme words (GoesBy scheme new) c.args.self.now.satps ls) (sym c.as_slice.ensures.value) (subst (λ (w : Tables). AreAllLive scheme words (GoesBy scheme w) c.args.self.now.satps c.in_ok-live.live.items) (sym is) (c.in_ok-live.ensures c.args.word)) in
-    store_stands at hart c.args.address c.args.word live new _ all (c.in_ok-store.ensures.ok hart)
-    (c.settle.ensures
-    ∙ (λ j. map (λ i. settled (tested at new (c.as_slice-2.ensures.value j) i) (c.args.self.now.count + 1) i) (c.in_ok-remember_all.ensures.ok j)))
+    let index : ℕ = index_of c.args.address in
+    let roots : List ℕ = watch.roots.items in
+    let change : List Way → List ℕ → Held → Held = λ ws rs i. settled_if (is_touched scheme index ws (translation_of i)) (is_current_by (is_mapped scheme new) rs (translation_of i)) (watch.count + 1) i in
+    let dropped : c.drop_live.new.held.items ≡ filter (is_kept_after scheme new watch.satps index ways) (remembered_all seen held) =
+    c.drop_live.ensures ∙ (λ j. filter (is_kept_after scheme new watch.satps index (c.as_slice-4.ensures.value j)) (c.in_ok-remember_all.ensures.ok j)) in
+    store_stands at hart c.args.address c.args.word new (g.T.Tables.since c.store.new.self) (c.in_ok-store.ensures.ok hart) c.in_ok-store.ensures.others c.in_ok-store.ensures.count ways c.in_ok-ways.ensures.ways seen all _
+    (c.settle_touched.ensures ∙ (λ j. map (change (c.as_slice-6.ensures.value j) (c.as_slice-5.ensures.value j)) (dropped j)))

@@ -1,23 +1,37 @@
-use Rattle.std.proofs.Common.{sym, subst}
-use Rattle.watch_tables.specs.declared.leaves.Subtree.{Subtree}
-use Rattle.watch_tables.specs.Leaves.{IsSubtree}
-use Rattle.watch_tables.specs.Words.{words}
-use Rattle.watch_tables.proofs.Subtrees.{all-added, subtree-start}
-use Rattle.watch_tables.proofs.Passing.{root-through, taken-passes}
+use Rattle.std.proofs.Common.{◌⊎◌, subst, false, get_or, arith}
+use Rattle.std.specs.Prelude.{◌↔◌}
+use Rattle.std.specs.List.{Contains}
+use Rattle.walk.specs.Maps.{page_number}
+use Rattle.watch.specs.Trace.{index_of}
+use Rattle.watch_tables.specs.declared.leaf.RootLeaf.{RootLeaf}
+use Rattle.watch_tables.specs.declared.way.Way.{Way}
+use Rattle.watch_tables.specs.Words.{since, words}
+use Rattle.watch_tables.specs.Leaves.{IsLeafAt}
+use Rattle.watch_tables.proofs.Gathering.{each-next, exact-all, since-all, sound-next, way-at}
 use Rattle.watch_tables.proofs.tables.PageTables.leaves_through.Goals as goal
 
-pub add_leaves_through-requires-clause-subtree : goal.add_leaves_through-requires-clause-subtree
-add_leaves_through-requires-clause-subtree c = subst (λ (t : Subtree). IsSubtree c.args.scheme (words c.args.self.now) c.args.space.root t) (sym c.of_root-root.ensures) (subtree-start c.args.scheme (words c.args.self.now) c.args.space.root)
+pub add_leaves_at-requires-clause-way : goal.add_leaves_at-requires-clause-way
+add_leaves_at-requires-clause-way c = way-at c.args.scheme (words c.args.self.now) (since c.args.self.now) (page_number c.args.address) (index_of c.args.address) c.args.ways.now c.requires c.loop-way.way-index _ c.loop-way-test.true
+
+-- what stands where there is no way
+abbrev no_way : Way
+no_way = record { root = 0; level = 0; vpn = 0; at = record { table = 0; global = false }; since = 0 }
+
+pub loop-way-preserved : goal.loop-way-preserved
+loop-way-preserved c =
+    let added =
+    subst (λ n. (x : RootLeaf) → Contains c.add_leaves_at.new.out.items x ↔ (Contains c.loop-way.out.items x ⊎ IsLeafAt c.args.scheme (words c.args.self.now) (since c.args.self.now) (get_or c.args.ways.now c.loop-way.way-index no_way) n x)) c.index_of.ensures.index
+    c.in_ok-add_leaves_at.ensures
+    in
+    record {
+      sound = sound-next c.args.scheme (words c.args.self.now) (since c.args.self.now) (page_number c.args.address) (index_of c.args.address) c.args.ways.now c.requires c.loop-way.way-index no_way c.loop-way-test.true c.loop-way.out.items c.add_leaves_at.new.out.items added c.loop-way.invariant.sound;
+      each = each-next c.args.scheme (words c.args.self.now) (since c.args.self.now) (page_number c.args.address) (index_of c.args.address) c.args.ways.now c.requires c.loop-way.way-index no_way c.loop-way-test.true c.loop-way.out.items c.add_leaves_at.new.out.items added c.loop-way.invariant.each;
+    }
 
 pub returns-clause-exact : goal.returns-clause-exact
 returns-clause-exact c =
-    all-added _ _ c.new-out.result.items c.add_leaves_through.new.out.items c.new-out.ensures.items
-    (root-through c.args.scheme (words c.args.self.now) c.args.space c.at.result.table c.at.result.index _ _ c.of_root-root.result c.of_root-root.ensures c.at.ensures.table c.at.ensures.index)
-    c.in_ok-add_leaves_through.ensures
+    exact-all c.args.scheme (words c.args.self.now) (since c.args.self.now) (page_number c.args.address) (index_of c.args.address) c.args.ways.now c.requires c.loop-way.out.items c.loop-way.invariant.sound
+    (λ k other x less at. c.loop-way.invariant.each k other x (let done = c.loop-way-test.false in omega arith) at)
 
-pub returns-clause-taken : goal.returns-clause-taken
-returns-clause-taken c = λ word e leaf gone.
-    (all-added _ _ c.new-out.result.items c.add_leaves_through.new.out.items c.new-out.ensures.items
-    (root-through c.args.scheme (words c.args.self.now) c.args.space c.at.result.table c.at.result.index _ _ c.of_root-root.result c.of_root-root.ensures c.at.ensures.table c.at.ensures.index)
-    c.in_ok-add_leaves_through.ensures e).1
-    (record { leaf = leaf; passes = taken-passes c.args.scheme (words c.args.self.now) c.args.space _ _ word e leaf gone })
+pub returns-clause-since : goal.returns-clause-since
+returns-clause-since c = since-all c.args.scheme (words c.args.self.now) (since c.args.self.now) (page_number c.args.address) (index_of c.args.address) c.args.ways.now c.requires c.loop-way.out.items c.loop-way.invariant.sound

@@ -1,0 +1,198 @@
+-- What frames that are given out leave.
+use Rattle.std.proofs.Common.{◌≡◌, ℕ, Bool, true, false, ◌+◌, ◌<◌, ◌≤◌, zero, suc, Option, Some, None, List, [], ◌∷◌, length, get_or, map, filter, IsTrue, ap, sym, ◌∙◌, subst, refl, inl, inr, arith}
+use Rattle.std.specs.Prelude.{◌==◌, cond, not}
+use Rattle.std.specs.List.{list_all, list_any}
+use Rattle.std.proofs.lemmas.Bool.{and_from, cases_Bool, not_from_false, or_left, true≢false}
+use Rattle.pte.specs.declared.scheme.Scheme.{Scheme}
+use Rattle.pte.specs.Address.{level_of, top_level, vpn_of}
+use Rattle.walk.specs.Leads.{Tables}
+use Rattle.walk.specs.Maps.{page_number}
+use Rattle.walk.proofs.Paths.{leads-start}
+use Rattle.tlb.specs.declared.store.Entry.{Entry}
+use Rattle.watch.specs.declared.trace.Frames.{Frames}
+use Rattle.watch.specs.declared.trace.Record.{Record}
+use Rattle.watch.specs.declared.trace.Record.TheVariants.{GiveOut}
+use Rattle.watch.specs.declared.trace.Space.{Space}
+use Rattle.watch.specs.declared.trace.Verdict.TheVariants.{Reuse}
+use Rattle.watch.specs.Trace.{Trace, index_of, is_among, is_root, is_used, words_after, words_of}
+use Rattle.watch.specs.Holding.{HasLeaf, Translation}
+use Rattle.watch.specs.Staleness.{IsMapped}
+use Rattle.watch.specs.Computed.{is_mapped}
+use Rattle.watch.specs.ComputedTraces.{has_verdict, is_current}
+use Rattle.watch_engine.specs.declared.held.Held.{Held}
+use Rattle.watch_engine.specs.declared.held.LastLive.{LastLive}
+use Rattle.watch_engine.specs.declared.left.Left.{Left}
+use Rattle.watch_engine.specs.declared.left.PastFence.{PastFence}
+use Rattle.watch_engine.specs.declared.open.OpenClaim.{OpenClaim}
+use Rattle.watch_engine.specs.declared.open.OpenFence.{OpenFence}
+use Rattle.watch_engine.specs.Held.{is_current_by, is_exposed_by, marked_if, remembered_all, settled, stays as root_stays, translation_of, without_frames}
+use Rattle.watch_engine.specs.Left.{IsLeftAt, has_its_root}
+use Rattle.watch_engine.specs.Seen.{AreSeen, PassesAny}
+use Rattle.watch_engine.specs.Follows.{AreHeld, IsKnown}
+use Rattle.watch_engine.specs.Standing.{AreRoots, IsLeftWithin, Stands}
+use Rattle.watch_tables.specs.Through.{Passes}
+use Rattle.watch_tables.specs.Words.{AreFilled}
+use Rattle.watch_engine.proofs.Changes.{PassesIn, Stays, filled}
+use Rattle.watch_engine.proofs.Leaving.{any_weaker, filter_each, filter_in, filter_out}
+use Rattle.watch_engine.proofs.Lists.{KeepsKey, filter_same}
+use Rattle.watch_engine.proofs.MemoryChanges.{IsChange, changed_ages, changed_are}
+use Rattle.watch_engine.proofs.Records.{all_pass, mark_reuse, marked_keeps, quiet, reused_after, reused_by, settled_keeps}
+use Rattle.watch_engine.proofs.SpaceRoots.{all_stay, current_same, roots_current, roots_left}
+use Rattle.watch_engine.proofs.Standings.{more_records}
+use Rattle.watch_engine.proofs.Steps.{After}
+
+passes-at : (scheme : Scheme) (words : Tables) (root : ℕ) (e : Entry) (address : ℕ) → Passes scheme words root (page_number address) (index_of address) e.page → (addresses : List ℕ) (k : ℕ) → k < length addresses → get_or addresses k address ≡ address
+    → PassesAny scheme words root addresses e
+passes-at scheme words root e address p [] k within is = absurd (omega arith)
+passes-at scheme words root e address p (a ∷ addresses) zero within is = inl (subst (λ b. Passes scheme words root (page_number b) (index_of b) e.page) (sym is) p)
+passes-at scheme words root e address p (a ∷ addresses) (suc k) within is = inr (passes-at scheme words root e address p addresses k (omega arith) is)
+
+-- words that are not other than 0 are 0
+not-other : (o : Option ℕ) → ((o ≡ Some 0 → ⊥) → ⊥) → o ≡ Some 0
+not-other None f = absurd (f (λ e. cc))
+not-other (Some zero) f = refl
+not-other (Some (suc n)) f = absurd (f (λ e. cc))
+
+twice : (f g : Held → Held) (held : List Held) → map f (map g held) ≡ map (λ i. f (g i)) held
+twice f g [] = refl
+twice f g (i ∷ held) = ap (λ is. f (g i) ∷ is) (twice f g held)
+
+module _ {scheme : Scheme} {trace : Trace} {words : Tables} {since : ℕ → ℕ → ℕ} {satps : List (Option Space)} {roots : List ℕ} {held : List Held} {left : List Left} {drops : List PastFence} {fences : List OpenFence} {claims : List OpenClaim} {count : ℕ}
+    (at : Stands scheme trace words since satps roots held left drops fences claims count) (by : ℕ) (frames : Frames) (new : Tables) (ages : ℕ → ℕ → ℕ) (clears : new ≡ words_after (GiveOut by frames) words)
+    (others : (t i : ℕ) → is_among frames t ≡ false → ages t i ≡ since t i) (addresses : List ℕ)
+    (filled_are : AreFilled words frames addresses)
+    (these : List ℕ) (these_are : these ≡ without_frames frames satps roots) where
+  abbrev newest : Record
+  newest = GiveOut by frames
+
+  abbrev is_in : ℕ → ℕ → Bool
+  is_in t i = is_among frames t
+
+  abbrev Goes : ℕ → Entry → Type 0
+  Goes root e = PassesAny scheme words root addresses e
+
+  abbrev kept : List Left
+  kept = filter (has_its_root these) left
+
+  agree : (t i : ℕ) → is_in t i ≡ false → new t i ≡ words t i
+  agree t i h = (λ j. clears j t i) ∙ ap (λ b. cond b (Some 0) (words t i)) h
+
+  spaces : AreRoots (newest ∷ trace) these
+  spaces = subst (AreRoots (newest ∷ trace)) (sym these_are) (roots_left trace by frames satps roots at.satp at.spaces)
+
+  memory : new ≡ words_of (newest ∷ trace)
+  memory = clears ∙ ap (words_after newest) at.memory
+
+  goes : (root : ℕ) (e : Entry) → HasLeaf scheme words root e → PassesIn scheme words new is_in agree root e.page.base (level_of e.page.size) → Goes root e
+  goes root e leaf passes =
+      let there = filled_are.each passes.table (vpn_of e.page.base passes.at) passes.within (filled scheme words root e leaf passes.at passes.table passes.from passes.before) in
+      let p : Passes scheme words root passes.table (vpn_of e.page.base passes.at) e.page = record { at = passes.at; from = passes.from; asked = refl; leads = passes.before } in
+      passes-at scheme words root e there.address
+      (subst (λ t. Passes scheme words root t (index_of there.address) e.page) (sym there.frame) (subst (λ n. Passes scheme words root passes.table n e.page) (sym there.place) p))
+      addresses there.among.0 there.among.1 there.among.2
+
+  root-stays : (root : ℕ) (e : Entry) → IsTrue (is_root trace root) → Stays scheme words new is_in agree root e → IsTrue (is_root (newest ∷ trace) root)
+  root-stays root e is stays =
+      let level : level_of e.page.size ≤ top_level scheme = stays.leaf.page.level in
+      let other = (stays.path (top_level scheme) root level (leads-start scheme new root e.page.base)).0 in
+      and_from _ _ (or_left (not (is_among frames root)) (is_used trace root) (not_from_false (is_among frames root) other)) is
+
+  is_change : IsChange at newest is_in new ages Goes kept
+  is_change = record {
+    agree = agree;
+    same = others;
+    late = λ t i h filled. absurd (filled ((λ j. clears j t i) ∙ ap (λ b. cond b (Some 0) (words t i)) h));
+    memory = memory;
+    satp_same = λ hart. refl;
+    none = λ hart x. refl;
+    goes = goes;
+    root_stays = root-stays;
+    out = λ Q a. any_weaker (λ l. Q l × (has_its_root these l ≡ true)) Q (λ l h. h.0) left (filter_out Q (has_its_root these) left a);
+    into = λ Q a. filter_in Q (has_its_root these) left (any_weaker (λ l. Q l × IsTrue (is_root (newest ∷ trace) l.space.root)) (λ l. Q l × (has_its_root these l ≡ true)) (λ l h. (h.0, spaces l.space.root ∙ h.1)) left a);
+    each = filter_each (IsLeftWithin trace drops) (IsLeftWithin (newest ∷ trace) drops) (has_its_root these)
+        (λ l w t. record { root = sym (spaces l.space.root) ∙ t; within = let less = w.within in omega arith; fences = w.fences }) left at.leaving;
+  }
+
+  abbrev mark : Held → Held
+  mark = marked_if Reuse (is_exposed_by frames)
+
+  mark-keeps : KeepsKey mark
+  mark-keeps = marked_keeps Reuse (is_exposed_by frames)
+
+  tests : (x : Translation) → is_current_by (is_mapped scheme new) these x ≡ is_current scheme (newest ∷ trace) x
+  tests x = ap (λ w. is_current_by (is_mapped scheme w) these x) memory ∙ roots_current scheme (newest ∷ trace) these spaces x
+
+  abbrev settle : Held → Held
+  settle i = settled (is_current_by (is_mapped scheme new) these (translation_of i)) (count + 1) i
+
+  out_stands : (seen : List LastLive) → AreSeen scheme words since satps left drops count Goes seen → (f : Held → Held) → KeepsKey f → ((i : Held) → IsKnown scheme trace i → f i ≡ After scheme newest trace i)
+      → (now : List Held) → now ≡ map f (remembered_all seen held) → Stands scheme (newest ∷ trace) new ages satps these now kept drops fences claims (count + 1)
+  out_stands seen all f keeps after now is = record {
+    memory = memory;
+    ages = changed_ages at newest is_in new ages Goes kept is_change;
+    harts = at.harts;
+    satp = at.satp;
+    spaces = spaces;
+    leaving = is_change.each;
+    are = subst (AreHeld scheme (newest ∷ trace) (IsLeftAt scheme new ages drops kept))
+        (ap (map f) (filter_same (remembered_all seen held)) ∙ sym is)
+        (changed_are at newest is_in new ages Goes kept is_change seen all (all_pass scheme trace) f keeps (λ i h dead. true≢false h) after);
+    fence = at.fence;
+    claim = at.claim;
+    records = more_records at newest;
+  }
+
+  -- all are settled
+  settled-keys : KeepsKey (λ i. settle (mark i))
+  settled-keys =
+      let s : KeepsKey settle = settled_keeps (λ i. is_current_by (is_mapped scheme new) these (translation_of i)) (count + 1) in
+      let k = mark-keeps in
+      record { hart = λ i. s.hart (mark i) ∙ k.hart i; root = λ i. s.root (mark i) ∙ k.root i; entry = λ i. s.entry (mark i) ∙ k.entry i; last = λ i. s.last (mark i) ∙ k.last i }
+
+  settled-after-out : (i : Held) → IsKnown scheme trace i → settle (mark i) ≡ After scheme newest trace i
+  settled-after-out i known =
+      let n : count + 1 ≡ length (newest ∷ trace) = more_records at newest in
+      let k = mark-keeps in
+      let same : translation_of (mark i) ≡ translation_of i = (λ j. record { root = k.root i j; entry = k.entry i j }) in
+      (λ j. settled (is_current_by (is_mapped scheme new) these (same j)) (n j) (mark i))
+      ∙ (ap (λ b. settled b (length (newest ∷ trace)) (mark i)) (tests (translation_of i))
+      ∙ reused_after scheme trace (is_current scheme (newest ∷ trace) (translation_of i)) (length (newest ∷ trace)) (is_exposed_by frames i) (has_verdict scheme Reuse newest trace i.hart (translation_of i)) i (reused_by scheme trace by frames i known))
+
+  -- nothing has changed
+  module _ (empty : addresses ≡ []) (all : list_all (root_stays frames satps) roots ≡ true) where
+    same-word : (t i : ℕ) → new t i ≡ words t i
+    same-word t i =
+        elim (cases_Bool (is_among frames t)) [
+          | inl here ↦
+              let zero_word : words t i ≡ Some 0 = not-other (words t i) (λ filled.
+              let at = filled_are.each t i here filled in
+              let within = at.among.1 in
+              let none : length addresses ≡ 0 = ap length empty in
+              omega arith) in
+              (λ j. clears j t i) ∙ (ap (λ b. cond b (Some 0) (words t i)) here ∙ sym zero_word)
+          | inr other ↦ agree t i other
+        ]
+
+    same-roots : (root : ℕ) → is_root trace root ≡ is_root (newest ∷ trace) root
+    same-roots root = sym (at.spaces root) ∙ (ap (list_any (λ r. r == root)) (sym (these_are ∙ all_stay (root_stays frames satps) roots all)) ∙ spaces root)
+
+    same-words : words_of trace ≡ words_of (newest ∷ trace)
+    same-words = sym at.memory ∙ ((λ j t i. sym (same-word t i) j) ∙ memory)
+
+    same-current : (x : Translation) → is_current scheme (newest ∷ trace) x ≡ is_current scheme trace x
+    same-current x =
+        current_same scheme trace (newest ∷ trace) x same-roots
+        (λ root counts. (
+          (λ m. subst (λ w. IsMapped scheme w (record x { root = root })) same-words m),
+          (λ m. subst (λ w. IsMapped scheme w (record x { root = root })) (sym same-words) m),
+        ))
+
+    quiet-after-out : (i : Held) → IsKnown scheme trace i → mark i ≡ After scheme newest trace i
+    quiet-after-out i known =
+        mark_reuse scheme trace (is_exposed_by frames i) false (has_verdict scheme Reuse newest trace i.hart (translation_of i)) false i (reused_by scheme trace by frames i known) refl refl
+        ∙ quiet scheme trace newest i (same-current (translation_of i)) known
+
+  pub frames_stand : (changed : Bool) → (changed ≡ false → (addresses ≡ []) × (list_all (root_stays frames satps) roots ≡ true)) → (seen : List LastLive) → AreSeen scheme words since satps left drops count Goes seen → (now : List Held)
+      → now ≡ cond changed (map settle (map mark (remembered_all seen held))) (map mark (remembered_all seen held)) → Stands scheme (newest ∷ trace) new ages satps these now kept drops fences claims (count + 1)
+  frames_stand true same seen all now is = out_stands seen all (λ i. settle (mark i)) settled-keys settled-after-out now (is ∙ twice settle mark (remembered_all seen held))
+  frames_stand false same seen all now is = let s = same refl in out_stands seen all mark mark-keeps (quiet-after-out s.0 s.1) now is

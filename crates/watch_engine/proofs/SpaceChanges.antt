@@ -1,0 +1,250 @@
+-- What a hart that writes satp leaves.
+use Rattle.std.proofs.Common.{◌≡◌, ℕ, Bool, true, false, ◌+◌, ◌<◌, ◌⊎◌, zero, suc, Option, Some, None, List, [], ◌∷◌, ◌++◌, length, get_or, set, map, filter, IsTrue, ap, sym, ◌∙◌, subst, refl, inl, inr, arith}
+use Rattle.std.specs.Prelude.{◌==◌, ◌&&◌, cond, not}
+use Rattle.std.specs.List.{list_any}
+use Rattle.std.proofs.lemmas.Bool.{and_parts, cases_Bool, cases_eq, eq-eqb, eqb-true, ne_eqb, or_right, true≢false}
+use Rattle.pte.specs.declared.scheme.Scheme.{Scheme}
+use Rattle.walk.specs.Leads.{Tables}
+use Rattle.watch.specs.declared.trace.Record.{Record}
+use Rattle.watch.specs.declared.trace.Record.TheVariants.{Satp}
+use Rattle.watch.specs.declared.trace.Space.{Space}
+use Rattle.watch.specs.Trace.{Trace, has_root, is_root, satp_of, words_of}
+use Rattle.watch.specs.Holding.{BelongsTo, HasLeaf, Translation}
+use Rattle.watch.specs.Computed.{is_mapped}
+use Rattle.watch.specs.ComputedTraces.{is_current, is_live, is_live_in}
+use Rattle.watch.proofs.ComputedTraces.{live_iff}
+use Rattle.watch.proofs.Roots.{satp-root}
+use Rattle.watch_engine.specs.declared.held.Held.{Held}
+use Rattle.watch_engine.specs.declared.left.Left.{Left}
+use Rattle.watch_engine.specs.declared.left.PastFence.{PastFence}
+use Rattle.watch_engine.specs.declared.open.OpenClaim.{OpenClaim}
+use Rattle.watch_engine.specs.declared.open.OpenFence.{OpenFence}
+use Rattle.watch_engine.specs.Held.{IsNormalized, is_current_by, knows, settled, translation_of, with_root}
+use Rattle.watch_engine.specs.Left.{EachLeft, IsLeftAt, IsLeftHeld, is_other, is_space, takes, with_left}
+use Rattle.watch_engine.specs.Follows.{AreHeld, IsHeldFrom, IsKnown}
+use Rattle.watch_engine.specs.Standing.{AreRoots, IsLeftWithin, Stands}
+use Rattle.watch_engine.proofs.Leaving.{any_first, any_last, any_member, any_out, any_pushed, any_weaker, any_with, each_pushed, filter_each, filter_in, filter_out}
+use Rattle.watch_engine.proofs.Lists.{KeepsKey, filter_same, map_same}
+use Rattle.watch_engine.proofs.Records.{all_pass, quiet, same, same_keeps, settled_after, settled_keeps}
+use Rattle.watch_engine.proofs.SpaceRoots.{current_same, roots_current, roots_entered}
+use Rattle.watch_engine.proofs.Standings.{current_of, drop_end, live_from, more_records, since_now, to_live}
+use Rattle.watch_engine.proofs.Steps.{After, held-on, step}
+
+-- a list with one place written
+set-other : (xs : List (Option Space)) (k h : ℕ) (s : Option Space) → (k ≡ h → ⊥) → get_or (set xs k s) h None ≡ get_or xs h None
+set-other [] k h s other = refl
+set-other (x ∷ xs) zero zero s other = absurd (other refl)
+set-other (x ∷ xs) zero (suc h) s other = refl
+set-other (x ∷ xs) (suc k) zero s other = refl
+set-other (x ∷ xs) (suc k) (suc h) s other = set-other xs k h s (λ e. other (ap suc e))
+
+set-here : (xs : List (Option Space)) (k : ℕ) (s : Option Space) → k < length xs → get_or (set xs k s) k None ≡ s
+set-here [] k s within = absurd (omega arith)
+set-here (x ∷ xs) zero s within = refl
+set-here (x ∷ xs) (suc k) s within = set-here xs k s (omega arith)
+
+set-length : (xs : List (Option Space)) (k : ℕ) (s : Option Space) → length (set xs k s) ≡ length xs
+set-length [] k s = refl
+set-length (x ∷ xs) zero s = refl
+set-length (x ∷ xs) (suc k) s = ap suc (set-length xs k s)
+
+is-space : (o : Option Space) (space : Space) → is_space o space ≡ true → o ≡ Some space
+is-space None space h = cc
+is-space (Some s) space h =
+    let p = and_parts (s.root == space.root) (s.asid == space.asid) h in
+    let root : s.root ≡ space.root = eqb-true _ _ p.0 in
+    let asid : s.asid ≡ space.asid = eqb-true _ _ p.1 in
+    (λ j. Some (record { root = root j; asid = asid j }))
+
+module _ {scheme : Scheme} {trace : Trace} {words : Tables} {since : ℕ → ℕ → ℕ} {satps : List (Option Space)} {roots : List ℕ} {held : List Held} {left : List Left} {drops : List PastFence} {fences : List OpenFence} {claims : List OpenClaim} {count : ℕ}
+    (at : Stands scheme trace words since satps roots held left drops fences claims count) where
+  -- the space in the hart's satp may be written down as left now
+  module _ (by : ℕ) (space : Space) (is : get_or satps by None ≡ Some space) where
+    abbrev one : Left
+    one = record { hart = by; space = space; left = count; fences = length drops }
+
+    one-held : (hart : ℕ) (x : Translation) → by ≡ hart → BelongsTo space x → HasLeaf scheme words space.root x.entry → IsLeftHeld scheme words since drops one hart x
+    one-held hart x same belongs leaf = record {
+      by = same;
+      belongs = belongs;
+      leaf = leaf;
+      unchanged = since_now at space.root x.entry leaf;
+      kept = ap (list_any (takes scheme one x.entry)) (drop_end drops);
+    }
+
+    one-good : (hart : ℕ) (x : Translation) (n : ℕ) → (count ≡ n) × IsLeftHeld scheme words since drops one hart x → IsHeldFrom scheme trace hart x n
+    one-good hart x n (last, h) =
+        let count_is = at.records in
+        let satp : satp_of trace hart ≡ Some space = subst (λ k. satp_of trace k ≡ Some space) h.by (sym (at.satp by) ∙ is) in
+        let live = (live_iff scheme trace hart x).1 (record { space = space; satp = satp; belongs = h.belongs; leaf = subst (λ w. HasLeaf scheme w space.root x.entry) at.memory h.leaf }) in
+        live_from at hart x n live (omega arith)
+
+    one-pushed : Stands scheme trace words since satps roots held (left ++ one ∷ []) drops fences claims count
+    one-pushed = record {
+      memory = at.memory;
+      ages = at.ages;
+      harts = at.harts;
+      satp = at.satp;
+      spaces = at.spaces;
+      leaving = each_pushed (IsLeftWithin trace drops) left one at.leaving (record { root = satp-root trace by space (sym (at.satp by) ∙ is); within = let n = at.records in omega arith; fences = omega arith });
+      are = record {
+        each = at.are.each;
+        left = λ hart x n l. elim (any_pushed (λ l. (l.left ≡ n) × IsLeftHeld scheme words since drops l hart x) left one l) [
+          | inl old ↦ at.are.left hart x n old
+          | inr new ↦ one-good hart x n new
+        ];
+        all = λ hart x norm h dead. elim (at.are.all hart x norm h dead) [
+          | inl known ↦ inl known
+          | inr old ↦ inr (any_first _ left one old)
+        ];
+      };
+      fence = at.fence;
+      claim = at.claim;
+      records = at.records;
+    }
+
+  pushed-at : (by : ℕ) (old : Option Space) → get_or satps by None ≡ old → Stands scheme trace words since satps roots held (with_left by old count (length drops) left) drops fences claims count
+  pushed-at by None is = at
+  pushed-at by (Some space) is = one-pushed by space is
+
+  pub left_pushed : (by : ℕ) (old : Option Space) → get_or satps by None ≡ old → (n : ℕ) → n ≡ length drops → (now : List Left) → now ≡ with_left by old count n left → Stands scheme trace words since satps roots held now drops fences claims count
+  left_pushed by old is n long now are =
+      subst (λ (ls : List Left). Stands scheme trace words since satps roots held ls drops fences claims count) (sym (are ∙ (λ j. with_left by old count (long j) left))) (pushed-at by old is)
+
+  pub other_roots : (these : List ℕ) → these ≡ roots → Stands scheme trace words since satps these held left drops fences claims count
+  other_roots these is = record { memory = at.memory; ages = at.ages; harts = at.harts; satp = at.satp; spaces = subst (AreRoots trace) (sym is) at.spaces; leaving = at.leaving; are = at.are; fence = at.fence; claim = at.claim; records = at.records }
+
+-- with the space that the hart leaves among those that were left
+module _ {scheme : Scheme} {trace : Trace} {words : Tables} {since : ℕ → ℕ → ℕ} {satps : List (Option Space)} {roots : List ℕ} {held : List Held} {left : List Left} {drops : List PastFence} {fences : List OpenFence} {claims : List OpenClaim} {count : ℕ}
+    (at : Stands scheme trace words since satps roots held left drops fences claims count) (by : ℕ) (space : Option Space)
+    (leaves : (hart : ℕ) (x : Translation) → by ≡ hart → is_live scheme trace hart x ≡ true → IsLeftAt scheme words since drops left hart x count) (these : List ℕ) (entered : these ≡ with_root space roots) where
+  abbrev newest : Record
+  newest = Satp by space
+
+  abbrev kept : List Left
+  kept = filter (is_other by space) left
+
+  abbrev Old : ℕ → Translation → ℕ → Type 0
+  Old = IsLeftAt scheme words since drops left
+
+  abbrev New : ℕ → Translation → ℕ → Type 0
+  New = IsLeftAt scheme words since drops kept
+
+  abbrev Left_at : ℕ → Translation → ℕ → Left → Type 0
+  Left_at hart x n l = (l.left ≡ n) × IsLeftHeld scheme words since drops l hart x
+
+  spaces : AreRoots (newest ∷ trace) these
+  spaces = subst (AreRoots (newest ∷ trace)) (sym entered) (roots_entered trace by space roots at.spaces)
+
+  more-roots : (root : ℕ) → IsTrue (is_root trace root) → IsTrue (is_root (newest ∷ trace) root)
+  more-roots root is = or_right (has_root space root) (is_root trace root) is
+
+  other-live : (hart : ℕ) (x : Translation) → (by ≡ hart → ⊥) → is_live scheme (newest ∷ trace) hart x ≡ is_live scheme trace hart x
+  other-live hart x other = ap (λ b. is_live_in scheme (words_of trace) (cond b space (satp_of trace hart)) x) (ne_eqb by hart other)
+
+  -- what was left in the space to which the hart comes is live
+  back-live : (hart : ℕ) (x : Translation) (n : ℕ) (l : Left) → Left_at hart x n l → is_other by space l ≡ false → is_live scheme (newest ∷ trace) hart x ≡ true
+  back-live hart x n l (last, h) back =
+      let both : ((l.hart == by) && is_space space l.space) ≡ true = elim (cases_Bool ((l.hart == by) && is_space space l.space)) [
+        | inl t ↦ t
+        | inr f ↦ absurd (true≢false (sym (ap not f) ∙ back))
+      ] in
+      let p = and_parts (l.hart == by) (is_space space l.space) both in
+      let same : by ≡ hart = sym (eqb-true _ _ p.0) ∙ h.by in
+      let satp : satp_of (newest ∷ trace) hart ≡ Some l.space = ap (λ b. cond b space (satp_of trace hart)) (eq-eqb by hart same) ∙ is-space space l.space p.1 in
+      (live_iff scheme (newest ∷ trace) hart x).1 (record { space = l.space; satp = satp; belongs = h.belongs; leaf = subst (λ w. HasLeaf scheme w l.space.root x.entry) at.memory h.leaf })
+
+  still : (hart : ℕ) (x : Translation) (n : ℕ) → Old hart x n → is_live scheme (newest ∷ trace) hart x ≡ false → New hart x n
+  still hart x n old dead =
+      let m = any_member (Left_at hart x n) left old in
+      let stays : is_other by space m.one ≡ true = elim (cases_Bool (is_other by space m.one)) [
+        | inl t ↦ t
+        | inr f ↦ absurd (true≢false (sym (back-live hart x n m.one m.has f) ∙ dead))
+      ] in
+      filter_in (Left_at hart x n) (is_other by space) left (m.among (λ l. Left_at hart x n l × (is_other by space l ≡ true)) (m.has, stays))
+
+  before : (hart : ℕ) (x : Translation) (n : ℕ) → New hart x n → Old hart x n
+  before hart x n new = any_weaker (λ l. Left_at hart x n l × (is_other by space l ≡ true)) (Left_at hart x n) (λ l h. h.0) left (filter_out (Left_at hart x n) (is_other by space) left new)
+
+  current : (hart : ℕ) (x : Translation) (n : ℕ) → Old hart x n → is_current scheme (newest ∷ trace) x ≡ true
+  current hart x n old =
+      any_out (λ l. Left_at hart x n l × IsLeftWithin trace drops l) (is_current scheme (newest ∷ trace) x ≡ true)
+      (λ l h. current_of scheme (newest ∷ trace) l.space x (more-roots l.space.root h.1.root) h.0.1.belongs (subst (λ w. HasLeaf scheme w l.space.root x.entry) at.memory h.0.1.leaf))
+      left (any_with (Left_at hart x n) (IsLeftWithin trace drops) left at.leaving old)
+
+  live-left : (hart : ℕ) (x : Translation) → IsNormalized x → is_live scheme trace hart x ≡ true → is_live scheme (newest ∷ trace) hart x ≡ false → (knows hart x (length trace) held ≡ true) ⊎ New hart x (length trace)
+  live-left hart x norm live dead =
+      elim (cases_eq by hart) [
+        | inl mine ↦ inr (still hart x (length trace) (subst (Old hart x) at.records (leaves hart x mine live)) dead)
+        | inr other ↦ absurd (true≢false (sym live ∙ (sym (other-live hart x other) ∙ dead)))
+      ]
+
+  abbrev settle : Held → Held
+  settle i = settled (is_current_by (is_mapped scheme words) these (translation_of i)) (count + 1) i
+
+  entered-are : (f : Held → Held) → KeepsKey f → ((i : Held) → IsKnown scheme trace i → f i ≡ After scheme newest trace i) → AreHeld scheme (newest ∷ trace) New (map f held)
+  entered-are f keeps after =
+      subst (λ (h : List Held). AreHeld scheme (newest ∷ trace) New (map f h)) (filter_same held)
+      (step scheme newest trace Old New held (all_pass scheme trace) f (record {
+        keeps = keeps;
+        left = λ hart x n l. let old = before hart x n l in (old, refl, current hart x n old);
+        live = live-left;
+        stays = λ hart x n norm old last dead none. inr (still hart x n old dead);
+        kept = λ i known t. held-on scheme newest trace i.hart (translation_of i) known.held refl;
+        dropped = λ i known last t dead. absurd (true≢false t);
+        after = λ i known h. after i known;
+      }) at.are)
+
+  settled-after-satp : (i : Held) → IsKnown scheme trace i → settle i ≡ After scheme newest trace i
+  settled-after-satp i known =
+      let n : count + 1 ≡ length (newest ∷ trace) = more_records at newest in
+      let test : is_current_by (is_mapped scheme words) these (translation_of i) ≡ is_current scheme (newest ∷ trace) (translation_of i) =
+      ap (λ w. is_current_by (is_mapped scheme w) these (translation_of i)) at.memory ∙ roots_current scheme (newest ∷ trace) these spaces (translation_of i) in
+      (λ j. settled (test j) (n j) i) ∙ settled_after scheme trace (is_current scheme (newest ∷ trace) (translation_of i)) (length (newest ∷ trace)) i
+
+  quiet-after-satp : these ≡ roots → (i : Held) → IsKnown scheme trace i → i ≡ After scheme newest trace i
+  quiet-after-satp unchanged i known =
+      quiet scheme trace newest i
+      (current_same scheme trace (newest ∷ trace) (translation_of i) (λ root. sym (at.spaces root) ∙ (ap (list_any (λ r. r == root)) (sym unchanged) ∙ spaces root)) (λ root counts. ((λ m. m), (λ m. m)))) known
+
+  entered-held : (changed : Bool) → (changed ≡ false → these ≡ roots) → (now : List Held) → now ≡ cond changed (map settle held) held → AreHeld scheme (newest ∷ trace) New now
+  entered-held true unchanged now is =
+      subst (AreHeld scheme (newest ∷ trace) New) (sym is)
+      (entered-are settle (settled_keeps (λ i. is_current_by (is_mapped scheme words) these (translation_of i)) (count + 1)) settled-after-satp)
+  entered-held false unchanged now is =
+      subst (AreHeld scheme (newest ∷ trace) New) (map_same held ∙ sym is) (entered-are same same_keeps (quiet-after-satp (unchanged refl)))
+
+  pub satp_stands : by < 256 → (changed : Bool) → (changed ≡ false → these ≡ roots) → (now : List Held) → now ≡ cond changed (map settle held) held → (stayed : List Left) → stayed ≡ kept → (written : List (Option Space)) → written ≡ set satps by space
+      → Stands scheme (newest ∷ trace) words since written these now stayed drops fences claims (count + 1)
+  satp_stands small changed unchanged now is stayed stay written put =
+      let within : by < length satps = let h = at.harts in omega arith in
+      let satp : (hart : ℕ) → get_or (set satps by space) hart None ≡ cond (by == hart) space (satp_of trace hart) =
+      λ hart. elim (cases_eq by hart) [
+        | inl mine ↦ subst (λ h. get_or (set satps by space) h None ≡ cond (by == h) space (satp_of trace h)) mine (set-here satps by space within ∙ sym (ap (λ b. cond b space (satp_of trace by)) (eq-eqb by by refl)))
+        | inr other ↦ set-other satps by hart space other ∙ (at.satp hart ∙ sym (ap (λ b. cond b space (satp_of trace hart)) (ne_eqb by hart other)))
+      ] in
+      record {
+        memory = at.memory;
+        ages = record { within = λ t i filled. let old = at.ages.within t i filled in omega arith };
+        harts = ap length put ∙ (set-length satps by space ∙ at.harts);
+        satp = λ hart. ap (λ ss. get_or ss hart None) put ∙ satp hart;
+        spaces = spaces;
+        leaving = subst (EachLeft (IsLeftWithin (newest ∷ trace) drops)) (sym stay)
+            (filter_each (IsLeftWithin trace drops) (IsLeftWithin (newest ∷ trace) drops) (is_other by space) (λ l w t. record { root = more-roots l.space.root w.root; within = let less = w.within in omega arith; fences = w.fences }) left at.leaving);
+        are = subst (λ (ls : List Left). AreHeld scheme (newest ∷ trace) (IsLeftAt scheme words since drops ls) now) (sym stay) (entered-held changed unchanged now is);
+        fence = at.fence;
+        claim = at.claim;
+        records = more_records at newest;
+      }
+
+-- what is live for the hart is left by it
+pub leaving_all : {scheme : Scheme} {trace : Trace} {words : Tables} {since : ℕ → ℕ → ℕ} {satps : List (Option Space)} {roots : List ℕ} {held : List Held} {left : List Left} {drops : List PastFence} {fences : List OpenFence} {claims : List OpenClaim} {count : ℕ}
+    → (at : Stands scheme trace words since satps roots held left drops fences claims count) (by : ℕ) (old : Option Space) → get_or satps by None ≡ old → (n : ℕ) → n ≡ length drops → (now : List Left) → now ≡ with_left by old count n left
+    → (hart : ℕ) (x : Translation) → by ≡ hart → is_live scheme trace hart x ≡ true → IsLeftAt scheme words since drops now hart x count
+leaving_all {scheme} {trace} {words} {since} {satps} {roots} {held} {left} {drops} {fences} {claims} {count} at by old is n long now are hart x mine live =
+    let l = to_live at hart x live in
+    let satp : old ≡ Some l.of = sym is ∙ (ap (λ h. get_or satps h None) mine ∙ l.satp) in
+    let one : Left = record { hart = by; space = l.of; left = count; fences = length drops } in
+    let is_now : now ≡ left ++ one ∷ [] = are ∙ ((λ j. with_left by (satp j) count (long j) left)) in
+    subst (λ (ls : List Left). IsLeftAt scheme words since drops ls hart x count) (sym is_now)
+    (any_last (λ m. (m.left ≡ count) × IsLeftHeld scheme words since drops m hart x) left one (refl, one-held at by l.of (ap (λ h. get_or satps h None) mine ∙ l.satp) hart x mine l.belongs l.leaf))

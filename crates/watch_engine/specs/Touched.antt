@@ -1,0 +1,37 @@
+-- Which translations a store to a word can concern: those whose page lies below the word on a way to
+-- its table, from the translation's root or, where it is global, from any.
+use Rattle.std.specs.Prelude.{ℕ, Bool, not, ◌+◌, ◌*◌, ◌==◌, ◌&&◌, ◌||◌, nat_le, if◌then◌else◌, List, Option, None, get_or}
+use Rattle.std.specs.List.{list_any}
+use Rattle.pte.specs.declared.scheme.Scheme.{Scheme}
+use Rattle.pte.specs.declared.address.TheConstants.{TABLE_LENGTH}
+use Rattle.pte.specs.Address.{Span, level_of, top_level}
+use Rattle.walk.specs.Leads.{Tables}
+use Rattle.watch.specs.declared.trace.Space.{Space}
+use Rattle.watch.specs.ComputedTraces.{is_live_in}
+use Rattle.watch.specs.Holding.{Translation}
+use Rattle.watch_tables.specs.Ways.{vpn_from}
+use Rattle.watch_engine.specs.declared.held.Held.{Held}
+use Rattle.watch_tables.specs.declared.way.Way.{Way}
+use Rattle.watch_engine.specs.Held.{settled, translation_of}
+
+abbrev pub is_below : Scheme → ℕ → Span → Way → Bool
+is_below scheme index page way =
+    nat_le way.level (top_level scheme)
+    && (nat_le (level_of page.size) way.level
+    && (vpn_from scheme way.level page.base == way.vpn * TABLE_LENGTH + index))
+
+abbrev pub is_touched_on : Scheme → ℕ → Translation → Way → Bool
+is_touched_on scheme index x way =
+    (x.entry.global || (way.root == x.root)) && is_below scheme index x.entry.page way
+
+abbrev pub is_touched : Scheme → ℕ → List Way → Translation → Bool
+is_touched scheme index ways x = list_any (is_touched_on scheme index x) ways
+
+-- it is not one that can be filled again
+abbrev pub is_kept_after : Scheme → Tables → List (Option Space) → ℕ → List Way → Held → Bool
+is_kept_after scheme words satps index ways i =
+    not (is_touched scheme index ways (translation_of i)
+    && is_live_in scheme words (get_or satps i.hart None) (translation_of i))
+
+abbrev pub settled_if : Bool → Bool → ℕ → Held → Held
+settled_if touched current now i = if touched then settled current now i else i

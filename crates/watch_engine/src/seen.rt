@@ -1,0 +1,170 @@
+//! What is remembered of leaves before a word on their paths changes.
+
+ghost use Rattle.std.specs.Prelude.{ℕ, ◌≡◌, ◌≤◌, ◌++◌, [], IfOk, OnOk, List, length};
+ghost use Rattle.walk.specs.Maps.{page_number};
+ghost use Rattle.watch.specs.Trace.{index_of};
+ghost use Rattle.tlb.specs.declared.store.Entry.{Entry as EntryOf};
+ghost use Rattle.watch_engine.specs.Seen.{AreAdded, AreSeen, PassesAny, is_kept, kept_for, live_for, with_kept, with_leaves, with_live};
+ghost use Rattle.watch_tables.specs.Through.{Passes};
+ghost use Rattle.watch_tables.specs.Ways.{AreWays};
+
+use crate::held::LastLive;
+use crate::left::{Left, PastFence, is_taken_since};
+use crate::tables::Tables;
+use pte::Scheme;
+use std::alloc::{AllocError, Global};
+use watch::Space;
+use watch_tables::{RootLeaf, Way};
+
+// Adds the leaf, if the hart can fill it now.
+fn add_live(
+    seen: &mut Vec<LastLive>,
+    leaf: &RootLeaf,
+    hart: u8,
+    space: Option<Space>,
+    count: u64,
+) -> Result<(), AllocError>
+    ensures { OnOk result (seen.new.items ≡ seen.old.items ++ live_for count leaf.now hart space) }
+{
+    let Some(space) = space else {
+        return Ok(());
+    };
+    if space.root == leaf.root {
+        seen.push(LastLive::of_leaf(hart, space, &leaf.entry, count))?;
+    }
+    Ok(())
+}
+
+// Adds the leaf for each hart that can fill it now.
+fn add_live_for_each(
+    seen: &mut Vec<LastLive>,
+    leaf: &RootLeaf,
+    satps: &[Option<Space>],
+    count: u64,
+) -> Result<(), AllocError>
+    requires { length satps.now ≤ 256 }
+    ensures { OnOk result (seen.new.items ≡ with_live count leaf.now 0 satps.now seen.old.items) }
+{
+    for (hart, space) in satps.iter().enumerate() {
+        add_live(seen, leaf, hart as u8, *space, count)?;
+    }
+    Ok(())
+}
+
+fn is_kept(scheme: Scheme, drops: &[PastFence], leaf: &RootLeaf, left: &Left) -> bool
+    ensures { result ≡ is_kept scheme drops.now leaf.now left.now }
+{
+    if left.space.root != leaf.root || leaf.since > left.left {
+        return false;
+    }
+    let last = LastLive::of_leaf(left.hart, left.space, &leaf.entry, left.left);
+    !is_taken_since(scheme, drops, left, &last.entry)
+}
+
+// Adds the leaf, if the hart may hold it since it left the space.
+fn add_kept(
+    seen: &mut Vec<LastLive>,
+    scheme: Scheme,
+    drops: &[PastFence],
+    leaf: &RootLeaf,
+    left: &Left,
+) -> Result<(), AllocError>
+    ensures { OnOk result (seen.new.items
+        ≡ seen.old.items ++ kept_for scheme drops.now leaf.now left.now) }
+{
+    if is_kept(scheme, drops, leaf, left) {
+        seen.push(LastLive::of_leaf(left.hart, left.space, &leaf.entry, left.left))?;
+    }
+    Ok(())
+}
+
+// Adds the leaf for each hart that may hold it since it left a space.
+fn add_kept_for_each(
+    seen: &mut Vec<LastLive>,
+    scheme: Scheme,
+    drops: &[PastFence],
+    leaf: &RootLeaf,
+    left: &[Left],
+) -> Result<(), AllocError>
+    ensures { OnOk result (seen.new.items
+        ≡ with_kept scheme drops.now leaf.now left.now seen.old.items) }
+{
+    for space in left {
+        add_kept(seen, scheme, drops, leaf, space)?;
+    }
+    Ok(())
+}
+
+// Adds the leaves for each hart that they are live for, or that may hold them since it left a space.
+fn add_leaves(
+    seen: &mut Vec<LastLive>,
+    scheme: Scheme,
+    satps: &[Option<Space>],
+    left: &[Left],
+    drops: &[PastFence],
+    leaves: &[RootLeaf],
+    count: u64,
+) -> Result<(), AllocError>
+    requires { length satps.now ≤ 256 }
+    ensures { OnOk result (seen.new.items
+        ≡ with_leaves scheme count satps.now left.now drops.now leaves.now seen.old.items) }
+{
+    for leaf in leaves {
+        add_live_for_each(seen, leaf, satps, count)?;
+        add_kept_for_each(seen, scheme, drops, leaf, left)?;
+    }
+    Ok(())
+}
+
+/// Adds what harts may hold of the leaves whose paths pass through the word at an address, and
+/// answers the ways to it.
+pub(crate) fn add_seen<T: Tables>(
+    alloc: Global,
+    tables: &T,
+    scheme: Scheme,
+    satps: &[Option<Space>],
+    left: &[Left],
+    drops: &[PastFence],
+    address: u64,
+    count: u64,
+    seen: &mut Vec<LastLive>,
+) -> Result<Vec<Way>, AllocError>
+    requires { length satps.now ≤ 256 }
+    ensures ways { IfOk result (λ ways. AreWays scheme (T.words tables.now) (T.since tables.now)
+        (page_number address) ways.items) }
+    ensures seen { OnOk result (AreAdded scheme (T.words tables.now) (T.since tables.now)
+        satps.now left.now drops.now count
+        (λ (root : ℕ) (e : EntryOf). Passes scheme (T.words tables.now) root (page_number address)
+        (index_of address) e.page) seen.old.items seen.new.items) }
+{
+    let ways = tables.ways(alloc, scheme, address)?;
+    let leaves = tables.leaves_through(alloc, scheme, address, ways.as_slice())?;
+    add_leaves(seen, scheme, satps, left, drops, leaves.as_slice(), count)?;
+    Ok(ways)
+}
+
+/// The same of the words at each of the addresses.
+pub(crate) fn add_seen_in<T: Tables>(
+    alloc: Global,
+    tables: &T,
+    scheme: Scheme,
+    satps: &[Option<Space>],
+    left: &[Left],
+    drops: &[PastFence],
+    addresses: &[u64],
+    count: u64,
+    seen: &mut Vec<LastLive>,
+) -> Result<(), AllocError>
+    requires harts { length satps.now ≤ 256 }
+    requires none { seen.old.items ≡ [] }
+    ensures { OnOk result (AreSeen scheme (T.words tables.now) (T.since tables.now) satps.now
+        left.now drops.now count (λ (root : ℕ) (e : EntryOf). PassesAny scheme (T.words tables.now)
+        root addresses.now e) seen.new.items) }
+{
+    for address in addresses {
+        let _ways = add_seen(
+            alloc, tables, scheme, satps, left, drops, *address, count, seen,
+        )?;
+    }
+    Ok(())
+}
