@@ -28,5 +28,6 @@ module _ (s : ℕ) (old new : Option (List ℕ)) (P : Type 0) (kept : P) where
   unasked words troubles.Unreadable asks r = absurd asks
   unasked words troubles.TooLarge asks r = absurd asks
   unasked words troubles.NoThread asks r = absurd asks
+  unasked words (troubles.Line number) asks r = absurd asks
   unasked words (troubles.Refused fault) asks r =
       if_unasked (asked words) (subst (λ (f : Fault). Reports [] (ending_of_fault f) s old new) asks r)

@@ -4,7 +4,7 @@ use Rattle.std.proofs.lemmas.Bool.{true≢false}
 use Rattle.files.specs.declared.fault.Fault.TheVariants as faults
 use Rattle.files.specs.Faults.{Failure, not_toml, bad_layout, too_many}
 use Rattle.scenario.specs.declared.program.Job.{Job}
-use Rattle.scenario.specs.Command.{Ending, done, stale_used, explained, misused, unreadable, too_large, refused, output_failed, no_memory, no_thread, error_line, failure_status, file_fault, FileLines, IsToldAs, Leaves, Reports, status_of, Suits}
+use Rattle.scenario.specs.Command.{Ending, done, stale_used, explained, misused, unreadable, too_large, refused, output_failed, no_memory, no_thread, warned, wrong_line, error_line, failure_status, file_fault, FileLines, IsToldAs, Leaves, Reports, status_of, Suits}
 use Rattle.scenario.specs.Output.{AppendsFront, EndsBy, WritesAll}
 use Rattle.scenario.specs.WorkedFiles.{IsOkLine}
 
@@ -35,6 +35,8 @@ module _ (job : Job) (file bytes : List ℕ) (out_old out_new err_old err_new : 
   done_by output_failed told suits leaves is status tells = absurd (no_status 0 output_failed told (λ e. omega (arith, e)) (λ e. omega (arith, e)) is status)
   done_by no_memory told suits leaves is status tells = absurd (no_status 0 no_memory told (λ e. omega (arith, e)) (λ e. omega (arith, e)) is status)
   done_by no_thread told suits leaves is status tells = absurd (no_status 0 no_thread told (λ e. omega (arith, e)) (λ e. omega (arith, e)) is status)
+  done_by warned told suits leaves is status tells = absurd suits
+  done_by (wrong_line number) told suits leaves is status tells = absurd suits
 
   of_failure : (failure : Failure) (ending told : Ending) → error_line file ending ≡ error_line file (refused failure) → file_fault job bytes ≡ Some failure → (told ≡ ending) ⊎ (told ≡ no_memory)
       → 3 ≡ status_of told → AppendsFront err_old err_new (error_line file told)
@@ -54,6 +56,8 @@ module _ (job : Job) (file bytes : List ℕ) (out_old out_new err_old err_new : 
   refused_by output_failed told suits is status tells = absurd (no_status 3 output_failed told (λ e. omega (arith, e)) (λ e. omega (arith, e)) is status)
   refused_by no_memory told suits is status tells = absurd (no_status 3 no_memory told (λ e. omega (arith, e)) (λ e. omega (arith, e)) is status)
   refused_by no_thread told suits is status tells = absurd (no_status 3 no_thread told (λ e. omega (arith, e)) (λ e. omega (arith, e)) is status)
+  refused_by warned told suits is status tells = absurd suits
+  refused_by (wrong_line number) told suits is status tells = absurd suits
 
 -- ---- endings that are written out
 

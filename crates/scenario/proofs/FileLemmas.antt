@@ -14,7 +14,7 @@ use Rattle.scenario.specs.declared.program.Which.{Which}
 use Rattle.scenario.specs.declared.program.Which.TheVariants.{Walk, Run}
 use Rattle.scenario.specs.declared.program.Job.{Job}
 use Rattle.scenario.specs.declared.program.Job.TheVariants.{Plain, Live}
-use Rattle.scenario.specs.Command.{done, Ending, explained, Explains, misused, ending_of, ending_of_fault, Ends, EndsAs, file_fault, FileLines, IsToldAs, Leaves, no_memory, no_thread, output_failed, refused, Reports, stale_used, status_of, Suits, too_large, unreadable}
+use Rattle.scenario.specs.Command.{done, Ending, explained, Explains, misused, ending_of, ending_of_fault, Ends, EndsAs, file_fault, FileLines, IsToldAs, Leaves, no_memory, no_thread, output_failed, refused, Reports, stale_used, status_of, Suits, too_large, unreadable, warned, wrong_line}
 use Rattle.files.specs.Faults.{Failure, fault_in, not_toml}
 use Rattle.scenario.specs.Input.{AreLeft, IsReadTrouble}
 use Rattle.scenario.specs.Limits.{most_bytes}
@@ -89,6 +89,7 @@ unprinted_ends bytes troubles.Usage out short h = absurd h
 unprinted_ends bytes troubles.Unreadable out short h = absurd h
 unprinted_ends bytes troubles.TooLarge out short h = absurd h
 unprinted_ends bytes troubles.NoThread out short h = record { suits = (tt, short, h); leaves = Keeps-refl out }
+unprinted_ends bytes (troubles.Line number) out short h = absurd h
 unprinted_ends bytes (troubles.Refused faults.NotToml) out short h = record { suits = (short, ap fault_in h); leaves = Keeps-refl out }
 unprinted_ends bytes (troubles.Refused (faults.Key name)) out short h = record { suits = (short, ap fault_in h); leaves = Keeps-refl out }
 unprinted_ends bytes (troubles.Refused faults.Layout) out short h = record { suits = (short, ap fault_in h); leaves = Keeps-refl out }
@@ -115,6 +116,7 @@ unread_ends job None troubles.TooLarge out h =
     let long = long_bytes most_bytes in (long.0, tt, record { suits = long.1; leaves = Keeps-refl out })
 unread_ends job (Some bytes) troubles.TooLarge out h = (bytes, refl, record { suits = h; leaves = Keeps-refl out })
 unread_ends job left troubles.NoThread out h = absurd h
+unread_ends job left (troubles.Line number) out h = absurd h
 unread_ends job left (troubles.Refused fault) out h =
     let any = some_bytes left in
     subst (λ f. (bytes : List ℕ) × AreLeft left bytes × EndsAs job bytes (ending_of (troubles.Refused f)) out out) (sym h)
@@ -126,6 +128,7 @@ told_itself troubles.Usage = inl refl
 told_itself troubles.Unreadable = inl refl
 told_itself troubles.TooLarge = inl refl
 told_itself troubles.NoThread = inl refl
+told_itself (troubles.Line number) = inl refl
 told_itself (troubles.Refused faults.NotToml) = inl refl
 told_itself (troubles.Refused (faults.Key name)) = inl refl
 told_itself (troubles.Refused faults.Layout) = inl refl
@@ -140,6 +143,7 @@ told_memory troubles.Usage = inr refl
 told_memory troubles.Unreadable = inr refl
 told_memory troubles.TooLarge = inr refl
 told_memory troubles.NoThread = inr refl
+told_memory (troubles.Line number) = inr refl
 told_memory (troubles.Refused faults.NotToml) = inr refl
 told_memory (troubles.Refused (faults.Key name)) = inr refl
 told_memory (troubles.Refused faults.Layout) = inr refl
@@ -194,6 +198,8 @@ silent_by job bytes output_failed told old new quiet suits (inl is) refused_so h
 silent_by job bytes output_failed told old new quiet suits (inr is) refused_so h = absurd (not_memory (subst (λ e. IsRefusal (status_of e)) is refused_so))
 silent_by job bytes no_memory told old new quiet suits is refused_so h = h
 silent_by job bytes no_thread told old new quiet suits is refused_so h = h
+silent_by job bytes warned told old new quiet suits is refused_so h = absurd suits
+silent_by job bytes (wrong_line number) told old new quiet suits is refused_so h = absurd suits
 
 pub silent : (job : Job) → ¬ Explains job → (file : List ℕ) (left : Option (List ℕ)) (ending : Ending) (status : ℕ) (out_old out_new err_old err_new : Option (List ℕ))
     → (bytes : List ℕ) × AreLeft left bytes × EndsAs job bytes ending out_old out_new → Reports file ending status err_old err_new

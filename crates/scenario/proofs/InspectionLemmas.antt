@@ -93,6 +93,7 @@ uninspected_ends inspection bytes troubles.Usage out short h = absurd h
 uninspected_ends inspection bytes troubles.Unreadable out short h = absurd h
 uninspected_ends inspection bytes troubles.TooLarge out short h = absurd h
 uninspected_ends inspection bytes troubles.NoThread out short h = absurd h
+uninspected_ends inspection bytes (troubles.Line number) out short h = absurd h
 uninspected_ends inspection bytes (troubles.Refused faults.NotToml) out short h = record { suits = (short, h); leaves = Keeps-refl out }
 uninspected_ends inspection bytes (troubles.Refused (faults.Key name)) out short h = record { suits = (short, h); leaves = Keeps-refl out }
 uninspected_ends inspection bytes (troubles.Refused faults.Layout) out short h = record { suits = (short, h); leaves = Keeps-refl out }

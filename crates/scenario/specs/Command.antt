@@ -1,5 +1,6 @@
 -- How a command ends, by its status.
 use Rattle.std.specs.Prelude.{◌≡◌, ℕ, ◌<◌, ◌≤◌, ◌⊎◌, ◌++◌, List, [], length, codes, string_bytes, Option, Some, None, Result, Ok, Err, if◌then◌else◌}
+use Rattle.std.specs.Fmt.{decimal}
 use Rattle.std.specs.Io.KnownBytes.{Keeps}
 use Rattle.scenario.specs.declared.program.Which.TheVariants.{Walk, Run}
 use Rattle.scenario.specs.declared.program.Job.{Job}
@@ -91,6 +92,8 @@ pub data Ending : Type 0 where
   output_failed : Ending
   no_memory : Ending
   no_thread : Ending
+  warned : Ending
+  wrong_line : ℕ → Ending
 
 abbrev pub failure_status : Failure → ℕ
 failure_status not_toml = 2
@@ -107,6 +110,8 @@ status_of (refused failure) = failure_status failure
 status_of output_failed = 4
 status_of no_memory = 5
 status_of no_thread = 5
+status_of warned = 1
+status_of (wrong_line number) = 3
 
 abbrev pub reason : List ℕ → Ending → List ℕ
 reason file done = []
@@ -119,11 +124,15 @@ reason file (refused failure) = failure_text failure
 reason file output_failed = codes "output failed"
 reason file no_memory = codes "no memory"
 reason file no_thread = codes "no thread"
+reason file warned = []
+reason file (wrong_line number) =
+    codes "line " ++ decimal number ++ codes ": not a line of a trace"
 
 -- the line on standard error
 abbrev pub error_line : List ℕ → Ending → List ℕ
 error_line file done = []
 error_line file stale_used = []
+error_line file warned = []
 error_line file ending = codes "svsim: " ++ reason file ending ++ codes "\n"
 
 -- of a file named `f`, an ending has this status and this line
@@ -148,6 +157,8 @@ Suits job bytes output_failed = (length bytes ≤ most_bytes) × IsPrinted job b
 Suits job bytes no_memory = Unit {0}
 Suits job bytes no_thread = StartsThreads job × (length bytes ≤ most_bytes)
     × (file_fault job bytes ≡ None)
+Suits job bytes warned = ⊥
+Suits job bytes (wrong_line number) = ⊥
 
 -- what was written of the lines: all, a beginning, or nothing
 abbrev pub Leaves : (List ℕ → Type 0) → Ending → Option (List ℕ) → Option (List ℕ) → Type 0
@@ -167,6 +178,7 @@ pub record EndsAs (job : Job) (bytes : List ℕ) (ending : Ending)
 abbrev pub IsToldAs : Ending → Ending → Type 0
 IsToldAs done told = told ≡ done
 IsToldAs stale_used told = told ≡ stale_used
+IsToldAs warned told = told ≡ warned
 IsToldAs ending told = (told ≡ ending) ⊎ (told ≡ no_memory)
 
 -- the status is that of what is reported, and its line was written as far as standard error took it
@@ -185,16 +197,6 @@ pub record Ends (job : Job) (file bytes : List ℕ) (status : ℕ)
   pub ends_as : EndsAs job bytes ending out_old out_new
   pub reports : Reports file ending status err_old err_new
 
--- how a command ends on a reader that was opened; without one the file is unreadable, and nothing
--- is written of it
-abbrev pub EndsOn : {R : Type 0} → (R → Option (List ℕ)) → Job → List ℕ → Option R → ℕ
-    → Option (List ℕ) → Option (List ℕ) → Option (List ℕ) → Option (List ℕ) → Type 0
-EndsOn remaining job file None status out_old out_new err_old err_new =
-    Reports file unreadable status err_old err_new × Keeps out_old out_new
-EndsOn remaining job file (Some reader) status out_old out_new err_old err_new =
-    (bytes : List ℕ) × AreLeft (remaining reader) bytes
-    × Ends job file bytes status out_old out_new err_old err_new
-
 -- ---- how the code's troubles stand for endings
 
 abbrev pub ending_of_fault : Fault → Ending
@@ -212,6 +214,7 @@ ending_of troubles.Usage = misused
 ending_of troubles.Unreadable = unreadable
 ending_of troubles.TooLarge = too_large
 ending_of troubles.NoThread = no_thread
+ending_of (troubles.Line number) = wrong_line number
 ending_of (troubles.Refused fault) = ending_of_fault fault
 
 -- how it ended, by what a function returned

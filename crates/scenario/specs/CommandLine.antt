@@ -13,6 +13,8 @@ use Rattle.clap.specs.declared.error.kind.ErrorKind.TheVariants as clap_kinds
 use Rattle.files.specs.declared.fault.Fault.TheVariants.{NoMemory}
 use Rattle.scenario.specs.declared.program.Job.{Job}
 use Rattle.scenario.specs.declared.program.Job.TheVariants.{Plain, Live, Inspect}
+use Rattle.scenario.specs.declared.program.Task.{Task}
+use Rattle.scenario.specs.declared.program.Task.TheVariants.{Watch, Whole}
 use Rattle.scenario.specs.declared.program.Inspection.{Inspection}
 use Rattle.scenario.specs.declared.program.Inspection.TheVariants.{Stale, Show, Draw, Check}
 use Rattle.scenario.specs.declared.program.Which.TheVariants.{Walk, Run}
@@ -25,11 +27,11 @@ use Rattle.scenario.specs.Command.{Ending, misused, no_memory}
 
 -- a command, and the name of the file that it reads
 pub record Asked : Type 0 where
-  pub job : Job
+  pub task : Task
   pub file : List ℕ
 
 abbrev pub ask_view : Ask → Asked
-ask_view ask = record { job = ask.job; file = ask.file.now }
+ask_view ask = record { task = ask.task; file = ask.file.now }
 
 abbrev pub inspection_of : List ℕ → Option Inspection
 inspection_of word =
@@ -46,8 +48,12 @@ job_of word =
     else if bytes_eq word (codes "live") then Some Live
     else option_map Inspect (inspection_of word)
 
+abbrev pub task_of : List ℕ → Option Task
+task_of word =
+    if bytes_eq word (codes "watch") then Some Watch else option_map Whole (job_of word)
+
 abbrev pub asked_by : List ℕ → List ℕ → Option Asked
-asked_by word file = option_map (λ job. record { job = job; file = file }) (job_of word)
+asked_by word file = option_map (λ task. record { task = task; file = file }) (task_of word)
 
 -- ---- what clap takes
 

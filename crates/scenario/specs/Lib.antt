@@ -6,6 +6,8 @@ pub mod Prints
 pub mod Output
 pub mod Input
 pub mod Command
+pub mod Watches
+pub mod EndsOn
 pub mod CommandLine
 pub mod Inspections
 pub mod WorkedFiles

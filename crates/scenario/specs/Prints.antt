@@ -12,7 +12,7 @@ use Rattle.lines.specs.ReplyLines.{reply_lines}
 use Rattle.files.specs.Faults.{Failure, Fails, fault_in}
 use Rattle.files.specs.declared.fault.Fault.TheVariants.{NoMemory}
 use Rattle.scenario.specs.declared.trouble.Trouble.{Trouble}
-use Rattle.scenario.specs.declared.trouble.Trouble.TheVariants.{Usage, Unreadable, TooLarge, NoThread, Refused}
+use Rattle.scenario.specs.declared.trouble.Trouble.TheVariants.{Usage, Unreadable, TooLarge, NoThread, Line, Refused}
 use Rattle.files.specs.LiveFile.{LivePlan}
 use Rattle.files.specs.RunFile.{RunPlan}
 use Rattle.files.specs.WalkFile.{WalkPlan}
@@ -64,6 +64,7 @@ IsUnstarted Usage = ⊥
 IsUnstarted Unreadable = ⊥
 IsUnstarted TooLarge = ⊥
 IsUnstarted NoThread = Unit {0}
+IsUnstarted (Line number) = ⊥
 IsUnstarted (Refused fault) = fault ≡ NoMemory
 
 -- why a file for `live` that was read as this prints nothing: its first fault, no memory, or no
@@ -73,6 +74,7 @@ IsUnprinted Usage read = ⊥
 IsUnprinted Unreadable read = ⊥
 IsUnprinted TooLarge read = ⊥
 IsUnprinted NoThread read = fault_in read ≡ None
+IsUnprinted (Line number) read = ⊥
 IsUnprinted (Refused fault) read = Fails fault read
 
 -- what `stale` prints: lines of the mappings that become stale and of the accesses that a stale one

@@ -5,13 +5,15 @@ ghost use Rattle.std.specs.Io.KnownBytes.{Keeps};
 ghost use Rattle.std.specs.IoError.{error_kind};
 ghost use Rattle.scenario.specs.declared.command_line.NoWords.TheVariants.{NoMemory};
 ghost use Rattle.clap.specs.Words.{first_value, found_of};
-ghost use Rattle.scenario.specs.Command.{EndsOn, Reports, no_memory};
-ghost use Rattle.scenario.specs.CommandLine.{AsksFor, ask_view, asked_in, asked_of, inspection_of, job_of, no_words_by};
+ghost use Rattle.scenario.specs.Command.{Reports, no_memory};
+ghost use Rattle.scenario.specs.EndsOn.{EndsOn};
+ghost use Rattle.scenario.specs.CommandLine.{AsksFor, ask_view, asked_in, asked_of, inspection_of, job_of, no_words_by, task_of};
 
 use crate::inspect_program::inspect_command;
 use crate::live_program::live_command;
-use crate::program::{Inspection, Job, Which, command, report};
+use crate::program::{Inspection, Job, Task, Which, command, report};
 use crate::trouble::Trouble;
+use crate::watch_program::watch_command;
 use crate::words::matches_of;
 use clap::ArgMatches;
 use files::Fault;
@@ -26,7 +28,7 @@ use thiserror::Error;
 /// What the words ask for, and the file that it reads.
 #[derive(Clone, Copy, Debug)]
 pub struct Ask<'a> {
-    pub job: Job,
+    pub task: Task,
     pub file: &'a str,
 }
 
@@ -95,6 +97,18 @@ fn job_of(word: &str) -> Option<Job>
     }
 }
 
+fn task_of(word: &str) -> Option<Task>
+    ensures { result ≡ task_of word.now }
+{
+    if word == "watch" {
+        return Some(Task::Watch);
+    }
+    match job_of(word) {
+        Some(job) => Some(Task::Whole(job)),
+        None => None,
+    }
+}
+
 /// What the matches ask for: a command that is known, and FILE.
 fn asked_of<'a>(matches: &ArgMatches<'a>) -> Option<Ask<'a>>
     ensures { option_map ask_view result ≡ asked_of (first_value (found_of matches.now)
@@ -106,10 +120,10 @@ fn asked_of<'a>(matches: &ArgMatches<'a>) -> Option<Ask<'a>>
     let Some(file) = matches.get_str("FILE") else {
         return None;
     };
-    let Some(job) = job_of(word) else {
+    let Some(task) = task_of(word) else {
         return None;
     };
-    Some(Ask { job, file })
+    Some(Ask { task, file })
 }
 
 /// What the words ask for, of which the first is the program's name: a command that is known and a
@@ -137,18 +151,19 @@ fn on_file<T: Threads + Wait + Sync, R: Read + Drop, W: Write, E: Write, G: Gate
     err: &mut E,
     gate: &G,
 ) -> u8
-    ensures { EndsOn R.remaining ask.entry.job ask.entry.file.now input result (W.contents out.old)
+    ensures { EndsOn R.remaining ask.entry.task ask.entry.file.now input result (W.contents out.old)
         (W.contents out.new) (E.contents err.old) (E.contents err.new) }
 {
     let Some(mut reader) = input else {
         return report(alloc, ask.file, &Trouble::Unreadable, err);
     };
-    match ask.job {
-        Job::Plain(which) => command(alloc, which, ask.file, &mut reader, out, err),
-        Job::Live => live_command(rt, alloc, ask.file, &mut reader, out, err, gate),
-        Job::Inspect(inspection) => {
+    match ask.task {
+        Task::Whole(Job::Plain(which)) => command(alloc, which, ask.file, &mut reader, out, err),
+        Task::Whole(Job::Live) => live_command(rt, alloc, ask.file, &mut reader, out, err, gate),
+        Task::Whole(Job::Inspect(inspection)) => {
             inspect_command(alloc, inspection, ask.file, &mut reader, out, err)
         }
+        Task::Watch => watch_command(alloc, ask.file, reader, out, err),
     }
 }
 
@@ -176,7 +191,7 @@ pub fn answer_words<
     requires { O.IsAlwaysCallable reader_of }
     ensures asked { IfOk (asked_in words) (λ ask. ((input : Option R)
         × FnOnceReturnsAt O.FnOnce reader_of ask.file input
-        × EndsOn R.remaining ask.job ask.file input result (W.contents out.old) (W.contents out.new)
+        × EndsOn R.remaining ask.task ask.file input result (W.contents out.old) (W.contents out.new)
         (E.contents err.old) (E.contents err.new))
         ⊎ (Reports [] no_memory result (E.contents err.old) (E.contents err.new)
         × Keeps (W.contents out.old) (W.contents out.new))) }

@@ -1,7 +1,7 @@
 //! Laws of the formats: each call makes no step, and its clauses hold of the definitions alone.
 ghost use Rattle.std.specs.Prelude.{[], codes};
 ghost use Rattle.steps.specs.declared.fault.StepFault.TheVariants.{NotStep};
-ghost use Rattle.scenario.specs.Command.{done, IsTold, misused, no_memory, no_thread, output_failed, refused, too_large, unreadable};
+ghost use Rattle.scenario.specs.Command.{done, IsTold, misused, no_memory, no_thread, output_failed, refused, too_large, unreadable, warned, wrong_line};
 ghost use Rattle.files.specs.Faults.{bad_layout, not_toml, too_many, wrong_key, wrong_script, wrong_step};
 
 /// The status of each ending, and its line on standard error, written out.
@@ -20,5 +20,7 @@ pub fn worked_endings()
         (codes "svsim: script 3 step 12: not a step\n") }
     ensures output_failed { IsTold output_failed 4 (codes "svsim: output failed\n") }
     ensures no_memory { IsTold no_memory 5 (codes "svsim: no memory\n") }
+    ensures warned { IsTold warned 1 [] }
+    ensures wrong_line { IsTold (wrong_line 12) 3 (codes "svsim: line 12: not a line of a trace\n") }
     ensures no_thread { IsTold no_thread 5 (codes "svsim: no thread\n") }
 {}

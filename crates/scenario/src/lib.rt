@@ -2,8 +2,9 @@
 //!
 //! `walk_text` and `run_text` answer a text, `command` does the whole of a command over any reader
 //! and writers, `live_command` the whole of `live`, whose harts are threads, `inspect_command` that
-//! of `stale`, `show`, `draw` and `check`, and `answer_words` is the whole program over the words
-//! of the command line. A text is read and checked whole before its first line is written.
+//! of `stale`, `show`, `draw` and `check`, `watch_command` that of `watch`, and `answer_words` is the
+//! whole program over the words of the command line. But for `watch` a text is read and checked whole
+//! before its first line is written.
 #![tactic(auto)]
 
 mod command_line;
@@ -22,6 +23,7 @@ mod stale_texts;
 mod system;
 mod texts;
 mod trouble;
+mod watch_program;
 mod word_laws;
 mod words;
 
@@ -37,7 +39,7 @@ pub use lines::one_text;
 pub use live_program::live_command;
 pub use live_texts::live_lines;
 pub use print_laws::{one_print, worked_prints};
-pub use program::{Inspection, Job, Which, command};
+pub use program::{Inspection, Job, Task, Which, command};
 pub use spaces::limits_are_checked;
 pub use stale_items::stale_lines;
 pub use stale_texts::{StaleText, stale_text};
@@ -45,4 +47,5 @@ pub use steps::StepFault;
 pub use system::start;
 pub use texts::{run_text, walk_text};
 pub use trouble::Trouble;
+pub use watch_program::watch_command;
 pub use word_laws::{words_are_read, worked_words};

@@ -37,7 +37,7 @@ pub enum Inspection {
     Check,
 }
 
-/// What the program can be asked for.
+/// What the program can do with a file that is read whole.
 #[derive(Clone, Copy, Debug, PartialEq, Eq)]
 pub enum Job {
     /// A command that starts no thread.
@@ -46,6 +46,15 @@ pub enum Job {
     Live,
     /// Says of a file what its replies don't.
     Inspect(Inspection),
+}
+
+/// What the program can be asked for.
+#[derive(Clone, Copy, Debug, PartialEq, Eq)]
+pub enum Task {
+    /// A file is read whole, and then answered.
+    Whole(Job),
+    /// A trace is read line by line, for its verdicts.
+    Watch,
 }
 
 pub(crate) const DONE: u8 = 0;
@@ -69,7 +78,7 @@ fn status(trouble: &Trouble) -> u8
         | Trouble::Refused(Fault::NotToml) => NOT_READ,
         Trouble::Refused(Fault::Output) => OUTPUT_FAILED,
         Trouble::NoThread | Trouble::Refused(Fault::NoMemory) => NO_MEMORY,
-        Trouble::Refused(_) => REFUSED,
+        Trouble::Line(_) | Trouble::Refused(_) => REFUSED,
     }
 }
 

@@ -18,6 +18,8 @@ pub enum Trouble {
     TooLarge,
     /// A thread could not be started.
     NoThread,
+    /// The line of this number is none of a trace.
+    Line(u64),
     Refused(Fault),
 }
 
@@ -34,6 +36,7 @@ impl fmt::Display for Trouble {
             Trouble::Unreadable => f.write_str("cannot read FILE"),
             Trouble::TooLarge => f.write_str("file too large"),
             Trouble::NoThread => f.write_str("no thread"),
+            Trouble::Line(number) => write!(f, "line {number}: not a line of a trace"),
             Trouble::Refused(fault) => write!(f, "{fault}"),
         }
     }

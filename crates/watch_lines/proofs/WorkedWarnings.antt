@@ -11,6 +11,10 @@ pub given_out : lines.given_out
 unfolding digits
 given_out = refl
 
+pub below_a_global_pointer : lines.below_a_global_pointer
+unfolding digits
+below_a_global_pointer = refl
+
 pub claimed : lines.claimed
 unfolding digits
 claimed = refl
@@ -35,6 +39,6 @@ pub all_verdicts : lines.all_verdicts
 unfolding digits
 all_verdicts = refl
 
-pub ruleset warning_lines = (given_back, given_out, claimed, used)
+pub ruleset warning_lines = (given_back, given_out, below_a_global_pointer, claimed, used)
 
 pub ruleset summary_lines = (no_verdict, some_verdicts, verdicts_of_both, all_verdicts)

@@ -2,7 +2,7 @@
 use Rattle.std.specs.Prelude.{ℕ, Bool, true, ◌==◌, ◌&&◌, ◌+◌, codes, List, [], ◌∷◌, ◌++◌, length, false, if◌then◌else◌}
 use Rattle.std.specs.Fmt.{decimal, digits}
 use Rattle.pte.specs.Address.{bytes_of}
-use Rattle.pte.specs.Entry.{is_global, is_user, may_execute, may_read, may_write}
+use Rattle.pte.specs.Entry.{is_user, may_execute, may_read, may_write}
 use Rattle.tlb.specs.declared.store.Entry.{Entry}
 use Rattle.watch.specs.declared.trace.Frames.{Frames}
 use Rattle.watch.specs.declared.trace.Verdict.{Verdict}
@@ -30,22 +30,23 @@ owner_prefix global = if global then codes "kernel-" else []
 abbrev pub letter_or_dash : Bool → List ℕ → List ℕ
 letter_or_dash is_set letter = if is_set then letter else codes "-"
 
--- R, W, X, U, G
-abbrev pub letters_text : ℕ → List ℕ
-letters_text bits =
+-- R, W, X and U of the leaf, and whether it is global, by its own G or by one above it
+abbrev pub letters_text : Bool → ℕ → List ℕ
+letters_text global bits =
     letter_or_dash (may_read bits) (codes "r") ++ letter_or_dash (may_write bits) (codes "w")
     ++ letter_or_dash (may_execute bits) (codes "x") ++ letter_or_dash (is_user bits) (codes "u")
-    ++ letter_or_dash (is_global bits) (codes "g")
+    ++ letter_or_dash global (codes "g")
 
-abbrev pub entry_asid_text : Entry → List ℕ
-entry_asid_text e = if e.global then codes "any" else hexadecimal e.asid
+-- an ASID or a root table; what is global is of any
+abbrev pub scoped_text : Bool → ℕ → List ℕ
+scoped_text global n = if global then codes "any" else hexadecimal n
 
 -- VA+SIZE -> PPN FLAGS asid A
 abbrev pub entry_text : Entry → List ℕ
 entry_text e =
     hexadecimal e.page.base ++ codes "+" ++ hexadecimal (bytes_of e.page.size) ++ codes " -> "
-    ++ hexadecimal e.ppn ++ codes " " ++ letters_text e.flags.0 ++ codes " asid "
-    ++ entry_asid_text e
+    ++ hexadecimal e.ppn ++ codes " " ++ letters_text e.global e.flags.0 ++ codes " asid "
+    ++ scoped_text e.global e.asid
 
 -- the note of a record, if it has one
 abbrev pub by_text : List ℕ → List ℕ
@@ -83,8 +84,8 @@ holder_part w =
 -- R, stale since RECORD by TEXT; with the note of the record that made the translation stale
 abbrev pub since_part : Warning → List ℕ → List ℕ
 since_part w stale_by =
-    hexadecimal w.root ++ codes ", stale since " ++ decimal w.since ++ by_text stale_by
-    ++ codes "; "
+    scoped_text w.entry.global w.root ++ codes ", stale since " ++ decimal w.since
+    ++ by_text stale_by ++ codes "; "
 
 -- frames PPN+COUNT given back by TEXT, with the note of the record of the verdict
 abbrev pub trigger_part : Warning → List ℕ → List ℕ

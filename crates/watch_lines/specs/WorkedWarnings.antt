@@ -59,10 +59,18 @@ given_out =
     warning_line (warning_of 20 user_page (GivenOut (frames_at 0xFF 10))) [] []
     ≡ codes "20 reuse hart 11 may hold page 1000+1000 -> 100 rw-u- asid a root 80000, stale since 6; frames ff+a given out\n"
 
+-- a page that is global by a pointer above its leaf, which has no G
+abbrev pub below_a_global_pointer : Type 0
+below_a_global_pointer =
+    warning_line
+    (warning_of 22 (record kernel_page { flags = record { 0 = 0x0A } }) (GivenOut (frames_at 0x80200 1)))
+    [] []
+    ≡ codes "22 kernel-reuse hart 11 may hold page ffffffc000200000+200000 -> 80200 r-x-g asid any root any, stale since 6; frames 80200+1 given out\n"
+
 abbrev pub claimed : Type 0
 claimed =
     warning_line (warning_of 21 kernel_page (ClaimedSince 17)) [] (codes "flush of 2 pages")
-    ≡ codes "21 kernel-claim hart 11 may hold page ffffffc000200000+200000 -> 80200 r-x-g asid any root 80000, stale since 6; claimed clean since 17 by flush of 2 pages\n"
+    ≡ codes "21 kernel-claim hart 11 may hold page ffffffc000200000+200000 -> 80200 r-x-g asid any root any, stale since 6; claimed clean since 17 by flush of 2 pages\n"
 
 abbrev pub used : Type 0
 used =

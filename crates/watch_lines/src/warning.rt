@@ -1,6 +1,6 @@
 //! The line of a verdict.
 ghost use Rattle.std.specs.Prelude.{◌≡◌, ◌++◌, OnOk, codes};
-ghost use Rattle.watch_lines.specs.Warnings.{by_text, trigger_part, trigger_text, entry_asid_text, entry_text, frames_text, holder_part, letter_or_dash, letters_text, owner_prefix, since_part, verdict_of, verdict_part, verdict_text, warning_line};
+ghost use Rattle.watch_lines.specs.Warnings.{by_text, trigger_part, trigger_text, entry_text, frames_text, holder_part, letter_or_dash, letters_text, owner_prefix, scoped_text, since_part, verdict_of, verdict_part, verdict_text, warning_line};
 
 use crate::push::{push, push_decimal, push_hexadecimal, push_number};
 use pte::PteFlags;
@@ -29,7 +29,7 @@ pub struct Warning {
     pub number: u64,
     /// The hart that may hold the translation.
     pub hart: u8,
-    /// The PPN of the root table that it came from.
+    /// The PPN of the root table that it came from; what is global is of any.
     pub root: u64,
     /// The translation.
     pub entry: Entry,
@@ -82,24 +82,25 @@ fn push_letter(text: &mut Vec<u8>, is_set: bool, letter: &[u8]) -> Result<(), Al
     }
 }
 
-/// Adds the letters of `rwxug` that are set, and `-` for each other.
-fn push_letters(text: &mut Vec<u8>, flags: PteFlags) -> Result<(), AllocError>
-    ensures ok { OnOk result (text.new.items ≡ text.old.items ++ letters_text flags.0) }
+/// Adds the letters of `rwxug` that are set, and `-` for each other: `g` for what is global.
+fn push_letters(text: &mut Vec<u8>, flags: PteFlags, global: bool) -> Result<(), AllocError>
+    ensures ok { OnOk result (text.new.items ≡ text.old.items ++ letters_text global flags.0) }
 {
     push_letter(text, flags.may_read(), b"r")?;
     push_letter(text, flags.may_write(), b"w")?;
     push_letter(text, flags.may_execute(), b"x")?;
     push_letter(text, flags.is_user(), b"u")?;
-    push_letter(text, flags.is_global(), b"g")
+    push_letter(text, global, b"g")
 }
 
-fn push_entry_asid(text: &mut Vec<u8>, entry: &Entry) -> Result<(), AllocError>
-    ensures ok { OnOk result (text.new.items ≡ text.old.items ++ entry_asid_text entry.now) }
+/// Adds an ASID or the PPN of a root table.
+fn push_scoped(text: &mut Vec<u8>, global: bool, n: u64) -> Result<(), AllocError>
+    ensures ok { OnOk result (text.new.items ≡ text.old.items ++ scoped_text global n) }
 {
-    if entry.global {
+    if global {
         push(text, b"any")
     } else {
-        push_hexadecimal(text, u64::from(entry.asid))
+        push_hexadecimal(text, n)
     }
 }
 
@@ -111,9 +112,9 @@ fn push_entry(text: &mut Vec<u8>, entry: &Entry) -> Result<(), AllocError>
     push_number(text, b"+", entry.page.size().bytes())?;
     push_number(text, b" -> ", entry.ppn)?;
     push(text, b" ")?;
-    push_letters(text, entry.flags)?;
+    push_letters(text, entry.flags, entry.global)?;
     push(text, b" asid ")?;
-    push_entry_asid(text, entry)
+    push_scoped(text, entry.global, u64::from(entry.asid))
 }
 
 /// Adds the note of a record, if it has one.
@@ -180,7 +181,7 @@ fn push_since(text: &mut Vec<u8>, warning: &Warning, stale_by: &[u8]) -> Result<
     ensures ok { OnOk result (text.new.items ≡ text.old.items
         ++ since_part warning.now stale_by.now) }
 {
-    push_hexadecimal(text, warning.root)?;
+    push_scoped(text, warning.entry.global, warning.root)?;
     push(text, b", stale since ")?;
     push_decimal(text, warning.since)?;
     push_by(text, stale_by)?;

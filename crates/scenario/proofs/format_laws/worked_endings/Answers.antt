@@ -9,3 +9,7 @@ returns-clause-wrong_step c = (refl, refl)
 pub returns-clause-wrong_script : goal.returns-clause-wrong_script
 unfolding digits
 returns-clause-wrong_script c = (refl, refl)
+
+pub returns-clause-wrong_line : goal.returns-clause-wrong_line
+unfolding digits
+returns-clause-wrong_line c = (refl, refl)

@@ -1,0 +1,22 @@
+-- How `watch` ends.
+use Rattle.std.specs.Prelude.{ℕ, Bool, List, Option, Result, Ok, Err, if◌then◌else◌}
+use Rattle.scenario.specs.Command.{Ending, Reports, done, no_memory, output_failed, unreadable, warned, wrong_line}
+use Rattle.watch_report.specs.Ending.{Ends}
+use Rattle.watch_report.specs.declared.fault.ReportFault.{ReportFault}
+use Rattle.watch_report.specs.declared.fault.ReportFault.TheVariants as faults
+
+-- how it ends, by what is reported of its trace
+abbrev pub ending_of_report : Result Bool ReportFault → Ending
+ending_of_report (Ok some) = if some then warned else done
+ending_of_report (Err faults.Unreadable) = unreadable
+ending_of_report (Err (faults.Line number)) = wrong_line number
+ending_of_report (Err faults.Output) = output_failed
+ending_of_report (Err faults.NoMemory) = no_memory
+
+-- how it ends on a trace of this text: one report gives the output, the status and the line on
+-- standard error
+pub record EndsWatch (file text : List ℕ) (status : ℕ)
+    (out_old out_new err_old err_new : Option (List ℕ)) : Type 0 where
+  pub reported : Result Bool ReportFault
+  pub leaves : Ends text reported out_old out_new
+  pub reports : Reports file (ending_of_report reported) status err_old err_new

@@ -1,0 +1,68 @@
+-- Each warning has its line.
+use Rattle.std.proofs.Common.{◌≡◌, ℕ, Bool, true, false, List, [], ◌∷◌, Option, Some, None, length, option_map, refl, sym, ap, ◌∙◌, arith}
+use Rattle.std.specs.List.{Contains}
+use Rattle.std.proofs.lemmas.Bool.{true≢false}
+use Rattle.pte.specs.declared.scheme.Scheme.{Scheme}
+use Rattle.watch.specs.declared.trace.Claim.{Claim}
+use Rattle.watch.specs.declared.trace.Record.{Record}
+use Rattle.watch.specs.declared.trace.Record.TheVariants.{Store, Satp, Fence, RemoteBegin, RemoteEnd, GiveOut, GiveBack, ClaimBegin, ClaimEnd, Use}
+use Rattle.watch.specs.declared.trace.Verdict.{Verdict}
+use Rattle.watch.specs.declared.trace.Verdict.TheVariants.{Free, Reuse, Claimed, Used}
+use Rattle.watch.specs.Holding.{Translation}
+use Rattle.watch.specs.Trace.{Trace, claim_of}
+use Rattle.watch.specs.Verdicts.{IsGiven}
+use Rattle.watch_engine.specs.declared.warning.Warning.{Warning}
+use Rattle.watch_engine.specs.Open.{claim_begun}
+use Rattle.watch_engine.specs.Warnings.{AreWarnings, shown_of}
+use Rattle.watch_lines.specs.declared.warning.Trigger.{Trigger}
+use Rattle.watch_lines.specs.declared.warning.Trigger.TheVariants.{GivenBack, GivenOut, ClaimedSince, UsedAt}
+use Rattle.watch_lines.specs.Warnings.{verdict_of}
+use Rattle.watch_report.specs.VerdictLines.{trigger_of}
+
+-- the verdict that is printed, if one is
+abbrev printed_verdict : Verdict → Option Trigger → Verdict
+printed_verdict other None = other
+printed_verdict other (Some trigger) = verdict_of trigger
+
+-- it is the one that is given, whatever other one there is
+free_printed : (scheme : Scheme) (newest : Record) (trace : Trace) (hart : ℕ) (x : Translation) (other : Verdict) → IsGiven scheme Free newest trace hart x → printed_verdict other (trigger_of trace newest) ≡ Free
+free_printed scheme (GiveBack of frames) trace hart x other given = refl
+free_printed scheme _ trace hart x other given = absurd given
+
+reuse_printed : (scheme : Scheme) (newest : Record) (trace : Trace) (hart : ℕ) (x : Translation) (other : Verdict) → IsGiven scheme Reuse newest trace hart x → printed_verdict other (trigger_of trace newest) ≡ Reuse
+reuse_printed scheme (GiveOut of frames) trace hart x other given = refl
+reuse_printed scheme _ trace hart x other given = absurd given
+
+claim_printed : (scheme : Scheme) (newest : Record) (trace : Trace) (hart : ℕ) (x : Translation) (other : Verdict) → IsGiven scheme Claimed newest trace hart x → printed_verdict other (trigger_of trace newest) ≡ Claimed
+claim_printed scheme (ClaimEnd of token) trace hart x other given =
+    ap (λ (o : Option Claim). printed_verdict other (option_map (λ _. ClaimedSince (claim_begun token trace)) o)) given.begun
+claim_printed scheme _ trace hart x other given = absurd given
+
+use_printed : (scheme : Scheme) (newest : Record) (trace : Trace) (hart : ℕ) (x : Translation) (other : Verdict) → IsGiven scheme Used newest trace hart x → printed_verdict other (trigger_of trace newest) ≡ Used
+use_printed scheme (Use of address) trace hart x other given = refl
+use_printed scheme _ trace hart x other given = absurd given
+
+given_printed : (scheme : Scheme) (verdict : Verdict) (newest : Record) (trace : Trace) (hart : ℕ) (x : Translation) (other : Verdict) → IsGiven scheme verdict newest trace hart x
+    → printed_verdict other (trigger_of trace newest) ≡ verdict
+given_printed scheme Free newest trace hart x other given = free_printed scheme newest trace hart x other given
+given_printed scheme Reuse newest trace hart x other given = reuse_printed scheme newest trace hart x other given
+given_printed scheme Claimed newest trace hart x other given = claim_printed scheme newest trace hart x other given
+given_printed scheme Used newest trace hart x other given = use_printed scheme newest trace hart x other given
+
+abbrev is_free : Verdict → Bool
+is_free Free = true
+is_free _ = false
+
+-- at a record of which nothing is printed none is given: it would be any verdict
+pub no_warning : (scheme : Scheme) (newest : Record) (trace : Trace) (warnings : List Warning) → AreWarnings scheme newest trace warnings → trigger_of trace newest ≡ None → warnings ≡ []
+no_warning scheme newest trace [] are none = refl
+no_warning scheme newest trace (w ∷ warnings) are none =
+    let given = (are.each w (0, omega arith, refl)).0.given in
+    let by : (other : Verdict) → other ≡ w.verdict =
+    λ other. ap (printed_verdict other) (sym none) ∙ given_printed scheme w.verdict newest trace w.hart (shown_of w) other given in
+    absurd (true≢false (ap is_free (by Free ∙ sym (by Used))))
+
+pub same_verdict : (scheme : Scheme) (newest : Record) (trace : Trace) (warnings : List Warning) (trigger : Trigger) (w : Warning) → AreWarnings scheme newest trace warnings → trigger_of trace newest ≡ Some trigger
+    → Contains warnings w → w.verdict ≡ verdict_of trigger
+same_verdict scheme newest trace warnings trigger w are is among =
+    sym (given_printed scheme w.verdict newest trace w.hart (shown_of w) Free (are.each w among).0.given) ∙ ap (printed_verdict Free) is

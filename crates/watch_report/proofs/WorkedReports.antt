@@ -1,0 +1,112 @@
+-- The worked reports, computed.
+use Rattle.std.proofs.Common.{◌≡◌, ℕ, codes, Bool, true, false, List, [], ◌∷◌, ◌++◌, Option, Some, None, inl, inr, refl, ap, sym, ◌∙◌, subst, length, arith}
+use Rattle.std.specs.Fmt.{digits}
+use Rattle.std.proofs.lemmas.Bool.{false≢true}
+use Rattle.pte.specs.declared.scheme.Scheme.{Scheme}
+use Rattle.pte.specs.declared.scheme.Scheme.TheVariants.{Sv39, Sv48}
+use Rattle.watch.specs.declared.trace.Record.TheVariants.{Use}
+use Rattle.watch.specs.declared.trace.Verdict.{Verdict}
+use Rattle.watch.specs.declared.trace.Verdict.TheVariants.{Free, Reuse, Claimed, Used}
+use Rattle.watch.specs.Holding.{Translation}
+use Rattle.watch.specs.Verdicts.{IsGiven}
+use Rattle.watch_engine.specs.declared.warning.Warning.{Warning}
+use Rattle.watch_engine.specs.Warnings.{AreApart, AreWarnings}
+use Rattle.watch_report.specs.TraceText.{body_of}
+use Rattle.watch_report.specs.VerdictLines.{GivesVerdict, WholeText}
+use Rattle.watch_report.specs.WorkedReports as rows
+
+-- no verdict at the first record, which is an access
+nothing_given : (scheme : Scheme) (verdict : Verdict) (of address hart : ℕ) (x : Translation) → IsGiven scheme verdict (Use of address) [] hart x → ⊥
+nothing_given scheme Free of address hart x given = given
+nothing_given scheme Reuse of address hart x given = given
+nothing_given scheme Claimed of address hart x given = given
+nothing_given scheme Used of address hart x given = given.1
+
+none_at_first : (scheme : Scheme) (of address : ℕ) → AreWarnings scheme (Use of address) [] []
+none_at_first scheme of address =
+    record {
+      each = λ w among. absurd (omega (arith, among.1));
+      all = λ verdict hart x due. absurd (nothing_given scheme verdict of address hart x due.given);
+      once = λ i j d before among. absurd (omega (arith, among));
+    }
+
+gives_none : (scheme : Scheme) (of address : ℕ) → GivesVerdict scheme (Use of address ∷ []) → ⊥
+gives_none scheme of address (inl (verdict, hart, x, due)) = nothing_given scheme verdict of address hart x due.given
+gives_none scheme of address (inr nothing) = nothing
+
+whole : (scheme : Scheme) (of address : ℕ) (by : List ℕ) → WholeText scheme (record { made = Use of address; by = by } ∷ []) false (codes "1 records, no verdict\n")
+unfolding digits
+whole scheme of address by = ([] ∷ [], (none_at_first scheme of address, tt), refl, (λ t. absurd (false≢true t), λ gives. absurd (gives_none scheme of address gives)))
+
+pub done : rows.done
+unfolding rows.Prints
+done = (refl, (_, whole Sv39 1 0x1000 (codes "here"), refl))
+
+pub done_without_a_feed : rows.done_without_a_feed
+unfolding rows.Prints
+done_without_a_feed = (refl, (_, whole Sv48 1 0x1000 [], refl))
+
+pub header_alone : rows.header_alone
+unfolding digits rows.Prints
+header_alone = (refl, (codes "0 records, no verdict\n", ([], tt, refl, (λ t. absurd (false≢true t), λ gives. absurd gives)), refl))
+
+pub no_line : rows.no_line
+unfolding rows.Prints
+no_line = (refl, ([], refl, refl))
+
+pub no_header : rows.no_header
+unfolding rows.Prints
+no_header = (refl, ([], refl, refl))
+
+pub faulty : rows.faulty
+unfolding rows.Prints
+faulty = (refl, ([], ([] ∷ [], (none_at_first Sv39 0 0x1000, tt), refl), refl))
+
+pub torn : rows.torn
+unfolding rows.Prints
+torn = ([], body_of rows.used_once, refl, ([], ([], tt, refl), refl))
+
+pub cut_off : rows.cut_off
+unfolding rows.Prints
+cut_off = inr (refl, (false, (_, whole Sv39 1 0x1000 (codes "here"), (5, refl))))
+
+pub ruleset endings = (done, done_without_a_feed, header_alone, no_line, no_header, faulty, torn, cut_off)
+
+-- ---- what is not so
+
+abbrev number_in : Option ℕ → ℕ
+number_in None = 0
+number_in (Some n) = n
+
+pub other_line : rows.other_line
+unfolding rows.Prints
+other_line ends = let same : 3 ≡ 4 = ap number_in ends.0 in omega (arith, same)
+
+pub done_with_a_fault : rows.done_with_a_fault
+unfolding rows.Prints
+done_with_a_fault ends = let same : 3 ≡ 0 = ap number_in ends.0 in omega (arith, same)
+
+pub warned_without_a_verdict : rows.warned_without_a_verdict
+unfolding rows.Prints
+warned_without_a_verdict (none, (text, (given, are, is, says), written)) = gives_none Sv39 1 0x1000 (says.0 refl)
+
+no_bytes : (byte : ℕ) (rest : List ℕ) → [] ≡ byte ∷ rest → ⊥
+no_bytes byte rest e = let long = ap length e in omega (arith, long)
+
+pub nothing_printed : rows.nothing_printed
+unfolding digits rows.Prints
+nothing_printed (none, (text, (given, are, is, says), written)) = no_bytes _ _ (written ∙ is)
+
+pub ruleset refusals = (other_line, done_with_a_fault, warned_without_a_verdict, nothing_printed)
+
+-- ---- lines
+
+pub lines_of_verdicts : rows.lines_of_verdicts
+unfolding digits
+lines_of_verdicts = refl
+
+pub last_line : rows.last_line
+unfolding digits
+last_line = refl
+
+pub ruleset texts = (lines_of_verdicts, last_line)

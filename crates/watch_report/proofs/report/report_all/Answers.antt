@@ -1,0 +1,50 @@
+use Rattle.std.proofs.Common.{◌≡◌, ◌∷◌, [], List, ℕ, Option, None, Some, Err, ap, subst, sym, ◌∙◌, refl, true, false, rules}
+use Rattle.std.proofs.KnownBytes.{Appends-nil}
+use Rattle.std.proofs.lemmas.Result.{err_from_is_err_and}
+use Rattle.watch_lines.specs.declared.header.Header.{Header}
+use Rattle.watch_lines.specs.Fields.{fields_of}
+use Rattle.watch_lines.specs.TraceLines.{header_in}
+use Rattle.watch_report.specs.declared.fault.ReportFault.TheVariants.{Line}
+use Rattle.watch_report.specs.Reading.{ReadsLine, Stands}
+use Rattle.watch_report.specs.TraceText.{lines_of}
+use Rattle.watch_report.proofs.ReadLemmas.{first_text, last_text, line_text, none_read, none_taken, torn_text}
+use Rattle.watch_report.proofs.EndingLemmas.{ended, ends_without_header, with_header, without_a_line}
+use Rattle.watch_report.proofs.report.report_all.Goals as goal
+
+pub returns-in_err-more : goal.returns-in_err-more
+returns-in_err-more g c =
+    let p = err_from_is_err_and c.from_residual.result c.from_residual.ensures.1 in
+    let torn = c.in_err-more.ensures.err in
+    let whole = torn_text _ _ (g.R.Read.remaining c.read_line.new.input) [] torn.0 (none_read _) torn.1 in
+    rw (p.1, p.2) (without_a_line _ whole.text c.in_err-more.field-0.0 (g.W.Write.contents c.args.out.now) whole.is_left c.in_err-more.ensures.fault)
+
+pub returns-in_default : goal.returns-in_default
+returns-in_default g c =
+    let first = c.read_line.new.line.items in
+    let whole = line_text _ _ _ _ [] first (none_read _) c.in_ok-more.ensures.ok in
+    let none : header_in (fields_of first) ≡ None =
+    ap (λ (l : List ℕ). header_in (fields_of l)) (sym c.as_slice.ensures.value) ∙ sym c.read_header.ensures ∙ c.in_default.is in
+    with_header _ first whole.0 None (Err (Line 1)) (g.W.Write.contents c.args.out.now) (g.W.Write.contents c.args.out.now) whole.1 none (ends_without_header whole.0 _)
+
+pub returns-then-not-more : goal.returns-then-not-more
+returns-then-not-more g c =
+    let first = c.read_line.new.line.items in
+    let e : c.in_ok-more.more ≡ false = search rules in
+    let read = subst (ReadsLine _ _ first) e c.in_ok-more.ensures.ok in
+    let whole = last_text _ _ _ [] first (none_read _) read in
+    let some : header_in (fields_of first) ≡ Some c.in-Some.header =
+    ap (λ (l : List ℕ). header_in (fields_of l)) (sym c.as_slice.ensures.value) ∙ sym c.read_header.ensures ∙ c.in-Some.is in
+    let stands : Stands (g.W.Write.contents c.args.out.now) (g.W.Write.contents c.args.out.now) [] c.new.result = record { given = []; seen = c.new.ensures.seen; written = Appends-nil _ } in
+    let ends = ended c.finish.result _ c.in-Some.header [] [] _ _ c.new.ensures.header (none_taken c.in-Some.header) (c.finish.ensures.ok _ [] stands) (c.finish.ensures.err _ [] stands) in
+    with_header _ first [] (Some c.in-Some.header) c.finish.result (g.W.Write.contents c.args.out.now) (g.W.Write.contents c.finish.new.out) whole some ends
+
+pub returns : goal.returns
+returns g c =
+    let first = c.read_line.new.line.items in
+    let e : c.in_ok-more.more ≡ true = search rules in
+    let read = subst (ReadsLine _ _ first) e c.in_ok-more.ensures.ok in
+    let rest = c.report_lines.ensures in
+    let whole = first_text _ _ first rest.0 read rest.1 in
+    let some : header_in (fields_of first) ≡ Some c.in-Some.header =
+    ap (λ (l : List ℕ). header_in (fields_of l)) (sym c.as_slice.ensures.value) ∙ sym c.read_header.ensures ∙ c.in-Some.is in
+    with_header _ first (lines_of rest.0) (Some c.in-Some.header) c.report_lines.result (g.W.Write.contents c.args.out.now) (g.W.Write.contents c.report_lines.new.out) whole some rest.2

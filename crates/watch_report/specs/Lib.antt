@@ -1,0 +1,6 @@
+pub mod TraceText
+pub mod VerdictLines
+pub mod Output
+pub mod Reading
+pub mod Ending
+pub mod WorkedReports

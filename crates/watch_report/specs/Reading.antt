@@ -1,0 +1,87 @@
+-- A trace that is being read.
+use Rattle.std.specs.Prelude.{ℕ, Bool, true, false, ◌≡◌, List, [], ◌∷◌, ◌++◌, length, Option, OnSome}
+use Rattle.std.specs.Io.KnownBytes.{Appends, Consumes, IsAtEnd}
+use Rattle.watch.specs.declared.trace.Record.{Record}
+use Rattle.watch_engine.specs.declared.warning.Warning.{Warning}
+use Rattle.watch_engine.specs.Watching.{Follows}
+use Rattle.watch_tables.specs.Words.{since, words}
+use Rattle.watch_report.specs.declared.fault.ReportFault.{ReportFault}
+use Rattle.watch_report.specs.declared.fault.ReportFault.TheVariants.{Unreadable, Line, Output, NoMemory}
+use Rattle.watch_report.specs.declared.reading.Reading.{Reading}
+use Rattle.pte.specs.declared.scheme.Scheme.{Scheme}
+use Rattle.watch_lines.specs.declared.header.Header.{Header}
+use Rattle.watch_lines.specs.TraceLines.{line_in}
+use Rattle.watch_report.specs.Output.{WritesAll, WritesFront}
+use Rattle.watch_report.specs.TraceText.{Noted, has_no_form, lines_of, trace_of, with_record}
+use Rattle.watch_report.specs.VerdictLines.{AreGiven, VerdictText, WholeText, counts_of, verdict_lines}
+
+-- the bytes are the line, and its line feed if more come after it
+abbrev pub CutsLine : Bool → List ℕ → List ℕ → Type 0
+CutsLine true bytes line = (after : List ℕ) → lines_of (bytes ++ after) ≡ line ∷ lines_of after
+CutsLine false bytes line = lines_of bytes ≡ line ∷ []
+
+-- no byte comes after the last line
+abbrev pub IsLastUnless : Bool → Option (List ℕ) → Option (List ℕ) → Type 0
+IsLastUnless true left rest = Unit {0}
+IsLastUnless false left rest = OnSome left (IsAtEnd rest)
+
+-- the reader had the line in front
+pub record ReadsLine (left rest : Option (List ℕ)) (line : List ℕ) (more : Bool) : Type 0 where
+  pub bytes : List ℕ
+  pub consumed : Consumes left rest bytes
+  pub cut : CutsLine more bytes line
+  pub last : IsLastUnless more left rest
+
+abbrev pub IsReadFault : ReportFault → Type 0
+IsReadFault Unreadable = Unit {0}
+IsReadFault (Line number) = ⊥
+IsReadFault Output = ⊥
+IsReadFault NoMemory = Unit {0}
+
+-- these records were read, with these warnings
+pub record HasSeen (records : List Noted) (given : List (List Warning)) (r : Reading) : Type 0 where
+  pub follows : Follows words since (trace_of records) r.watch
+  pub scheme : r.watch.scheme ≡ r.header.scheme
+  pub are : AreGiven r.header.scheme records given
+  pub number : r.records ≡ length records
+  pub user : r.user ≡ counts_of false given
+  pub kernel : r.kernel ≡ counts_of true given
+
+-- and their lines were written
+pub record Stands (start out : Option (List ℕ)) (records : List Noted) (r : Reading) : Type 0 where
+  pub given : List (List Warning)
+  pub seen : HasSeen records given r
+  pub written : Appends start out (verdict_lines records given)
+
+-- what was written where a step fails at a record, a line, or the end, after these records
+abbrev pub FailsAtRecord : ReportFault → Scheme → Noted → List Noted → Option (List ℕ)
+    → Option (List ℕ) → Type 0
+FailsAtRecord Unreadable scheme newest records start out = ⊥
+FailsAtRecord (Line number) scheme newest records start out = ⊥
+FailsAtRecord Output scheme newest records start out =
+    WritesFront (VerdictText scheme (newest ∷ records)) start out
+FailsAtRecord NoMemory scheme newest records start out =
+    WritesAll (VerdictText scheme records) start out
+
+abbrev pub FailsAtLine : ReportFault → Header → ℕ → List ℕ → List Noted → Option (List ℕ)
+    → Option (List ℕ) → Type 0
+FailsAtLine Unreadable header number line records start out = ⊥
+FailsAtLine (Line at) header number line records start out =
+    (at ≡ number) × (has_no_form header line ≡ true)
+    × WritesAll (VerdictText header.scheme records) start out
+FailsAtLine Output header number line records start out =
+    (has_no_form header line ≡ false)
+    × WritesFront (VerdictText header.scheme (with_record (line_in header line) records)) start out
+FailsAtLine NoMemory header number line records start out =
+    WritesAll (VerdictText header.scheme records) start out
+
+abbrev pub FailsAtEnd : ReportFault → Scheme → List Noted → Option (List ℕ) → Option (List ℕ)
+    → Type 0
+FailsAtEnd Unreadable scheme records start out = ⊥
+FailsAtEnd (Line number) scheme records start out = ⊥
+FailsAtEnd Output scheme records start out =
+    (some : Bool) × WritesFront (WholeText scheme records some) start out
+FailsAtEnd NoMemory scheme records start out = WritesAll (VerdictText scheme records) start out
+
+abbrev pub noted_of : Record → List ℕ → Noted
+noted_of made by = record { made = made; by = by }

@@ -1,0 +1,55 @@
+-- What the text of a trace says, line by line.
+use Rattle.std.specs.Prelude.{ℕ, Bool, ◌==◌, ◌+◌, List, [], ◌∷◌, drop, get_or, map}
+use Rattle.std.specs.Prelude.{Option, Some, None, option_map}
+use Rattle.std.specs.List.{before_first, position, slice_split}
+use Rattle.std.specs.Option.{is_none}
+use Rattle.watch.specs.declared.trace.Record.{Record}
+use Rattle.watch.specs.Trace.{Trace}
+use Rattle.watch_lines.specs.declared.header.Header.{Header}
+use Rattle.watch_lines.specs.Fields.{fields_of}
+use Rattle.watch_lines.specs.TraceLines.{LineText, header_in, line_in, record_of}
+
+-- the lines of a text: what stands between its line feeds
+abbrev pub is_feed : ℕ → Bool
+is_feed byte = byte == 10
+
+abbrev pub lines_of : List ℕ → List (List ℕ)
+lines_of text = slice_split is_feed text
+
+-- what its first line says, and the lines after that
+abbrev pub header_of : List ℕ → Option Header
+header_of text = header_in (fields_of (get_or (lines_of text) 0 []))
+
+abbrev pub body_of : List ℕ → List (List ℕ)
+body_of text = drop 1 (lines_of text)
+
+abbrev pub has_no_form : Header → List ℕ → Bool
+has_no_form header line = is_none (line_in header line)
+
+-- the number of the first line that has no form: the header is line 1
+abbrev pub faulty_line : Option Header → List (List ℕ) → Option ℕ
+faulty_line None lines = Some 1
+faulty_line (Some header) lines = option_map (λ n. n + 2) (position (has_no_form header) lines)
+
+-- a record, and what its note says
+pub record Noted : Type 0 where
+  pub made : Record
+  pub by : List ℕ
+
+-- with the record that a line says, if it says one
+abbrev pub with_record : Option LineText → List Noted → List Noted
+with_record (Some (record_of made by)) records = record { made = made; by = by } ∷ records
+with_record _ records = records
+
+-- the records of lines after those before them, the newest first
+abbrev pub records_after : Header → List Noted → List (List ℕ) → List Noted
+records_after header records [] = records
+records_after header records (line ∷ lines) =
+    records_after header (with_record (line_in header line) records) lines
+
+-- the records before the first line that has no form, the newest first
+abbrev pub records_of : Header → List (List ℕ) → List Noted
+records_of header lines = records_after header [] (before_first (has_no_form header) lines)
+
+abbrev pub trace_of : List Noted → Trace
+trace_of records = map (λ r. r.made) records

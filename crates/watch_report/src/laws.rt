@@ -1,0 +1,23 @@
+//! Laws of reports: each call makes no step, and its clauses hold of the definitions alone.
+ghost use Rattle.std.specs.Prelude.{◌≡◌, List, [], Some, None};
+ghost use Rattle.std.specs.List.{Contains};
+ghost use Rattle.pte.specs.declared.scheme.Scheme.{Scheme};
+ghost use Rattle.watch.specs.declared.trace.Record.{Record};
+ghost use Rattle.watch.specs.Trace.{Trace};
+ghost use Rattle.watch_engine.specs.declared.warning.Warning.{Warning};
+ghost use Rattle.watch_engine.specs.Warnings.{AreWarnings};
+ghost use Rattle.watch_lines.specs.declared.warning.Trigger.{Trigger};
+ghost use Rattle.watch_lines.specs.Warnings.{verdict_of};
+ghost use Rattle.watch_report.specs.VerdictLines.{trigger_of};
+
+/// Each warning at a record has its line, and the line the verdict that is counted: a record of which
+/// nothing is printed has no warning, and of the others the printed verdict is that of the warning.
+pub fn each_warning_is_printed()
+    ensures silent { (scheme : Scheme) (newest : Record) (trace : Trace) (warnings : List Warning)
+        → AreWarnings scheme newest trace warnings → trigger_of trace newest ≡ None
+        → warnings ≡ [] }
+    ensures verdict { (scheme : Scheme) (newest : Record) (trace : Trace) (warnings : List Warning)
+        (trigger : Trigger) (w : Warning) → AreWarnings scheme newest trace warnings
+        → trigger_of trace newest ≡ Some trigger → Contains warnings w
+        → w.verdict ≡ verdict_of trigger }
+{}

@@ -1,0 +1,33 @@
+//! Worked reports: the definitions give what was worked out by hand. Each function does nothing, and
+//! each of its clauses is a row.
+
+ghost use Rattle.watch_report.specs.WorkedReports as reports;
+
+/// How reports of a few lines end, and what they leave written.
+#[tactic(auto, using(crate::proofs::WorkedReports::endings))]
+pub fn worked_endings()
+    ensures done { reports.done }
+    ensures done_without_a_feed { reports.done_without_a_feed }
+    ensures header_alone { reports.header_alone }
+    ensures no_line { reports.no_line }
+    ensures no_header { reports.no_header }
+    ensures faulty { reports.faulty }
+    ensures torn { reports.torn }
+    ensures cut_off { reports.cut_off }
+{}
+
+/// What no report leaves.
+#[tactic(auto, using(crate::proofs::WorkedReports::refusals))]
+pub fn refused_endings()
+    ensures other_line { reports.other_line }
+    ensures done_with_a_fault { reports.done_with_a_fault }
+    ensures warned_without_a_verdict { reports.warned_without_a_verdict }
+    ensures nothing_printed { reports.nothing_printed }
+{}
+
+/// The lines of two verdicts, and the last line.
+#[tactic(auto, using(crate::proofs::WorkedReports::texts))]
+pub fn worked_texts()
+    ensures lines_of_verdicts { reports.lines_of_verdicts }
+    ensures last_line { reports.last_line }
+{}
