@@ -9,6 +9,7 @@ import sys
 from collections import namedtuple
 
 EVERY = (1 << 64) - 1
+# what is global is of every address space: its root and its ASID say nothing, and are 0
 Translation = namedtuple("Translation", "root asid is_global base level ppn flags")
 
 
@@ -26,7 +27,7 @@ class Trace:
 
     def __init__(self, harts, levels):
         self.harts, self.top = range(harts), levels - 1
-        self.words, self.satp, self.roots = {}, [None] * harts, set()
+        self.words, self.satp, self.roots = {}, [None] * harts, set()  # words: by table and index
         self.fences, self.claims = {}, {}
         self.held = [set() for _ in self.harts]
         self.live = [[set() for _ in self.harts]]  # by number of records
@@ -37,8 +38,7 @@ class Trace:
         """The leaves of a root: base, level, PPN, flags, global."""
 
         def below(table, base, level, is_global):
-            for index in range(512):
-                word = self.words.get((table, index), 0)
+            for index, word in sorted(self.words.get(table, {}).items()):
                 at, over = base | index << 12 + 9 * level, is_global or bool(word & 32)
                 if kind(word) == "leaf" and (word >> 10) % (1 << 9 * level) == 0:
                     yield at, level, word >> 10, word & 0xFE, over
@@ -53,11 +53,11 @@ class Trace:
         if self.satp[hart] is None:
             return set()
         root, asid = self.satp[hart]
-        return {Translation(root, asid, over, base, level, ppn, flags) for base, level, ppn, flags, over in self.leaves(root)}
+        return {Translation(*((0, 0) if over else (root, asid)), over, base, level, ppn, flags) for base, level, ppn, flags, over in self.leaves(root)}
 
     def is_current(self, x, leaves):
-        """Under its own root or, where it is global, that of any address space."""
-        for root in {x.root} | (self.roots if x.is_global else set()):
+        """Under its root or, where it is global, that of some address space."""
+        for root in self.roots if x.is_global else {x.root}:
             if root not in leaves:
                 leaves[root] = list(self.leaves(root))
             for base, level, ppn, flags, over in leaves[root]:
@@ -96,7 +96,7 @@ class Trace:
         op, hart = record[0], record[1]
         dropped = [lambda x: False for _ in self.harts]
         if op == "store":
-            self.words[record[2] >> 12, record[2] % 4096 // 8] = record[3]
+            self.words.setdefault(record[2] >> 12, {})[record[2] % 4096 // 8] = record[3]
         elif op == "satp":
             self.satp[hart] = record[2]
             self.roots |= {record[2][0]} if record[2] else set()
@@ -112,8 +112,9 @@ class Trace:
                     dropped[h] = lambda x, since=since: reaches(addresses, x) and is_fenced(None, asid, x, self.top) and not any(x in live for live in since)
         elif op == "reuse":
             taken = range(record[2], record[2] + record[3])
-            self.words = {at: word for at, word in self.words.items() if at[0] not in taken}
-            self.roots = {root for root in self.roots if root not in taken}
+            self.words = {table: words for table, words in self.words.items() if table not in taken}
+            used = {space[0] for space in self.satp if space}
+            self.roots = {root for root in self.roots if root not in taken or root in used}
         elif op == "claim":
             self.claims[record[2]] = (record[3], record[4], len(self.given) + 1)
         elif op == "claim_end":
@@ -195,48 +196,107 @@ def judge(lines):
             yield f"{number} {text}"
 
 
+class Kernel:
+    """What a random trace is made of: tables and frames, few, so that the same things happen again and again."""
+
+    def __init__(self, r, harts, levels):
+        self.r, self.harts, self.levels, self.token = r, harts, levels, 0
+        self.tokens = {"r": [], "c": []}  # begun under, some of them ended
+        style = r.choice(("usual", "any", "few", "few"))
+        self.tables = [(0x30, 0x31, 0x32), (0x20, 0x21), (0x18,)][: levels - 1] + [(0x10, 0x11, 0x12)]
+        if style == "any":  # tables of each level, that may point to themselves
+            self.tables = [(0x10, 0x11, 0x12, 0x13, 0x200)] * levels
+        if style == "few":
+            self.tables = [tables[: r.choice((1, 2))] for tables in self.tables]
+        few = style == "few"
+        self.asids = r.choice(((1,), (1, 2))) if few else (1, 1, 2)
+        self.indices = r.choice(((0,), (0, 1))) if few else (0, 0, 1, 511)
+        self.frames = (0x200, 0x201)[: r.choice((1, 2))] if few else (0x200, 0x201, 0x400, 0x40000)
+        self.flags = r.choice(((0xD7,), (0xF7,), (0xD7, 0xD3), (0xE7, 0xE3))) if few else (0xD7, 0xD7, 0xD3, 0xF7, 0xE7, 0x57, 0x17, 0xDB, 0xD5, 0xC3)
+        self.leaf_levels = (0,) if few else (0, 0, 0, 0, 1, levels - 1)
+        self.weights = r.choice(((4, 7, 1, 1, 6, 3, 1, 2), (3, 6, 1, 2, 5, 4, 1, 2), (3, 6, 2, 3, 3, 4, 2, 1), (5, 6, 1, 0, 4, 4, 1, 2)))
+
+    def satp(self):
+        return (8 if self.levels == 3 else 9) << 60 | self.r.choice(self.asids) << 44 | self.r.choice(self.tables[-1])
+
+    def address(self):
+        """Of a page that a word may map; now and then not canonical."""
+        bits, va = 12 + 9 * self.levels, 0
+        for level in range(self.levels):
+            va |= self.r.choice(self.indices if level == 0 or self.r.random() < 0.2 else (0,)) << 12 + 9 * level
+        va |= EVERY ^ (1 << bits) - 1 if va >> bits - 1 else 0
+        return va ^ 1 << bits if self.r.random() < 0.03 else va
+
+    def addresses(self):
+        """A start and a size."""
+        return self.r.choice(("0 " + "f" * 16, "0 0", "0 1000", "0 2000", "1000 0", f"{self.address():x} 1000", f"{self.address():x} 200000"))
+
+    def pointer(self, level, index):
+        table = self.r.choice(self.tables[level]) << 12 | index << 3
+        return f"{table:x} {self.r.choice(self.tables[level - 1]) << 10 | self.r.choice((1, 1, 1, 33)):x}"
+
+    def leaf(self):
+        level = self.r.choice(self.leaf_levels)
+        table = self.r.choice(self.tables[level]) << 12 | self.r.choice(self.indices) << 3
+        ppn = self.r.choice(self.frames) if level == 0 or self.r.random() < 0.2 else self.r.choice((0x200, 0x400, 0x40000))
+        odd = (1 << 54 | 0xD7, 0x80005, 0xC041, self.r.choice(self.tables[0]) << 10 | 1)  # reserved; a pointer in any table
+        return f"{table:x} {self.r.choice(odd) if self.r.random() < 0.03 else self.r.choice((0, ppn << 10 | self.r.choice(self.flags))):x}"
+
+    def begin(self, letter, rest):
+        """Under a new token or, now and then, under one that is open or has ended."""
+        if not self.tokens[letter] or self.r.random() < 0.85:
+            self.token += 1
+            self.tokens[letter].append(self.token)
+        return f"{self.r.choice(self.tokens[letter][-2:]):x} {rest}"
+
+    def end(self, letter):
+        tokens = self.tokens[letter]
+        return f"{tokens[-1] if self.r.random() < 0.2 else tokens.pop(self.r.randrange(len(tokens))):x}"
+
+    def frames_of(self, letter):
+        """Frames of pages or, where they are given out, of tables too."""
+        every = [table for tables in self.tables for table in tables]
+        first = self.r.choice(every if letter == "a" and self.r.random() < 0.4 else self.frames * 3 + (0x3FF, 0))
+        return f"{first:x} {self.r.choice((1, 2, 0, 0x200, EVERY)) if self.r.random() < 0.2 else 1:x}"
+
+    def line(self):
+        r, hart = self.r, self.r.randrange(self.harts)
+        letter = r.choices("swpfrzau", self.weights)[0]
+        if letter == "s":
+            return f"s {hart} {r.choice((0, 1, 1, 1, 1)) * self.satp():x}"
+        if letter in "wp":
+            return f"w {hart} {self.leaf() if letter == 'w' else self.pointer(r.randrange(1, self.levels), r.choice(self.indices[:2]))}"
+        if letter == "f":
+            return f"f {hart} {r.choice(('-', f'{self.address():x}'))} {r.choice(('-', '-', '1', '2', '10001'))}"
+        if letter == "r":
+            letter = r.choice("rrc")
+            if self.tokens[letter] and r.random() < 0.5:
+                return f"{'e' if letter == 'r' else 'd'} {hart} {self.end(letter)}"
+            if letter == "c":
+                return f"c {hart} {self.begin('c', r.choice(('-', '-', '10', '11')) + ' ' + self.addresses())}"
+            return f"r {hart} {self.begin('r', f'{r.randrange(1 << self.harts):x} {self.addresses()}')} {r.choice(('-', '-', '1', '2'))}"
+        if letter in "za":
+            return f"{letter} {hart} {self.frames_of(letter)}"
+        return f"u {hart} {self.address() + r.choice((0, 0xABC)):x}"
+
+    def beginning(self):
+        """The pointers from each table to some below it, and the spaces of the harts."""
+        for level in range(self.levels - 1, 0, -1):
+            for table in self.tables[level]:
+                yield f"w 0 {table << 12:x} {self.r.choice(self.tables[level - 1]) << 10 | self.r.choice((1, 1, 1, 33)):x}"
+        for hart in range(self.harts):
+            yield f"s {hart} {self.satp():x}"
+
+
 def made(seed):
     """A random trace of a kernel that forgets fences now and then."""
     r = random.Random(seed)
-    harts, levels = r.choice((1, 2, 3)), r.choice((3, 3, 4))
+    harts, levels = r.choice((1, 2, 2, 3)), r.choice((3, 3, 4))
     yield f"watch 1 {harts} sv{12 + 9 * levels}"
-    tables = [(0x30, 0x31, 0x32), (0x20, 0x21), (0x18,), (0x10, 0x11)][: levels - 1] + [(0x10, 0x11)]
-    roots, frames = tables[-1], (0x200, 0x201, 0x400)
-    every = tuple(t for level in tables for t in level)
-    mode, tokens, claims, token = 8 if levels == 3 else 9, [], [], 0
-    for above, below in zip(tables[:0:-1], tables[-2::-1]):
-        for table in above:
-            yield f"w 0 {table << 12:x} {r.choice(below) << 10 | 1:x}"
-    for h in range(harts):
-        yield f"s {h} {mode << 60 | r.choice((1, 2)) << 44 | r.choice(roots):x}"
-    for n in range(r.choice((30, 60, 90))):
-        h, x = r.randrange(harts), r.random()
-        if x < 0.08:
-            yield f"s {h} {r.choice((0, 1, 1, 1)) * (mode << 60 | r.choice((1, 2)) << 44 | r.choice(roots)):x}"
-        elif x < 0.14:
-            level = r.randrange(1, levels)
-            words = (0, r.choice(tables[level - 1]) << 10 | 1, r.choice(tables[level - 1]) << 10 | 33, r.choice((0x200, 0x400)) << 10 | 0xD7)
-            yield f"w {h} {r.choice(tables[level]) << 12 | r.choice((0, 0, 1, 511)) << 3:x} {r.choice(words):x}"
-        elif x < 0.5:
-            yield f"w {h} {r.choice(tables[0]) << 12 | r.choice((0, 1, 511)) << 3:x} {r.choice((0, 0, r.choice(frames) << 10 | r.choice((0xD7, 0xD3, 0xF7, 0x17, 0xDB)))):x}"
-        elif x < 0.56:
-            yield f"f {h} {r.choice(('-', format(r.choice((0, 0x1000, 0x200000, EVERY - 4095, 1 << 40)), 'x')))} {r.choice(('-', '1', '2', '10001'))}"
-        elif x < 0.62:
-            token += 1
-            tokens.append(token)
-            yield f"r {h} {token:x} {r.randrange(1 << harts):x} {r.choice(('0 ' + 'f' * 16, '0 1000', '1000 0', 'ffffffffffe00000 200000'))} {r.choice(('-', '1', '2'))}"
-        elif x < 0.68 and tokens:
-            yield f"e {h} {tokens.pop(r.randrange(len(tokens))):x}"
-        elif x < 0.73:
-            token += 1
-            claims.append(token)
-            yield f"c {h} {token:x} {r.choice(('-', '10', '11'))} {r.choice(('0 ' + 'f' * 16, '0 1000', '1000 2000'))}"
-        elif x < 0.79 and claims:
-            yield f"d {h} {claims.pop(r.randrange(len(claims))):x}"
-        elif x < 0.88:
-            yield f"{r.choice('azz')} {h} {r.choice(frames + frames + (0x3FF, r.choice(every))):x} {r.choice((1, 1, 2, 0))}"
-        else:
-            yield f"u {h} {r.choice((0, 0x1ABC, 0x1FF000, 0x1FFFFF)):x}"
+    kernel = Kernel(r, harts, levels)
+    yield from kernel.beginning()
+    for _ in range(r.choice((40, 80, 120))):
+        yield kernel.line()
 
 
 def main():

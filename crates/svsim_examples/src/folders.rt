@@ -1,12 +1,14 @@
-//! The folders below `cases` that are named as a command: its answer to each `NAME.toml` stands
-//! beside it.
+//! The folders below `cases` that are named as a command: its answer to each `NAME.toml`, of `watch`
+//! to each `NAME.trace`, stands beside it.
 use crate::program::{Outcome, answer};
 use crate::tally::Tally;
 use std::sync::Wait;
 use std::thread::Threads;
 use std::{fs, io};
 
-pub const FOLDERS: [&str; 7] = ["check", "draw", "live", "run", "show", "stale", "walk"];
+pub const FOLDERS: [&str; 8] = [
+    "check", "draw", "live", "run", "show", "stale", "walk", "watch",
+];
 
 /// The names of the files of a folder, in order.
 fn entries(rt: &HostRuntime, folder: &str) -> io::Result<Vec<String>> {
@@ -38,6 +40,11 @@ fn text_of(rt: &HostRuntime, folder: &str, name: &str, ending: &str) -> io::Resu
     }
 }
 
+/// The ending of the files that the folder's command reads.
+fn read_ending(folder: &str) -> &'static str {
+    if folder == "watch" { "trace" } else { "toml" }
+}
+
 /// The status that is wanted: a written one, or else 1 if lines of `stale` name a use, or 0.
 fn status_of(written: &str, command: &str, out: &str) -> Option<u8> {
     if !written.is_empty() {
@@ -64,7 +71,7 @@ fn has_counts(printed: &str, counts: &str) -> bool {
     !counts.is_empty()
 }
 
-/// What the program answers to a command on `NAME.toml`.
+/// What the program answers to a command on a file of the folder.
 fn outcome_of<T: Threads + Wait + Sync>(
     rt: &HostRuntime,
     threads: &T,
@@ -74,11 +81,12 @@ fn outcome_of<T: Threads + Wait + Sync>(
 ) -> io::Result<Outcome> {
     let alloc = rt.alloc();
     let below = format!(in alloc; "cases/{folder}")?;
-    let file = format!(in alloc; "{name}.toml")?;
+    let ending = read_ending(folder);
+    let file = format!(in alloc; "{name}.{ending}")?;
     answer(rt, threads, below.as_str(), command, file.as_str())
 }
 
-/// Whether a command on `NAME.toml` prints what stands in `NAME.ENDING`, with the status of
+/// Whether a command on a file of the folder prints what stands in `NAME.ENDING`, with the status of
 /// `NAME.status` and the line of `NAME.err`.
 fn is_answered<T: Threads + Wait + Sync>(
     rt: &HostRuntime,
@@ -96,7 +104,8 @@ fn is_answered<T: Threads + Wait + Sync>(
     Ok(status.is_some_and(|status| outcome.is(status, out.as_str(), err.as_str())))
 }
 
-/// Whether the folder's command on `NAME.toml` prints words as often as `NAME.counts` has it.
+/// Whether the folder's command on its file prints words as often as `NAME.counts` has it, with the
+/// status of `NAME.status`.
 fn is_counted<T: Threads + Wait + Sync>(
     rt: &HostRuntime,
     threads: &T,
@@ -108,14 +117,16 @@ fn is_counted<T: Threads + Wait + Sync>(
     let Ok(printed) = str::from_utf8(outcome.out.as_slice()) else {
         return Ok(false);
     };
-    let is_done = outcome.status == 0 && outcome.err.is_empty();
+    let written = text_of(rt, folder, name, "status")?;
+    let status = status_of(written.as_str(), folder, printed);
+    let is_done = status == Some(outcome.status) && outcome.err.is_empty();
     Ok(is_done && has_counts(printed, counts.as_str()))
 }
 
 /// The command whose answer a file has, and the ending of the file with what it prints.
 fn asked<'a>(folder: &'a str, ending: &'a str) -> Option<(&'a str, &'a str)> {
     match ending {
-        "toml" => Some((folder, "out")),
+        "toml" | "trace" => Some((folder, "out")),
         "svg" => Some(("draw", ending)),
         "check" | "show" | "stale" => Some((ending, ending)),
         _ => None,
@@ -125,8 +136,8 @@ fn asked<'a>(folder: &'a str, ending: &'a str) -> Option<(&'a str, &'a str)> {
 /// Whether a file of a folder is read with another, that has an answer.
 fn is_part(rt: &HostRuntime, folder: &str, name: &str, ending: &str) -> io::Result<bool> {
     match ending {
-        "toml" => has(rt, folder, name, "counts"),
-        "out" | "err" | "status" => has(rt, folder, name, "toml"),
+        "toml" | "trace" => has(rt, folder, name, "counts"),
+        "out" | "err" | "status" => has(rt, folder, name, read_ending(folder)),
         _ => Ok(false),
     }
 }
