@@ -24,9 +24,9 @@ impl Read for Source {
     }
 }
 
-/// Opens a file; `-` is standard input.
-fn open(rt: &HostRuntime, name: &str) -> Option<Source> {
-    if name == "-" {
+/// Opens a file; of a trace `-` is standard input.
+fn open(rt: &HostRuntime, name: &str, of_trace: bool) -> Option<Source> {
+    if of_trace && name == "-" {
         return Some(Source::Input(rt.stdin()));
     }
     match fs::open(rt, name) {
@@ -41,6 +41,17 @@ fn given_words<R: Env + AllocGlobal>(rt: &R) -> Result<Vec<String>, NoWords> {
     Ok(words.collect(rt.alloc())?)
 }
 
+/// Whether the first of the words after the program's name is `watch`.
+fn is_of_trace(words: &Result<Vec<String>, NoWords>) -> bool {
+    match words {
+        Ok(words) => match words.get(1) {
+            Some(word) => word.as_str() == "watch",
+            None => false,
+        },
+        Err(_) => false,
+    }
+}
+
 /// Does what the words that the program was started with ask for, over its files, standard input,
 /// standard output and standard error, and answers its exit status. `threads` starts the threads of
 /// `live`. No contract knows what a system gives: what is done of it is the contract of
@@ -48,11 +59,13 @@ fn given_words<R: Env + AllocGlobal>(rt: &R) -> Result<Vec<String>, NoWords> {
 pub fn start<T: Threads + Wait + Sync>(rt: &HostRuntime, threads: &T) -> u8 {
     let mut out = rt.stdout();
     let mut err = rt.stderr();
+    let words = given_words(rt);
+    let of_trace = is_of_trace(&words);
     answer_words(
         threads,
         rt.alloc(),
-        given_words(rt),
-        |name| open(rt, name),
+        words,
+        |name| open(rt, name, of_trace),
         &mut out,
         &mut err,
         &OpenGate,
