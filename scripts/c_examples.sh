@@ -1,6 +1,7 @@
 #!/bin/bash
-# The C interface: builds the static library, builds the C programs of crates/melissaledge_c/examples over it with all warnings as errors, runs
-# them, and compares what they print with what they must print: NAME.out there.
+# The C interface, and the kernel's side of a trace: builds the static library, builds the C programs of crates/melissaledge_c/examples over it with all warnings as errors, runs
+# them, and compares what they print with what they must print: NAME.out there. examples/watch/trace_test.c has to print left-out-hart.trace, over
+# a ring and over a character output.
 #
 #     scripts/c_examples.sh
 #
@@ -39,6 +40,23 @@ judge() {
     fi
 }
 
+# Whether the test of trace.h builds, with these flags too, and prints its trace.
+judge_trace() {
+    local name=trace_test$1 source=$top/examples/watch
+    shift
+    if ! ${CC:-cc} -Wall -Wextra -Werror -std=gnu11 -O2 "$@" "$source/trace_test.c" -o "$own/$name"; then
+        echo "FAILED $name: it does not build"
+        failed=$((failed + 1))
+    elif ! timeout 60 "$own/$name" >"$own/$name.out" || ! cmp "$own/$name.out" "$source/left-out-hart.trace"; then
+        echo "FAILED $name: other output"
+        failed=$((failed + 1))
+    else
+        passed=$((passed + 1))
+    fi
+}
+
+judge_trace _output
+judge_trace _ring -DTRACE_RING=100
 judge access_path
 judge superpage_shootdown
 judge bad_arguments
