@@ -1,6 +1,6 @@
 -- What is remembered of leaves is gathered hart by hart and space by space.
 use Rattle.std.proofs.Common.{◌≡◌, ℕ, Bool, true, false, ◌+◌, ◌<◌, ◌≤◌, ◌⊎◌, zero, suc, Option, Some, None, List, [], ◌∷◌, ◌++◌, length, get_or, ap, sym, ◌∙◌, subst, refl, inl, inr, arith}
-use Rattle.std.specs.Prelude.{◌↔◌, ◌==◌, ◌&&◌, nat_le, cond, Contains}
+use Rattle.std.specs.Prelude.{◌↔◌, ◌==◌, ◌&&◌, nat_le, cond, not, Contains}
 use Rattle.std.proofs.lemmas.Bool.{and_parts, and_from, eq-eqb, eqb-true, or_cases, or_left, or_right, true≢false, not-true, not_from_false}
 use Rattle.pte.specs.declared.scheme.Scheme.{Scheme}
 use Rattle.walk.specs.Leads.{Leads, Tables, word_at}
@@ -9,13 +9,14 @@ use Rattle.tlb.specs.declared.store.Entry.{Entry}
 use Rattle.watch.specs.declared.trace.Space.{Space}
 use Rattle.watch.specs.Trace.{index_of}
 use Rattle.watch.specs.Holding.{BelongsTo, HasLeaf, Translation}
+use Rattle.watch.specs.ComputedTraces.{is_live_in}
 use Rattle.watch_engine.specs.declared.held.LastLive.{LastLive}
 use Rattle.watch_engine.specs.declared.left.Left.{Left}
 use Rattle.watch_engine.specs.declared.left.PastFence.{PastFence}
 use Rattle.watch_tables.specs.declared.leaf.RootLeaf.{RootLeaf}
 use Rattle.watch_engine.specs.Held.{IsNormalized, held_from, is_listed, is_of, last_live_in, last_translation, normalized, own, translation_in}
 use Rattle.watch_engine.specs.Left.{AnyLeft, IsLeftHeld, is_taken_since}
-use Rattle.watch_engine.specs.Seen.{AreAdded, AreSeen, EachSeen, IsSeen, PassesAny, is_kept, kept_for, live_for, with_kept, with_leaves, with_live}
+use Rattle.watch_engine.specs.Seen.{AreAdded, AreSeen, EachSeen, IsSeen, PassesAny, is_kept, kept_for, last_of, live_for, with_kept, with_leaves, with_live}
 use Rattle.watch_tables.specs.Paths.{IsUnchangedSince}
 use Rattle.watch_tables.specs.Through.{HasRootLeaf, IsLeafThrough, Passes}
 use Rattle.watch_engine.proofs.Leaving.{any_member}
@@ -106,7 +107,7 @@ module _ (scheme : Scheme) (words : Tables) (since : ℕ → ℕ → ℕ) (satps
         (λ k. at (suc k) ∙ (let same : suc k + n ≡ k + (n + 1) = omega arith in ap (λ m. get_or satps m None) same))
         (each_append Seen seen (live_for now leaf n s) e (each-live_for n s (let same : 0 + n ≡ n = omega arith in ap (λ m. get_or satps m None) (sym same) ∙ sym (at 0))))
 
-    kept-seen : (l : Left) → ((Q : Left → Type 0) → Q l → AnyLeft Q left) → is_kept scheme drops leaf l ≡ true → Seen (last_live_in l.hart l.space leaf.entry l.left)
+    kept-seen : (l : Left) → ((Q : Left → Type 0) → Q l → AnyLeft Q left) → is_kept scheme words satps drops leaf l ≡ true → Seen (last_live_in l.hart l.space leaf.entry l.left)
     kept-seen l among h =
         let p = and_parts (l.space.root == leaf.root) _ h in
         let q = and_parts (nat_le leaf.since l.left) _ p.1 in
@@ -120,22 +121,22 @@ module _ (scheme : Scheme) (words : Tables) (since : ℕ → ℕ → ℕ) (satps
             belongs = belongs_in l.space leaf.entry;
             leaf = with_asid scheme words l.space.root (own leaf.entry.global l.space.asid) leaf.entry (subst (λ r. HasLeaf scheme words r leaf.entry) (sym root) is.leaf_is);
             unchanged = record { unchanged = λ at table from leads. old.unchanged at table from (subst (λ r. Leads scheme words r leaf.entry.page.base at table (word_at words leaf.entry.page.base at table)) root leads) };
-            kept = not-true _ q.1;
+            kept = not-true _ (and_parts (not (is_live_in scheme words (get_or satps l.hart None) (last_translation (last_of leaf l)))) _ q.1).1;
           },
         ))
 
-    each-with_kept : (rest : List Left) (seen : List LastLive) → ((Q : Left → Type 0) → AnyLeft Q rest → AnyLeft Q left) → EachSeen Seen seen → EachSeen Seen (with_kept scheme drops leaf rest seen)
+    each-with_kept : (rest : List Left) (seen : List LastLive) → ((Q : Left → Type 0) → AnyLeft Q rest → AnyLeft Q left) → EachSeen Seen seen → EachSeen Seen (with_kept scheme words satps drops leaf rest seen)
     each-with_kept [] seen among e = e
     each-with_kept (l ∷ rest) seen among e =
-        let go : (b : Bool) → is_kept scheme drops leaf l ≡ b → EachSeen Seen (cond b (last_live_in l.hart l.space leaf.entry l.left ∷ []) []) =
-        λ b. elim b as (λ b. is_kept scheme drops leaf l ≡ b → EachSeen Seen (cond b (last_live_in l.hart l.space leaf.entry l.left ∷ []) [])) [
+        let go : (b : Bool) → is_kept scheme words satps drops leaf l ≡ b → EachSeen Seen (cond b (last_live_in l.hart l.space leaf.entry l.left ∷ []) []) =
+        λ b. elim b as (λ b. is_kept scheme words satps drops leaf l ≡ b → EachSeen Seen (cond b (last_live_in l.hart l.space leaf.entry l.left ∷ []) [])) [
           | true ↦ λ t. (kept-seen l (λ Q q. among Q (inl q)) t, tt)
           | false ↦ λ t. tt
         ] in
-        each-with_kept rest (seen ++ kept_for scheme drops leaf l) (λ Q a. among Q (inr a))
-        (each_append Seen seen (kept_for scheme drops leaf l) e (go (is_kept scheme drops leaf l) refl))
+        each-with_kept rest (seen ++ kept_for scheme words satps drops leaf l) (λ Q a. among Q (inr a))
+        (each_append Seen seen (kept_for scheme words satps drops leaf l) e (go (is_kept scheme words satps drops leaf l) refl))
 
-    each-leaf : (seen : List LastLive) → EachSeen Seen seen → EachSeen Seen (with_kept scheme drops leaf left (with_live now leaf 0 satps seen))
+    each-leaf : (seen : List LastLive) → EachSeen Seen seen → EachSeen Seen (with_kept scheme words satps drops leaf left (with_live now leaf 0 satps seen))
     each-leaf seen e =
         each-with_kept left (with_live now leaf 0 satps seen) (λ Q a. a)
         (each-with_live 0 satps seen (λ k. let same : k ≡ k + 0 = omega arith in ap (λ m. get_or satps m None) same) e)
@@ -145,14 +146,14 @@ module _ (scheme : Scheme) (words : Tables) (since : ℕ → ℕ → ℕ) (satps
   still-live leaf hart x m n [] seen h = h
   still-live leaf hart x m n (s ∷ rest) seen h = still-live leaf hart x m (n + 1) rest (seen ++ live_for now leaf n s) (listed-left hart x m seen (live_for now leaf n s) h)
 
-  still-kept : (leaf : RootLeaf) (hart : ℕ) (x : Translation) (m : ℕ) (rest : List Left) (seen : List LastLive) → is_listed hart x m seen ≡ true → is_listed hart x m (with_kept scheme drops leaf rest seen) ≡ true
+  still-kept : (leaf : RootLeaf) (hart : ℕ) (x : Translation) (m : ℕ) (rest : List Left) (seen : List LastLive) → is_listed hart x m seen ≡ true → is_listed hart x m (with_kept scheme words satps drops leaf rest seen) ≡ true
   still-kept leaf hart x m [] seen h = h
-  still-kept leaf hart x m (l ∷ rest) seen h = still-kept leaf hart x m rest (seen ++ kept_for scheme drops leaf l) (listed-left hart x m seen (kept_for scheme drops leaf l) h)
+  still-kept leaf hart x m (l ∷ rest) seen h = still-kept leaf hart x m rest (seen ++ kept_for scheme words satps drops leaf l) (listed-left hart x m seen (kept_for scheme words satps drops leaf l) h)
 
-  still-leaves : (hart : ℕ) (x : Translation) (m : ℕ) (leaves : List RootLeaf) (seen : List LastLive) → is_listed hart x m seen ≡ true → is_listed hart x m (with_leaves scheme now satps left drops leaves seen) ≡ true
+  still-leaves : (hart : ℕ) (x : Translation) (m : ℕ) (leaves : List RootLeaf) (seen : List LastLive) → is_listed hart x m seen ≡ true → is_listed hart x m (with_leaves scheme words now satps left drops leaves seen) ≡ true
   still-leaves hart x m [] seen h = h
   still-leaves hart x m (leaf ∷ leaves) seen h =
-      still-leaves hart x m leaves (with_kept scheme drops leaf left (with_live now leaf 0 satps seen))
+      still-leaves hart x m leaves (with_kept scheme words satps drops leaf left (with_live now leaf 0 satps seen))
       (still-kept leaf hart x m left (with_live now leaf 0 satps seen) (still-live leaf hart x m 0 satps seen h))
 
   -- the leaf of a translation
@@ -177,11 +178,11 @@ module _ (scheme : Scheme) (words : Tables) (since : ℕ → ℕ → ℕ) (satps
   live-listed leaf hart x of belongs norm is (suc k) n (s ∷ rest) seen at satp =
       live-listed leaf hart x of belongs norm is k (n + 1) rest (seen ++ live_for now leaf n s) (omega arith) satp
 
-  kept-listed : (leaf : RootLeaf) (hart : ℕ) (x : Translation) (n : ℕ) → IsLeafSeen leaf → IsNormalized x → (rest : List Left) (seen : List LastLive)
-      → AnyLeft (λ l. (l.left ≡ n) × IsLeftHeld scheme words since drops l hart x × IsOf leaf l.space.root x) rest → is_listed hart x n (with_kept scheme drops leaf rest seen) ≡ true
-  kept-listed leaf hart x n seen_leaf norm [] seen a = absurd a
-  kept-listed leaf hart x n seen_leaf norm (l ∷ rest) seen (inr a) = kept-listed leaf hart x n seen_leaf norm rest (seen ++ kept_for scheme drops leaf l) a
-  kept-listed leaf hart x n seen_leaf norm (l ∷ rest) seen (inl (at, held, of)) =
+  kept-listed : (leaf : RootLeaf) (hart : ℕ) (x : Translation) (n : ℕ) → IsLeafSeen leaf → IsNormalized x → is_live_in scheme words (get_or satps hart None) x ≡ false → (rest : List Left) (seen : List LastLive)
+      → AnyLeft (λ l. (l.left ≡ n) × IsLeftHeld scheme words since drops l hart x × IsOf leaf l.space.root x) rest → is_listed hart x n (with_kept scheme words satps drops leaf rest seen) ≡ true
+  kept-listed leaf hart x n seen_leaf norm dead [] seen a = absurd a
+  kept-listed leaf hart x n seen_leaf norm dead (l ∷ rest) seen (inr a) = kept-listed leaf hart x n seen_leaf norm dead rest (seen ++ kept_for scheme words satps drops leaf l) a
+  kept-listed leaf hart x n seen_leaf norm dead (l ∷ rest) seen (inl (at, held, of)) =
       let s : LastLive = last_live_in l.hart l.space leaf.entry l.left in
       let is : last_translation s ≡ x = sym (ap (translation_in l.space) of.1) ∙ translation_is l.space x held.belongs norm in
       let entry : s.entry ≡ x.entry = ap (λ (y : Translation). y.entry) is in
@@ -190,13 +191,15 @@ module _ (scheme : Scheme) (words : Tables) (since : ℕ → ℕ → ℕ) (satps
       subst (λ r. IsUnchangedSince scheme words since r leaf.entry l.left) of.0
       (subst (λ (e : Entry). IsUnchangedSince scheme words since l.space.root e l.left) of.1
       (record { unchanged = λ at table from leads. held.unchanged.unchanged at table from leads })) in
-      let kept : is_kept scheme drops leaf l ≡ true =
+      let kept : is_kept scheme words satps drops leaf l ≡ true =
       and_from _ _ (eq-eqb l.space.root leaf.root of.0)
-      (and_from _ _ (from_at_most leaf.since l.left ((seen_leaf.age l.left).1 old)) (not_from_false _ (ap (is_taken_since scheme drops l) entry ∙ held.kept))) in
-      let one : kept_for scheme drops leaf l ≡ last_live_in hart l.space leaf.entry n ∷ [] =
+      (and_from _ _ (from_at_most leaf.since l.left ((seen_leaf.age l.left).1 old)) (and_from _ _
+      (not_from_false _ ((λ j. is_live_in scheme words (get_or satps (held.by j) None) (is j)) ∙ dead))
+      (not_from_false _ (ap (is_taken_since scheme drops l) entry ∙ held.kept)))) in
+      let one : kept_for scheme words satps drops leaf l ≡ last_live_in hart l.space leaf.entry n ∷ [] =
       ap (λ b. cond b (s ∷ []) []) kept ∙ (λ j. last_live_in (held.by j) l.space leaf.entry (at j) ∷ []) in
-      still-kept leaf hart x n rest (seen ++ kept_for scheme drops leaf l)
-      (listed-right hart x n seen (kept_for scheme drops leaf l)
+      still-kept leaf hart x n rest (seen ++ kept_for scheme words satps drops leaf l)
+      (listed-right hart x n seen (kept_for scheme words satps drops leaf l)
       (ap (is_listed hart x n) one ∙ listed-one hart x l.space leaf n held.belongs norm of.1))
 
   -- all leaves
@@ -208,19 +211,19 @@ module _ (scheme : Scheme) (words : Tables) (since : ℕ → ℕ → ℕ) (satps
   each_of P [] f = tt
   each_of P (leaf ∷ leaves) f = (f 0 leaf (omega arith), each_of P leaves (λ k d within. f (suc k) d (omega arith)))
 
-  each-leaves : (leaves : List RootLeaf) (seen : List LastLive) → EachLeaf IsLeafSeen leaves → EachSeen Seen seen → EachSeen Seen (with_leaves scheme now satps left drops leaves seen)
+  each-leaves : (leaves : List RootLeaf) (seen : List LastLive) → EachLeaf IsLeafSeen leaves → EachSeen Seen seen → EachSeen Seen (with_leaves scheme words now satps left drops leaves seen)
   each-leaves [] seen f e = e
-  each-leaves (leaf ∷ leaves) seen f e = each-leaves leaves (with_kept scheme drops leaf left (with_live now leaf 0 satps seen)) f.1 (each-leaf leaf f.0 seen e)
+  each-leaves (leaf ∷ leaves) seen f e = each-leaves leaves (with_kept scheme words satps drops leaf left (with_live now leaf 0 satps seen)) f.1 (each-leaf leaf f.0 seen e)
 
   -- what one leaf has listed
-  leaf-listed : (hart : ℕ) (x : Translation) (n : ℕ) (leaf : RootLeaf) → ((seen : List LastLive) → is_listed hart x n (with_kept scheme drops leaf left (with_live now leaf 0 satps seen)) ≡ true)
-      → (leaves : List RootLeaf) (k : ℕ) (seen : List LastLive) → k < length leaves → get_or leaves k leaf ≡ leaf → is_listed hart x n (with_leaves scheme now satps left drops leaves seen) ≡ true
+  leaf-listed : (hart : ℕ) (x : Translation) (n : ℕ) (leaf : RootLeaf) → ((seen : List LastLive) → is_listed hart x n (with_kept scheme words satps drops leaf left (with_live now leaf 0 satps seen)) ≡ true)
+      → (leaves : List RootLeaf) (k : ℕ) (seen : List LastLive) → k < length leaves → get_or leaves k leaf ≡ leaf → is_listed hart x n (with_leaves scheme words now satps left drops leaves seen) ≡ true
   leaf-listed hart x n leaf lists [] k seen within at = absurd (omega arith)
   leaf-listed hart x n leaf lists (f ∷ leaves) zero seen within at =
-      still-leaves hart x n leaves (with_kept scheme drops f left (with_live now f 0 satps seen))
-      (subst (λ (g : RootLeaf). is_listed hart x n (with_kept scheme drops g left (with_live now g 0 satps seen)) ≡ true) (sym at) (lists seen))
+      still-leaves hart x n leaves (with_kept scheme words satps drops f left (with_live now f 0 satps seen))
+      (subst (λ (g : RootLeaf). is_listed hart x n (with_kept scheme words satps drops g left (with_live now g 0 satps seen)) ≡ true) (sym at) (lists seen))
   leaf-listed hart x n leaf lists (f ∷ leaves) (suc k) seen within at =
-      leaf-listed hart x n leaf lists leaves k (with_kept scheme drops f left (with_live now f 0 satps seen)) (omega arith) at
+      leaf-listed hart x n leaf lists leaves k (with_kept scheme words satps drops f left (with_live now f 0 satps seen)) (omega arith) at
 
   same-default : (leaves : List RootLeaf) (k : ℕ) (d e : RootLeaf) → k < length leaves → get_or leaves k d ≡ get_or leaves k e
   same-default [] k d e within = absurd (omega arith)
@@ -239,15 +242,15 @@ module _ (scheme : Scheme) (words : Tables) (since : ℕ → ℕ → ℕ) (satps
     }
 
     listed-by : (hart : ℕ) (x : Translation) (n root : ℕ) → HasLeaf scheme words root x.entry → Goes root x.entry
-        → ((leaf : RootLeaf) → IsLeafSeen leaf → IsOf leaf root x → (seen : List LastLive) → is_listed hart x n (with_kept scheme drops leaf left (with_live now leaf 0 satps seen)) ≡ true)
-        → (seen : List LastLive) → is_listed hart x n (with_leaves scheme now satps left drops leaves seen) ≡ true
+        → ((leaf : RootLeaf) → IsLeafSeen leaf → IsOf leaf root x → (seen : List LastLive) → is_listed hart x n (with_kept scheme words satps drops leaf left (with_live now leaf 0 satps seen)) ≡ true)
+        → (seen : List LastLive) → is_listed hart x n (with_leaves scheme words now satps left drops leaves seen) ≡ true
     listed-by hart x n root has goes lists seen =
         let e : Entry = record x.entry { asid = 0 } in
         let there = (exact root e).1 (record { asid = refl; leaf = with_asid scheme words root 0 x.entry has; passes = goes }) in
         let leaf : RootLeaf = record { root = root; entry = e; since = there.since } in
         leaf-listed hart x n leaf (lists leaf (contained leaf there.among) (refl, refl)) leaves there.among.0 seen there.among.1 there.among.2
 
-    pub leaves_added : (old : List LastLive) → AreAdded scheme words since satps left drops now Goes old (with_leaves scheme now satps left drops leaves old)
+    pub leaves_added : (old : List LastLive) → AreAdded scheme words since satps left drops now Goes old (with_leaves scheme words now satps left drops leaves old)
     leaves_added old = record {
       each = λ e. each-leaves leaves old (each_of IsLeafSeen leaves (λ k d within. contained (get_or leaves k d) (k, within, same-default leaves k (get_or leaves k d) d within))) e;
       still = λ hart x n h. still-leaves hart x n leaves old h;
@@ -255,10 +258,10 @@ module _ (scheme : Scheme) (words : Tables) (since : ℕ → ℕ → ℕ) (satps
           listed-by hart x now l.of.root l.leaf goes
           (λ leaf is of seen. still-kept leaf hart x now left (with_live now leaf 0 satps seen)
           (live-listed leaf hart x l.of l.belongs norm of hart 0 satps seen (omega arith) l.satp)) old;
-      kept = λ hart x n norm a.
+      kept = λ hart x n norm dead a.
           let m = any_member (λ l. (l.left ≡ n) × IsLeftHeld scheme words since drops l hart x × Goes l.space.root x.entry) left a in
           listed-by hart x n m.one.space.root m.has.1.leaf m.has.2
-          (λ leaf is of seen. kept-listed leaf hart x n is norm left (with_live now leaf 0 satps seen)
+          (λ leaf is of seen. kept-listed leaf hart x n is norm dead left (with_live now leaf 0 satps seen)
           (m.among (λ l. (l.left ≡ n) × IsLeftHeld scheme words since drops l hart x × IsOf leaf l.space.root x) (m.has.0, m.has.1, of))) old;
     }
 
@@ -287,7 +290,7 @@ module _ (scheme : Scheme) (words : Tables) (since : ℕ → ℕ → ℕ) (satps
   none_seen = record {
     each = tt;
     live = λ hart x norm l goes. absurd goes;
-    kept = λ hart x n norm a. let m = any_member _ left a in absurd m.has.2;
+    kept = λ hart x n norm dead a. let m = any_member _ left a in absurd m.has.2;
   }
 
   pub one_more : (addresses : List ℕ) (address : ℕ) (old new : List LastLive) → SeenIn scheme words since satps left drops now addresses old → AddedBy scheme words since satps left drops now address old new
@@ -298,12 +301,12 @@ module _ (scheme : Scheme) (words : Tables) (since : ℕ → ℕ → ℕ) (satps
       | inl before ↦ added.still hart x now (seen.live hart x norm l before)
       | inr this ↦ added.live hart x norm l this
     ];
-    kept = λ hart x n norm a.
+    kept = λ hart x n norm dead a.
         let m = any_member (λ l. (l.left ≡ n) × IsLeftHeld scheme words since drops l hart x × PassesAny scheme words l.space.root (addresses ++ address ∷ []) x.entry) left a in
         elim (any-more scheme words m.one.space.root addresses address x.entry m.has.2) [
-          | inl before ↦ added.still hart x n (seen.kept hart x n norm
+          | inl before ↦ added.still hart x n (seen.kept hart x n norm dead
               (m.among (λ l. (l.left ≡ n) × IsLeftHeld scheme words since drops l hart x × PassesAny scheme words l.space.root addresses x.entry) (m.has.0, m.has.1, before)))
-          | inr this ↦ added.kept hart x n norm
+          | inr this ↦ added.kept hart x n norm dead
               (m.among (λ l. (l.left ≡ n) × IsLeftHeld scheme words since drops l hart x × Passes scheme words l.space.root (page_number address) (index_of address) x.entry.page) (m.has.0, m.has.1, this))
         ];
   }

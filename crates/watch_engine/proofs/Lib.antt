@@ -23,3 +23,4 @@ pub mod OnePage
 pub mod WarningTests
 pub mod WarnedPages
 pub mod WarningAnswers
+pub mod Asked

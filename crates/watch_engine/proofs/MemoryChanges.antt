@@ -26,7 +26,7 @@ use Rattle.watch_engine.proofs.Changes.{PassesIn, Stays, since_stays, stays_or_p
 use Rattle.watch_engine.proofs.Leaving.{any_member, any_out, any_with}
 use Rattle.watch_engine.proofs.Lists.{KeepsKey}
 use Rattle.watch_engine.proofs.Remembering.{listed_known, remembered_are}
-use Rattle.watch_engine.proofs.Standings.{all_good, current_of, to_live}
+use Rattle.watch_engine.proofs.Standings.{all_good, current_of, live_as, to_live}
 use Rattle.watch_engine.proofs.Steps.{After, held-on, step}
 
 module _ {scheme : Scheme} {trace : Trace} {words : Tables} {since : ℕ → ℕ → ℕ} {satps : List (Option Space)} {roots : List ℕ} {held : List Held} {left : List Left} {drops : List PastFence} {fences : List OpenFence} {claims : List OpenClaim} {count : ℕ}
@@ -112,8 +112,8 @@ module _ {scheme : Scheme} {trace : Trace} {words : Tables} {since : ℕ → ℕ
             | inr passes ↦ inl (subst (λ n. knows hart x n now ≡ true) at.records (listed_known hart x count seen held (all.live hart x norm l (is.goes l.of.root x.entry l.leaf passes))))
           ]
 
-      left-still : (hart : ℕ) (x : Translation) (n : ℕ) → IsNormalized x → Old hart x n → (knows hart x n now ≡ true) ⊎ New hart x n
-      left-still hart x n norm old =
+      left-still : (hart : ℕ) (x : Translation) (n : ℕ) → IsNormalized x → Old hart x n → is_live scheme trace hart x ≡ false → (knows hart x n now ≡ true) ⊎ New hart x n
+      left-still hart x n norm old not_live =
           let m = any_member (λ l. Held_in words since hart x n l × IsLeftWithin trace drops l) left (any_with (Held_in words since hart x n) (IsLeftWithin trace drops) left at.leaving old) in
           let h = m.has.0.1 in
           elim (stays_or_passes scheme words new is_in is.agree m.one.space.root x.entry h.leaf) [
@@ -130,7 +130,7 @@ module _ {scheme : Scheme} {trace : Trace} {words : Tables} {since : ℕ → ℕ
                 ) in
                 inr (is.into (Held_in new ages hart x n) (m.among (λ l. Held_in new ages hart x n l × IsTrue (is_root (newest ∷ trace) l.space.root)) (there, is.root_stays m.one.space.root x.entry m.has.1.root stays)))
             | inr passes ↦
-                inl (listed_known hart x n seen held (all.kept hart x n norm
+                inl (listed_known hart x n seen held (all.kept hart x n norm (live_as at hart x ∙ not_live)
                 (m.among (λ l. (l.left ≡ n) × IsLeftHeld scheme words since drops l hart x × Goes l.space.root x.entry) (m.has.0.0, h, is.goes m.one.space.root x.entry h.leaf passes))))
           ]
 
@@ -140,7 +140,7 @@ module _ {scheme : Scheme} {trace : Trace} {words : Tables} {since : ℕ → ℕ
             keeps = keeps;
             left = λ hart x n l. (left-before hart x n l, is.none hart x, left-current hart x n l);
             live = live-known;
-            stays = λ hart x n norm old last dead none. left-still hart x n norm old;
+            stays = λ hart x n norm old not_live last dead none. left-still hart x n norm old not_live;
             kept = λ i known t. held-on scheme newest trace i.hart (translation_of i) known.held (is.none i.hart (translation_of i));
             dropped = λ i known last t dead. absurd (gone i t dead);
             after = λ i known h. after i known;

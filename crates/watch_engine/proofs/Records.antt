@@ -147,7 +147,7 @@ module _ (scheme : Scheme) (trace : Trace) where
           keeps = keeps;
           left = λ hart x n l. (l, is.keeps hart x, is.current x ∙ (are.left hart x n l).current);
           live = λ hart x norm live dead. absurd (true≢false (sym live ∙ (sym (is.live hart x) ∙ dead)));
-          stays = λ hart x n norm l last dead none. inr l;
+          stays = λ hart x n norm l not_live last dead none. inr l;
           kept = λ i known t. held-on scheme newest trace i.hart (translation_of i) known.held (is.keeps i.hart (translation_of i));
           dropped = λ i known last t dead. absurd (true≢false t);
           after = λ i known h. after i known;
@@ -233,7 +233,7 @@ module _ (scheme : Scheme) (trace : Trace) where
           keeps = same_keeps;
           left = λ hart x n l. let t = takes hart x n l in (t.0, t.1, (are.left hart x n t.0).current);
           live = λ hart x norm live dead. absurd (true≢false (sym live ∙ dead));
-          stays = λ hart x n norm l last dead none. inr (keeps hart x n l last none);
+          stays = λ hart x n norm l not_live last dead none. inr (keeps hart x n l last none);
           kept = λ i known t. held-on scheme newest trace i.hart (translation_of i) known.held (not-true ((by == i.hart) && is_fenced scheme rs1 rs2 i.entry) t);
           dropped = λ i known last t dead. not-false ((by == i.hart) && is_fenced scheme rs1 rs2 i.entry) t;
           after = λ i known h. quiet newest i refl known;
@@ -280,7 +280,7 @@ module _ (scheme : Scheme) (trace : Trace) where
           keeps = same_keeps;
           left = λ hart x n l. let t = takes hart x n l in (t.0, t.1, (are.left hart x n t.0).current);
           live = λ hart x norm live dead. absurd (true≢false (sym live ∙ dead));
-          stays = λ hart x n norm l last dead none. inr (keeps hart x n l last none);
+          stays = λ hart x n norm l not_live last dead none. inr (keeps hart x n l last none);
           kept = λ i known t. held-on scheme newest trace i.hart (translation_of i) known.held
               (false_from_ne_true _ (λ gone. true≢false (sym (taken_all by token found i begun known gone) ∙ not-true (is_taken_by scheme found i) t)));
           dropped = λ i known last t dead. all_taken by token found i begun last (not-false (is_taken_by scheme found i) t);

@@ -1,5 +1,5 @@
 -- What a hart that writes satp leaves.
-use Rattle.std.proofs.Common.{◌≡◌, ℕ, Bool, true, false, ◌+◌, ◌<◌, ◌⊎◌, zero, suc, Option, Some, None, List, [], ◌∷◌, ◌++◌, length, get_or, set, map, filter, IsTrue, ap, sym, ◌∙◌, subst, refl, inl, inr, arith}
+use Rattle.std.proofs.Common.{◌≡◌, ℕ, Bool, true, false, ◌+◌, ◌<◌, ◌≤◌, ◌⊎◌, zero, suc, Option, Some, None, List, [], ◌∷◌, ◌++◌, length, get_or, set, map, filter, IsTrue, ap, sym, ◌∙◌, subst, refl, inl, inr, arith}
 use Rattle.std.specs.Prelude.{◌==◌, ◌&&◌, cond, not}
 use Rattle.std.specs.List.{list_any}
 use Rattle.std.proofs.lemmas.Bool.{and_parts, cases_Bool, cases_eq, eq-eqb, eqb-true, ne_eqb, or_right, true≢false}
@@ -111,6 +111,10 @@ module _ {scheme : Scheme} {trace : Trace} {words : Tables} {since : ℕ → ℕ
   left_pushed by old is n long now are =
       subst (λ (ls : List Left). Stands scheme trace words since satps roots held ls drops fences claims count) (sym (are ∙ (λ j. with_left by old count (long j) left))) (pushed-at by old is)
 
+  pub other_satps : (these : List (Option Space)) → length these ≤ 256 → ((hart : ℕ) → get_or these hart None ≡ get_or satps hart None) → Stands scheme trace words since these roots held left drops fences claims count
+  other_satps these small same =
+      record { memory = at.memory; ages = at.ages; harts = small; satp = λ hart. same hart ∙ at.satp hart; spaces = at.spaces; leaving = at.leaving; are = at.are; fence = at.fence; claim = at.claim; records = at.records }
+
   pub other_roots : (these : List ℕ) → these ≡ roots → Stands scheme trace words since satps these held left drops fences claims count
   other_roots these is = record { memory = at.memory; ages = at.ages; harts = at.harts; satp = at.satp; spaces = subst (AreRoots trace) (sym is) at.spaces; leaving = at.leaving; are = at.are; fence = at.fence; claim = at.claim; records = at.records }
 
@@ -189,7 +193,7 @@ module _ {scheme : Scheme} {trace : Trace} {words : Tables} {since : ℕ → ℕ
         keeps = keeps;
         left = λ hart x n l. let old = before hart x n l in (old, refl, current hart x n old);
         live = live-left;
-        stays = λ hart x n norm old last dead none. inr (still hart x n old dead);
+        stays = λ hart x n norm old not_live last dead none. inr (still hart x n old dead);
         kept = λ i known t. held-on scheme newest trace i.hart (translation_of i) known.held refl;
         dropped = λ i known last t dead. absurd (true≢false t);
         after = λ i known h. after i known;
@@ -214,10 +218,9 @@ module _ {scheme : Scheme} {trace : Trace} {words : Tables} {since : ℕ → ℕ
   entered-held false unchanged now is =
       subst (AreHeld scheme (newest ∷ trace) New) (map_same held ∙ sym is) (entered-are same same_keeps (quiet-after-satp (unchanged refl)))
 
-  pub satp_stands : by < 256 → (changed : Bool) → (changed ≡ false → these ≡ roots) → (now : List Held) → now ≡ cond changed (map settle held) held → (stayed : List Left) → stayed ≡ kept → (written : List (Option Space)) → written ≡ set satps by space
+  pub satp_stands : by < length satps → (changed : Bool) → (changed ≡ false → these ≡ roots) → (now : List Held) → now ≡ cond changed (map settle held) held → (stayed : List Left) → stayed ≡ kept → (written : List (Option Space)) → written ≡ set satps by space
       → Stands scheme (newest ∷ trace) words since written these now stayed drops fences claims (count + 1)
-  satp_stands small changed unchanged now is stayed stay written put =
-      let within : by < length satps = let h = at.harts in omega arith in
+  satp_stands within changed unchanged now is stayed stay written put =
       let satp : (hart : ℕ) → get_or (set satps by space) hart None ≡ cond (by == hart) space (satp_of trace hart) =
       λ hart. elim (cases_eq by hart) [
         | inl mine ↦ subst (λ h. get_or (set satps by space) h None ≡ cond (by == h) space (satp_of trace h)) mine (set-here satps by space within ∙ sym (ap (λ b. cond b space (satp_of trace by)) (eq-eqb by by refl)))
@@ -226,7 +229,7 @@ module _ {scheme : Scheme} {trace : Trace} {words : Tables} {since : ℕ → ℕ
       record {
         memory = at.memory;
         ages = record { within = λ t i filled. let old = at.ages.within t i filled in omega arith };
-        harts = ap length put ∙ (set-length satps by space ∙ at.harts);
+        harts = subst (λ n. n ≤ 256) (sym (ap (λ (ss : List (Option Space)). length ss) put ∙ set-length satps by space)) at.harts;
         satp = λ hart. ap (λ ss. get_or ss hart None) put ∙ satp hart;
         spaces = spaces;
         leaving = subst (EachLeft (IsLeftWithin (newest ∷ trace) drops)) (sym stay)

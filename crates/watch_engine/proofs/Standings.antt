@@ -12,7 +12,7 @@ use Rattle.watch.specs.declared.trace.Record.{Record}
 use Rattle.watch.specs.declared.trace.Space.{Space}
 use Rattle.watch.specs.Trace.{Trace, is_root, satp_of, words_of}
 use Rattle.watch.specs.Holding.{BelongsTo, HasLeaf, Translation}
-use Rattle.watch.specs.ComputedTraces.{is_current, is_live}
+use Rattle.watch.specs.ComputedTraces.{is_current, is_live, is_live_in}
 use Rattle.watch.proofs.ComputedTraces.{current_iff, live_iff}
 use Rattle.watch.proofs.GlobalTests.{live-is_current, live-is_held}
 use Rattle.watch.proofs.Roots.{leaf-current, space-counts}
@@ -75,6 +75,9 @@ module _ {scheme : Scheme} {trace : Trace} {words : Tables} {since : ℕ → ℕ
         leaf = subst (λ w. HasLeaf scheme w l.space.root x.entry) (sym at.memory) l.leaf;
       }
 
+  pub live_as : (hart : ℕ) (x : Translation) → is_live_in scheme words (get_or satps hart None) x ≡ is_live scheme trace hart x
+  live_as hart x = λ j. is_live_in scheme (at.memory j) (at.satp hart j) x
+
   -- what is live is held from now
   pub live_from : (hart : ℕ) (x : Translation) (n : ℕ) → is_live scheme trace hart x ≡ true → n ≤ length trace → IsHeldFrom scheme trace hart x n
   live_from hart x n live less = record {
@@ -134,21 +137,13 @@ module _ {scheme : Scheme} {trace : Trace} {words : Tables} {since : ℕ → ℕ
   }
 
 -- nothing is seen yet
-abbrev no_space : Option Space
-no_space = None
-
-none-at : (n h : ℕ) → get_or (replicate n no_space) h None ≡ None
-none-at zero h = refl
-none-at (suc n) zero = refl
-none-at (suc n) (suc h) = none-at n h
-
-pub new_stands : (scheme : Scheme) (words : Tables) (since : ℕ → ℕ → ℕ) (roots : List ℕ) (held : List Held) (left : List Left) (drops : List PastFence) (fences : List OpenFence) (claims : List OpenClaim) → words ≡ words_of [] → roots ≡ [] → held ≡ [] → left ≡ [] → fences ≡ [] → claims ≡ []
-    → Stands scheme [] words since (replicate 256 no_space) roots held left drops fences claims 0
-new_stands scheme words since roots held left drops fences claims memory none-roots none-held none-left none-fences none-claims = record {
+pub new_stands : (scheme : Scheme) (words : Tables) (since : ℕ → ℕ → ℕ) (satps : List (Option Space)) (roots : List ℕ) (held : List Held) (left : List Left) (drops : List PastFence) (fences : List OpenFence) (claims : List OpenClaim) → words ≡ words_of [] → satps ≡ [] → roots ≡ [] → held ≡ [] → left ≡ [] → fences ≡ [] → claims ≡ []
+    → Stands scheme [] words since satps roots held left drops fences claims 0
+new_stands scheme words since satps roots held left drops fences claims memory none-satps none-roots none-held none-left none-fences none-claims = record {
   memory = memory;
   ages = record { within = λ t i filled. absurd (filled (λ j. memory j t i)) };
-  harts = refl;
-  satp = λ hart. none-at 256 hart;
+  harts = subst (λ (ss : List (Option Space)). length ss ≤ 256) (sym none-satps) (omega arith);
+  satp = λ hart. ap (λ (ss : List (Option Space)). get_or ss hart None) none-satps;
   spaces = subst (AreRoots []) (sym none-roots) (λ root. refl);
   leaving = subst (EachLeft (IsLeftWithin [] drops)) (sym none-left) tt;
   are = subst (λ (h : List Held). AreHeld scheme [] (IsLeftAt scheme words since drops left) h) (sym none-held)

@@ -74,7 +74,7 @@ module _ (scheme : Scheme) (newest : Record) (trace : Trace) where
     pub keeps : KeepsKey f
     pub left : (hart : ℕ) (x : Translation) (n : ℕ) → New hart x n → Old hart x n × (is_dropped scheme newest trace hart x ≡ false) × (is_current scheme (newest ∷ trace) x ≡ true)
     pub live : (hart : ℕ) (x : Translation) → IsNormalized x → is_live scheme trace hart x ≡ true → LiveAfter hart x ≡ false → (knows hart x (length trace) held ≡ true) ⊎ New hart x (length trace)
-    pub stays : (hart : ℕ) (x : Translation) (n : ℕ) → IsNormalized x → Old hart x n → last_live_of scheme trace hart x ≤ n → LiveAfter hart x ≡ false → is_dropped scheme newest trace hart x ≡ false → (knows hart x n held ≡ true) ⊎ New hart x n
+    pub stays : (hart : ℕ) (x : Translation) (n : ℕ) → IsNormalized x → Old hart x n → is_live scheme trace hart x ≡ false → last_live_of scheme trace hart x ≤ n → LiveAfter hart x ≡ false → is_dropped scheme newest trace hart x ≡ false → (knows hart x n held ≡ true) ⊎ New hart x n
     pub kept : (i : Held) → IsKnown scheme trace i → p i ≡ true → is_held scheme (newest ∷ trace) i.hart (translation_of i) ≡ true
     pub dropped : (i : Held) → IsKnown scheme trace i → last_live_of scheme trace i.hart (translation_of i) ≤ i.last_live → p i ≡ false → LiveAfter i.hart (translation_of i) ≡ false → is_dropped scheme newest trace i.hart (translation_of i) ≡ true
     pub after : (i : Held) → IsKnown scheme trace i → is_held scheme (newest ∷ trace) i.hart (translation_of i) ≡ true → f i ≡ After i
@@ -136,7 +136,7 @@ module _ (scheme : Scheme) (newest : Record) (trace : Trace) where
                 | inl live ↦ subst (λ n. (knows hart x n held ≡ true) ⊎ New hart x n) (sym (live_now scheme trace hart x live)) (leaves.live hart x norm live dead)
                 | inr not_live ↦ elim (are.all hart x norm was.0 not_live) [
                   | inl known ↦ inl known
-                  | inr old ↦ leaves.stays hart x last norm old (omega arith) dead was.1
+                  | inr old ↦ leaves.stays hart x last norm old not_live (omega arith) dead was.1
                 ]
               ]));
         }

@@ -1,7 +1,7 @@
 -- What is remembered of leaves before a word on their paths changes: whom they are live for, and who
 -- may hold them since it left their space.
 use Rattle.std.specs.Prelude.{ℕ, Bool, not, ◌≡◌, ◌+◌, ◌⊎◌, ◌==◌, ◌&&◌, nat_le, if◌then◌else◌}
-use Rattle.std.specs.Prelude.{List, [], ◌∷◌, ◌++◌, Option, None, Some, get_or, true}
+use Rattle.std.specs.Prelude.{List, [], ◌∷◌, ◌++◌, Option, None, Some, false, get_or, true}
 use Rattle.pte.specs.declared.scheme.Scheme.{Scheme}
 use Rattle.walk.specs.Leads.{Tables}
 use Rattle.tlb.specs.declared.store.Entry.{Entry}
@@ -9,6 +9,7 @@ use Rattle.watch.specs.declared.trace.Space.{Space}
 use Rattle.walk.specs.Maps.{page_number}
 use Rattle.watch.specs.Trace.{index_of}
 use Rattle.watch.specs.Holding.{BelongsTo, HasLeaf, Translation}
+use Rattle.watch.specs.ComputedTraces.{is_live_in}
 use Rattle.watch_engine.specs.declared.held.LastLive.{LastLive}
 use Rattle.watch_engine.specs.declared.left.Left.{Left}
 use Rattle.watch_engine.specs.declared.left.PastFence.{PastFence}
@@ -28,29 +29,32 @@ with_live now leaf hart [] seen = seen
 with_live now leaf hart (s ∷ satps) seen =
     with_live now leaf (hart + 1) satps (seen ++ live_for now leaf hart s)
 
--- the leaf, if the hart may hold it since it left the space
-abbrev pub is_kept : Scheme → List PastFence → RootLeaf → Left → Bool
-is_kept scheme drops leaf l =
+-- the leaf, as the hart had it last in the space that it left
+abbrev pub last_of : RootLeaf → Left → LastLive
+last_of leaf l = last_live_in l.hart l.space leaf.entry l.left
+
+-- the leaf, if the hart may hold it since it left the space, and cannot fill it now
+abbrev pub is_kept : Scheme → Tables → List (Option Space) → List PastFence → RootLeaf → Left → Bool
+is_kept scheme words satps drops leaf l =
     (l.space.root == leaf.root)
     && (nat_le leaf.since l.left
-    && not (is_taken_since scheme drops l (last_live_in l.hart l.space leaf.entry l.left).entry))
+    && (not (is_live_in scheme words (get_or satps l.hart None) (last_translation (last_of leaf l)))
+    && not (is_taken_since scheme drops l (last_of leaf l).entry)))
 
-abbrev pub kept_for : Scheme → List PastFence → RootLeaf → Left → List LastLive
-kept_for scheme drops leaf l =
-    if is_kept scheme drops leaf l
-    then last_live_in l.hart l.space leaf.entry l.left ∷ []
-    else []
+abbrev pub kept_for : Scheme → Tables → List (Option Space) → List PastFence → RootLeaf → Left → List LastLive
+kept_for scheme words satps drops leaf l =
+    if is_kept scheme words satps drops leaf l then last_of leaf l ∷ [] else []
 
-abbrev pub with_kept : Scheme → List PastFence → RootLeaf → List Left → List LastLive → List LastLive
-with_kept scheme drops leaf [] seen = seen
-with_kept scheme drops leaf (l ∷ left) seen =
-    with_kept scheme drops leaf left (seen ++ kept_for scheme drops leaf l)
+abbrev pub with_kept : Scheme → Tables → List (Option Space) → List PastFence → RootLeaf → List Left → List LastLive → List LastLive
+with_kept scheme words satps drops leaf [] seen = seen
+with_kept scheme words satps drops leaf (l ∷ left) seen =
+    with_kept scheme words satps drops leaf left (seen ++ kept_for scheme words satps drops leaf l)
 
-abbrev pub with_leaves : Scheme → ℕ → List (Option Space) → List Left → List PastFence → List RootLeaf → List LastLive → List LastLive
-with_leaves scheme now satps left drops [] seen = seen
-with_leaves scheme now satps left drops (leaf ∷ leaves) seen =
-    with_leaves scheme now satps left drops leaves
-    (with_kept scheme drops leaf left (with_live now leaf 0 satps seen))
+abbrev pub with_leaves : Scheme → Tables → ℕ → List (Option Space) → List Left → List PastFence → List RootLeaf → List LastLive → List LastLive
+with_leaves scheme words now satps left drops [] seen = seen
+with_leaves scheme words now satps left drops (leaf ∷ leaves) seen =
+    with_leaves scheme words now satps left drops leaves
+    (with_kept scheme words satps drops leaf left (with_live now leaf 0 satps seen))
 
 abbrev pub EachSeen : (LastLive → Type 0) → List LastLive → Type 0
 EachSeen P [] = Unit {0}
@@ -69,7 +73,8 @@ IsSeen scheme words since satps left drops now s =
     (IsLiveIn scheme words (get_or satps s.hart None) (last_translation s) × (s.last_live ≡ now))
     ⊎ IsLeftAt scheme words since drops left s.hart (last_translation s) s.last_live
 
--- each of these is so, and all are there of which the root and the entry have the property
+-- each of these is so, and all are there of which the root and the entry have the property: what is
+-- live, and what is not and was left
 pub record AreSeen (scheme : Scheme) (words : Tables) (since : ℕ → ℕ → ℕ)
     (satps : List (Option Space)) (left : List Left) (drops : List PastFence) (now : ℕ)
     (Goes : ℕ → Entry → Type 0) (seen : List LastLive) : Type 0 where
@@ -80,6 +85,7 @@ pub record AreSeen (scheme : Scheme) (words : Tables) (since : ℕ → ℕ → �
       → is_listed hart x now seen ≡ true
   pub kept :
       (hart : ℕ) (x : Translation) (n : ℕ) → IsNormalized x
+      → is_live_in scheme words (get_or satps hart None) x ≡ false
       → AnyLeft (λ l. (l.left ≡ n) × IsLeftHeld scheme words since drops l hart x × Goes l.space.root x.entry) left
       → is_listed hart x n seen ≡ true
 
@@ -99,6 +105,7 @@ pub record AreAdded (scheme : Scheme) (words : Tables) (since : ℕ → ℕ → 
       → is_listed hart x now new ≡ true
   pub kept :
       (hart : ℕ) (x : Translation) (n : ℕ) → IsNormalized x
+      → is_live_in scheme words (get_or satps hart None) x ≡ false
       → AnyLeft (λ l. (l.left ≡ n) × IsLeftHeld scheme words since drops l hart x × Goes l.space.root x.entry) left
       → is_listed hart x n new ≡ true
 

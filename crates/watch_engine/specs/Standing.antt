@@ -38,7 +38,7 @@ pub record Stands (scheme : Scheme) (trace : Trace) (words : Tables) (since : �
     (count : ℕ) : Type 0 where
   pub memory : words ≡ words_of trace
   pub ages : AreSince trace words since
-  pub harts : length satps ≡ hart_limit
+  pub harts : length satps ≤ hart_limit
   pub satp : (hart : ℕ) → get_or satps hart None ≡ satp_of trace hart
   pub spaces : AreRoots trace roots
   pub leaving : EachLeft (IsLeftWithin trace drops) left

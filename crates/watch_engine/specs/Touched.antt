@@ -4,7 +4,7 @@ use Rattle.std.specs.Prelude.{ℕ, Bool, not, ◌+◌, ◌*◌, ◌==◌, ◌&&�
 use Rattle.std.specs.List.{list_any}
 use Rattle.pte.specs.declared.scheme.Scheme.{Scheme}
 use Rattle.pte.specs.declared.address.TheConstants.{TABLE_LENGTH}
-use Rattle.pte.specs.Address.{Span, level_of, top_level}
+use Rattle.pte.specs.Address.{Span, level_of, top_level, vpn_of}
 use Rattle.walk.specs.Leads.{Tables}
 use Rattle.watch.specs.declared.trace.Space.{Space}
 use Rattle.watch.specs.ComputedTraces.{is_live_in}
@@ -19,6 +19,13 @@ is_below scheme index page way =
     nat_le way.level (top_level scheme)
     && (nat_le (level_of page.size) way.level
     && (vpn_from scheme way.level page.base == way.vpn * TABLE_LENGTH + index))
+
+-- on the path of the page, the word at this index is asked for in a table of some level
+abbrev pub asks : Span → ℕ → Bool
+asks page index =
+    (vpn_of page.base 0 == index)
+    || ((vpn_of page.base 1 == index)
+    || ((vpn_of page.base 2 == index) || (vpn_of page.base 3 == index)))
 
 abbrev pub is_touched_on : Scheme → ℕ → Translation → Way → Bool
 is_touched_on scheme index x way =

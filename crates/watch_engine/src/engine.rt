@@ -13,6 +13,7 @@ use crate::left::{Left, PastFence, add_ended, add_fence, add_left, drop_left, dr
 use crate::list::{drop_fenced, drop_remote, mark, remember_all, settle_where};
 use crate::open::{OpenClaim, OpenFence, end_claim, end_fence, newest_claim, newest_fence};
 use crate::roots::{add_root, drop_roots};
+use crate::satps::{Satps, satp_in};
 use crate::seen::{add_seen, add_seen_in};
 use crate::tables::Tables;
 use crate::touched::{drop_live, settle_touched};
@@ -21,9 +22,6 @@ use pte::Scheme;
 use std::alloc::{AllocError, Global};
 use thiserror::Error;
 use watch::{Claim, Frames, Record, RemoteFence, Space};
-
-/// How many harts a record can name.
-const HARTS: usize = 256;
 
 /// Why a record is not taken: nothing has changed.
 #[derive(Clone, Copy, PartialEq, Eq, Debug, Error)]
@@ -53,7 +51,7 @@ pub struct Watch<T: Tables> {
     alloc: Global,
     scheme: Scheme,
     tables: T,
-    satps: [Option<Space>; HARTS],
+    satps: Satps,
     roots: Vec<u64>,
     held: Vec<Held>,
     left: Vec<Left>,
@@ -82,7 +80,7 @@ impl<T: Tables> Watch<T> {
             alloc,
             scheme,
             tables,
-            satps: [None; HARTS],
+            satps: Satps::new(alloc),
             roots: Vec::new(alloc),
             held: Vec::new(alloc),
             left: Vec::new(alloc),
@@ -95,9 +93,9 @@ impl<T: Tables> Watch<T> {
 
     // What is in the satp of a hart.
     fn satp(&self, hart: u8) -> Option<Space>
-        ensures { result ≡ get_or self.now.satps hart None }
+        ensures { result ≡ get_or self.now.satps.spaces.items hart None }
     {
-        self.satps[hart as usize]
+        satp_in(self.satps.spaces(), hart)
     }
 
     // A word is stored.
@@ -114,7 +112,7 @@ impl<T: Tables> Watch<T> {
             self.alloc,
             &self.tables,
             self.scheme,
-            &self.satps,
+            self.satps.spaces(),
             self.left.as_slice(),
             self.drops.as_slice(),
             address,
@@ -128,7 +126,7 @@ impl<T: Tables> Watch<T> {
             &mut self.held,
             &self.tables,
             self.scheme,
-            &self.satps,
+            self.satps.spaces(),
             address,
             ways.as_slice(),
         );
@@ -153,12 +151,13 @@ impl<T: Tables> Watch<T> {
         ensures err { (trace : Trace) → Follows T.words T.since trace self.old
             → OnErr result (Follows T.words T.since trace self.new) }
     {
+        self.satps.add_hart(hart)?;
         let old = self.satp(hart);
         let fences = self.drops.as_slice().len();
         add_left(&mut self.left, hart, old, self.count, fences)?;
         let is_new = add_root(&mut self.roots, space)?;
         drop_left(&mut self.left, hart, space);
-        self.satps[hart as usize] = space;
+        self.satps.write(hart, space);
         self.count += 1;
         settle_where(
             is_new,
@@ -263,7 +262,7 @@ impl<T: Tables> Watch<T> {
             self.alloc,
             &self.tables,
             self.scheme,
-            &self.satps,
+            self.satps.spaces(),
             self.left.as_slice(),
             self.drops.as_slice(),
             addresses.as_slice(),
@@ -273,7 +272,7 @@ impl<T: Tables> Watch<T> {
         remember_all(&mut self.held, seen.as_slice())?;
         mark(&mut self.held, &cause);
         self.tables.clear(frames);
-        let keeps = drop_roots(&mut self.roots, frames, &self.satps);
+        let keeps = drop_roots(&mut self.roots, frames, self.satps.spaces());
         drop_rootless(&mut self.left, self.roots.as_slice());
         self.count += 1;
         settle_where(

@@ -4,12 +4,14 @@ ghost use Rattle.std.specs.Prelude.{ℕ, ◌≡◌, ◌≤◌, ◌++◌, [], IfO
 ghost use Rattle.walk.specs.Maps.{page_number};
 ghost use Rattle.watch.specs.Trace.{index_of};
 ghost use Rattle.tlb.specs.declared.store.Entry.{Entry as EntryOf};
-ghost use Rattle.watch_engine.specs.Seen.{AreAdded, AreSeen, PassesAny, is_kept, kept_for, live_for, with_kept, with_leaves, with_live};
+ghost use Rattle.watch_engine.specs.Seen.{AreAdded, AreSeen, PassesAny, is_kept, kept_for, last_of, live_for, with_kept, with_leaves, with_live};
 ghost use Rattle.watch_tables.specs.Through.{Passes};
 ghost use Rattle.watch_tables.specs.Ways.{AreWays};
 
 use crate::held::LastLive;
 use crate::left::{Left, PastFence, is_taken_since};
+use crate::live::is_live_in;
+use crate::satps::satp_in;
 use crate::tables::Tables;
 use pte::Scheme;
 use std::alloc::{AllocError, Global};
@@ -51,53 +53,75 @@ fn add_live_for_each(
     Ok(())
 }
 
-fn is_kept(scheme: Scheme, drops: &[PastFence], leaf: &RootLeaf, left: &Left) -> bool
-    ensures { result ≡ is_kept scheme drops.now leaf.now left.now }
+// The leaf, as the hart had it last in the space that it left.
+fn last_of(leaf: &RootLeaf, left: &Left) -> LastLive
+    ensures { result ≡ last_of leaf.now left.now }
+{
+    LastLive::of_leaf(left.hart, left.space, &leaf.entry, left.left)
+}
+
+// The hart may hold the leaf since it left the space, and cannot fill it now.
+fn is_kept<T: Tables>(
+    tables: &T,
+    scheme: Scheme,
+    satps: &[Option<Space>],
+    drops: &[PastFence],
+    leaf: &RootLeaf,
+    left: &Left,
+) -> bool
+    ensures { result ≡ is_kept scheme (T.words tables.now) satps.now drops.now leaf.now left.now }
 {
     if left.space.root != leaf.root || leaf.since > left.left {
         return false;
     }
-    let last = LastLive::of_leaf(left.hart, left.space, &leaf.entry, left.left);
-    !is_taken_since(scheme, drops, left, &last.entry)
+    let last = last_of(leaf, left);
+    let space = satp_in(satps, left.hart);
+    !is_live_in(tables, scheme, space, last.root, &last.entry)
+        && !is_taken_since(scheme, drops, left, &last.entry)
 }
 
 // Adds the leaf, if the hart may hold it since it left the space.
-fn add_kept(
+fn add_kept<T: Tables>(
     seen: &mut Vec<LastLive>,
+    tables: &T,
     scheme: Scheme,
+    satps: &[Option<Space>],
     drops: &[PastFence],
     leaf: &RootLeaf,
     left: &Left,
 ) -> Result<(), AllocError>
-    ensures { OnOk result (seen.new.items
-        ≡ seen.old.items ++ kept_for scheme drops.now leaf.now left.now) }
+    ensures { OnOk result (seen.new.items ≡ seen.old.items
+        ++ kept_for scheme (T.words tables.now) satps.now drops.now leaf.now left.now) }
 {
-    if is_kept(scheme, drops, leaf, left) {
-        seen.push(LastLive::of_leaf(left.hart, left.space, &leaf.entry, left.left))?;
+    if is_kept(tables, scheme, satps, drops, leaf, left) {
+        seen.push(last_of(leaf, left))?;
     }
     Ok(())
 }
 
 // Adds the leaf for each hart that may hold it since it left a space.
-fn add_kept_for_each(
+fn add_kept_for_each<T: Tables>(
     seen: &mut Vec<LastLive>,
+    tables: &T,
     scheme: Scheme,
+    satps: &[Option<Space>],
     drops: &[PastFence],
     leaf: &RootLeaf,
     left: &[Left],
 ) -> Result<(), AllocError>
-    ensures { OnOk result (seen.new.items
-        ≡ with_kept scheme drops.now leaf.now left.now seen.old.items) }
+    ensures { OnOk result (seen.new.items ≡ with_kept scheme (T.words tables.now) satps.now
+        drops.now leaf.now left.now seen.old.items) }
 {
     for space in left {
-        add_kept(seen, scheme, drops, leaf, space)?;
+        add_kept(seen, tables, scheme, satps, drops, leaf, space)?;
     }
     Ok(())
 }
 
 // Adds the leaves for each hart that they are live for, or that may hold them since it left a space.
-fn add_leaves(
+fn add_leaves<T: Tables>(
     seen: &mut Vec<LastLive>,
+    tables: &T,
     scheme: Scheme,
     satps: &[Option<Space>],
     left: &[Left],
@@ -106,12 +130,12 @@ fn add_leaves(
     count: u64,
 ) -> Result<(), AllocError>
     requires { length satps.now ≤ 256 }
-    ensures { OnOk result (seen.new.items
-        ≡ with_leaves scheme count satps.now left.now drops.now leaves.now seen.old.items) }
+    ensures { OnOk result (seen.new.items ≡ with_leaves scheme (T.words tables.now) count satps.now
+        left.now drops.now leaves.now seen.old.items) }
 {
     for leaf in leaves {
         add_live_for_each(seen, leaf, satps, count)?;
-        add_kept_for_each(seen, scheme, drops, leaf, left)?;
+        add_kept_for_each(seen, tables, scheme, satps, drops, leaf, left)?;
     }
     Ok(())
 }
@@ -139,7 +163,16 @@ pub(crate) fn add_seen<T: Tables>(
 {
     let ways = tables.ways(alloc, scheme, address)?;
     let leaves = tables.leaves_through(alloc, scheme, address, ways.as_slice())?;
-    add_leaves(seen, scheme, satps, left, drops, leaves.as_slice(), count)?;
+    add_leaves(
+        seen,
+        tables,
+        scheme,
+        satps,
+        left,
+        drops,
+        leaves.as_slice(),
+        count,
+    )?;
     Ok(ways)
 }
 

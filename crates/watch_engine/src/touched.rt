@@ -1,19 +1,23 @@
 //! The translations that a store to a word can concern.
 
-ghost use Rattle.std.specs.Prelude.{ℕ, ◌≡◌, filter, get_or, length, map, None};
+ghost use Rattle.std.specs.Prelude.{ℕ, ◌≡◌, filter, map};
 ghost use Rattle.std.specs.List.{list_any};
-ghost use Rattle.watch.specs.Computed.{has_leaf, is_mapped};
-ghost use Rattle.watch.specs.ComputedTraces.{belongs_to, is_live_in};
+ghost use Rattle.watch.specs.Computed.{is_mapped};
 ghost use Rattle.watch.specs.Trace.{index_of};
 ghost use Rattle.watch_engine.specs.Held.{is_current_by, translation_of};
-ghost use Rattle.watch_engine.specs.Touched.{is_below, is_kept_after, is_touched, is_touched_on, settled_if};
+ghost use Rattle.watch_engine.specs.Touched.{asks, is_below, is_kept_after, is_touched, is_touched_on, settled_if};
 
 use crate::held::Held;
+use crate::live::is_live_in;
+use crate::satps::satp_in;
 use crate::roots::is_current;
 use crate::tables::Tables;
-use pte::{Page, Scheme};
+use pte::{PAGE_BYTES, Page, Scheme};
 use watch::Space;
 use watch_tables::Way;
+
+/// How many bytes a word of a table has.
+const WORD_BYTES: u64 = 8;
 
 // The page lies below the word at the address, on the way to its table.
 fn is_below(scheme: Scheme, address: u64, page: &Page, way: &Way) -> bool
@@ -28,38 +32,28 @@ fn is_touched_on(scheme: Scheme, address: u64, way: &Way, item: &Held) -> bool
     (item.entry.global || way.root == item.root) && is_below(scheme, address, &item.entry.page, way)
 }
 
+// A table of some level asks for the word at the index, on the path of the page.
+fn asks(page: &Page, index: u16) -> bool
+    ensures { result ≡ asks page.now index }
+{
+    let va = page.base();
+    va.vpn(0) == index || va.vpn(1) == index || va.vpn(2) == index || va.vpn(3) == index
+}
+
+// Few pages ask for the word at the index of the address, and of the others nothing more is read.
 fn is_touched(scheme: Scheme, address: u64, ways: &[Way], item: &Held) -> bool
     ensures { result ≡ is_touched scheme (index_of address) ways.now (translation_of item.now) }
 {
+    let index = (address % PAGE_BYTES / WORD_BYTES) as u16;
+    if !asks(&item.entry.page, index) {
+        return false;
+    }
     for way in ways {
         if is_touched_on(scheme, address, way, item) {
             return true;
         }
     }
     false
-}
-
-fn belongs_to(space: &Space, item: &Held) -> bool
-    ensures { result ≡ belongs_to space.now (translation_of item.now) }
-{
-    item.entry.global || space.root == item.root && space.asid == item.entry.asid
-}
-
-// The tables of the root have the leaf.
-fn has_leaf<T: Tables>(tables: &T, scheme: Scheme, root: u64, item: &Held) -> bool
-    ensures { result ≡ has_leaf scheme (T.words tables.now) root item.now.entry }
-{
-    tables.has_leaf(scheme, root, &item.entry)
-}
-
-// The hart with this space in its satp can fill it now.
-fn is_live_in<T: Tables>(tables: &T, scheme: Scheme, space: &Option<Space>, item: &Held) -> bool
-    ensures { result ≡ is_live_in scheme (T.words tables.now) space.now (translation_of item.now) }
-{
-    match space {
-        None => false,
-        Some(space) => belongs_to(space, item) && has_leaf(tables, scheme, space.root, item),
-    }
 }
 
 fn is_kept_after<T: Tables>(
@@ -70,12 +64,17 @@ fn is_kept_after<T: Tables>(
     ways: &[Way],
     item: &Held,
 ) -> bool
-    requires { length satps.now ≡ 256 }
     ensures { result ≡ is_kept_after scheme (T.words tables.now) satps.now (index_of address)
         ways.now item.now }
 {
     !(is_touched(scheme, address, ways, item)
-        && is_live_in(tables, scheme, &satps[item.hart as usize], item))
+        && is_live_in(
+            tables,
+            scheme,
+            satp_in(satps, item.hart),
+            item.root,
+            &item.entry,
+        ))
 }
 
 /// Without those that can be filled again.
@@ -87,7 +86,6 @@ pub(crate) fn drop_live<T: Tables>(
     address: u64,
     ways: &[Way],
 )
-    requires { length satps.now ≡ 256 }
     ensures { held.new.items ≡ filter (is_kept_after scheme (T.words tables.now) satps.now
         (index_of address) ways.now) held.old.items }
 {

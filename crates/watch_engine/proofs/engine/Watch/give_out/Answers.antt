@@ -1,15 +1,17 @@
-use Rattle.std.proofs.Common.{◌≡◌, ◌∙◌, sym, ap, subst, List, map, filter, ◌+◌, ◌∷◌, [], ℕ, Bool}
+use Rattle.std.proofs.Common.{◌≡◌, ◌∙◌, sym, ap, subst, List, Option, map, filter, ◌+◌, ◌∷◌, [], ℕ, Bool}
 use Rattle.std.specs.Prelude.{cond}
+use Rattle.std.specs.List.{list_all}
 use Rattle.walk.specs.Leads.{Tables}
 use Rattle.watch.specs.declared.trace.Record.TheVariants as records
 use Rattle.watch.specs.declared.trace.Verdict.TheVariants.{Reuse}
+use Rattle.watch.specs.declared.trace.Space.{Space}
 use Rattle.watch.specs.Computed.{is_mapped}
 use Rattle.watch_engine.specs.declared.cause.Cause.TheVariants.{Out}
 use Rattle.watch_engine.specs.declared.held.Held.{Held}
 use Rattle.watch_engine.specs.declared.held.LastLive.{LastLive}
 use Rattle.watch_engine.specs.declared.left.Left.{Left}
 use Rattle.watch_engine.specs.declared.left.PastFence.{PastFence}
-use Rattle.watch_engine.specs.Held.{is_current_by, is_exposed_by, marked_if, remembered_all, settled, translation_of}
+use Rattle.watch_engine.specs.Held.{is_current_by, is_exposed_by, marked_if, remembered_all, settled, stays as root_stays, translation_of, without_frames}
 use Rattle.watch_engine.specs.Warnings.{AreWarnings, joined}
 use Rattle.watch_engine.specs.Left.{has_its_root}
 use Rattle.watch_engine.specs.Standing.{Stands}
@@ -29,10 +31,11 @@ returns-in_err-remember_all-clause-err g c = λ trace at.
     let left : List Left = watch.left.items in
     let drops : List PastFence = watch.drops.items in
     let addresses : List ℕ = c.in_ok-addresses.addresses.items in
-    let all = subst (SeenIn scheme words since watch.satps left drops watch.count addresses) (sym c.as_slice-5.ensures.value)
-    (subst (λ (many : List ℕ). SeenIn scheme words since watch.satps left drops watch.count many c.add_seen_in.new.seen.items) c.as_slice-4.ensures.value
-    (subst (λ (ds : List PastFence). SeenIn scheme words since watch.satps left ds watch.count c.as_slice-4.result.now c.add_seen_in.new.seen.items) c.as_slice-3.ensures.value
-    (subst (λ (ls : List Left). SeenIn scheme words since watch.satps ls c.as_slice-3.result.now watch.count c.as_slice-4.result.now c.add_seen_in.new.seen.items) c.as_slice-2.ensures.value c.in_ok-add_seen_in.ensures))) in
+    let all = subst (SeenIn scheme words since watch.satps.spaces.items left drops watch.count addresses) (sym c.as_slice-5.ensures.value)
+    (subst (λ (many : List ℕ). SeenIn scheme words since watch.satps.spaces.items left drops watch.count many c.add_seen_in.new.seen.items) c.as_slice-4.ensures.value
+    (subst (λ (ds : List PastFence). SeenIn scheme words since watch.satps.spaces.items left ds watch.count c.as_slice-4.result.now c.add_seen_in.new.seen.items) c.as_slice-3.ensures.value
+    (subst (λ (ls : List Left). SeenIn scheme words since watch.satps.spaces.items ls c.as_slice-3.result.now watch.count c.as_slice-4.result.now c.add_seen_in.new.seen.items) c.as_slice-2.ensures.value
+    (subst (λ (ss : List (Option Space)). SeenIn scheme words since ss c.as_slice-2.result.now c.as_slice-3.result.now watch.count c.as_slice-4.result.now c.add_seen_in.new.seen.items) c.spaces.ensures.value c.in_ok-add_seen_in.ensures)))) in
     let e = c.in_err-remember_all.ensures.err in
     on_err _ _ (some_remembered at seen all.each e.0 _ e.1)
 
@@ -54,10 +57,11 @@ returns-clause-ok g c = λ hart trace at.
     let left : List Left = watch.left.items in
     let drops : List PastFence = watch.drops.items in
     let addresses : List ℕ = c.in_ok-addresses.addresses.items in
-    let all = subst (SeenIn scheme words since watch.satps left drops watch.count addresses) (sym c.as_slice-5.ensures.value)
-    (subst (λ (many : List ℕ). SeenIn scheme words since watch.satps left drops watch.count many c.add_seen_in.new.seen.items) c.as_slice-4.ensures.value
-    (subst (λ (ds : List PastFence). SeenIn scheme words since watch.satps left ds watch.count c.as_slice-4.result.now c.add_seen_in.new.seen.items) c.as_slice-3.ensures.value
-    (subst (λ (ls : List Left). SeenIn scheme words since watch.satps ls c.as_slice-3.result.now watch.count c.as_slice-4.result.now c.add_seen_in.new.seen.items) c.as_slice-2.ensures.value c.in_ok-add_seen_in.ensures))) in
+    let all = subst (SeenIn scheme words since watch.satps.spaces.items left drops watch.count addresses) (sym c.as_slice-5.ensures.value)
+    (subst (λ (many : List ℕ). SeenIn scheme words since watch.satps.spaces.items left drops watch.count many c.add_seen_in.new.seen.items) c.as_slice-4.ensures.value
+    (subst (λ (ds : List PastFence). SeenIn scheme words since watch.satps.spaces.items left ds watch.count c.as_slice-4.result.now c.add_seen_in.new.seen.items) c.as_slice-3.ensures.value
+    (subst (λ (ls : List Left). SeenIn scheme words since watch.satps.spaces.items ls c.as_slice-3.result.now watch.count c.as_slice-4.result.now c.add_seen_in.new.seen.items) c.as_slice-2.ensures.value
+    (subst (λ (ss : List (Option Space)). SeenIn scheme words since ss c.as_slice-2.result.now c.as_slice-3.result.now watch.count c.as_slice-4.result.now c.add_seen_in.new.seen.items) c.spaces.ensures.value c.in_ok-add_seen_in.ensures)))) in
     let held : List Held = watch.held.items in
     let frames = c.args.frames in
     let new : Tables = g.T.Tables.words c.clear.new.self in
@@ -66,8 +70,8 @@ returns-clause-ok g c = λ hart trace at.
     let settle : List ℕ → Held → Held = λ rs i. settled (is_current_by (is_mapped scheme new) rs (translation_of i)) (watch.count + 1) i in
     let marks : c.mark.new.held.items ≡ map mark (remembered_all seen held) = c.mark.ensures ∙ ap (map mark) c.in_ok-remember_all.ensures.ok in
     let changed : Bool = c.may_differ.result in
-    subst (λ (ls : List Left). Stands scheme (records.GiveOut hart frames ∷ trace) new (g.T.Tables.since c.clear.new.self) watch.satps these c.settle_where.new.held.items ls drops watch.fences.items watch.claims.items (watch.count + 1))
+    subst (λ (ls : List Left). Stands scheme (records.GiveOut hart frames ∷ trace) new (g.T.Tables.since c.clear.new.self) watch.satps.spaces.items these c.settle_where.new.held.items ls drops watch.fences.items watch.claims.items (watch.count + 1))
     (sym (c.drop_rootless.ensures ∙ ap (λ (rs : List ℕ). filter (has_its_root rs) left) c.as_slice-6.ensures.value))
-    (frames_stand at hart frames new (g.T.Tables.since c.clear.new.self) (c.clear.ensures.words hart) c.clear.ensures.others addresses c.in_ok-addresses.ensures these c.drop_roots-keeps.ensures.roots changed
-    (λ same. (sym c.as_slice-7.ensures.value ∙ c.may_differ.ensures.words same, sym c.drop_roots-keeps.ensures.all ∙ c.may_differ.ensures.roots same)) seen all _
+    (frames_stand at hart frames new (g.T.Tables.since c.clear.new.self) (c.clear.ensures.words hart) c.clear.ensures.others addresses c.in_ok-addresses.ensures these (c.drop_roots-keeps.ensures.roots ∙ (λ j. without_frames frames (c.spaces-2.ensures.value j) watch.roots.items)) changed
+    (λ same. (sym c.as_slice-7.ensures.value ∙ c.may_differ.ensures.words same, sym (c.drop_roots-keeps.ensures.all ∙ (λ j. list_all (root_stays frames (c.spaces-2.ensures.value j)) watch.roots.items)) ∙ c.may_differ.ensures.roots same)) seen all _
     (c.settle_where.ensures ∙ (λ j. cond changed (map (settle (c.as_slice-8.ensures.value j)) (marks j)) (marks j))))

@@ -1,5 +1,6 @@
-use Rattle.std.proofs.Common.{◌≡◌, ◌∙◌, sym, subst, List, map, filter, ◌+◌, ℕ}
+use Rattle.std.proofs.Common.{◌≡◌, ◌∙◌, sym, subst, List, Option, map, filter, ◌+◌, ℕ}
 use Rattle.walk.specs.Leads.{Tables}
+use Rattle.watch.specs.declared.trace.Space.{Space}
 use Rattle.watch.specs.Trace.{index_of}
 use Rattle.watch.specs.Computed.{is_mapped}
 use Rattle.watch_engine.specs.declared.held.Held.{Held}
@@ -24,10 +25,11 @@ returns-in_err-remember_all-clause-err g c = λ trace at.
     let seen : List LastLive = c.as_slice-3.result.now in
     let left : List Left = watch.left.items in
     let drops : List PastFence = watch.drops.items in
-    let added = subst (AddedBy scheme words since watch.satps left drops watch.count c.args.address c.new-seen.result.items) (sym c.as_slice-3.ensures.value)
-    (subst (λ (ds : List PastFence). AddedBy scheme words since watch.satps left ds watch.count c.args.address c.new-seen.result.items c.add_seen.new.seen.items) c.as_slice-2.ensures.value
-    (subst (λ (ls : List Left). AddedBy scheme words since watch.satps ls c.as_slice-2.result.now watch.count c.args.address c.new-seen.result.items c.add_seen.new.seen.items) c.as_slice.ensures.value c.in_ok-ways.ensures.seen)) in
-    let all = seen_of scheme words since watch.satps left drops watch.count c.args.address c.new-seen.result.items seen c.new-seen.ensures.items added in
+    let added = subst (AddedBy scheme words since watch.satps.spaces.items left drops watch.count c.args.address c.new-seen.result.items) (sym c.as_slice-3.ensures.value)
+    (subst (λ (ds : List PastFence). AddedBy scheme words since watch.satps.spaces.items left ds watch.count c.args.address c.new-seen.result.items c.add_seen.new.seen.items) c.as_slice-2.ensures.value
+    (subst (λ (ls : List Left). AddedBy scheme words since watch.satps.spaces.items ls c.as_slice-2.result.now watch.count c.args.address c.new-seen.result.items c.add_seen.new.seen.items) c.as_slice.ensures.value
+    (subst (λ (ss : List (Option Space)). AddedBy scheme words since ss c.as_slice.result.now c.as_slice-2.result.now watch.count c.args.address c.new-seen.result.items c.add_seen.new.seen.items) c.spaces.ensures.value c.in_ok-ways.ensures.seen))) in
+    let all = seen_of scheme words since watch.satps.spaces.items left drops watch.count c.args.address c.new-seen.result.items seen c.new-seen.ensures.items added in
     let e = c.in_err-remember_all.ensures.err in
     on_err _ _ (some_remembered at seen all.each e.0 _ e.1)
 
@@ -40,14 +42,15 @@ returns-in_err-store-clause-err g c = λ trace at.
     let seen : List LastLive = c.as_slice-3.result.now in
     let left : List Left = watch.left.items in
     let drops : List PastFence = watch.drops.items in
-    let added = subst (AddedBy scheme words since watch.satps left drops watch.count c.args.address c.new-seen.result.items) (sym c.as_slice-3.ensures.value)
-    (subst (λ (ds : List PastFence). AddedBy scheme words since watch.satps left ds watch.count c.args.address c.new-seen.result.items c.add_seen.new.seen.items) c.as_slice-2.ensures.value
-    (subst (λ (ls : List Left). AddedBy scheme words since watch.satps ls c.as_slice-2.result.now watch.count c.args.address c.new-seen.result.items c.add_seen.new.seen.items) c.as_slice.ensures.value c.in_ok-ways.ensures.seen)) in
-    let all = seen_of scheme words since watch.satps left drops watch.count c.args.address c.new-seen.result.items seen c.new-seen.ensures.items added in
+    let added = subst (AddedBy scheme words since watch.satps.spaces.items left drops watch.count c.args.address c.new-seen.result.items) (sym c.as_slice-3.ensures.value)
+    (subst (λ (ds : List PastFence). AddedBy scheme words since watch.satps.spaces.items left ds watch.count c.args.address c.new-seen.result.items c.add_seen.new.seen.items) c.as_slice-2.ensures.value
+    (subst (λ (ls : List Left). AddedBy scheme words since watch.satps.spaces.items ls c.as_slice-2.result.now watch.count c.args.address c.new-seen.result.items c.add_seen.new.seen.items) c.as_slice.ensures.value
+    (subst (λ (ss : List (Option Space)). AddedBy scheme words since ss c.as_slice.result.now c.as_slice-2.result.now watch.count c.args.address c.new-seen.result.items c.add_seen.new.seen.items) c.spaces.ensures.value c.in_ok-ways.ensures.seen))) in
+    let all = seen_of scheme words since watch.satps.spaces.items left drops watch.count c.args.address c.new-seen.result.items seen c.new-seen.ensures.items added in
     let stands = all_remembered at seen all.each _ c.in_ok-remember_all.ensures.ok in
     on_err _ _
-    (subst (λ (w : Tables). Stands scheme trace w (g.T.Tables.since c.store.new.self) watch.satps watch.roots.items c.remember_all.new.held.items left drops watch.fences.items watch.claims.items watch.count) (sym c.in_err-store.ensures.err)
-    (subst (λ (s : ℕ → ℕ → ℕ). Stands scheme trace words s watch.satps watch.roots.items c.remember_all.new.held.items left drops watch.fences.items watch.claims.items watch.count) (sym c.in_err-store.ensures.err_since) stands))
+    (subst (λ (w : Tables). Stands scheme trace w (g.T.Tables.since c.store.new.self) watch.satps.spaces.items watch.roots.items c.remember_all.new.held.items left drops watch.fences.items watch.claims.items watch.count) (sym c.in_err-store.ensures.err)
+    (subst (λ (s : ℕ → ℕ → ℕ). Stands scheme trace words s watch.satps.spaces.items watch.roots.items c.remember_all.new.held.items left drops watch.fences.items watch.claims.items watch.count) (sym c.in_err-store.ensures.err_since) stands))
 
 pub returns-clause-ok : goal.returns-clause-ok
 returns-clause-ok g c = λ hart trace at.
@@ -59,16 +62,17 @@ returns-clause-ok g c = λ hart trace at.
     let left : List Left = watch.left.items in
     let drops : List PastFence = watch.drops.items in
     let held : List Held = watch.held.items in
-    let added = subst (AddedBy scheme words since watch.satps left drops watch.count c.args.address c.new-seen.result.items) (sym c.as_slice-3.ensures.value)
-    (subst (λ (ds : List PastFence). AddedBy scheme words since watch.satps left ds watch.count c.args.address c.new-seen.result.items c.add_seen.new.seen.items) c.as_slice-2.ensures.value
-    (subst (λ (ls : List Left). AddedBy scheme words since watch.satps ls c.as_slice-2.result.now watch.count c.args.address c.new-seen.result.items c.add_seen.new.seen.items) c.as_slice.ensures.value c.in_ok-ways.ensures.seen)) in
-    let all = seen_of scheme words since watch.satps left drops watch.count c.args.address c.new-seen.result.items seen c.new-seen.ensures.items added in
+    let added = subst (AddedBy scheme words since watch.satps.spaces.items left drops watch.count c.args.address c.new-seen.result.items) (sym c.as_slice-3.ensures.value)
+    (subst (λ (ds : List PastFence). AddedBy scheme words since watch.satps.spaces.items left ds watch.count c.args.address c.new-seen.result.items c.add_seen.new.seen.items) c.as_slice-2.ensures.value
+    (subst (λ (ls : List Left). AddedBy scheme words since watch.satps.spaces.items ls c.as_slice-2.result.now watch.count c.args.address c.new-seen.result.items c.add_seen.new.seen.items) c.as_slice.ensures.value
+    (subst (λ (ss : List (Option Space)). AddedBy scheme words since ss c.as_slice.result.now c.as_slice-2.result.now watch.count c.args.address c.new-seen.result.items c.add_seen.new.seen.items) c.spaces.ensures.value c.in_ok-ways.ensures.seen))) in
+    let all = seen_of scheme words since watch.satps.spaces.items left drops watch.count c.args.address c.new-seen.result.items seen c.new-seen.ensures.items added in
     let ways : List Way = c.in_ok-ways.ways.items in
     let new : Tables = g.T.Tables.words c.store.new.self in
     let index : ℕ = index_of c.args.address in
     let roots : List ℕ = watch.roots.items in
     let change : List Way → List ℕ → Held → Held = λ ws rs i. settled_if (is_touched scheme index ws (translation_of i)) (is_current_by (is_mapped scheme new) rs (translation_of i)) (watch.count + 1) i in
-    let dropped : c.drop_live.new.held.items ≡ filter (is_kept_after scheme new watch.satps index ways) (remembered_all seen held) =
-    c.drop_live.ensures ∙ (λ j. filter (is_kept_after scheme new watch.satps index (c.as_slice-4.ensures.value j)) (c.in_ok-remember_all.ensures.ok j)) in
+    let dropped : c.drop_live.new.held.items ≡ filter (is_kept_after scheme new watch.satps.spaces.items index ways) (remembered_all seen held) =
+    c.drop_live.ensures ∙ (λ j. filter (is_kept_after scheme new (c.spaces-2.ensures.value j) index (c.as_slice-4.ensures.value j)) (c.in_ok-remember_all.ensures.ok j)) in
     store_stands at hart c.args.address c.args.word new (g.T.Tables.since c.store.new.self) (c.in_ok-store.ensures.ok hart) c.in_ok-store.ensures.others c.in_ok-store.ensures.count ways c.in_ok-ways.ensures.ways seen all _
     (c.settle_touched.ensures ∙ (λ j. map (change (c.as_slice-6.ensures.value j) (c.as_slice-5.ensures.value j)) (dropped j)))
