@@ -34,9 +34,9 @@ below-asks scheme index small page way h =
     let asked : vpn_of page.base way.level ≡ index = omega arith in
     asks-at page index way.level (omega arith) asked
 
-pub untouched : (scheme : Scheme) (index : ℕ) → index < 512 → (ways : List Way) (x : Translation) → asks x.entry.page index ≡ false → is_touched scheme index ways x ≡ false
-untouched scheme index small [] x h = refl
-untouched scheme index small (way ∷ ways) x h =
-    let here : is_touched_on scheme index x way ≡ false =
-    false_from_ne_true _ (λ t. true≢false (sym (below-asks scheme index small x.entry.page way (and_parts (x.entry.global || (way.root == x.root)) _ t).1) ∙ h)) in
-    ap (λ b. b || is_touched scheme index ways x) here ∙ untouched scheme index small ways x h
+pub untouched : (scheme : Scheme) (roots : List ℕ) (index : ℕ) → index < 512 → (ways : List Way) (x : Translation) → asks x.entry.page index ≡ false → is_touched scheme roots index ways x ≡ false
+untouched scheme roots index small [] x h = refl
+untouched scheme roots index small (way ∷ ways) x h =
+    let here : is_touched_on scheme roots index x way ≡ false =
+    false_from_ne_true _ (λ t. true≢false (sym (below-asks scheme index small x.entry.page way (and_parts (is_below scheme index x.entry.page way) _ t).0) ∙ h)) in
+    ap (λ b. b || is_touched scheme roots index ways x) here ∙ untouched scheme roots index small ways x h

@@ -119,7 +119,7 @@ module _ {scheme : Scheme} {trace : Trace} {words : Tables} {since : ℕ → ℕ
   module _ (ways : List Way) (are : AreWays scheme words since (page_number address) ways) where
     -- what goes through the word is touched
     touched-by : (x : Translation) (root level table : ℕ) → IsRootFor trace x root → level_of x.entry.page.size ≤ level → is_in table (vpn_of x.entry.page.base level) ≡ true → Leads scheme words root x.entry.page.base level table (word_at words x.entry.page.base level table)
-        → is_touched scheme (index_of address) ways x ≡ true
+        → is_touched scheme roots (index_of address) ways x ≡ true
     touched-by x root level table counts from within leads =
         let here = at-place table (vpn_of x.entry.page.base level) within in
         let base : ℕ = x.entry.page.base in
@@ -130,14 +130,14 @@ module _ {scheme : Scheme} {trace : Trace} {words : Tables} {since : ℕ → ℕ
         let level_is = there.level_is in
         let top : level ≤ top_level scheme = leads.level in
         let below : is_below scheme (index_of address) x.entry.page there.way ≡ true = and_from _ _ (from_at_most there.way.level (top_level scheme) (omega arith)) (and_from _ _ (from_at_most (level_of x.entry.page.size) there.way.level (omega arith)) (eq-eqb _ _ vpn)) in
-        let of_root : (x.entry.global || (there.way.root == x.root)) ≡ true = elim counts [
-          | inl own ↦ or_right x.entry.global _ (eq-eqb _ _ (there.root_is ∙ own.1))
-          | inr g ↦ or_left _ _ g.0
+        let of_root : ((there.way.root == x.root) || (x.entry.global && list_any (λ r. r == there.way.root) roots)) ≡ true = elim counts [
+          | inl own ↦ or_left _ _ (eq-eqb _ _ (there.root_is ∙ own.1))
+          | inr g ↦ or_right (there.way.root == x.root) _ (and_from _ _ g.0 (at.spaces there.way.root ∙ (ap (is_root trace) there.root_is ∙ g.1)))
         ] in
-        way-any (is_touched_on scheme (index_of address) x) there.way ways there.among.0 there.among.1 there.among.2 (and_from _ _ of_root below)
+        way-any (is_touched_on scheme roots (index_of address) x) there.way ways there.among.0 there.among.1 there.among.2 (and_from _ _ below of_root)
 
     -- what is not touched is mapped as before
-    same-leaf : (x : Translation) (root : ℕ) (flags : PteFlags) → IsRootFor trace x root → is_touched scheme (index_of address) ways x ≡ false → HasLeaf scheme words root (record x.entry { flags = flags }) ↔ HasLeaf scheme new root (record x.entry { flags = flags })
+    same-leaf : (x : Translation) (root : ℕ) (flags : PteFlags) → IsRootFor trace x root → is_touched scheme roots (index_of address) ways x ≡ false → HasLeaf scheme words root (record x.entry { flags = flags }) ↔ HasLeaf scheme new root (record x.entry { flags = flags })
     same-leaf x root flags counts untouched = (
       (λ leaf. elim (stays_or_passes scheme words new is_in agree root (record x.entry { flags = flags }) leaf) [
         | inl stays ↦ stays.leaf
@@ -149,20 +149,20 @@ module _ {scheme : Scheme} {trace : Trace} {words : Tables} {since : ℕ → ℕ
       ]),
     )
 
-    same-mapped : (x : Translation) (root : ℕ) → IsRootFor trace x root → is_touched scheme (index_of address) ways x ≡ false → IsMapped scheme words (record x { root = root }) ↔ IsMapped scheme new (record x { root = root })
+    same-mapped : (x : Translation) (root : ℕ) → IsRootFor trace x root → is_touched scheme roots (index_of address) ways x ≡ false → IsMapped scheme words (record x { root = root }) ↔ IsMapped scheme new (record x { root = root })
     same-mapped x root counts untouched = (
       (λ m. record { flags = m.flags; permit = m.permit; leaf = (same-leaf x root m.flags counts untouched).0 m.leaf }),
       (λ m. record { flags = m.flags; permit = m.permit; leaf = (same-leaf x root m.flags counts untouched).1 m.leaf }),
     )
 
-    same-current : (x : Translation) → is_touched scheme (index_of address) ways x ≡ false → is_current scheme (newest ∷ trace) x ≡ is_current scheme trace x
+    same-current : (x : Translation) → is_touched scheme roots (index_of address) ways x ≡ false → is_current scheme (newest ∷ trace) x ≡ is_current scheme trace x
     same-current x untouched =
         current_same scheme trace (newest ∷ trace) x (λ root. refl)
         (λ root counts. subst (λ w. IsMapped scheme w (record x { root = root }) ↔ IsMapped scheme (words_of (newest ∷ trace)) (record x { root = root })) at.memory
         (subst (λ w. IsMapped scheme words (record x { root = root }) ↔ IsMapped scheme w (record x { root = root })) memory (same-mapped x root counts untouched)))
 
     abbrev change : Held → Held
-    change i = settled_if (is_touched scheme (index_of address) ways (translation_of i)) (is_current_by (is_mapped scheme new) roots (translation_of i)) (count + 1) i
+    change i = settled_if (is_touched scheme roots (index_of address) ways (translation_of i)) (is_current_by (is_mapped scheme new) roots (translation_of i)) (count + 1) i
 
     tests : (x : Translation) → is_current_by (is_mapped scheme new) roots x ≡ is_current scheme (newest ∷ trace) x
     tests x = ap (λ w. is_current_by (is_mapped scheme w) roots x) memory ∙ roots_current scheme (newest ∷ trace) roots at.spaces x
@@ -171,21 +171,21 @@ module _ {scheme : Scheme} {trace : Trace} {words : Tables} {since : ℕ → ℕ
     after i known =
         let x : Translation = translation_of i in
         let n : count + 1 ≡ length (newest ∷ trace) = more_records at newest in
-        let go : (t : Bool) → is_touched scheme (index_of address) ways x ≡ t → settled_if t (is_current_by (is_mapped scheme new) roots x) (count + 1) i ≡ After scheme newest trace i =
-        λ t. elim t as (λ t. is_touched scheme (index_of address) ways x ≡ t → settled_if t (is_current_by (is_mapped scheme new) roots x) (count + 1) i ≡ After scheme newest trace i) [
+        let go : (t : Bool) → is_touched scheme roots (index_of address) ways x ≡ t → settled_if t (is_current_by (is_mapped scheme new) roots x) (count + 1) i ≡ After scheme newest trace i =
+        λ t. elim t as (λ t. is_touched scheme roots (index_of address) ways x ≡ t → settled_if t (is_current_by (is_mapped scheme new) roots x) (count + 1) i ≡ After scheme newest trace i) [
           | true ↦ λ h. (λ j. settled (tests x j) (n j) i) ∙ settled_after scheme trace (is_current scheme (newest ∷ trace) x) (length (newest ∷ trace)) i
           | false ↦ λ h. quiet scheme trace newest i (same-current x h) known
         ] in
-        go (is_touched scheme (index_of address) ways x) refl
+        go (is_touched scheme roots (index_of address) ways x) refl
 
-    gone : (i : Held) → is_kept_after scheme new satps (index_of address) ways i ≡ false → is_live scheme (newest ∷ trace) i.hart (translation_of i) ≡ false → ⊥
+    gone : (i : Held) → is_kept_after scheme new satps roots (index_of address) ways i ≡ false → is_live scheme (newest ∷ trace) i.hart (translation_of i) ≡ false → ⊥
     gone i h dead =
         let x : Translation = translation_of i in
-        let both = not-false (is_touched scheme (index_of address) ways x && is_live_in scheme new (get_or satps i.hart None) x) h in
-        let live = (and_parts (is_touched scheme (index_of address) ways x) _ both).1 in
+        let both = not-false (is_touched scheme roots (index_of address) ways x && is_live_in scheme new (get_or satps i.hart None) x) h in
+        let live = (and_parts (is_touched scheme roots (index_of address) ways x) _ both).1 in
         true≢false (sym live ∙ ((λ j. is_live_in scheme (memory j) (at.satp i.hart j) x) ∙ dead))
 
-    pub store_stands : (seen : List LastLive) → AreSeen scheme words since satps left drops count Goes seen → (now : List Held) → now ≡ map change (filter (is_kept_after scheme new satps (index_of address) ways) (remembered_all seen held))
+    pub store_stands : (seen : List LastLive) → AreSeen scheme words since satps left drops count Goes seen → (now : List Held) → now ≡ map change (filter (is_kept_after scheme new satps roots (index_of address) ways) (remembered_all seen held))
         → Stands scheme (newest ∷ trace) new ages satps roots now left drops fences claims (count + 1)
     store_stands seen all now is = record {
       memory = memory;
@@ -195,8 +195,8 @@ module _ {scheme : Scheme} {trace : Trace} {words : Tables} {since : ℕ → ℕ
       spaces = at.spaces;
       leaving = is_change.each;
       are = subst (AreHeld scheme (newest ∷ trace) (IsLeftAt scheme new ages drops left)) (sym is)
-          (changed_are at newest is_in new ages Goes left is_change seen all (is_kept_after scheme new satps (index_of address) ways) change
-          (settled-keeps-if (λ i. is_touched scheme (index_of address) ways (translation_of i)) (λ i. is_current_by (is_mapped scheme new) roots (translation_of i)) (count + 1)) gone after);
+          (changed_are at newest is_in new ages Goes left is_change seen all (is_kept_after scheme new satps roots (index_of address) ways) change
+          (settled-keeps-if (λ i. is_touched scheme roots (index_of address) ways (translation_of i)) (λ i. is_current_by (is_mapped scheme new) roots (translation_of i)) (count + 1)) gone after);
       fence = at.fence;
       claim = at.claim;
       records = more_records at newest;

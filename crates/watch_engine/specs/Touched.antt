@@ -1,5 +1,5 @@
 -- Which translations a store to a word can concern: those whose page lies below the word on a way to
--- its table, from the translation's root or, where it is global, from any.
+-- its table, from the translation's root or, where it is global, from any of these roots.
 use Rattle.std.specs.Prelude.{ℕ, Bool, not, ◌+◌, ◌*◌, ◌==◌, ◌&&◌, ◌||◌, nat_le, if◌then◌else◌, List, Option, None, get_or}
 use Rattle.std.specs.List.{list_any}
 use Rattle.pte.specs.declared.scheme.Scheme.{Scheme}
@@ -27,17 +27,18 @@ asks page index =
     || ((vpn_of page.base 1 == index)
     || ((vpn_of page.base 2 == index) || (vpn_of page.base 3 == index)))
 
-abbrev pub is_touched_on : Scheme → ℕ → Translation → Way → Bool
-is_touched_on scheme index x way =
-    (x.entry.global || (way.root == x.root)) && is_below scheme index x.entry.page way
+abbrev pub is_touched_on : Scheme → List ℕ → ℕ → Translation → Way → Bool
+is_touched_on scheme roots index x way =
+    is_below scheme index x.entry.page way
+    && ((way.root == x.root) || (x.entry.global && list_any (λ r. r == way.root) roots))
 
-abbrev pub is_touched : Scheme → ℕ → List Way → Translation → Bool
-is_touched scheme index ways x = list_any (is_touched_on scheme index x) ways
+abbrev pub is_touched : Scheme → List ℕ → ℕ → List Way → Translation → Bool
+is_touched scheme roots index ways x = list_any (is_touched_on scheme roots index x) ways
 
 -- it is not one that can be filled again
-abbrev pub is_kept_after : Scheme → Tables → List (Option Space) → ℕ → List Way → Held → Bool
-is_kept_after scheme words satps index ways i =
-    not (is_touched scheme index ways (translation_of i)
+abbrev pub is_kept_after : Scheme → Tables → List (Option Space) → List ℕ → ℕ → List Way → Held → Bool
+is_kept_after scheme words satps roots index ways i =
+    not (is_touched scheme roots index ways (translation_of i)
     && is_live_in scheme words (get_or satps i.hart None) (translation_of i))
 
 abbrev pub settled_if : Bool → Bool → ℕ → Held → Held

@@ -127,6 +127,7 @@ impl<T: Tables> Watch<T> {
             &self.tables,
             self.scheme,
             self.satps.spaces(),
+            self.roots.as_slice(),
             address,
             ways.as_slice(),
         );

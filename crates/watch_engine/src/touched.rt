@@ -10,7 +10,7 @@ ghost use Rattle.watch_engine.specs.Touched.{asks, is_below, is_kept_after, is_t
 use crate::held::Held;
 use crate::live::is_live_in;
 use crate::satps::satp_in;
-use crate::roots::is_current;
+use crate::roots::{has_root, is_current};
 use crate::tables::Tables;
 use pte::{PAGE_BYTES, Page, Scheme};
 use watch::Space;
@@ -26,10 +26,12 @@ fn is_below(scheme: Scheme, address: u64, page: &Page, way: &Way) -> bool
     way.is_below(scheme, address, *page)
 }
 
-fn is_touched_on(scheme: Scheme, address: u64, way: &Way, item: &Held) -> bool
-    ensures { result ≡ is_touched_on scheme (index_of address) (translation_of item.now) way.now }
+fn is_touched_on(scheme: Scheme, roots: &[u64], address: u64, way: &Way, item: &Held) -> bool
+    ensures { result ≡ is_touched_on scheme roots.now (index_of address) (translation_of item.now)
+        way.now }
 {
-    (item.entry.global || way.root == item.root) && is_below(scheme, address, &item.entry.page, way)
+    is_below(scheme, address, &item.entry.page, way)
+        && (way.root == item.root || item.entry.global && has_root(roots, way.root))
 }
 
 // A table of some level asks for the word at the index, on the path of the page.
@@ -41,15 +43,16 @@ fn asks(page: &Page, index: u16) -> bool
 }
 
 // Few pages ask for the word at the index of the address, and of the others nothing more is read.
-fn is_touched(scheme: Scheme, address: u64, ways: &[Way], item: &Held) -> bool
-    ensures { result ≡ is_touched scheme (index_of address) ways.now (translation_of item.now) }
+fn is_touched(scheme: Scheme, roots: &[u64], address: u64, ways: &[Way], item: &Held) -> bool
+    ensures { result ≡ is_touched scheme roots.now (index_of address) ways.now
+        (translation_of item.now) }
 {
     let index = (address % PAGE_BYTES / WORD_BYTES) as u16;
     if !asks(&item.entry.page, index) {
         return false;
     }
     for way in ways {
-        if is_touched_on(scheme, address, way, item) {
+        if is_touched_on(scheme, roots, address, way, item) {
             return true;
         }
     }
@@ -60,14 +63,15 @@ fn is_kept_after<T: Tables>(
     tables: &T,
     scheme: Scheme,
     satps: &[Option<Space>],
+    roots: &[u64],
     address: u64,
     ways: &[Way],
     item: &Held,
 ) -> bool
-    ensures { result ≡ is_kept_after scheme (T.words tables.now) satps.now (index_of address)
-        ways.now item.now }
+    ensures { result ≡ is_kept_after scheme (T.words tables.now) satps.now roots.now
+        (index_of address) ways.now item.now }
 {
-    !(is_touched(scheme, address, ways, item)
+    !(is_touched(scheme, roots, address, ways, item)
         && is_live_in(
             tables,
             scheme,
@@ -83,13 +87,16 @@ pub(crate) fn drop_live<T: Tables>(
     tables: &T,
     scheme: Scheme,
     satps: &[Option<Space>],
+    roots: &[u64],
     address: u64,
     ways: &[Way],
 )
     ensures { held.new.items ≡ filter (is_kept_after scheme (T.words tables.now) satps.now
-        (index_of address) ways.now) held.old.items }
+        roots.now (index_of address) ways.now) held.old.items }
 {
-    held.retain(|item| is_kept_after(tables, scheme, satps, address, ways, item));
+    held.retain(|item| is_kept_after(
+        tables, scheme, satps, roots, address, ways, item,
+    ));
 }
 
 impl Held {
@@ -102,11 +109,11 @@ impl Held {
         ways: &[Way],
         count: u64,
     )
-        ensures { self.new ≡ settled_if (is_touched scheme (index_of address) ways.now
+        ensures { self.new ≡ settled_if (is_touched scheme roots.now (index_of address) ways.now
             (translation_of self.old)) (is_current_by (is_mapped scheme (T.words tables.now))
             roots.now (translation_of self.old)) count self.old }
     {
-        if is_touched(scheme, address, ways, self) {
+        if is_touched(scheme, roots, address, ways, self) {
             let current = is_current(tables, scheme, roots, self.root, &self.entry);
             self.settle(current, count);
         }
@@ -122,7 +129,7 @@ fn settle_each_touched<T: Tables>(
     ways: &[Way],
     count: u64,
 )
-    ensures { held.new ≡ map (λ i. settled_if (is_touched scheme (index_of address) ways.now
+    ensures { held.new ≡ map (λ i. settled_if (is_touched scheme roots.now (index_of address) ways.now
         (translation_of i)) (is_current_by (is_mapped scheme (T.words tables.now)) roots.now
         (translation_of i)) count i) held.old }
 {
@@ -141,7 +148,7 @@ pub(crate) fn settle_touched<T: Tables>(
     ways: &[Way],
     count: u64,
 )
-    ensures { held.new.items ≡ map (λ i. settled_if (is_touched scheme (index_of address) ways.now
+    ensures { held.new.items ≡ map (λ i. settled_if (is_touched scheme roots.now (index_of address) ways.now
         (translation_of i)) (is_current_by (is_mapped scheme (T.words tables.now)) roots.now
         (translation_of i)) count i) held.old.items }
 {

@@ -9,4 +9,4 @@ pub returns-then-not-asks : goal.returns-then-not-asks
 returns-then-not-asks c =
     let small : index_of c.args.address < 512 = omega arith in
     let none : asks c.args.item.now.entry.page (index_of c.args.address) ≡ false = search rules in
-    sym (untouched c.args.scheme (index_of c.args.address) small c.args.ways.now (translation_of c.args.item.now) none)
+    sym (untouched c.args.scheme c.args.roots.now (index_of c.args.address) small c.args.ways.now (translation_of c.args.item.now) none)

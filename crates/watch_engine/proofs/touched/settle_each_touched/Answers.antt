@@ -10,7 +10,7 @@ use Rattle.watch_engine.proofs.touched.settle_each_touched.Goals as goal
 
 pub loop-item-preserved : goal.loop-item-preserved
 loop-item-preserved g c =
-    let f : Held → Held = λ i. settled_if (is_touched c.args.scheme (index_of c.args.address) c.args.ways.now (translation_of i)) (is_current_by (is_mapped c.args.scheme (g.T.Tables.words c.args.tables.now)) c.args.roots.now (translation_of i)) c.args.count i in
+    let f : Held → Held = λ i. settled_if (is_touched c.args.scheme c.args.roots.now (index_of c.args.address) c.args.ways.now (translation_of i)) (is_current_by (is_mapped c.args.scheme (g.T.Tables.words c.args.tables.now)) c.args.roots.now (translation_of i)) c.args.count i in
     let at = c.loop-item.item-index in
     let within : at < length c.args.held.now = search rules in
     let new : c.settle_if.new.self ≡ f c.item-item.result = c.settle_if.ensures ∙ ap f (sym c.item-item.is) in
@@ -18,6 +18,6 @@ loop-item-preserved g c =
 
 pub returns : goal.returns
 returns g c =
-    let f : Held → Held = λ i. settled_if (is_touched c.args.scheme (index_of c.args.address) c.args.ways.now (translation_of i)) (is_current_by (is_mapped c.args.scheme (g.T.Tables.words c.args.tables.now)) c.args.roots.now (translation_of i)) c.args.count i in
+    let f : Held → Held = λ i. settled_if (is_touched c.args.scheme c.args.roots.now (index_of c.args.address) c.args.ways.now (translation_of i)) (is_current_by (is_mapped c.args.scheme (g.T.Tables.words c.args.tables.now)) c.args.roots.now (translation_of i)) c.args.count i in
     let long : length c.args.held.now ≤ c.loop-item.item-index = search rules in
     c.loop-item.invariant ∙ ((λ j. map f (take_all c.loop-item.item-index c.args.held.now long j) ++ drop_all c.loop-item.item-index c.args.held.now long j) ∙ append-nil (map f c.args.held.now))

@@ -7,4 +7,4 @@ use Rattle.watch_engine.proofs.touched.settle_each_touched.Given as goal
 
 abbrev pub invariant-loop-item : goal.invariant-loop-item
 invariant-loop-item g l =
-    l.held ≡ map (λ i. settled_if (is_touched l.scheme (index_of l.address) l.ways (translation_of i)) (is_current_by (is_mapped l.scheme (g.T.Tables.words l.tables)) l.roots (translation_of i)) l.count i) (take l.item-index l.fn.held) ++ drop l.item-index l.fn.held
+    l.held ≡ map (λ i. settled_if (is_touched l.scheme l.roots (index_of l.address) l.ways (translation_of i)) (is_current_by (is_mapped l.scheme (g.T.Tables.words l.tables)) l.roots (translation_of i)) l.count i) (take l.item-index l.fn.held) ++ drop l.item-index l.fn.held
