@@ -1,8 +1,8 @@
 -- What frames that are given out leave.
 use Rattle.std.proofs.Common.{◌≡◌, ℕ, Bool, true, false, ◌+◌, ◌<◌, ◌≤◌, zero, suc, Option, Some, None, List, [], ◌∷◌, length, get_or, map, filter, IsTrue, ap, sym, ◌∙◌, subst, refl, inl, inr, arith}
-use Rattle.std.specs.Prelude.{◌==◌, cond, not}
+use Rattle.std.specs.Prelude.{◌==◌, ◌||◌, cond, is_some, not}
 use Rattle.std.specs.List.{list_all, list_any}
-use Rattle.std.proofs.lemmas.Bool.{and_from, cases_Bool, not_from_false, or_left, true≢false}
+use Rattle.std.proofs.lemmas.Bool.{and_from, and_parts, cases_Bool, false_from_ne_true, not-true, not_from_false, or_left, true≢false}
 use Rattle.pte.specs.declared.scheme.Scheme.{Scheme}
 use Rattle.pte.specs.Address.{level_of, top_level, vpn_of}
 use Rattle.walk.specs.Leads.{Tables}
@@ -16,26 +16,28 @@ use Rattle.watch.specs.declared.trace.Space.{Space}
 use Rattle.watch.specs.declared.trace.Verdict.TheVariants.{Reuse}
 use Rattle.watch.specs.Trace.{Trace, index_of, is_among, is_root, is_used, words_after, words_of}
 use Rattle.watch.specs.Holding.{HasLeaf, Translation}
-use Rattle.watch.specs.Staleness.{IsMapped}
+use Rattle.watch.specs.Staleness.{IsMapped, IsRootFor}
 use Rattle.watch.specs.Computed.{is_mapped}
-use Rattle.watch.specs.ComputedTraces.{has_verdict, is_current}
+use Rattle.watch.specs.ComputedTraces.{has_verdict, is_current, is_stale}
+use Rattle.watch.proofs.ComputedTraces.{current_iff}
 use Rattle.watch_engine.specs.declared.held.Held.{Held}
 use Rattle.watch_engine.specs.declared.held.LastLive.{LastLive}
 use Rattle.watch_engine.specs.declared.left.Left.{Left}
 use Rattle.watch_engine.specs.declared.left.PastFence.{PastFence}
 use Rattle.watch_engine.specs.declared.open.OpenClaim.{OpenClaim}
 use Rattle.watch_engine.specs.declared.open.OpenFence.{OpenFence}
-use Rattle.watch_engine.specs.Held.{is_current_by, is_exposed_by, marked_if, remembered_all, settled, stays as root_stays, translation_of, without_frames}
+use Rattle.watch_engine.specs.Held.{is_current_by, is_exposed_by, marked_if, remembered_all, settled, settled_unless_stale, since_after, stays as root_stays, translation_of, without_frames}
 use Rattle.watch_engine.specs.Left.{IsLeftAt, has_its_root}
 use Rattle.watch_engine.specs.Seen.{AreSeen, PassesAny}
 use Rattle.watch_engine.specs.Follows.{AreHeld, IsKnown}
 use Rattle.watch_engine.specs.Standing.{AreRoots, IsLeftWithin, Stands}
 use Rattle.watch_tables.specs.Through.{Passes}
 use Rattle.watch_tables.specs.Words.{AreFilled}
-use Rattle.watch_engine.proofs.Changes.{PassesIn, Stays, filled}
+use Rattle.watch_engine.proofs.Changes.{PassesIn, Stays, filled, stays_or_passes}
 use Rattle.watch_engine.proofs.Leaving.{any_weaker, filter_each, filter_in, filter_out}
 use Rattle.watch_engine.proofs.Lists.{KeepsKey, filter_same}
 use Rattle.watch_engine.proofs.MemoryChanges.{IsChange, changed_ages, changed_are}
+use Rattle.watch_engine.proofs.Moments.{held_stale, stale_some}
 use Rattle.watch_engine.proofs.Records.{all_pass, mark_reuse, marked_keeps, quiet, reused_after, reused_by, settled_keeps}
 use Rattle.watch_engine.proofs.SpaceRoots.{all_stay, current_same, roots_current, roots_left}
 use Rattle.watch_engine.proofs.Standings.{more_records}
@@ -56,6 +58,26 @@ not-other (Some (suc n)) f = absurd (f (λ e. cc))
 twice : (f g : Held → Held) (held : List Held) → map f (map g held) ≡ map (λ i. f (g i)) held
 twice f g [] = refl
 twice f g (i ∷ held) = ap (λ is. f (g i) ∷ is) (twice f g held)
+
+-- what is stale stays so
+some-same : (n : ℕ) (o : Option ℕ) → is_some o ≡ true → since_after true n o ≡ o
+some-same n None h = cc
+some-same n (Some s) h = refl
+
+stale-stays : (n : ℕ) (i : Held) → is_some i.stale_since ≡ true → settled false n i ≡ i
+stale-stays n i h = λ j. record i { stale_since = some-same n i.stale_since h j }
+
+mark-since : (b : Bool) (i : Held) → (marked_if Reuse (λ _. b) i).stale_since ≡ i.stale_since
+mark-since b i = elim b as (λ b. (marked_if Reuse (λ _. b) i).stale_since ≡ i.stale_since) [ true ↦ refl | false ↦ refl ]
+
+unless_keeps : (is : Held → Bool) (n : ℕ) → KeepsKey (λ i. settled_unless_stale (is i) n i)
+unless_keeps is n =
+    let k = settled_keeps is n in
+    let h : (t : Bool) (i : Held) → (cond t i (settled (is i) n i)).hart ≡ i.hart = λ t i. elim t as (λ t. (cond t i (settled (is i) n i)).hart ≡ i.hart) [ true ↦ refl | false ↦ k.hart i ] in
+    let r : (t : Bool) (i : Held) → (cond t i (settled (is i) n i)).root ≡ i.root = λ t i. elim t as (λ t. (cond t i (settled (is i) n i)).root ≡ i.root) [ true ↦ refl | false ↦ k.root i ] in
+    let e : (t : Bool) (i : Held) → (cond t i (settled (is i) n i)).entry ≡ i.entry = λ t i. elim t as (λ t. (cond t i (settled (is i) n i)).entry ≡ i.entry) [ true ↦ refl | false ↦ k.entry i ] in
+    let l : (t : Bool) (i : Held) → (cond t i (settled (is i) n i)).last_live ≡ i.last_live = λ t i. elim t as (λ t. (cond t i (settled (is i) n i)).last_live ≡ i.last_live) [ true ↦ refl | false ↦ k.last i ] in
+    record { hart = λ i. h (is_some i.stale_since) i; root = λ i. r (is_some i.stale_since) i; entry = λ i. e (is_some i.stale_since) i; last = λ i. l (is_some i.stale_since) i }
 
 module _ {scheme : Scheme} {trace : Trace} {words : Tables} {since : ℕ → ℕ → ℕ} {satps : List (Option Space)} {roots : List ℕ} {held : List Held} {left : List Left} {drops : List PastFence} {fences : List OpenFence} {claims : List OpenClaim} {count : ℕ}
     (at : Stands scheme trace words since satps roots held left drops fences claims count) (by : ℕ) (frames : Frames) (new : Tables) (ages : ℕ → ℕ → ℕ) (clears : new ≡ words_after (GiveOut by frames) words)
@@ -123,7 +145,42 @@ module _ {scheme : Scheme} {trace : Trace} {words : Tables} {since : ℕ → ℕ
   tests x = ap (λ w. is_current_by (is_mapped scheme w) these x) memory ∙ roots_current scheme (newest ∷ trace) these spaces x
 
   abbrev settle : Held → Held
-  settle i = settled (is_current_by (is_mapped scheme new) these (translation_of i)) (count + 1) i
+  settle i = settled_unless_stale (is_current_by (is_mapped scheme new) these (translation_of i)) (count + 1) i
+
+  -- what the tables have was there before
+  before : (root : ℕ) (x : Translation) → IsMapped scheme new (record x { root = root }) → IsMapped scheme words (record x { root = root })
+  before root x m =
+      let e : Entry = record x.entry { flags = m.flags } in
+      let leaf : HasLeaf scheme words root e =
+      elim (stays_or_passes scheme new words is_in (λ t i h. sym (agree t i h)) root e m.leaf) [
+        | inl stays ↦ stays.leaf
+        | inr passes ↦
+            let i : ℕ = vpn_of e.page.base passes.at in
+            let none : new passes.table i ≡ Some 0 = (λ j. clears j passes.table i) ∙ ap (λ b. cond b (Some 0) (words passes.table i)) passes.within in
+            absurd (filled scheme new root e m.leaf passes.at passes.table passes.from passes.before none)
+      ] in
+      record { flags = m.flags; permit = m.permit; leaf = leaf }
+
+  current-before : (x : Translation) → is_current scheme (newest ∷ trace) x ≡ true → is_current scheme trace x ≡ true
+  current-before x h =
+      let c = (current_iff scheme (newest ∷ trace) x).0 h in
+      let counts : IsRootFor trace x c.root = elim c.counts [
+        | inl own ↦ inl own
+        | inr g ↦ inr (g.0, (and_parts (not (is_among frames c.root) || is_used trace c.root) (is_root trace c.root) g.1).1)
+      ] in
+      (current_iff scheme trace x).1 (record {
+        root = c.root;
+        counts = counts;
+        mapped = subst (λ w. IsMapped scheme w (record x { root = c.root })) at.memory
+            (before c.root x (subst (λ w. IsMapped scheme w (record x { root = c.root })) (sym memory) c.mapped));
+      })
+
+  stale-still : (i : Held) → IsKnown scheme trace i → is_some i.stale_since ≡ true → is_current scheme (newest ∷ trace) (translation_of i) ≡ false
+  stale-still i known some =
+      let x : Translation = translation_of i in
+      let stale : is_stale scheme trace i.hart x ≡ true = sym (stale_some scheme trace i.hart x) ∙ (ap is_some (sym known.since) ∙ some) in
+      let gone : is_current scheme trace x ≡ false = not-true (is_current scheme trace x) (sym (held_stale scheme trace i.hart x known.held) ∙ stale) in
+      false_from_ne_true _ (λ h. true≢false (sym (current-before x h) ∙ gone))
 
   out_stands : (seen : List LastLive) → AreSeen scheme words since satps left drops count Goes seen → (f : Held → Held) → KeepsKey f → ((i : Held) → IsKnown scheme trace i → f i ≡ After scheme newest trace i)
       → (now : List Held) → now ≡ map f (remembered_all seen held) → Stands scheme (newest ∷ trace) new ages satps these now kept drops fences claims (count + 1)
@@ -145,7 +202,7 @@ module _ {scheme : Scheme} {trace : Trace} {words : Tables} {since : ℕ → ℕ
   -- all are settled
   settled-keys : KeepsKey (λ i. settle (mark i))
   settled-keys =
-      let s : KeepsKey settle = settled_keeps (λ i. is_current_by (is_mapped scheme new) these (translation_of i)) (count + 1) in
+      let s : KeepsKey settle = unless_keeps (λ i. is_current_by (is_mapped scheme new) these (translation_of i)) (count + 1) in
       let k = mark-keeps in
       record { hart = λ i. s.hart (mark i) ∙ k.hart i; root = λ i. s.root (mark i) ∙ k.root i; entry = λ i. s.entry (mark i) ∙ k.entry i; last = λ i. s.last (mark i) ∙ k.last i }
 
@@ -154,9 +211,21 @@ module _ {scheme : Scheme} {trace : Trace} {words : Tables} {since : ℕ → ℕ
       let n : count + 1 ≡ length (newest ∷ trace) = more_records at newest in
       let k = mark-keeps in
       let same : translation_of (mark i) ≡ translation_of i = (λ j. record { root = k.root i j; entry = k.entry i j }) in
-      (λ j. settled (is_current_by (is_mapped scheme new) these (same j)) (n j) (mark i))
-      ∙ (ap (λ b. settled b (length (newest ∷ trace)) (mark i)) (tests (translation_of i))
-      ∙ reused_after scheme trace (is_current scheme (newest ∷ trace) (translation_of i)) (length (newest ∷ trace)) (is_exposed_by frames i) (has_verdict scheme Reuse newest trace i.hart (translation_of i)) i (reused_by scheme trace by frames i known))
+      let m : Held = mark i in
+      let done : settled (is_current_by (is_mapped scheme new) these (translation_of m)) (count + 1) m ≡ After scheme newest trace i =
+      (λ j. settled (is_current_by (is_mapped scheme new) these (same j)) (n j) m)
+      ∙ (ap (λ b. settled b (length (newest ∷ trace)) m) (tests (translation_of i))
+      ∙ reused_after scheme trace (is_current scheme (newest ∷ trace) (translation_of i)) (length (newest ∷ trace)) (is_exposed_by frames i) (has_verdict scheme Reuse newest trace i.hart (translation_of i)) i (reused_by scheme trace by frames i known)) in
+      let since : m.stale_since ≡ i.stale_since = mark-since (is_exposed_by frames i) i in
+      let go : (b : Bool) → is_some m.stale_since ≡ b → cond b m (settled (is_current_by (is_mapped scheme new) these (translation_of m)) (count + 1) m) ≡ After scheme newest trace i =
+      λ b. elim b as (λ b. is_some m.stale_since ≡ b → cond b m (settled (is_current_by (is_mapped scheme new) these (translation_of m)) (count + 1) m) ≡ After scheme newest trace i) [
+        | true ↦ λ some.
+            let none : is_current_by (is_mapped scheme new) these (translation_of m) ≡ false =
+            ap (is_current_by (is_mapped scheme new) these) same ∙ (tests (translation_of i) ∙ stale-still i known (ap is_some (sym since) ∙ some)) in
+            sym (ap (λ b. settled b (count + 1) m) none ∙ stale-stays (count + 1) m some) ∙ done
+        | false ↦ λ fresh. done
+      ] in
+      go (is_some m.stale_since) refl
 
   -- nothing has changed
   module _ (empty : addresses ≡ []) (all : list_all (root_stays frames satps) roots ≡ true) where

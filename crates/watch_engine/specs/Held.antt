@@ -143,6 +143,10 @@ settled true now i =
     record i { stale_since = None; freed = false; reused = false; claimed = false }
 settled false now i = record i { stale_since = since_after true now i.stale_since }
 
+-- after a record that can only take from what the tables have: what is stale stays so
+abbrev pub settled_unless_stale : Bool → ℕ → Held → Held
+settled_unless_stale mapped now i = if is_some i.stale_since then i else settled mapped now i
+
 -- after a verdict of it
 abbrev pub marked : Verdict → Held → Held
 marked Free i = record i { freed = true }

@@ -10,7 +10,7 @@ ghost use Rattle.watch_engine.specs.Warnings.{AreWarnings};
 use crate::cause::Cause;
 use crate::held::Held;
 use crate::left::{Left, PastFence, add_ended, add_fence, add_left, drop_left, drop_rootless};
-use crate::list::{drop_fenced, drop_remote, mark, remember_all, settle_where};
+use crate::list::{drop_fenced, drop_remote, mark, remember_all, settle_taken, settle_where};
 use crate::open::{OpenClaim, OpenFence, end_claim, end_fence, newest_claim, newest_fence};
 use crate::roots::{add_root, drop_roots};
 use crate::satps::{Satps, satp_in};
@@ -276,7 +276,7 @@ impl<T: Tables> Watch<T> {
         let keeps = drop_roots(&mut self.roots, frames, self.satps.spaces());
         drop_rootless(&mut self.left, self.roots.as_slice());
         self.count += 1;
-        settle_where(
+        settle_taken(
             may_differ(addresses.as_slice(), keeps),
             &mut self.held,
             &self.tables,

@@ -3,7 +3,7 @@
 ghost use Rattle.std.specs.Prelude.{ℕ, Bool, ◌≡◌, ◌↔◌, ◌++◌, ◌∷◌, [], map, filter, Option, OnOk, OnErr, IfOk, IsTrue, take, if◌then◌else◌};
 ghost use Rattle.watch.specs.Computed.{is_mapped};
 ghost use Rattle.watch_engine.specs.declared.held.Held.{Held as HeldOf};
-ghost use Rattle.watch_engine.specs.Held.{is_current_by, is_of, last_translation, marked_if, outlives_fence, outlives_remote, place_in, remembered, remembered_all, settled, translation_of};
+ghost use Rattle.watch_engine.specs.Held.{is_current_by, is_of, last_translation, marked_if, outlives_fence, outlives_remote, place_in, remembered, remembered_all, settled, settled_unless_stale, translation_of};
 ghost use Rattle.watch_engine.specs.Causes.{applies, verdict_of};
 
 use crate::cause::Cause;
@@ -84,6 +84,73 @@ pub(crate) fn settle_where<T: Tables>(
 {
     if changed {
         settle(held, tables, scheme, roots, count);
+    }
+}
+
+impl Held {
+    // With what the tables have now, after a record that can only take from that.
+    fn settle_unless_stale<T: Tables>(
+        &mut self,
+        tables: &T,
+        scheme: Scheme,
+        roots: &[u64],
+        count: u64,
+    )
+        ensures { self.new ≡ settled_unless_stale (is_current_by
+            (is_mapped scheme (T.words tables.now)) roots.now (translation_of self.old)) count
+            self.old }
+    {
+        if self.stale_since.is_none() {
+            let current = is_current(tables, scheme, roots, self.root, &self.entry);
+            self.settle(current, count);
+        }
+    }
+}
+
+fn settle_each_unless_stale<T: Tables>(
+    held: &mut [Held],
+    tables: &T,
+    scheme: Scheme,
+    roots: &[u64],
+    count: u64,
+)
+    ensures { held.new ≡ map (λ i. settled_unless_stale (is_current_by
+        (is_mapped scheme (T.words tables.now)) roots.now (translation_of i)) count i) held.old }
+{
+    for item in held.iter_mut() {
+        item.settle_unless_stale(tables, scheme, roots, count);
+    }
+}
+
+fn settle_all_unless_stale<T: Tables>(
+    held: &mut Vec<Held>,
+    tables: &T,
+    scheme: Scheme,
+    roots: &[u64],
+    count: u64,
+)
+    ensures { held.new.items ≡ map (λ i. settled_unless_stale (is_current_by
+        (is_mapped scheme (T.words tables.now)) roots.now (translation_of i)) count i)
+        held.old.items }
+{
+    settle_each_unless_stale(held.as_mut_slice(), tables, scheme, roots, count);
+}
+
+// With what the tables have now, if something may have been taken from that and nothing put to it.
+pub(crate) fn settle_taken<T: Tables>(
+    changed: bool,
+    held: &mut Vec<Held>,
+    tables: &T,
+    scheme: Scheme,
+    roots: &[u64],
+    count: u64,
+)
+    ensures { held.new.items ≡ (if changed then map (λ i. settled_unless_stale (is_current_by
+        (is_mapped scheme (T.words tables.now)) roots.now (translation_of i)) count i)
+        held.old.items else held.old.items) }
+{
+    if changed {
+        settle_all_unless_stale(held, tables, scheme, roots, count);
     }
 }
 

@@ -11,7 +11,7 @@ use Rattle.watch_engine.specs.declared.held.Held.{Held}
 use Rattle.watch_engine.specs.declared.held.LastLive.{LastLive}
 use Rattle.watch_engine.specs.declared.left.Left.{Left}
 use Rattle.watch_engine.specs.declared.left.PastFence.{PastFence}
-use Rattle.watch_engine.specs.Held.{is_current_by, is_exposed_by, marked_if, remembered_all, settled, stays as root_stays, translation_of, without_frames}
+use Rattle.watch_engine.specs.Held.{is_current_by, is_exposed_by, marked_if, remembered_all, settled_unless_stale, stays as root_stays, translation_of, without_frames}
 use Rattle.watch_engine.specs.Warnings.{AreWarnings, joined}
 use Rattle.watch_engine.specs.Left.{has_its_root}
 use Rattle.watch_engine.specs.Standing.{Stands}
@@ -67,11 +67,11 @@ returns-clause-ok g c = λ hart trace at.
     let new : Tables = g.T.Tables.words c.clear.new.self in
     let these : List ℕ = c.drop_roots-keeps.new.roots.items in
     let mark : Held → Held = marked_if Reuse (is_exposed_by frames) in
-    let settle : List ℕ → Held → Held = λ rs i. settled (is_current_by (is_mapped scheme new) rs (translation_of i)) (watch.count + 1) i in
+    let settle : List ℕ → Held → Held = λ rs i. settled_unless_stale (is_current_by (is_mapped scheme new) rs (translation_of i)) (watch.count + 1) i in
     let marks : c.mark.new.held.items ≡ map mark (remembered_all seen held) = c.mark.ensures ∙ ap (map mark) c.in_ok-remember_all.ensures.ok in
     let changed : Bool = c.may_differ.result in
-    subst (λ (ls : List Left). Stands scheme (records.GiveOut hart frames ∷ trace) new (g.T.Tables.since c.clear.new.self) watch.satps.spaces.items these c.settle_where.new.held.items ls drops watch.fences.items watch.claims.items (watch.count + 1))
+    subst (λ (ls : List Left). Stands scheme (records.GiveOut hart frames ∷ trace) new (g.T.Tables.since c.clear.new.self) watch.satps.spaces.items these c.settle_taken.new.held.items ls drops watch.fences.items watch.claims.items (watch.count + 1))
     (sym (c.drop_rootless.ensures ∙ ap (λ (rs : List ℕ). filter (has_its_root rs) left) c.as_slice-6.ensures.value))
     (frames_stand at hart frames new (g.T.Tables.since c.clear.new.self) (c.clear.ensures.words hart) c.clear.ensures.others addresses c.in_ok-addresses.ensures these (c.drop_roots-keeps.ensures.roots ∙ (λ j. without_frames frames (c.spaces-2.ensures.value j) watch.roots.items)) changed
     (λ same. (sym c.as_slice-7.ensures.value ∙ c.may_differ.ensures.words same, sym (c.drop_roots-keeps.ensures.all ∙ (λ j. list_all (root_stays frames (c.spaces-2.ensures.value j)) watch.roots.items)) ∙ c.may_differ.ensures.roots same)) seen all _
-    (c.settle_where.ensures ∙ (λ j. cond changed (map (settle (c.as_slice-8.ensures.value j)) (marks j)) (marks j))))
+    (c.settle_taken.ensures ∙ (λ j. cond changed (map (settle (c.as_slice-8.ensures.value j)) (marks j)) (marks j))))
