@@ -1,11 +1,10 @@
 -- A page that does not ask for the word at an index lies below no such word.
-use Rattle.std.proofs.Common.{◌≡◌, ℕ, Bool, true, false, zero, suc, ◌+◌, ◌*◌, ◌<◌, ◌≤◌, List, [], ◌∷◌, ap, sym, ◌∙◌, refl, arith}
-use Rattle.std.specs.Prelude.{◌==◌, ◌&&◌, ◌||◌, nat_le}
+use Rattle.std.proofs.Common.{◌≡◌, ℕ, true, false, zero, suc, ◌+◌, ◌*◌, ◌<◌, ◌≤◌, List, [], ◌∷◌, ap, sym, ◌∙◌, refl, arith}
+use Rattle.std.specs.Prelude.{◌==◌, ◌||◌, nat_le}
 use Rattle.std.proofs.lemmas.Bool.{and_parts, eq-eqb, eqb-true, false_from_ne_true, or_left, or_right, true≢false}
 use Rattle.pte.specs.declared.scheme.Scheme.{Scheme}
 use Rattle.pte.specs.declared.scheme.Scheme.TheVariants.{Sv39, Sv48}
 use Rattle.pte.specs.Address.{Span, level_of, top_level, vpn_of}
-use Rattle.watch.specs.Trace.{index_of}
 use Rattle.watch.specs.Holding.{Translation}
 use Rattle.watch_tables.specs.declared.way.Way.{Way}
 use Rattle.watch_tables.specs.Ways.{vpn_from}

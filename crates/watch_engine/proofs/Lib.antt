@@ -24,3 +24,4 @@ pub mod WarningTests
 pub mod WarnedPages
 pub mod WarningAnswers
 pub mod Asked
+pub mod Touching

@@ -1,6 +1,6 @@
 -- Where a watch stands, and what is remembered.
 use Rattle.std.proofs.Common.{◌≡◌, ℕ, true, false, ◌+◌, ◌≤◌, zero, suc, Option, None, List, [], ◌∷◌, ◌++◌, length, get_or, take, drop, IsTrue, ap, sym, ◌∙◌, subst, refl, inl, inr, arith}
-use Rattle.std.specs.Prelude.{OnErr, Result, Ok, Err, ◌||◌, replicate}
+use Rattle.std.specs.Prelude.{OnErr, Result, Ok, Err, ◌||◌}
 use Rattle.std.specs.List.{list_any}
 use Rattle.std.proofs.lemmas.Bool.{true≢false}
 use Rattle.std.proofs.lemmas.List.Folds.{list_any-append}

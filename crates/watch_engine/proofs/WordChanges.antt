@@ -49,7 +49,7 @@ way-any test w [] k within is h = absurd (omega arith)
 way-any test w (v ∷ ways) zero within is h = or_left (test v) (list_any test ways) (ap test is ∙ h)
 way-any test w (v ∷ ways) (suc k) within is h = or_right (test v) (list_any test ways) (way-any test w ways k (omega arith) is h)
 
-settled-keeps-if : (touched is : Held → Bool) (n : ℕ) → KeepsKey (λ i. settled_if (touched i) (is i) n i)
+pub settled-keeps-if : (touched is : Held → Bool) (n : ℕ) → KeepsKey (λ i. settled_if (touched i) (is i) n i)
 settled-keeps-if touched is n =
     let k : KeepsKey (λ i. settled (is i) n i) = settled_keeps is n in
     let h : (t : Bool) (i : Held) → (settled_if t (is i) n i).hart ≡ i.hart = λ t i. elim t as (λ t. (settled_if t (is i) n i).hart ≡ i.hart) [ true ↦ k.hart i | false ↦ refl ] in

@@ -16,7 +16,7 @@ use crate::roots::{add_root, drop_roots};
 use crate::satps::{Satps, satp_in};
 use crate::seen::{add_seen, add_seen_in};
 use crate::tables::Tables;
-use crate::touched::{drop_live, settle_touched};
+use crate::touched::settle_touched;
 use crate::warning::{Warning, warnings};
 use pte::Scheme;
 use std::alloc::{AllocError, Global};
@@ -122,19 +122,11 @@ impl<T: Tables> Watch<T> {
         remember_all(&mut self.held, seen.as_slice())?;
         self.tables.store(address, word, self.count + 1)?;
         self.count += 1;
-        drop_live(
-            &mut self.held,
-            &self.tables,
-            self.scheme,
-            self.satps.spaces(),
-            self.roots.as_slice(),
-            address,
-            ways.as_slice(),
-        );
         settle_touched(
             &mut self.held,
             &self.tables,
             self.scheme,
+            self.satps.spaces(),
             self.roots.as_slice(),
             address,
             ways.as_slice(),

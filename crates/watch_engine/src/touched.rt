@@ -1,6 +1,6 @@
 //! The translations that a store to a word can concern.
 
-ghost use Rattle.std.specs.Prelude.{ℕ, ◌≡◌, filter, map};
+ghost use Rattle.std.specs.Prelude.{ℕ, ◌≡◌, filter, map, not};
 ghost use Rattle.std.specs.List.{list_any};
 ghost use Rattle.watch.specs.Computed.{is_mapped};
 ghost use Rattle.watch.specs.Trace.{index_of};
@@ -26,6 +26,7 @@ fn is_below(scheme: Scheme, address: u64, page: &Page, way: &Way) -> bool
     way.is_below(scheme, address, *page)
 }
 
+#[inline(always)]
 fn is_touched_on(scheme: Scheme, roots: &[u64], address: u64, way: &Way, item: &Held) -> bool
     ensures { result ≡ is_touched_on scheme roots.now (index_of address) (translation_of item.now)
         way.now }
@@ -35,6 +36,7 @@ fn is_touched_on(scheme: Scheme, roots: &[u64], address: u64, way: &Way, item: &
 }
 
 // A table of some level asks for the word at the index, on the path of the page.
+#[inline(always)]
 fn asks(page: &Page, index: u16) -> bool
     ensures { result ≡ asks page.now index }
 {
@@ -43,6 +45,7 @@ fn asks(page: &Page, index: u16) -> bool
 }
 
 // Few pages ask for the word at the index of the address, and of the others nothing more is read.
+#[inline(always)]
 fn is_touched(scheme: Scheme, roots: &[u64], address: u64, ways: &[Way], item: &Held) -> bool
     ensures { result ≡ is_touched scheme roots.now (index_of address) ways.now
         (translation_of item.now) }
@@ -59,6 +62,7 @@ fn is_touched(scheme: Scheme, roots: &[u64], address: u64, ways: &[Way], item: &
     false
 }
 
+#[inline(always)]
 fn is_kept_after<T: Tables>(
     tables: &T,
     scheme: Scheme,
@@ -81,8 +85,8 @@ fn is_kept_after<T: Tables>(
         ))
 }
 
-/// Without those that can be filled again.
-pub(crate) fn drop_live<T: Tables>(
+// Without those that can be filled again.
+fn drop_live<T: Tables>(
     held: &mut Vec<Held>,
     tables: &T,
     scheme: Scheme,
@@ -94,71 +98,91 @@ pub(crate) fn drop_live<T: Tables>(
     ensures { held.new.items ≡ filter (is_kept_after scheme (T.words tables.now) satps.now
         roots.now (index_of address) ways.now) held.old.items }
 {
-    held.retain(|item| is_kept_after(
-        tables, scheme, satps, roots, address, ways, item,
-    ));
+    held.retain(|item| is_kept_after(tables, scheme, satps, roots, address, ways, item));
 }
 
 impl Held {
+    // With what the tables have now, if the store concerns it. Whether it can be filled again.
+    #[inline(always)]
     fn settle_if<T: Tables>(
         &mut self,
         tables: &T,
         scheme: Scheme,
+        satps: &[Option<Space>],
         roots: &[u64],
         address: u64,
         ways: &[Way],
         count: u64,
-    )
-        ensures { self.new ≡ settled_if (is_touched scheme roots.now (index_of address) ways.now
-            (translation_of self.old)) (is_current_by (is_mapped scheme (T.words tables.now))
-            roots.now (translation_of self.old)) count self.old }
+    ) -> bool
+        ensures item { self.new ≡ settled_if (is_touched scheme roots.now (index_of address)
+            ways.now (translation_of self.old)) (is_current_by (is_mapped scheme
+            (T.words tables.now)) roots.now (translation_of self.old)) count self.old }
+        ensures live { result ≡ not (is_kept_after scheme (T.words tables.now) satps.now roots.now
+            (index_of address) ways.now self.old) }
     {
-        if is_touched(scheme, roots, address, ways, self) {
-            let current = is_current(tables, scheme, roots, self.root, &self.entry);
-            self.settle(current, count);
+        if !is_touched(scheme, roots, address, ways, self) {
+            return false;
         }
+        let current = is_current(tables, scheme, roots, self.root, &self.entry);
+        self.settle(current, count);
+        let space = satp_in(satps, self.hart);
+        is_live_in(tables, scheme, space, self.root, &self.entry)
     }
 }
 
+// The same of each, and whether some can be filled again.
 fn settle_each_touched<T: Tables>(
     held: &mut [Held],
     tables: &T,
     scheme: Scheme,
+    satps: &[Option<Space>],
     roots: &[u64],
     address: u64,
     ways: &[Way],
     count: u64,
-)
-    ensures { held.new ≡ map (λ i. settled_if (is_touched scheme roots.now (index_of address) ways.now
-        (translation_of i)) (is_current_by (is_mapped scheme (T.words tables.now)) roots.now
-        (translation_of i)) count i) held.old }
+) -> bool
+    ensures items { held.new ≡ map (λ i. settled_if (is_touched scheme roots.now
+        (index_of address) ways.now (translation_of i)) (is_current_by (is_mapped scheme
+        (T.words tables.now)) roots.now (translation_of i)) count i) held.old }
+    ensures live { result ≡ list_any (λ i. not (is_kept_after scheme (T.words tables.now) satps.now
+        roots.now (index_of address) ways.now i)) held.old }
 {
+    let mut some = false;
     for item in held.iter_mut() {
-        item.settle_if(tables, scheme, roots, address, ways, count);
+        let is_live = item.settle_if(tables, scheme, satps, roots, address, ways, count);
+        some = some || is_live;
     }
+    some
 }
 
-/// With what the tables have now of those that the store concerns.
+/// With what the tables have now of those that the store concerns, and without those that can be
+/// filled again.
 pub(crate) fn settle_touched<T: Tables>(
     held: &mut Vec<Held>,
     tables: &T,
     scheme: Scheme,
+    satps: &[Option<Space>],
     roots: &[u64],
     address: u64,
     ways: &[Way],
     count: u64,
 )
-    ensures { held.new.items ≡ map (λ i. settled_if (is_touched scheme roots.now (index_of address) ways.now
-        (translation_of i)) (is_current_by (is_mapped scheme (T.words tables.now)) roots.now
-        (translation_of i)) count i) held.old.items }
+    ensures { held.new.items ≡ map (λ i. settled_if (is_touched scheme roots.now
+        (index_of address) ways.now (translation_of i)) (is_current_by (is_mapped scheme
+        (T.words tables.now)) roots.now (translation_of i)) count i) (filter (is_kept_after scheme
+        (T.words tables.now) satps.now roots.now (index_of address) ways.now) held.old.items) }
 {
-    settle_each_touched(
+    let some = settle_each_touched(
         held.as_mut_slice(),
         tables,
         scheme,
+        satps,
         roots,
         address,
         ways,
         count,
     );
+    if some {
+        drop_live(held, tables, scheme, satps, roots, address, ways);
+    }
 }

@@ -1,4 +1,4 @@
-use Rattle.std.proofs.Common.{◌≡◌, ◌<◌, ◌∙◌, sym, false, arith, rules}
+use Rattle.std.proofs.Common.{◌≡◌, ◌<◌, sym, false, arith, rules}
 use Rattle.watch.specs.Trace.{index_of}
 use Rattle.watch_engine.specs.Held.{translation_of}
 use Rattle.watch_engine.specs.Touched.{asks}

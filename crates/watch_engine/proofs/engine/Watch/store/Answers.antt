@@ -1,4 +1,4 @@
-use Rattle.std.proofs.Common.{◌≡◌, ◌∙◌, sym, subst, List, Option, map, filter, ◌+◌, ℕ}
+use Rattle.std.proofs.Common.{◌∙◌, sym, subst, List, Option, map, filter, ◌+◌, ℕ}
 use Rattle.walk.specs.Leads.{Tables}
 use Rattle.watch.specs.declared.trace.Space.{Space}
 use Rattle.watch.specs.Trace.{index_of}
@@ -8,7 +8,7 @@ use Rattle.watch_engine.specs.declared.held.LastLive.{LastLive}
 use Rattle.watch_engine.specs.declared.left.Left.{Left}
 use Rattle.watch_engine.specs.declared.left.PastFence.{PastFence}
 use Rattle.watch_tables.specs.declared.way.Way.{Way}
-use Rattle.watch_engine.specs.Held.{is_current_by, remembered_all, translation_of}
+use Rattle.watch_engine.specs.Held.{is_current_by, translation_of}
 use Rattle.watch_engine.specs.Touched.{is_kept_after, is_touched, settled_if}
 use Rattle.watch_engine.specs.Standing.{Stands}
 use Rattle.watch_engine.proofs.Gathering.{AddedBy, seen_of}
@@ -72,7 +72,7 @@ returns-clause-ok g c = λ hart trace at.
     let index : ℕ = index_of c.args.address in
     let roots : List ℕ = watch.roots.items in
     let change : List Way → List ℕ → Held → Held = λ ws rs i. settled_if (is_touched scheme rs index ws (translation_of i)) (is_current_by (is_mapped scheme new) rs (translation_of i)) (watch.count + 1) i in
-    let dropped : c.drop_live.new.held.items ≡ filter (is_kept_after scheme new watch.satps.spaces.items roots index ways) (remembered_all seen held) =
-    c.drop_live.ensures ∙ (λ j. filter (is_kept_after scheme new (c.spaces-2.ensures.value j) (c.as_slice-4.ensures.value j) index (c.as_slice-5.ensures.value j)) (c.in_ok-remember_all.ensures.ok j)) in
     store_stands at hart c.args.address c.args.word new (g.T.Tables.since c.store.new.self) (c.in_ok-store.ensures.ok hart) c.in_ok-store.ensures.others c.in_ok-store.ensures.count ways c.in_ok-ways.ensures.ways seen all _
-    (c.settle_touched.ensures ∙ (λ j. map (change (c.as_slice-7.ensures.value j) (c.as_slice-6.ensures.value j)) (dropped j)))
+    (c.settle_touched.ensures
+    ∙ (λ j. map (change (c.as_slice-5.ensures.value j) (c.as_slice-4.ensures.value j))
+    (filter (is_kept_after scheme new (c.spaces-2.ensures.value j) (c.as_slice-4.ensures.value j) index (c.as_slice-5.ensures.value j)) (c.in_ok-remember_all.ensures.ok j))))

@@ -1,4 +1,4 @@
-use Rattle.std.proofs.Common.{◌≡◌, ◌∙◌, sym, ap, subst, List, map, ◌+◌, ◌<◌, length, ℕ}
+use Rattle.std.proofs.Common.{◌≡◌, ◌∙◌, sym, ap, subst, List, map, ◌+◌, length, ℕ}
 use Rattle.std.specs.Prelude.{cond}
 use Rattle.walk.specs.Leads.{Tables}
 use Rattle.watch.specs.Computed.{is_mapped}
