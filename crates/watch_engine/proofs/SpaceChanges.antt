@@ -1,6 +1,6 @@
 -- What a hart that writes satp leaves.
 use Rattle.std.proofs.Common.{◌≡◌, ℕ, Bool, true, false, ◌+◌, ◌<◌, ◌≤◌, ◌⊎◌, zero, suc, Option, Some, None, List, [], ◌∷◌, ◌++◌, length, get_or, set, map, filter, IsTrue, ap, sym, ◌∙◌, subst, refl, inl, inr, arith}
-use Rattle.std.specs.Prelude.{◌==◌, ◌&&◌, cond, not}
+use Rattle.std.specs.Prelude.{◌==◌, ◌&&◌, ◌||◌, cond, is_some, not}
 use Rattle.std.specs.List.{list_any}
 use Rattle.std.proofs.lemmas.Bool.{and_parts, cases_Bool, cases_eq, eq-eqb, eqb-true, ne_eqb, or_right, true≢false}
 use Rattle.pte.specs.declared.scheme.Scheme.{Scheme}
@@ -19,13 +19,15 @@ use Rattle.watch_engine.specs.declared.left.Left.{Left}
 use Rattle.watch_engine.specs.declared.left.PastFence.{PastFence}
 use Rattle.watch_engine.specs.declared.open.OpenClaim.{OpenClaim}
 use Rattle.watch_engine.specs.declared.open.OpenFence.{OpenFence}
-use Rattle.watch_engine.specs.Held.{IsNormalized, is_current_by, knows, settled, translation_of, with_root}
+use Rattle.watch_engine.specs.Held.{IsNormalized, all_found_again, found_again, is_current_by, knows, settled, translation_of, with_root}
 use Rattle.watch_engine.specs.Left.{EachLeft, IsLeftAt, IsLeftHeld, is_other, is_space, takes, with_left}
 use Rattle.watch_engine.specs.Follows.{AreHeld, IsHeldFrom, IsKnown}
 use Rattle.watch_engine.specs.Standing.{AreRoots, IsLeftWithin, Stands}
 use Rattle.watch_engine.proofs.Leaving.{any_first, any_last, any_member, any_out, any_pushed, any_weaker, any_with, each_pushed, filter_each, filter_in, filter_out}
+use Rattle.std.proofs.lemmas.List.Folds.{list_any-append}
+use Rattle.watch_engine.proofs.Moments.{held_stale, stale_some}
 use Rattle.watch_engine.proofs.Lists.{KeepsKey, filter_same, map_same}
-use Rattle.watch_engine.proofs.Records.{all_pass, quiet, same, same_keeps, settled_after, settled_keeps}
+use Rattle.watch_engine.proofs.Records.{all_pass, quiet, same, same_keeps, settled_after}
 use Rattle.watch_engine.proofs.SpaceRoots.{current_same, roots_current, roots_entered}
 use Rattle.watch_engine.proofs.Standings.{current_of, drop_end, live_from, more_records, since_now, to_live}
 use Rattle.watch_engine.proofs.Steps.{After, held-on, step}
@@ -118,6 +120,23 @@ module _ {scheme : Scheme} {trace : Trace} {words : Tables} {since : ℕ → ℕ
   pub other_roots : (these : List ℕ) → these ≡ roots → Stands scheme trace words since satps these held left drops fences claims count
   other_roots these is = record { memory = at.memory; ages = at.ages; harts = at.harts; satp = at.satp; spaces = subst (AreRoots trace) (sym is) at.spaces; leaving = at.leaving; are = at.are; fence = at.fence; claim = at.claim; records = at.records }
 
+-- one test more
+or-more : (g t a b : Bool) → ((not g && t) || (g && (a || (b || false)))) ≡ (((not g && t) || (g && a)) || (g && b))
+or-more true t true b = refl
+or-more true t false true = refl
+or-more true t false false = refl
+or-more false true a b = refl
+or-more false false a b = refl
+
+found-keeps : (test : Translation → Bool) (root : ℕ) → KeepsKey (found_again test root)
+found-keeps test root =
+    let is : Held → Bool = λ i. is_some i.stale_since && (i.entry.global && test (record { root = root; entry = i.entry })) in
+    let h : (t : Bool) (i : Held) → (cond t (settled true 0 i) i).hart ≡ i.hart = λ t i. elim t as (λ t. (cond t (settled true 0 i) i).hart ≡ i.hart) [ true ↦ refl | false ↦ refl ] in
+    let r : (t : Bool) (i : Held) → (cond t (settled true 0 i) i).root ≡ i.root = λ t i. elim t as (λ t. (cond t (settled true 0 i) i).root ≡ i.root) [ true ↦ refl | false ↦ refl ] in
+    let e : (t : Bool) (i : Held) → (cond t (settled true 0 i) i).entry ≡ i.entry = λ t i. elim t as (λ t. (cond t (settled true 0 i) i).entry ≡ i.entry) [ true ↦ refl | false ↦ refl ] in
+    let l : (t : Bool) (i : Held) → (cond t (settled true 0 i) i).last_live ≡ i.last_live = λ t i. elim t as (λ t. (cond t (settled true 0 i) i).last_live ≡ i.last_live) [ true ↦ refl | false ↦ refl ] in
+    record { hart = λ i. h (is i) i; root = λ i. r (is i) i; entry = λ i. e (is i) i; last = λ i. l (is i) i }
+
 -- with the space that the hart leaves among those that were left
 module _ {scheme : Scheme} {trace : Trace} {words : Tables} {since : ℕ → ℕ → ℕ} {satps : List (Option Space)} {roots : List ℕ} {held : List Held} {left : List Left} {drops : List PastFence} {fences : List OpenFence} {claims : List OpenClaim} {count : ℕ}
     (at : Stands scheme trace words since satps roots held left drops fences claims count) (by : ℕ) (space : Option Space)
@@ -183,9 +202,6 @@ module _ {scheme : Scheme} {trace : Trace} {words : Tables} {since : ℕ → ℕ
         | inr other ↦ absurd (true≢false (sym live ∙ (sym (other-live hart x other) ∙ dead)))
       ]
 
-  abbrev settle : Held → Held
-  settle i = settled (is_current_by (is_mapped scheme words) these (translation_of i)) (count + 1) i
-
   entered-are : (f : Held → Held) → KeepsKey f → ((i : Held) → IsKnown scheme trace i → f i ≡ After scheme newest trace i) → AreHeld scheme (newest ∷ trace) New (map f held)
   entered-are f keeps after =
       subst (λ (h : List Held). AreHeld scheme (newest ∷ trace) New (map f h)) (filter_same held)
@@ -199,28 +215,60 @@ module _ {scheme : Scheme} {trace : Trace} {words : Tables} {since : ℕ → ℕ
         after = λ i known h. after i known;
       }) at.are)
 
-  settled-after-satp : (i : Held) → IsKnown scheme trace i → settle i ≡ After scheme newest trace i
-  settled-after-satp i known =
-      let n : count + 1 ≡ length (newest ∷ trace) = more_records at newest in
-      let test : is_current_by (is_mapped scheme words) these (translation_of i) ≡ is_current scheme (newest ∷ trace) (translation_of i) =
-      ap (λ w. is_current_by (is_mapped scheme w) these (translation_of i)) at.memory ∙ roots_current scheme (newest ∷ trace) these spaces (translation_of i) in
-      (λ j. settled (test j) (n j) i) ∙ settled_after scheme trace (is_current scheme (newest ∷ trace) (translation_of i)) (length (newest ∷ trace)) i
+  abbrev test : Translation → Bool
+  test = is_mapped scheme words
+
+  current-after : (x : Translation) → is_current_by test these x ≡ is_current scheme (newest ∷ trace) x
+  current-after x = ap (λ w. is_current_by (is_mapped scheme w) these x) at.memory ∙ roots_current scheme (newest ∷ trace) these spaces x
+
+  current-then : (x : Translation) → is_current_by test roots x ≡ is_current scheme trace x
+  current-then x = ap (λ w. is_current_by (is_mapped scheme w) roots x) at.memory ∙ roots_current scheme trace roots at.spaces x
+
+  -- a new root
+  module _ (root : ℕ) (one_more : these ≡ roots ++ root ∷ []) where
+    abbrev found : Translation → Bool
+    found x = x.entry.global && test (record x { root = root })
+
+    current-more : (x : Translation) → is_current scheme (newest ∷ trace) x ≡ (is_current scheme trace x || found x)
+    current-more x =
+        let which : Translation → ℕ → Bool = λ x r. test (record x { root = r }) in
+        sym (current-after x)
+        ∙ (ap (λ (rs : List ℕ). is_current_by test rs x) one_more
+        ∙ (ap (λ b. (not x.entry.global && test x) || (x.entry.global && b)) (list_any-append (which x) roots (root ∷ []))
+        ∙ (or-more x.entry.global (test x) (list_any (which x) roots) (which x root)
+        ∙ ap (λ b. b || found x) (current-then x))))
+
+    found-after-satp : (i : Held) → IsKnown scheme trace i → found_again test root i ≡ After scheme newest trace i
+    found-after-satp i known =
+        let x : Translation = translation_of i in
+        let n : ℕ = length (newest ∷ trace) in
+        let stale : is_some i.stale_since ≡ not (is_current scheme trace x) = ap is_some known.since ∙ (stale_some scheme trace i.hart x ∙ held_stale scheme trace i.hart x known.held) in
+        let go : (c f : Bool) → is_current scheme trace x ≡ c → found x ≡ f → cond (not c && f) (settled true 0 i) i ≡ After scheme newest trace i =
+        λ c f. elim c as (λ c. is_current scheme trace x ≡ c → found x ≡ f → cond (not c && f) (settled true 0 i) i ≡ After scheme newest trace i) [
+          | true ↦ λ was is. quiet scheme trace newest i (current-more x ∙ (ap (λ b. b || found x) was ∙ sym was)) known
+          | false ↦ λ was. elim f as (λ f. found x ≡ f → cond f (settled true 0 i) i ≡ After scheme newest trace i) [
+            | true ↦ λ is.
+                let now : is_current scheme (newest ∷ trace) x ≡ true = current-more x ∙ (λ j. was j || is j) in
+                sym (ap (λ b. settled b n i) now) ∙ settled_after scheme trace (is_current scheme (newest ∷ trace) x) n i
+            | false ↦ λ is. quiet scheme trace newest i (current-more x ∙ ((λ j. was j || is j) ∙ sym was)) known
+          ]
+        ] in
+        ap (λ b. cond (b && found x) (settled true 0 i) i) stale ∙ go (is_current scheme trace x) (found x) refl refl
 
   quiet-after-satp : these ≡ roots → (i : Held) → IsKnown scheme trace i → i ≡ After scheme newest trace i
   quiet-after-satp unchanged i known =
       quiet scheme trace newest i
       (current_same scheme trace (newest ∷ trace) (translation_of i) (λ root. sym (at.spaces root) ∙ (ap (list_any (λ r. r == root)) (sym unchanged) ∙ spaces root)) (λ root counts. ((λ m. m), (λ m. m)))) known
 
-  entered-held : (changed : Bool) → (changed ≡ false → these ≡ roots) → (now : List Held) → now ≡ cond changed (map settle held) held → AreHeld scheme (newest ∷ trace) New now
-  entered-held true unchanged now is =
-      subst (AreHeld scheme (newest ∷ trace) New) (sym is)
-      (entered-are settle (settled_keeps (λ i. is_current_by (is_mapped scheme words) these (translation_of i)) (count + 1)) settled-after-satp)
-  entered-held false unchanged now is =
+  entered-held : (new : Option ℕ) → (new ≡ None → these ≡ roots) → ((root : ℕ) → new ≡ Some root → these ≡ roots ++ root ∷ []) → (now : List Held) → now ≡ all_found_again test new held → AreHeld scheme (newest ∷ trace) New now
+  entered-held (Some root) same more now is =
+      subst (AreHeld scheme (newest ∷ trace) New) (sym is) (entered-are (found_again test root) (found-keeps test root) (found-after-satp root (more root refl)))
+  entered-held None unchanged more now is =
       subst (AreHeld scheme (newest ∷ trace) New) (map_same held ∙ sym is) (entered-are same same_keeps (quiet-after-satp (unchanged refl)))
 
-  pub satp_stands : by < length satps → (changed : Bool) → (changed ≡ false → these ≡ roots) → (now : List Held) → now ≡ cond changed (map settle held) held → (stayed : List Left) → stayed ≡ kept → (written : List (Option Space)) → written ≡ set satps by space
+  pub satp_stands : by < length satps → (new : Option ℕ) → (new ≡ None → these ≡ roots) → ((root : ℕ) → new ≡ Some root → these ≡ roots ++ root ∷ []) → (now : List Held) → now ≡ all_found_again test new held → (stayed : List Left) → stayed ≡ kept → (written : List (Option Space)) → written ≡ set satps by space
       → Stands scheme (newest ∷ trace) words since written these now stayed drops fences claims (count + 1)
-  satp_stands within changed unchanged now is stayed stay written put =
+  satp_stands within new unchanged more now is stayed stay written put =
       let satp : (hart : ℕ) → get_or (set satps by space) hart None ≡ cond (by == hart) space (satp_of trace hart) =
       λ hart. elim (cases_eq by hart) [
         | inl mine ↦ subst (λ h. get_or (set satps by space) h None ≡ cond (by == h) space (satp_of trace h)) mine (set-here satps by space within ∙ sym (ap (λ b. cond b space (satp_of trace by)) (eq-eqb by by refl)))
@@ -234,7 +282,7 @@ module _ {scheme : Scheme} {trace : Trace} {words : Tables} {since : ℕ → ℕ
         spaces = spaces;
         leaving = subst (EachLeft (IsLeftWithin (newest ∷ trace) drops)) (sym stay)
             (filter_each (IsLeftWithin trace drops) (IsLeftWithin (newest ∷ trace) drops) (is_other by space) (λ l w t. record { root = more-roots l.space.root w.root; within = let less = w.within in omega arith; fences = w.fences }) left at.leaving);
-        are = subst (λ (ls : List Left). AreHeld scheme (newest ∷ trace) (IsLeftAt scheme words since drops ls) now) (sym stay) (entered-held changed unchanged now is);
+        are = subst (λ (ls : List Left). AreHeld scheme (newest ∷ trace) (IsLeftAt scheme words since drops ls) now) (sym stay) (entered-held new unchanged more now is);
         fence = at.fence;
         claim = at.claim;
         records = more_records at newest;

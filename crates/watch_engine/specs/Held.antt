@@ -1,6 +1,6 @@
 -- What harts may hold and the tables do not tell: a list of translations, each with its hart.
 use Rattle.std.specs.Prelude.{ℕ, Bool, true, false, not, ◌+◌, ◌≡◌, ◌==◌, ◌&&◌, ◌||◌, nat_le, nat_lt, if◌then◌else◌}
-use Rattle.std.specs.Prelude.{List, [], ◌∷◌, ◌++◌, filter, Option, Some, None, is_some}
+use Rattle.std.specs.Prelude.{List, [], ◌∷◌, ◌++◌, filter, map, Option, Some, None, is_some}
 use Rattle.std.specs.List.{list_any}
 use Rattle.pte.specs.declared.scheme.Scheme.{Scheme}
 use Rattle.pte.specs.Address.{level_of, pages_of}
@@ -142,6 +142,18 @@ abbrev pub settled : Bool → ℕ → Held → Held
 settled true now i =
     record i { stale_since = None; freed = false; reused = false; claimed = false }
 settled false now i = record i { stale_since = since_after true now i.stale_since }
+
+-- after a hart has come to a new root: of what is global and stale, what the tables of that root have
+-- is so no more
+abbrev pub found_again : (Translation → Bool) → ℕ → Held → Held
+found_again test root i =
+    if is_some i.stale_since && (i.entry.global && test (record { root = root; entry = i.entry }))
+    then settled true 0 i
+    else i
+
+abbrev pub all_found_again : (Translation → Bool) → Option ℕ → List Held → List Held
+all_found_again test None held = held
+all_found_again test (Some root) held = map (found_again test root) held
 
 -- after a record that can only take from what the tables have: what is stale stays so
 abbrev pub settled_unless_stale : Bool → ℕ → Held → Held

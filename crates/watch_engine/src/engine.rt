@@ -10,7 +10,7 @@ ghost use Rattle.watch_engine.specs.Warnings.{AreWarnings};
 use crate::cause::Cause;
 use crate::held::Held;
 use crate::left::{Left, PastFence, add_ended, add_fence, add_left, drop_left, drop_rootless};
-use crate::list::{drop_fenced, drop_remote, mark, remember_all, settle_taken, settle_where};
+use crate::list::{drop_fenced, drop_remote, find_again, mark, remember_all, settle_taken};
 use crate::open::{OpenClaim, OpenFence, end_claim, end_fence, newest_claim, newest_fence};
 use crate::roots::{add_root, drop_roots};
 use crate::satps::{Satps, satp_in};
@@ -148,18 +148,11 @@ impl<T: Tables> Watch<T> {
         let old = self.satp(hart);
         let fences = self.drops.as_slice().len();
         add_left(&mut self.left, hart, old, self.count, fences)?;
-        let is_new = add_root(&mut self.roots, space)?;
+        let new = add_root(&mut self.roots, space)?;
         drop_left(&mut self.left, hart, space);
         self.satps.write(hart, space);
         self.count += 1;
-        settle_where(
-            is_new,
-            &mut self.held,
-            &self.tables,
-            self.scheme,
-            self.roots.as_slice(),
-            self.count,
-        );
+        find_again(new, &mut self.held, &self.tables, self.scheme);
         Ok(())
     }
 

@@ -3,13 +3,13 @@
 ghost use Rattle.std.specs.Prelude.{ℕ, Bool, ◌≡◌, ◌↔◌, ◌++◌, ◌∷◌, [], map, filter, Option, OnOk, OnErr, IfOk, IsTrue, take, if◌then◌else◌};
 ghost use Rattle.watch.specs.Computed.{is_mapped};
 ghost use Rattle.watch_engine.specs.declared.held.Held.{Held as HeldOf};
-ghost use Rattle.watch_engine.specs.Held.{is_current_by, is_of, last_translation, marked_if, outlives_fence, outlives_remote, place_in, remembered, remembered_all, settled, settled_unless_stale, translation_of};
+ghost use Rattle.watch_engine.specs.Held.{all_found_again, found_again, is_current_by, is_of, last_translation, marked_if, outlives_fence, outlives_remote, place_in, remembered, remembered_all, settled_unless_stale, translation_of};
 ghost use Rattle.watch_engine.specs.Causes.{applies, verdict_of};
 
 use crate::cause::Cause;
 use crate::held::{Held, LastLive};
 use crate::open::OpenFence;
-use crate::roots::is_current;
+use crate::roots::{is_current, is_mapped};
 use crate::tables::Tables;
 use pte::Scheme;
 use std::alloc::AllocError;
@@ -50,40 +50,47 @@ pub(crate) fn remember_all(held: &mut Vec<Held>, live: &[LastLive]) -> Result<()
     Ok(())
 }
 
-fn settle_each<T: Tables>(held: &mut [Held], tables: &T, scheme: Scheme, roots: &[u64], count: u64)
-    ensures { held.new ≡ map (λ i. settled (is_current_by (is_mapped scheme (T.words tables.now))
-        roots.now (translation_of i)) count i) held.old }
-{
-    for item in held.iter_mut() {
-        let current = is_current(tables, scheme, roots, item.root, &item.entry);
-        item.settle(current, count);
+impl Held {
+    // No longer stale, if the tables of a new root have it again.
+    fn find_again<T: Tables>(&mut self, tables: &T, scheme: Scheme, root: u64)
+        ensures { self.new ≡ found_again (is_mapped scheme (T.words tables.now)) root self.old }
+    {
+        if self.stale_since.is_some()
+            && self.entry.global
+            && is_mapped(tables, scheme, root, &self.entry)
+        {
+            self.settle(true, 0);
+        }
     }
 }
 
-// With what the tables have now.
-fn settle<T: Tables>(held: &mut Vec<Held>, tables: &T, scheme: Scheme, roots: &[u64], count: u64)
-    ensures { held.new.items ≡ map (λ i. settled (is_current_by
-        (is_mapped scheme (T.words tables.now)) roots.now (translation_of i)) count i)
-        held.old.items }
+fn find_each_again<T: Tables>(held: &mut [Held], tables: &T, scheme: Scheme, root: u64)
+    ensures { held.new ≡ map (found_again (is_mapped scheme (T.words tables.now)) root) held.old }
 {
-    settle_each(held.as_mut_slice(), tables, scheme, roots, count);
+    for item in held.iter_mut() {
+        item.find_again(tables, scheme, root);
+    }
 }
 
-// With what the tables have now, if that may have changed.
-pub(crate) fn settle_where<T: Tables>(
-    changed: bool,
+fn find_all_again<T: Tables>(held: &mut Vec<Held>, tables: &T, scheme: Scheme, root: u64)
+    ensures { held.new.items
+        ≡ map (found_again (is_mapped scheme (T.words tables.now)) root) held.old.items }
+{
+    find_each_again(held.as_mut_slice(), tables, scheme, root);
+}
+
+// With what the tables of a root have, if a hart comes to a new one.
+pub(crate) fn find_again<T: Tables>(
+    root: Option<u64>,
     held: &mut Vec<Held>,
     tables: &T,
     scheme: Scheme,
-    roots: &[u64],
-    count: u64,
 )
-    ensures { held.new.items ≡ (if changed then map (λ i. settled (is_current_by
-        (is_mapped scheme (T.words tables.now)) roots.now (translation_of i)) count i)
-        held.old.items else held.old.items) }
+    ensures { held.new.items
+        ≡ all_found_again (is_mapped scheme (T.words tables.now)) root held.old.items }
 {
-    if changed {
-        settle(held, tables, scheme, roots, count);
+    if let Some(root) = root {
+        find_all_again(held, tables, scheme, root);
     }
 }
 

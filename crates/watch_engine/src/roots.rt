@@ -1,6 +1,6 @@
 //! The roots of address spaces, and what their tables have now.
 
-ghost use Rattle.std.specs.Prelude.{◌≡◌, ◌==◌, IfOk, OnErr, OnOk, false};
+ghost use Rattle.std.specs.Prelude.{ℕ, ◌≡◌, ◌==◌, ◌++◌, ◌∷◌, [], IfOk, None, OnErr, OnOk, Some};
 ghost use Rattle.std.specs.List.{list_all, list_any};
 ghost use Rattle.watch.specs.Trace.{has_root as space_has_root, is_among};
 ghost use Rattle.watch.specs.Computed.{is_mapped};
@@ -30,20 +30,25 @@ pub(crate) fn has_root(roots: &[u64], frame: u64) -> bool
     false
 }
 
-// With the root of a space that a hart goes to, and whether it is new. At `Err` nothing changed.
-pub(crate) fn add_root(roots: &mut Vec<u64>, space: Option<Space>) -> Result<bool, AllocError>
+// With the root of a space that a hart goes to; the root, if it is new. At `Err` nothing changed.
+pub(crate) fn add_root(
+    roots: &mut Vec<u64>,
+    space: Option<Space>,
+) -> Result<Option<u64>, AllocError>
     ensures ok { OnOk result (roots.new.items ≡ with_root space roots.old.items) }
-    ensures same { IfOk result (λ new. new ≡ false → roots.new.items ≡ roots.old.items) }
+    ensures same { IfOk result (λ new. new ≡ None → roots.new.items ≡ roots.old.items) }
+    ensures more { IfOk result (λ new. (root : ℕ) → new ≡ Some root
+        → roots.new.items ≡ roots.old.items ++ root ∷ []) }
     ensures err { OnErr result (roots.new.items ≡ roots.old.items) }
 {
     let Some(space) = space else {
-        return Ok(false);
+        return Ok(None);
     };
     if has_root(roots.as_slice(), space.root) {
-        return Ok(false);
+        return Ok(None);
     }
     roots.push(space.root)?;
-    Ok(true)
+    Ok(Some(space.root))
 }
 
 // The space has the root.
@@ -96,7 +101,7 @@ pub(crate) fn drop_roots(roots: &mut Vec<u64>, frames: Frames, satps: &[Option<S
 }
 
 // The tables of the root have the entry.
-fn is_mapped<T: Tables>(tables: &T, scheme: Scheme, root: u64, entry: &Entry) -> bool
+pub(crate) fn is_mapped<T: Tables>(tables: &T, scheme: Scheme, root: u64, entry: &Entry) -> bool
     ensures { result ≡ is_mapped scheme (T.words tables.now)
         (record { root = root; entry = entry.now }) }
 {

@@ -1,10 +1,7 @@
-use Rattle.std.proofs.Common.{◌≡◌, ◌∙◌, sym, ap, subst, List, map, ◌+◌, length, ℕ}
-use Rattle.std.specs.Prelude.{cond}
+use Rattle.std.proofs.Common.{◌≡◌, sym, ap, subst, List, length, ℕ}
 use Rattle.walk.specs.Leads.{Tables}
-use Rattle.watch.specs.Computed.{is_mapped}
 use Rattle.watch_engine.specs.declared.held.Held.{Held}
 use Rattle.watch_engine.specs.declared.left.PastFence.{PastFence}
-use Rattle.watch_engine.specs.Held.{is_current_by, settled, translation_of}
 use Rattle.watch_engine.proofs.SpaceChanges.{leaving_all, left_pushed, other_roots, other_satps, satp_stands}
 use Rattle.watch_engine.specs.declared.left.Left.{Left}
 use Rattle.watch_engine.specs.Standing.{Stands}
@@ -18,13 +15,13 @@ pub returns-in_err-add_left-clause-err : goal.returns-in_err-add_left-clause-err
 returns-in_err-add_left-clause-err g c = λ trace at.
     on_err _ _ (subst (λ (ls : List Left). Stands c.args.self.now.scheme trace (g.T.Tables.words c.args.self.now.tables) (g.T.Tables.since c.args.self.now.tables) c.add_hart.new.self.spaces.items c.args.self.now.roots.items c.args.self.now.held.items ls c.args.self.now.drops.items c.args.self.now.fences.items c.args.self.now.claims.items c.args.self.now.count) (sym c.in_err-add_left.ensures.err) (other_satps at _ c.add_hart.new.self.limit c.add_hart.ensures.same))
 
-pub returns-in_err-is_new-clause-err : goal.returns-in_err-is_new-clause-err
-returns-in_err-is_new-clause-err g c = λ trace at.
+pub returns-in_err-new-clause-err : goal.returns-in_err-new-clause-err
+returns-in_err-new-clause-err g c = λ trace at.
     let drops : List PastFence = c.args.self.now.drops.items in
     let grown = other_satps at _ c.add_hart.new.self.limit c.add_hart.ensures.same in
     let long : length c.as_slice-fences.result.now ≡ length drops = ap (λ (ds : List PastFence). length ds) c.as_slice-fences.ensures.value in
     let pushed = left_pushed grown c.args.hart c.satp-old.result (sym c.satp-old.ensures) (length c.as_slice-fences.result.now) long _ c.in_ok-add_left.ensures.ok in
-    on_err _ _ (other_roots pushed _ c.in_err-is_new.ensures.err)
+    on_err _ _ (other_roots pushed _ c.in_err-new.ensures.err)
 
 pub returns-clause-ok : goal.returns-clause-ok
 returns-clause-ok g c = λ trace at.
@@ -38,6 +35,5 @@ returns-clause-ok g c = λ trace at.
     let long : length c.as_slice-fences.result.now ≡ length drops = ap (λ (ds : List PastFence). length ds) c.as_slice-fences.ensures.value in
     let pushed = left_pushed grown c.args.hart c.satp-old.result (sym c.satp-old.ensures) (length c.as_slice-fences.result.now) long _ c.in_ok-add_left.ensures.ok in
     let leaves = leaving_all grown c.args.hart c.satp-old.result (sym c.satp-old.ensures) (length c.as_slice-fences.result.now) long _ c.in_ok-add_left.ensures.ok in
-    let settle : List ℕ → Held → Held = λ rs i. settled (is_current_by (is_mapped scheme words) rs (translation_of i)) (watch.count + 1) i in
-    satp_stands pushed c.args.hart c.args.space leaves these c.in_ok-is_new.ensures.ok c.in_ok-add_hart.ensures.ok c.in_ok-is_new.is_new c.in_ok-is_new.ensures.same _
-    (c.settle_where.ensures ∙ (λ j. cond c.in_ok-is_new.is_new (map (settle (c.as_slice.ensures.value j)) held) held)) _ c.drop_left.ensures _ c.write.ensures
+    satp_stands pushed c.args.hart c.args.space leaves these c.in_ok-new.ensures.ok c.in_ok-add_hart.ensures.ok c.in_ok-new.new c.in_ok-new.ensures.same c.in_ok-new.ensures.more _
+    c.find_again.ensures _ c.drop_left.ensures _ c.write.ensures

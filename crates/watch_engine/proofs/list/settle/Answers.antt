@@ -1,8 +1,0 @@
-use Rattle.watch.specs.Computed.{is_mapped}
-use Rattle.watch_engine.specs.Held.{is_current_by, settled, translation_of}
-use Rattle.watch_engine.proofs.Places.{mapped_whole}
-use Rattle.watch_engine.proofs.list.settle.Goals as goal
-
-pub returns : goal.returns
-returns g c =
-    mapped_whole (λ i. settled (is_current_by (is_mapped c.args.scheme (g.T.Tables.words c.args.tables.now)) c.args.roots.now (translation_of i)) c.args.count i) _ c.settle_each.new.held c.as_mut_slice.result.now c.args.held.now.items c.settle_each.ensures c.as_mut_slice.ensures.value c.as_mut_slice.ensures.len

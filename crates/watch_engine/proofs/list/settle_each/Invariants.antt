@@ -1,8 +1,0 @@
-use Rattle.std.proofs.Common.{◌≡◌, map, take, drop, ◌++◌}
-use Rattle.watch.specs.Computed.{is_mapped}
-use Rattle.watch_engine.specs.Held.{is_current_by, settled, translation_of}
-use Rattle.watch_engine.proofs.list.settle_each.Given as goal
-
-abbrev pub invariant-loop-item : goal.invariant-loop-item
-invariant-loop-item g l =
-    l.held ≡ map (λ i. settled (is_current_by (is_mapped l.scheme (g.T.Tables.words l.tables)) l.roots (translation_of i)) l.count i) (take l.item-index l.fn.held) ++ drop l.item-index l.fn.held
