@@ -25,3 +25,4 @@ pub mod WarnedPages
 pub mod WarningAnswers
 pub mod Asked
 pub mod Touching
+pub mod Marking

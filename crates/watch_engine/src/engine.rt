@@ -10,7 +10,7 @@ ghost use Rattle.watch_engine.specs.Warnings.{AreWarnings};
 use crate::cause::Cause;
 use crate::held::Held;
 use crate::left::{Left, PastFence, add_ended, add_fence, add_left, drop_left, drop_rootless};
-use crate::list::{drop_fenced, drop_remote, find_again, mark, remember_all, settle_taken};
+use crate::list::{drop_fenced, drop_remote, find_again, mark_given, remember_all, settle_taken};
 use crate::open::{OpenClaim, OpenFence, end_claim, end_fence, newest_claim, newest_fence};
 use crate::roots::{add_root, drop_roots};
 use crate::satps::{Satps, satp_in};
@@ -256,7 +256,7 @@ impl<T: Tables> Watch<T> {
             &mut seen,
         )?;
         remember_all(&mut self.held, seen.as_slice())?;
-        mark(&mut self.held, &cause);
+        mark_given(&mut self.held, &cause, given.as_slice());
         self.tables.clear(frames);
         let keeps = drop_roots(&mut self.roots, frames, self.satps.spaces());
         drop_rootless(&mut self.left, self.roots.as_slice());
@@ -286,7 +286,7 @@ impl<T: Tables> Watch<T> {
     {
         let cause = Cause::Back(frames);
         let given = warnings(self.alloc, self.held.as_slice(), &cause)?;
-        mark(&mut self.held, &cause);
+        mark_given(&mut self.held, &cause, given.as_slice());
         self.count += 1;
         Ok(given)
     }
@@ -306,7 +306,7 @@ impl<T: Tables> Watch<T> {
         let claim = newest_claim(self.claims.as_slice(), token);
         let cause = Cause::Claim(claim);
         let given = warnings(self.alloc, self.held.as_slice(), &cause)?;
-        mark(&mut self.held, &cause);
+        mark_given(&mut self.held, &cause, given.as_slice());
         end_claim(&mut self.claims, token);
         self.count += 1;
         Ok(given)

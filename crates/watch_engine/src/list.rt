@@ -11,6 +11,7 @@ use crate::held::{Held, LastLive};
 use crate::open::OpenFence;
 use crate::roots::{is_current, is_mapped};
 use crate::tables::Tables;
+use crate::warning::Warning;
 use pte::Scheme;
 use std::alloc::AllocError;
 
@@ -170,11 +171,24 @@ fn mark_each(held: &mut [Held], cause: &Cause)
 }
 
 // With the verdict of those that the cause is of.
-pub(crate) fn mark(held: &mut Vec<Held>, cause: &Cause)
+fn mark(held: &mut Vec<Held>, cause: &Cause)
     ensures { held.new.items
         ≡ map (marked_if (verdict_of cause.now) (applies cause.now)) held.old.items }
 {
     mark_each(held.as_mut_slice(), cause);
+}
+
+// The same, where what is given by the cause is known: if nothing is, all keep the verdicts that they
+// have.
+pub(crate) fn mark_given(held: &mut Vec<Held>, cause: &Cause, given: &[Warning])
+    requires { given.now ≡ [] → map (marked_if (verdict_of cause.now) (applies cause.now))
+        held.old.items ≡ held.old.items }
+    ensures { held.new.items
+        ≡ map (marked_if (verdict_of cause.now) (applies cause.now)) held.old.items }
+{
+    if !given.is_empty() {
+        mark(held, cause);
+    }
 }
 
 // Without what a fence of the hart drops.

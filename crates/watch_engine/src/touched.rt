@@ -9,8 +9,8 @@ ghost use Rattle.watch_engine.specs.Touched.{asks, is_below, is_kept_after, is_t
 
 use crate::held::Held;
 use crate::live::is_live_in;
-use crate::satps::satp_in;
 use crate::roots::{has_root, is_current};
+use crate::satps::satp_in;
 use crate::tables::Tables;
 use pte::{PAGE_BYTES, Page, Scheme};
 use watch::Space;

@@ -26,8 +26,7 @@ loop-item-preserved g c =
     let some : c.if-some.some ≡ (c.loop-item.some || c.settle_if-is_live.result) = elim c.if-some.branch [
       | then-some w ↦ search rules
       | else-some w ↦ search rules
-    ] in
-    (
+    ] in (
       rw new (map_over_more f old c.loop-item.held at x within c.loop-item.invariant.0 c.item-item.is),
       some ∙ ((λ j. c.loop-item.invariant.1 j || tested j) ∙ sym (any_more q old at x within read)),
     )

@@ -8,6 +8,7 @@ use Rattle.watch_engine.specs.Held.{is_claimed_by, marked_if}
 use Rattle.watch_engine.specs.Open.{IsOpenClaim, newest_claim}
 use Rattle.watch_engine.specs.Warnings.{AreWarnings, joined}
 use Rattle.watch_engine.proofs.Judging.{are_warnings, claim_causes}
+use Rattle.watch_engine.proofs.Marking.{still_same}
 use Rattle.watch_engine.proofs.PlainChanges.{claim_end_stands}
 use Rattle.watch_engine.proofs.engine.Watch.end_claim.Goals as goal
 
@@ -27,4 +28,10 @@ returns-clause-ok g c = λ hart trace at.
     let held : List Held = c.args.self.now.held.items in
     let found : Option OpenClaim = c.newest_claim-claim.result in
     let is : found ≡ newest_claim token None c.args.self.now.claims.items = c.newest_claim-claim.ensures ∙ ap (newest_claim token None) c.as_slice.ensures.value in
-    claim_end_stands at hart token _ _ (c.mark.ensures ∙ ap (λ o. map (marked_if Claimed (is_claimed_by o)) held) is) c.end_claim.ensures
+    claim_end_stands at hart token _ _ (c.mark_given.ensures ∙ ap (λ o. map (marked_if Claimed (is_claimed_by o)) held) is) c.end_claim.ensures
+
+pub mark_given-requires : goal.mark_given-requires
+mark_given-requires g c = λ none.
+    let held : List Held = c.args.self.now.held.items in
+    let found : Option OpenClaim = c.newest_claim-claim.result in
+    still_same (Claim found) held (sym (c.in_ok-given.ensures ∙ ap (λ (h : List Held). joined (Claim found) h []) c.as_slice-2.ensures.value) ∙ (sym c.as_slice-3.ensures.value ∙ none))

@@ -4,6 +4,7 @@ use Rattle.watch_engine.specs.declared.cause.Cause.TheVariants.{Back}
 use Rattle.watch_engine.specs.declared.held.Held.{Held}
 use Rattle.watch_engine.specs.Warnings.{AreWarnings, joined}
 use Rattle.watch_engine.proofs.Judging.{are_warnings, back_causes}
+use Rattle.watch_engine.proofs.Marking.{still_same}
 use Rattle.watch_engine.proofs.PlainChanges.{back_stands}
 use Rattle.watch_engine.proofs.engine.Watch.give_back.Goals as goal
 
@@ -16,4 +17,9 @@ returns-clause-warnings g c = λ hart trace at.
     (are_warnings scheme (records.GiveBack hart frames) trace (Back frames) _ (back_causes scheme hart frames trace) held at.are)
 
 pub returns-clause-ok : goal.returns-clause-ok
-returns-clause-ok g c = λ hart trace at. back_stands at hart c.args.frames _ c.mark.ensures
+returns-clause-ok g c = λ hart trace at. back_stands at hart c.args.frames _ c.mark_given.ensures
+
+pub mark_given-requires : goal.mark_given-requires
+mark_given-requires g c = λ none.
+    let held : List Held = c.args.self.now.held.items in
+    still_same (Back c.args.frames) held (sym (c.in_ok-given.ensures ∙ ap (λ (h : List Held). joined (Back c.args.frames) h []) c.as_slice.ensures.value) ∙ (sym c.as_slice-2.ensures.value ∙ none))

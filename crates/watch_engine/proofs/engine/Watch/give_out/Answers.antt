@@ -18,6 +18,7 @@ use Rattle.watch_engine.specs.Standing.{Stands}
 use Rattle.watch_engine.proofs.FrameChanges.{frames_stand}
 use Rattle.watch_engine.proofs.Gathering.{SeenIn}
 use Rattle.watch_engine.proofs.Judging.{are_warnings, out_causes}
+use Rattle.watch_engine.proofs.Marking.{still_same_out}
 use Rattle.watch_engine.proofs.Standings.{on_err, some_remembered}
 use Rattle.watch_engine.proofs.engine.Watch.give_out.Goals as goal
 
@@ -68,10 +69,19 @@ returns-clause-ok g c = λ hart trace at.
     let these : List ℕ = c.drop_roots-keeps.new.roots.items in
     let mark : Held → Held = marked_if Reuse (is_exposed_by frames) in
     let settle : List ℕ → Held → Held = λ rs i. settled_unless_stale (is_current_by (is_mapped scheme new) rs (translation_of i)) (watch.count + 1) i in
-    let marks : c.mark.new.held.items ≡ map mark (remembered_all seen held) = c.mark.ensures ∙ ap (map mark) c.in_ok-remember_all.ensures.ok in
+    let marks : c.mark_given.new.held.items ≡ map mark (remembered_all seen held) = c.mark_given.ensures ∙ ap (map mark) c.in_ok-remember_all.ensures.ok in
     let changed : Bool = c.may_differ.result in
     subst (λ (ls : List Left). Stands scheme (records.GiveOut hart frames ∷ trace) new (g.T.Tables.since c.clear.new.self) watch.satps.spaces.items these c.settle_taken.new.held.items ls drops watch.fences.items watch.claims.items (watch.count + 1))
-    (sym (c.drop_rootless.ensures ∙ ap (λ (rs : List ℕ). filter (has_its_root rs) left) c.as_slice-6.ensures.value))
+    (sym (c.drop_rootless.ensures ∙ ap (λ (rs : List ℕ). filter (has_its_root rs) left) c.as_slice-7.ensures.value))
     (frames_stand at hart frames new (g.T.Tables.since c.clear.new.self) (c.clear.ensures.words hart) c.clear.ensures.others addresses c.in_ok-addresses.ensures these (c.drop_roots-keeps.ensures.roots ∙ (λ j. without_frames frames (c.spaces-2.ensures.value j) watch.roots.items)) changed
-    (λ same. (sym c.as_slice-7.ensures.value ∙ c.may_differ.ensures.words same, sym (c.drop_roots-keeps.ensures.all ∙ (λ j. list_all (root_stays frames (c.spaces-2.ensures.value j)) watch.roots.items)) ∙ c.may_differ.ensures.roots same)) seen all _
-    (c.settle_taken.ensures ∙ (λ j. cond changed (map (settle (c.as_slice-8.ensures.value j)) (marks j)) (marks j))))
+    (λ same. (sym c.as_slice-8.ensures.value ∙ c.may_differ.ensures.words same, sym (c.drop_roots-keeps.ensures.all ∙ (λ j. list_all (root_stays frames (c.spaces-2.ensures.value j)) watch.roots.items)) ∙ c.may_differ.ensures.roots same)) seen all _
+    (c.settle_taken.ensures ∙ (λ j. cond changed (map (settle (c.as_slice-9.ensures.value j)) (marks j)) (marks j))))
+
+pub mark_given-requires : goal.mark_given-requires
+mark_given-requires g c = λ none.
+    let held : List Held = c.args.self.now.held.items in
+    let frames = c.args.frames in
+    let seen : List LastLive = c.as_slice-5.result.now in
+    let f : Held → Held = marked_if Reuse (is_exposed_by frames) in
+    let empty : joined (Out frames) held [] ≡ [] = sym (c.in_ok-given.ensures ∙ ap (λ (h : List Held). joined (Out frames) h []) c.as_slice.ensures.value) ∙ (sym c.as_slice-6.ensures.value ∙ none) in
+    ap (map f) c.in_ok-remember_all.ensures.ok ∙ (still_same_out frames seen held empty ∙ sym c.in_ok-remember_all.ensures.ok)
