@@ -1,8 +1,8 @@
 -- Where nothing is given that is new, all have the verdict already.
-use Rattle.std.proofs.Common.{◌≡◌, ℕ, Bool, true, false, List, [], ◌∷◌, ◌++◌, length, map, ap, sym, ◌∙◌, refl, arith}
-use Rattle.std.specs.Prelude.{◌&&◌, ◌||◌, cond, not}
+use Rattle.std.proofs.Common.{◌≡◌, Bool, true, false, List, [], ◌∷◌, ◌++◌, length, map, ap, sym, ◌∙◌, refl, arith}
+use Rattle.std.specs.Prelude.{◌&&◌, cond, not}
 use Rattle.std.specs.List.{list_any}
-use Rattle.std.proofs.lemmas.Bool.{not-false, true≢false}
+use Rattle.std.proofs.lemmas.Bool.{not-false}
 use Rattle.std.proofs.lemmas.List.{length-append}
 use Rattle.watch.specs.declared.trace.Frames.{Frames}
 use Rattle.watch.specs.declared.trace.Verdict.{Verdict}
@@ -13,7 +13,7 @@ use Rattle.watch_engine.specs.declared.held.Held.{Held}
 use Rattle.watch_engine.specs.declared.held.LastLive.{LastLive}
 use Rattle.watch_engine.specs.declared.warning.Warning.{Warning}
 use Rattle.watch_engine.specs.Causes.{applies, is_given_by, is_marked, verdict_of}
-use Rattle.watch_engine.specs.Held.{Each, held_from, is_exposed_by, is_of, last_translation, marked, marked_if, remembered, remembered_all}
+use Rattle.watch_engine.specs.Held.{Each, is_exposed_by, is_of, last_translation, marked, marked_if, remembered, remembered_all}
 use Rattle.watch_engine.specs.Warnings.{is_shown, joined, warning_of, with_warning}
 use Rattle.watch_engine.proofs.Places.{touched}
 
