@@ -60,7 +60,7 @@ def wanted(lines, notes):
         what = why(trace, record) + by(number)
         for verdict, hart, x in trace.record(record):
             since = stale_since(trace, hart, x, number - 1)
-            due.setdefault(f"{number} {shown(verdict, hart, x)}", set()).add(f"stale since {since}; {what}")
+            due.setdefault(f"{number} {shown(verdict, hart, x)}", set()).add(f"stale since {since}{by(since)}; {what}")
     return due
 
 

@@ -1,8 +1,6 @@
 -- How the report of a trace ends.
-use Rattle.std.proofs.Common.{◌≡◌, ◌⊎◌, inl, inr, ℕ, ◌+◌, Bool, true, false, List, [], ◌∷◌, ◌++◌, length, drop, Option, Some, None, IfSome, Result, Ok, Err, IfOk, IfErr, get_or, cond, nat_lt, option_map, refl, sym, ap, subst, ◌∙◌, arith, append_assoc, append-nil, length-append}
-use Rattle.std.specs.Io.KnownBytes.{Appends}
-use Rattle.std.specs.List.{position, position_or_len}
-use Rattle.std.specs.Option.{unwrap_or}
+use Rattle.std.proofs.Common.{◌≡◌, inl, inr, ℕ, ◌+◌, Bool, true, false, List, [], ◌∷◌, ◌++◌, length, drop, Option, Some, None, IfSome, Result, Ok, Err, IfOk, IfErr, get_or, cond, nat_lt, option_map, refl, sym, ap, subst, ◌∙◌, arith, append_assoc, append-nil, length-append}
+use Rattle.std.specs.List.{position_or_len}
 use Rattle.std.proofs.KnownBytes.{Appends-nil}
 use Rattle.std.proofs.lemmas.Bool.Decides.{nat_tests}
 use Rattle.watch_lines.specs.declared.header.Header.{Header}
@@ -14,7 +12,7 @@ use Rattle.watch_report.specs.declared.reading.Reading.{Reading}
 use Rattle.watch_report.specs.Ending.{Ends, EndsBy, Tells}
 use Rattle.watch_report.specs.Output.{WritesAll, WritesFront}
 use Rattle.watch_report.specs.Reading.{FailsAtEnd, FailsAtLine, IsReadFault, Stands}
-use Rattle.watch_report.specs.TraceText.{Noted, body_of, faulty_line, has_no_form, header_of, lines_of, records_of, with_record}
+use Rattle.watch_report.specs.TraceText.{Noted, body_of, faulty_line, has_no_form, header_of, lines_of, with_record}
 use Rattle.watch_report.specs.VerdictLines.{VerdictText, WholeText, verdict_lines}
 use Rattle.watch_report.proofs.ReadLemmas.{AreTaken, IsText, all_formed, more_taken, records_of_all, records_of_front, stops}
 

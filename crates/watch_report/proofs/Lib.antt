@@ -5,3 +5,4 @@ mod ReadLemmas
 mod EndingLemmas
 pub mod TriggerLaws
 pub mod WorkedReports
+mod NoteLemmas

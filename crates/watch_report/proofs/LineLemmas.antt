@@ -1,6 +1,5 @@
 -- A line in front of a text.
-use Rattle.std.proofs.Common.{◌≡◌, ◌≢◌, ℕ, ◌+◌, ◌-◌, ◌<◌, Bool, true, false, List, [], ◌∷◌, ◌++◌, All, length, take, drop, Option, None, Some, IfSome, OnSome, cond, eqb, refl, sym, ap, subst, ◌∙◌, arith, append_assoc, ne_eqb, eqb-true}
-use Rattle.std.specs.Io.{StopsAt}
+use Rattle.std.proofs.Common.{◌≡◌, ◌≢◌, ℕ, Bool, true, false, List, [], ◌∷◌, ◌++◌, All, Option, None, Some, IfSome, cond, eqb, refl, sym, ap, subst, ◌∙◌, append_assoc, ne_eqb, eqb-true}
 use Rattle.std.specs.Io.KnownBytes.{Consumes, IsAtEnd}
 use Rattle.std.specs.Io.BufRead.{take_through, drop_through, DropsThrough}
 use Rattle.std.proofs.lemmas.List.Elements.{All-head, All-tail}

@@ -1,21 +1,21 @@
 -- Each warning has its line.
-use Rattle.std.proofs.Common.{◌≡◌, ℕ, Bool, true, false, List, [], ◌∷◌, Option, Some, None, length, option_map, refl, sym, ap, ◌∙◌, arith}
+use Rattle.std.proofs.Common.{◌≡◌, ℕ, Bool, true, false, List, [], ◌∷◌, Option, Some, None, option_map, refl, sym, ap, ◌∙◌, arith}
 use Rattle.std.specs.List.{Contains}
 use Rattle.std.proofs.lemmas.Bool.{true≢false}
 use Rattle.pte.specs.declared.scheme.Scheme.{Scheme}
 use Rattle.watch.specs.declared.trace.Claim.{Claim}
 use Rattle.watch.specs.declared.trace.Record.{Record}
-use Rattle.watch.specs.declared.trace.Record.TheVariants.{Store, Satp, Fence, RemoteBegin, RemoteEnd, GiveOut, GiveBack, ClaimBegin, ClaimEnd, Use}
+use Rattle.watch.specs.declared.trace.Record.TheVariants.{GiveOut, GiveBack, ClaimEnd, Use}
 use Rattle.watch.specs.declared.trace.Verdict.{Verdict}
 use Rattle.watch.specs.declared.trace.Verdict.TheVariants.{Free, Reuse, Claimed, Used}
 use Rattle.watch.specs.Holding.{Translation}
-use Rattle.watch.specs.Trace.{Trace, claim_of}
+use Rattle.watch.specs.Trace.{Trace}
 use Rattle.watch.specs.Verdicts.{IsGiven}
 use Rattle.watch_engine.specs.declared.warning.Warning.{Warning}
 use Rattle.watch_engine.specs.Open.{claim_begun}
 use Rattle.watch_engine.specs.Warnings.{AreWarnings, shown_of}
 use Rattle.watch_lines.specs.declared.warning.Trigger.{Trigger}
-use Rattle.watch_lines.specs.declared.warning.Trigger.TheVariants.{GivenBack, GivenOut, ClaimedSince, UsedAt}
+use Rattle.watch_lines.specs.declared.warning.Trigger.TheVariants.{ClaimedSince}
 use Rattle.watch_lines.specs.Warnings.{verdict_of}
 use Rattle.watch_report.specs.VerdictLines.{trigger_of}
 

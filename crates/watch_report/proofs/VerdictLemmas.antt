@@ -1,10 +1,7 @@
 -- The verdicts on a trace, one record after the other.
-use Rattle.std.proofs.Common.{◌≡◌, ◌↔◌, ◌⊎◌, inl, inr, ℕ, ◌+◌, ◌<◌, Bool, true, false, IsTrue, List, [], ◌∷◌, ◌++◌, length, map, Option, Some, None, Result, Ok, Err, OnOk, OnErr, IfErr, cond, nat_lt, ltb-true, lt-ltb, refl, sym, ap, subst, ◌∙◌, arith}
-use Rattle.std.specs.Prelude.{IsErrOf, if◌then◌else◌}
-use Rattle.std.specs.List.{Contains}
+use Rattle.std.proofs.Common.{◌≡◌, ◌↔◌, inl, inr, ℕ, ◌+◌, ◌<◌, Bool, true, false, IsTrue, List, [], ◌∷◌, ◌++◌, length, Option, Some, Result, Ok, Err, OnErr, IfErr, nat_lt, ltb-true, lt-ltb, refl, sym, ap, subst, ◌∙◌, arith}
+use Rattle.std.specs.Prelude.{IsErrOf}
 use Rattle.std.specs.Io.KnownBytes.{Appends}
-use Rattle.std.proofs.lemmas.Bool.Decides.{nat_tests}
-use Rattle.std.proofs.lemmas.List.{length-map}
 use Rattle.pte.specs.declared.scheme.Scheme.{Scheme}
 use Rattle.watch.specs.declared.trace.Record.{Record}
 use Rattle.watch.specs.declared.trace.Verdict.{Verdict}
@@ -22,28 +19,26 @@ use Rattle.watch_lines.specs.TraceLines.{line_in, record_of}
 use Rattle.watch_report.specs.declared.fault.ReportFault.{ReportFault}
 use Rattle.watch_report.specs.declared.fault.ReportFault.TheVariants.{Unreadable, Line, Output, NoMemory}
 use Rattle.watch_report.specs.declared.reading.Reading.{Reading}
-use Rattle.watch_report.specs.Output.{AppendsFront, WritesAll, WritesFront}
-use Rattle.watch_report.specs.Reading.{FailsAtEnd, FailsAtLine, FailsAtRecord, HasSeen, Stands, noted_of}
+use Rattle.watch_report.specs.NoteTexts.{AreNotes}
+use Rattle.watch_report.specs.Output.{AppendsFront}
+use Rattle.watch_report.specs.Reading.{FailsAtEnd, FailsAtLine, FailsAtRecord, HasSeen, noted_of}
 use Rattle.watch_report.specs.TraceText.{Noted, trace_of}
-use Rattle.watch_report.specs.VerdictLines.{AreGiven, GivesAt, GivesVerdict, VerdictText, WholeText, counted, counts_after, counts_of, lines_by, record_lines, summary_of, trigger_of, verdict_lines, with_verdict}
+use Rattle.watch_report.specs.VerdictLines.{AreGiven, GivesAt, GivesVerdict, WholeText, counted, counts_after, counts_of, lines_by, record_lines, trigger_of, verdict_lines, with_verdict}
 use Rattle.watch_report.proofs.OutputLemmas.{front_after}
 
 -- ---- one record more
 
 pub lines_are : (records : List Noted) (made : Record) (by lines : List ℕ) (warnings : List Warning) (trigger : Option Trigger) (number : ℕ)
-    → trigger ≡ trigger_of (trace_of records) made → number ≡ length records + 1 → lines ≡ lines_by trigger number by warnings
-    → lines ≡ record_lines (noted_of made by) (trace_of records) warnings
-lines_are records made by lines warnings trigger number is counts e =
-    let long : length records ≡ length (trace_of records) = sym (length-map records (λ (r : Noted). r.made)) in
-    e ∙ ap (λ (t : Option Trigger). lines_by t number by warnings) is
-    ∙ ap (λ n. lines_by (trigger_of (trace_of records) made) n by warnings) (counts ∙ ap (λ n. n + 1) long)
+    → trigger ≡ trigger_of (trace_of records) made → number ≡ length records + 1 → lines ≡ lines_by trigger number records by warnings
+    → lines ≡ record_lines (noted_of made by) records warnings
+lines_are records made by lines warnings trigger number is counts e = e ∙ (λ j. lines_by (is j) (counts j) records by warnings)
 
 pub seen_more : (r new : Reading) (records : List Noted) (given : List (List Warning)) (newest : Noted) (warnings : List Warning)
     → HasSeen records given r → new.header ≡ r.header → new.watch.scheme ≡ r.watch.scheme → Follows words since (newest.made ∷ trace_of records) new.watch
-    → AreWarnings r.watch.scheme newest.made (trace_of records) warnings → new.records ≡ r.records + 1
+    → AreWarnings r.watch.scheme newest.made (trace_of records) warnings → new.records ≡ r.records + 1 → AreNotes (newest ∷ records) new.notes
     → new.user ≡ counts_after false r.user warnings → new.kernel ≡ counts_after true r.kernel warnings
     → HasSeen (newest ∷ records) (warnings ∷ given) new
-seen_more r new records given newest warnings seen header scheme follows are number user kernel =
+seen_more r new records given newest warnings seen header scheme follows are number notes user kernel =
     let old : r.watch.scheme ≡ r.header.scheme = seen.scheme in
     record {
       follows = follows;
@@ -53,6 +48,7 @@ seen_more r new records given newest warnings seen header scheme follows are num
         subst (λ (h : Header). AreGiven h.scheme records given) (sym header) seen.are,
       );
       number = omega (arith, number, seen.number);
+      notes = notes;
       user = user ∙ ap (λ (counts : VerdictCounts). counts_after false counts warnings) seen.user;
       kernel = kernel ∙ ap (λ (counts : VerdictCounts). counts_after true counts warnings) seen.kernel;
     }
@@ -60,7 +56,7 @@ seen_more r new records given newest warnings seen header scheme follows are num
 -- the writer failed at the lines of a record
 pub fails_at_record : (r : Result (Unit {0}) ReportFault) (scheme : Scheme) (newest : Noted) (records : List Noted) (given : List (List Warning)) (warnings : List Warning) (start mid out : Option (List ℕ))
     → AreWarnings scheme newest.made (trace_of records) warnings → AreGiven scheme records given → Appends start mid (verdict_lines records given)
-    → OnErr r (IsErrOf r Output) → OnErr r (AppendsFront mid out (record_lines newest (trace_of records) warnings))
+    → OnErr r (IsErrOf r Output) → OnErr r (AppendsFront mid out (record_lines newest records warnings))
     → IfErr r (λ fault. FailsAtRecord fault scheme newest records start out)
 fails_at_record (Ok done) scheme newest records given warnings start mid out new old written is front = tt
 fails_at_record (Err fault) scheme newest records given warnings start mid out new old written is front =

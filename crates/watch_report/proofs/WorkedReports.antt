@@ -1,5 +1,5 @@
 -- The worked reports, computed.
-use Rattle.std.proofs.Common.{◌≡◌, ℕ, codes, Bool, true, false, List, [], ◌∷◌, ◌++◌, Option, Some, None, inl, inr, refl, ap, sym, ◌∙◌, subst, length, arith}
+use Rattle.std.proofs.Common.{◌≡◌, ℕ, codes, false, List, [], ◌∷◌, Option, Some, None, inl, inr, refl, ap, ◌∙◌, length, arith}
 use Rattle.std.specs.Fmt.{digits}
 use Rattle.std.proofs.lemmas.Bool.{false≢true}
 use Rattle.pte.specs.declared.scheme.Scheme.{Scheme}
@@ -9,8 +9,7 @@ use Rattle.watch.specs.declared.trace.Verdict.{Verdict}
 use Rattle.watch.specs.declared.trace.Verdict.TheVariants.{Free, Reuse, Claimed, Used}
 use Rattle.watch.specs.Holding.{Translation}
 use Rattle.watch.specs.Verdicts.{IsGiven}
-use Rattle.watch_engine.specs.declared.warning.Warning.{Warning}
-use Rattle.watch_engine.specs.Warnings.{AreApart, AreWarnings}
+use Rattle.watch_engine.specs.Warnings.{AreWarnings}
 use Rattle.watch_report.specs.TraceText.{body_of}
 use Rattle.watch_report.specs.VerdictLines.{GivesVerdict, WholeText}
 use Rattle.watch_report.specs.WorkedReports as rows

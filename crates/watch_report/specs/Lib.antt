@@ -1,4 +1,5 @@
 pub mod TraceText
+pub mod NoteTexts
 pub mod VerdictLines
 pub mod Output
 pub mod Reading

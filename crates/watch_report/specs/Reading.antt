@@ -11,6 +11,7 @@ use Rattle.watch_report.specs.declared.reading.Reading.{Reading}
 use Rattle.pte.specs.declared.scheme.Scheme.{Scheme}
 use Rattle.watch_lines.specs.declared.header.Header.{Header}
 use Rattle.watch_lines.specs.TraceLines.{line_in}
+use Rattle.watch_report.specs.NoteTexts.{AreNotes}
 use Rattle.watch_report.specs.Output.{WritesAll, WritesFront}
 use Rattle.watch_report.specs.TraceText.{Noted, has_no_form, lines_of, trace_of, with_record}
 use Rattle.watch_report.specs.VerdictLines.{AreGiven, VerdictText, WholeText, counts_of, verdict_lines}
@@ -44,6 +45,7 @@ pub record HasSeen (records : List Noted) (given : List (List Warning)) (r : Rea
   pub scheme : r.watch.scheme ≡ r.header.scheme
   pub are : AreGiven r.header.scheme records given
   pub number : r.records ≡ length records
+  pub notes : AreNotes records r.notes
   pub user : r.user ≡ counts_of false given
   pub kernel : r.kernel ≡ counts_of true given
 

@@ -1,5 +1,5 @@
 -- What the text of a trace says, line by line.
-use Rattle.std.specs.Prelude.{ℕ, Bool, ◌==◌, ◌+◌, List, [], ◌∷◌, drop, get_or, map}
+use Rattle.std.specs.Prelude.{ℕ, Bool, ◌==◌, ◌+◌, List, [], ◌∷◌, drop, get_or, length, map, if◌then◌else◌}
 use Rattle.std.specs.Prelude.{Option, Some, None, option_map}
 use Rattle.std.specs.List.{before_first, position, slice_split}
 use Rattle.std.specs.Option.{is_none}
@@ -53,3 +53,9 @@ records_of header lines = records_after header [] (before_first (has_no_form hea
 
 abbrev pub trace_of : List Noted → Trace
 trace_of records = map (λ r. r.made) records
+
+-- the note of the record of this number, from 1 on
+abbrev pub note_of : List Noted → ℕ → List ℕ
+note_of [] number = []
+note_of (newest ∷ records) number =
+    if number == length (newest ∷ records) then newest.by else note_of records number

@@ -16,7 +16,7 @@ use Rattle.watch_lines.specs.declared.warning.Trigger.{Trigger}
 use Rattle.watch_lines.specs.declared.warning.Trigger.TheVariants.{GivenBack, GivenOut, ClaimedSince, UsedAt}
 use Rattle.watch_lines.specs.declared.warning.Warning.{Warning as PrintedWarning}
 use Rattle.watch_lines.specs.Warnings.{summary_line, warning_line}
-use Rattle.watch_report.specs.TraceText.{Noted, trace_of}
+use Rattle.watch_report.specs.TraceText.{Noted, note_of, trace_of}
 
 -- a verdict is given at some record of the trace, and is new there
 abbrev pub GivesAt : Scheme → Record → Trace → Type 0
@@ -59,26 +59,27 @@ printed_of number trigger w =
       trigger = trigger;
     }
 
--- a line each, with the note of the record
-abbrev pub warning_lines : ℕ → Trigger → List ℕ → List Warning → List ℕ
-warning_lines number trigger by [] = []
-warning_lines number trigger by (w ∷ warnings) =
-    warning_line (printed_of number trigger w) [] by ++ warning_lines number trigger by warnings
+-- a line each, with the notes of the record since which it is stale and of this one
+abbrev pub warning_lines : ℕ → Trigger → List Noted → List ℕ → List Warning → List ℕ
+warning_lines number trigger records by [] = []
+warning_lines number trigger records by (w ∷ warnings) =
+    warning_line (printed_of number trigger w) (note_of records w.stale_since) by
+    ++ warning_lines number trigger records by warnings
 
-abbrev pub lines_by : Option Trigger → ℕ → List ℕ → List Warning → List ℕ
-lines_by None number by warnings = []
-lines_by (Some trigger) number by warnings = warning_lines number trigger by warnings
+abbrev pub lines_by : Option Trigger → ℕ → List Noted → List ℕ → List Warning → List ℕ
+lines_by None number records by warnings = []
+lines_by (Some trigger) number records by warnings = warning_lines number trigger records by warnings
 
-abbrev pub record_lines : Noted → Trace → List Warning → List ℕ
-record_lines newest trace warnings =
-    lines_by (trigger_of trace newest.made) (length trace + 1) newest.by warnings
+abbrev pub record_lines : Noted → List Noted → List Warning → List ℕ
+record_lines newest records warnings =
+    lines_by (trigger_of (trace_of records) newest.made) (length records + 1) records newest.by warnings
 
 -- the lines of the warnings at each record, in the order of the records
 abbrev pub verdict_lines : List Noted → List (List Warning) → List ℕ
 verdict_lines [] given = []
 verdict_lines (newest ∷ records) [] = []
 verdict_lines (newest ∷ records) (warnings ∷ given) =
-    verdict_lines records given ++ record_lines newest (trace_of records) warnings
+    verdict_lines records given ++ record_lines newest records warnings
 
 -- ---- their counts
 

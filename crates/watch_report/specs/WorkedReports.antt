@@ -2,13 +2,12 @@
 use Rattle.std.specs.Prelude.{◌≡◌, ℕ, Bool, true, false, codes, List, [], ◌∷◌, ◌++◌, Result, Ok, Err, Some}
 use Rattle.pte.specs.declared.address.PageSize.TheVariants.{Kib4}
 use Rattle.tlb.specs.declared.store.Entry.{Entry}
-use Rattle.watch.specs.declared.trace.Frames.{Frames}
-use Rattle.watch.specs.declared.trace.Record.TheVariants.{GiveBack, Use}
+use Rattle.watch.specs.declared.trace.Record.TheVariants.{GiveBack, Store, Use}
 use Rattle.watch.specs.declared.trace.Verdict.{Verdict}
 use Rattle.watch.specs.declared.trace.Verdict.TheVariants.{Free, Used}
 use Rattle.watch_engine.specs.declared.warning.Warning.{Warning}
 use Rattle.watch_report.specs.declared.fault.ReportFault.{ReportFault}
-use Rattle.watch_report.specs.declared.fault.ReportFault.TheVariants.{Line, NoMemory, Output, Unreadable}
+use Rattle.watch_report.specs.declared.fault.ReportFault.TheVariants.{Line, Output, Unreadable}
 use Rattle.watch_report.specs.Ending.{Ends}
 use Rattle.watch_report.specs.TraceText.{Noted}
 use Rattle.watch_report.specs.VerdictLines.{summary_of, verdict_lines}
@@ -84,7 +83,7 @@ abbrev pub records : List Noted
 records =
     record { made = Use 1 0x1ABC; by = [] }
     ∷ record { made = GiveBack 0 (record { first = 0x100; count = 1 }); by = codes "free_page" }
-    ∷ record { made = Use 0 0x2000; by = [] } ∷ []
+    ∷ record { made = Store 0 0x80000000 0; by = codes "unmap" } ∷ []
 
 abbrev pub given : List (List Warning)
 given = (warning_of Used ∷ []) ∷ (warning_of Free ∷ []) ∷ [] ∷ []
@@ -92,8 +91,8 @@ given = (warning_of Used ∷ []) ∷ (warning_of Free ∷ []) ∷ [] ∷ []
 abbrev pub lines_of_verdicts : Type 0
 lines_of_verdicts =
     verdict_lines records given
-    ≡ codes "2 free hart 1 may hold page 1000+1000 -> 100 rw-u- asid 1 root 80000, stale since 1; frames 100+1 given back by free_page\n"
-    ++ codes "3 use hart 1 may hold page 1000+1000 -> 100 rw-u- asid 1 root 80000, stale since 1; hart 1 uses 1abc\n"
+    ≡ codes "2 free hart 1 may hold page 1000+1000 -> 100 rw-u- asid 1 root 80000, stale since 1 by unmap; frames 100+1 given back by free_page\n"
+    ++ codes "3 use hart 1 may hold page 1000+1000 -> 100 rw-u- asid 1 root 80000, stale since 1 by unmap; hart 1 uses 1abc\n"
 
 abbrev pub last_line : Type 0
 last_line = summary_of records given ≡ codes "3 records, 2 verdicts: free 1, use 1\n"

@@ -8,6 +8,7 @@ mod counting;
 mod fault;
 mod input;
 mod laws;
+mod notes;
 mod output;
 mod reading;
 mod report;

@@ -8,6 +8,7 @@ ghost use Rattle.watch_report.specs.VerdictLines.{WholeText};
 
 use crate::counting::{count_warnings, has_verdicts, one_more};
 use crate::fault::ReportFault;
+use crate::notes::Notes;
 use crate::output::write_whole;
 use crate::trigger::trigger_of;
 use crate::verdicts::lines_by;
@@ -25,6 +26,7 @@ pub struct Reading {
     header: Header,
     watch: Watch<PageTables>,
     records: u64,
+    notes: Notes,
     user: VerdictCounts,
     kernel: VerdictCounts,
 }
@@ -40,6 +42,7 @@ impl Reading {
             header,
             watch: Watch::new(alloc, header.scheme, PageTables::new(alloc)),
             records: 0,
+            notes: Notes::new(alloc),
             user: VerdictCounts::default(),
             kernel: VerdictCounts::default(),
         }
@@ -67,7 +70,15 @@ impl Reading {
         let warnings = self.watch.record(made)?;
         self.records = number;
         count_warnings(&mut self.user, &mut self.kernel, warnings.as_slice())?;
-        let lines = lines_by(self.alloc, trigger, number, by, warnings.as_slice())?;
+        let lines = lines_by(
+            self.alloc,
+            trigger,
+            number,
+            &self.notes,
+            by,
+            warnings.as_slice(),
+        )?;
+        self.notes.add(by)?;
         write_whole(out, lines.as_slice())
     }
 

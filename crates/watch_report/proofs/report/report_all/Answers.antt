@@ -1,7 +1,6 @@
-use Rattle.std.proofs.Common.{◌≡◌, ◌∷◌, [], List, ℕ, Option, None, Some, Err, ap, subst, sym, ◌∙◌, refl, true, false, rules}
+use Rattle.std.proofs.Common.{◌≡◌, [], List, ℕ, None, Some, Err, ap, subst, sym, ◌∙◌, true, false, rules}
 use Rattle.std.proofs.KnownBytes.{Appends-nil}
 use Rattle.std.proofs.lemmas.Result.{err_from_is_err_and}
-use Rattle.watch_lines.specs.declared.header.Header.{Header}
 use Rattle.watch_lines.specs.Fields.{fields_of}
 use Rattle.watch_lines.specs.TraceLines.{header_in}
 use Rattle.watch_report.specs.declared.fault.ReportFault.TheVariants.{Line}

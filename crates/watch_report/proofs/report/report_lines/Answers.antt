@@ -1,12 +1,11 @@
-use Rattle.std.proofs.Common.{◌≡◌, ◌∷◌, ◌++◌, [], List, ℕ, Option, Some, Err, length, length-append, ap, subst, sym, ◌∙◌, arith, refl, true, false, rules}
+use Rattle.std.proofs.Common.{◌≡◌, ◌∷◌, ◌++◌, [], Some, Err, length-append, subst, ◌∙◌, arith, refl, true, false, rules}
 use Rattle.std.specs.Option.{unwrap_or}
 use Rattle.std.proofs.KnownBytes.{Appends-nil}
-use Rattle.std.proofs.lemmas.Result.{err_from_is_err_and, IfErr-at_err}
-use Rattle.watch_lines.specs.declared.header.Header.{Header}
+use Rattle.std.proofs.lemmas.Result.{err_from_is_err_and}
 use Rattle.watch_report.specs.declared.fault.ReportFault.TheVariants.{NoMemory}
 use Rattle.watch_report.specs.Reading.{ReadsLine}
 use Rattle.watch_report.specs.TraceText.{lines_of}
-use Rattle.watch_report.proofs.ReadLemmas.{IsText, last_text, line_text, more_read, more_taken, none_read, none_taken, some_text, torn_text}
+use Rattle.watch_report.proofs.ReadLemmas.{last_text, line_text, more_read, more_taken, none_read, none_taken, some_text, torn_text}
 use Rattle.watch_report.proofs.EndingLemmas.{ended, ends_at_line, ends_unread, ends_within, failed_line, took_line, with_text, written_of}
 use Rattle.watch_report.proofs.report.report_lines.Goals as goal
 

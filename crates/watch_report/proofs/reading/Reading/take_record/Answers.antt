@@ -1,4 +1,4 @@
-use Rattle.std.proofs.Common.{true, false, ◌≡◌, ◌+◌, ◌∷◌, refl, List, ℕ, ap, sym, subst, ◌∙◌}
+use Rattle.std.proofs.Common.{true, false, ◌+◌, ◌∷◌, refl, List, ap, subst, ◌∙◌}
 use Rattle.std.specs.Io.KnownBytes.{Appends}
 use Rattle.std.proofs.KnownBytes.{Appends-trans}
 use Rattle.std.proofs.lemmas.Result.{on_ok_weaker, on_err_weaker}
@@ -18,11 +18,12 @@ returns-clause-ok g c = λ start records at.
     let lines = lines_are records c.args.made c.args.by.now c.as_slice-3.result.now warnings c.trigger_of-trigger.result c.in_ok-number.number
     (c.trigger_of-trigger.ensures (trace_of records) at.seen.follows)
     (c.in_ok-number.ensures.ok ∙ ap (λ n. n + 1) at.seen.number)
-    (c.as_slice-3.ensures.value ∙ c.in_ok-lines.ensures ∙ ap (λ (w : List Warning). lines_by c.trigger_of-trigger.result c.in_ok-number.number c.args.by.now w) c.as_slice-2.ensures.value) in
+    (c.as_slice-3.ensures.value ∙ c.in_ok-lines.ensures records at.seen.notes ∙ ap (λ (w : List Warning). lines_by c.trigger_of-trigger.result c.in_ok-number.number records c.args.by.now w) c.as_slice-2.ensures.value) in
     let seen = seen_more c.args.self.now _ records at.given (noted_of c.args.made c.args.by.now) warnings at.seen refl c.record.ensures.scheme
     (c.in_ok-warnings.ensures.ok (trace_of records) at.seen.follows)
     (c.in_ok-warnings.ensures.warnings (trace_of records) at.seen.follows)
     c.in_ok-number.ensures.ok
+    (c.in_ok-add.ensures.ok records (noted_of c.args.made c.args.by.now) at.seen.notes refl)
     (c.in_ok-count_warnings.ensures.user ∙ ap (λ (w : List Warning). counts_after false c.args.self.now.user w) c.as_slice.ensures.value)
     (c.in_ok-count_warnings.ensures.kernel ∙ ap (λ (w : List Warning). counts_after true c.args.self.now.kernel w) c.as_slice.ensures.value) in
     on_ok_weaker c.write_whole.result (λ appended. record {
@@ -37,7 +38,7 @@ returns-clause-err g c = λ start records at.
     let lines = lines_are records c.args.made c.args.by.now c.as_slice-3.result.now warnings c.trigger_of-trigger.result c.in_ok-number.number
     (c.trigger_of-trigger.ensures (trace_of records) at.seen.follows)
     (c.in_ok-number.ensures.ok ∙ ap (λ n. n + 1) at.seen.number)
-    (c.as_slice-3.ensures.value ∙ c.in_ok-lines.ensures ∙ ap (λ (w : List Warning). lines_by c.trigger_of-trigger.result c.in_ok-number.number c.args.by.now w) c.as_slice-2.ensures.value) in
+    (c.as_slice-3.ensures.value ∙ c.in_ok-lines.ensures records at.seen.notes ∙ ap (λ (w : List Warning). lines_by c.trigger_of-trigger.result c.in_ok-number.number records c.args.by.now w) c.as_slice-2.ensures.value) in
     fails_at_record c.write_whole.result _ (noted_of c.args.made c.args.by.now) records at.given warnings start _ _
     (subst (λ (s : Scheme). AreWarnings s c.args.made (trace_of records) warnings) at.seen.scheme (c.in_ok-warnings.ensures.warnings (trace_of records) at.seen.follows))
     at.seen.are at.written c.write_whole.ensures.fault

@@ -1,0 +1,106 @@
+//! The notes of records, for the lines of later verdicts.
+ghost use Rattle.std.specs.Prelude.{◌≡◌, ◌≤◌, ◌∷◌, ℕ, List, [], IfOk, IfSome, OnOk, length};
+ghost use Rattle.watch_report.specs.NoteTexts.{AreNotes, text_in};
+ghost use Rattle.watch_report.specs.TraceText.{Noted, note_of};
+
+use std::alloc::{AllocError, Global};
+
+/// With how many of the last texts a new note is compared.
+const RECENT: usize = 64;
+
+/// The notes of the records that were read. A text that comes again soon is kept once.
+#[derive(Drop)]
+pub struct Notes {
+    alloc: Global,
+    texts: Vec<Vec<u8>>,
+    // for each record one more than the place of its text, or 0 for no note
+    places: Vec<u32>,
+}
+
+impl Notes {
+    /// No record was read.
+    pub fn new(alloc: Global) -> Notes
+        ensures { AreNotes [] result }
+    {
+        Notes {
+            alloc,
+            texts: Vec::new(alloc),
+            places: Vec::new(alloc),
+        }
+    }
+
+    // The text at a place, from 1 on.
+    fn text(&self, place: usize) -> &[u8]
+        ensures { result.now ≡ text_in self.now.texts.items place }
+    {
+        if place == 0 {
+            return b"";
+        }
+        match self.texts.get(place - 1) {
+            Some(text) => text.as_slice(),
+            None => b"",
+        }
+    }
+
+    // The place of a recent text.
+    fn recent(&self, note: &[u8]) -> Option<usize>
+        ensures text { IfSome result (λ place. text_in self.now.texts.items place ≡ note.now) }
+        ensures within { IfSome result (λ place. place ≤ length self.now.texts.items) }
+    {
+        let count = self.texts.len();
+        for place in count.saturating_sub(RECENT)..count {
+            if self.text(place + 1) == note {
+                return Some(place + 1);
+            }
+        }
+        None
+    }
+
+    // The place of a text, which is kept if it is not recent.
+    fn keep(&mut self, note: &[u8]) -> Result<usize, AllocError>
+        ensures places { OnOk result (self.new.places.items ≡ self.old.places.items) }
+        ensures text { IfOk result (λ place. text_in self.new.texts.items place ≡ note.now) }
+        ensures within { IfOk result (λ place. place ≤ length self.new.texts.items) }
+        ensures grows { OnOk result (length self.old.texts.items ≤ length self.new.texts.items) }
+        ensures others { OnOk result ((p : ℕ) → p ≤ length self.old.texts.items
+            → text_in self.new.texts.items p ≡ text_in self.old.texts.items p) }
+    {
+        if note.is_empty() {
+            return Ok(0);
+        }
+        if let Some(place) = self.recent(note) {
+            return Ok(place);
+        }
+        let mut text = Vec::new(self.alloc);
+        text.extend_from_slice(note)?;
+        self.texts.push(text)?;
+        Ok(self.texts.len())
+    }
+
+    /// With the note of the next record, which is empty if it has none.
+    pub fn add(&mut self, note: &[u8]) -> Result<(), AllocError>
+        ensures ok { (records : List Noted) (newest : Noted) → AreNotes records self.old
+            → newest.by ≡ note.now → OnOk result (AreNotes (newest ∷ records) self.new) }
+    {
+        let place = self.keep(note)?;
+        let Ok(place) = u32::try_from(place) else {
+            return Err(AllocError);
+        };
+        self.places.push(place)?;
+        Ok(())
+    }
+
+    /// The note of the record of this number, from 1 on; empty if it has none.
+    pub fn of(&self, number: u64) -> &[u8]
+        ensures { (records : List Noted) → AreNotes records self.now
+            → result.now ≡ note_of records number }
+    {
+        if number == 0 {
+            return b"";
+        }
+        match self.places.get((number - 1) as usize) {
+            Some(place) => self.text(*place as usize),
+            None => b"",
+        }
+    }
+}
