@@ -6,8 +6,8 @@
 # Needs a C compiler under the name of $CC or cc, a C library that has __libc_malloc (glibc), and two programs that are proved
 # and built: `rt run` in crates/memory_tests, and `rt run -- walk data/walk.toml` in crates/svsim. Each of their requests for
 # memory is refused in turn, once alone and once with all that come after it. memory_tests is to print its usual lines, or
-# `no memory` in their place with status 5; svsim its usual lines, or none with status 5 and one line on standard error. The last
-# line is `N passed, M failed`.
+# `no memory` in their place with status 5; svsim its usual lines, or none (of watch the
+# first ones) with status 5 and one line on standard error. The last line is `N passed, M failed`.
 set -u
 unset CDPATH
 top=$(cd "$(dirname "$0")/.." && pwd)
@@ -112,15 +112,24 @@ svsim_answers() {
     esac
 }
 
-# Refuses each request of a program in turn.
+# watch prints as it reads: where memory ends, the lines before stand.
+watch_answers() {
+    case $1 in
+    1) cmp -s "$own/out" "$own/usual" && [ ! -s "$own/err" ] ;;
+    5) head -c "$(wc -c <"$own/out")" "$own/usual" | cmp -s - "$own/out" && grep -qx 'svsim: no memory' "$own/err" && [ "$(wc -l <"$own/err")" = 1 ] ;;
+    *) false ;;
+    esac
+}
+
+# Refuses each request of a program in turn, which usually ends with this status.
 refuse_each() {
-    local judge=$1 status count number on
-    shift
+    local judge=$1 usual=$2 status count number on
+    shift 2
     refused_run 0 "" "$@"
     status=$?
     cp "$own/out" "$own/usual"
     count=$(od -An -tu8 "$own/requests" | tr -d " ")
-    if [ "$status" != 0 ] || [ "$count" = 0 ]; then
+    if [ "$status" != "$usual" ] || [ "$count" = 0 ]; then
         echo "FAILED without refusals, status $status: ${*##*/}"
         failed=$((failed + 1))
         return
@@ -141,13 +150,14 @@ refuse_each() {
     echo "$count requests refused in turn: ${*##*/}"
 }
 
-refuse_each memory_tests_answers "$top/crates/memory_tests/out/memory_tests"
+refuse_each memory_tests_answers 0 "$top/crates/memory_tests/out/memory_tests"
 svsim=$top/crates/svsim/out/svsim
-refuse_each svsim_answers "$svsim" walk "$top/examples/first.toml"
-refuse_each svsim_answers "$svsim" live "$top/examples/live-unmap-at-once.toml"
+refuse_each svsim_answers 0 "$svsim" walk "$top/examples/first.toml"
+refuse_each svsim_answers 0 "$svsim" live "$top/examples/live-unmap-at-once.toml"
 for file in "$top"/examples/*.toml; do
     case ${file##*/} in first.toml | live-*) continue ;; esac
-    refuse_each svsim_answers "$svsim" run "$file"
+    refuse_each svsim_answers 0 "$svsim" run "$file"
 done
+refuse_each watch_answers 1 "$svsim" watch "$top/examples/watch/left-out-hart.trace"
 echo "$passed passed, $failed failed"
 [ "$failed" = 0 ]
