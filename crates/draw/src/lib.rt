@@ -2,14 +2,28 @@
 //!
 //! Time goes down, a row a step, and each hart has a column. `run` records a scenario: which bars
 //! stand in which columns, from which row to which, and which rows an arrow joins. `picture` writes
-//! that as shapes, by crate `svg`.
+//! that as SVG: `layout` says where things stand, `shapes` has the elements, `style` how they look.
 #![tactic(auto)]
 
 mod lanes;
+mod layout;
+mod legend;
 mod picture;
 mod record;
 mod recorder;
 mod run;
+mod shapes;
 mod step_words;
+mod style;
 
+pub use layout::{
+    Column, FIRST_COLUMN, HEAD_HEIGHT, LEAST_WIDTH, Point, ROW_HEIGHT, ROWS_A_HEAD, heads_above,
+    row_middle, row_top,
+};
+pub use legend::push_legend;
 pub use picture::draw_text;
+pub use shapes::{
+    Area, push_arrow, push_dot, push_escaped, push_full_head, push_line, push_number,
+    push_open_head, push_rect, push_text,
+};
+pub use style::STYLE;

@@ -3,16 +3,21 @@
 ghost use Rattle.std.specs.Prelude.{◌≡◌, ◌<◌, ◌^◌, IfErr};
 ghost use Rattle.files.specs.declared.fault.Fault.TheVariants.{NoMemory};
 
+use crate::layout::{
+    Column, HEAD_HEIGHT, LEAST_WIDTH, Point, ROW_HEIGHT, ROWS_A_HEAD, heads_above, row_middle,
+    row_top,
+};
+use crate::legend::push_legend;
 use crate::record::{Arrow, Bar, Message, Record, Span, StaleHit};
 use crate::run::{push_mapping, record};
+use crate::shapes::{
+    Area, push_arrow, push_dot, push_escaped, push_full_head, push_line, push_number,
+    push_open_head, push_rect, push_text,
+};
+use crate::style::STYLE;
 use files::{Fault, RunScenario};
 use pte::Page;
 use std::alloc::{AllocError, Global};
-use svg::{
-    Area, Column, HEAD_HEIGHT, LEAST_WIDTH, Point, ROW_HEIGHT, ROWS_A_HEAD, STYLE, heads_above,
-    push_arrow, push_dot, push_escaped, push_full_head, push_legend, push_line, push_number,
-    push_open_head, push_rect, push_text, row_middle, row_top,
-};
 
 /// How far below the last row a bar goes on that had not ended there.
 const TAIL: u64 = 12;

@@ -1,7 +1,7 @@
 //! What is recorded of a run: bars, arrows and marks, by harts, rows and lanes.
 
+use crate::layout::Column;
 use pte::Page;
-use svg::Column;
 
 /// What a bar stands for.
 #[derive(Clone, Copy)]

@@ -1,12 +1,12 @@
 //! What is open while a run is recorded, hart by hart.
 
 use crate::lanes::Lanes;
+use crate::layout::Column;
 use crate::record::{Arrow, Bar, Message, Span};
 use pte::{PAGE_BYTES, Page, VirtAddr};
 use stale::stale_page;
 use std::alloc::{AllocError, Global};
 use stepcore::Machine;
-use svg::Column;
 use tlb::Entry;
 
 /// A walk or a service that goes on.

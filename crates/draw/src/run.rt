@@ -3,6 +3,7 @@
 ghost use Rattle.std.specs.Prelude.{◌≡◌, IfErr};
 ghost use Rattle.files.specs.declared.fault.Fault.TheVariants.{NoMemory};
 
+use crate::layout::FIRST_COLUMN;
 use crate::record::{Message, Record, Row, Span, StaleHit};
 use crate::recorder::{Doing, Flight, Held, OpenOrder, Track};
 use crate::step_words::{hart_of, push_step};
@@ -13,7 +14,6 @@ use spaces::OpenFault;
 use stale::{BecameStale, StaleAt, StaleItem, StaleUse, step_stale};
 use std::alloc::{AllocError, Global};
 use stepcore::{Event, Machine, Reply};
-use svg::FIRST_COLUMN;
 
 /// A run while it is recorded: what is open, and what has ended.
 #[derive(Drop)]

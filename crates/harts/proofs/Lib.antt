@@ -3,3 +3,4 @@ pub mod Kept
 pub mod ScriptLemmas
 pub mod Tallied
 pub mod Woven
+pub mod Freeing

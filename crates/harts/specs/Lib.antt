@@ -2,3 +2,4 @@ pub mod Halves
 pub mod Books
 pub mod Scripts
 pub mod Turns
+pub mod Free

@@ -1,5 +1,5 @@
 //! Harts as threads: a machine under one lock, with the history at which it stands; and ports,
-//! which share no lock.
+//! which share no lock, up to a frame that may be used again.
 #![tactic(auto)]
 
 mod blank;
@@ -15,6 +15,7 @@ mod live_script;
 mod live_threads;
 mod locked;
 mod named;
+mod reclaim;
 
 pub use blank::{Blank, List, Turns};
 pub use board::{Board, HartPort, Mapped, PairReport, Report};
@@ -27,3 +28,4 @@ pub use live_reply::LiveReply;
 pub use live_report::{LiveFault, LiveReport};
 pub use locked::{Locked, Tally};
 pub use named::Named;
+pub use reclaim::unmap_and_drop;

@@ -1,10 +1,20 @@
-//! Tests of the machine and its parts (TLBs, mailboxes, tickets), and of what shares it behind a
-//! lock, by calls that anybody can make. The three modules whose names begin with `first` are shown
-//! whole in README.md and docs/LIBRARY.md.
+//! Tests of page tables, of the machine and its parts (TLBs, mailboxes, tickets), of what shares it
+//! behind a lock, and of the watch of traces, by calls that anybody can make. The three modules whose
+//! names begin with `first` are shown whole in README.md and docs/LIBRARY.md.
 #![tactic(auto)]
 
 #[cfg(test)]
 mod acknowledgements;
+#[cfg(test)]
+mod addresses;
+#[cfg(test)]
+mod common;
+#[cfg(test)]
+mod edits;
+#[cfg(test)]
+mod entries;
+#[cfg(test)]
+mod faults;
 #[cfg(test)]
 mod first_machine;
 #[cfg(test)]
@@ -18,4 +28,14 @@ mod machine;
 #[cfg(test)]
 mod mailboxes;
 #[cfg(test)]
+mod tickets;
+#[cfg(test)]
 mod tlbs;
+#[cfg(test)]
+mod trace_lines;
+#[cfg(test)]
+mod traced_tables;
+#[cfg(test)]
+mod verdicts;
+#[cfg(test)]
+mod walks;

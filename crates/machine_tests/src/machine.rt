@@ -1,52 +1,28 @@
-//! Shootdowns from their first event to their last, what fills a mailbox, spaces that are retired,
-//! given back and created again, and the machines that are opened.
+//! Shootdowns from their first event to their last, what fills a mailbox, and pages of each scheme.
+//! Spaces that are retired, given back and created again, and the machines that are opened, stand
+//! in the modules below.
 
 ghost use Rattle.std.specs.Prelude.{◌<◌};
 ghost use Rattle.shoot.specs.declared.TheConstants.{MAX_TICKETS};
 
+use crate::common::{USER, address, assert_row, flags, page, spaces_of};
 use crate::first_machine::two_harts;
-use crate::first_steps::{Root, load_from, replies_to};
-use arrayvec::ArrayVec;
-use pte::{Access, Ctx, Mode, Page, PageSize, PteFlags, Scheme, VirtAddr, What};
+use pte::{Access, Page, PageSize, PteFlags, Scheme, What};
 use std::alloc::Global;
 use std::process::Abort;
-use std::test::*;
-use stepcore::{Config, Event, Machine, OpenFault, Place, Refusal, Reply, Request, Scope, Space};
+use stepcore::{Config, Event, Machine, Place, Refusal, Reply, Request, Scope};
 use walk::{Trap, Why};
 
-fn readable() -> PteFlags {
-    PteFlags::R | PteFlags::U | PteFlags::A | PteFlags::D
-}
+mod opening;
+mod retirement;
 
-fn writable() -> PteFlags {
-    PteFlags::R | PteFlags::W | PteFlags::U | PteFlags::A | PteFlags::D
-}
+/// R, U, A and D, and with W.
+const READABLE: u8 = 0xD2;
+
+const WRITABLE: u8 = 0xD6;
 
 /// Harts 0 and 1.
 const BOTH: u8 = 0b11;
-
-fn spares_of(counts: &[u16]) -> ArrayVec<u16, 8> {
-    let mut spares = ArrayVec::new();
-    for count in counts {
-        if !spares.is_full() {
-            spares.push(*count);
-        }
-    }
-    spares
-}
-
-fn spaces_of(list: &[(u8, u16)]) -> ArrayVec<Space, 32> {
-    let mut spaces = ArrayVec::new();
-    for (home, asid) in list {
-        if !spaces.is_full() {
-            spaces.push(Space {
-                home: *home,
-                asid: *asid,
-            });
-        }
-    }
-    spaces
-}
 
 fn two_harts_in_sv48() -> Config {
     Config {
@@ -57,19 +33,7 @@ fn two_harts_in_sv48() -> Config {
 
 /// There is ample memory for each machine of a test.
 fn opened(rt: &impl Abort, alloc: Global, config: &Config) -> Machine {
-    match Machine::open(alloc, config) {
-        Ok(machine) => machine,
-        Err(_) => panic!(rt; "not opened"),
-    }
-}
-
-/// An address of Sv48, so also each one of Sv39.
-fn address(rt: &impl Abort, va: u64) -> VirtAddr {
-    VirtAddr::new_in(Scheme::Sv48, va).expect(rt, "an address")
-}
-
-fn page(rt: &impl Abort, base: u64, size: PageSize) -> Page {
-    Page::new(address(rt, base), size).expect(rt, "a page")
+    Machine::open(alloc, config).ok().expect(rt, "a machine")
 }
 
 /// The page of 2 MiB at 0x40_0000, which hart 0 maps to PPN 0x200 and unmaps.
@@ -78,7 +42,7 @@ fn large(rt: &impl Abort) -> Page {
 }
 
 fn map_large(rt: &impl Abort) -> Event {
-    map(0, large(rt), 0x200, writable())
+    map(0, large(rt), 0x200, flags(WRITABLE))
 }
 
 fn unmap_large(rt: &impl Abort) -> Event {
@@ -101,7 +65,12 @@ fn large_of_space(rt: &impl Abort) -> What {
 
 /// Maps the page of 4 KiB at 0x1000.
 fn map_small(rt: &impl Abort, space: u8, ppn: u64) -> Event {
-    map(space, page(rt, 0x1000, PageSize::Kib4), ppn, readable())
+    map(
+        space,
+        page(rt, 0x1000, PageSize::Kib4),
+        ppn,
+        flags(READABLE),
+    )
 }
 
 fn map(space: u8, page: Page, ppn: u64, flags: PteFlags) -> Event {
@@ -120,7 +89,7 @@ fn map_kernel(page: Page, ppn: u64) -> Event {
         place: Place::Kernel,
         page,
         ppn,
-        flags: PteFlags::R | PteFlags::G | PteFlags::A | PteFlags::D,
+        flags: flags(0xE2),
     }
 }
 
@@ -130,11 +99,7 @@ fn begin(hart: u8, va: u64) -> Event {
         hart,
         va,
         access: Access::Load,
-        ctx: Ctx {
-            mode: Mode::User,
-            sum: false,
-            mxr: false,
-        },
+        ctx: USER,
     }
 }
 
@@ -204,9 +169,15 @@ fn refused(refusal: Refusal) -> Reply {
 
 /// Each event is answered as the row says.
 fn steps(rt: &impl Abort, machine: &mut Machine, rows: &[(Event, Reply)]) {
-    for (event, reply) in rows {
-        assert!(rt; machine.step(*event) == *reply);
+    for (number, (event, reply)) in rows.iter().enumerate() {
+        assert_row(rt, number, machine.step(*event) == *reply);
     }
+}
+
+/// Each event is answered as the row says by a new machine.
+fn answers(rt: &impl Abort, alloc: Global, config: &Config, rows: &[(Event, Reply)]) {
+    let mut machine = opened(rt, alloc, config);
+    steps(rt, &mut machine, rows);
 }
 
 /// Whether the TLB of hart 1 translates an address for an ASID.
@@ -266,21 +237,30 @@ fn superpage_is_shot_down(rt: HostRuntime) {
     assert!(rt; translated(&rt, &machine) == 0);
 }
 
-/// The events of these rows, and the replies.
-fn columns(alloc: Global, rows: &[(Event, Reply)]) -> Result<(Vec<Event>, Vec<Reply>), Fail> {
+/// Whether a run of the events of these rows, all at once, is answered by their replies.
+fn is_run(rt: &impl Abort, alloc: Global, machine: &mut Machine, rows: &[(Event, Reply)]) -> bool {
     let mut events = Vec::new(alloc);
-    let mut replies = Vec::new(alloc);
-    for (event, reply) in rows {
-        events.push(*event)?;
-        replies.push(*reply)?;
+    for (event, _) in rows {
+        events.push(*event).ok().expect(rt, "memory");
     }
-    Ok((events, replies))
+    let mut replies = Vec::new(alloc);
+    machine.run(&events, &mut replies).ok().expect(rt, "memory");
+    are_replies(replies.as_slice(), rows)
+}
+
+fn are_replies(replies: &[Reply], rows: &[(Event, Reply)]) -> bool {
+    for (number, (_, reply)) in rows.iter().enumerate() {
+        if replies.get(number).copied() != Some(*reply) {
+            return false;
+        }
+    }
+    replies.len() == rows.len()
 }
 
 /// A mailbox of capacity 2 takes a third request once the acknowledgement of the first is
 /// collected. What waits at its close is still taken, in the order of the posts.
 #[test]
-fn mailbox_is_bounded_and_closed(rt: HostRuntime) -> Result<(), Fail> {
+fn mailbox_is_bounded_and_closed(rt: HostRuntime) {
     let config = Config {
         capacity: 2,
         ..two_harts()
@@ -311,17 +291,12 @@ fn mailbox_is_bounded_and_closed(rt: HostRuntime) -> Result<(), Fail> {
         (ack(), Reply::Ok),
         (take(), refused(Refusal::Empty)),
     ];
-    let (events, expected) = columns(rt.alloc(), &rows)?;
-    let mut replies = Vec::new(rt.alloc());
-    machine.run(&events, &mut replies)?;
-    assert!(&rt; replies == expected);
-    Ok(())
+    assert!(rt; is_run(&rt, rt.alloc(), &mut machine, &rows));
 }
 
 /// A request for a space drops what hart 1 holds of it, and nothing of the other space.
 #[test]
 fn space_is_flushed(rt: HostRuntime) {
-    let mut machine = opened(&rt, rt.alloc(), &two_spaces());
     let rows = [
         (map_small(&rt, 0, 0x100), Reply::Table(0x8_0003)),
         (map_small(&rt, 0, 0x100), Reply::Table(0x8_0004)),
@@ -347,7 +322,7 @@ fn space_is_flushed(rt: HostRuntime) {
         (switch(0), Reply::Ok),
         (begin(1, 0x1004), Reply::More),
     ];
-    steps(&rt, &mut machine, &rows);
+    answers(&rt, rt.alloc(), &two_spaces(), &rows);
 }
 
 /// The page of 512 GiB at 0x80_0000_0000, which Sv48 alone has.
@@ -356,14 +331,13 @@ fn largest(rt: &impl Abort) -> Page {
 }
 
 fn map_largest(rt: &impl Abort) -> Event {
-    map(0, largest(rt), 0x1000_0000, writable())
+    map(0, largest(rt), 0x1000_0000, flags(WRITABLE))
 }
 
 /// With Sv48 a page of 4 KiB has three tables between the root and its leaf, one of 512 GiB is a
 /// leaf of the root, and the window's slots lead to tables of level 2.
 #[test]
 fn pages_of_sv48(rt: HostRuntime) {
-    let mut machine = opened(&rt, rt.alloc(), &two_harts_in_sv48());
     let kernel = page(&rt, 0xFFFF_FFFF_C000_0000, PageSize::Gib1);
     let window = page(&rt, 0xFFFF_FF80_0000_0000, PageSize::Gib512);
     let rows = [
@@ -390,13 +364,13 @@ fn pages_of_sv48(rt: HostRuntime) {
         (load(1), Reply::More),
         (load(1), Reply::Filled(0x10_0ABC)),
     ];
-    steps(&rt, &mut machine, &rows);
+    answers(&rt, rt.alloc(), &two_harts_in_sv48(), &rows);
 }
 
 /// Maps the last page of 4 KiB of the page of 512 GiB.
 fn map_last(rt: &impl Abort) -> Event {
     let last = page(rt, 0xFF_FFFF_F000, PageSize::Kib4);
-    map(0, last, 0x100, readable())
+    map(0, last, 0x100, flags(READABLE))
 }
 
 /// How many of the pages of 1 GiB in the page of 512 GiB at 0x80_0000_0000 hart 1 translates at
@@ -455,7 +429,7 @@ fn protect_first(rt: &impl Abort) -> Event {
         hart: 0,
         place: Place::Space(0),
         page: page(rt, 0, PageSize::Gib512),
-        flags: readable(),
+        flags: flags(READABLE),
         named: BOTH,
     }
 }
@@ -466,33 +440,32 @@ fn protect_first(rt: &impl Abort) -> Event {
 fn pages_that_do_not_fit_sv39(rt: HostRuntime) {
     let far = page(&rt, 0x40_0000_0000, PageSize::Kib4);
     let window = page(&rt, 0xFFFF_FF80_0000_0000, PageSize::Gib512);
-    let mut machine = opened(&rt, rt.alloc(), &two_harts());
-    for event in [
-        map_largest(&rt),
-        unmap(largest(&rt)),
-        protect_first(&rt),
-        map_kernel(window, 0x1000_0000),
-        map(0, far, 0x100, readable()),
-        unmap(far),
-    ] {
-        steps(&rt, &mut machine, &[(event, refused(Refusal::WrongHalf))]);
-    }
-    let rows = [(begin(0, 0x40_0000_0000), page_fault(Why::NotCanonical))];
-    steps(&rt, &mut machine, &rows);
+    let rows = [
+        (map_largest(&rt), refused(Refusal::WrongHalf)),
+        (unmap(largest(&rt)), refused(Refusal::WrongHalf)),
+        (protect_first(&rt), refused(Refusal::WrongHalf)),
+        (map_kernel(window, 0x1000_0000), refused(Refusal::WrongHalf)),
+        (
+            map(0, far, 0x100, flags(READABLE)),
+            refused(Refusal::WrongHalf),
+        ),
+        (unmap(far), refused(Refusal::WrongHalf)),
+        (begin(0, 0x40_0000_0000), page_fault(Why::NotCanonical)),
+    ];
+    answers(&rt, rt.alloc(), &two_harts(), &rows);
 }
 
 /// The same pages fit Sv48.
 #[test]
 fn pages_that_fit_sv48(rt: HostRuntime) {
     let far = page(&rt, 0x40_0000_0000, PageSize::Kib4);
-    let mut machine = opened(&rt, rt.alloc(), &two_harts_in_sv48());
     let rows = [
-        (map(0, far, 0x100, readable()), Reply::Table(0x8_0002)),
+        (map(0, far, 0x100, flags(READABLE)), Reply::Table(0x8_0002)),
         (unmap(far), refused(Refusal::NotMapped)),
         (protect_first(&rt), refused(Refusal::WrongSize)),
         (begin(0, 0x8000_0000_0000), page_fault(Why::NotCanonical)),
     ];
-    steps(&rt, &mut machine, &rows);
+    answers(&rt, rt.alloc(), &two_harts_in_sv48(), &rows);
 }
 
 /// Two spaces of hart 0, of ASIDs 1 and 2. Two harts.
@@ -501,255 +474,4 @@ fn two_spaces() -> Config {
         spaces: spaces_of(&[(0, 1), (0, 2)]),
         ..two_harts()
     }
-}
-
-fn retire(hart: u8, space: u8) -> Event {
-    Event::Retire { hart, space }
-}
-
-fn reclaim(hart: u8, space: u8) -> Event {
-    Event::Reclaim { hart, space }
-}
-
-fn create(hart: u8, space: u8, asid: u16) -> Event {
-    Event::Create { hart, space, asid }
-}
-
-fn ack_self(ticket: u32) -> Event {
-    Event::AckSelf { hart: 0, ticket }
-}
-
-/// Hart 0 maps the page at 0x1000 of space 1, with the first two spare frames for its tables. Hart
-/// 1 goes there and holds it.
-fn map_and_hold(rt: &impl Abort, machine: &mut Machine, ppn: u64) {
-    let rows = [
-        (map_small(rt, 1, ppn), Reply::Table(0x8_0003)),
-        (map_small(rt, 1, ppn), Reply::Table(0x8_0004)),
-        (map_small(rt, 1, ppn), Reply::Leaf),
-        (switch(1), Reply::Ok),
-        (begin(1, 0x1004), Reply::More),
-        (load(1), Reply::More),
-        (load(1), Reply::More),
-    ];
-    steps(rt, machine, &rows);
-}
-
-/// Both harts answer the retirement of space 1, of ASID 2, under ticket 0.
-fn answer_retirement(rt: &impl Abort, machine: &mut Machine) {
-    let rows = [
-        (ack_self(0), Reply::Waiting(0b10)),
-        (post(0), Reply::Ok),
-        (take(), taken(0, What::SpaceOf(2))),
-        (serve_fence(), Reply::Ok),
-        (ack(), Reply::Ok),
-        (collect(0), Reply::Done),
-    ];
-    steps(rt, machine, &rows);
-}
-
-/// A space is retired once no hart is in it, given back once each hart has answered, and created
-/// again with its ASID and its frames. Hart 1 then reads the new page, and not the one that it
-/// held.
-#[test]
-fn space_is_retired_and_created_anew(rt: HostRuntime) {
-    let mut machine = opened(&rt, rt.alloc(), &two_spaces());
-    map_and_hold(&rt, &mut machine, 0x100);
-    let until_retired = [
-        (load(1), Reply::Filled(0x10_0004)),
-        (retire(0, 1), refused(Refusal::InUse)),
-        (switch(0), Reply::Ok),
-        (reclaim(0, 1), refused(Refusal::NotRetiring)),
-        (retire(0, 1), Reply::Opened(0)),
-        (switch(1), refused(Refusal::Retiring)),
-        (reclaim(0, 1), refused(Refusal::NotAcked)),
-        (create(0, 1, 2), refused(Refusal::NotFree)),
-    ];
-    steps(&rt, &mut machine, &until_retired);
-    assert!(rt; translates(&rt, &machine, 2, 0x1004));
-    answer_retirement(&rt, &mut machine);
-    assert!(rt; !translates(&rt, &machine, 2, 0x1004));
-    let until_created = [
-        (finish(0), Reply::Ok),
-        (reclaim(0, 1), Reply::Ok),
-        (switch(1), refused(Refusal::NoSpace)),
-        (create(0, 1, 1), refused(Refusal::AsidInUse)),
-        (create(0, 1, 2), Reply::Ok),
-    ];
-    steps(&rt, &mut machine, &until_created);
-    map_and_hold(&rt, &mut machine, 0x101);
-    steps(&rt, &mut machine, &[(load(1), Reply::Filled(0x10_1004))]);
-}
-
-/// Edits of the page at 0x1000 of space 1, a flush of that space, and going there.
-fn events_of_space_1(rt: &impl Abort) -> [Event; 5] {
-    let place = Place::Space(1);
-    let small = page(rt, 0x1000, PageSize::Kib4);
-    [
-        map_small(rt, 1, 0x100),
-        Event::Unmap {
-            hart: 0,
-            place,
-            page: small,
-            named: BOTH,
-        },
-        Event::Protect {
-            hart: 0,
-            place,
-            page: small,
-            flags: PteFlags::R | PteFlags::U | PteFlags::A,
-            named: BOTH,
-        },
-        flush(Scope::Space(1)),
-        switch(1),
-    ]
-}
-
-/// Each event is refused so.
-fn each_refused(rt: &impl Abort, machine: &mut Machine, events: &[Event], refusal: Refusal) {
-    for event in events {
-        assert!(rt; machine.step(*event) == refused(refusal));
-    }
-}
-
-/// A retiring space is refused by each event that names it, and by a second retirement. A free
-/// space does not exist, for each but Create.
-#[test]
-fn retiring_and_free_spaces_are_refused(rt: HostRuntime) {
-    let mut machine = opened(&rt, rt.alloc(), &two_spaces());
-    let events = events_of_space_1(&rt);
-    let retired = [
-        (retire(0, 1), Reply::Opened(0)),
-        (retire(0, 1), refused(Refusal::Retiring)),
-    ];
-    steps(&rt, &mut machine, &retired);
-    each_refused(&rt, &mut machine, &events, Refusal::Retiring);
-    answer_retirement(&rt, &mut machine);
-    let reclaimed = [
-        (reclaim(0, 1), Reply::Ok),
-        (reclaim(0, 1), refused(Refusal::NoSpace)),
-        (retire(0, 1), refused(Refusal::NoSpace)),
-    ];
-    steps(&rt, &mut machine, &reclaimed);
-    each_refused(&rt, &mut machine, &events, Refusal::NoSpace);
-}
-
-/// Only the home of a space that exists retires it, gives it back and creates it; and a retirement
-/// needs a ticket.
-#[test]
-fn homes_alone_retire(rt: HostRuntime) {
-    let mut machine = opened(&rt, rt.alloc(), &two_spaces());
-    let rows = [
-        (retire(2, 1), refused(Refusal::NoHart)),
-        (reclaim(2, 1), refused(Refusal::NoHart)),
-        (create(2, 1, 2), refused(Refusal::NoHart)),
-        (retire(0, 2), refused(Refusal::NoSpace)),
-        (reclaim(0, 2), refused(Refusal::NoSpace)),
-        (create(0, 2, 3), refused(Refusal::NoSpace)),
-        (retire(1, 1), refused(Refusal::NotHome)),
-        (reclaim(1, 1), refused(Refusal::NotHome)),
-        (create(1, 1, 2), refused(Refusal::NotHome)),
-    ];
-    steps(&rt, &mut machine, &rows);
-    for ticket in 0..64_u32 {
-        steps(
-            &rt,
-            &mut machine,
-            &[(flush(Scope::All), Reply::Opened(ticket))],
-        );
-    }
-    steps(
-        &rt,
-        &mut machine,
-        &[(retire(0, 1), refused(Refusal::NoTicket))],
-    );
-}
-
-/// A ticket that is given out again after a retirement was finished is not the retirement's: the
-/// space may still be given back. And the ASID of a space is free for another one once the space
-/// is.
-#[test]
-fn finished_retirement_keeps_no_ticket(rt: HostRuntime) {
-    let mut machine = opened(&rt, rt.alloc(), &two_spaces());
-    steps(&rt, &mut machine, &[(retire(0, 1), Reply::Opened(0))]);
-    answer_retirement(&rt, &mut machine);
-    let rows = [
-        (finish(0), Reply::Ok),
-        (flush(Scope::All), Reply::Opened(0)),
-        (finish(0), refused(Refusal::NotDone)),
-        (reclaim(0, 1), Reply::Ok),
-        (create(0, 1, 0xFFFF), Reply::Ok),
-        (reclaim(0, 1), refused(Refusal::NotRetiring)),
-        (create(0, 1, 2), refused(Refusal::NotFree)),
-        (switch(1), Reply::Ok),
-        (retire(0, 0), refused(Refusal::InUse)),
-    ];
-    steps(&rt, &mut machine, &rows);
-}
-
-/// With ample memory a machine is opened exactly within the limits.
-#[test]
-fn machines_are_opened(rt: HostRuntime) {
-    let rows = [
-        (two_harts(), true),
-        (
-            Config {
-                harts: 8,
-                spares: spares_of(&[62, 62, 62, 62, 62, 62, 62, 62]),
-                capacity: 64,
-                ..two_harts()
-            },
-            true,
-        ),
-        (
-            Config {
-                harts: 3,
-                ..two_harts()
-            },
-            false,
-        ),
-        (
-            Config {
-                capacity: 65,
-                ..two_harts()
-            },
-            false,
-        ),
-    ];
-    for (config, is_within) in rows {
-        match Machine::open(rt.alloc(), &config) {
-            Ok(machine) => {
-                assert!(rt; is_within && u16::from(machine.harts()) == config.harts);
-                assert!(rt; machine.capacity() == usize::from(config.capacity));
-            }
-            Err(fault) => assert!(rt; !is_within && fault == OpenFault::BadLayout),
-        }
-    }
-}
-
-/// A root table with a page of 1 GiB at 0x8000_0000, as README.md translates over it; and a machine
-/// that it runs.
-#[test]
-fn first_steps_are_answered(rt: HostRuntime) -> Result<(), Fail> {
-    let mut words = Vec::new(rt.alloc());
-    for index in 0..512_u32 {
-        // PPN 0x40000 with V, R, U and A
-        words.push(if index == 2 { 0x1000_0053 } else { 0 })?;
-    }
-    let root = Root(words);
-    let user = Ctx {
-        mode: Mode::User,
-        sum: false,
-        mxr: false,
-    };
-    let invalid = Trap {
-        cause: 13,
-        why: Why::Invalid,
-    };
-    assert!(rt; load_from(&root, 0x8000_0ABC, user).map(|found| found.pa) == Ok(0x4000_0ABC));
-    assert!(rt; load_from(&root, 0xC000_0ABC, user).map(|found| found.pa) == Err(invalid));
-    let Some(replies) = replies_to(rt.alloc(), &two_harts(), &[Event::Load { hart: 1 }]) else {
-        return Err(Fail::new("no machine"));
-    };
-    assert!(rt; replies.as_slice() == [Reply::Refused(Refusal::NotWalking)].as_slice());
-    Ok(())
 }

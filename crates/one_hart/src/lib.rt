@@ -12,6 +12,3 @@ pub use both::{both_answers, each_call_is_a_run, new_port_is_alone};
 pub use call::Call;
 pub use machine_calls::machine_answers;
 pub use port_calls::port_answers;
-
-#[cfg(test)]
-mod tests;

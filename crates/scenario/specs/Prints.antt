@@ -19,7 +19,7 @@ use Rattle.files.specs.WalkFile.{WalkPlan}
 use Rattle.stale.specs.Told.{UsedBy}
 use Rattle.scenario.specs.Printed.{Prints as PrintsItems}
 use Rattle.tlb.specs.Mappings.{Mapping}
-use Rattle.show.specs.Sheet.{Shows}
+use Rattle.lines.specs.Sheet.{Shows}
 use Rattle.checks.specs.Told.{name_by, whole_text}
 use Rattle.toml.specs.Parse.{parse_document}
 

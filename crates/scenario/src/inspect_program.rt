@@ -18,7 +18,7 @@ use crate::trouble::Trouble;
 use checks::check_text;
 use draw::draw_text;
 use files::{Fault, read_run};
-use show::show_text;
+use lines::show_text;
 use std::alloc::Global;
 use std::io::{Read, Write};
 

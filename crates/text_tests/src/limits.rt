@@ -1,4 +1,5 @@
 //! The most steps and bytes of a file, and where their number stands in the order of checking.
+use crate::asserting::assert_of;
 use crate::ends::{JOBS, Job, Pieces, end_of, prints, refuses};
 use scenario::Which;
 use std::alloc::{AllocError, Global};
@@ -50,7 +51,7 @@ fn most_steps(rt: HostRuntime) -> Result<(), Fail> {
         let text = steps_file(alloc, keys, step, step, 65_536)?;
         let lines = lines_of(alloc, answer, 65_536)?;
         let is_done = prints(&rt, alloc, job, text.as_str(), lines.as_str());
-        assert!(rt; is_done, "{step}");
+        assert_of(&rt, step, is_done);
     }
     Ok(())
 }
@@ -67,7 +68,7 @@ fn too_many_steps(rt: HostRuntime) -> Result<(), Fail> {
     ] {
         let text = steps_file(alloc, keys, first, step, 65_537)?;
         let is_refused = refuses(&rt, alloc, job, text.as_str(), 3, reason)?;
-        assert!(rt; is_refused, "{reason}");
+        assert_of(&rt, reason, is_refused);
     }
     Ok(())
 }

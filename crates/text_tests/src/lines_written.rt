@@ -94,7 +94,7 @@ fn answers_of_walks(rt: HostRuntime) -> Result<(), Fail> {
     }
     for (scheme, word, root, lines) in ANSWERS {
         let text = walk_lines(alloc, scheme, &OneWord { word }, root, steps.as_slice())?;
-        assert_eq!(rt; text.as_str(), lines);
+        assert!(rt; text.as_str() == lines);
     }
     Ok(())
 }
@@ -162,7 +162,7 @@ fn replies_to_steps(rt: HostRuntime) -> Result<(), Fail> {
         ),
     ];
     let text = reply_lines(rt.alloc(), &replies)?;
-    assert_eq!(rt; text.as_str(), REPLY_LINES);
+    assert!(rt; text.as_str() == REPLY_LINES);
     Ok(())
 }
 
@@ -206,7 +206,7 @@ const REFUSALS: [(Refusal, &str); 33] = [
 fn refusals(rt: HostRuntime) -> Result<(), Fail> {
     for (refusal, line) in REFUSALS {
         let text = reply_lines(rt.alloc(), &[Reply::Refused(refusal)])?;
-        assert_eq!(rt; text.as_str(), line);
+        assert!(rt; text.as_str() == line);
     }
     Ok(())
 }
@@ -227,7 +227,7 @@ const TRAPS: [(Why, &str); 9] = [
 fn traps(rt: HostRuntime) -> Result<(), Fail> {
     for (why, line) in TRAPS {
         let text = reply_lines(rt.alloc(), &[Reply::Trap(Trap { cause: 13, why })])?;
-        assert_eq!(rt; text.as_str(), line);
+        assert!(rt; text.as_str() == line);
     }
     Ok(())
 }

@@ -1,4 +1,5 @@
 //! Lines of scripts and of the setup of `live`, and what they write.
+use crate::asserting::assert_of;
 use history::{LiveStep, Scope};
 use pte::{Access, Ctx, Mode, Page, PageSize, PteFlags, Scheme, VirtAddr};
 use spaces::Place;
@@ -10,7 +11,7 @@ use steps::{StepFault, live_step_among, run_step_among, setup_step_among};
 fn assert_script(rt: &impl Abort, rows: &[(&str, LiveStep)]) {
     for (line, step) in rows {
         for scheme in [Scheme::Sv39, Scheme::Sv48] {
-            assert_eq!(rt; live_step_among(scheme, 8, line), Ok(*step), "{line}");
+            assert_of(rt, line, live_step_among(scheme, 8, line) == Ok(*step));
         }
     }
 }
@@ -19,10 +20,10 @@ fn assert_script(rt: &impl Abort, rows: &[(&str, LiveStep)]) {
 fn assert_setup(rt: &impl Abort, rows: &[(&str, u8, LiveStep)]) {
     for (line, hart, step) in rows {
         for scheme in [Scheme::Sv39, Scheme::Sv48] {
-            assert_eq!(rt;
-                setup_step_among(scheme, 8, line),
-                Ok((*hart, *step)),
-                "{line}"
+            assert_of(
+                rt,
+                line,
+                setup_step_among(scheme, 8, line) == Ok((*hart, *step)),
             );
         }
     }
@@ -140,10 +141,10 @@ fn lines_of_the_setup(rt: HostRuntime) {
 /// Each text has the fault as a line of a script, for this number of harts.
 fn assert_script_faults(rt: &impl Abort, harts: u8, fault: StepFault, texts: &[&str]) {
     for text in texts {
-        assert_eq!(rt;
-            live_step_among(Scheme::Sv39, harts, text),
-            Err(fault),
-            "{text}"
+        assert_of(
+            rt,
+            text,
+            live_step_among(Scheme::Sv39, harts, text) == Err(fault),
         );
     }
 }
@@ -151,10 +152,10 @@ fn assert_script_faults(rt: &impl Abort, harts: u8, fault: StepFault, texts: &[&
 /// Each text has the fault as a line of the setup, for this number of harts.
 fn assert_setup_faults(rt: &impl Abort, harts: u8, fault: StepFault, texts: &[&str]) {
     for text in texts {
-        assert_eq!(rt;
-            setup_step_among(Scheme::Sv39, harts, text),
-            Err(fault),
-            "{text}"
+        assert_of(
+            rt,
+            text,
+            setup_step_among(Scheme::Sv39, harts, text) == Err(fault),
         );
     }
 }
@@ -227,7 +228,7 @@ fn lines_of_live_alone(rt: HostRuntime) {
         "9 wait 1",
     ] {
         let step = run_step_among(Scheme::Sv39, 2, text);
-        assert_eq!(rt; step, Err(StepFault::NotStep), "{text}");
+        assert_of(&rt, text, step == Err(StepFault::NotStep));
     }
 }
 
@@ -277,27 +278,15 @@ fn pages_of_512_gib(rt: HostRuntime) -> Result<(), Fail> {
     let (place, named) = (Place::Space(0), 1);
     let unmap = LiveStep::Unmap { place, page, named };
     let line = "unmap 0 512G:0x8000000000 0";
-    assert_eq!(rt; live_step_among(Scheme::Sv48, 1, line), Ok(unmap));
-    assert_eq!(rt;
-        live_step_among(Scheme::Sv39, 1, line),
-        Err(StepFault::NotStep)
-    );
-    assert_eq!(rt;
-        live_step_among(Scheme::Sv39, 0, line),
-        Err(StepFault::NotStep)
-    );
+    assert!(rt; live_step_among(Scheme::Sv48, 1, line) == Ok(unmap));
+    assert!(rt; live_step_among(Scheme::Sv39, 1, line) == Err(StepFault::NotStep));
+    assert!(rt; live_step_among(Scheme::Sv39, 0, line) == Err(StepFault::NotStep));
     let unmap = LiveStep::Unmap { place, page, named };
     let line = "0 unmap 0 512G:0x8000000000 0";
-    assert_eq!(rt; setup_step_among(Scheme::Sv48, 1, line), Ok((0, unmap)));
-    assert_eq!(rt;
-        setup_step_among(Scheme::Sv39, 1, line),
-        Err(StepFault::NotStep)
-    );
+    assert!(rt; setup_step_among(Scheme::Sv48, 1, line) == Ok((0, unmap)));
+    assert!(rt; setup_step_among(Scheme::Sv39, 1, line) == Err(StepFault::NotStep));
     let line = "unmap 0 512G:0x40000000 0";
-    assert_eq!(rt;
-        live_step_among(Scheme::Sv48, 1, line),
-        Err(StepFault::NotPage)
-    );
+    assert!(rt; live_step_among(Scheme::Sv48, 1, line) == Err(StepFault::NotPage));
     Ok(())
 }
 
@@ -306,9 +295,9 @@ fn more_harts_than_a_set_has(rt: HostRuntime) {
     let scope = Scope::All;
     let line = "flush all 0,9,254";
     let flush = LiveStep::Flush { scope, named: 1 };
-    assert_eq!(rt; live_step_among(Scheme::Sv39, 255, line), Ok(flush));
+    assert!(rt; live_step_among(Scheme::Sv39, 255, line) == Ok(flush));
     let fault = Err(StepFault::NoSuchHart);
-    assert_eq!(rt; live_step_among(Scheme::Sv39, 254, line), fault);
+    assert!(rt; live_step_among(Scheme::Sv39, 254, line) == fault);
 }
 
 /// The rows that were worked out by hand hold of the definitions.

@@ -1,4 +1,5 @@
 //! Words that are nearly alike, and the one that is meant.
+use crate::asserting::assert_of;
 use checks::{is_near, nearest};
 
 /// Two words, and the least number of edits that make one of the other.
@@ -53,6 +54,6 @@ const MEANT: [(&str, Option<&str>); 7] = [
 #[test]
 fn meant(rt: HostRuntime) {
     for (word, name) in MEANT {
-        assert!(rt; nearest(word, &NAMES) == name, "{word}");
+        assert_of(&rt, word, nearest(word, &NAMES) == name);
     }
 }

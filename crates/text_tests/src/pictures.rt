@@ -1,5 +1,6 @@
 //! Pictures of runs: that each is one whole document, and that of the longest file. Where shapes stand
 //! in pictures, and how many there are, is data of `svsim_examples`.
+use crate::asserting::assert_of;
 use crate::samples::{DEEP_RUN, FRAME_USED_AGAIN, SHOOTDOWN};
 use draw::draw_text;
 use files::read_run;
@@ -40,17 +41,19 @@ fn whole_documents(rt: HostRuntime) -> Result<(), Fail> {
     for file in ["", SHOOTDOWN, DEEP_RUN, FRAME_USED_AGAIN] {
         let svg = picture(rt.alloc(), file)?;
         let svg = svg.as_str();
-        assert!(rt;
+        assert_of(
+            &rt,
+            file,
             svg.starts_with("<svg xmlns='http://www.w3.org/2000/svg' "),
-            "{file}"
         );
-        assert!(rt; svg.ends_with("</svg>\n"), "{file}");
-        assert!(rt;
+        assert_of(&rt, file, svg.ends_with("</svg>\n"));
+        assert_of(
+            &rt,
+            file,
             count(svg, "<svg ") == 1 && count(svg, "</svg>") == 1,
-            "{file}"
         );
-        assert!(rt; is_balanced(svg), "{file}");
-        assert!(rt; count(svg, "url(") == count(svg, "url(#hatch)"), "{file}");
+        assert_of(&rt, file, is_balanced(svg));
+        assert_of(&rt, file, count(svg, "url(") == count(svg, "url(#hatch)"));
     }
     Ok(())
 }
@@ -63,7 +66,7 @@ fn longest_file(rt: HostRuntime) -> Result<(), Fail> {
     }
     file.push_str("]\n")?;
     let svg = picture(rt.alloc(), file.as_str())?;
-    assert_eq!(rt; count(svg.as_str(), "<text class='number'"), 65_536);
-    assert_eq!(rt; count(svg.as_str(), ">fence x0 x0: ok</text>"), 65_536);
+    assert!(rt; count(svg.as_str(), "<text class='number'") == 65_536);
+    assert!(rt; count(svg.as_str(), ">fence x0 x0: ok</text>") == 65_536);
     Ok(())
 }

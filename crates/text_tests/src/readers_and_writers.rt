@@ -1,5 +1,6 @@
 //! Readers and writers that fail, and files that end early, of each command. What the commands print of
 //! these files is data of `svsim_examples`.
+use crate::asserting::assert_of;
 use crate::ends::{AtEnd, Job, Narrow, Pieces, end_of, status_of};
 use crate::samples::{
     BOTH_UNMAP, DEEP_LIVE, DEEP_RUN, DEEP_WALK, FILE, FLUSH, SHOOTDOWN, SPACE_RUN,
@@ -71,13 +72,13 @@ fn readers_that_fail(rt: HostRuntime) -> Result<(), Fail> {
         for (piece, most) in [(1, text.len().saturating_add(1)), (4096, 2)] {
             for reads in 0..most {
                 let ended = end_of(&rt, alloc, job, &mut Pieces { left, piece, reads });
-                assert!(rt; ended.is(2, "", "svsim: cannot read a file\n"), "{text}");
+                assert_of(&rt, text, ended.is(2, "", "svsim: cannot read a file\n"));
             }
             let reads = most;
             let ended = end_of(&rt, alloc, job, &mut Pieces { left, piece, reads });
-            assert_eq!(rt; ended.status, status, "{text}");
-            assert!(rt; ended.out == whole.out && !ended.out.is_empty(), "{text}");
-            assert!(rt; ended.err.is_empty(), "{text}");
+            assert_of(&rt, text, ended.status == status);
+            assert_of(&rt, text, ended.out == whole.out && !ended.out.is_empty());
+            assert_of(&rt, text, ended.err.is_empty());
         }
     }
     Ok(())
@@ -180,9 +181,9 @@ fn explanations_that_are_not_taken(rt: HostRuntime) -> Result<(), Fail> {
         } else {
             b"svsim: layout refused\n"
         };
-        assert_eq!(rt; status, if full { 4 } else { 3 });
-        assert_eq!(rt; out.held.as_slice(), &lines.as_bytes()[..room]);
-        assert_eq!(rt; err.held.as_slice(), line);
+        assert!(rt; status == if full { 4 } else { 3 });
+        assert!(rt; out.held.as_slice() == &lines.as_bytes()[..room]);
+        assert!(rt; err.held.as_slice() == line);
     }
     Ok(())
 }
@@ -210,9 +211,9 @@ fn full_standard_error_counts_for_nothing(rt: HostRuntime) -> Result<(), Fail> {
             let mut err = Narrow::new(alloc, 2, room, AtEnd::Fails);
             let mut input = Pieces::whole("harts = 9".as_bytes());
             let status = status_of(&rt, alloc, job, &mut input, &mut out, &mut err);
-            assert_eq!(rt; status, 3, "{line}");
-            assert_eq!(rt; out.held.is_empty(), job != CHECK, "{line}");
-            assert_eq!(rt; err.held.as_slice(), &line.as_bytes()[..room]);
+            assert_of(&rt, line, status == 3);
+            assert_of(&rt, line, out.held.is_empty() == (job != CHECK));
+            assert!(rt; err.held.as_slice() == &line.as_bytes()[..room]);
         }
     }
     Ok(())

@@ -40,6 +40,6 @@ fn refusals_have_their_numbers(rt: HostRuntime) {
         (32, Refusal::NotFree),
         (33, Refusal::AsidInUse),
     ] {
-        assert_eq!(rt; refusal.code(), number, "{refusal:?}");
+        assert!(rt; refusal.code() == number, "{refusal:?}");
     }
 }

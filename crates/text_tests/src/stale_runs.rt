@@ -1,5 +1,6 @@
 //! The uses of stale mappings as `stale_uses` gives them, beside the lines, which are data of
 //! `svsim_examples`.
+use crate::asserting::assert_of;
 use files::read_run;
 use stale::stale_uses;
 use std::alloc::Global;
@@ -127,7 +128,7 @@ steps = [
 fn uses_of_runs(rt: HostRuntime) -> Result<(), Fail> {
     for (text, uses) in RUNS {
         let told = uses_of(rt.alloc(), text)?;
-        assert!(rt; told.as_slice() == uses, "{text}");
+        assert_of(&rt, text, told.as_slice() == uses);
     }
     Ok(())
 }

@@ -1,4 +1,5 @@
 //! Texts of steps of `run`, and what they write.
+use crate::asserting::assert_of;
 use bitflags::Flags;
 use history::{Event, Scope};
 use pte::{Access, Ctx, Mode, Page, PageSize, PteFlags, Scheme, VirtAddr};
@@ -24,8 +25,8 @@ fn page(base: u64, size: PageSize) -> Result<Page, Fail> {
 fn assert_steps(rt: &impl Abort, steps: &[(&str, Event)]) {
     for scheme in SCHEMES {
         for (text, event) in steps {
-            assert_eq!(rt; run_step_among(scheme, 8, text), Ok(*event), "{text}");
-            assert_eq!(rt; run_step(scheme, text), Some(*event), "{text}");
+            assert_of(rt, text, run_step_among(scheme, 8, text) == Ok(*event));
+            assert_of(rt, text, run_step(scheme, text) == Some(*event));
         }
     }
 }
@@ -186,9 +187,9 @@ fn steps_of_spaces(rt: HostRuntime) {
 fn assert_no_step(rt: &impl Abort, scheme: Scheme, text: &str) {
     for harts in [0, 2, 8, 255] {
         let step = run_step_among(scheme, harts, text);
-        assert_eq!(rt; step, Err(StepFault::NotStep), "{text}");
+        assert_of(rt, text, step == Err(StepFault::NotStep));
     }
-    assert_eq!(rt; run_step(scheme, text), None, "{text}");
+    assert_of(rt, text, run_step(scheme, text) == None);
 }
 
 fn assert_no_steps(rt: &impl Abort, texts: &[&str]) {
@@ -333,14 +334,22 @@ fn steps_of_harts_and_pages_that_are_not_there(rt: HostRuntime) {
         ("0 unmap 0 4K:0x4000000000 0", StepFault::NotPage),
         ("0 protect k 1G:0xffffffbfc0000000 r 0", StepFault::NotPage),
     ] {
-        assert_eq!(rt; run_step_among(Scheme::Sv39, 2, text), Err(fault), "{text}");
+        assert_of(
+            &rt,
+            text,
+            run_step_among(Scheme::Sv39, 2, text) == Err(fault),
+        );
     }
 }
 
 /// The text writes the event in Sv48, and no step in Sv39.
 fn assert_step_of_sv48(rt: &impl Abort, text: &str, event: &Event) {
-    assert_eq!(rt; run_step_among(Scheme::Sv48, 2, text), Ok(*event), "{text}");
-    assert_eq!(rt; run_step(Scheme::Sv48, text), Some(*event), "{text}");
+    assert_of(
+        rt,
+        text,
+        run_step_among(Scheme::Sv48, 2, text) == Ok(*event),
+    );
+    assert_of(rt, text, run_step(Scheme::Sv48, text) == Some(*event));
     assert_no_step(rt, Scheme::Sv39, text);
 }
 
@@ -398,7 +407,7 @@ fn pages_of_sv48(rt: HostRuntime) -> Result<(), Fail> {
         ("0 unmap 0 512G:0x40000000 0", Err(StepFault::NotPage)),
         ("9 map 0 512G:0x1 0x1 r", Err(StepFault::NoSuchHart)),
     ] {
-        assert_eq!(rt; run_step_among(Scheme::Sv48, 2, text), step, "{text}");
+        assert_of(&rt, text, run_step_among(Scheme::Sv48, 2, text) == step);
     }
     Ok(())
 }
@@ -413,7 +422,7 @@ fn run_step_is_for_eight_harts(rt: HostRuntime) {
         ("0 unmap 0 4K:0x1 0", None),
     ] {
         for scheme in SCHEMES {
-            assert_eq!(rt; run_step(scheme, text), event, "{text}");
+            assert_of(&rt, text, run_step(scheme, text) == event);
         }
     }
 }
@@ -427,7 +436,7 @@ fn faults_are_printed(rt: HostRuntime) -> Result<(), Fail> {
         (StepFault::NotPage, "not a page"),
     ] {
         let text = format!(in alloc; "{fault}")?;
-        assert_eq!(rt; text.as_str(), told);
+        assert!(rt; text.as_str() == told);
     }
     Ok(())
 }

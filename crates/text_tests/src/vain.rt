@@ -1,4 +1,5 @@
 //! A file for `live` with a hart that never serves, whose lines are not always the same.
+use crate::asserting::assert_of;
 use crate::ends::{Job, Pieces, end_of};
 use std::alloc::{AllocError, Global};
 use std::test::Fail;
@@ -58,7 +59,7 @@ fn hart_that_never_serves(rt: HostRuntime) -> Result<(), Fail> {
         let one = format!(in alloc; "{lines}pair 0 1 accepted 4 taken 1 waiting 3\n{pair}")?;
         let ended = end_of(&rt, alloc, Job::Live, &mut Pieces::whole(text.as_bytes()));
         let is_either = ended.is(0, none.as_str(), "") || ended.is(0, one.as_str(), "");
-        assert!(rt; is_either, "{mode}");
+        assert_of(&rt, mode, is_either);
     }
     Ok(())
 }

@@ -1,4 +1,5 @@
 //! Words, the numbers that they write, and steps of `walk`.
+use crate::asserting::assert_of;
 use pte::{Access, Ctx, Mode};
 use std::test::Fail;
 use steps::{WalkStep, num, walk_step, words};
@@ -26,7 +27,7 @@ fn numbers_of_words(rt: HostRuntime) {
         ("0x+1", None),
         ("1_000", None),
     ] {
-        assert_eq!(rt; num(word.as_bytes()), value, "{word}");
+        assert_of(&rt, word, num(word.as_bytes()) == value);
     }
 }
 
@@ -40,7 +41,7 @@ fn words_of_texts(rt: HostRuntime) -> Result<(), Fail> {
         ("\ta  bc\td ", 3),
         ("a\nb", 1),
     ] {
-        assert_eq!(rt; words(alloc, text)?.len(), count, "{text}");
+        assert_of(&rt, text, words(alloc, text)?.len() == count);
     }
     let words = words(alloc, "\ta  bc\td ")?;
     assert!(rt;
@@ -57,7 +58,7 @@ fn words_of_a_long_text(rt: HostRuntime) -> Result<(), Fail> {
     for _ in 0..100_000_u32 {
         text.push_str("a\t")?;
     }
-    assert_eq!(rt; words(alloc, text.as_str())?.len(), 100_000);
+    assert!(rt; words(alloc, text.as_str())?.len() == 100_000);
     Ok(())
 }
 
@@ -90,7 +91,7 @@ fn steps_of_walk(rt: HostRuntime) {
         ("s+sum load 0", supervisor(true, false), Access::Load, 0),
     ] {
         let step = WalkStep { ctx, access, va };
-        assert_eq!(rt; walk_step(text), Some(step), "{text}");
+        assert_of(&rt, text, walk_step(text) == Some(step));
     }
 }
 
@@ -108,6 +109,6 @@ fn texts_that_are_no_steps_of_walk(rt: HostRuntime) {
         "u load +1",
         "u load 18446744073709551616",
     ] {
-        assert_eq!(rt; walk_step(text), None, "{text}");
+        assert_of(&rt, text, walk_step(text) == None);
     }
 }

@@ -9,16 +9,16 @@ use crate::calls::Call::{AckSelf, Collect, Finish, Flush, Load, Map, Post, Serve
 use crate::calls::Leaves::{Global, Readable};
 use crate::calls::*;
 use crate::runs::{Pair, assert_pairs};
+use crate::two_threads::{Job, report_of_job};
 use board::*;
+use harts::unmap_and_drop;
 use history::Refusal::{AlreadyPosted, BadFlags, Full, NotDone, NotHome, NotOpen};
 use history::{Refusal, Scope};
 use pte::{Access, Page};
-use reclaim::unmap_and_drop;
 use shoot::Collected;
 use spaces::Place;
 use std::test::Fail;
 use std::thread;
-use std::thread::Threads;
 use walk::Trap;
 
 /// Hart 0 maps the page to PPN 0x100.
@@ -262,34 +262,40 @@ fn map_and_free(board: &Board, mut ports: Vec<HartPort>, page: Page) -> bool
 
 // The worked caller of two ports.
 #[test]
-fn frame_is_free(rt: HostRuntime) {
-    let opened = Board::open(rt.alloc(), &layout(2)).ok();
-    let (Some((board, ports)), Some(page)) = (opened, page(0x1000)) else {
-        assert!(&rt; false);
-        return;
+fn frame_is_free(rt: HostRuntime) -> Result<(), Fail> {
+    let Some(page) = page(0x1000) else {
+        return Err(Fail::new("no page"));
+    };
+    let Ok((board, ports)) = Board::open(rt.alloc(), &layout(2)) else {
+        return Err(Fail::new("no board"));
     };
     assert!(&rt; map_and_free(&board, ports, page));
+    Ok(())
 }
 
-fn shoot_down_often(mut port: HartPort, page: Page, rounds: u64) -> (HartPort, bool)
+// Hart 0 maps the page, and shoots it down 300 times. Whether it was answered so.
+pub(crate) fn shoot_down_often(mut port: HartPort) -> (HartPort, bool)
     ensures { name_of result.0 ≡ name_of port }
 {
+    let Some(page) = page(0x1000) else {
+        return (port, false);
+    };
     let mut as_expected = map_first(&mut port, page);
-    for round in 0..rounds {
+    for round in 0..300 {
         as_expected &= shoot_down(&mut port, page, ppn_of(round + 1));
     }
     (port, as_expected)
 }
 
-// Hart 1 translates and serves, until it has served `rounds` requests. Once it served the request
-// of a round, what it finds is that of the next one, or nothing. Whether it was so.
-fn translate_and_serve(mut port: HartPort, rounds: u64) -> (HartPort, u64, bool)
+// Hart 1 translates and serves, until it has served 300 requests. Once it served the request of a
+// round, what it finds is that of the next one, or nothing. Whether it was so.
+pub(crate) fn translate_and_serve(mut port: HartPort) -> (HartPort, bool)
     ensures { name_of result.0 ≡ name_of port }
 {
     let mut served = 0;
     let mut as_found = true;
     for _ in 0..1_000_000_000_u64 {
-        if served == rounds {
+        if served == 300 {
             break;
         }
         let answer = port.translate(0x1004, Access::Load, USER);
@@ -300,49 +306,15 @@ fn translate_and_serve(mut port: HartPort, rounds: u64) -> (HartPort, u64, bool)
             thread::yield_now();
         }
     }
-    (port, served, as_found)
-}
-
-// Both harts in threads of their own, and then the report.
-fn in_two_threads(
-    rt: &impl Threads,
-    board: Board,
-    mut ports: Vec<HartPort>,
-    page: Page,
-    rounds: u64,
-) -> Result<(bool, u64, bool, Report), Fail>
-    requires { ArePorts board (map name_of ports.items) }
-{
-    let (Some(one), Some(zero)) = (ports.pop(), ports.pop()) else {
-        return Err(Fail::new("not two ports"));
-    };
-    let ((zero, as_expected), (one, served, as_found)) = thread::join(
-        rt,
-        move || -> (HartPort, bool)
-            ensures { name_of result.0 ≡ name_of zero }
-        { shoot_down_often(zero, page, rounds) },
-        move || -> (HartPort, u64, bool)
-            ensures { name_of result.0 ≡ name_of one }
-        { translate_and_serve(one, rounds) },
-    );
-    ports.push(zero)?;
-    ports.push(one)?;
-    Ok((as_expected, served, as_found, board.close(ports)))
+    (port, as_found && served == 300)
 }
 
 const ALL_SERVED: [Pair; 2] = [(0, 1, 300, 300), (1, 0, 0, 0)];
 
 #[test]
 fn shootdowns_by_two_threads(rt: HostRuntime) -> Result<(), Fail> {
-    let (Some((board, ports)), Some(page)) = (
-        Board::open(rt.alloc(), &layout(2)).ok(),
-        page(0x1000),
-    ) else {
-        return Err(Fail::new("no board"));
-    };
-    let (as_expected, served, as_found, report) = in_two_threads(&rt, board, ports, page, 300)?;
-    assert!(&rt; as_expected);
-    assert!(&rt; served == 300 && as_found);
+    let (is_right, report) = report_of_job(&rt, rt.alloc(), &layout(2), Job::Shootdowns)?;
+    assert!(&rt; is_right);
     assert_pairs(&rt, report.pairs.as_slice(), ALL_SERVED.as_slice());
     Ok(())
 }

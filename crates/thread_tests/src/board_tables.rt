@@ -1,17 +1,15 @@
 ghost use Rattle.std.specs.Prelude.{◌≡◌};
 
 use crate::calls::Answer::{Accepted, Done, Found, Leaf, Opened, Refused, Table, Trapped};
-use crate::calls::Call::{AckSelf, Fence, Load, Map, Protect, Store, Switch, Unmap};
+use crate::calls::Call::{AckSelf, Fence, Finish, Load, Map, Protect, Store, Switch, Unmap};
 use crate::calls::Leaves::{Readable, Writable};
 use crate::calls::*;
 use arrayvec::ArrayVec;
 use board::*;
-use history::Refusal;
 use history::Refusal::{
     AlreadyMapped, HomeNotNamed, NoHart, NoSpace, NoTicket, NotHome, NotMapped,
 };
-use pte::{Access, Page, Scheme};
-use shoot::Collected;
+use pte::Scheme;
 use spaces::{Config, Place, Space};
 use std::alloc::Global;
 use std::process::Abort;
@@ -43,11 +41,6 @@ pub(crate) fn layout(harts: u16) -> Config
     }
 }
 
-pub(crate) fn ports_of(alloc: Global, harts: u16) -> Option<Vec<HartPort>> {
-    let (_board, ports) = Board::open(alloc, &layout(harts)).ok()?;
-    Some(ports)
-}
-
 pub(crate) fn invalid(cause: u8) -> Result<u64, Trap> {
     Err(Trap {
         cause,
@@ -55,11 +48,19 @@ pub(crate) fn invalid(cause: u8) -> Result<u64, Trap> {
     })
 }
 
+/// The ports of a layout.
+pub(crate) fn ports_of(rt: &impl Abort, alloc: Global, config: &Config) -> Vec<HartPort> {
+    let ports = match Board::open(alloc, config) {
+        Ok((_board, ports)) => ports,
+        Err(_) => Vec::new(alloc),
+    };
+    assert!(rt; ports.len() == usize::from(config.harts));
+    ports
+}
+
 /// The ports of this many harts.
 pub(crate) fn open_ports(rt: &impl Abort, alloc: Global, harts: u16) -> Vec<HartPort> {
-    let ports = ports_of(alloc, harts).unwrap_or(Vec::new(alloc));
-    assert!(rt; ports.len() == usize::from(harts));
-    ports
+    ports_of(rt, alloc, &layout(harts))
 }
 
 /// The page of the tests.
@@ -219,127 +220,139 @@ const OTHER_HOME: [Row; 27] = [
 // what stands in another.
 #[test]
 fn reads_each_space_of_another_home(rt: HostRuntime) {
-    let Ok((_board, mut ports)) = Board::open(rt.alloc(), &two_homes()) else {
-        assert!(&rt; false);
-        return;
-    };
+    let mut ports = ports_of(&rt, rt.alloc(), &two_homes());
     assert_calls(&rt, &mut ports, OTHER_HOME.as_slice());
+}
+
+const LOAD: Call = Load(0x1004);
+
+const UNMAPPED: [Step; 4] = [
+    (Unmap(OWN, PAGE, 1), Opened(0)),
+    (AckSelf(0), Done),
+    (Finish(0), Accepted),
+    (LOAD, INVALID),
+];
+
+/// Maps the page, which takes one store, or three if there are no tables.
+fn map_to(port: &mut HartPort, ppn: u64) {
+    let map = Call::Map(OWN, PAGE, ppn, Leaves::Readable);
+    for _ in 0..3 {
+        if answer_to(port, &map) == Answer::Leaf {
+            break;
+        }
+    }
 }
 
 // By turns hart 0 maps the page to 0x100 and to 0x101, and unmaps it. Whether it was answered as
 // its own tables say.
-fn map_by_turns(mut port: HartPort, page: Page, rounds: u64) -> bool {
-    let place = Place::Space(0);
+fn map_by_turns(mut port: HartPort, rounds: u64) -> bool {
     let mut as_expected = true;
     for round in 0..rounds {
         let ppn = 0x100 + round % 2;
-        for _ in 0..3 {
-            if port.map_step(place, page, ppn, readable()) == Ok(Mapped::Leaf) {
-                break;
-            }
-        }
-        as_expected &= port.translate(0x1004, Access::Load, USER) == Ok(ppn * 0x1000 + 4);
-        as_expected &= port.unmap(place, page, 1) == Ok(0);
-        as_expected &= port.ack_self(0) == Ok(Collected::Done);
-        as_expected &= port.finish(0) == Ok(());
-        as_expected &= port.translate(0x1004, Access::Load, USER) == invalid(13);
+        map_to(&mut port, ppn);
+        as_expected &= answer_to(&mut port, &LOAD) == Answer::Found(ppn * 0x1000 + 4);
+        as_expected &= answers_all(&mut port, UNMAPPED.as_slice());
     }
     as_expected
 }
 
-// Whether each answer was one of 0x100004, 0x101004 and trap 13 Invalid.
+// Whether a load is answered by one of 0x100004, 0x101004 and trap 13 Invalid.
+fn loads_honestly(port: &mut HartPort) -> bool {
+    match answer_to(port, &LOAD) {
+        Answer::Found(pa) => pa == 0x10_0004 || pa == 0x10_1004,
+        answer => answer == INVALID,
+    }
+}
+
 fn answers_honestly(mut port: HartPort, times: u64) -> bool {
     let mut honest = true;
     for _ in 0..times {
         port.fence(None, None);
-        let answer = port.translate(0x1004, Access::Load, USER);
-        if answer != Ok(0x10_0004) && answer != Ok(0x10_1004) && answer != invalid(13) {
-            honest = false;
-        }
+        honest &= loads_honestly(&mut port);
     }
     honest
 }
 
+/// The last port but one, and the last.
+fn last_two(ports: &mut Vec<HartPort>) -> Option<(HartPort, HartPort)> {
+    let last = ports.pop()?;
+    let before = ports.pop()?;
+    Some((before, last))
+}
+
 #[test]
 fn honest_loads(rt: HostRuntime) {
-    let (Some(mut ports), Some(page)) = (ports_of(rt.alloc(), 2), page(0x1000)) else {
-        assert!(&rt; false);
-        return;
-    };
-    let (Some(one), Some(zero)) = (ports.pop(), ports.pop()) else {
+    let mut ports = open_ports(&rt, rt.alloc(), 2);
+    let Some((zero, one)) = last_two(&mut ports) else {
         assert!(&rt; false);
         return;
     };
     let (as_expected, honest) = thread::join(
         &rt,
-        move || map_by_turns(zero, page, 500),
+        move || map_by_turns(zero, 500),
         move || answers_honestly(one, 1000),
     );
-    assert!(&rt; as_expected);
-    assert!(&rt; honest);
+    assert!(&rt; as_expected && honest);
 }
+
+const SECOND_MAPPED: [Row; 3] = [
+    (0, Map(SECOND, PAGE, 0x200, Readable), Table(0x8_0003)),
+    (0, Map(SECOND, PAGE, 0x200, Readable), Table(0x8_0004)),
+    (0, Map(SECOND, PAGE, 0x200, Readable), Leaf),
+];
+
+const SECOND_LOADED: [Step; 2] = [(Switch(1), Accepted), (LOAD, Found(0x20_0004))];
 
 // A hart that goes from space to space and fences now and then. Whether each answer was possible:
 // space 1 is not edited, and the page of space 0 is one of two, or none.
 fn answers_possibly(mut port: HartPort, times: u64) -> bool {
     let mut possible = true;
     for time in 0..times {
-        let moved = port.switch(1);
-        if moved != Ok(()) || port.translate(0x1004, Access::Load, USER) != Ok(0x20_0004) {
-            possible = false;
-        }
+        possible &= answers_all(&mut port, SECOND_LOADED.as_slice());
         let _back = port.switch(0);
         if time % 3 == 0 {
             port.fence(Some(0x1000), None);
         }
-        let answer = port.translate(0x1004, Access::Load, USER);
-        if answer != Ok(0x10_0004) && answer != Ok(0x10_1004) && answer != invalid(13) {
-            possible = false;
-        }
+        possible &= loads_honestly(&mut port);
     }
     possible
 }
 
+fn edit_and_translate<R: Threads + Sync>(rt: &R, zero: HartPort, one: HartPort) -> bool {
+    let (as_expected, possible) = thread::join(
+        rt,
+        move || map_by_turns(zero, 17_000),
+        move || answers_possibly(one, 25_000),
+    );
+    as_expected && possible
+}
+
+fn two_translate<R: Threads + Sync>(rt: &R, two: HartPort, three: HartPort) -> bool {
+    let (second, third) = thread::join(
+        rt,
+        move || answers_possibly(two, 25_000),
+        move || answers_possibly(three, 25_000),
+    );
+    second && third
+}
+
 // One home edits, and three harts translate, each in a thread of its own, by 100,000 calls and
 // more.
-fn in_four_threads<R: Threads + Sync>(
-    rt: &R,
-    mut ports: Vec<HartPort>,
-    page: Page,
-) -> Option<bool> {
-    let three = ports.pop()?;
-    let two = ports.pop()?;
-    let one = ports.pop()?;
-    let mut zero = ports.pop()?;
-    for _ in 0..3 {
-        let _stored = zero.map_step(Place::Space(1), page, 0x200, readable());
-    }
-    let ((as_expected, first), (second, third)) = thread::join(
+fn in_four_threads<R: Threads + Sync>(rt: &R, mut ports: Vec<HartPort>) -> Option<bool> {
+    let (two, three) = last_two(&mut ports)?;
+    let (zero, one) = last_two(&mut ports)?;
+    let (edited, translated) = thread::join(
         rt,
-        move || {
-            thread::join(
-                rt,
-                move || map_by_turns(zero, page, 17_000),
-                move || answers_possibly(one, 25_000),
-            )
-        },
-        move || {
-            thread::join(
-                rt,
-                move || answers_possibly(two, 25_000),
-                move || answers_possibly(three, 25_000),
-            )
-        },
+        move || edit_and_translate(rt, zero, one),
+        move || two_translate(rt, two, three),
     );
-    Some(as_expected && first && second && third)
+    Some(edited && translated)
 }
 
 #[test]
 fn three_translate_while_one_edits(rt: HostRuntime) {
-    let (Some(ports), Some(page)) = (ports_of(rt.alloc(), 4), page(0x1000)) else {
-        assert!(&rt; false);
-        return;
-    };
-    let answered = in_four_threads(&rt, ports, page);
+    let mut ports = open_ports(&rt, rt.alloc(), 4);
+    assert_calls(&rt, &mut ports, SECOND_MAPPED.as_slice());
+    let answered = in_four_threads(&rt, ports);
     assert!(&rt; answered == Some(true));
 }

@@ -1,10 +1,12 @@
-ghost use Rattle.std.specs.Prelude.{◌≡◌, IfOk, map};
-ghost use Rattle.board.specs.Ports.{ArePorts, name_of};
+ghost use Rattle.std.specs.Prelude.{◌≡◌};
+ghost use Rattle.board.specs.Ports.{name_of};
 
+use crate::board_tables::ports_of;
 use crate::calls::Answer::{Accepted, Done, Opened, Refused, TakenAll, TakenSpace, Waiting};
 use crate::calls::Call::{AckSelf, Close, Collect, Finish, Flush, Post, Serve};
-use crate::calls::{Answer, Call, Row, assert_call, assert_calls, request_taken};
-use crate::runs::{Pair, assert_pairs};
+use crate::calls::{Answer, Call, Row, assert_call, assert_calls};
+use crate::runs::{Pair, assert_pairs, assert_waiting};
+use crate::two_threads::{Job, report_of_job};
 use arrayvec::ArrayVec;
 use board::*;
 use history::Refusal::{
@@ -17,7 +19,6 @@ use std::alloc::Global;
 use std::process::Abort;
 use std::test::Fail;
 use std::thread;
-use std::thread::Threads;
 
 /// Two harts and one space of ASID 7, whose mailboxes have a capacity of 4.
 fn two_harts(scheme: Scheme, harts: u16) -> Config {
@@ -39,12 +40,7 @@ fn two_harts(scheme: Scheme, harts: u16) -> Config {
 
 /// The ports of both harts.
 fn two_ports(rt: &impl Abort, alloc: Global, scheme: Scheme) -> Vec<HartPort> {
-    let ports = match Board::open(alloc, &two_harts(scheme, 2)) {
-        Ok((_board, ports)) => ports,
-        Err(_) => Vec::new(alloc),
-    };
-    assert!(rt; ports.len() == 2);
-    ports
+    ports_of(rt, alloc, &two_harts(scheme, 2))
 }
 
 const REQUESTS: [Row; 25] = [
@@ -166,7 +162,7 @@ fn hart_that_never_serves(rt: HostRuntime) {
 
 // Hart 0 opens five tickets, posts each to hart 1, and closes its mailbox twice. Whether it was
 // answered as a mailbox of four answers.
-fn post_five(mut port: HartPort) -> (HartPort, bool)
+pub(crate) fn post_five(mut port: HartPort) -> (HartPort, bool)
     ensures { name_of result.0 ≡ name_of port }
 {
     let mut as_expected = true;
@@ -184,9 +180,9 @@ fn post_five(mut port: HartPort) -> (HartPort, bool)
     (port, as_expected)
 }
 
-// Hart 1 serves until it was answered `Ok` three times, in a limited number of tries, and counts
-// those that came in order.
-fn serve_three(mut port: HartPort) -> (HartPort, u32)
+// Hart 1 serves until it was answered `Ok` three times, in a limited number of tries. Whether they
+// came in order.
+pub(crate) fn serve_three(mut port: HartPort) -> (HartPort, bool)
     ensures { name_of result.0 ≡ name_of port }
 {
     let mut in_order = 0;
@@ -200,32 +196,7 @@ fn serve_three(mut port: HartPort) -> (HartPort, u32)
             Err(_) => thread::yield_now(),
         }
     }
-    (port, in_order)
-}
-
-// What both harts do in threads of their own, and then the report.
-fn in_two_threads(
-    rt: &impl Threads,
-    board: Board,
-    mut ports: Vec<HartPort>,
-) -> Result<(bool, u32, Report), Fail>
-    requires { ArePorts board (map name_of ports.items) }
-{
-    let (Some(one), Some(zero)) = (ports.pop(), ports.pop()) else {
-        return Err(Fail::new("not two ports"));
-    };
-    let ((zero, posted), (one, served)) = thread::join(
-        rt,
-        move || -> (HartPort, bool)
-            ensures { name_of result.0 ≡ name_of zero }
-        { post_five(zero) },
-        move || -> (HartPort, u32)
-            ensures { name_of result.0 ≡ name_of one }
-        { serve_three(one) },
-    );
-    ports.push(zero)?;
-    ports.push(one)?;
-    Ok((posted, served, board.close(ports)))
+    (port, in_order == 3)
 }
 
 // Four are accepted, and three served.
@@ -233,15 +204,10 @@ const CROSSED: [Pair; 2] = [(0, 1, 4, 3), (1, 0, 0, 0)];
 
 #[test]
 fn requests_cross_threads(rt: HostRuntime) -> Result<(), Fail> {
-    let Ok((board, ports)) = Board::open(rt.alloc(), &two_harts(Scheme::Sv39, 2)) else {
-        return Err(Fail::new("no board"));
-    };
-    let (posted, served, report) = in_two_threads(&rt, board, ports)?;
-    assert!(&rt; posted);
-    assert!(&rt; served == 3);
-    assert!(&rt; report.pairs.len() == 2);
+    let config = two_harts(Scheme::Sv39, 2);
+    let (is_right, report) = report_of_job(&rt, rt.alloc(), &config, Job::Requests)?;
+    assert!(&rt; is_right);
     assert_pairs(&rt, report.pairs.as_slice(), CROSSED.as_slice());
-    let left = &report.pairs[0].waiting;
-    assert!(&rt; left.len() == 1 && request_taken(&left[0]) == Answer::TakenAll(3));
+    assert_waiting(&rt, report.pairs.as_slice(), 3);
     Ok(())
 }

@@ -76,26 +76,19 @@ const BOTH_SERVED: [Pair; 2] = [(0, 1, 1, 1), (1, 0, 1, 1)];
 // one script goes before the other gives it: each waits until the other has served.
 #[test]
 fn both_harts_run(rt: HostRuntime) -> Result<(), Fail> {
-    let alloc = rt.alloc();
-    let setup = setup_of(alloc, MAPPED.as_slice())?;
-    let scripts = vec![in alloc;
-        script_of(alloc, OF_HART_0.as_slice())?,
-        script_of(alloc, OF_HART_1.as_slice())?,
-    ]?;
-    let (setup, scripts) = (setup.as_slice(), scripts.as_slice());
-    let ran = report_of(
+    let shape = Shape {
+        harts: 2,
+        scripts: 2,
+        turns: MANY_TURNS,
+    };
+    assert_whole(
         &rt,
-        alloc,
-        &homes(2),
-        setup,
-        scripts,
-        MANY_TURNS,
+        rt.alloc(),
+        &shape,
+        MAPPED.as_slice(),
+        OF_HART_0.as_slice(),
+        OF_HART_1.as_slice(),
+        BOTH_SERVED.as_slice(),
         &Meeting::new(),
-    )?;
-    assert_answers(&rt, ran.setup.as_slice(), MAPPED.as_slice());
-    assert!(&rt; ran.scripts.len() == 2);
-    assert_script(&rt, ran.scripts[0].as_slice(), OF_HART_0.as_slice());
-    assert_script(&rt, ran.scripts[1].as_slice(), OF_HART_1.as_slice());
-    assert_pairs(&rt, ran.report.pairs.as_slice(), BOTH_SERVED.as_slice());
-    Ok(())
+    )
 }

@@ -71,7 +71,10 @@ pub(crate) enum Answer {
     Other,
 }
 
-/// What a hart does, and what it is answered.
+/// A call or a step of a script, and its answer.
+pub(crate) type Step = (Call, Answer);
+
+/// The same of a hart.
 pub(crate) type Row = (u8, Call, Answer);
 
 pub(crate) const USER: Ctx = Ctx {
@@ -229,24 +232,36 @@ pub(crate) fn answer_to(port: &mut HartPort, call: &Call) -> Answer {
     translation(port, call).unwrap_or(Answer::Other)
 }
 
-/// The call of a row by its hart's port has the answer of the row.
+/// Whether each call of a port, in order, has its answer.
+pub(crate) fn answers_all(port: &mut HartPort, steps: &[Step]) -> bool {
+    let mut as_expected = true;
+    for (call, answer) in steps {
+        as_expected &= answer_to(port, call) == *answer;
+    }
+    as_expected
+}
+
+/// Whether the call of a row by its hart's port has the answer of the row.
+fn is_answered(ports: &mut Vec<HartPort>, row: &Row) -> bool {
+    match ports.get_mut(usize::from(row.0)) {
+        Some(port) => answer_to(port, &row.1) == row.2,
+        None => false,
+    }
+}
+
+/// What is compared under a number is as it should be.
+pub(crate) fn assert_row(rt: &impl Abort, number: usize, is_right: bool) {
+    assert!(rt; is_right, "row {number} is another");
+}
+
+/// The call has its answer.
 pub(crate) fn assert_call(rt: &impl Abort, ports: &mut Vec<HartPort>, row: &Row) {
-    let Some(port) = ports.get_mut(usize::from(row.0)) else {
-        assert!(rt; false, "no such hart");
-        return;
-    };
-    let answer = answer_to(port, &row.1);
-    assert!(rt; answer == row.2);
+    assert!(rt; is_answered(ports, row));
 }
 
 /// Each call, in order, has its answer.
 pub(crate) fn assert_calls(rt: &impl Abort, ports: &mut Vec<HartPort>, rows: &[Row]) {
     for (number, row) in rows.iter().enumerate() {
-        let Some(port) = ports.get_mut(usize::from(row.0)) else {
-            assert!(rt; false, "row {number} is of no hart");
-            return;
-        };
-        let answer = answer_to(port, &row.1);
-        assert!(rt; answer == row.2, "row {number} has another answer");
+        assert_row(rt, number, is_answered(ports, row));
     }
 }

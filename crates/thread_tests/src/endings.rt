@@ -8,25 +8,26 @@ use crate::runs::*;
 use harts::*;
 use history::Refusal::{Empty, Full, NotDone, NotOpen};
 use history::{Refusal, Scope};
+use std::alloc::{AllocError, Global};
 use std::test::Fail;
 
 // No harts; a mailbox of more than 64 places; no number of spare frames for a hart; more frames
 // than harts that are threads have.
 #[test]
 fn layout_is_refused(rt: HostRuntime) {
+    assert_refused(&rt, rt.alloc(), &homes(0));
     let mut roomy = homes(2);
     roomy.capacity = 65;
+    assert_refused(&rt, rt.alloc(), &roomy);
     let mut short = homes(2);
     short.harts = 3;
+    assert_refused(&rt, rt.alloc(), &short);
     let mut large = homes(8);
     for spare in large.spares.iter_mut() {
         *spare = 11;
     }
     assert!(&rt; large.check() && !large.check_live());
-    for config in [homes(0), roomy, short, large] {
-        let refused = run(&rt, rt.alloc(), &config, &[], &[], 3, &OpenGate);
-        assert!(&rt; matches!(&refused, Some(Err(LiveFault::BadLayout))));
-    }
+    assert_refused(&rt, rt.alloc(), &large);
 }
 
 const ASKS_TWO: [Step; 5] = [
@@ -49,26 +50,23 @@ const BOTH_SERVED: [Pair; 6] = [
 // Harts without a script answer nothing, and serve the others.
 #[test]
 fn fewer_scripts_than_harts(rt: HostRuntime) -> Result<(), Fail> {
-    let alloc = rt.alloc();
-    let scripts = vec![in alloc; script_of(alloc, ASKS_TWO.as_slice())?]?;
-    let scripts = scripts.as_slice();
-    let ran = report_of(&rt, alloc, &homes(3), &[], scripts, MANY_TURNS, &OpenGate)?;
-    assert!(&rt; ran.setup.is_empty() && ran.scripts.len() == 3);
-    assert_script(&rt, ran.scripts[0].as_slice(), ASKS_TWO.as_slice());
-    assert!(&rt; ran.scripts[1].is_empty() && ran.scripts[2].is_empty());
-    assert_pairs(&rt, ran.report.pairs.as_slice(), BOTH_SERVED.as_slice());
-    Ok(())
+    let shape = Shape {
+        harts: 3,
+        scripts: 1,
+        turns: MANY_TURNS,
+    };
+    let (script, pairs) = (ASKS_TWO.as_slice(), BOTH_SERVED.as_slice());
+    assert_whole(&rt, rt.alloc(), &shape, &[], script, &[], pairs, &OpenGate)
 }
 
 #[test]
 fn no_scripts(rt: HostRuntime) -> Result<(), Fail> {
-    let Some(Ok(ran)) = run(&rt, rt.alloc(), &homes(1), &[], &[], 3, &OpenGate) else {
-        return Err(Fail::new("no run"));
+    let shape = Shape {
+        harts: 1,
+        scripts: 0,
+        turns: 3,
     };
-    assert!(&rt; ran.setup.is_empty());
-    assert!(&rt; ran.scripts.len() == 1 && ran.scripts[0].is_empty());
-    assert!(&rt; ran.report.pairs.is_empty());
-    Ok(())
+    assert_whole(&rt, rt.alloc(), &shape, &[], &[], &[], &[], &OpenGate)
 }
 
 const DONE_ALONE: [Step; 3] = [
@@ -89,9 +87,16 @@ const HALTED_SECOND: [Step; 3] = [
 fn halted_by_the_gate(rt: HostRuntime) -> Result<(), Fail> {
     let (here, there) = (DONE_ALONE.as_slice(), HALTED_SECOND.as_slice());
     let gate = Ending::new(1, 2);
-    assert_scripts(&rt, rt.alloc(), here, there, 3, &gate)?;
-    assert!(&rt; gate.is_in_order());
-    assert!(&rt; gate.calls_of(0) == Some(6) && gate.calls_of(1) == Some(3));
+    assert_scripts(
+        &rt,
+        rt.alloc(),
+        here,
+        there,
+        3,
+        NO_REQUESTS.as_slice(),
+        &gate,
+    )?;
+    assert!(&rt; gate.was_called(6, 3));
     Ok(())
 }
 
@@ -108,9 +113,16 @@ const HALTED_THIRD: [Step; 3] = [
 fn halted_before_the_last_step(rt: HostRuntime) -> Result<(), Fail> {
     let (here, there) = (ONE_FLUSH.as_slice(), HALTED_THIRD.as_slice());
     let gate = Ending::new(1, 3);
-    assert_scripts(&rt, rt.alloc(), here, there, 3, &gate)?;
-    assert!(&rt; gate.is_in_order());
-    assert!(&rt; gate.calls_of(0) == Some(2) && gate.calls_of(1) == Some(5));
+    assert_scripts(
+        &rt,
+        rt.alloc(),
+        here,
+        there,
+        3,
+        NO_REQUESTS.as_slice(),
+        &gate,
+    )?;
+    assert!(&rt; gate.was_called(2, 5));
     Ok(())
 }
 
@@ -132,9 +144,8 @@ const ONE_THERE: [Pair; 2] = [(0, 1, 1, 1), (1, 0, 0, 0)];
 fn halted_hart_serves(rt: HostRuntime) -> Result<(), Fail> {
     let (here, there) = (ASKS_ONE.as_slice(), HALTED_FIRST.as_slice());
     let gate = Ending::new(1, 1);
-    let ran = assert_scripts(&rt, rt.alloc(), here, there, MANY_TURNS, &gate)?;
-    assert_pairs(&rt, ran.report.pairs.as_slice(), ONE_THERE.as_slice());
-    Ok(())
+    let pairs = ONE_THERE.as_slice();
+    assert_scripts(&rt, rt.alloc(), here, there, MANY_TURNS, pairs, &gate)
 }
 
 const SET_UP: [Row; 3] = [
@@ -148,17 +159,16 @@ const HALTED_ALONE: [Step; 1] = [(AckSelf(0), Halted)];
 // The gate is called for no step of setup.
 #[test]
 fn setup_passes_no_gate(rt: HostRuntime) -> Result<(), Fail> {
-    let alloc = rt.alloc();
-    let setup = setup_of(alloc, SET_UP.as_slice())?;
-    let scripts = vec![in alloc; script_of(alloc, HALTED_ALONE.as_slice())?]?;
-    let (setup, scripts) = (setup.as_slice(), scripts.as_slice());
+    let shape = Shape {
+        harts: 2,
+        scripts: 1,
+        turns: 3,
+    };
+    let (rows, script) = (SET_UP.as_slice(), HALTED_ALONE.as_slice());
     let gate = Ending::new(0, 1);
-    let ran = report_of(&rt, alloc, &homes(2), setup, scripts, 3, &gate)?;
-    assert_answers(&rt, ran.setup.as_slice(), SET_UP.as_slice());
-    assert!(&rt; ran.scripts.len() == 2);
-    assert_script(&rt, ran.scripts[0].as_slice(), HALTED_ALONE.as_slice());
-    assert!(&rt; ran.scripts[1].is_empty());
-    assert!(&rt; gate.is_in_order() && gate.calls_of(0) == Some(1) && gate.calls_of(1) == Some(0));
+    let pairs = NO_REQUESTS.as_slice();
+    assert_whole(&rt, rt.alloc(), &shape, rows, script, &[], pairs, &gate)?;
+    assert!(&rt; gate.was_called(1, 0));
     Ok(())
 }
 
@@ -195,9 +205,7 @@ fn wait_times_out(rt: HostRuntime) -> Result<(), Fail> {
     let gate = Held {
         steps: Steps::new(),
     };
-    let ran = assert_scripts(&rt, rt.alloc(), here, there, 3, &gate)?;
-    assert_pairs(&rt, ran.report.pairs.as_slice(), ONE_THERE.as_slice());
-    Ok(())
+    assert_scripts(&rt, rt.alloc(), here, there, 3, ONE_THERE.as_slice(), &gate)
 }
 
 const FILLED: [Row; 10] = [
@@ -213,7 +221,23 @@ const FILLED: [Row; 10] = [
     (0, Post(4, 1), Refused(Full)),
 ];
 
-const NOT_SERVED: [Row; 2] = [(0, Finish(0), Refused(NotDone)), (0, Wait(0), Timeout)];
+/// The row of that number: 1,000 collections follow, and then what is not done.
+fn row_at(number: usize) -> Row {
+    match FILLED.get(number) {
+        Some(row) => *row,
+        None if number == 1_010 => (0, Call::Finish(0), Answer::Refused(NotDone)),
+        None if number == 1_011 => (0, Call::Wait(0), Answer::Timeout),
+        None => (0, Call::Collect(0), Answer::Waiting(0b11)),
+    }
+}
+
+fn unserved_rows(alloc: Global) -> Result<Vec<Row>, AllocError> {
+    let mut rows = Vec::with_capacity(alloc, 1_012)?;
+    for number in 0..1_012 {
+        rows.push(row_at(number))?;
+    }
+    Ok(rows)
+}
 
 /// Four requests of hart 0 to hart 1 are accepted, and none taken.
 const NONE_TAKEN: [Pair; 2] = [(0, 1, 4, 0), (1, 0, 0, 0)];
@@ -221,22 +245,10 @@ const NONE_TAKEN: [Pair; 2] = [(0, 1, 4, 0), (1, 0, 0, 0)];
 // Hart 1 never serves: with no turns, a hart whose script has ended does nothing for the others.
 #[test]
 fn nobody_serves(rt: HostRuntime) -> Result<(), Fail> {
-    let mut rows = Vec::new(rt.alloc());
-    for row in FILLED {
-        rows.push(row)?;
-    }
-    for _ in 0..1_000 {
-        rows.push((0, Call::Collect(0), Answer::Waiting(0b11)))?;
-    }
-    for row in NOT_SERVED {
-        rows.push(row)?;
-    }
-    let report = assert_setup(&rt, rt.alloc(), 0, rows.as_slice())?;
-    let pairs = report.report.pairs.as_slice();
+    let rows = unserved_rows(rt.alloc())?;
+    let ran = assert_setup(&rt, rt.alloc(), 0, rows.as_slice())?;
+    let pairs = ran.report.pairs.as_slice();
     assert_pairs(&rt, pairs, NONE_TAKEN.as_slice());
-    assert!(&rt; pairs.len() == 2);
-    for (ticket, request) in (0..4).zip(pairs[0].waiting.iter()) {
-        assert!(&rt; request_taken(request) == Answer::TakenAll(ticket));
-    }
+    assert_waiting(&rt, pairs, 0);
     Ok(())
 }

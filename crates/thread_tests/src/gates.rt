@@ -81,14 +81,12 @@ impl Ending {
         }
     }
 
-    /// How often it was called for a hart.
-    pub(crate) fn calls_of(&self, hart: u8) -> Option<u32> {
-        let calls = self.calls.get(usize::from(hart))?;
-        Some(calls.load(Ordering::SeqCst))
-    }
-
-    pub(crate) fn is_in_order(&self) -> bool {
-        !self.disordered.load(Ordering::SeqCst)
+    /// Whether it was called in order, and so often for hart 0 and for hart 1.
+    pub(crate) fn was_called(&self, here: u32, there: u32) -> bool {
+        let [of_hart_0, of_hart_1] = &self.calls;
+        of_hart_0.load(Ordering::SeqCst) == here
+            && of_hart_1.load(Ordering::SeqCst) == there
+            && !self.disordered.load(Ordering::SeqCst)
     }
 }
 

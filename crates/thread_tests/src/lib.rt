@@ -15,11 +15,15 @@ mod both_harts;
 #[cfg(test)]
 mod calls;
 #[cfg(test)]
+mod cells;
+#[cfg(test)]
 mod endings;
 #[cfg(test)]
 mod gates;
 #[cfg(test)]
 mod live_calls;
+#[cfg(test)]
+mod lone_hart;
 #[cfg(test)]
 mod mailbox_ends;
 #[cfg(test)]
@@ -29,8 +33,12 @@ mod runs;
 #[cfg(test)]
 mod scripts;
 #[cfg(test)]
+mod seats;
+#[cfg(test)]
 mod staleness;
 #[cfg(test)]
 mod steps;
 #[cfg(test)]
 mod stress;
+#[cfg(test)]
+mod two_threads;

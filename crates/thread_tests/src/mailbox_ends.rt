@@ -3,6 +3,7 @@ ghost use Rattle.std.specs.Prelude.{◌≡◌, ◌<◌};
 use board::{Inbox, Outbox, ends, settle, take_waiting};
 use pte::What;
 use shoot::{MAX_TICKETS, PostFault, Request};
+use std::process::Abort;
 use std::test::Fail;
 use std::thread;
 use std::thread::Threads;
@@ -16,38 +17,55 @@ fn request(ticket: u32) -> Request
     }
 }
 
-// How many requests wait, and then the oldest of them.
-fn settle_and_take(outbox: &mut Outbox, inbox: &mut Inbox) -> (usize, Option<Request>)
+/// A request is refused so, and comes back, or it is accepted.
+fn assert_post(rt: &impl Abort, outbox: &mut Outbox, ticket: u32, fault: Option<PostFault>)
+    requires { ticket < MAX_TICKETS }
+    ensures { outbox.new.ring ≡ outbox.old.ring }
+{
+    let asked = request(ticket);
+    let expected = match fault {
+        Some(why) => Err((why, asked)),
+        None => Ok(()),
+    };
+    assert!(rt; outbox.post(asked) == expected);
+}
+
+/// This many requests wait, and this one is the oldest of them.
+fn assert_settled(
+    rt: &impl Abort,
+    outbox: &mut Outbox,
+    inbox: &mut Inbox,
+    count: usize,
+    oldest: Option<Request>,
+)
     requires { outbox.old.ring ≡ inbox.old.ring }
     ensures ring { outbox.new.ring ≡ inbox.new.ring }
     ensures outbox { outbox.new ≡ record outbox.old { room = outbox.new.room } }
 {
     let waiting = settle(outbox, inbox);
-    (waiting, inbox.take())
+    let taken = inbox.take();
+    assert!(rt; waiting == count && taken == oldest);
 }
 
 #[test]
 fn ends_of_two(rt: HostRuntime) -> Result<(), Fail> {
-    let [a, b, c, d] = [request(0), request(1), request(2), request(3)];
     let (mut outbox, mut inbox) = ends(rt.alloc(), 2)?;
-    assert!(&rt; outbox.post(a) == Ok(()));
-    assert!(&rt; outbox.post(b) == Ok(()));
-    assert!(&rt; outbox.post(c) == Err((PostFault::Full, c)));
-    assert!(&rt; settle_and_take(&mut outbox, &mut inbox) == (2, Some(a)));
-    assert!(&rt; outbox.post(c) == Err((PostFault::Full, c)));
+    assert_post(&rt, &mut outbox, 0, None);
+    assert_post(&rt, &mut outbox, 1, None);
+    assert_post(&rt, &mut outbox, 2, Some(PostFault::Full));
+    assert_settled(&rt, &mut outbox, &mut inbox, 2, Some(request(0)));
+    assert_post(&rt, &mut outbox, 2, Some(PostFault::Full));
     assert!(&rt; outbox.outstanding() == 2);
     outbox.release();
     assert!(&rt; outbox.outstanding() == 1 && outbox.post_fault() == None);
-    assert!(&rt; outbox.post(c) == Ok(()));
-    assert!(&rt; outbox.post_fault() == Some(PostFault::Full));
-    assert!(&rt; !outbox.is_closed());
+    assert_post(&rt, &mut outbox, 2, None);
+    assert!(&rt; outbox.post_fault() == Some(PostFault::Full) && !outbox.is_closed());
     outbox.close();
-    assert!(&rt; outbox.is_closed());
-    assert!(&rt; outbox.post_fault() == Some(PostFault::Closed));
-    assert!(&rt; outbox.post(d) == Err((PostFault::Closed, d)));
-    assert!(&rt; settle_and_take(&mut outbox, &mut inbox) == (2, Some(b)));
-    assert!(&rt; settle_and_take(&mut outbox, &mut inbox) == (1, Some(c)));
-    assert!(&rt; settle_and_take(&mut outbox, &mut inbox) == (0, None));
+    assert!(&rt; outbox.post_fault() == Some(PostFault::Closed) && outbox.is_closed());
+    assert_post(&rt, &mut outbox, 3, Some(PostFault::Closed));
+    assert_settled(&rt, &mut outbox, &mut inbox, 2, Some(request(1)));
+    assert_settled(&rt, &mut outbox, &mut inbox, 1, Some(request(2)));
+    assert_settled(&rt, &mut outbox, &mut inbox, 0, None);
     Ok(())
 }
 
@@ -55,19 +73,25 @@ fn ends_of_two(rt: HostRuntime) -> Result<(), Fail> {
 #[test]
 fn ring_of_three_turns_around(rt: HostRuntime) -> Result<(), Fail> {
     let (mut outbox, mut inbox) = ends(rt.alloc(), 3)?;
-    assert!(&rt; outbox.post(request(0)) == Ok(()));
-    assert!(&rt; outbox.post(request(1)) == Ok(()));
+    assert_post(&rt, &mut outbox, 0, None);
+    assert_post(&rt, &mut outbox, 1, None);
     for number in 0..200 {
-        assert!(&rt; outbox.post(request((number + 2) % 64)) == Ok(()));
-        assert!(&rt; outbox.post(request(63)) == Err((PostFault::Full, request(63))));
+        assert_post(&rt, &mut outbox, (number + 2) % 64, None);
+        assert_post(&rt, &mut outbox, 63, Some(PostFault::Full));
         assert!(&rt; inbox.take() == Some(request(number % 64)));
         assert!(&rt; outbox.outstanding() == 3);
         outbox.release();
     }
+    Ok(())
+}
+
+// What waits in a closed mailbox comes out in order too.
+#[test]
+fn waiting_requests_are_taken(rt: HostRuntime) -> Result<(), Fail> {
     let mut waiting = Vec::with_capacity(rt.alloc(), 3)?;
     let (mut outbox, mut inbox) = ends(rt.alloc(), 3)?;
-    assert!(&rt; outbox.post(request(5)) == Ok(()));
-    assert!(&rt; outbox.post(request(4)) == Ok(()));
+    assert_post(&rt, &mut outbox, 5, None);
+    assert_post(&rt, &mut outbox, 4, None);
     outbox.close();
     take_waiting(&mut outbox, &mut inbox, &mut waiting);
     assert!(&rt; waiting.as_slice() == [request(5), request(4)].as_slice());

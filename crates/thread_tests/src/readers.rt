@@ -1,21 +1,22 @@
 //! What a hart may find in the spaces of the others, and take from them, given what they did.
 
-use crate::accounts::{Account, Asked, Gone, INVALID, number_of};
+use crate::accounts::{Account, Asked, awaited_in, number_of};
+use crate::calls::{Answer, INVALID};
+use crate::live_calls::answer_of;
 use crate::scripts::ppn_of;
-use harts::*;
+use harts::LiveReply;
 use history::{LiveStep, Reply};
 use shoot::Request;
-use std::alloc::{AllocError, Global};
 
 /// Which space a hart is in, how many requests from each hart it has taken at least, and the least
 /// version that it may still find of each page: what it served the unmapping of is gone, and what
 /// it found once is not replaced by something older.
-#[derive(Drop)]
+#[derive(Clone, Copy)]
 pub(crate) struct Reader {
     hart: u8,
     space: u8,
-    pub(crate) taken: Vec<usize>,
-    least: Vec<u16>,
+    taken: [u64; 8],
+    least: [u16; 16],
 }
 
 /// Where the least version of a page of a space stands.
@@ -23,26 +24,22 @@ fn place_of(space: u8, number: u8) -> usize {
     2 * usize::from(space) + usize::from(number)
 }
 
-/// Whether it is a request of that ticket and for the same.
-fn is_same(asked: &Asked, request: &Request) -> bool {
-    asked.ticket == request.ticket && asked.what == request.what
-}
-
 impl Reader {
-    pub(crate) fn new(alloc: Global, hart: u8) -> Result<Reader, AllocError> {
-        let mut taken = Vec::new(alloc);
-        let mut least = Vec::new(alloc);
-        for _ in 0..8 {
-            taken.push(0)?;
-            least.push(0)?;
-            least.push(0)?;
-        }
-        Ok(Reader {
+    pub(crate) fn new(hart: u8) -> Reader {
+        Reader {
             hart,
             space: 0,
-            taken,
-            least,
-        })
+            taken: [0; 8],
+            least: [0; 16],
+        }
+    }
+
+    /// How many requests from a hart it has taken at least.
+    pub(crate) fn known(&self, from: u8) -> u64 {
+        match self.taken.get(usize::from(from)) {
+            Some(taken) => *taken,
+            None => 0,
+        }
     }
 
     fn raise(&mut self, space: u8, number: u8, version: u16) {
@@ -51,17 +48,24 @@ impl Reader {
         }
     }
 
-    fn drop_gone(&mut self, space: u8, gone: &Option<Gone>) {
-        if let Some(gone) = gone {
+    /// The hart serves a request of another, which took a page away perhaps.
+    fn drop_gone(&mut self, space: u8, asked: &Asked) {
+        if let Some(gone) = asked.order.gone {
             self.raise(space, gone.page, gone.version.saturating_add(1));
+        }
+    }
+
+    fn set_taken(&mut self, from: u8, number: u64) {
+        if let Some(taken) = self.taken.get_mut(usize::from(from)) {
+            *taken = number;
         }
     }
 
     /// A request that was taken: the first one of those that the sender asked, after those that
     /// were taken, that is the same. Those before it were taken too.
     fn serve(&mut self, from: u8, account: &Account, request: Option<&Request>) -> bool {
-        let known = self.taken.get(usize::from(from)).copied().unwrap_or(0);
-        let mut number: usize = 0;
+        let known = self.known(from);
+        let mut number: u64 = 0;
         for asked in account.asked.iter() {
             if asked.to != self.hart {
                 continue;
@@ -70,35 +74,46 @@ impl Reader {
             if number <= known {
                 continue;
             }
-            self.drop_gone(from, &asked.gone);
-            if request.is_none_or(|request| is_same(asked, request)) {
-                if let Some(taken) = self.taken.get_mut(usize::from(from)) {
-                    *taken = number;
-                }
+            self.drop_gone(from, asked);
+            if request.is_none() || asked.is_same(request) {
+                self.set_taken(from, number);
                 return true;
             }
         }
         false
     }
 
-    /// A load finds what was mapped there once, and is not gone.
-    fn load(&mut self, va: u64, accounts: &[Account], answer: &LiveReply) -> bool {
-        let LiveReply::Translated(pa) = answer else {
-            return *answer == INVALID;
-        };
-        let (Some(number), Some(home)) = (number_of(va), accounts.get(usize::from(self.space)))
-        else {
+    /// The same of a request of the hart of that number.
+    fn serve_of(&mut self, from: u8, accounts: &[Account], request: Option<&Request>) -> bool {
+        match accounts.get(usize::from(from)) {
+            Some(account) => self.serve(from, account, request),
+            None => false,
+        }
+    }
+
+    /// Whether that version of a page of the space may be found.
+    fn may_find(&self, number: u8, version: u16, accounts: &[Account]) -> bool {
+        let Some(home) = accounts.get(usize::from(self.space)) else {
             return false;
         };
-        let ppn = *pa / 0x1000;
-        let version = (ppn % 0x1_0000) as u16;
-        let least = self.least.get(place_of(self.space, number)).copied();
-        let is_right = *pa % 0x1000 == va % 0x1000
-            && ppn == ppn_of(self.space, version)
-            && home.maps.contains(&(number, version))
-            && least.is_some_and(|least| least <= version);
+        let Some(least) = self.least.get(place_of(self.space, number)) else {
+            return false;
+        };
+        *least <= version && home.maps.contains(&(number, version))
+    }
+
+    /// A load finds what was mapped there once, and is not gone.
+    fn load(&mut self, va: u64, accounts: &[Account], answer: &Answer) -> bool {
+        let Answer::Found(pa) = *answer else {
+            return *answer == INVALID;
+        };
+        let Some(number) = number_of(va) else {
+            return false;
+        };
+        let version = (pa / 0x1000 % 0x1_0000) as u16;
+        let is_right = self.may_find(number, version, accounts);
         self.raise(self.space, number, version);
-        is_right
+        is_right && pa % 0x1000 == va % 0x1000 && pa / 0x1000 == ppn_of(self.space, version)
     }
 
     /// Whether a step may have the answer, as far as it speaks of other harts.
@@ -106,25 +121,22 @@ impl Reader {
         &mut self,
         accounts: &[Account],
         step: &LiveStep,
-        answer: &LiveReply,
+        reply: &LiveReply,
     ) -> bool {
-        match (step, answer) {
-            (LiveStep::Switch { space }, _) => {
-                self.space = *space;
+        match *step {
+            LiveStep::Switch { space } => {
+                self.space = space;
                 true
             }
-            (LiveStep::Translate { va, .. }, _) => self.load(*va, accounts, answer),
-            (LiveStep::Serve { from }, LiveReply::Replied(Reply::Taken(request))) => {
-                match accounts.get(usize::from(*from)) {
-                    Some(account) => self.serve(*from, account, Some(request)),
-                    None => false,
+            LiveStep::Translate { va, .. } => self.load(va, accounts, &answer_of(reply)),
+            LiveStep::Serve { from } => match reply {
+                LiveReply::Replied(Reply::Taken(request)) => {
+                    self.serve_of(from, accounts, Some(request))
                 }
-            }
-            (LiveStep::AckSelf { .. }, LiveReply::Replied(Reply::Done | Reply::Waiting(_))) => {
-                match accounts.get(usize::from(self.hart)) {
-                    Some(account) => self.serve(self.hart, account, None),
-                    None => false,
-                }
+                _ => true,
+            },
+            LiveStep::AckSelf { .. } => {
+                awaited_in(&answer_of(reply)).is_none() || self.serve_of(self.hart, accounts, None)
             }
             _ => true,
         }

@@ -4,7 +4,8 @@ use crate::calls::{USER, page, readable, writable};
 use history::{LiveStep, Scope};
 use pte::{Access, Page};
 use spaces::Place;
-use std::alloc::{AllocError, Global};
+use std::alloc::Global;
+use std::test::Fail;
 
 /// The addresses of the pages that a space may have. One table has the leaves of both.
 pub(crate) const BASES: [u64; 2] = [0x1000, 0x2000];
@@ -71,7 +72,7 @@ pub(crate) fn map(space: u8, page: Page, ppn: u64) -> LiveStep {
     }
 }
 
-pub(crate) fn unmap(space: u8, page: Page, named: u8) -> LiveStep {
+fn unmap(space: u8, page: Page, named: u8) -> LiveStep {
     LiveStep::Unmap {
         place: Place::Space(space),
         page,
@@ -79,29 +80,35 @@ pub(crate) fn unmap(space: u8, page: Page, named: u8) -> LiveStep {
     }
 }
 
+/// A step that lets a page be read, or written too.
+fn protect(space: u8, page: Page, is_readable: bool, named: u8) -> LiveStep {
+    LiveStep::Protect {
+        place: Place::Space(space),
+        page,
+        flags: if is_readable { readable() } else { writable() },
+        named,
+    }
+}
+
+/// A step that flushes a space, or all of them in place of space 0.
+fn flush(space: u8, named: u8) -> LiveStep {
+    LiveStep::Flush {
+        scope: if space == 0 {
+            Scope::All
+        } else {
+            Scope::Space(space)
+        },
+        named,
+    }
+}
+
 /// A step that loads as a user.
-pub(crate) fn load(va: u64) -> LiveStep {
+fn load(va: u64) -> LiveStep {
     LiveStep::Translate {
         va,
         access: Access::Load,
         ctx: USER,
     }
-}
-
-pub(crate) fn post(ticket: u32, to: u8) -> LiveStep {
-    LiveStep::Post { ticket, to }
-}
-
-pub(crate) fn serve(from: u8) -> LiveStep {
-    LiveStep::Serve { from }
-}
-
-pub(crate) fn ackself(ticket: u32) -> LiveStep {
-    LiveStep::AckSelf { ticket }
-}
-
-pub(crate) fn wait(ticket: u32) -> LiveStep {
-    LiveStep::Wait { ticket }
 }
 
 /// A script of a hart as it grows.
@@ -113,11 +120,20 @@ struct Draft {
     version: u16,
     /// Whether each page is mapped, if each step so far was accepted.
     mapped: [bool; 2],
+    /// Whether there was memory for all of it.
+    is_whole: bool,
 }
 
 impl Draft {
+    fn push(&mut self, step: LiveStep) {
+        self.is_whole &= self.steps.push(step).is_ok();
+    }
+
     fn is_mapped(&self, number: u8) -> bool {
-        self.mapped.get(usize::from(number)) == Some(&true)
+        match self.mapped.get(usize::from(number)) {
+            Some(mapped) => *mapped,
+            None => false,
+        }
     }
 
     fn mark(&mut self, number: u8, mapped: bool) {
@@ -126,58 +142,48 @@ impl Draft {
         }
     }
 
-    fn map(&mut self, number: u8, page: Page) -> Result<(), AllocError> {
+    fn map(&mut self, number: u8, page: Page) {
         let ppn = ppn_of(self.hart, self.version);
         self.version = self.version.saturating_add(1);
-        self.steps.push(map(self.hart, page, ppn))?;
+        self.push(map(self.hart, page, ppn));
         self.mark(number, true);
-        Ok(())
     }
 
     /// Posts a ticket to each other hart of a set, and waits for them.
-    fn shoot_down(&mut self, named: u8) -> Result<(), AllocError> {
-        for other in 0..8 {
-            if other != self.hart && named & bit(other) != 0 {
-                self.steps.push(post(0, other))?;
+    fn shoot_down(&mut self, named: u8) {
+        for to in 0..8 {
+            if to != self.hart && named & bit(to) != 0 {
+                self.push(LiveStep::Post { ticket: 0, to });
             }
         }
-        self.steps.push(ackself(0))?;
-        self.steps.push(wait(0))?;
-        self.steps.push(LiveStep::Collect { ticket: 0 })?;
-        self.steps.push(LiveStep::Finish { ticket: 0 })?;
-        Ok(())
+        self.push(LiveStep::AckSelf { ticket: 0 });
+        self.push(LiveStep::Wait { ticket: 0 });
+        self.push(LiveStep::Collect { ticket: 0 });
+        self.push(LiveStep::Finish { ticket: 0 });
     }
 
     /// A page that is mapped is unmapped, or gets other flags; one that is not is mapped.
-    fn edit(&mut self, dice: &mut Dice) -> Result<(), AllocError> {
+    fn edit(&mut self, dice: &mut Dice) {
         let number = dice.below(2);
         let Some(page) = page_of(number) else {
-            return Ok(());
+            return;
         };
         if !self.is_mapped(number) {
             return self.map(number, page);
         }
         let named = dice.set_with(self.hart);
         if dice.below(3) == 0 {
-            self.steps.push(LiveStep::Protect {
-                place: Place::Space(self.hart),
-                page,
-                flags: if dice.below(2) == 0 {
-                    readable()
-                } else {
-                    writable()
-                },
-                named,
-            })?;
+            let is_readable = dice.below(2) == 0;
+            self.push(protect(self.hart, page, is_readable, named));
         } else {
-            self.steps.push(unmap(self.hart, page, named))?;
+            self.push(unmap(self.hart, page, named));
             self.mark(number, false);
         }
-        self.shoot_down(named)
+        self.shoot_down(named);
     }
 
     /// A step that opens no ticket and asks nothing of the other harts.
-    fn use_space(&mut self, dice: &mut Dice) -> Result<(), AllocError> {
+    fn use_space(&mut self, dice: &mut Dice) {
         let step = match dice.below(8) {
             0 => LiveStep::Switch {
                 space: dice.below(8),
@@ -186,52 +192,57 @@ impl Draft {
                 rs1: None,
                 rs2: None,
             },
-            2 | 3 => serve(dice.below(8)),
+            2 | 3 => LiveStep::Serve {
+                from: dice.below(8),
+            },
             number => load(0x1004 + 0x1000 * u64::from(number % 2)),
         };
-        self.steps.push(step)?;
-        Ok(())
+        self.push(step);
+    }
+
+    fn unmap_any(&mut self, number: u8, named: u8) {
+        if let Some(page) = page_of(number) {
+            self.push(unmap(self.hart, page, named));
+        }
+    }
+
+    fn map_any(&mut self, number: u8) {
+        if let Some(page) = page_of(number) {
+            self.map(number, page);
+        }
     }
 
     /// Any step, with numbers that may be wrong. A wait is followed by a collection of its ticket.
-    fn wander(&mut self, dice: &mut Dice) -> Result<(), AllocError> {
+    fn wander(&mut self, dice: &mut Dice) {
         let ticket = u32::from(dice.below(5));
         let other = dice.below(8);
-        let scope = if other == 0 {
-            Scope::All
-        } else {
-            Scope::Space(other)
-        };
         let named = if dice.below(4) == 0 {
             dice.below(255)
         } else {
             dice.set_with(self.hart)
         };
         match dice.below(12) {
-            0 => self.steps.push(LiveStep::Flush { scope, named })?,
-            1 | 2 | 3 | 4 => self.steps.push(post(ticket, other))?,
-            5 => self.steps.push(ackself(ticket))?,
-            6 => self.steps.push(LiveStep::Finish { ticket })?,
-            7 => self.steps.push(LiveStep::Collect { ticket })?,
+            0 => self.push(flush(other, named)),
             8 => {
-                self.steps.push(wait(ticket))?;
-                self.steps.push(LiveStep::Collect { ticket })?;
+                self.push(LiveStep::Wait { ticket });
+                self.push(LiveStep::Collect { ticket });
             }
-            9 if dice.below(4) == 0 => self.steps.push(LiveStep::Close { to: other })?,
-            10 => {
-                if let Some(page) = page_of(dice.below(2)) {
-                    self.steps.push(unmap(self.hart, page, named))?;
-                }
-            }
-            11 => {
-                let number = dice.below(2);
-                if let Some(page) = page_of(number) {
-                    self.map(number, page)?;
-                }
-            }
-            _ => self.steps.push(serve(other))?,
+            9 if dice.below(4) == 0 => self.push(LiveStep::Close { to: other }),
+            10 => self.unmap_any(dice.below(2), named),
+            11 => self.map_any(dice.below(2)),
+            kind => self.push(step_of(kind, ticket, other)),
         }
-        Ok(())
+    }
+}
+
+/// The steps that speak of a ticket or a hart alone.
+fn step_of(kind: u8, ticket: u32, other: u8) -> LiveStep {
+    match kind {
+        1 | 2 | 3 | 4 => LiveStep::Post { ticket, to: other },
+        5 => LiveStep::AckSelf { ticket },
+        6 => LiveStep::Finish { ticket },
+        7 => LiveStep::Collect { ticket },
+        _ => LiveStep::Serve { from: other },
     }
 }
 
@@ -242,23 +253,32 @@ pub(crate) fn script(
     hart: u8,
     dice: &mut Dice,
     orderly: bool,
-) -> Result<Vec<LiveStep>, AllocError> {
+) -> Result<Vec<LiveStep>, Fail> {
     let mut script = Draft {
         hart,
         steps: Vec::new(alloc),
         version: 2,
         mapped: [true, true],
+        is_whole: true,
     };
     for _ in 0..12 {
-        script.use_space(dice)?;
+        script.use_space(dice);
         if orderly {
-            script.edit(dice)?;
+            script.edit(dice);
         } else {
-            script.wander(dice)?;
-            script.wander(dice)?;
+            script.wander(dice);
+            script.wander(dice);
         }
-        script.use_space(dice)?;
+        script.use_space(dice);
     }
-    let Draft { steps, .. } = script;
-    Ok(steps)
+    let Draft {
+        steps,
+        is_whole,
+        ..
+    } = script;
+    if is_whole {
+        Ok(steps)
+    } else {
+        Err(Fail::new("out of memory"))
+    }
 }

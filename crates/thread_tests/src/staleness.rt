@@ -83,25 +83,26 @@ const LOADS: [Step; 5] = [
 // was answered with `Done`, it finds nothing, and then what is mapped anew.
 #[test]
 fn nothing_is_found_once_waited(rt: HostRuntime) -> Result<(), Fail> {
-    let alloc = rt.alloc();
-    let setup = setup_of(alloc, MAPPED.as_slice())?;
-    let mut scripts = vec![in alloc; script_of(alloc, UNMAPS.as_slice())?]?;
-    for _ in 1..8 {
-        scripts.push(script_of(alloc, LOADS.as_slice())?)?;
-    }
-    let (setup, scripts) = (setup.as_slice(), scripts.as_slice());
+    let shape = Shape {
+        harts: 8,
+        scripts: 8,
+        turns: MANY_TURNS,
+    };
     let gate = Rounds {
         steps: Steps::new(),
     };
-    let ran = report_of(&rt, alloc, &homes(8), setup, scripts, MANY_TURNS, &gate)?;
-    assert_answers(&rt, ran.setup.as_slice(), MAPPED.as_slice());
-    assert!(&rt; ran.scripts.len() == 8);
-    assert_script(&rt, ran.scripts[0].as_slice(), UNMAPS.as_slice());
-    for answers in ran.scripts.iter().skip(1) {
-        assert_script(&rt, answers.as_slice(), LOADS.as_slice());
-    }
+    let (first, others) = (UNMAPS.as_slice(), LOADS.as_slice());
+    let ran = assert_run(
+        &rt,
+        rt.alloc(),
+        &shape,
+        MAPPED.as_slice(),
+        first,
+        others,
+        &gate,
+    )?;
     for other in 1..8 {
-        assert_pair(&rt, ran.report.pairs.as_slice(), 0, other, 1);
+        assert_pair(&rt, ran.report.pairs.as_slice(), 0, other);
     }
     Ok(())
 }

@@ -33,8 +33,3 @@ pub use services::{serve, serve_self};
 pub use steps::{load_first, load_next, read_home, store_edit};
 pub use view::{Cause, CellStep, Order, Read, View};
 pub use walks::{walk, walk_from_root};
-
-#[cfg(test)]
-mod cell_tests;
-#[cfg(test)]
-mod tests;

@@ -3,9 +3,9 @@ use Rattle.std.proofs.Common.{◌≡◌, inl, inr, ℕ, ◌+◌, Bool, true, fal
 use Rattle.std.specs.List.{position_or_len}
 use Rattle.std.proofs.KnownBytes.{Appends-nil}
 use Rattle.std.proofs.lemmas.Bool.Decides.{nat_tests}
-use Rattle.watch_lines.specs.declared.header.Header.{Header}
-use Rattle.watch_lines.specs.Fields.{fields_of}
-use Rattle.watch_lines.specs.TraceLines.{header_in, line_in}
+use Rattle.watch_report.specs.declared.header.Header.{Header}
+use Rattle.watch_report.specs.Fields.{fields_of}
+use Rattle.watch_report.specs.TraceLines.{header_in, line_in}
 use Rattle.watch_report.specs.declared.fault.ReportFault.{ReportFault}
 use Rattle.watch_report.specs.declared.fault.ReportFault.TheVariants.{Unreadable, Line, Output, NoMemory}
 use Rattle.watch_report.specs.declared.reading.Reading.{Reading}

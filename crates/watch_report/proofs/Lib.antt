@@ -1,3 +1,13 @@
+pub mod Numerals
+pub mod Positions
+pub mod Hexadecimal
+pub mod CountLemmas
+pub mod Spaced
+pub mod WorkedLines
+pub mod PrintedNumbers
+pub mod PrintedLines
+pub mod PrintedRecords
+pub mod WorkedWarnings
 mod OutputLemmas
 mod LineLemmas
 mod VerdictLemmas

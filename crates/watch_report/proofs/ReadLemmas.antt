@@ -4,8 +4,8 @@ use Rattle.std.specs.Io.KnownBytes.{Consumes, IsAtEnd}
 use Rattle.std.specs.List.{position_or_len}
 use Rattle.std.specs.Option.{unwrap_or}
 use Rattle.std.proofs.KnownBytes.{Consumes-nil, Consumes-trans}
-use Rattle.watch_lines.specs.declared.header.Header.{Header}
-use Rattle.watch_lines.specs.TraceLines.{line_in}
+use Rattle.watch_report.specs.declared.header.Header.{Header}
+use Rattle.watch_report.specs.TraceLines.{line_in}
 use Rattle.watch_report.specs.Reading.{ReadsLine}
 use Rattle.watch_report.specs.TraceText.{Noted, has_no_form, lines_of, records_after, records_of, with_record}
 

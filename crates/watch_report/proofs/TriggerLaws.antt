@@ -14,9 +14,9 @@ use Rattle.watch.specs.Verdicts.{IsGiven}
 use Rattle.watch_engine.specs.declared.warning.Warning.{Warning}
 use Rattle.watch_engine.specs.Open.{claim_begun}
 use Rattle.watch_engine.specs.Warnings.{AreWarnings, shown_of}
-use Rattle.watch_lines.specs.declared.warning.Trigger.{Trigger}
-use Rattle.watch_lines.specs.declared.warning.Trigger.TheVariants.{ClaimedSince}
-use Rattle.watch_lines.specs.Warnings.{verdict_of}
+use Rattle.watch_report.specs.declared.warning.Trigger.{Trigger}
+use Rattle.watch_report.specs.declared.warning.Trigger.TheVariants.{ClaimedSince}
+use Rattle.watch_report.specs.Warnings.{verdict_of}
 use Rattle.watch_report.specs.VerdictLines.{trigger_of}
 
 -- the verdict that is printed, if one is

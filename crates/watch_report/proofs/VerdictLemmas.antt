@@ -11,11 +11,11 @@ use Rattle.watch_engine.specs.declared.warning.Warning.{Warning}
 use Rattle.watch_engine.specs.Warnings.{AreWarnings, shown_of}
 use Rattle.watch_engine.specs.Watching.{Follows}
 use Rattle.watch_tables.specs.Words.{since, words}
-use Rattle.watch_lines.specs.declared.counts.VerdictCounts.{VerdictCounts}
-use Rattle.watch_lines.specs.declared.header.Header.{Header}
-use Rattle.watch_lines.specs.declared.warning.Trigger.{Trigger}
-use Rattle.watch_lines.specs.Warnings.{sum_of, summary_line}
-use Rattle.watch_lines.specs.TraceLines.{line_in, record_of}
+use Rattle.watch_report.specs.declared.counts.VerdictCounts.{VerdictCounts}
+use Rattle.watch_report.specs.declared.header.Header.{Header}
+use Rattle.watch_report.specs.declared.warning.Trigger.{Trigger}
+use Rattle.watch_report.specs.Warnings.{sum_of, summary_line}
+use Rattle.watch_report.specs.TraceLines.{line_in, record_of}
 use Rattle.watch_report.specs.declared.fault.ReportFault.{ReportFault}
 use Rattle.watch_report.specs.declared.fault.ReportFault.TheVariants.{Unreadable, Line, Output, NoMemory}
 use Rattle.watch_report.specs.declared.reading.Reading.{Reading}

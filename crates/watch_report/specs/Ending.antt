@@ -1,6 +1,6 @@
 -- How the report of a trace ends, and what it leaves written.
 use Rattle.std.specs.Prelude.{ℕ, Bool, ◌≡◌, ◌⊎◌, List, [], ◌++◌, Option, Some, None, Result, Ok, Err}
-use Rattle.watch_lines.specs.declared.header.Header.{Header}
+use Rattle.watch_report.specs.declared.header.Header.{Header}
 use Rattle.watch_report.specs.declared.fault.ReportFault.{ReportFault}
 use Rattle.watch_report.specs.declared.fault.ReportFault.TheVariants.{Unreadable, Line, Output, NoMemory}
 use Rattle.watch_report.specs.Output.{WritesAll, WritesFront}

@@ -1,3 +1,11 @@
+pub mod Fields
+pub mod Records
+pub mod TraceLines
+pub mod Warnings
+pub mod RecordLines
+pub mod WorkedLines
+pub mod ReadBack
+pub mod WorkedWarnings
 pub mod TraceText
 pub mod NoteTexts
 pub mod VerdictLines

@@ -2,7 +2,7 @@
 use Rattle.std.specs.Prelude.{ℕ, ◌≡◌, ◌≤◌, zero, suc, List, [], ◌∷◌, get_or, length}
 use Rattle.std.specs.Global.{Vec}
 use Rattle.watch_report.specs.declared.notes.Notes.{Notes}
-use Rattle.watch_report.specs.TraceText.{Noted, note_of}
+use Rattle.watch_report.specs.TraceText.{Noted, note_at}
 
 abbrev pub text_at : List (Vec ℕ) → ℕ → List ℕ
 text_at [] place = []
@@ -22,4 +22,4 @@ note_in notes (suc number) = text_in notes.texts.items (get_or notes.places.item
 pub record AreNotes (records : List Noted) (notes : Notes) : Type 0 where
   pub count : length notes.places.items ≡ length records
   pub within : (n : ℕ) → get_or notes.places.items n 0 ≤ length notes.texts.items
-  pub note : (number : ℕ) → note_in notes number ≡ note_of records number
+  pub note : (number : ℕ) → note_in notes number ≡ note_at records number

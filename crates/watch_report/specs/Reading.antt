@@ -9,8 +9,8 @@ use Rattle.watch_report.specs.declared.fault.ReportFault.{ReportFault}
 use Rattle.watch_report.specs.declared.fault.ReportFault.TheVariants.{Unreadable, Line, Output, NoMemory}
 use Rattle.watch_report.specs.declared.reading.Reading.{Reading}
 use Rattle.pte.specs.declared.scheme.Scheme.{Scheme}
-use Rattle.watch_lines.specs.declared.header.Header.{Header}
-use Rattle.watch_lines.specs.TraceLines.{line_in}
+use Rattle.watch_report.specs.declared.header.Header.{Header}
+use Rattle.watch_report.specs.TraceLines.{line_in}
 use Rattle.watch_report.specs.NoteTexts.{AreNotes}
 use Rattle.watch_report.specs.Output.{WritesAll, WritesFront}
 use Rattle.watch_report.specs.TraceText.{Noted, has_no_form, lines_of, trace_of, with_record}

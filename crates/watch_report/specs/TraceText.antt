@@ -5,9 +5,9 @@ use Rattle.std.specs.List.{before_first, position, slice_split}
 use Rattle.std.specs.Option.{is_none}
 use Rattle.watch.specs.declared.trace.Record.{Record}
 use Rattle.watch.specs.Trace.{Trace}
-use Rattle.watch_lines.specs.declared.header.Header.{Header}
-use Rattle.watch_lines.specs.Fields.{fields_of}
-use Rattle.watch_lines.specs.TraceLines.{LineText, header_in, line_in, record_of}
+use Rattle.watch_report.specs.declared.header.Header.{Header}
+use Rattle.watch_report.specs.Fields.{fields_of}
+use Rattle.watch_report.specs.TraceLines.{LineText, header_in, line_in, record_of}
 
 -- the lines of a text: what stands between its line feeds
 abbrev pub is_feed : ℕ → Bool
@@ -55,7 +55,7 @@ abbrev pub trace_of : List Noted → Trace
 trace_of records = map (λ r. r.made) records
 
 -- the note of the record of this number, from 1 on
-abbrev pub note_of : List Noted → ℕ → List ℕ
-note_of [] number = []
-note_of (newest ∷ records) number =
-    if number == length (newest ∷ records) then newest.by else note_of records number
+abbrev pub note_at : List Noted → ℕ → List ℕ
+note_at [] number = []
+note_at (newest ∷ records) number =
+    if number == length (newest ∷ records) then newest.by else note_at records number

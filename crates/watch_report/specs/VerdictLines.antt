@@ -11,12 +11,12 @@ use Rattle.watch.specs.Trace.{Trace, claim_of}
 use Rattle.watch_engine.specs.declared.warning.Warning.{Warning}
 use Rattle.watch_engine.specs.Open.{claim_begun}
 use Rattle.watch_engine.specs.Warnings.{AreWarnings, IsDue}
-use Rattle.watch_lines.specs.declared.counts.VerdictCounts.{VerdictCounts}
-use Rattle.watch_lines.specs.declared.warning.Trigger.{Trigger}
-use Rattle.watch_lines.specs.declared.warning.Trigger.TheVariants.{GivenBack, GivenOut, ClaimedSince, UsedAt}
-use Rattle.watch_lines.specs.declared.warning.Warning.{Warning as PrintedWarning}
-use Rattle.watch_lines.specs.Warnings.{summary_line, warning_line}
-use Rattle.watch_report.specs.TraceText.{Noted, note_of, trace_of}
+use Rattle.watch_report.specs.declared.counts.VerdictCounts.{VerdictCounts}
+use Rattle.watch_report.specs.declared.warning.Trigger.{Trigger}
+use Rattle.watch_report.specs.declared.warning.Trigger.TheVariants.{GivenBack, GivenOut, ClaimedSince, UsedAt}
+use Rattle.watch_report.specs.declared.warning.Warning.{Warning as PrintedWarning}
+use Rattle.watch_report.specs.Warnings.{summary_line, warning_line}
+use Rattle.watch_report.specs.TraceText.{Noted, note_at, trace_of}
 
 -- a verdict is given at some record of the trace, and is new there
 abbrev pub GivesAt : Scheme → Record → Trace → Type 0
@@ -63,7 +63,7 @@ printed_of number trigger w =
 abbrev pub warning_lines : ℕ → Trigger → List Noted → List ℕ → List Warning → List ℕ
 warning_lines number trigger records by [] = []
 warning_lines number trigger records by (w ∷ warnings) =
-    warning_line (printed_of number trigger w) (note_of records w.stale_since) by
+    warning_line (printed_of number trigger w) (note_at records w.stale_since) by
     ++ warning_lines number trigger records by warnings
 
 abbrev pub lines_by : Option Trigger → ℕ → List Noted → List ℕ → List Warning → List ℕ

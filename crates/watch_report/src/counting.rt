@@ -1,13 +1,13 @@
 //! How often each verdict was given.
 ghost use Rattle.std.specs.Prelude.{◌≡◌, ◌+◌, false, true, nat_lt, IfOk, IfErr, OnOk};
-ghost use Rattle.watch_lines.specs.Warnings.{sum_of};
+ghost use Rattle.watch_report.specs.Warnings.{sum_of};
 ghost use Rattle.watch_report.specs.declared.fault.ReportFault.TheVariants.{NoMemory};
 ghost use Rattle.watch_report.specs.VerdictLines.{counted, counts_after, with_verdict};
 
+use crate::counts::VerdictCounts;
 use crate::fault::ReportFault;
 use watch::Verdict;
 use watch_engine::Warning;
-use watch_lines::VerdictCounts;
 
 /// Refused where the count has no room in 64 bits.
 pub fn one_more(count: u64) -> Result<u64, ReportFault>

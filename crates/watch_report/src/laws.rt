@@ -1,14 +1,26 @@
-//! Laws of reports: each call makes no step, and its clauses hold of the definitions alone.
-ghost use Rattle.std.specs.Prelude.{◌≡◌, List, [], Some, None};
+//! Laws of lines and reports: each call makes no step, and its clauses hold of the definitions alone.
+ghost use Rattle.std.specs.Prelude.{◌≡◌, ◌<◌, ◌≤◌, ◌++◌, List, [], ℕ, Some, None};
 ghost use Rattle.std.specs.List.{Contains};
 ghost use Rattle.pte.specs.declared.scheme.Scheme.{Scheme};
 ghost use Rattle.watch.specs.declared.trace.Record.{Record};
-ghost use Rattle.watch.specs.Trace.{Trace};
+ghost use Rattle.watch.specs.Trace.{Trace, hart_of};
 ghost use Rattle.watch_engine.specs.declared.warning.Warning.{Warning};
 ghost use Rattle.watch_engine.specs.Warnings.{AreWarnings};
-ghost use Rattle.watch_lines.specs.declared.warning.Trigger.{Trigger};
-ghost use Rattle.watch_lines.specs.Warnings.{verdict_of};
+ghost use Rattle.watch_report.specs.declared.header.Header.{Header};
+ghost use Rattle.watch_report.specs.declared.warning.Trigger.{Trigger};
+ghost use Rattle.watch_report.specs.ReadBack.{HasLine};
+ghost use Rattle.watch_report.specs.RecordLines.{note_text, record_text};
+ghost use Rattle.watch_report.specs.TraceLines.{line_in, record_of};
 ghost use Rattle.watch_report.specs.VerdictLines.{trigger_of};
+ghost use Rattle.watch_report.specs.Warnings.{verdict_of};
+
+/// What is printed of a record, and of a note, reads as that record and that note.
+pub fn printed_record_is_read()
+    ensures { (header : Header) (made : Record) (by : List ℕ) → header.harts ≤ 64
+        → hart_of made < header.harts → HasLine made
+        → line_in header (record_text header.scheme made ++ note_text by)
+        ≡ Some (record_of made by) }
+{}
 
 /// Each warning at a record has its line, and the line the verdict that is counted: a record of which
 /// nothing is printed has no warning, and of the others the printed verdict is that of the warning.

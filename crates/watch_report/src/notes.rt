@@ -1,7 +1,7 @@
 //! The notes of records, for the lines of later verdicts.
 ghost use Rattle.std.specs.Prelude.{◌≡◌, ◌≤◌, ◌∷◌, ℕ, List, [], IfOk, IfSome, OnOk, length};
 ghost use Rattle.watch_report.specs.NoteTexts.{AreNotes, text_in};
-ghost use Rattle.watch_report.specs.TraceText.{Noted, note_of};
+ghost use Rattle.watch_report.specs.TraceText.{Noted, note_at};
 
 use std::alloc::{AllocError, Global};
 
@@ -93,7 +93,7 @@ impl Notes {
     /// The note of the record of this number, from 1 on; empty if it has none.
     pub fn of(&self, number: u64) -> &[u8]
         ensures { (records : List Noted) → AreNotes records self.now
-            → result.now ≡ note_of records number }
+            → result.now ≡ note_at records number }
     {
         if number == 0 {
             return b"";

@@ -1,13 +1,16 @@
 //! A trace that is being read.
 ghost use Rattle.std.specs.Prelude.{◌≡◌, ◌∷◌, ℕ, List, [], Option, IfErr, IfOk, OnOk, false};
-ghost use Rattle.watch_lines.specs.TraceLines.{line_in};
+ghost use Rattle.watch_report.specs.TraceLines.{line_in};
 ghost use Rattle.watch_report.specs.Output.{WritesAll};
 ghost use Rattle.watch_report.specs.Reading.{FailsAtEnd, FailsAtLine, FailsAtRecord, HasSeen, noted_of, Stands};
 ghost use Rattle.watch_report.specs.TraceText.{has_no_form, Noted, with_record};
 ghost use Rattle.watch_report.specs.VerdictLines.{WholeText};
 
 use crate::counting::{count_warnings, has_verdicts, one_more};
+use crate::counts::{VerdictCounts, push_summary};
 use crate::fault::ReportFault;
+use crate::header::Header;
+use crate::line::{Line, read_line};
 use crate::notes::Notes;
 use crate::output::write_whole;
 use crate::trigger::trigger_of;
@@ -16,7 +19,6 @@ use std::alloc::Global;
 use std::io::Write;
 use watch::Record;
 use watch_engine::Watch;
-use watch_lines::{Header, Line, VerdictCounts, push_summary, read_line};
 use watch_tables::PageTables;
 
 /// What is kept of the lines that were read.

@@ -4,11 +4,11 @@ ghost use Rattle.watch_report.specs.Ending.{Ends, EndsBy};
 ghost use Rattle.watch_report.specs.TraceText.{lines_of};
 
 use crate::fault::ReportFault;
+use crate::header::{Header, read_header};
 use crate::input::read_line;
 use crate::reading::Reading;
 use std::alloc::Global;
 use std::io::{BufRead, BufReader, Read, Write};
-use watch_lines::{Header, read_header};
 
 /// Reports the lines after the header. `line` is room for one of them.
 fn report_lines<R: BufRead, W: Write>(

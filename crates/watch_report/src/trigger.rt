@@ -6,9 +6,9 @@ ghost use Rattle.watch_engine.specs.Watching.{Follows};
 ghost use Rattle.watch_tables.specs.Words.{since, words};
 ghost use Rattle.watch_report.specs.VerdictLines.{trigger_of};
 
+use crate::warning::Trigger;
 use watch::Record;
 use watch_engine::Watch;
-use watch_lines::Trigger;
 use watch_tables::PageTables;
 
 /// The claim that ends with its token.

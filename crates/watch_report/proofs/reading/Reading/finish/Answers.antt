@@ -1,7 +1,7 @@
 use Rattle.std.proofs.Common.{◌≡◌, ◌++◌, ◌∙◌, List, ℕ, ap, subst, refl, Err}
 use Rattle.std.specs.Io.KnownBytes.{Appends}
 use Rattle.std.proofs.KnownBytes.{Appends-trans}
-use Rattle.watch_lines.specs.Warnings.{summary_line}
+use Rattle.watch_report.specs.Warnings.{summary_line}
 use Rattle.watch_report.specs.Output.{AppendsFront}
 use Rattle.watch_report.proofs.VerdictLemmas.{fails_at_end, whole_text}
 use Rattle.watch_report.proofs.reading.Reading.finish.Goals as goal

@@ -1,7 +1,7 @@
 use Rattle.std.proofs.Common.{◌≡◌, Option, Some, option_map, refl, sym, ap, ◌∙◌}
 use Rattle.std.proofs.lemmas.Result.{IfErr-weaker, on_ok_weaker}
-use Rattle.watch_lines.specs.declared.line.Line.{Line}
-use Rattle.watch_lines.specs.TraceLines.{line_in, record_of, said_by}
+use Rattle.watch_report.specs.declared.line.Line.{Line}
+use Rattle.watch_report.specs.TraceLines.{line_in, record_of, said_by}
 use Rattle.watch_report.proofs.VerdictLemmas.{fails_at_line}
 use Rattle.watch_report.proofs.reading.Reading.take_line.Goals as goal
 

@@ -1,0 +1,157 @@
+//! Where things stand in a picture: rows, and the columns of the harts, in pixels from the top
+//! left.
+
+ghost use Rattle.std.specs.Prelude.{◌≡◌, ◌+◌, ◌*◌, ◌/◌, ◌<◌, ◌≤◌, ◌^◌};
+ghost use Rattle.draw.specs.Layout.{doing_x, row_top, stale_x, text_x};
+
+/// How high a row is.
+pub const ROW_HEIGHT: u64 = 20;
+
+/// After how many rows the heads of the columns stand once more.
+pub const ROWS_A_HEAD: u32 = 40;
+
+/// How high a line of heads is.
+pub const HEAD_HEIGHT: u64 = 26;
+
+/// How high the title and the legend are.
+pub const LEGEND_HEIGHT: u64 = 196;
+
+/// Where the first column begins: the numbers of the rows stand before it.
+pub const FIRST_COLUMN: u32 = 52;
+
+/// How wide a picture is at least: as wide as the legend.
+pub const LEAST_WIDTH: u64 = 620;
+
+const MARGIN: u64 = 10;
+
+const FLIGHT_WIDTH: u64 = 9;
+
+const ORDER_WIDTH: u64 = 18;
+
+/// How much room the heads of arrows have before the lane of walks and services.
+const HEAD_WIDTH: u64 = 10;
+
+const DOING_WIDTH: u64 = 18;
+
+/// How wide a character of a step's text is at most.
+const CHAR_WIDTH: u64 = 7;
+
+const LABEL_CHAR_WIDTH: u64 = 7;
+
+/// A place, in pixels.
+#[derive(Clone, Copy)]
+pub struct Point {
+    pub x: u64,
+    pub y: u64,
+}
+
+/// The column of a hart: where it begins, and how many lanes and characters it has room for. From
+/// the left: a lane for each message that is under way to the hart, one for each order, one for its
+/// walk or service, the text, one for each stale mapping.
+#[derive(Clone, Copy)]
+pub struct Column {
+    pub left: u32,
+    pub flights: u16,
+    pub orders: u16,
+    pub characters: u16,
+    pub stale: u16,
+    /// How many characters the longest label of a stale mapping has.
+    pub label: u16,
+}
+
+/// How many lines of heads stand above a row, counted from 0.
+pub fn heads_above(row: u32) -> u32
+    ensures { result ≡ row / 40 + 1 }
+{
+    row / ROWS_A_HEAD + 1
+}
+
+/// The top of a row, counted from 0.
+pub fn row_top(row: u32) -> u64
+    ensures value { result ≡ row_top row }
+    ensures above { 222 ≤ result }
+    ensures bound { result < 2 ^ 40 }
+{
+    let heads = u64::from(heads_above(row));
+    LEGEND_HEIGHT + heads * HEAD_HEIGHT + u64::from(row) * ROW_HEIGHT
+}
+
+/// The middle of a row.
+pub fn row_middle(row: u32) -> u64
+    ensures value { result ≡ row_top row + 10 }
+    ensures above { 222 ≤ result }
+    ensures bound { result < 2 ^ 41 }
+{
+    row_top(row) + ROW_HEIGHT / 2
+}
+
+impl Column {
+    /// How wide the bar of a stale mapping is.
+    pub fn stale_width(&self) -> u64
+        ensures value { result ≡ 7 * self.now.label + 10 }
+        ensures bound { result < 2 ^ 40 }
+    {
+        u64::from(self.label) * LABEL_CHAR_WIDTH + MARGIN
+    }
+
+    /// Where the lane of a message to the hart is.
+    pub fn flight_x(&self, lane: u16) -> u64
+        ensures { result ≡ self.now.left + 9 * lane + 10 }
+    {
+        u64::from(self.left) + u64::from(lane) * FLIGHT_WIDTH + MARGIN
+    }
+
+    /// Where the lane of an order begins.
+    pub fn order_x(&self, lane: u16) -> u64
+        ensures value { result ≡ self.now.left + 9 * self.now.flights + 18 * lane + 10 }
+        ensures bound { result < 2 ^ 40 }
+    {
+        let flights = u64::from(self.flights) * FLIGHT_WIDTH;
+        u64::from(self.left) + flights + u64::from(lane) * ORDER_WIDTH + MARGIN
+    }
+
+    /// Where the lane of walks and services begins.
+    pub fn doing_x(&self) -> u64
+        ensures value { result ≡ doing_x self.now }
+        ensures above { 20 ≤ result }
+        ensures bound { result < 2 ^ 40 }
+    {
+        let flights = u64::from(self.flights) * FLIGHT_WIDTH;
+        let orders = u64::from(self.orders) * ORDER_WIDTH;
+        u64::from(self.left) + flights + orders + MARGIN + HEAD_WIDTH
+    }
+
+    /// Where texts begin.
+    pub fn text_x(&self) -> u64
+        ensures value { result ≡ text_x self.now }
+        ensures above { 20 ≤ result }
+        ensures bound { result < 2 ^ 41 }
+    {
+        self.doing_x() + DOING_WIDTH
+    }
+
+    /// Where a text of this many characters ends.
+    pub fn text_end(&self, characters: u16) -> u64
+        ensures value { result ≡ text_x self.now + 7 * characters }
+        ensures bound { result < 2 ^ 42 }
+    {
+        self.text_x() + u64::from(characters) * CHAR_WIDTH
+    }
+
+    /// Where the lane of a stale mapping begins.
+    pub fn stale_x(&self, lane: u16) -> u64
+        ensures value { result ≡ stale_x self.now lane }
+        ensures bound { result < 2 ^ 60 }
+    {
+        let before = u64::from(lane) * (self.stale_width() + 4);
+        self.text_end(self.characters) + MARGIN + before
+    }
+
+    /// Where the column ends.
+    pub fn right(&self) -> u64
+        ensures value { result ≡ stale_x self.now self.now.stale + 10 }
+        ensures bound { result < 2 ^ 61 }
+    {
+        self.stale_x(self.stale) + MARGIN
+    }
+}

@@ -1,7 +1,0 @@
-use Rattle.std.proofs.Common.{◌≡◌, ◌+◌, ◌++◌, slice_get, string_bytes}
-use Rattle.show.specs.Rows.{mailbox_line, rows_below}
-use Rattle.show.specs.Sheet.{waiting_row}
-use Rattle.show.proofs.mailbox_rows.push_mailbox.Given as goal
-
-abbrev pub invariant-loop-place : goal.invariant-loop-place
-invariant-loop-place l = string_bytes l.rows ≡ string_bytes l.fn.rows ++ (mailbox_line l.from l.to l.mailbox l.capacity ++ rows_below (λ place. waiting_row (slice_get l.mailbox.waiting (place + 1))) l.place)

@@ -1,7 +1,0 @@
-use Rattle.std.proofs.Common.{◌≡◌, ◌++◌, string_bytes}
-use Rattle.show.specs.Marks.{is_marked}
-use Rattle.show.specs.Rows.{marks_text}
-use Rattle.show.proofs.order_rows.push_marked.Given as goal
-
-abbrev pub invariant-loop-hart : goal.invariant-loop-hart
-invariant-loop-hart l = string_bytes l.line ≡ string_bytes l.fn.line ++ marks_text l.hart-counter (is_marked l.tickets l.ticket l.mark)

@@ -1,4 +1,0 @@
-pub mod Marks
-pub mod Rows
-pub mod Runs
-pub mod Sheet

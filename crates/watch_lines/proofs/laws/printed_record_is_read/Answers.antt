@@ -1,5 +1,0 @@
-use Rattle.watch_lines.proofs.PrintedRecords.{printed_is_read}
-use Rattle.watch_lines.proofs.laws.printed_record_is_read.Goals as goal
-
-pub returns : goal.returns
-returns c = printed_is_read

@@ -1,0 +1,44 @@
+-- The worked lines of verdicts and of counts, computed.
+use Rattle.std.proofs.Common.{refl}
+use Rattle.std.specs.Fmt.{digits}
+use Rattle.watch_report.specs.WorkedWarnings as lines
+
+pub given_back : lines.given_back
+unfolding digits
+given_back = refl
+
+pub given_out : lines.given_out
+unfolding digits
+given_out = refl
+
+pub below_a_global_pointer : lines.below_a_global_pointer
+unfolding digits
+below_a_global_pointer = refl
+
+pub claimed : lines.claimed
+unfolding digits
+claimed = refl
+
+pub used : lines.used
+unfolding digits
+used = refl
+
+pub no_verdict : lines.no_verdict
+unfolding digits
+no_verdict = refl
+
+pub some_verdicts : lines.some_verdicts
+unfolding digits
+some_verdicts = refl
+
+pub verdicts_of_both : lines.verdicts_of_both
+unfolding digits
+verdicts_of_both = refl
+
+pub all_verdicts : lines.all_verdicts
+unfolding digits
+all_verdicts = refl
+
+pub ruleset warning_lines = (given_back, given_out, below_a_global_pointer, claimed, used)
+
+pub ruleset summary_lines = (no_verdict, some_verdicts, verdicts_of_both, all_verdicts)

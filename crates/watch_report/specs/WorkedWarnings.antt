@@ -1,0 +1,103 @@
+-- Worked lines of verdicts and of counts: what was worked out by hand from the form of the line.
+use Rattle.std.specs.Prelude.{◌≡◌, ℕ, true, false, codes, []}
+use Rattle.pte.specs.declared.address.PageSize.{PageSize}
+use Rattle.pte.specs.declared.address.PageSize.TheVariants.{Kib4, Mib2}
+use Rattle.pte.specs.Address.{Span}
+use Rattle.tlb.specs.declared.store.Entry.{Entry}
+use Rattle.watch.specs.declared.trace.Frames.{Frames}
+use Rattle.watch_report.specs.declared.counts.VerdictCounts.{VerdictCounts}
+use Rattle.watch_report.specs.declared.warning.Trigger.{Trigger}
+use Rattle.watch_report.specs.declared.warning.Trigger.TheVariants.{GivenBack, GivenOut, ClaimedSince, UsedAt}
+use Rattle.watch_report.specs.declared.warning.Warning.{Warning}
+use Rattle.watch_report.specs.Warnings.{summary_line, warning_line}
+
+abbrev pub page_at : ℕ → PageSize → Span
+page_at base size = record { base = base; size = size }
+
+-- R, W and U; the frame 0x100; ASID 10
+abbrev pub user_page : Entry
+user_page = record {
+  asid = 10;
+  global = false;
+  page = page_at 0x1000 Kib4;
+  ppn = 0x100;
+  flags = record { 0 = 0x16 };
+}
+
+-- R, X and G; the frames from 0x80200 on
+abbrev pub kernel_page : Entry
+kernel_page = record {
+  asid = 10;
+  global = true;
+  page = page_at 0xFFFFFFC000200000 Mib2;
+  ppn = 0x80200;
+  flags = record { 0 = 0x2A };
+}
+
+-- hart 11 may hold the page, of the root 0x80000, stale since record 6
+abbrev pub warning_of : ℕ → Entry → Trigger → Warning
+warning_of number entry trigger = record {
+  number = number;
+  hart = 11;
+  root = 0x80000;
+  entry = entry;
+  since = 6;
+  trigger = trigger;
+}
+
+abbrev pub frames_at : ℕ → ℕ → Frames
+frames_at first count = record { first = first; count = count }
+
+abbrev pub given_back : Type 0
+given_back =
+    warning_line (warning_of 18 user_page (GivenBack (frames_at 0x100 1))) (codes "unmap")
+    (codes "free_page")
+    ≡ codes "18 free hart 11 may hold page 1000+1000 -> 100 rw-u- asid a root 80000, stale since 6 by unmap; frames 100+1 given back by free_page\n"
+
+abbrev pub given_out : Type 0
+given_out =
+    warning_line (warning_of 20 user_page (GivenOut (frames_at 0xFF 10))) [] []
+    ≡ codes "20 reuse hart 11 may hold page 1000+1000 -> 100 rw-u- asid a root 80000, stale since 6; frames ff+a given out\n"
+
+-- a page that is global by a pointer above its leaf, which has no G
+abbrev pub below_a_global_pointer : Type 0
+below_a_global_pointer =
+    warning_line
+    (warning_of 22 (record kernel_page { flags = record { 0 = 0x0A } }) (GivenOut (frames_at 0x80200 1)))
+    [] []
+    ≡ codes "22 kernel-reuse hart 11 may hold page ffffffc000200000+200000 -> 80200 r-x-g asid any root any, stale since 6; frames 80200+1 given out\n"
+
+abbrev pub claimed : Type 0
+claimed =
+    warning_line (warning_of 21 kernel_page (ClaimedSince 17)) [] (codes "flush of 2 pages")
+    ≡ codes "21 kernel-claim hart 11 may hold page ffffffc000200000+200000 -> 80200 r-x-g asid any root any, stale since 6; claimed clean since 17 by flush of 2 pages\n"
+
+abbrev pub used : Type 0
+used =
+    warning_line (warning_of 22 user_page (UsedAt 0x1ABC)) (codes "unmap") []
+    ≡ codes "22 use hart 11 may hold page 1000+1000 -> 100 rw-u- asid a root 80000, stale since 6 by unmap; hart 11 uses 1abc\n"
+
+-- ---- the last line
+
+abbrev pub counts : ℕ → ℕ → ℕ → ℕ → VerdictCounts
+counts free reuse claimed used =
+    record { free = free; reuse = reuse; claimed = claimed; used = used }
+
+abbrev pub no_verdict : Type 0
+no_verdict =
+    summary_line 17 (counts 0 0 0 0) (counts 0 0 0 0) ≡ codes "17 records, no verdict\n"
+
+abbrev pub some_verdicts : Type 0
+some_verdicts =
+    summary_line 17 (counts 3 1 0 0) (counts 0 0 0 0)
+    ≡ codes "17 records, 4 verdicts: free 3, reuse 1\n"
+
+abbrev pub verdicts_of_both : Type 0
+verdicts_of_both =
+    summary_line 17 (counts 0 0 5 0) (counts 0 0 0 10)
+    ≡ codes "17 records, 15 verdicts: claim 5, kernel-use 10\n"
+
+abbrev pub all_verdicts : Type 0
+all_verdicts =
+    summary_line 100 (counts 1 2 3 4) (counts 5 6 7 8)
+    ≡ codes "100 records, 36 verdicts: free 1, reuse 2, claim 3, use 4, kernel-free 5, kernel-reuse 6, kernel-claim 7, kernel-use 8\n"

@@ -1,0 +1,156 @@
+//! The last line, with the counts of the verdicts.
+ghost use Rattle.std.specs.Prelude.{◌≡◌, ◌==◌, ◌++◌, ◌&&◌, OnOk, map, true};
+ghost use Rattle.watch_report.specs.Warnings.{all_counts, comma_text, count_text, verdict_counts_text, summary_line, printed_count, sum_of, total_text};
+
+use crate::push::{push, push_decimal, push_wide_decimal};
+use std::alloc::AllocError;
+
+/// How often each verdict was given.
+#[derive(Clone, Copy, PartialEq, Eq, Debug, Default)]
+pub struct VerdictCounts {
+    pub free: u64,
+    pub reuse: u64,
+    pub claimed: u64,
+    pub used: u64,
+}
+
+/// A verdict as it is printed, and how often it was given.
+#[derive(Clone, Copy)]
+pub struct Count {
+    pub name: &'static [u8],
+    pub number: u64,
+}
+
+fn push_comma(text: &mut Vec<u8>, is_first: bool) -> Result<(), AllocError>
+    ensures ok { OnOk result (text.new.items ≡ text.old.items ++ comma_text is_first) }
+{
+    if is_first { Ok(()) } else { push(text, b", ") }
+}
+
+/// Adds a count that is not 0.
+fn push_count(text: &mut Vec<u8>, is_first: bool, count: &Count) -> Result<(), AllocError>
+    ensures ok { OnOk result (text.new.items ≡ text.old.items
+        ++ count_text is_first (printed_count count.now)) }
+{
+    if count.number == 0 {
+        return Ok(());
+    }
+    push_comma(text, is_first)?;
+    push(text, count.name)?;
+    push(text, b" ")?;
+    push_decimal(text, count.number)
+}
+
+/// Whether no count is printed yet, after one more.
+fn is_none_yet(is_first: bool, count: &Count) -> bool
+    ensures { result ≡ (is_first && (count.now.number == 0)) }
+{
+    is_first && count.number == 0
+}
+
+/// Adds the counts that are not 0, with commas between them.
+fn push_counts(text: &mut Vec<u8>, counts: &[Count]) -> Result<(), AllocError>
+    ensures ok { OnOk result (text.new.items ≡ text.old.items
+        ++ verdict_counts_text true (map printed_count counts.now)) }
+{
+    let mut is_first = true;
+    for count in counts {
+        push_count(text, is_first, count)?;
+        is_first = is_none_yet(is_first, count);
+    }
+    Ok(())
+}
+
+/// Adds the counts that are not 0, of users' translations and then of the kernel's.
+fn push_all_counts(
+    text: &mut Vec<u8>,
+    user: &VerdictCounts,
+    kernel: &VerdictCounts,
+) -> Result<(), AllocError>
+    ensures ok { OnOk result (text.new.items ≡ text.old.items
+        ++ verdict_counts_text true (all_counts user.now kernel.now)) }
+{
+    let counts = [
+        Count {
+            name: b"free",
+            number: user.free,
+        },
+        Count {
+            name: b"reuse",
+            number: user.reuse,
+        },
+        Count {
+            name: b"claim",
+            number: user.claimed,
+        },
+        Count {
+            name: b"use",
+            number: user.used,
+        },
+        Count {
+            name: b"kernel-free",
+            number: kernel.free,
+        },
+        Count {
+            name: b"kernel-reuse",
+            number: kernel.reuse,
+        },
+        Count {
+            name: b"kernel-claim",
+            number: kernel.claimed,
+        },
+        Count {
+            name: b"kernel-use",
+            number: kernel.used,
+        },
+    ];
+    push_counts(text, &counts)
+}
+
+impl VerdictCounts {
+    /// How many verdicts were given.
+    pub fn sum(&self) -> u128
+        ensures { result ≡ sum_of self.now }
+    {
+        u128::from(self.free)
+            + u128::from(self.reuse)
+            + u128::from(self.claimed)
+            + u128::from(self.used)
+    }
+}
+
+fn push_total(
+    text: &mut Vec<u8>,
+    user: &VerdictCounts,
+    kernel: &VerdictCounts,
+) -> Result<(), AllocError>
+    ensures ok { OnOk result (text.new.items ≡ text.old.items
+        ++ total_text user.now kernel.now) }
+{
+    let total = user.sum() + kernel.sum();
+    if total == 0 {
+        push(text, b"no verdict")
+    } else {
+        push_wide_decimal(text, total)?;
+        push(text, b" verdicts: ")?;
+        push_all_counts(text, user, kernel)
+    }
+}
+
+/// Adds the last line: how many records there were, and how many verdicts of each kind on
+/// translations of users and on the kernel's, global ones. `AllocError`: there was no room; the
+/// part of the line that had room stays.
+pub fn push_summary(
+    text: &mut Vec<u8>,
+    records: u64,
+    user: &VerdictCounts,
+    kernel: &VerdictCounts,
+) -> Result<(), AllocError>
+    ensures ok { OnOk result (text.new.items ≡ text.old.items
+        ++ summary_line records user.now kernel.now) }
+{
+    push_decimal(text, records)?;
+    push(text, b" records, ")?;
+    push_total(text, user, kernel)?;
+    push(text, b"\n")
+}

@@ -1,0 +1,55 @@
+//! The numbers that fields write.
+ghost use Rattle.std.specs.Prelude.{◌≡◌, ◌≤◌, ◌<◌, ◌+◌, ◌*◌, ◌^◌};
+ghost use Rattle.std.specs.Char.{digit_value};
+ghost use Rattle.std.specs.Option.{SomeIff};
+ghost use Rattle.watch_report.specs.Fields.{hart_field, hexadecimal_field, number_field, optional_field};
+
+/// The longest numeral.
+const MOST_DIGITS: usize = 16;
+
+/// The number that 1 to 16 digits write.
+pub fn number(radix: u32, field: &[u8]) -> Option<u64>
+    requires low { 2 ≤ radix }
+    requires high { radix ≤ 16 }
+    ensures { result ≡ number_field radix field.now }
+{
+    if field.is_empty() || field.len() > MOST_DIGITS {
+        return None;
+    }
+    let mut number = 0;
+    for digit in field {
+        let digit = char::from(*digit).to_digit(radix)?;
+        number = number * u64::from(radix) + u64::from(digit);
+    }
+    Some(number)
+}
+
+/// A hexadecimal number.
+pub fn hexadecimal(field: &[u8]) -> Option<u64>
+    ensures { result ≡ hexadecimal_field field.now }
+{
+    number(16, field)
+}
+
+/// A hexadecimal number, or `-` for none.
+pub fn optional(field: &[u8]) -> Option<Option<u64>>
+    ensures { result ≡ optional_field field.now }
+{
+    if field == b"-".as_slice() {
+        return Some(None);
+    }
+    let number = hexadecimal(field)?;
+    Some(Some(number))
+}
+
+/// A decimal number below that of the harts.
+pub fn hart(harts: u8, field: &[u8]) -> Option<u8>
+    ensures { result ≡ hart_field harts field.now }
+{
+    let hart = number(10, field)?;
+    if hart < u64::from(harts) {
+        Some(hart as u8)
+    } else {
+        None
+    }
+}
