@@ -11,15 +11,10 @@ ghost use Rattle.checks.specs.Told.{command_of, fault_for, fault_of, is_memory, 
 
 use crate::commands::{Command, command_of};
 use crate::keys_known::tell_unknown;
-use crate::layout::tell_layout;
-use crate::places::Place;
-use crate::report::{MOST_TOLD, Report};
-use crate::step_texts::{List, Reader};
-use crate::tables_told::tell_tables;
-use crate::values::{Document, kind};
-use files::{DEFAULT_TURNS, Fault, MOST_STEPS, read_live, read_run, read_walk};
-use pte::Scheme;
-use spaces::{MAX_FRAMES, MAX_HARTS, MAX_LIVE_FRAMES};
+use crate::report::{MOST_TOLD, Piece, Report, Spot};
+use crate::steps_told::{tell_live, tell_run, tell_walk};
+use crate::values::Document;
+use files::{Fault, read_live, read_run, read_walk};
 use std::alloc::{AllocError, Global};
 use toml::Table;
 
@@ -105,179 +100,9 @@ fn fault_for(alloc: Global, command: Command, text: &str) -> Result<Option<Fault
     }
 }
 
-/// Reports each text of a list that is no step.
-fn tell_texts(
-    report: &mut Report,
-    reader: &Reader,
-    place: &Place,
-    texts: &[&str],
-) -> Result<(), AllocError> {
-    let group = match reader.list {
-        List::Script(hart) => hart.saturating_add(1),
-        List::Walk | List::Run | List::Setup => 0,
-    };
-    for (index, text) in texts.iter().enumerate() {
-        if report.is_full() {
-            break;
-        }
-        if let Some(fault) = reader.fault(text) {
-            let what = reader.explain(text, fault)?;
-            let number = index.saturating_add(1);
-            let what = match reader.list {
-                List::Script(hart) => {
-                    format!(in reader.alloc; "script {hart} step {number}: {what}")?
-                }
-                List::Setup => format!(in reader.alloc; "setup step {number}: {what}")?,
-                List::Walk | List::Run => format!(in reader.alloc; "step {number}: {what}")?,
-            };
-            report.add(place.line_of(group, index), what.as_str())?;
-        }
-    }
-    Ok(())
-}
-
-/// Reports that there are too many steps.
-fn tell_many(report: &mut Report, count: usize) -> Result<(), AllocError> {
-    if count > MOST_STEPS {
-        let what = format!(in report.alloc; "{count} steps are more than {MOST_STEPS}")?;
-        report.add(None, what.as_str())?;
-    }
-    Ok(())
-}
-
-/// Reports what is wrong with the steps of `walk` or `run`.
-fn tell_steps(
-    report: &mut Report,
-    document: &Document<'_>,
-    list: List,
-    scheme: Scheme,
-    harts: u8,
-    texts: Option<Vec<&str>>,
-) -> Result<(), AllocError> {
-    let Some(texts) = texts else { return Ok(()) };
-    tell_many(report, texts.len())?;
-    let alloc = document.alloc;
-    let place = Place::of_key(alloc, document.text, "steps")?;
-    let reader = Reader {
-        alloc,
-        list,
-        scheme,
-        harts,
-    };
-    tell_texts(report, &reader, &place, texts.as_slice())
-}
-
-fn tell_walk(report: &mut Report, document: &Document<'_>) -> Result<(), AllocError> {
-    tell_tables(report, document)?;
-    let texts = document.texts(report, "steps", "an array of texts MODE ACCESS ADDRESS")?;
-    let _mode = document.mode(report)?;
-    tell_steps(report, document, List::Walk, Scheme::Sv39, 1, texts)
-}
-
-fn tell_run(report: &mut Report, document: &Document<'_>) -> Result<(), AllocError> {
-    let harts = tell_layout(report, document, MAX_FRAMES)?;
-    let texts = document.texts(report, "steps", "an array of texts")?;
-    let scheme = document.mode(report)?.unwrap_or(Scheme::Sv48);
-    let harts = harts.unwrap_or(MAX_HARTS as u8);
-    tell_steps(report, document, List::Run, scheme, harts, texts)
-}
-
-/// The texts of each script.
-fn scripts<'a>(
-    report: &mut Report,
-    document: &Document<'a>,
-    harts: u8,
-) -> Result<Vec<Option<Vec<&'a str>>>, AllocError> {
-    let alloc = document.alloc;
-    let mut scripts = Vec::new(alloc);
-    let Some(value) = document.value("scripts") else {
-        return Ok(scripts);
-    };
-    let Some(values) = value.as_array() else {
-        let kind = kind(value);
-        let what = format!(in alloc; "an array of texts for each hart is expected, not {kind}")?;
-        document.tell(report, "scripts", what.as_str())?;
-        return Ok(scripts);
-    };
-    let count = values.len();
-    if count > usize::from(harts) {
-        let what = format!(in alloc; "{count} scripts are more than {harts} harts")?;
-        document.tell(report, "scripts", what.as_str())?;
-    }
-    for value in values.as_slice() {
-        if report.is_full() {
-            break;
-        }
-        let texts = document.texts_in(report, "scripts", "an array of texts for each hart", value)?;
-        scripts.push(texts)?;
-    }
-    Ok(scripts)
-}
-
-/// Reports what is wrong with each script.
-fn tell_scripts(
-    report: &mut Report,
-    document: &Document<'_>,
-    reader: Reader,
-    scripts: &[Option<Vec<&str>>],
-) -> Result<(), AllocError> {
-    let mut place = Place::of_key(document.alloc, document.text, "scripts")?;
-    if scripts.iter().any(|texts| texts.is_none()) {
-        place.marks.clear();
-    }
-    for (hart, texts) in scripts.iter().enumerate() {
-        let mut reader = reader;
-        reader.list = List::Script(hart);
-        if let Some(texts) = texts {
-            tell_texts(report, &reader, &place, texts.as_slice())?;
-        }
-    }
-    Ok(())
-}
-
-/// How many texts the setup and the scripts have together.
-fn count_all(setup: Option<&Vec<&str>>, scripts: &[Option<Vec<&str>>]) -> usize {
-    let mut count = setup.map_or(0, |texts| texts.len());
-    for texts in scripts {
-        count = count.saturating_add(texts.as_ref().map_or(0, |texts| texts.len()));
-    }
-    count
-}
-
-fn tell_live(report: &mut Report, document: &Document<'_>) -> Result<(), AllocError> {
-    let harts = tell_layout(report, document, MAX_LIVE_FRAMES)?;
-    let harts = harts.unwrap_or(MAX_HARTS as u8);
-    let alloc = document.alloc;
-    let setup = document.texts(report, "setup", "an array of texts")?;
-    let scripts = scripts(report, document, harts)?;
-    let _turns = document.whole(
-        report,
-        "turns",
-        (1, i64::from(u32::MAX)),
-        i64::from(DEFAULT_TURNS),
-    )?;
-    let scheme = document.mode(report)?.unwrap_or(Scheme::Sv48);
-    tell_many(report, count_all(setup.as_ref(), scripts.as_slice()))?;
-    let reader = Reader {
-        alloc,
-        list: List::Setup,
-        scheme,
-        harts,
-    };
-    if let Some(setup) = setup {
-        let place = Place::of_key(alloc, document.text, "setup")?;
-        tell_texts(report, &reader, &place, setup.as_slice())?;
-    }
-    tell_scripts(report, document, reader, scripts.as_slice())
-}
-
 /// Reports each fault of a document for a command.
-fn tell_all(
-    report: &mut Report,
-    document: &Document<'_>,
-    command: Command,
-) -> Result<(), AllocError> {
-    tell_unknown(report, document, command)?;
+fn tell_all(report: &mut Report, document: &Document<'_>, command: Command) {
+    tell_unknown(report, document, command);
     match command {
         Command::Walk => tell_walk(report, document),
         Command::Run => tell_run(report, document),
@@ -301,9 +126,19 @@ fn tell_error(report: &mut Report, text: &str, error: &toml::de::Error) -> Resul
             column = column.saturating_add(1);
         }
     }
-    let why = error.message();
-    let what = format!(in report.alloc; "line {line}, column {column}: not TOML: {why}")?;
-    report.add(None, what.as_str())
+    let what = [
+        Piece::Text("line "),
+        Piece::Number(line as u64),
+        Piece::Text(", column "),
+        Piece::Number(column as u64),
+        Piece::Text(": not TOML: "),
+        Piece::Text(error.message()),
+    ];
+    let spot = Spot {
+        line: None,
+        place: &[],
+    };
+    report.add(spot, &what)
 }
 
 /// Adds the lines, each with its end.
@@ -349,20 +184,32 @@ fn text_of(alloc: Global, name: &str, lines: &[String]) -> Result<String, AllocE
 }
 
 /// The lines that explain a document that has this fault: at least one.
-fn explained(document: &Document<'_>, command: Command, fault: &Fault) -> Result<Report, AllocError>
+fn explained(
+    alloc: Global,
+    document: &Document<'_>,
+    command: Command,
+    fault: &Fault,
+) -> Result<Report, AllocError>
     ensures { IfOk result (λ report. ¬ (vec_len report.lines ≡ 0)) }
 {
-    let mut report = Report::new(document.alloc);
-    tell_all(&mut report, document, command)?;
+    let mut report = Report::new(alloc);
+    tell_all(&mut report, document, command);
+    if report.is_out_of_memory {
+        return Err(AllocError);
+    }
     if report.lines.is_empty() {
-        let what = format!(in document.alloc; "{fault}")?;
-        report.add(None, what.as_str())?;
+        let spot = Spot {
+            line: None,
+            place: &[],
+        };
+        report.add(spot, &[Piece::Fault(fault)])?;
     }
     Ok(report)
 }
 
 /// The lines that explain a document: none where it has no fault.
 fn report_of(
+    alloc: Global,
     document: &Document<'_>,
     command: Command,
     fault: &Option<Fault>,
@@ -370,8 +217,8 @@ fn report_of(
     ensures { IfOk result (λ report. (fault.now ≡ None) ↔ (vec_len report.lines ≡ 0)) }
 {
     match fault {
-        None => Ok(Report::new(document.alloc)),
-        Some(fault) => explained(document, command, fault),
+        None => Ok(Report::new(alloc)),
+        Some(fault) => explained(alloc, document, command, fault),
     }
 }
 
@@ -386,8 +233,8 @@ fn check_table(alloc: Global, text: &str, table: &Table) -> Result<Checked, Allo
 {
     let command = command_of(table);
     let fault = fault_for(alloc, command, text)?;
-    let document = Document { alloc, text, table };
-    let lines = report_of(&document, command, &fault)?.lines;
+    let document = Document { text, table };
+    let lines = report_of(alloc, &document, command, &fault)?.lines;
     let text = text_of(alloc, command.name(), lines.as_slice())?;
     Ok(Checked { lines, text, fault })
 }

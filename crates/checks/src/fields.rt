@@ -1,11 +1,11 @@
 //! The words of a step, and what is expected of each.
+use crate::report::Report;
 use pte::Scheme;
 use spaces::MAX_HARTS;
-use std::alloc::{AllocError, Global};
-use steps::{StepFault, num, run_step_among};
+use steps::{StepFault, run_step_among};
 
 /// What a word of a step is.
-#[derive(Clone, Copy, PartialEq, Eq)]
+#[derive(Clone, Copy)]
 pub enum Field {
     Mode,
     Access,
@@ -22,42 +22,33 @@ pub enum Field {
     Hart,
 }
 
-/// The field of a word of a form.
-pub fn field_of(name: &[u8]) -> Field {
-    if name == b"MODE".as_slice() {
-        Field::Mode
-    } else if name == b"ACCESS".as_slice() {
-        Field::Access
-    } else if name == b"PLACE".as_slice() {
-        Field::Place
-    } else if name == b"PAGE".as_slice() {
-        Field::Page
-    } else if name == b"FLAGS".as_slice() {
-        Field::Flags
-    } else if name == b"NAMED".as_slice() {
-        Field::Named
-    } else if name == b"SCOPE".as_slice() {
-        Field::Scope
-    } else if name == b"RS1".as_slice() || name == b"RS2".as_slice() {
-        Field::Register
-    } else {
-        field_of_number(name)
-    }
-}
+/// The words of the forms that are not any number.
+const FIELDS: [(&str, Field); 15] = [
+    ("MODE", Field::Mode),
+    ("ACCESS", Field::Access),
+    ("PLACE", Field::Place),
+    ("PAGE", Field::Page),
+    ("FLAGS", Field::Flags),
+    ("NAMED", Field::Named),
+    ("SCOPE", Field::Scope),
+    ("RS1", Field::Register),
+    ("RS2", Field::Register),
+    ("SPACE", Field::Space),
+    ("ASID", Field::Asid),
+    ("TICKET", Field::Ticket),
+    ("FROM", Field::Hart),
+    ("TO", Field::Hart),
+    ("H", Field::Hart),
+];
 
-/// The field of a word of a form that is a number.
-fn field_of_number(name: &[u8]) -> Field {
-    if name == b"SPACE".as_slice() {
-        Field::Space
-    } else if name == b"ASID".as_slice() {
-        Field::Asid
-    } else if name == b"TICKET".as_slice() {
-        Field::Ticket
-    } else if name == b"FROM".as_slice() || name == b"TO".as_slice() || name == b"H".as_slice() {
-        Field::Hart
-    } else {
-        Field::Number
+/// The field of a word of a form.
+pub fn field_of(name: &str) -> Field {
+    for (known, field) in FIELDS.iter() {
+        if *known == name {
+            return *field;
+        }
     }
+    Field::Number
 }
 
 impl Field {
@@ -84,23 +75,29 @@ impl Field {
         }
     }
 
+    /// What stands before and after such a word in a step in which nothing else is wrong.
+    fn around(self) -> (&'static str, &'static str) {
+        match self {
+            Field::Mode => ("0 begin ", " load 0"),
+            Field::Access => ("0 begin u ", " 0"),
+            Field::Place => ("0 unmap ", " 4K:0 -"),
+            Field::Page => ("0 unmap k ", " -"),
+            Field::Flags => ("0 map k 4K:0 0 ", ""),
+            Field::Named => ("0 flush all ", ""),
+            Field::Scope => ("0 flush ", " -"),
+            Field::Register => ("0 fence ", " x0"),
+            Field::Space => ("0 switch ", ""),
+            Field::Asid => ("0 create 0 ", ""),
+            Field::Ticket => ("0 finish ", ""),
+            Field::Number | Field::Hart => ("", " load"),
+        }
+    }
+
     /// Whether a word without blanks is one of these, as the reader of steps has it.
-    pub fn is_right(self, alloc: Global, scheme: Scheme, word: &str) -> Result<bool, AllocError> {
-        let step = match self {
-            Field::Number | Field::Hart => return Ok(num(word.as_bytes()).is_some()),
-            Field::Mode => format!(in alloc; "0 begin {word} load 0")?,
-            Field::Access => format!(in alloc; "0 begin u {word} 0")?,
-            Field::Place => format!(in alloc; "0 unmap {word} 4K:0 -")?,
-            Field::Page => format!(in alloc; "0 unmap k {word} -")?,
-            Field::Flags => format!(in alloc; "0 map k 4K:0 0 {word}")?,
-            Field::Named => format!(in alloc; "0 flush all {word}")?,
-            Field::Scope => format!(in alloc; "0 flush {word} -")?,
-            Field::Register => format!(in alloc; "0 fence {word} x0")?,
-            Field::Space => format!(in alloc; "0 switch {word}")?,
-            Field::Asid => format!(in alloc; "0 create 0 {word}")?,
-            Field::Ticket => format!(in alloc; "0 finish {word}")?,
-        };
+    pub fn is_right(self, report: &mut Report, scheme: Scheme, word: &str) -> bool {
+        let (before, after) = self.around();
+        let step = report.joined(before, word, after);
         let read = run_step_among(scheme, MAX_HARTS as u8, step.as_str());
-        Ok(read != Err(StepFault::NotStep))
+        !matches!(read, Err(StepFault::NotStep))
     }
 }

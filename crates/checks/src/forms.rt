@@ -1,46 +1,46 @@
 //! How the steps of each command are written.
 use crate::commands::Command;
-use steps::next_word;
+use crate::split::word_at;
 
-/// The steps of `run`, after the number of the hart.
+/// The steps of `run`.
 const RUN_FORMS: [&str; 19] = [
-    "begin MODE ACCESS VA",
-    "load",
-    "map PLACE PAGE PPN FLAGS",
-    "unmap PLACE PAGE NAMED",
-    "protect PLACE PAGE FLAGS NAMED",
-    "flush SCOPE NAMED",
-    "switch SPACE",
-    "fence RS1 RS2",
-    "post TICKET TO",
-    "take FROM",
-    "servefence",
-    "ack",
-    "ackself TICKET",
-    "collect TICKET FROM",
-    "finish TICKET",
-    "close TO",
-    "retire SPACE",
-    "reclaim SPACE",
-    "create SPACE ASID",
+    "H begin MODE ACCESS VA",
+    "H load",
+    "H map PLACE PAGE PPN FLAGS",
+    "H unmap PLACE PAGE NAMED",
+    "H protect PLACE PAGE FLAGS NAMED",
+    "H flush SCOPE NAMED",
+    "H switch SPACE",
+    "H fence RS1 RS2",
+    "H post TICKET TO",
+    "H take FROM",
+    "H servefence",
+    "H ack",
+    "H ackself TICKET",
+    "H collect TICKET FROM",
+    "H finish TICKET",
+    "H close TO",
+    "H retire SPACE",
+    "H reclaim SPACE",
+    "H create SPACE ASID",
 ];
 
-/// The steps of `live`.
+/// The steps of `live`, as in the setup: in a script no hart stands before them.
 const LIVE_FORMS: [&str; 14] = [
-    "translate MODE ACCESS VA",
-    "map PLACE PAGE PPN FLAGS",
-    "unmap PLACE PAGE NAMED",
-    "protect PLACE PAGE FLAGS NAMED",
-    "flush SCOPE NAMED",
-    "switch SPACE",
-    "fence RS1 RS2",
-    "post TICKET TO",
-    "serve FROM",
-    "ackself TICKET",
-    "collect TICKET",
-    "finish TICKET",
-    "close TO",
-    "wait TICKET",
+    "H translate MODE ACCESS VA",
+    "H map PLACE PAGE PPN FLAGS",
+    "H unmap PLACE PAGE NAMED",
+    "H protect PLACE PAGE FLAGS NAMED",
+    "H flush SCOPE NAMED",
+    "H switch SPACE",
+    "H fence RS1 RS2",
+    "H post TICKET TO",
+    "H serve FROM",
+    "H ackself TICKET",
+    "H collect TICKET",
+    "H finish TICKET",
+    "H close TO",
+    "H wait TICKET",
 ];
 
 const RUN_NAMES: [&str; 19] = [
@@ -95,13 +95,13 @@ pub fn names(command: Command) -> &'static [&'static str] {
 
 /// Whether a form is that of the steps with a name.
 fn is_named(form: &str, name: &str) -> bool {
-    match next_word(form.as_bytes()) {
-        Some((word, _)) => word == name.as_bytes(),
+    match word_at(form, 1) {
+        Some(word) => word == name.as_bytes(),
         None => false,
     }
 }
 
-/// The form of the steps with this name.
+/// The form of the steps with this name, after the number of the hart.
 pub fn form_of(command: Command, name: &str) -> Option<&'static str> {
     let forms: &'static [&'static str] = match command {
         Command::Live => &LIVE_FORMS,

@@ -5,9 +5,8 @@ ghost use Rattle.checks.specs.Told.{keys_of};
 
 use crate::commands::Command;
 use crate::near::nearest;
-use crate::report::Report;
+use crate::report::{Piece, Report};
 use crate::values::Document;
-use std::alloc::AllocError;
 
 /// Whether the command knows the key.
 fn knows(command: Command, key: &str) -> bool
@@ -50,45 +49,41 @@ fn nearest_of_others(key: &str) -> Option<(&'static str, Command)> {
 }
 
 /// Reports each key that the command does not know, in the order of their bytes.
-pub fn tell_unknown(
-    report: &mut Report,
-    document: &Document<'_>,
-    command: Command,
-) -> Result<(), AllocError> {
+pub fn tell_unknown(report: &mut Report, document: &Document<'_>, command: Command) {
     for key in document.table.keys() {
         if report.is_full() {
             break;
         }
         if !knows(command, key.as_str()) {
-            tell_unknown_key(report, document, command, key.as_str())?;
+            tell_unknown_key(report, document, command, key.as_str());
         }
     }
-    Ok(())
 }
 
-fn tell_unknown_key(
-    report: &mut Report,
-    document: &Document<'_>,
-    command: Command,
-    key: &str,
-) -> Result<(), AllocError> {
-    let alloc = document.alloc;
-    let this = command.name();
-    let what = match other_that_knows(key) {
-        Some(other) => {
-            let other = other.name();
-            format!(in alloc; "a key of {other}, not of {this}")?
+fn tell_unknown_key(report: &mut Report, document: &Document<'_>, command: Command, key: &str) {
+    let this = Piece::Text(command.name());
+    if let Some(other) = other_that_knows(key) {
+        let other = Piece::Text(other.name());
+        let what = [
+            Piece::Text("a key of "),
+            other,
+            Piece::Text(", not of "),
+            this,
+        ];
+        document.tell(report, key, &what);
+        return;
+    }
+    let (none, perhaps) = (Piece::Text("no key of "), Piece::Text("; perhaps "));
+    if let Some(meant) = nearest(key, command.keys()) {
+        document.tell(report, key, &[none, this, perhaps, Piece::Text(meant)]);
+        return;
+    }
+    match nearest_of_others(key) {
+        Some((meant, other)) => {
+            let (of, other) = (Piece::Text(" of "), Piece::Text(other.name()));
+            let what = [none, this, perhaps, Piece::Text(meant), of, other];
+            document.tell(report, key, &what);
         }
-        None => match nearest(key, command.keys()) {
-            Some(meant) => format!(in alloc; "no key of {this}; perhaps {meant}")?,
-            None => match nearest_of_others(key) {
-                Some((meant, other)) => {
-                    let other = other.name();
-                    format!(in alloc; "no key of {this}; perhaps {meant} of {other}")?
-                }
-                None => format!(in alloc; "no key of {this}")?,
-            },
-        },
-    };
-    document.tell(report, key, what.as_str())
+        None => document.tell(report, key, &[none, this]),
+    }
 }

@@ -13,7 +13,9 @@ mod near;
 mod places;
 mod report;
 mod spaces_told;
+mod split;
 mod step_texts;
+mod steps_told;
 mod tables_told;
 mod values;
 

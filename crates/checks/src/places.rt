@@ -2,10 +2,11 @@
 ghost use Rattle.std.specs.Prelude.{◌≡◌};
 ghost use Rattle.checks.specs.Places.{after_blanks, is_blank};
 
-use std::alloc::{AllocError, Global};
+use crate::report::Report;
+use std::alloc::AllocError;
 
 /// What the scan of a document is in.
-#[derive(Clone, Copy, PartialEq, Eq)]
+#[derive(Clone, Copy)]
 enum State {
     /// No text and no comment.
     Plain,
@@ -145,20 +146,22 @@ fn trimmed(line: &[u8]) -> &[u8]
     rest
 }
 
-/// The scan after a line; the texts of it that begin in an array are added to the marks.
+/// The scan after a line. If the line is one of the value of the key, the texts that begin in it, in
+/// an array, are added to the marks.
 fn scan_line(
     scan: Scan,
     bytes: &[u8],
     line: usize,
-    marks: &mut Vec<Mark>,
+    place: &mut Place,
+    is_ours: bool,
 ) -> Result<Scan, AllocError> {
     let mut scan = scan;
     for byte in bytes {
         let next = scan.after(*byte);
         let begins = matches!(next.state, State::One(_)) && next.depth > 0;
-        if begins {
+        if is_ours && begins {
             let group = next.group;
-            marks.push(Mark { line, group })?;
+            place.marks.push(Mark { line, group })?;
         }
         scan = next;
     }
@@ -175,12 +178,17 @@ pub struct Place {
 
 impl Place {
     /// Where the key and its texts stand in a document.
-    pub fn of_key(alloc: Global, text: &str, key: &str) -> Result<Place, AllocError> {
+    pub fn of_key(report: &mut Report, text: &str, key: &str) -> Place {
         let mut place = Place {
             line: None,
-            marks: Vec::new(alloc),
+            marks: Vec::new(report.alloc),
         };
-        let mut others = Vec::new(alloc);
+        let found = place.find(text, key);
+        report.note(found);
+        place
+    }
+
+    fn find(&mut self, text: &str, key: &str) -> Result<(), AllocError> {
         let start = Scan {
             state: State::Plain,
             depth: 0,
@@ -190,22 +198,16 @@ impl Place {
         let mut is_ours = false;
         for (index, bytes) in text.as_bytes().split(|byte| *byte == b'\n').enumerate() {
             let line = index.saturating_add(1);
-            if scan.state == State::Plain && scan.depth == 0 {
+            if matches!(scan.state, State::Plain) && scan.depth == 0 {
                 scan = start;
-                is_ours = place.line.is_none() && begins_with(bytes, key);
+                is_ours = self.line.is_none() && begins_with(bytes, key);
                 if is_ours {
-                    place.line = Some(line);
+                    self.line = Some(line);
                 }
             }
-            let marks = if is_ours {
-                &mut place.marks
-            } else {
-                &mut others
-            };
-            scan = scan_line(scan, bytes, line, marks)?;
-            others.clear();
+            scan = scan_line(scan, bytes, line, self, is_ours)?;
         }
-        Ok(place)
+        Ok(())
     }
 
     /// The line of the text of this index in the array of this number.
@@ -215,5 +217,10 @@ impl Place {
             .filter(|mark| mark.group == group)
             .nth(index)
             .map(|mark| mark.line)
+    }
+
+    /// The line of the text of this index in an array, or else that of the key.
+    pub fn line_in_array(&self, index: usize) -> Option<usize> {
+        self.line_of(0, index).or(self.line)
     }
 }

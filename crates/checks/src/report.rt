@@ -3,7 +3,9 @@ ghost use Rattle.std.specs.Prelude.{◌≡◌, ◌≤◌, ◌+◌, [], OnOk, len
 ghost use Rattle.checks.specs.Shown.{sets_direction};
 ghost use Rattle.checks.specs.Told.{most_told};
 
+use files::Fault;
 use std::alloc::{AllocError, Global};
+use steps::StepFault;
 
 /// The most faults that are reported.
 pub const MOST_TOLD: usize = 200;
@@ -11,11 +13,36 @@ pub const MOST_TOLD: usize = 200;
 /// The most letters of a word of the file that are printed.
 const MOST_LETTERS: usize = 40;
 
+/// A piece of a line that explains.
+#[derive(Clone, Copy)]
+pub enum Piece<'a> {
+    Text(&'a str),
+    /// A word of the file.
+    Word(&'a str),
+    Number(u64),
+    /// A number that may be negative.
+    Whole(i64),
+    /// A number in hexadecimal digits.
+    Address(u64),
+    Fault(&'a Fault),
+    StepFault(StepFault),
+}
+
+/// Where a fault is: the number of the line of the file if it is known, and what the line that tells
+/// the fault begins with.
+#[derive(Clone, Copy)]
+pub struct Spot<'a> {
+    pub line: Option<usize>,
+    pub place: &'a [Piece<'a>],
+}
+
 /// The lines that explain what is wrong, in order, each without its end.
 #[derive(Drop)]
 pub struct Report {
     pub alloc: Global,
     pub lines: Vec<String>,
+    /// A line or a place could not be kept.
+    pub is_out_of_memory: bool,
     ghost few: { vec_len lines ≤ most_told },
 }
 
@@ -27,24 +54,51 @@ impl Report {
         Report {
             alloc,
             lines: Vec::new(alloc),
+            is_out_of_memory: false,
         }
     }
 
-    /// Adds a line, after the number of the line of the file if it is known. Nothing is added once
-    /// no more faults are reported.
-    pub fn add(&mut self, line: Option<usize>, what: &str) -> Result<(), AllocError>
+    /// Adds a line, unless no more faults are reported.
+    pub fn add(&mut self, spot: Spot<'_>, what: &[Piece<'_>]) -> Result<(), AllocError>
         ensures { OnOk result (length self.new.lines.items
             ≡ min (length self.old.lines.items + 1) most_told) }
     {
         if self.is_full() {
             return Ok(());
         }
-        let text = match line {
-            Some(line) => format!(in self.alloc; "line {line}: {what}")?,
-            None => String::from_str(self.alloc, what)?,
-        };
+        let text = line_text(self.alloc, spot, what)?;
         self.lines.push(text)?;
         Ok(())
+    }
+
+    /// Adds a line as `add` does, and notes whether there was enough memory.
+    pub fn tell(&mut self, spot: Spot<'_>, what: &[Piece<'_>]) {
+        let added = self.add(spot, what);
+        self.note(added);
+    }
+
+    /// Adds a line that no line of the file is known for.
+    pub fn tell_of_file(&mut self, what: &[Piece<'_>]) {
+        let spot = Spot {
+            line: None,
+            place: &[],
+        };
+        self.tell(spot, what);
+    }
+
+    /// Notes whether there was enough memory.
+    pub fn note(&mut self, done: Result<(), AllocError>) {
+        if done.is_err() {
+            self.is_out_of_memory = true;
+        }
+    }
+
+    /// A word between two texts, as one text.
+    pub fn joined(&mut self, before: &str, word: &str, after: &str) -> String {
+        let mut text = String::new(self.alloc);
+        let done = push_parts(&mut text, before, word, after);
+        self.note(done);
+        text
     }
 
     /// Whether no more faults are reported.
@@ -66,17 +120,53 @@ fn sets_direction(letter: char) -> bool
     )
 }
 
-/// A word of the file as it is printed: between backquotes, with `?` for each control character and
-/// each letter that sets the direction of text, and cut after 40 letters.
-pub fn shown(alloc: Global, word: &str) -> Result<String, AllocError> {
-    let mut text = String::from_str(alloc, "`")?;
+/// Adds a word of the file as it is printed: between backquotes, with `?` for each control character
+/// and each letter that sets the direction of text, and cut after 40 letters.
+fn push_word(text: &mut String, word: &str) -> Result<(), AllocError> {
+    text.push_str("`")?;
     for letter in word.chars().take(MOST_LETTERS) {
         let is_hidden = letter.is_control() || sets_direction(letter);
         text.push(if is_hidden { '?' } else { letter })?;
     }
-    if word.chars().count() > MOST_LETTERS {
-        text.push_str("..")?;
+    let is_cut = word.chars().count() > MOST_LETTERS;
+    text.push_str(if is_cut { "..`" } else { "`" })
+}
+
+fn push_piece(text: &mut String, piece: Piece<'_>) -> Result<(), AllocError> {
+    match piece {
+        Piece::Text(part) => text.push_str(part),
+        Piece::Word(word) => push_word(text, word),
+        Piece::Number(number) => write!(text, "{number}"),
+        Piece::Whole(number) => write!(text, "{number}"),
+        Piece::Address(number) => write!(text, "{number:#x}"),
+        Piece::Fault(fault) => write!(text, "{fault}"),
+        Piece::StepFault(fault) => write!(text, "{fault}"),
     }
-    text.push_str("`")?;
+}
+
+fn push_pieces(text: &mut String, pieces: &[Piece<'_>]) -> Result<(), AllocError> {
+    for piece in pieces {
+        push_piece(text, *piece)?;
+    }
+    Ok(())
+}
+
+fn push_line(text: &mut String, spot: Spot<'_>, what: &[Piece<'_>]) -> Result<(), AllocError> {
+    if let Some(line) = spot.line {
+        write!(text, "line {line}: ")?;
+    }
+    push_pieces(text, spot.place)?;
+    push_pieces(text, what)
+}
+
+fn line_text(alloc: Global, spot: Spot<'_>, what: &[Piece<'_>]) -> Result<String, AllocError> {
+    let mut text = String::new(alloc);
+    push_line(&mut text, spot, what)?;
     Ok(text)
+}
+
+fn push_parts(text: &mut String, before: &str, word: &str, after: &str) -> Result<(), AllocError> {
+    text.push_str(before)?;
+    text.push_str(word)?;
+    text.push_str(after)
 }

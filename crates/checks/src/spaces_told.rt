@@ -1,47 +1,46 @@
 //! What is wrong with the spaces of a file.
 use crate::places::Place;
-use crate::report::{Report, shown};
-use crate::values::{Document, text_of};
-use spaces::{Config, MAX_HARTS, MAX_SPACES, Space};
-use std::alloc::AllocError;
-use steps::{num, words};
+use crate::report::{Piece, Report, Spot};
+use crate::split::{text_of, word_at};
+use crate::values::{Document, text_in};
+use spaces::{Config, MAX_HARTS, MAX_SPACES};
+use steps::num;
+use toml::Value;
 
-/// The spaces of the file, as many as can be read, and how many there are.
-#[derive(Drop)]
-pub struct SpacesTold {
-    pub spaces: Vec<Space>,
-    pub count: usize,
+/// The words HOME and ASID of a space, if it has just two words.
+fn words_of(text: &str) -> Option<(&[u8], &[u8])> {
+    match (word_at(text, 0), word_at(text, 1)) {
+        (Some(home), Some(asid)) if word_at(text, 2).is_none() => Some((home, asid)),
+        _ => None,
+    }
 }
 
-/// What is wrong with the words of a space, or the space.
-fn space_of(
-    document: &Document<'_>,
-    harts: Option<u8>,
-    text: &str,
-) -> Result<Result<Space, String>, AllocError> {
-    let alloc = document.alloc;
-    let words = words(alloc, text)?;
-    if words.len() != 2 {
-        let text = shown(alloc, text)?;
-        return Ok(Err(format!(in alloc; "{text} is not two numbers HOME ASID, as `0 1`")?));
+/// Whether a word is the number of a hart.
+fn is_home(word: &[u8], harts: u64) -> bool {
+    match num(word) {
+        Some(home) => home < harts,
+        None => false,
     }
-    let (home, asid) = (words.as_slice()[0], words.as_slice()[1]);
-    let most = u64::from(harts.unwrap_or(MAX_HARTS as u8));
-    let Some(home) = num(home)
-        .filter(|home| *home < most)
-        .and_then(|home| u8::try_from(home).ok())
-    else {
-        let home = shown(alloc, text_of(home))?;
-        let last = most.saturating_sub(1);
-        return Ok(Err(format!(in alloc;
-            "{home} where HOME is expected: the number of a hart, 0 to {last}"
-        )?));
-    };
-    let Some(asid) = num(asid).and_then(|asid| u16::try_from(asid).ok()) else {
-        let asid = shown(alloc, text_of(asid))?;
-        return Ok(Err(format!(in alloc; "{asid} where ASID is expected: a number below 65536")?));
-    };
-    Ok(Ok(Space { home, asid }))
+}
+
+/// The ASID of the text of a space, if nothing is wrong with the text.
+fn asid_in(text: &str, harts: u64) -> Option<u64> {
+    match words_of(text) {
+        Some((home, asid)) if is_home(home, harts) => {
+            num(asid).filter(|asid| *asid <= u64::from(u16::MAX))
+        }
+        _ => None,
+    }
+}
+
+/// The first of the spaces that has this ASID.
+fn space_with(values: &[Value], harts: u64, asid: u64) -> Option<usize> {
+    for (index, value) in values.iter().enumerate() {
+        if asid_in(text_in(value), harts) == Some(asid) {
+            return Some(index);
+        }
+    }
+    None
 }
 
 /// Reports what is wrong with the spaces. `None`: they are no texts.
@@ -49,50 +48,97 @@ pub fn tell_spaces(
     report: &mut Report,
     document: &Document<'_>,
     harts: Option<u8>,
-) -> Result<Option<usize>, AllocError> {
+) -> Option<usize> {
     if document.value("spaces").is_none() {
-        return Ok(Some(Config::default().spaces.len()));
+        return Some(Config::default().spaces.len());
     }
-    let Some(texts) = document.texts(report, "spaces", "an array of 1 to 32 texts HOME ASID")?
+    let Some(values) = document.texts(report, "spaces", "an array of 1 to 32 texts HOME ASID")
     else {
-        return Ok(None);
+        return None;
     };
-    let count = texts.len();
-    if count == 0 || count > MAX_SPACES {
-        let what = format!(in document.alloc; "{count} spaces are not from 1 to {MAX_SPACES}")?;
-        document.tell(report, "spaces", what.as_str())?;
+    tell_count(report, document, values.len());
+    tell_each(report, document, harts, values);
+    Some(values.len())
+}
+
+/// Reports whether there is no space, or too many.
+fn tell_count(report: &mut Report, document: &Document<'_>, count: usize) {
+    if count >= 1 && count <= MAX_SPACES {
+        return;
     }
-    tell_each(report, document, harts, texts.as_slice())?;
-    Ok(Some(count))
+    let what = [
+        Piece::Number(count as u64),
+        Piece::Text(" spaces are not from 1 to "),
+        Piece::Number(MAX_SPACES as u64),
+    ];
+    document.tell(report, "spaces", &what)
 }
 
 /// Reports each space that is wrong, or has the ASID of an earlier one.
-fn tell_each(
-    report: &mut Report,
-    document: &Document<'_>,
-    harts: Option<u8>,
-    texts: &[&str],
-) -> Result<(), AllocError> {
-    let place = Place::of_key(document.alloc, document.text, "spaces")?;
-    let mut before: Vec<(usize, u16)> = Vec::new(document.alloc);
-    for (index, text) in texts.iter().enumerate().take(MAX_SPACES) {
-        let line = place.line_of(0, index).or(place.line);
-        match space_of(document, harts, text)? {
-            Ok(space) => {
-                let asid = space.asid;
-                if let Some((other, _)) = before.as_slice().iter().find(|other| other.1 == asid) {
-                    let what = format!(in document.alloc;
-                        "spaces {other} and {index}: both have ASID {asid}"
-                    )?;
-                    report.add(line, what.as_str())?;
+fn tell_each(report: &mut Report, document: &Document<'_>, harts: Option<u8>, values: &[Value]) {
+    let harts = u64::from(harts.unwrap_or(MAX_HARTS as u8));
+    let place = Place::of_key(report, document.text, "spaces");
+    tell_each_at(report, &place, harts, values)
+}
+
+fn tell_each_at(report: &mut Report, place: &Place, harts: u64, values: &[Value]) {
+    for (index, value) in values.iter().enumerate().take(MAX_SPACES) {
+        let line = place.line_in_array(index);
+        let text = text_in(value);
+        match asid_in(text, harts) {
+            Some(asid) => {
+                let other = space_with(values, harts, asid).unwrap_or(index);
+                if other < index {
+                    tell_same(report, line, [other, index], asid);
                 }
-                before.push((index, asid))?;
             }
-            Err(what) => {
-                let what = format!(in document.alloc; "space {index}: {what}")?;
-                report.add(line, what.as_str())?;
-            }
+            None => tell_space(report, line, index, harts, text),
         }
     }
-    Ok(())
+}
+
+/// Reports that two spaces have the same ASID.
+fn tell_same(report: &mut Report, line: Option<usize>, spaces: [usize; 2], asid: u64) {
+    let what = [
+        Piece::Text("spaces "),
+        Piece::Number(spaces[0] as u64),
+        Piece::Text(" and "),
+        Piece::Number(spaces[1] as u64),
+        Piece::Text(": both have ASID "),
+        Piece::Number(asid),
+    ];
+    report.tell(Spot { line, place: &[] }, &what);
+}
+
+/// Reports what is wrong with the text of a space.
+fn tell_space(report: &mut Report, line: Option<usize>, index: usize, harts: u64, text: &str) {
+    let place = [
+        Piece::Text("space "),
+        Piece::Number(index as u64),
+        Piece::Text(": "),
+    ];
+    let spot = Spot {
+        line,
+        place: &place,
+    };
+    tell_words(report, spot, harts, text);
+}
+
+fn tell_words(report: &mut Report, spot: Spot<'_>, harts: u64, text: &str) {
+    let Some((home, asid)) = words_of(text) else {
+        let why = Piece::Text(" is not two numbers HOME ASID, as `0 1`");
+        report.tell(spot, &[Piece::Word(text), why]);
+        return;
+    };
+    if is_home(home, harts) {
+        let why = Piece::Text(" where ASID is expected: a number below 65536");
+        report.tell(spot, &[Piece::Word(text_of(asid)), why]);
+        return;
+    }
+    let what = [
+        Piece::Word(text_of(home)),
+        Piece::Text(" where HOME is expected: the number of a hart, 0 to "),
+        Piece::Number(harts.saturating_sub(1)),
+    ];
+    report.tell(spot, &what);
 }

@@ -5,14 +5,20 @@ use crate::commands::Command;
 use crate::fields::{Field, field_of};
 use crate::forms::{WALK_FORM, form_of, names};
 use crate::near::nearest;
-use crate::report::shown;
-use crate::values::text_of;
+use crate::report::{Piece, Report, Spot};
+use crate::split::{count_words, text_of, word_at};
 use pte::Scheme;
-use std::alloc::{AllocError, Global};
-use steps::{StepFault, live_step_among, num, run_step_among, setup_step_among, walk_step, words};
+use steps::{StepFault, live_step_among, num, run_step_among, setup_step_among, walk_step};
+
+/// The most words of a form.
+const MOST_WORDS: usize = 6;
+
+const WRITTEN: Piece<'static> = Piece::Text("; written: ");
+
+const NO_NAME: &str = "the name of the step is missing";
 
 /// The list that a step stands in.
-#[derive(Clone, Copy, PartialEq, Eq)]
+#[derive(Clone, Copy)]
 pub enum List {
     Walk,
     Run,
@@ -24,7 +30,6 @@ pub enum List {
 /// What the texts of a list are read by.
 #[derive(Clone, Copy)]
 pub struct Reader {
-    pub alloc: Global,
     pub list: List,
     pub scheme: Scheme,
     pub harts: u8,
@@ -36,6 +41,14 @@ impl List {
             List::Walk => Command::Walk,
             List::Run => Command::Run,
             List::Setup | List::Script(_) => Command::Live,
+        }
+    }
+
+    /// In which array of the value of its key its texts stand, counted from 1, or 0.
+    pub fn group(self) -> usize {
+        match self {
+            List::Script(hart) => hart.saturating_add(1),
+            List::Walk | List::Run | List::Setup => 0,
         }
     }
 
@@ -63,150 +76,151 @@ impl Reader {
         }
     }
 
-    /// What is wrong with a text that has this fault, in words.
-    pub fn explain(&self, text: &str, fault: StepFault) -> Result<String, AllocError> {
-        let words = words(self.alloc, text)?;
-        if let Some(told) = self.wrong_name(words.as_slice())? {
-            return Ok(told);
+    /// Reports what is wrong with a text that has this fault.
+    pub fn tell(&self, report: &mut Report, spot: Spot<'_>, text: &str, fault: StepFault) {
+        if self.tell_name(report, spot, text) {
+            return;
         }
-        let form = self.form(words.as_slice())?;
-        let told = match fault {
-            StepFault::NotStep => self.wrong_word(form.as_str(), words.as_slice())?,
-            StepFault::NoSuchHart => self.absent_hart(form.as_str(), words.as_slice())?,
-            StepFault::NotPage => self.wrong_page(form.as_str(), words.as_slice())?,
+        let form = self.form(text);
+        let is_told = match fault {
+            StepFault::NotStep => self.tell_word(report, spot, form, text),
+            StepFault::NoSuchHart => self.tell_hart(report, spot, form, text),
+            StepFault::NotPage => self.tell_page(report, spot, form, text),
         };
-        match told {
-            Some(told) => Ok(told),
-            None => format!(in self.alloc; "{fault}; written: {form}"),
+        if !is_told {
+            let what = [Piece::StepFault(fault), WRITTEN, Piece::Text(form)];
+            report.tell(spot, &what);
         }
     }
 
-    /// What is wrong with the hart and the name, with which a step begins.
-    fn wrong_name(&self, words: &[&[u8]]) -> Result<Option<String>, AllocError> {
+    /// Reports what is wrong with the hart and the name, with which a step begins. Answers whether
+    /// something is.
+    fn tell_name(&self, report: &mut Report, spot: Spot<'_>, text: &str) -> bool {
         let Some(at) = self.list.name_at() else {
-            return Ok(None);
+            return false;
         };
-        if at == 1 {
-            match words.first() {
-                None => return Ok(Some(String::from_str(self.alloc, "no word")?)),
-                Some(hart) if num(hart).is_none() => {
-                    let hart = shown(self.alloc, text_of(hart))?;
-                    return Ok(Some(format!(in self.alloc;
-                        "{hart} where the number of the hart is expected"
-                    )?));
-                }
-                Some(_) => {}
-            }
+        let Some(first) = word_at(text, 0) else {
+            let why = if at == 1 { "no word" } else { NO_NAME };
+            report.tell(spot, &[Piece::Text(why)]);
+            return true;
+        };
+        if at == 1 && num(first).is_none() {
+            let why = " where the number of the hart is expected";
+            report.tell(spot, &[Piece::Word(text_of(first)), Piece::Text(why)]);
+            return true;
         }
-        match words.get(at) {
-            None => Ok(Some(String::from_str(self.alloc, "the name of the step is missing")?)),
-            Some(name) => self.unknown_name(text_of(name)),
-        }
+        let Some(name) = word_at(text, at) else {
+            report.tell(spot, &[Piece::Text(NO_NAME)]);
+            return true;
+        };
+        self.tell_unknown(report, spot, text_of(name))
     }
 
-    /// What is wrong with the name of a step, if it is none.
-    fn unknown_name(&self, name: &str) -> Result<Option<String>, AllocError> {
+    /// Reports what is wrong with the name of a step, if it is none. Answers whether it is none.
+    fn tell_unknown(&self, report: &mut Report, spot: Spot<'_>, name: &str) -> bool {
         let command = self.list.command();
         if form_of(command, name).is_some() {
-            return Ok(None);
+            return false;
         }
-        let is_script = matches!(self.list, List::Script(_));
-        let word = shown(self.alloc, name)?;
-        let this = command.name();
-        if is_script && num(name.as_bytes()).is_some() {
-            return Ok(Some(format!(in self.alloc;
-                "{word} where a name is expected: in a script no hart stands before it"
-            )?));
-        }
-        let other = match command {
-            Command::Live => Command::Run,
-            Command::Run | Command::Walk => Command::Live,
-        };
-        if form_of(other, name).is_some() {
-            let other = other.name();
-            return Ok(Some(format!(in self.alloc; "{word} is a step of {other}, not of {this}")?));
-        }
-        match nearest(name, names(command)) {
-            Some(meant) => Ok(Some(format!(in self.alloc;
-                "{word} is no step of {this}; perhaps {meant}"
-            )?)),
-            None => Ok(Some(format!(in self.alloc; "{word} is no step of {this}")?)),
-        }
-    }
-
-    /// How a step of this name is written.
-    fn form(&self, words: &[&[u8]]) -> Result<String, AllocError> {
-        let Some(at) = self.list.name_at() else {
-            return String::from_str(self.alloc, WALK_FORM);
-        };
-        let name = words.get(at).copied().unwrap_or(b"".as_slice());
-        let form = form_of(self.list.command(), text_of(name)).unwrap_or("");
-        if at == 1 {
-            format!(in self.alloc; "H {form}")
+        if matches!(self.list, List::Script(_)) && num(name.as_bytes()).is_some() {
+            let why = " where a name is expected: in a script no hart stands before it";
+            report.tell(spot, &[Piece::Word(name), Piece::Text(why)]);
         } else {
-            String::from_str(self.alloc, form)
+            tell_no_step(report, spot, command, name);
         }
+        true
     }
 
-    /// The first word that is wrong, missing or too many.
-    fn wrong_word(&self, form: &str, written: &[&[u8]]) -> Result<Option<String>, AllocError> {
-        let names = words(self.alloc, form)?;
-        for (index, name) in names.as_slice().iter().enumerate() {
-            if self.list.name_at() == Some(index) {
-                continue;
-            }
-            let field = field_of(name);
-            if let Some(told) = self.wrong_field(
-                field,
-                text_of(name),
-                written.get(index).copied(),
-            )? {
-                return Ok(Some(format!(in self.alloc; "{told}; written: {form}")?));
-            }
-        }
-        match written.get(names.len()) {
-            Some(word) => {
-                let word = shown(self.alloc, text_of(word))?;
-                Ok(Some(format!(in self.alloc; "{word} is a word too many; written: {form}")?))
-            }
-            None => Ok(None),
-        }
-    }
-
-    /// What is wrong with the word of a field, if something is.
-    fn wrong_field(
-        &self,
-        field: Field,
-        name: &str,
-        word: Option<&[u8]>,
-    ) -> Result<Option<String>, AllocError> {
-        let expected = field.expected();
-        let Some(word) = word else {
-            return Ok(Some(format!(in self.alloc; "{name} is missing: {expected}")?));
+    /// How a step of the name in a text is written.
+    fn form(&self, text: &str) -> &'static str {
+        let Some(at) = self.list.name_at() else {
+            return WALK_FORM;
         };
-        if field.is_right(self.alloc, self.scheme, text_of(word))? {
-            return Ok(None);
+        let name = word_at(text, at).unwrap_or(b"".as_slice());
+        let form = form_of(self.list.command(), text_of(name)).unwrap_or("");
+        match self.list {
+            List::Script(_) => form.strip_prefix("H ").unwrap_or(form),
+            List::Walk | List::Run | List::Setup => form,
         }
-        let word = shown(self.alloc, text_of(word))?;
-        Ok(Some(format!(in self.alloc; "{word} where {name} is expected: {expected}")?))
     }
 
-    /// The first hart that is named and does not exist.
-    fn absent_hart(&self, form: &str, written: &[&[u8]]) -> Result<Option<String>, AllocError> {
-        let names = words(self.alloc, form)?;
-        for (index, name) in names.as_slice().iter().enumerate() {
-            if self.list.name_at() == Some(index) {
-                continue;
-            }
-            let word = written.get(index).copied().unwrap_or(b"".as_slice());
-            if let Some(hart) = self.absent_in(field_of(name), word) {
-                let last = self.harts.saturating_sub(1);
-                return Ok(Some(format!(in self.alloc;
-                    "hart {hart} is not there: the harts are 0 to {last}"
-                )?));
+    /// Reports the first word that is wrong, missing or too many. Answers whether one is.
+    fn tell_word(
+        &self,
+        report: &mut Report,
+        spot: Spot<'_>,
+        form: &'static str,
+        text: &str,
+    ) -> bool {
+        for index in 0..MOST_WORDS {
+            let Some(name) = word_at(form, index) else {
+                break;
+            };
+            let is_name = self.list.name_at() == Some(index);
+            let word = word_at(text, index).map(|word| text_of(word));
+            if !is_name && self.tell_field(report, spot, form, text_of(name), word) {
+                return true;
             }
         }
-        Ok(None)
+        let Some(word) = word_at(text, count_words(form)) else {
+            return false;
+        };
+        let (word, is) = (
+            Piece::Word(text_of(word)),
+            Piece::Text(" is a word too many"),
+        );
+        report.tell(spot, &[word, is, WRITTEN, Piece::Text(form)]);
+        true
+    }
+
+    /// Reports what is wrong with the word of a field. Answers whether something is.
+    fn tell_field<'a>(
+        &self,
+        report: &mut Report,
+        spot: Spot<'_>,
+        form: &'a str,
+        name: &'a str,
+        word: Option<&'a str>,
+    ) -> bool {
+        let field = field_of(name);
+        let expected = Piece::Text(field.expected());
+        let (name, form) = (Piece::Text(name), Piece::Text(form));
+        let Some(word) = word else {
+            let is = Piece::Text(" is missing: ");
+            report.tell(spot, &[name, is, expected, WRITTEN, form]);
+            return true;
+        };
+        if field.is_right(report, self.scheme, word) {
+            return false;
+        }
+        let (at, is) = (Piece::Text(" where "), Piece::Text(" is expected: "));
+        report.tell(
+            spot,
+            &[Piece::Word(word), at, name, is, expected, WRITTEN, form],
+        );
+        true
+    }
+
+    /// Reports the first hart that is named and does not exist. Answers whether there is one.
+    fn tell_hart(&self, report: &mut Report, spot: Spot<'_>, form: &str, text: &str) -> bool {
+        for index in 0..MOST_WORDS {
+            if let Some(hart) = self.absent_at(form, text, index) {
+                let is = Piece::Text(" is not there: the harts are 0 to ");
+                let last = Piece::Number(u64::from(self.harts.saturating_sub(1)));
+                report.tell(spot, &[Piece::Text("hart "), Piece::Number(hart), is, last]);
+                return true;
+            }
+        }
+        false
+    }
+
+    /// The first hart of the word of this index that does not exist.
+    fn absent_at(&self, form: &str, text: &str, index: usize) -> Option<u64> {
+        match (word_at(form, index), word_at(text, index)) {
+            (Some(name), Some(word)) => self.absent_in(field_of(text_of(name)), word),
+            (Some(_), None) => None,
+            (None, _) => None,
+        }
     }
 
     /// The first hart of a word that does not exist.
@@ -218,18 +232,42 @@ impl Reader {
         }
     }
 
-    /// Why the address of the page is none.
-    fn wrong_page(&self, form: &str, written: &[&[u8]]) -> Result<Option<String>, AllocError> {
-        let names = words(self.alloc, form)?;
-        for (index, name) in names.as_slice().iter().enumerate() {
-            if field_of(name) == Field::Page {
-                let word = written.get(index).copied().unwrap_or(b"".as_slice());
-                let why = wrong_base(self.scheme, word);
-                let word = shown(self.alloc, text_of(word))?;
-                return Ok(Some(format!(in self.alloc; "{word} is no page: {why}")?));
+    /// Reports why the address of the page is none. Answers whether there is a page.
+    fn tell_page(&self, report: &mut Report, spot: Spot<'_>, form: &str, text: &str) -> bool {
+        for index in 0..MOST_WORDS {
+            let name = word_at(form, index).unwrap_or(b"".as_slice());
+            if matches!(field_of(text_of(name)), Field::Page) {
+                let word = word_at(text, index).unwrap_or(b"".as_slice());
+                let why = Piece::Text(wrong_base(self.scheme, word));
+                let is = Piece::Text(" is no page: ");
+                report.tell(spot, &[Piece::Word(text_of(word)), is, why]);
+                return true;
             }
         }
-        Ok(None)
+        false
+    }
+}
+
+/// Reports that a word is no step of a command.
+fn tell_no_step(report: &mut Report, spot: Spot<'_>, command: Command, name: &str) {
+    let other = match command {
+        Command::Live => Command::Run,
+        Command::Run | Command::Walk => Command::Live,
+    };
+    let (word, this) = (Piece::Word(name), Piece::Text(command.name()));
+    if form_of(other, name).is_some() {
+        let other = Piece::Text(other.name());
+        let (is, not) = (Piece::Text(" is a step of "), Piece::Text(", not of "));
+        report.tell(spot, &[word, is, other, not, this]);
+        return;
+    }
+    let is = Piece::Text(" is no step of ");
+    match nearest(name, names(command)) {
+        Some(meant) => {
+            let (perhaps, meant) = (Piece::Text("; perhaps "), Piece::Text(meant));
+            report.tell(spot, &[word, is, this, perhaps, meant]);
+        }
+        None => report.tell(spot, &[word, is, this]),
     }
 }
 

@@ -1,111 +1,168 @@
 //! What is wrong with the root, the frames and the words of a file for `walk`.
 use crate::places::Place;
-use crate::report::{Report, shown};
-use crate::values::{Document, text_of};
-use files::{MOST_FRAMES, number};
+use crate::report::{Piece, Report, Spot};
+use crate::split::{number_of, text_of, word_at};
+use crate::values::{Document, text_in, texts_in};
+use files::MOST_FRAMES;
 use pte::{PPN_LIMIT, TABLE_LENGTH};
 use spaces::Config;
 use std::alloc::AllocError;
-use steps::{num, words};
+use steps::num;
+use toml::Value;
+
+/// What is wrong with a word of `PPN INDEX WORD` that is wrong.
+const WRONG_PARTS: [&str; 3] = [
+    " where PPN is expected: one of the frames",
+    " where INDEX is expected: a number below 512",
+    " where WORD is expected: a number below 2^64",
+];
 
 /// Reports what is wrong with the keys `root`, `frames` and `words`.
-pub fn tell_tables(report: &mut Report, document: &Document<'_>) -> Result<(), AllocError> {
-    let _root = document.ppn(report, "root", Some(PPN_LIMIT), Config::default().base)?;
-    let frames = tell_frames(report, document)?;
-    let Some(texts) = document.texts(report, "words", "an array of texts PPN INDEX WORD")? else {
-        return Ok(());
+pub fn tell_tables(report: &mut Report, document: &Document<'_>) {
+    let _root = document.ppn(report, "root", Some(PPN_LIMIT), Config::default().base);
+    tell_frames(report, document);
+    if let Some(values) = document.texts(report, "words", "an array of texts PPN INDEX WORD") {
+        tell_words(report, document, values);
+    }
+}
+
+/// Reports what is wrong with the frames.
+fn tell_frames(report: &mut Report, document: &Document<'_>) {
+    let Some(values) = document.texts(report, "frames", "an array of texts PPN") else {
+        return;
     };
-    let place = Place::of_key(document.alloc, document.text, "words")?;
-    for (index, text) in texts.as_slice().iter().enumerate() {
+    if values.len() > MOST_FRAMES {
+        let what = [
+            Piece::Number(values.len() as u64),
+            Piece::Text(" frames are more than "),
+            Piece::Number(MOST_FRAMES as u64),
+        ];
+        document.tell(report, "frames", &what);
+    }
+    let place = Place::of_key(report, document.text, "frames");
+    tell_each_frame(report, &place, values)
+}
+
+/// The PPN that a text writes.
+fn ppn_in(value: &Value) -> Option<u64> {
+    number_of(text_in(value)).filter(|ppn| *ppn < PPN_LIMIT)
+}
+
+fn tell_each_frame(report: &mut Report, place: &Place, values: &[Value]) {
+    for (index, value) in values.iter().enumerate() {
         if report.is_full() {
             break;
         }
-        if let Some(what) = wrong_word(document, frames.as_ref(), text)? {
-            let line = place.line_of(0, index).or(place.line);
-            let number = index.saturating_add(1);
-            let what = format!(in document.alloc; "text {number} of words: {what}")?;
-            report.add(line, what.as_str())?;
+        if ppn_in(value).is_none() {
+            tell_frame(report, place.line_in_array(index), index, text_in(value));
+        }
+    }
+}
+
+/// Reports that the text of a frame is no PPN.
+fn tell_frame(report: &mut Report, line: Option<usize>, index: usize, text: &str) {
+    let number = Piece::Number(index.saturating_add(1) as u64);
+    let what = [
+        Piece::Text("text "),
+        number,
+        Piece::Text(" of frames: "),
+        Piece::Word(text),
+        Piece::Text(" is no PPN, a number below 2^44"),
+    ];
+    report.tell(Spot { line, place: &[] }, &what);
+}
+
+/// The PPNs of the frames. `None`: they are not known, as something is wrong with them.
+fn frames_of(report: &mut Report, document: &Document<'_>) -> Option<Vec<u64>> {
+    let mut ppns = Vec::new(report.alloc);
+    let values = match document.value("frames") {
+        Some(value) => texts_in(value),
+        None => return Some(ppns),
+    };
+    let are_known = values.is_some_and(|values| are_frames(values));
+    let pushed = push_ppns(&mut ppns, values.unwrap_or(&[]));
+    report.note(pushed);
+    if are_known { Some(ppns) } else { None }
+}
+
+fn are_frames(values: &[Value]) -> bool {
+    values.len() <= MOST_FRAMES && values.iter().all(|value| ppn_in(value).is_some())
+}
+
+/// Adds the PPNs that texts write.
+fn push_ppns(ppns: &mut Vec<u64>, values: &[Value]) -> Result<(), AllocError> {
+    for value in values {
+        if let Some(ppn) = ppn_in(value) {
+            ppns.push(ppn)?;
         }
     }
     Ok(())
 }
 
-/// Reports what is wrong with the frames, and answers their PPNs. `None`: something is wrong.
-fn tell_frames(
-    report: &mut Report,
-    document: &Document<'_>,
-) -> Result<Option<Vec<u64>>, AllocError> {
-    let alloc = document.alloc;
-    let Some(texts) = document.texts(report, "frames", "an array of texts PPN")? else {
-        return Ok(None);
-    };
-    let count = texts.len();
-    let mut are_right = count <= MOST_FRAMES;
-    if !are_right {
-        let what = format!(in alloc; "{count} frames are more than {MOST_FRAMES}")?;
-        document.tell(report, "frames", what.as_str())?;
-    }
-    let place = Place::of_key(alloc, document.text, "frames")?;
-    let mut frames = Vec::new(alloc);
-    for (index, text) in texts.as_slice().iter().enumerate() {
+/// Reports what is wrong with the words.
+fn tell_words(report: &mut Report, document: &Document<'_>, values: &[Value]) {
+    let place = Place::of_key(report, document.text, "words");
+    let frames = frames_of(report, document);
+    tell_each_word(report, &place, frames.as_ref(), values);
+}
+
+fn tell_each_word(report: &mut Report, place: &Place, frames: Option<&Vec<u64>>, values: &[Value]) {
+    for (index, value) in values.iter().enumerate() {
         if report.is_full() {
             break;
         }
-        match number(alloc, text)?.filter(|ppn| *ppn < PPN_LIMIT) {
-            Some(ppn) => frames.push(ppn)?,
-            None => {
-                are_right = false;
-                let line = place.line_of(0, index).or(place.line);
-                let number = index.saturating_add(1);
-                let text = shown(alloc, text)?;
-                let what = format!(in alloc;
-                    "text {number} of frames: {text} is no PPN, a number below 2^44"
-                )?;
-                report.add(line, what.as_str())?;
-            }
-        }
+        tell_word(
+            report,
+            place.line_in_array(index),
+            index,
+            frames,
+            text_in(value),
+        );
     }
-    Ok(if are_right { Some(frames) } else { None })
 }
 
-/// What is wrong with a text `PPN INDEX WORD`, if something is. Which frames there are may be
-/// unknown.
-fn wrong_word(
-    document: &Document<'_>,
+/// Reports what is wrong with a text `PPN INDEX WORD`, if something is. Which frames there are may
+/// be unknown.
+fn tell_word(
+    report: &mut Report,
+    line: Option<usize>,
+    index: usize,
     frames: Option<&Vec<u64>>,
     text: &str,
-) -> Result<Option<String>, AllocError> {
-    let alloc = document.alloc;
-    let words = words(alloc, text)?;
-    if words.len() != 3 {
-        let text = shown(alloc, text)?;
-        return Ok(Some(format!(in alloc; "{text} is not three numbers PPN INDEX WORD")?));
+) {
+    let number = Piece::Number(index.saturating_add(1) as u64);
+    let place = [Piece::Text("text "), number, Piece::Text(" of words: ")];
+    let spot = Spot {
+        line,
+        place: &place,
+    };
+    if word_at(text, 2).is_none() || word_at(text, 3).is_some() {
+        let why = Piece::Text(" is not three numbers PPN INDEX WORD");
+        report.tell(spot, &[Piece::Word(text), why]);
+    } else {
+        tell_parts(report, spot, frames, text);
     }
-    let (ppn, index, word) = (
-        words.as_slice()[0],
-        words.as_slice()[1],
-        words.as_slice()[2],
-    );
-    if !is_frame(frames, ppn) {
-        let ppn = shown(alloc, text_of(ppn))?;
-        return Ok(Some(format!(in alloc; "{ppn} where PPN is expected: one of the frames")?));
-    }
-    if num(index).is_none_or(|index| index >= u64::from(TABLE_LENGTH)) {
-        let index = shown(alloc, text_of(index))?;
-        return Ok(Some(format!(in alloc; "{index} where INDEX is expected: a number below 512")?));
-    }
-    if num(word).is_none() {
-        let word = shown(alloc, text_of(word))?;
-        return Ok(Some(format!(in alloc; "{word} where WORD is expected: a number below 2^64")?));
-    }
-    Ok(None)
 }
 
-/// Whether a word is the PPN of a frame, or may be one.
-fn is_frame(frames: Option<&Vec<u64>>, word: &[u8]) -> bool {
-    match (num(word), frames) {
-        (Some(ppn), Some(frames)) => frames.as_slice().contains(&ppn),
-        (Some(_), None) => true,
-        (None, _) => false,
+/// Reports what is wrong with the words of a text of three, if something is.
+fn tell_parts(report: &mut Report, spot: Spot<'_>, frames: Option<&Vec<u64>>, text: &str) {
+    for (index, why) in WRONG_PARTS.iter().enumerate() {
+        let word = word_at(text, index).unwrap_or(b"".as_slice());
+        if !is_part(frames, index, word) {
+            report.tell(spot, &[Piece::Word(text_of(word)), Piece::Text(why)]);
+            break;
+        }
+    }
+}
+
+/// Whether a word may be the one of this index of `PPN INDEX WORD`.
+fn is_part(frames: Option<&Vec<u64>>, index: usize, word: &[u8]) -> bool {
+    match num(word) {
+        Some(ppn) if index == 0 => match frames {
+            Some(frames) => frames.as_slice().contains(&ppn),
+            None => true,
+        },
+        Some(n) => index != 1 || n < u64::from(TABLE_LENGTH),
+        None => false,
     }
 }

@@ -1,18 +1,19 @@
 //! What is wrong with the values of keys: each on its own.
 use crate::places::Place;
-use crate::report::{Report, shown};
-use files::number;
+use crate::report::{Piece, Report, Spot};
+use crate::split::number_of;
 use pte::Scheme;
 use spaces::Config;
-use std::alloc::{AllocError, Global};
-use std::str::from_utf8;
-use steps::words;
+use steps::next_word;
 use toml::{Table, Value};
+
+/// What is wrong with a word that is no number.
+const NO_NUMBER: &str =
+    " is no number: 0x and 1 to 16 hexadecimal digits, or decimal digits of a value below 2^64";
 
 /// A document and its text.
 #[derive(Clone, Copy)]
 pub struct Document<'a> {
-    pub alloc: Global,
     pub text: &'a str,
     pub table: &'a Table,
 }
@@ -37,11 +38,26 @@ impl<'a> Document<'a> {
     }
 
     /// Reports what is wrong with a key.
-    pub fn tell(&self, report: &mut Report, key: &str, what: &str) -> Result<(), AllocError> {
-        let place = Place::of_key(self.alloc, self.text, key)?;
-        let key = shown(self.alloc, key)?;
-        let text = format!(in self.alloc; "key {key}: {what}")?;
-        report.add(place.line, text.as_str())
+    pub fn tell(&self, report: &mut Report, key: &str, what: &[Piece<'_>]) {
+        let line = Place::of_key(report, self.text, key).line;
+        let place = [Piece::Text("key "), Piece::Word(key), Piece::Text(": ")];
+        report.tell(
+            Spot {
+                line,
+                place: &place,
+            },
+            what,
+        );
+    }
+
+    /// Reports that the value of a key is of the wrong kind.
+    pub fn tell_kind(&self, report: &mut Report, key: &str, expected: &str, value: &Value) {
+        let what = [
+            Piece::Text(expected),
+            Piece::Text(" is expected, not "),
+            Piece::Text(kind(value)),
+        ];
+        self.tell(report, key, &what)
     }
 
     /// The whole number from `least` to `most` at a key, or else the default. `None`: it is wrong,
@@ -52,25 +68,39 @@ impl<'a> Document<'a> {
         key: &str,
         range: (i64, i64),
         default: i64,
-    ) -> Result<Option<i64>, AllocError> {
-        let (least, most) = range;
+    ) -> Option<i64> {
         let Some(value) = self.value(key) else {
-            return Ok(Some(default));
+            return Some(default);
         };
-        let Some(n) = value.as_integer() else {
-            let kind = kind(value);
-            let what = format!(in self.alloc;
-                "a whole number from {least} to {most} is expected, not {kind}"
-            )?;
-            self.tell(report, key, what.as_str())?;
-            return Ok(None);
-        };
-        if n < least || n > most {
-            let what = format!(in self.alloc; "{n} is not from {least} to {most}")?;
-            self.tell(report, key, what.as_str())?;
-            return Ok(None);
+        match value.as_integer() {
+            Some(n) if n >= range.0 && n <= range.1 => return Some(n),
+            Some(n) => self.tell_outside(report, key, range, n),
+            None => self.tell_no_whole(report, key, range, value),
         }
-        Ok(Some(n))
+        None
+    }
+
+    fn tell_outside(&self, report: &mut Report, key: &str, range: (i64, i64), n: i64) {
+        let what = [
+            Piece::Whole(n),
+            Piece::Text(" is not from "),
+            Piece::Whole(range.0),
+            Piece::Text(" to "),
+            Piece::Whole(range.1),
+        ];
+        self.tell(report, key, &what)
+    }
+
+    fn tell_no_whole(&self, report: &mut Report, key: &str, range: (i64, i64), value: &Value) {
+        let what = [
+            Piece::Text("a whole number from "),
+            Piece::Whole(range.0),
+            Piece::Text(" to "),
+            Piece::Whole(range.1),
+            Piece::Text(" is expected, not "),
+            Piece::Text(kind(value)),
+        ];
+        self.tell(report, key, &what)
     }
 
     /// The number, below `limit` if there is one, that the text at a key writes, or else the
@@ -81,118 +111,112 @@ impl<'a> Document<'a> {
         key: &str,
         limit: Option<u64>,
         default: u64,
-    ) -> Result<Option<u64>, AllocError> {
+    ) -> Option<u64> {
         let Some(value) = self.value(key) else {
-            return Ok(Some(default));
+            return Some(default);
         };
         let Some(text) = value.as_str() else {
-            let kind = kind(value);
-            let what = format!(in self.alloc;
-                "a text of a number is expected, as \"0x80000\", not {kind}"
-            )?;
-            self.tell(report, key, what.as_str())?;
-            return Ok(None);
+            let expected = "a text of a number is expected, as \"0x80000\"";
+            let what = [
+                Piece::Text(expected),
+                Piece::Text(", not "),
+                Piece::Text(kind(value)),
+            ];
+            self.tell(report, key, &what);
+            return None;
         };
-        let n = number(self.alloc, text)?;
-        if n.is_none() {
-            let text = shown(self.alloc, text)?;
-            let what = format!(in self.alloc;
-                "{text} is no number: 0x and 1 to 16 hexadecimal digits, or decimal digits of a value below 2^64"
-            )?;
-            self.tell(report, key, what.as_str())?;
-        }
-        if n.is_some_and(|n| limit.is_some_and(|limit| n >= limit)) {
-            let text = shown(self.alloc, text)?;
-            let what = format!(in self.alloc; "{text} is not below 2^44")?;
-            self.tell(report, key, what.as_str())?;
-            return Ok(None);
-        }
-        Ok(n)
+        let why = match number_of(text) {
+            None => NO_NUMBER,
+            Some(n) if limit.is_some_and(|limit| n >= limit) => " is not below 2^44",
+            Some(n) => return Some(n),
+        };
+        self.tell(report, key, &[Piece::Word(text), Piece::Text(why)]);
+        None
     }
 
     /// The scheme of the key `mode`.
-    pub fn mode(&self, report: &mut Report) -> Result<Option<Scheme>, AllocError> {
+    pub fn mode(&self, report: &mut Report) -> Option<Scheme> {
         let Some(value) = self.value("mode") else {
-            return Ok(Some(Config::default().scheme));
+            return Some(Config::default().scheme);
         };
         let Some(text) = value.as_str() else {
-            let kind = kind(value);
-            let what = format!(in self.alloc; "a text sv39 or sv48 is expected, not {kind}")?;
-            self.tell(report, "mode", what.as_str())?;
-            return Ok(None);
+            self.tell_kind(report, "mode", "a text sv39 or sv48", value);
+            return None;
         };
-        let words = words(self.alloc, text)?;
-        if words.len() == 1 && words.as_slice()[0] == b"sv39".as_slice() {
-            return Ok(Some(Scheme::Sv39));
+        if is_only_word(text, "sv39") {
+            return Some(Scheme::Sv39);
         }
-        if words.len() == 1 && words.as_slice()[0] == b"sv48".as_slice() {
-            return Ok(Some(Scheme::Sv48));
+        if is_only_word(text, "sv48") {
+            return Some(Scheme::Sv48);
         }
-        let text = shown(self.alloc, text)?;
-        let what = format!(in self.alloc; "{text} is neither sv39 nor sv48")?;
-        self.tell(report, "mode", what.as_str())?;
-        Ok(None)
+        let what = [Piece::Word(text), Piece::Text(" is neither sv39 nor sv48")];
+        self.tell(report, "mode", &what);
+        None
     }
 
-    /// The texts of an array at a key, none where it is absent. `None`: something is no text, and
-    /// that is reported.
-    pub fn texts(
-        &self,
-        report: &mut Report,
-        key: &str,
-        of: &str,
-    ) -> Result<Option<Vec<&'a str>>, AllocError> {
+    /// The values of the array at a key, each of which is a text; `of` says what the array is.
+    /// `None`: the key is absent, or something is no text, and that is reported.
+    pub fn texts(&self, report: &mut Report, key: &str, of: &str) -> Option<&'a [Value]> {
         match self.value(key) {
-            Some(value) => self.texts_in(report, key, of, value),
-            None => Ok(Some(Vec::new(self.alloc))),
+            Some(value) => {
+                self.tell_texts(report, key, of, value);
+                texts_in(value)
+            }
+            None => None,
         }
     }
 
-    /// The texts of an array. `of` says what it is in words.
-    pub fn texts_in(
-        &self,
-        report: &mut Report,
-        key: &str,
-        of: &str,
-        value: &'a Value,
-    ) -> Result<Option<Vec<&'a str>>, AllocError> {
+    /// Reports whether a value is no array, and each element of it that is no text.
+    pub fn tell_texts(&self, report: &mut Report, key: &str, of: &str, value: &Value) {
         let Some(values) = value.as_array() else {
-            let kind = kind(value);
-            let what = format!(in self.alloc; "{of} is expected, not {kind}")?;
-            self.tell(report, key, what.as_str())?;
-            return Ok(None);
+            self.tell_kind(report, key, of, value);
+            return;
         };
-        let mut texts = Vec::new(self.alloc);
-        let mut are_texts = true;
         for (index, value) in values.as_slice().iter().enumerate() {
-            match value.as_str() {
-                Some(text) => texts.push(text)?,
-                None if report.is_full() => are_texts = false,
-                None => {
-                    are_texts = false;
-                    self.tell_element(report, key, index, value)?;
-                }
+            if report.is_full() {
+                break;
+            }
+            if value.as_str().is_none() {
+                self.tell_element(report, key, index, value);
             }
         }
-        Ok(if are_texts { Some(texts) } else { None })
     }
 
     /// Reports that an element of an array is no text.
-    fn tell_element(
-        &self,
-        report: &mut Report,
-        key: &str,
-        index: usize,
-        value: &Value,
-    ) -> Result<(), AllocError> {
-        let number = index.saturating_add(1);
-        let kind = kind(value);
-        let what = format!(in self.alloc; "element {number} is {kind}, and a text is expected")?;
-        self.tell(report, key, what.as_str())
+    fn tell_element(&self, report: &mut Report, key: &str, index: usize, value: &Value) {
+        let what = [
+            Piece::Text("element "),
+            Piece::Number(index.saturating_add(1) as u64),
+            Piece::Text(" is "),
+            Piece::Text(kind(value)),
+            Piece::Text(", and a text is expected"),
+        ];
+        self.tell(report, key, &what)
     }
 }
 
-/// A word as text.
-pub fn text_of(word: &[u8]) -> &str {
-    from_utf8(word).unwrap_or("?")
+/// The values of an array in which each is a text.
+pub fn texts_in(value: &Value) -> Option<&[Value]> {
+    let Some(values) = value.as_array() else {
+        return None;
+    };
+    for value in values.as_slice() {
+        if value.as_str().is_none() {
+            return None;
+        }
+    }
+    Some(values.as_slice())
+}
+
+/// The text of a value that is one.
+pub fn text_in(value: &Value) -> &str {
+    value.as_str().unwrap_or("")
+}
+
+/// Whether a text has just this word.
+fn is_only_word(text: &str, expected: &str) -> bool {
+    match next_word(text.as_bytes()) {
+        Some((word, rest)) => word == expected.as_bytes() && next_word(rest).is_none(),
+        None => false,
+    }
 }
