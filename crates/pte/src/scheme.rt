@@ -29,6 +29,7 @@ pub enum Scheme {
 impl Scheme {
     /// How many bits a virtual address has, 39 or 48: all bits above the highest of them must equal
     /// it (privileged manual 4.4.1 and 4.5.1).
+    #[inline(always)]
     pub fn address_bits(self) -> u32
         ensures { result ≡ address_bits self }
     {
@@ -40,6 +41,7 @@ impl Scheme {
 
     /// The level of a root table: LEVELS less 1 of the manual (4.4.1 and 4.5.1). Levels go down to
     /// 0, whose leaves are pages of 4 KiB.
+    #[inline(always)]
     pub fn top_level(self) -> u8
         ensures { result ≡ top_level self }
     {

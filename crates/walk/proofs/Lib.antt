@@ -10,3 +10,6 @@ pub mod MappedAnswers
 pub mod Stored
 pub mod Downward
 pub mod Loads
+pub mod SetBits
+pub mod SetLaws
+pub mod PolicyRowsHold

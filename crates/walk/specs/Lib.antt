@@ -4,6 +4,9 @@ pub mod Outcome
 pub mod Maps
 pub mod Stage
 pub mod Step
+pub mod Policy
+pub mod PolicyRows
+pub mod Permits
 pub mod Loads
 pub mod Pointers
 pub mod Stores

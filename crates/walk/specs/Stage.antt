@@ -18,6 +18,18 @@ pub record Stage : Type 0 where
   pub table : ℕ
   pub global : Bool
 
+-- the walk of these numbers
+abbrev pub stage_of : ℕ → Access → Ctx → ℕ → ℕ → Bool → Stage
+stage_of va access ctx level table global =
+    record {
+      va = va;
+      access = access;
+      ctx = ctx;
+      level = level;
+      table = table;
+      global = global;
+    }
+
 -- a walk that waits for a word of the root
 abbrev pub start_of : Scheme → ℕ → ℕ → Access → Ctx → Stage
 start_of scheme root va access ctx =

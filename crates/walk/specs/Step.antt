@@ -1,6 +1,6 @@
 -- What a walk makes of the next word
 -- (privileged manual 4.3.2, step 4: a pointer goes on one level below).
-use Rattle.std.specs.Prelude.{ℕ, ◌-◌, ◌==◌, ◌||◌, if◌then◌else◌, Option, Some, None, Result, Ok}
+use Rattle.std.specs.Prelude.{ℕ, Bool, ◌-◌, ◌==◌, ◌||◌, if◌then◌else◌, Option, Some, None, Result, Ok}
 use Rattle.std.specs.Prelude.{Err}
 use Rattle.std.specs.declared.ops.ControlFlow.{ControlFlow}
 use Rattle.std.specs.declared.ops.ControlFlow.TheVariants.{Continue, Break}
@@ -25,6 +25,10 @@ flow_of (progress.More next) = Continue next
 flow_of (progress.Found found) = Break (Ok found)
 flow_of (progress.Trap trap) = Break (Err trap)
 
+-- the walk one level below, at a pointer's table
+abbrev pub below : Stage → ℕ → Bool → Stage
+below s ppn global = record s { level = s.level - 1; table = ppn; global = s.global || global }
+
 -- a pointer above level 0 is gone to; anything else ends the walk with the answer for it
 abbrev pub step_of : Stage → Kind → Progress
 step_of s kinds.Invalid = ended (kind_answer s.va s.access s.ctx s.level s.global kinds.Invalid)
@@ -35,7 +39,7 @@ step_of s (kinds.Leaf ppn flags) =
 step_of s (kinds.Table ppn global) =
     if s.level == 0
     then ended (kind_answer s.va s.access s.ctx s.level s.global (kinds.Table ppn global))
-    else progress.More (record s { level = s.level - 1; table = ppn; global = s.global || global })
+    else progress.More (below s ppn global)
 
 -- what a load makes of a walk: by the word, or an access fault where there is none
 abbrev pub load_of : Stage → Option ℕ → Progress

@@ -67,6 +67,7 @@ impl Trap {
     ghost use Rattle.walk.specs.Answer.{outside_trap, page_trap};
 
     /// The page fault of an access.
+    #[inline(always)]
     pub fn page(access: Access, why: Why) -> Trap
         ensures { result ≡ page_trap access why }
     {
@@ -77,6 +78,7 @@ impl Trap {
     }
 
     /// The access fault of an access whose table word lies outside memory.
+    #[inline(always)]
     pub fn outside(access: Access) -> Trap
         ensures { result ≡ outside_trap access }
     {
@@ -92,6 +94,7 @@ ghost use Rattle.walk.specs.Answer.{accessed_fault, flags_fault};
 
 /// What in the flags of an aligned leaf refuses an access, the first of `Denied`, `NotAccessed` and
 /// `NotDirty` that applies, or `None`. A TLB entry answers by it without the tables.
+#[inline(always)]
 pub fn flags_fault(flags: PteFlags, access: Access, ctx: Ctx) -> Option<Why>
     ensures { result ≡ flags_fault access ctx flags }
 {
@@ -103,6 +106,7 @@ pub fn flags_fault(flags: PteFlags, access: Access, ctx: Ctx) -> Option<Why>
 }
 
 /// What is wrong with A and D for an access.
+#[inline(always)]
 pub(crate) fn accessed_fault(flags: PteFlags, access: Access) -> Option<Why>
     ensures { result ≡ accessed_fault access flags }
 {

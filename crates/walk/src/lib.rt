@@ -5,6 +5,9 @@
 mod found_or_trap;
 mod laws;
 mod memory;
+mod permissions;
+mod policy_laws;
+mod stepping;
 mod translation;
 mod walking;
 mod worked_rows;
@@ -22,6 +25,12 @@ pub use laws::{
     what_leads_passes_through_a_change,
 };
 pub use memory::Words;
+pub use permissions::{Permitted, permits};
+pub use policy_laws::{
+    bits_to_set_let_the_access_through, trap_policy_sets_nothing, worked_bits_to_set,
+    worked_policies,
+};
+pub use stepping::{AccessedDirty, Advance, Granted, ReadWord, Trapped, WORD_BYTES};
 pub use translation::{translate, translate_in};
 pub use walking::{Progress, Walk};
 pub use worked_rows::{
