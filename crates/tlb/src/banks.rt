@@ -1,34 +1,32 @@
 //! The entries of a TLB in banks, one for each size of page, each entry with an age.
 
 ghost use Rattle.std.specs.Prelude.{ℕ, Bool, ◌≡◌, ◌+◌, ◌<◌, ◌≤◌, ◌++◌, [], ◌∷◌, filter, length};
-ghost use Rattle.std.specs.Prelude.{map, not, slice_get, slice_index, true};
+ghost use Rattle.std.specs.Prelude.{bit_and, map, not, slice_get, slice_index, true};
 ghost use Rattle.std.specs.Fn.{FnReturnsAt};
-ghost use Rattle.pte.specs.Address.{holds, IsPage, level_of, overlaps};
-ghost use Rattle.pte.specs.declared.address.PageSize.{PageSize};
+ghost use Rattle.pte.specs.Address.{holds, IsPage, overlaps};
+ghost use Rattle.pte.specs.declared.address.PageSize.TheVariants.{Kib4};
 ghost use Rattle.tlb.specs.declared.store.Entry.{Entry};
-ghost use Rattle.tlb.specs.Banks.{HasAll, InUse, IsBanks, bank_of, entries_of, tag_of};
+ghost use Rattle.tlb.specs.Banks.{HasAll, InUse, IsBanks, entries_of, mask_of, tag_of};
 ghost use Rattle.tlb.specs.Entries.{filled, first_match, is_match};
 ghost use Rattle.tlb.specs.Slots.{IsIn, closed_up};
 
 use crate::slots::{
-    SlotSet, close_up, lowest_slot, slot_of, slots_with_tag, with_slot, without_slot,
+    SlotSet, close_up, lowest_slot, slot_of, slots_below, slots_with_tag, without_slot,
 };
 use crate::store::{Entry, TLB_SIZE};
-use pte::{LEVEL_BITS, OFFSET_BITS, Page, PageSize, SV48_LEVELS, VirtAddr};
-
-/// How many sizes of pages there are: one for each level of the widest scheme.
-const SIZES: usize = SV48_LEVELS as usize;
+use pte::{LEVEL_BITS, OFFSET_BITS, Page, PageSize, VirtAddr};
 
 /// At most 16 entries, in 16 slots that the banks share. Each slot has an age, each number below 16
 /// once. The slots in use are those with an age below the count, so the ages of the entries are the
-/// numbers below the count, and the oldest has 0. A slot in use is in the bank of its entry's size
-/// and in no other.
+/// numbers below the count, and the oldest has 0. A slot in use is in the bank of its entry's size,
+/// which its mask says, and in no other.
 #[derive(Drop)]
 pub(crate) struct Banks {
-    // For each level the bank of that size: the slots in use that hold an entry of such a page.
-    banks: [SlotSet; SIZES],
-    // Of each slot, the tag of its page in its bank.
+    // Of each slot in use, the number of the page of 4 KiB at its base, of which 32 bits count.
     tags: [u32; TLB_SIZE],
+    // Of each slot in use its bank: the bits of this number that all addresses in a page of the
+    // bank's size share.
+    masks: [u32; TLB_SIZE],
     ages: [u8; TLB_SIZE],
     // What each slot holds, in no order; of a slot that is not in use, what it held last.
     held: [Entry; TLB_SIZE],
@@ -36,14 +34,24 @@ pub(crate) struct Banks {
     count: u8,
 }
 
-// The low bits of the number of the page of a size that has the address.
-fn tag_of(va: VirtAddr, size: PageSize) -> u32
-    ensures { result ≡ tag_of va size }
+// The low bits of the number of the page of 4 KiB that has the address.
+#[inline(always)]
+fn tag_of(va: VirtAddr) -> u32
+    ensures { result ≡ tag_of va Kib4 }
 {
-    ((va.get() >> (OFFSET_BITS + LEVEL_BITS * u32::from(size.level()))) % (1 << 32)) as u32
+    ((va.get() >> OFFSET_BITS) % (1 << 32)) as u32
+}
+
+// The bits of such a number that all addresses in a page of the size share.
+#[inline(always)]
+fn mask_of(size: PageSize) -> u32
+    ensures { result ≡ mask_of size }
+{
+    u32::MAX << (LEVEL_BITS * u32::from(size.level()))
 }
 
 // The page has the address, and the entry is global or of the ASID.
+#[inline(always)]
 fn is_match(entry: &Entry, asid: u16, va: VirtAddr) -> bool
     ensures { result ≡ is_match asid va entry.now }
 {
@@ -57,52 +65,23 @@ impl Banks {
         ensures empty { entries_of result ≡ [] }
     {
         Banks {
-            banks: [0; SIZES],
             tags: [0; TLB_SIZE],
+            masks: [0; TLB_SIZE],
             ages: [0, 1, 2, 3, 4, 5, 6, 7, 8, 9, 10, 11, 12, 13, 14, 15],
             held: [Entry::default(); TLB_SIZE],
             count: 0,
         }
     }
 
-    // The slots of the bank of a size that have the tag of the address.
-    fn in_bank(&self, size: PageSize, va: VirtAddr) -> SlotSet
-        ensures { (slot : ℕ) → slot < TLB_SIZE → IsIn (bank_of self.now size) slot
-            → slice_index self.now.tags slot ≡ tag_of va size → IsIn result slot }
-    {
-        let bank = self.banks[usize::from(size.level())];
-        if bank == 0 {
-            return 0;
-        }
-        bank & slots_with_tag(&self.tags, tag_of(va, size))
-    }
-
-    // The slots of all banks that have the tag of the address there: each one that has a match is
-    // among them.
+    // The slots whose page can share an address with the page of a size that has this one: they
+    // agree in the bits of the tag that both pages share.
     #[inline(always)]
-    fn candidates(&self, va: VirtAddr) -> SlotSet
-        ensures { (slot : ℕ) (size : PageSize) → slot < TLB_SIZE → IsIn (bank_of self.now size) slot
-            → slice_index self.now.tags slot ≡ tag_of va size → IsIn result slot }
+    fn near(&self, va: VirtAddr, size: PageSize) -> SlotSet
+        ensures { (slot : ℕ) → slot < TLB_SIZE
+            → bit_and (slice_index self.now.tags slot) (mask_of size)
+            ≡ bit_and (slice_index self.now.masks slot) (tag_of va Kib4) → IsIn result slot }
     {
-        self.in_bank(PageSize::Kib4, va)
-            | self.in_bank(PageSize::Mib2, va)
-            | self.in_bank(PageSize::Gib1, va)
-            | self.in_bank(PageSize::Gib512, va)
-    }
-
-    // The slots of the bank of a size that can have a page that overlaps this one: of a smaller
-    // size all, else those that have the tag of its base.
-    fn in_bank_of(&self, size: PageSize, page: &Page) -> SlotSet
-        requires { IsPage page.now }
-        ensures { (slot : ℕ) → slot < TLB_SIZE → IsIn (bank_of self.now size) slot
-            → (level_of page.now.size ≤ level_of size
-            → slice_index self.now.tags slot ≡ tag_of page.now.base size) → IsIn result slot }
-    {
-        if size.level() < page.size().level() {
-            self.banks[usize::from(size.level())]
-        } else {
-            self.in_bank(size, page.base())
-        }
+        slots_with_tag(&self.tags, &self.masks, tag_of(va), mask_of(size))
     }
 
     /// The slots that can have a page that overlaps this one: each one that has is among them.
@@ -111,36 +90,57 @@ impl Banks {
         requires page { IsPage page.now }
         ensures { HasAll self.now (λ e. overlaps page.now e.page) result }
     {
-        self.in_bank_of(PageSize::Kib4, page)
-            | self.in_bank_of(PageSize::Mib2, page)
-            | self.in_bank_of(PageSize::Gib1, page)
-            | self.in_bank_of(PageSize::Gib512, page)
+        self.near(page.base(), page.size())
     }
 
     /// The slots that can have a page that has this address: each one that has is among them.
+    #[inline(always)]
     pub(crate) fn near_address(&self, va: VirtAddr) -> SlotSet
         requires { IsBanks self.now }
         ensures { HasAll self.now (λ e. holds e.page va) result }
     {
-        self.candidates(va)
+        self.near(va, PageSize::Kib4)
     }
 
-    /// The slots of all banks.
+    /// The slots in use.
     pub(crate) fn in_use(&self) -> SlotSet
         requires { IsBanks self.now }
         ensures { HasAll self.now (λ e. true) result }
     {
-        self.banks[0] | self.banks[1] | self.banks[2] | self.banks[3]
+        slots_below(&self.ages, self.count)
     }
 
-    /// The entry that matches and has the least age. Only what has the address's tag in its bank is
-    /// looked at whole: no other slot can match.
+    /// The entry that matches and has the least age. Only the slots whose tag agrees with
+    /// the address are looked at whole: no other can match.
     #[inline(always)]
     pub(crate) fn oldest_match(&self, asid: u16, va: VirtAddr) -> Option<Entry>
         requires { IsBanks self.now }
         ensures { result ≡ first_match (entries_of self.now) asid va }
     {
-        let mut left = self.candidates(va);
+        let near = self.near_address(va);
+        if near == 0 {
+            return None;
+        }
+        let slot = lowest_slot(near);
+        if without_slot(near, slot) != 0 {
+            return self.oldest_among(near, asid, va);
+        }
+        if self.ages[slot] < self.count && is_match(&self.held[slot], asid, va) {
+            Some(self.held[slot])
+        } else {
+            None
+        }
+    }
+
+    // The same, where each slot in use whose page has the address is in the set. It is kept out of
+    // line, since mostly one slot alone is near.
+    #[cold]
+    fn oldest_among(&self, near: SlotSet, asid: u16, va: VirtAddr) -> Option<Entry>
+        requires kept { IsBanks self.now }
+        requires near { HasAll self.now (λ e. holds e.page va) near }
+        ensures { result ≡ first_match (entries_of self.now) asid va }
+    {
+        let mut left = near;
         let mut least = self.count;
         let mut oldest = 0_usize;
         while left != 0 {
@@ -190,9 +190,21 @@ impl Banks {
         ensures count { self.new.count + 1 ≡ self.old.count }
     {
         let age = self.ages[slot];
-        let level = usize::from(self.held[slot].page.size().level());
-        self.banks[level] = without_slot(self.banks[level], slot);
         close_up(&mut self.ages, age);
+        self.count -= 1;
+    }
+
+    // Takes out the oldest entry: each other age comes one down, all at once.
+    #[inline(always)]
+    fn drop_oldest(&mut self)
+        requires kept { IsBanks self.old }
+        requires some { 0 < self.old.count }
+        ensures kept { IsBanks self.new }
+        ensures held { self.new.held ≡ self.old.held }
+        ensures ages { self.new.ages ≡ map (closed_up 0) self.old.ages }
+        ensures count { self.new.count + 1 ≡ self.old.count }
+    {
+        close_up(&mut self.ages, 0);
         self.count -= 1;
     }
 
@@ -205,9 +217,8 @@ impl Banks {
         ensures entries { entries_of self.new ≡ entries_of self.old ++ entry ∷ [] }
     {
         let slot = slot_of(&self.ages, self.count);
-        let level = usize::from(entry.page.size().level());
-        self.banks[level] = with_slot(self.banks[level], slot);
-        self.tags[slot] = tag_of(entry.page.base(), entry.page.size());
+        self.tags[slot] = tag_of(entry.page.base());
+        self.masks[slot] = mask_of(entry.page.size());
         self.held[slot] = entry;
         self.count += 1;
     }
@@ -220,8 +231,7 @@ impl Banks {
         ensures entries { entries_of self.new ≡ filled (entries_of self.old) entry }
     {
         if usize::from(self.count) == TLB_SIZE {
-            let oldest = slot_of(&self.ages, 0);
-            self.drop_slot(oldest);
+            self.drop_oldest();
         }
         self.add_youngest(entry);
     }
@@ -252,7 +262,6 @@ impl Banks {
         ensures kept { IsBanks self.new }
         ensures empty { entries_of self.new ≡ [] }
     {
-        self.banks = [0; SIZES];
         self.count = 0;
     }
 }

@@ -1,6 +1,6 @@
 //! The slots of a TLB: sets of them, and the search of all 16 at once.
 
-ghost use Rattle.std.specs.Prelude.{ℕ, ◌≡◌, ◌≢◌, ◌<◌, map, slice_index};
+ghost use Rattle.std.specs.Prelude.{ℕ, ◌≡◌, ◌≢◌, ◌<◌, bit_and, map, slice_index};
 ghost use Rattle.std.specs.Int.{bit_at};
 ghost use Rattle.tlb.specs.Slots.{IsIn, closed_up, slot_of};
 
@@ -10,15 +10,33 @@ use std::simd::prelude::*;
 /// A set of slots: bit k is set where slot k is in it.
 pub(crate) type SlotSet = u16;
 
-/// The slots that have a tag.
-pub(crate) fn slots_with_tag(tags: &[u32; TLB_SIZE], tag: u32) -> SlotSet
-    ensures { (slot : ℕ) → slot < TLB_SIZE → slice_index tags.now slot ≡ tag → IsIn result slot }
+/// The slots whose tag has the same bits under a mask as a tag has under the slot's own mask.
+#[inline(always)]
+pub(crate) fn slots_with_tag(
+    tags: &[u32; TLB_SIZE],
+    masks: &[u32; TLB_SIZE],
+    tag: u32,
+    mask: u32,
+) -> SlotSet
+    ensures { (slot : ℕ) → slot < TLB_SIZE → bit_and (slice_index tags.now slot) mask
+        ≡ bit_and (slice_index masks.now slot) tag → IsIn result slot }
 {
-    let same = u32x16::from_array(*tags).simd_eq(u32x16::splat(tag));
-    same.to_bitmask() as u16
+    let here = u32x16::from_array(*tags) & u32x16::splat(mask);
+    let there = u32x16::from_array(*masks) & u32x16::splat(tag);
+    here.simd_eq(there).to_bitmask() as u16
+}
+
+/// The slots with an age below a count.
+#[inline(always)]
+pub(crate) fn slots_below(ages: &[u8; TLB_SIZE], count: u8) -> SlotSet
+    ensures { (slot : ℕ) → slot < TLB_SIZE → slice_index ages.now slot < count → IsIn result slot }
+{
+    let below = u8x16::from_array(*ages).simd_lt(u8x16::splat(count));
+    below.to_bitmask() as u16
 }
 
 /// The slot of an age that some slot has.
+#[inline(always)]
 pub(crate) fn slot_of(ages: &[u8; TLB_SIZE], age: u8) -> usize
     requires { slot_of ages.now age < TLB_SIZE }
     ensures { result ≡ slot_of ages.now age }
@@ -52,6 +70,7 @@ pub(crate) fn close_up(ages: &mut [u8; TLB_SIZE], dropped: u8)
 }
 
 /// The lowest slot of a set.
+#[inline(always)]
 pub(crate) fn lowest_slot(set: SlotSet) -> usize
     requires { 0 < set }
     ensures within { result < TLB_SIZE }
@@ -60,16 +79,8 @@ pub(crate) fn lowest_slot(set: SlotSet) -> usize
     set.trailing_zeros() as usize
 }
 
-/// A set and one slot more.
-pub(crate) fn with_slot(set: SlotSet, slot: usize) -> SlotSet
-    requires { slot < TLB_SIZE }
-    ensures there { IsIn result slot }
-    ensures others { (k : ℕ) → k ≢ slot → bit_at result k ≡ bit_at set k }
-{
-    set | 1 << slot
-}
-
 /// A set without a slot.
+#[inline(always)]
 pub(crate) fn without_slot(set: SlotSet, slot: usize) -> SlotSet
     requires { slot < TLB_SIZE }
     ensures less { IsIn set slot → result < set }

@@ -40,6 +40,7 @@ pub struct Entry {
 
 impl Entry {
     /// What a walk found in the address space of an ASID.
+    #[inline(always)]
     pub fn found(asid: u16, found: &Found) -> Entry
         ensures { result ≡ entry_of asid found.now }
     {
@@ -56,6 +57,7 @@ impl Entry {
     /// (privileged manual 4.3.2, steps 5 to 8): the physical address, or a page fault with the
     /// first of `Denied`, `NotAccessed` and `NotDirty` that applies. Of the PPN the low 44 bits
     /// count.
+    #[inline(always)]
     pub fn translate(&self, va: VirtAddr, access: Access, ctx: Ctx) -> Result<u64, Trap>
         ensures { result ≡ answer_of self.now va access ctx }
     {

@@ -3,7 +3,7 @@ use Rattle.std.specs.Prelude.{slice_get, slice_index}
 use Rattle.tlb.specs.declared.store.Entry.{Entry}
 use Rattle.tlb.specs.Entries.{is_match}
 use Rattle.tlb.specs.Slots.{IsIn}
-use Rattle.tlb.proofs.banks.Banks.oldest_match.Given as goal
+use Rattle.tlb.proofs.banks.Banks.oldest_among.Given as goal
 
 abbrev pub invariant-loop-left : goal.invariant-loop-left
 invariant-loop-left l = record {
