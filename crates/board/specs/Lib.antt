@@ -4,6 +4,7 @@ pub mod Answers
 pub mod Reports
 pub mod Rows
 pub mod Seats
+pub mod Slots
 pub mod Tables
 pub mod Ties
 pub mod Collects

@@ -21,6 +21,7 @@ use shoot::{Collected, Request};
 use views::collect;
 
 /// Makes room in an end, if the port has it.
+#[inline(always)]
 fn release_end(outbox: &mut Option<Outbox>)
     requires some { (end : OutboxState) → outbox.old ≡ Some end → 0 < end.outstanding }
     ensures released { outbox.new ≡ option_map after_release outbox.old }
@@ -32,6 +33,7 @@ fn release_end(outbox: &mut Option<Outbox>)
 }
 
 /// Makes room in one of the ends.
+#[inline(always)]
 #[tactic(auto, using(crate::proofs::Counts::outboxes_kept, crate::proofs::Counts::there_set, crate::proofs::Counts::put_back))]
 fn release_at(outboxes: &mut Vec<Option<Outbox>>, to: u8)
     requires there { to < length outboxes.old.items }
@@ -49,6 +51,7 @@ fn release_at(outboxes: &mut Vec<Option<Outbox>>, to: u8)
 
 impl HartPort {
     /// The request of an open ticket that was posted to another hart, which is not collected.
+    #[inline(always)]
     fn awaited(&self, ticket: u32, from: u8) -> Option<Request>
         ensures request { IfSome result (λ request. request ≡ request_of self.now.tickets ticket) }
         ensures what { IfSome result (λ request. what_at self.now.tickets ticket
@@ -78,6 +81,7 @@ impl HartPort {
 
     /// Loads the cell of a hart, if the ticket awaits it. Whether it holds the word of the request:
     /// then the hart is collected.
+    #[inline(always)]
     fn look(&mut self, ticket: u32, from: u8) -> bool
         ensures open { IsTrue (is_open self.old.tickets ticket)
             → IsTrue (is_open self.new.tickets ticket) }

@@ -3,6 +3,7 @@
 ghost use Rattle.std.specs.Prelude.{◌≡◌, ◌<◌, [], ◌∷◌, length, IfSome, IfNone};
 ghost use mathlib.Core.List.{IsPrefix};
 
+use crate::slot::Slot;
 use rtrb::Consumer;
 use shoot::Request;
 use std::alloc::Global;
@@ -12,7 +13,7 @@ use std::marker::Model;
 /// takes memory.
 #[derive(Drop)]
 pub struct Inbox {
-    pub(crate) consumer: Consumer<Request, Global>,
+    pub(crate) consumer: Consumer<Slot, Global>,
     // How many requests were taken, which stays at the greatest number.
     pub(crate) taken: u64,
 }
@@ -51,10 +52,25 @@ impl Inbox {
             IsPrefix self.old.known (request ∷ self.new.known)) }
         ensures none { IfNone result ((self.old.known ≡ []) × (self.new ≡ self.old)) }
     {
+        match self.take_slot() {
+            Some(slot) => Some(slot.request()),
+            None => None,
+        }
+    }
+
+    /// The same, as the request lies in the ring.
+    #[inline(always)]
+    pub(crate) fn take_slot(&mut self) -> Option<Slot>
+        ensures some { IfSome result (λ request.
+            self.new ≡ with_taken self.old request self.new.known) }
+        ensures oldest { IfSome result (λ request.
+            IsPrefix self.old.known (request ∷ self.new.known)) }
+        ensures none { IfNone result ((self.old.known ≡ []) × (self.new ≡ self.old)) }
+    {
         match self.consumer.pop() {
-            Ok(request) => {
+            Ok(slot) => {
                 self.taken = self.taken.saturating_add(1);
-                Some(request)
+                Some(slot)
             }
             Err(_) => None,
         }

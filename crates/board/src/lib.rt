@@ -17,6 +17,7 @@ mod port;
 mod receiver;
 mod report;
 mod seats;
+mod slot;
 mod translating;
 
 pub use board::Board;

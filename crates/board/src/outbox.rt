@@ -2,6 +2,7 @@
 
 ghost use Rattle.std.specs.Prelude.{◌≡◌, ◌+◌, ◌<◌, ◌≤◌, Some, None, Err, IfErr, OnOk, OnErr, true};
 
+use crate::slot::Slot;
 use rtrb::{Producer, PushError};
 use shoot::{PostFault, Request};
 use std::alloc::Global;
@@ -13,7 +14,7 @@ use std::marker::Model;
 /// yet: these are outstanding. No call waits for the other end, or takes memory.
 #[derive(Drop)]
 pub struct Outbox {
-    pub(crate) producer: Producer<Request, Global>,
+    pub(crate) producer: Producer<Slot, Global>,
     pub(crate) capacity: usize,
     pub(crate) outstanding: usize,
     pub(crate) closed: bool,
@@ -50,6 +51,7 @@ impl Outbox {
     ghost use Rattle.board.specs.Ends.{count_of, post_fault, with_accepted, after_release, after_close};
 
     /// Why a post would be refused now, whatever the ring has room for.
+    #[inline(always)]
     pub fn post_fault(&self) -> Option<PostFault>
         ensures { result ≡ post_fault self.now }
     {
@@ -59,6 +61,7 @@ impl Outbox {
     /// Posts a request. Refused with `Closed`, else with `Full`, it comes back, and nothing
     /// changes. `Full` is also the answer where the ring gives the request back, which it does only
     /// if this end knew of no free place.
+    #[inline(always)]
     pub fn post(&mut self, request: Request) -> Result<(), (PostFault, Request)>
         ensures refused { (fault : PostFault) → post_fault self.old ≡ Some fault
             → result ≡ Err (fault, request) }
@@ -71,17 +74,18 @@ impl Outbox {
         if let Some(fault) = self.post_fault() {
             return Err((fault, request));
         }
-        match self.producer.push(request) {
+        match self.producer.push(Slot::of(&request)) {
             Ok(()) => {
                 self.outstanding += 1;
                 self.accepted = self.accepted.saturating_add(1);
                 Ok(())
             }
-            Err(PushError::Full(back)) => Err((PostFault::Full, back)),
+            Err(PushError::Full(_)) => Err((PostFault::Full, request)),
         }
     }
 
     /// The acknowledgement of an outstanding request was collected: there is room for one more.
+    #[inline(always)]
     pub fn release(&mut self)
         requires { 0 < self.old.outstanding }
         ensures { self.new ≡ after_release self.old }

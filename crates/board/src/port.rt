@@ -12,6 +12,7 @@ ghost use Rattle.board.specs.Answers.{outbox_refusal, outbox_with, inbox_with, k
 
 use crate::outbox::Outbox;
 use crate::receiver::Receiver;
+use crate::slot::Slot;
 use arrayvec::ArrayVec;
 use history::{Refusal, Scope, opening_refusal, posting_refusal};
 use pte::What;
@@ -89,6 +90,7 @@ fn request(ticket: u32, what: &What) -> Request
 
 /// Posts by the end that leads to a hart; `NoHart` if the port has no such end. The hart's cell is
 /// armed for the request.
+#[inline(always)]
 fn post_to(
     outbox: &mut Option<Outbox>,
     seat: &Seat,
@@ -119,7 +121,8 @@ fn post_to(
 }
 
 /// Takes the oldest request that waits in an end. `None`: none waits, or the port has no such end.
-fn take_from(inbox: &mut Option<Receiver>) -> Option<Request>
+#[inline(always)]
+fn take_from(inbox: &mut Option<Receiver>) -> Option<Slot>
     ensures taken { IfSome result (λ request. inbox.new
         ≡ inbox_with request (known_waiting inbox.new) inbox.old) }
     ensures oldest { IfSome result (λ request. IsPrefix (known_waiting inbox.old)
@@ -154,6 +157,7 @@ fn is_closed(outbox: &Option<Outbox>) -> bool
 }
 
 /// Posts to one of the ends. The cell of its hart is armed for the request.
+#[inline(always)]
 #[tactic(auto, using(crate::proofs::Counts::outboxes_kept, crate::proofs::Counts::there_set, crate::proofs::Counts::put_back))]
 fn post_at(
     outboxes: &mut Vec<Option<Outbox>>,
@@ -182,6 +186,7 @@ fn post_at(
 }
 
 /// Why an end refuses a post, whatever its ring has room for.
+#[inline(always)]
 fn refusal_of_end(outbox: &Option<Outbox>) -> Option<Refusal>
     ensures { result ≡ outbox_refusal outbox.now }
 {
@@ -195,6 +200,7 @@ fn refusal_of_end(outbox: &Option<Outbox>) -> Option<Refusal>
 }
 
 /// Why one of the ends refuses a post, whatever its ring has room for.
+#[inline(always)]
 #[tactic(auto, using(crate::proofs::Counts::at_index))]
 fn refusal_at(outboxes: &Vec<Option<Outbox>>, to: u8) -> Option<Refusal>
     requires { to < length outboxes.now.items }
@@ -204,8 +210,9 @@ fn refusal_at(outboxes: &Vec<Option<Outbox>>, to: u8) -> Option<Refusal>
 }
 
 /// Takes from one of the ends.
+#[inline(always)]
 #[tactic(auto, using(crate::proofs::Counts::inboxes_kept, crate::proofs::Counts::there_set, crate::proofs::Counts::put_back))]
-fn take_at(inboxes: &mut Vec<Option<Receiver>>, from: u8) -> Option<Request>
+fn take_at(inboxes: &mut Vec<Option<Receiver>>, from: u8) -> Option<Slot>
     requires { from < length inboxes.old.items }
     ensures taken { IfSome result (λ request. inboxes.new.items
         ≡ slice_set inboxes.old.items from
@@ -324,6 +331,7 @@ impl HartPort {
     }
 
     /// How many harts there are.
+    #[inline(always)]
     pub(crate) fn harts(&self) -> u16
         ensures harts { result ≡ self.now.setup.harts }
         ensures own { self.now.hart < result }
@@ -336,6 +344,7 @@ impl HartPort {
     }
 
     /// Whether the board has a hart of this number, and it is not the port's own.
+    #[inline(always)]
     pub(crate) fn is_other(&self, hart: u8) -> bool
         ensures pair { result ≡ are_pair self.now.setup self.now.hart hart }
         ensures outbox { IsTrue result → hart < length self.now.outboxes }
@@ -453,6 +462,7 @@ impl HartPort {
     }
 
     /// The request of an open ticket for another hart, to whom it was not posted yet.
+    #[inline(always)]
     fn request_to(&self, ticket: u32, to: u8) -> Result<Request, Refusal>
         ensures refused { IfErr result (λ refusal. ticket_refusal self.now ticket to
             ≡ Some refusal) }
@@ -542,9 +552,10 @@ impl HartPort {
         if !self.is_other(from) {
             return Err(Refusal::NoHart);
         }
-        let Some(request) = take_at(&mut self.inboxes, from) else {
+        let Some(slot) = take_at(&mut self.inboxes, from) else {
             return Err(Refusal::Empty);
         };
+        let request = slot.request();
         let HartPort {
             config,
             memory,

@@ -7,6 +7,7 @@ use crate::inbox::Inbox;
 use crate::outbox::Outbox;
 use crate::pair::take_waiting;
 use crate::report::PairReport;
+use crate::slot::Slot;
 use shoot::Request;
 use std::alloc::{AllocError, Global};
 use std::marker::Model;
@@ -43,15 +44,16 @@ impl Receiver {
         Ok(Receiver { inbox, waiting })
     }
 
-    /// Takes the oldest request that came through.
-    pub(crate) fn take(&mut self) -> Option<Request>
+    /// Takes the oldest request that came through, as it lies in the ring.
+    #[inline(always)]
+    pub(crate) fn take(&mut self) -> Option<Slot>
         ensures some { IfSome result (λ request. self.new
             ≡ with_taken self.old request self.new.known) }
         ensures oldest { IfSome result (λ request.
             IsPrefix self.old.known (request ∷ self.new.known)) }
         ensures none { IfNone result ((self.old.known ≡ []) × (self.new ≡ self.old)) }
     {
-        self.inbox.take()
+        self.inbox.take_slot()
     }
 
     /// What became of the requests that the two ends carried.

@@ -1,33 +1,17 @@
 -- What bytes and tests say of sets of harts.
-use Rattle.std.proofs.Common.{◌≡◌, ◌∙◌, sym, ap, refl, ℕ, zero, suc, ◌+◌, ◌<◌, ◌≤◌, ◌^◌, Bool, true, false, not, ◌&&◌, ◌↔◌, List, [], ◌∷◌, length, IsTrue, arith, eqb}
-use Rattle.std.proofs.lemmas.Bool.{eqb-true, and_parts}
-use Rattle.std.proofs.lemmas.Bool.Decides.{nat_tests}
+use Rattle.std.proofs.Common.{◌≡◌, ◌∙◌, sym, ap, refl, ℕ, zero, suc, ◌<◌, Bool, true, false, not, ◌&&◌, ◌↔◌, List, [], ◌∷◌, length, IsTrue, arith, eqb}
+use Rattle.std.proofs.lemmas.Bool.{and_parts}
 use Rattle.std.proofs.lemmas.List.Folds.{list_all-map}
-use Rattle.std.specs.List.{range_with_len, list_all}
+use Rattle.std.specs.List.{list_all}
 use Rattle.std.specs.Int.{bit_at}
-use Rattle.shoot.specs.HartSet.{all_harts, contains, harts_where, harts_in, byte_of, difference}
+use Rattle.shoot.specs.HartSet.{all_harts, contains, harts_where, byte_of, difference}
 use Rattle.shoot.specs.Tickets.{is_done}
 use Rattle.pte.specs.declared.TheConstants.{MAX_HARTS}
 use Rattle.shoot.specs.declared.tickets.Ticket.{Ticket}
-use Rattle.shoot.proofs.HartSets.{by_test, contains_where}
+use Rattle.shoot.proofs.HartBits.{all_pass, pass_all}
+use Rattle.shoot.proofs.HartSets.{contains_where}
 
--- ---- tests of all numbers, and of all lists of a length
-
-all_pass : (test : ℕ → Bool) (from count : ℕ) → list_all test (range_with_len from count) ≡ true → (n : ℕ) → from ≤ n → n < from + count → test n ≡ true
-all_pass test from zero h n above below = absurd (omega arith)
-all_pass test from (suc count) h n above below =
-    let parts = and_parts (test from) (list_all test (range_with_len (from + 1) count)) h in
-    by_test (λ same. test n ≡ true) (eqb from n)
-    (λ e. let same : from ≡ n = eqb-true from n e in ap test (sym same) ∙ parts.0)
-    (λ e. all_pass test (from + 1) count parts.1 n (next from n e above) (omega arith))
-  where
-    next : (from n : ℕ) → eqb from n ≡ false → from ≤ n → from + 1 ≤ n
-    next from n e above = grind (arith, nat_tests)
-
-pass_all : (test : ℕ → Bool) (from count : ℕ) → ((n : ℕ) → from ≤ n → n < from + count → test n ≡ true) → list_all test (range_with_len from count) ≡ true
-pass_all test from zero h = refl
-pass_all test from (suc count) h =
-    rw (h from (omega arith) (omega arith)) (pass_all test (from + 1) count (λ n above below. h n (omega arith) (omega arith)))
+-- ---- tests of all lists of a length
 
 all_lists : ℕ → (List Bool → Bool) → Bool
 all_lists zero test = test []
@@ -73,14 +57,6 @@ bit_told set hart below =
     let all : bits_agree bits ≡ true = of_all_lists MAX_HARTS bits_agree every_bit bits refl in
     let here = agree-same _ _ (all_pass (λ n. agree (eqb (bit_at (byte_of bits) n) 1) (contains bits n)) 0 MAX_HARTS all hart (omega arith) below) in
     ap (λ byte. eqb (bit_at byte hart) 1) (sym (byte_read set)) ∙ (here ∙ contains_where (contains set) hart below)
-
-every_byte : list_all (λ byte. eqb (byte_of (harts_in byte)) byte) (range_with_len 0 256) ≡ true
-unfolding byte_of
-every_byte = refl
-
--- the byte of the set that a byte stands for is that byte
-pub byte_back : (byte : ℕ) → byte < 2 ^ 8 → byte_of (harts_in byte) ≡ byte
-byte_back byte below = eqb-true _ _ (all_pass (λ n. eqb (byte_of (harts_in n)) n) 0 256 every_byte byte (omega arith) (omega arith))
 
 -- ---- what is left
 

@@ -54,7 +54,7 @@ where_with f hart = set_map f 0 MAX_HARTS hart hart (omega arith)
 pub contains_where : (f : ℕ → Bool) (hart : ℕ) → hart < MAX_HARTS → contains (harts_where f) hart ≡ f hart
 contains_where f hart h = let same : 0 + hart ≡ hart = omega arith in get_map f 0 MAX_HARTS hart h ∙ ap f same
 
-get_map_past : (f : ℕ → Bool) (from count at : ℕ) → count ≤ at → unwrap_or (slice_get (map f (range_with_len from count)) at) false ≡ false
+pub get_map_past : (f : ℕ → Bool) (from count at : ℕ) → count ≤ at → unwrap_or (slice_get (map f (range_with_len from count)) at) false ≡ false
 get_map_past f from zero at h = refl
 get_map_past f from (suc count) zero h = absurd (omega arith)
 get_map_past f from (suc count) (suc at) h = get_map_past f (from + 1) count at (omega arith)

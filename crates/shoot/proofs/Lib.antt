@@ -1,5 +1,6 @@
 pub mod AcknowledgementWords
 pub mod FreeTickets
+pub mod HartBits
 pub mod HartBytes
 pub mod HartSets
 pub mod MailboxLaws

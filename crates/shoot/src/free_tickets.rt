@@ -33,6 +33,7 @@ impl FreeTickets {
     }
 
     /// The lowest number that is free.
+    #[inline(always)]
     pub(crate) fn lowest(&self) -> Option<usize>
         ensures lowest { result ≡ lowest_marked self.now }
         ensures below { IfSome result (λ number. number < MAX_TICKETS) }
@@ -45,6 +46,7 @@ impl FreeTickets {
     }
 
     /// The ticket is free from now on.
+    #[inline(always)]
     #[tactic(auto, using(crate::proofs::FreeTickets::marked))]
     pub(crate) fn insert(&mut self, ticket: usize)
         requires { ticket < MAX_TICKETS }
@@ -54,6 +56,7 @@ impl FreeTickets {
     }
 
     /// The ticket is no longer free.
+    #[inline(always)]
     #[tactic(auto, using(crate::proofs::FreeTickets::unmarked))]
     pub(crate) fn remove(&mut self, ticket: usize)
         requires { ticket < MAX_TICKETS }

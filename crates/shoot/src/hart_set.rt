@@ -1,6 +1,6 @@
 //! Sets of harts.
 
-ghost use Rattle.std.specs.Prelude.{◌≡◌, ◌<◌, ◌≤◌, ◌^◌, ◌&&◌, not, slice_set, true};
+ghost use Rattle.std.specs.Prelude.{◌≡◌, slice_set, true};
 
 use pte::MAX_HARTS;
 use std::marker::Model;
@@ -8,17 +8,23 @@ use std::marker::Model;
 /// A set of harts, by their numbers.
 #[derive(Clone, Copy, PartialEq, Eq, Debug)]
 pub struct HartSet {
-    members: [bool; MAX_HARTS],
+    // Bit h is set where hart h is in the set.
+    bits: u8,
 }
 
 impl Model for HartSet {
-    ghost use Rattle.std.specs.Prelude.{List, Bool};
+    ghost use Rattle.std.specs.Prelude.{◌≡◌, List, Bool};
+    ghost use Rattle.shoot.specs.HartSet.{byte_of, harts_in};
 
     ghost Value = { List Bool };
 
-    ghost view = { λ s. s.members };
+    ghost view = { λ s. harts_in s.bits };
 
-    ghost inverse = { λ s. record { members = s } };
+    ghost invariant = { λ s. byte_of (harts_in s.bits) ≡ s.bits };
+
+    ghost inverse = { λ set. record { bits = byte_of set } };
+
+    ghost inverse_ok = { λ s h i. record { bits = h i } };
 }
 
 impl From<u8> for HartSet {
@@ -27,90 +33,62 @@ impl From<u8> for HartSet {
     ghost from_gives = { λ byte set. set ≡ harts_in byte };
 
     /// Bit h of the byte stands for hart h.
+    #[inline(always)]
+    #[tactic(auto, using(crate::proofs::HartBits::byte_back))]
     fn from(byte: u8) -> HartSet {
-        HartSet {
-            members: [
-                byte & 1 == 1,
-                (byte >> 1) & 1 == 1,
-                (byte >> 2) & 1 == 1,
-                (byte >> 3) & 1 == 1,
-                (byte >> 4) & 1 == 1,
-                (byte >> 5) & 1 == 1,
-                (byte >> 6) & 1 == 1,
-                (byte >> 7) & 1 == 1,
-            ],
-        }
+        HartSet { bits: byte }
     }
 }
 
 impl HartSet {
-    ghost use Rattle.shoot.specs.HartSet.{no_harts, contains, difference, is_empty, bit_of};
+    ghost use Rattle.shoot.specs.HartSet.{no_harts, contains, difference, is_empty};
 
     /// No hart.
+    #[inline(always)]
+    #[tactic(auto, unfolding(crate::specs::HartSet::byte_of))]
     pub fn new() -> HartSet
         ensures { result ≡ no_harts }
     {
-        HartSet {
-            members: [false; MAX_HARTS],
-        }
+        HartSet { bits: 0 }
     }
 
     /// Whether the hart is in the set. A number that no hart can have is not.
+    #[inline(always)]
+    #[tactic(auto, using(crate::proofs::HartBits::none_past))]
     pub fn contains(&self, hart: u8) -> bool
         ensures { result ≡ contains self.now hart }
     {
-        self.members.get(hart as usize).copied().unwrap_or(false)
+        (hart as usize) < MAX_HARTS && (self.bits >> hart) & 1 == 1
     }
 
     /// Puts a hart in the set. A number that no hart can have is left out.
+    #[inline(always)]
+    #[tactic(auto, using(crate::proofs::HartBits::none_put))]
     pub fn insert(&mut self, hart: u8)
         ensures { self.new ≡ slice_set self.old hart true }
     {
         if (hart as usize) < MAX_HARTS {
-            self.members[hart as usize] = true;
+            self.bits |= 1 << hart;
         }
     }
 
     /// The harts of this set that are not in the other.
-    #[tactic(auto, unfolding(crate::specs::HartSet::difference))]
+    #[inline(always)]
     pub fn difference(&self, other: &HartSet) -> HartSet
         ensures { result ≡ difference self.now other.now }
     {
         HartSet {
-            members: [
-                self.has_beyond(other, 0),
-                self.has_beyond(other, 1),
-                self.has_beyond(other, 2),
-                self.has_beyond(other, 3),
-                self.has_beyond(other, 4),
-                self.has_beyond(other, 5),
-                self.has_beyond(other, 6),
-                self.has_beyond(other, 7),
-            ],
+            bits: self.bits & !other.bits,
         }
     }
 
-    /// Whether the hart is in this set alone.
-    fn has_beyond(&self, other: &HartSet, hart: u8) -> bool
-        ensures { result ≡ (contains self.now hart && not (contains other.now hart)) }
-    {
-        self.contains(hart) && !other.contains(hart)
-    }
-
     /// Whether no hart is in the set.
+    #[inline(always)]
+    #[tactic(auto, using(crate::proofs::HartBits::no_bits))]
     pub fn is_empty(&self) -> bool
         ensures { result ≡ is_empty self.now }
     {
-        self.members.iter().all(|member| !member)
-    }
-
-    /// The bit of a hart, where it is in the set.
-    fn bit(&self, hart: u8) -> u8
-        requires { hart < MAX_HARTS }
-        ensures bit { result ≡ bit_of self.now hart }
-        ensures bounded { result ≤ 2 ^ hart }
-    {
-        if self.contains(hart) { 1 << hart } else { 0 }
+        self.bits == 0
     }
 }
 
@@ -120,16 +98,9 @@ impl From<HartSet> for u8 {
     ghost from_gives = { λ set byte. byte ≡ byte_of set };
 
     /// Bit h of the byte is set where hart h is in the set.
-    #[tactic(auto, unfolding(crate::specs::HartSet::byte_of))]
+    #[inline(always)]
     fn from(set: HartSet) -> u8 {
-        set.bit(0)
-            + set.bit(1)
-            + set.bit(2)
-            + set.bit(3)
-            + set.bit(4)
-            + set.bit(5)
-            + set.bit(6)
-            + set.bit(7)
+        set.bits
     }
 }
 

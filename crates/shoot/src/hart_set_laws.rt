@@ -8,7 +8,7 @@ use pte::MAX_HARTS;
 
 /// Bit h of the byte of a set is 1 exactly if hart h is in the set, and a byte is the byte of the
 /// set that it stands for.
-#[tactic(auto, using(crate::proofs::HartBytes::bit_told, crate::proofs::HartBytes::byte_back))]
+#[tactic(auto, using(crate::proofs::HartBytes::bit_told, crate::proofs::HartBits::byte_back))]
 pub fn bytes_are_sets_of_harts()
     ensures bits { (set : List Bool) (hart : ℕ) → hart < MAX_HARTS
         → (bit_at (byte_of set) hart == 1) ≡ contains set hart }

@@ -89,6 +89,7 @@ impl Ticket {
     ghost use Rattle.shoot.specs.Tickets.{is_done, progress, ticket_for, with_posted, with_acked, with_collected};
 
     /// A ticket that names these harts.
+    #[inline(always)]
     fn new(what: What, named: &HartSet) -> Ticket
         ensures { result ≡ ticket_for what named.now }
     {
@@ -101,12 +102,14 @@ impl Ticket {
         }
     }
 
+    #[inline(always)]
     fn mark_posted(&mut self, to: u8)
         ensures { self.new ≡ with_posted to self.old }
     {
         self.posted.insert(to);
     }
 
+    #[inline(always)]
     fn mark_acked(&mut self, home: u8, from: u8)
         ensures { self.new ≡ with_acked home from self.old }
     {
@@ -116,6 +119,7 @@ impl Ticket {
         }
     }
 
+    #[inline(always)]
     fn mark_collected(&mut self, from: u8)
         ensures { self.new ≡ with_collected from self.old }
     {
@@ -125,6 +129,7 @@ impl Ticket {
     }
 
     /// Whether each named hart is collected.
+    #[inline(always)]
     fn is_done(&self) -> bool
         ensures { result ≡ is_done self.now }
     {
@@ -132,6 +137,7 @@ impl Ticket {
     }
 
     /// How far the ticket is.
+    #[inline(always)]
     fn progress(&self) -> Collected
         ensures { result ≡ progress self.now }
     {
@@ -159,6 +165,7 @@ impl Tickets {
         }
     }
 
+    #[inline(always)]
     fn get(&self, ticket: u32) -> Option<&Ticket>
         ensures ticket { option_copied result ≡ ticket_at self.now ticket }
         ensures below { IsSome result → ticket < MAX_TICKETS }
@@ -175,6 +182,7 @@ impl Tickets {
         put(&mut self.tickets, number, Some(ticket));
     }
 
+    #[inline(always)]
     #[tactic(auto, using(crate::proofs::FreeTickets::lowest_of_test))]
     fn lowest_free(&self) -> Option<usize>
         ensures lowest { result ≡ lowest_free self.now }
@@ -263,6 +271,7 @@ impl Tickets {
     }
 
     /// How far an open ticket is.
+    #[inline(always)]
     pub fn progress(&self, ticket: u32) -> Collected
         requires { IsTrue (is_open self.now ticket) }
         ensures { result ≡ progress_at self.now ticket }
@@ -275,6 +284,7 @@ impl Tickets {
 
     /// Whether each hart that an open ticket names is collected, or `None` exactly if the ticket is
     /// not open.
+    #[inline(always)]
     pub fn is_done(&self, ticket: u32) -> Option<bool>
         ensures { result ≡ option_map is_done (ticket_at self.now ticket) }
     {
@@ -300,6 +310,7 @@ impl Tickets {
     }
 
     /// Whether the ticket is open.
+    #[inline(always)]
     pub fn is_open(&self, ticket: u32) -> bool
         ensures open { result ≡ is_open self.now ticket }
         ensures below { IsTrue result → ticket < MAX_TICKETS }
@@ -308,6 +319,7 @@ impl Tickets {
     }
 
     /// Whether the ticket is open and names the hart.
+    #[inline(always)]
     pub fn names(&self, ticket: u32, hart: u8) -> bool
         ensures { result ≡ names self.now ticket hart }
     {
@@ -316,6 +328,7 @@ impl Tickets {
     }
 
     /// Whether an open ticket was posted to the hart.
+    #[inline(always)]
     pub fn is_posted(&self, ticket: u32, hart: u8) -> bool
         requires { IsTrue (is_open self.now ticket) }
         ensures { result ≡ ticket_posted self.now ticket hart }
@@ -325,6 +338,7 @@ impl Tickets {
     }
 
     /// Whether the hart acknowledged an open ticket.
+    #[inline(always)]
     pub fn is_acked(&self, ticket: u32, hart: u8) -> bool
         requires { IsTrue (is_open self.now ticket) }
         ensures { result ≡ ticket_acked self.now ticket hart }
@@ -334,6 +348,7 @@ impl Tickets {
     }
 
     /// Whether the hart's acknowledgement of an open ticket is collected.
+    #[inline(always)]
     pub fn is_collected(&self, ticket: u32, hart: u8) -> bool
         requires { IsTrue (is_open self.now ticket) }
         ensures { result ≡ ticket_collected self.now ticket hart }
@@ -342,7 +357,15 @@ impl Tickets {
             .is_some_and(|open| open.collected.contains(hart))
     }
 
+    /// The open ticket of a number.
+    pub fn ticket(&self, ticket: u32) -> Option<Ticket>
+        ensures { result ≡ ticket_at self.now ticket }
+    {
+        self.get(ticket).copied()
+    }
+
     /// What an open ticket asks the named harts to drop.
+    #[inline(always)]
     pub fn what(&self, ticket: u32) -> What
         requires { IsTrue (is_open self.now ticket) }
         ensures { what_at self.now ticket ≡ Some result }

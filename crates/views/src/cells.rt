@@ -127,6 +127,15 @@ pub(crate) fn acknowledge_self(
     store::<Brand, _>(words, seat, at, word, &(request.ticket, request.what))
 }
 
+/// Whether a word that stands in a cell acknowledges the request. What an armed cell holds, 0, is
+/// the word of no request, so most looks need none.
+#[inline(always)]
+fn acknowledges(word: u64, request: &Request) -> bool
+    ensures { result ≡ (word == acknowledgement request.now.what) }
+{
+    word != 0 && word == encode(request)
+}
+
 /// The load of a receiver's cell by the sender, for the open order of the request's ticket, for
 /// which the cell was armed. Whether it holds the request's word: then the receiver is collected.
 pub fn collect(
@@ -151,5 +160,5 @@ pub fn collect(
 {
     let at = cell(config, hart, request.ticket, from);
     let word = load::<Brand, _>(words, seat, at, &(from, request.ticket, request.what));
-    word == encode(request)
+    acknowledges(word, request)
 }
