@@ -24,6 +24,8 @@ mod first_threads;
 #[cfg(test)]
 mod locked;
 #[cfg(test)]
+mod long_runs;
+#[cfg(test)]
 mod machine;
 #[cfg(test)]
 mod mailboxes;

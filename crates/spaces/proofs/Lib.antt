@@ -8,6 +8,7 @@ pub mod WordLists
 pub mod Trees
 pub mod EntryWords
 pub mod Pointers
+pub mod UserHalves
 pub mod EndPaths
 pub mod Accepting
 pub mod Keeping

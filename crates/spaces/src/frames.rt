@@ -154,26 +154,19 @@ impl Memory {
     }
 
     /// How many frames there are.
+    #[inline(always)]
     fn frame_count(&self) -> u64
         ensures { result ≡ frame_count self.now.layout }
     {
         (self.words.len() / usize::from(TABLE_LENGTH)) as u64
     }
 
-    /// Where a word stands, if the memory has it.
-    fn word_index(&self, ppn: u64, index: u16) -> Option<usize>
-        ensures { result
-            ≡ (if is_word self.now.layout ppn index then Some (word_index self.now.layout ppn index)
-            else None) }
+    /// Whether the memory has the word. A PPN below the first wraps to one above the last.
+    #[inline(always)]
+    fn is_word(&self, ppn: u64, index: u16) -> bool
+        ensures { result ≡ is_word self.now.layout ppn index }
     {
-        let is_word = self.base <= ppn
-            && ppn < self.base + self.frame_count()
-            && index < TABLE_LENGTH;
-        if is_word {
-            Some(((ppn - self.base) * u64::from(TABLE_LENGTH) + u64::from(index)) as usize)
-        } else {
-            None
-        }
+        ppn.wrapping_sub(self.base) < self.frame_count() && index < TABLE_LENGTH
     }
 
     /// Whether the memory has the place.
@@ -189,6 +182,7 @@ impl Memory {
     }
 
     /// The scheme of translation.
+    #[inline(always)]
     pub fn scheme(&self) -> Scheme
         ensures { result ≡ self.now.layout.scheme }
     {
@@ -196,6 +190,7 @@ impl Memory {
     }
 
     /// The PPN of the root of a space.
+    #[inline(always)]
     pub fn root(&self, space: u8) -> u64
         requires { space < length self.now.layout.homes }
         ensures value { result ≡ root_ppn self.now.layout space }
@@ -347,9 +342,13 @@ impl Words for Memory {
 
     ghost words = { memory_words };
 
+    #[inline(always)]
     #[tactic(auto, unfolding(crate::specs::Held::memory_words))]
     fn word(&self, ppn: u64, index: u16) -> Option<u64> {
-        let at = self.word_index(ppn, index)?;
-        self.words.get(at).copied()
+        if self.is_word(ppn, index) {
+            Some(self.word_there(ppn, index))
+        } else {
+            None
+        }
     }
 }

@@ -1,10 +1,11 @@
 //! What is wished of a page, and which word it takes.
 
-ghost use Rattle.std.specs.Prelude.{ℕ, ◌≡◌, ◌<◌, ◌≤◌, ◌^◌, IfSome, None, false, Ok};
+ghost use Rattle.std.specs.Prelude.{ℕ, ◌≡◌, ◌<◌, ◌≤◌, ◌^◌, ◌||◌, IfSome, None, false, nat_le, not, Ok};
+ghost use Rattle.pte.specs.Address.{fits, top_level, vpn_of};
+ghost use Rattle.spaces.specs.Layout.{user_slots};
 ghost use Rattle.pte.specs.Entry.{is_no_leaf, leaf_word};
 ghost use Rattle.pte.specs.declared.entry.TheConstants.{PPN_BITS};
 
-use crate::edit_walks::USER_SLOTS;
 use crate::faults::MapFault;
 use crate::places::Place;
 use bitflags::Flags;
@@ -53,6 +54,18 @@ fn leaf_word(ppn: u64, flags: PteFlags) -> Result<u64, MapFault>
         Err(LeafFault::BadFlags) => Err(MapFault::BadFlags),
         Err(LeafFault::PpnTooLarge) => Err(MapFault::PpnTooLarge),
     }
+}
+
+/// Whether the page is none of the scheme's user half, whose addresses have no bit from the highest
+/// of the scheme on.
+#[inline(always)]
+#[tactic(auto, using(crate::proofs::UserHalves::user_half))]
+fn is_no_user_page(page: Page, scheme: Scheme) -> bool
+    ensures { result
+        ≡ (not (fits scheme page) || nat_le user_slots (vpn_of page.base (top_level scheme))) }
+{
+    page.size().level() > scheme.top_level()
+        || page.base().get() >> (scheme.address_bits() - 1) != 0
 }
 
 impl Place {
@@ -141,13 +154,13 @@ impl Wish {
             (page_of self.now) }
     {
         let page = self.page();
-        let base = page.base();
-        let slot = base.vpn(scheme.top_level());
-        let is_outside = match self.place() {
-            Place::Space(_) => slot >= USER_SLOTS,
-            Place::Kernel => slot < TABLE_LENGTH - window,
-        };
-        !page.fits(scheme) || is_outside
+        match self.place() {
+            Place::Space(_) => is_no_user_page(page, scheme),
+            Place::Kernel => {
+                let slot = page.base().vpn(scheme.top_level());
+                !page.fits(scheme) || slot < TABLE_LENGTH - window
+            }
+        }
     }
 
     /// Why the wish is refused if it has a table at its page's level.

@@ -42,8 +42,8 @@ use Rattle.spaces.specs.declared.places.Place.TheVariants.{Space, Kernel}
 use Rattle.spaces.specs.Layout.{home_of}
 use Rattle.stepcore.specs.declared.space_state.Phase.{Phase}
 use Rattle.stepcore.specs.declared.space_state.Phase.TheVariants as phase
-use Rattle.stepcore.specs.declared.hart.AtOnce.{AtOnce}
-use Rattle.stepcore.specs.declared.hart.AtOnce.TheVariants as at_once
+use Rattle.stepcore.specs.declared.hart.AccessReply.{AccessReply}
+use Rattle.stepcore.specs.declared.hart.AccessReply.TheVariants as short
 use Rattle.stepcore.specs.declared.serving.Serving.{Serving as Service}
 use Rattle.stepcore.specs.declared.space_state.SpaceState.{SpaceState}
 use Rattle.stepcore.specs.State.{State, HartState, setup_in, words_in, holders_in, hart_at, space_at, tickets_at, mailbox_at}
@@ -99,10 +99,13 @@ request_of_scope m scope.All = All
 abbrev pub asid_of_hart : State → HartState → ℕ
 asid_of_hart m hart = (space_at m hart.space).asid
 
--- what an access is answered at once, as a reply
-abbrev pub reply_at_once : AtOnce → Reply
-reply_at_once (at_once.Hit pa) = reply.Hit pa
-reply_at_once (at_once.Trap trap) = reply.Trap trap
+-- what an access or a load is answered, as a reply
+abbrev pub reply_to_access : AccessReply → Reply
+reply_to_access short.More = reply.More
+reply_to_access (short.Filled pa) = reply.Filled pa
+reply_to_access (short.Trap trap) = reply.Trap trap
+reply_to_access (short.Hit pa) = reply.Hit pa
+reply_to_access (short.Refused refusal) = reply.Refused refusal
 
 abbrev pub access_answer : State → HartState → ℕ → Access → Ctx → Reply
 access_answer m hart va access ctx =

@@ -19,8 +19,8 @@ impl Machine {
                 va,
                 access,
                 ctx,
-            } => self.begin(hart, va, access, ctx),
-            Event::Load { hart } => self.load(hart),
+            } => Ok(self.begin(hart, va, access, ctx).reply()),
+            Event::Load { hart } => Ok(self.load(hart).reply()),
             Event::Map {
                 hart,
                 place,

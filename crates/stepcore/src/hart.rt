@@ -9,22 +9,43 @@ ghost use Rattle.history.specs.Due.{match_reply};
 ghost use Rattle.history.specs.Turns.{is_more};
 ghost use Rattle.history.specs.declared.reply.Reply.TheVariants.{More};
 ghost use Rattle.stepcore.specs.State.{new_hart};
-ghost use Rattle.stepcore.specs.Answers.{progress_answer, reply_at_once};
+ghost use Rattle.stepcore.specs.Answers.{progress_answer, reply_to_access};
 ghost use Rattle.stepcore.specs.Changes.{is_accepted, with_progress, with_served};
 
 use crate::serving::Serving;
-use history::Reply;
+use history::{Refusal, Reply};
 use pte::{Access, Ctx, Scheme, VirtAddr, What};
 use shoot::Request;
 use std::marker::Model;
 use tlb::{Entry, Tlb};
 use walk::{Progress, Trap, Walk};
 
-/// What an access is answered at once, with no walk.
+/// A reply to an access or a load. It takes fewer bytes than a `Reply`, of which it makes one.
 #[derive(Clone, Copy, PartialEq, Eq, Debug)]
-pub(crate) enum AtOnce {
-    Hit(u64),
+pub(crate) enum AccessReply {
+    More,
+    Filled(u64),
     Trap(Trap),
+    Hit(u64),
+    Refused(Refusal),
+}
+
+impl AccessReply {
+    ghost use Rattle.stepcore.specs.Answers.{reply_to_access};
+
+    /// The same as a `Reply`.
+    #[inline(always)]
+    pub(crate) fn reply(self) -> Reply
+        ensures { result ≡ reply_to_access self }
+    {
+        match self {
+            AccessReply::Hit(pa) => Reply::Hit(pa),
+            AccessReply::Trap(trap) => Reply::Trap(trap),
+            AccessReply::More => Reply::More,
+            AccessReply::Filled(pa) => Reply::Filled(pa),
+            AccessReply::Refused(refusal) => Reply::Refused(refusal),
+        }
+    }
 }
 
 /// A hart: the space that it runs in, the walk in flight, the request that it serves, and its TLB.
@@ -64,6 +85,7 @@ impl Hart {
     }
 
     /// The space that it runs in.
+    #[inline(always)]
     pub fn space(&self) -> u8
         ensures { result ≡ self.now.space }
     {
@@ -71,6 +93,7 @@ impl Hart {
     }
 
     /// Its walk in flight.
+    #[inline(always)]
     pub fn walk(&self) -> Option<Walk>
         ensures { result ≡ self.now.walk }
     {
@@ -84,12 +107,14 @@ impl Hart {
         self.serving
     }
 
+    #[inline(always)]
     pub(crate) fn is_walking(&self) -> bool
         ensures { result ≡ is_some self.now.walk }
     {
         self.walk.is_some()
     }
 
+    #[inline(always)]
     pub(crate) fn is_serving(&self) -> bool
         ensures { result ≡ is_some self.now.serving }
     {
@@ -104,6 +129,7 @@ impl Hart {
     }
 
     /// The oldest entry of the TLB that matches an address for an ASID.
+    #[inline(always)]
     pub fn lookup(&self, asid: u16, va: VirtAddr) -> Option<Entry>
         ensures oldest { result ≡ first_match self.now.entries asid va }
         ensures translates { IsSome result ↔ Translates (IsMappedBy self.now.entries) asid va }
@@ -112,17 +138,25 @@ impl Hart {
     }
 
     /// What the TLB answers to an access of an address, if an entry matches.
-    pub(crate) fn access(&self, asid: u16, va: VirtAddr, access: Access, ctx: Ctx) -> Option<AtOnce>
-        ensures answers { IfSome result (λ answer. reply_at_once answer
+    #[inline(always)]
+    pub(crate) fn access(
+        &self,
+        asid: u16,
+        va: VirtAddr,
+        access: Access,
+        ctx: Ctx,
+    ) -> Option<AccessReply>
+        ensures answers { IfSome result (λ answer. reply_to_access answer
             ≡ match_reply va access ctx (first_match self.now.entries asid va)) }
-        ensures ends { IfSome result (λ answer. is_more (reply_at_once answer) ≡ false) }
+        ensures ends { IfSome result (λ answer. (is_more (reply_to_access answer) ≡ false)
+            × (is_accepted (reply_to_access answer) ≡ true)) }
         ensures misses { IfNone result
             (match_reply va access ctx (first_match self.now.entries asid va) ≡ More) }
     {
         let entry = self.lookup(asid, va)?;
         match entry.translate(va, access, ctx) {
-            Ok(pa) => Some(AtOnce::Hit(pa)),
-            Err(trap) => Some(AtOnce::Trap(trap)),
+            Ok(pa) => Some(AccessReply::Hit(pa)),
+            Err(trap) => Some(AccessReply::Trap(trap)),
         }
     }
 
@@ -132,6 +166,7 @@ impl Hart {
         self.space = space;
     }
 
+    #[inline(always)]
     pub(crate) fn begin(&mut self, walk: Walk)
         ensures { self.new ≡ record self.old { walk = Some walk } }
     {
@@ -140,24 +175,25 @@ impl Hart {
 
     /// Goes on as a load of the walk says, which it answers: what the walk found goes into the TLB,
     /// for an ASID.
-    pub(crate) fn load(&mut self, asid: u16, progress: &Progress) -> Reply
-        ensures reply { result ≡ progress_answer progress.now }
-        ensures accepted { is_accepted result ≡ true }
+    #[inline(always)]
+    pub(crate) fn load(&mut self, asid: u16, progress: &Progress) -> AccessReply
+        ensures reply { reply_to_access result ≡ progress_answer progress.now }
+        ensures accepted { is_accepted (reply_to_access result) ≡ true }
         ensures after { self.new ≡ with_progress asid progress.now self.old }
     {
         match progress {
             Progress::More(walk) => {
                 self.walk = Some(*walk);
-                Reply::More
+                AccessReply::More
             }
             Progress::Found(found) => {
                 self.walk = None;
                 self.tlb.fill(Entry::found(asid, found));
-                Reply::Filled(found.pa)
+                AccessReply::Filled(found.pa)
             }
             Progress::Trap(trap) => {
                 self.walk = None;
-                Reply::Trap(*trap)
+                AccessReply::Trap(*trap)
             }
         }
     }

@@ -3,6 +3,7 @@
 #![tactic(auto)]
 
 mod accesses;
+mod appending;
 mod conditions;
 mod editing;
 mod events;

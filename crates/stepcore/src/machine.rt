@@ -91,6 +91,7 @@ impl Machine {
     }
 
     /// Whether the hart exists.
+    #[inline(always)]
     pub(crate) fn is_hart(&self, hart: u8) -> bool
         ensures { result ≡ is_hart (setup_in self.now) hart }
     {
@@ -189,6 +190,7 @@ impl Machine {
     }
 
     /// A hart that exists: its space, its walk, what it serves, and its TLB.
+    #[inline(always)]
     pub fn hart(&self, hart: u8) -> &Hart
         requires { hart < length self.now.harts }
         ensures { result.now ≡ hart_at self.now hart }
@@ -227,6 +229,7 @@ impl Machine {
     }
 
     /// The ASID of the space that a hart runs in.
+    #[inline(always)]
     pub fn asid(&self, hart: u8) -> u16
         requires { hart < length self.now.harts }
         ensures { result ≡ asid_of_hart self.now (hart_at self.now hart) }

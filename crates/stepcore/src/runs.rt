@@ -1,31 +1,19 @@
 //! Steps and runs.
 
-ghost use Rattle.std.specs.Prelude.{◌≡◌, ◌≤◌, ◌+◌, ◌++◌, ◌∷◌, [], ◌↔◌, IsOk, OnOk, false, length, take};
-ghost use Rattle.std.specs.Vec.{vec_capacity, vec_len};
+ghost use Rattle.std.specs.Prelude.{◌≡◌, ◌≤◌, ◌↔◌, IsOk, OnOk, false, length, take};
 ghost use Rattle.history.specs.Setup.{Setup};
 ghost use Rattle.history.specs.Turns.{History};
 ghost use Rattle.history.specs.Runs.{due_replies, with_turn};
 ghost use Rattle.history.specs.Due.{due};
-ghost use Rattle.stepcore.specs.Changes.{Follows, is_accepted, reply_of};
+ghost use Rattle.stepcore.specs.Changes.{Follows, is_accepted};
 ghost use Rattle.stepcore.specs.Runs.{after_run, appended, AreDue, Promises};
 ghost use Rattle.stepcore.specs.Stands.{Stands};
 
+use crate::appending::{append, append_answer};
 use crate::conditions::reply_of;
 use crate::machine::Machine;
-use history::{Event, Refusal, Reply};
+use history::{Event, Reply};
 use std::alloc::AllocError;
-
-/// Appends what an event is answered, as a reply, where there is room for it.
-#[inline(always)]
-fn append(answer: Result<Reply, Refusal>, replies: &mut Vec<Reply>)
-    requires { vec_len replies.old + 1 ≤ vec_capacity replies.old }
-    ensures { replies.new.items ≡ replies.old.items ++ reply_of answer ∷ [] }
-{
-    let _ = match answer {
-        Ok(reply) => replies.push(reply),
-        Err(refusal) => replies.push(Reply::Refused(refusal)),
-    };
-}
 
 impl Machine {
     /// Does one event of one hart, or refuses it. It takes no memory. The reply is the one that is
@@ -49,6 +37,16 @@ impl Machine {
     /// machine stood, the one that is due to the event after those before it. An error comes only
     /// if there is no memory for a reply: the machine then has done the events whose replies were
     /// appended, and no other.
+    ///
+    /// A run of any length goes part by part, in the memory of one part: what `stands` says after a
+    /// part is what the clauses of the next call begin with.
+    ///
+    /// ```
+    /// for part in events.chunks(PART) {
+    ///     replies.clear();
+    ///     machine.run(part, &mut replies)?;
+    /// }
+    /// ```
     pub fn run(&mut self, events: &[Event], replies: &mut Vec<Reply>) -> Result<(), AllocError>
         ensures kept { take (length replies.old.items) replies.new.items ≡ replies.old.items }
         ensures all { IsOk result
@@ -68,10 +66,10 @@ impl Machine {
             → Promises setup (after_run events.now replies.old.items replies.new.items history)
             self.new }
     {
+        replies.reserve(events.len())?;
         for event in events {
-            replies.reserve(1)?;
             self.recall();
-            // The reply to an access is short, and a path of its own stores it by fewer moves.
+            // An access has a path of its own, since its reply is short and stored by few moves.
             match *event {
                 Event::Begin {
                     hart,
@@ -80,7 +78,7 @@ impl Machine {
                     ctx,
                 } => append(self.begin(hart, va, access, ctx), replies),
                 Event::Load { hart } => append(self.load(hart), replies),
-                _ => append(self.do_event(event), replies),
+                _ => append_answer(self.do_event(event), replies),
             }
         }
         Ok(())
