@@ -1,5 +1,6 @@
 pub mod FieldLemmas
 pub mod GrammarLemmas
+pub mod GroupLemmas
 pub mod HartLemmas
 pub mod LiveLemmas
 pub mod LiveRows

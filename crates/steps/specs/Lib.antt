@@ -5,6 +5,7 @@ pub mod Grammar
 pub mod StepFaults
 pub mod Fields
 pub mod Spelling
+pub mod Groups
 pub mod RunStep
 pub mod LiveSteps
 pub mod RunGrammar

@@ -1,6 +1,7 @@
 //! What the words of a step say, with no machine in sight.
 ghost use Rattle.std.specs.Prelude.{◌≡◌};
 ghost use Rattle.steps.specs.Spelling.{access_of_words, collect_from_of_words, collect_of_words, edit_of_words, fence_of_words, is_of_live, is_of_run, is_pair_of_live, is_pair_of_run, mailbox_step_of_words, map_of_words, protect_of_words, space_step_of_words, spelled_by, spelled_of, ticket_step_of_words, unmap_of_words};
+ghost use Rattle.steps.specs.Groups.{group_by, group_of};
 ghost use Rattle.steps.specs.Words.{words_of};
 
 use crate::fields::{
@@ -329,27 +330,71 @@ fn mailbox_step(name: &[u8], rest: &[u8]) -> Option<Spelled>
     }
 }
 
+/// The groups of names, of which one has a function below.
+#[derive(Clone, Copy)]
+enum Group {
+    Access,
+    Edit,
+    Fence,
+    Space,
+    Ticket,
+    Mailbox,
+}
+
+/// The group of a name with these letters in front, of this length.
+#[inline(always)]
+fn group_by(first: u8, second: u8, length: usize) -> Group
+    ensures { result ≡ group_by first second length }
+{
+    match first {
+        b'b' => Group::Access,
+        b'l' => Group::Access,
+        b't' if second == b'a' => Group::Mailbox,
+        b't' => Group::Access,
+        b'm' => Group::Edit,
+        b'u' => Group::Edit,
+        b'p' if second == b'o' => Group::Ticket,
+        b'p' => Group::Edit,
+        b'f' if second == b'i' => Group::Ticket,
+        b'f' => Group::Fence,
+        b'r' => Group::Space,
+        b's' if length == 10 => Group::Fence,
+        b's' if second == b'w' => Group::Space,
+        b's' => Group::Mailbox,
+        b'c' if second == b'r' => Group::Space,
+        b'c' if second == b'o' => Group::Ticket,
+        b'c' => Group::Mailbox,
+        b'w' => Group::Ticket,
+        _ if length == 7 => Group::Ticket,
+        _ => Group::Mailbox,
+    }
+}
+
+/// The group that alone can have the name.
+#[inline(always)]
+#[tactic(auto, unfolding(crate::specs::Groups::group_of))]
+fn group_for(name: &[u8]) -> Group
+    ensures { result ≡ group_of name.now }
+{
+    let first = name.first().copied().unwrap_or(0);
+    let second = name.get(1).copied().unwrap_or(0);
+    group_by(first, second, name.len())
+}
+
 /// The step of this name with the words of the text after it, in a scheme that has the sizes of its
 /// pages.
+#[tactic(auto, using(crate::proofs::GroupLemmas::said_access, crate::proofs::GroupLemmas::said_edit, crate::proofs::GroupLemmas::said_fence, crate::proofs::GroupLemmas::said_space, crate::proofs::GroupLemmas::said_ticket, crate::proofs::GroupLemmas::said_mailbox))]
 fn spelled_by(scheme: Scheme, name: &[u8], rest: &[u8]) -> Option<Spelled>
     ensures { result ≡ spelled_by scheme name.now (words_of rest.now) }
 {
-    if let Some(step) = access(name, rest) {
-        return Some(step);
+    match group_for(name) {
+        Group::Access => access(name, rest),
+        Group::Edit => edit(scheme, name, rest),
+        Group::Fence => fence(name, rest),
+        Group::Space => space_step(name, rest),
+        Group::Ticket => ticket_step(name, rest),
+        Group::Mailbox => mailbox_step(name, rest),
     }
-    if let Some(step) = edit(scheme, name, rest) {
-        return Some(step);
-    }
-    if let Some(step) = fence(name, rest) {
-        return Some(step);
-    }
-    if let Some(step) = space_step(name, rest) {
-        return Some(step);
-    }
-    if let Some(step) = ticket_step(name, rest) {
-        return Some(step);
-    }
-    mailbox_step(name, rest)
 }
 
 /// What the words of a text say, if they are a step of `run` or of `live`.
