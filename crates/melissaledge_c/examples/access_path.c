@@ -16,7 +16,7 @@ static union {
 } ram;
 
 struct hart {
-    struct mle_tlb tlb;
+    struct mle_tlb *tlb;
     uint64_t root_ppn;
     uint16_t asid;
     uint8_t mode;
@@ -33,15 +33,13 @@ static uint8_t *at(struct hart *hart, uint64_t va, unsigned size, enum mle_acces
         *cause = misaligned[kind];
         return NULL;
     }
-    status = mle_tlb_lookup(&hart->tlb, hart->asid, va, &entry);
-    if (status == MLE_OK) {
-        status = mle_entry_translate(&entry, &access, &answer);
-    } else {
+    status = mle_tlb_translate(hart->tlb, hart->asid, &access, &answer, &entry);
+    if (status == MLE_MISS) {
         const struct mle_tables tables = {RAM_PPN, FRAMES, hart->root_ppn, MLE_SV39};
         status = mle_translate(&tables, ram.words, FRAMES * 512, &access, &answer);
         if (status == MLE_OK) {
             entry = mle_entry_found(hart->asid, &answer);
-            mle_tlb_fill(&hart->tlb, &entry);
+            mle_tlb_fill(hart->tlb, &entry);
         }
     }
     *cause = status == MLE_TRAP ? answer.cause : access_fault[kind];
@@ -92,7 +90,7 @@ static void set(unsigned frame, unsigned index, uint64_t ppn, unsigned flags) {
 int main(void) {
     struct hart hart = {MLE_TLB_CLOSED, RAM_PPN, 1, MLE_USER};
     const struct mle_fence everything = {0, 0, 0, 0};
-    if (mle_tlb_open(MLE_SV39, &hart.tlb) != MLE_OK) return 1;
+    if (mle_tlb_open(16, &hart.tlb) != MLE_OK) return 1;
     set(0, 0, RAM_PPN + 1, 0x01); /* the root's pointer to the middle table */
     set(1, 0, RAM_PPN + 2, 0x01); /* its pointer to the low table */
     set(1, 1, RAM_PPN, 0xc7);     /* 2 MiB at 0x200000, all of RAM: V R W A D, for S-mode */
@@ -116,7 +114,7 @@ int main(void) {
     hart.mode = MLE_USER;
     set(2, 2, 0, 0);
     load(&hart, 0x2008);                      /* unmapped, and still in the TLB */
-    mle_tlb_fence(&hart.tlb, &everything);
+    mle_tlb_fence(hart.tlb, MLE_SV39, &everything);
     load(&hart, 0x2008);
     return mle_tlb_close(&hart.tlb) == MLE_OK ? 0 : 1;
 }

@@ -1,3 +1,6 @@
+pub mod Bounds
 pub mod LooseValues
 pub mod MachineValues
-pub mod TlbValues
+pub mod Places
+pub mod Whole
+pub mod WalkNumbers

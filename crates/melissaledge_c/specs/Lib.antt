@@ -7,7 +7,8 @@ pub mod MachineLoose
 pub mod Machines
 pub mod Replies
 pub mod Requests
-pub mod TlbHeld
-pub mod TlbLoose
+pub mod SizedTlbs
+pub mod States
 pub mod Tlbs
 pub mod Translations
+pub mod Walks

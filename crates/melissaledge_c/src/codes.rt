@@ -20,7 +20,7 @@ pub enum Fault {
     Memory,
     /// There are not 512 words a frame.
     Length,
-    /// The root table lies outside memory.
+    /// The root table's PPN is 2^44 or more.
     Root,
     /// No memory could be allocated.
     NoMemory,
@@ -38,6 +38,18 @@ pub enum Fault {
     Hart,
     /// The address is not canonical.
     Address,
+    /// The numbers are no TLB's, or a TLB can't hold so many entries.
+    Tlb,
+    /// The space does not exist.
+    Space,
+    /// The ticket is not open.
+    Ticket,
+    /// There is nothing in this place.
+    Place,
+    /// The number of a policy for A and D is neither 0 nor 1.
+    Policy,
+    /// The numbers are no walk's.
+    Walk,
 }
 
 impl Fault {
@@ -60,6 +72,12 @@ impl Fault {
             Fault::Layout => -14,
             Fault::Hart => -15,
             Fault::Address => -16,
+            Fault::Space => -17,
+            Fault::Ticket => -18,
+            Fault::Place => -19,
+            Fault::Policy => -20,
+            Fault::Walk => -21,
+            Fault::Tlb => -22,
         }
     }
 }
@@ -126,6 +144,7 @@ fn size_of(bytes: u64) -> Option<PageSize>
 }
 
 /// The page of a base and a number of bytes.
+#[inline(always)]
 pub(crate) fn page_of(base: u64, bytes: u64) -> Result<Page, Fault>
     ensures { result ≡ page_of base bytes }
 {

@@ -29,7 +29,7 @@ pub struct ReplyGiven {
 
 impl WhatAsked {
     /// The numbers of what is to be dropped.
-    fn of(what: &What) -> WhatAsked
+    pub(crate) fn of(what: &What) -> WhatAsked
         ensures { result ≡ what_given what.now }
     {
         match what {

@@ -10,7 +10,7 @@ use tlb::Entry;
 
 /// What an access asks: `struct mle_access` of C.
 #[repr(C)]
-#[derive(Clone, Copy, PartialEq, Eq)]
+#[derive(Clone, Copy, PartialEq, Eq, Default)]
 pub struct AccessAsked {
     /// The virtual address, canonical or not.
     pub va: u64,
@@ -91,6 +91,7 @@ pub(crate) fn asked_of(asked: &AccessAsked) -> Result<(Access, Ctx), Fault>
 }
 
 /// The entry of numbers, refused if they are of no page.
+#[inline(always)]
 pub(crate) fn entry_of(given: &EntryGiven) -> Result<Entry, Fault>
     ensures { result ≡ entry_of given.now }
 {

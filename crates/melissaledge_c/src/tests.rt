@@ -9,12 +9,8 @@ use crate::machines::{
     melissaledge_machine_translates,
 };
 use crate::replies::ReplyGiven;
-use crate::requests::{AccessAsked, EntryGiven, FenceAsked, WhatAsked};
-use crate::tlb_handle::TlbHandle;
-use crate::tlbs::{
-    melissaledge_entry_translate, melissaledge_tlb_close, melissaledge_tlb_fence,
-    melissaledge_tlb_fill, melissaledge_tlb_lookup, melissaledge_tlb_open, melissaledge_tlb_serve,
-};
+use crate::requests::{AccessAsked, EntryGiven};
+use crate::tlbs::melissaledge_entry_translate;
 use crate::translations::{Answer, Tables, melissaledge_translate};
 
 /// Two frames from PPN 0x80000 on, with the root in the first.
@@ -58,7 +54,7 @@ fn is_refused(tables: &Tables, words: &[u64], asked: &AccessAsked, code: i32) ->
 fn translation_of_no_scheme_is_refused(rt: HostRuntime) {
     let words = [0_u64; 1024];
     let mut tables = TABLES;
-    tables.scheme = 0;
+    tables.scheme = 1;
     assert!(rt; is_refused(&tables, &words, &load_from(0), -3));
     tables.scheme = 10;
     assert!(rt; is_refused(&tables, &words, &load_from(0), -3));
@@ -101,13 +97,21 @@ fn translation_of_a_wrong_length_is_refused(rt: HostRuntime) {
 }
 
 #[test]
-fn translation_from_a_root_outside_memory_is_refused(rt: HostRuntime) {
+fn root_of_no_ppn_is_refused(rt: HostRuntime) {
     let words = [0_u64; 1024];
     let mut tables = TABLES;
-    tables.root_ppn = 0x7_ffff;
+    tables.root_ppn = 1 << 44;
     assert!(rt; is_refused(&tables, &words, &load_from(0), -8));
+}
+
+#[test]
+fn root_outside_memory_is_an_access_fault(rt: HostRuntime) {
+    let words = [0_u64; 1024];
+    let mut tables = TABLES;
+    let mut answer = BEFORE;
     tables.root_ppn = 0x8_0002;
-    assert!(rt; is_refused(&tables, &words, &load_from(0), -8));
+    let status = melissaledge_translate(&tables, &words, &load_from(0), &mut answer);
+    assert!(rt; status == 1 && answer.cause == 5 && answer.why == 2 && answer.pa == 0);
 }
 
 /// A page of 1 GiB at 0x4000_0000, which the root's word 1 maps to itself: V, R, W, X, U, G, A and
@@ -145,112 +149,6 @@ const ENTRY: EntryGiven = EntryGiven {
     global: 0,
 };
 
-/// The service of that page for that address space.
-const WHAT: WhatAsked = WhatAsked {
-    page_base: 0x1000,
-    page_bytes: 0x1000,
-    asid: 1,
-    has_asid: 1,
-    kind: 0,
-};
-
-/// SFENCE.VMA with two registers x0.
-const FENCE: FenceAsked = FenceAsked {
-    rs1: 0,
-    rs2: 0,
-    has_rs1: 0,
-    has_rs2: 0,
-};
-
-#[test]
-fn closed_tlb_is_refused(rt: HostRuntime) {
-    let mut tlb = TlbHandle::empty();
-    let mut entry = ENTRY;
-    assert!(rt; melissaledge_tlb_fill(rt.alloc(), &mut tlb, &ENTRY) == -11);
-    assert!(rt; melissaledge_tlb_fence(rt.alloc(), &mut tlb, &FENCE) == -11);
-    assert!(rt; melissaledge_tlb_serve(rt.alloc(), &mut tlb, &WHAT) == -11);
-    assert!(rt; melissaledge_tlb_lookup(rt.alloc(), &mut tlb, 1, 0x1000, &mut entry) == -11);
-    assert!(rt; entry == ENTRY);
-    assert!(rt; melissaledge_tlb_close(rt.alloc(), &mut tlb) == -11);
-}
-
-#[test]
-fn tlb_of_no_scheme_is_refused(rt: HostRuntime) {
-    let mut tlb = TlbHandle::empty();
-    assert!(rt; melissaledge_tlb_open(rt.alloc(), 7, &mut tlb) == -3);
-    assert!(rt; melissaledge_tlb_close(rt.alloc(), &mut tlb) == -11);
-}
-
-#[test]
-fn open_tlb_is_not_opened_again(rt: HostRuntime) {
-    let mut tlb = TlbHandle::empty();
-    let mut entry = EntryGiven::default();
-    assert!(rt; melissaledge_tlb_open(rt.alloc(), 8, &mut tlb) == 0);
-    assert!(rt; melissaledge_tlb_fill(rt.alloc(), &mut tlb, &ENTRY) == 0);
-    assert!(rt; melissaledge_tlb_open(rt.alloc(), 9, &mut tlb) == -10);
-    assert!(rt; melissaledge_tlb_lookup(rt.alloc(), &mut tlb, 1, 0x1000, &mut entry) == 0);
-    assert!(rt; entry == ENTRY);
-    assert!(rt; melissaledge_tlb_close(rt.alloc(), &mut tlb) == 0);
-    assert!(rt; melissaledge_tlb_close(rt.alloc(), &mut tlb) == -11);
-}
-
-#[test]
-fn entry_of_no_page_is_refused(rt: HostRuntime) {
-    let mut tlb = TlbHandle::empty();
-    let mut bad = ENTRY;
-    let mut answer = BEFORE;
-    let mut found = EntryGiven::default();
-    assert!(rt; melissaledge_tlb_open(rt.alloc(), 8, &mut tlb) == 0);
-    bad.page_base = 0x1001;
-    assert!(rt; melissaledge_tlb_fill(rt.alloc(), &mut tlb, &bad) == -12);
-    bad.page_base = 0x8000_0000_0000;
-    assert!(rt; melissaledge_tlb_fill(rt.alloc(), &mut tlb, &bad) == -12);
-    bad.page_base = 0;
-    bad.page_bytes = 0x2000;
-    assert!(rt; melissaledge_tlb_fill(rt.alloc(), &mut tlb, &bad) == -12);
-    assert!(rt; melissaledge_entry_translate(&bad, &load_from(0), &mut answer) == -12);
-    assert!(rt; answer == BEFORE);
-    assert!(rt; melissaledge_tlb_lookup(rt.alloc(), &mut tlb, 1, 0x1000, &mut found) == 2);
-    assert!(rt; melissaledge_tlb_close(rt.alloc(), &mut tlb) == 0);
-}
-
-#[test]
-fn service_of_nothing_is_refused(rt: HostRuntime) {
-    let mut tlb = TlbHandle::empty();
-    let mut bad = WHAT;
-    let mut found = EntryGiven::default();
-    assert!(rt; melissaledge_tlb_open(rt.alloc(), 8, &mut tlb) == 0);
-    assert!(rt; melissaledge_tlb_fill(rt.alloc(), &mut tlb, &ENTRY) == 0);
-    bad.kind = 3;
-    assert!(rt; melissaledge_tlb_serve(rt.alloc(), &mut tlb, &bad) == -13);
-    bad.kind = 0;
-    bad.page_bytes = 0;
-    assert!(rt; melissaledge_tlb_serve(rt.alloc(), &mut tlb, &bad) == -12);
-    assert!(rt; melissaledge_tlb_lookup(rt.alloc(), &mut tlb, 1, 0x1000, &mut found) == 0);
-    assert!(rt; melissaledge_tlb_serve(rt.alloc(), &mut tlb, &WHAT) == 0);
-    assert!(rt; melissaledge_tlb_lookup(rt.alloc(), &mut tlb, 1, 0x1000, &mut found) == 2);
-    assert!(rt; melissaledge_tlb_close(rt.alloc(), &mut tlb) == 0);
-}
-
-#[test]
-fn fence_drops_what_it_names(rt: HostRuntime) {
-    let mut tlb = TlbHandle::empty();
-    let mut found = EntryGiven::default();
-    let mut fence = FENCE;
-    assert!(rt; melissaledge_tlb_open(rt.alloc(), 9, &mut tlb) == 0);
-    assert!(rt; melissaledge_tlb_fill(rt.alloc(), &mut tlb, &ENTRY) == 0);
-    fence.rs2 = 2;
-    fence.has_rs2 = 1;
-    assert!(rt; melissaledge_tlb_fence(rt.alloc(), &mut tlb, &fence) == 0);
-    assert!(rt; melissaledge_tlb_lookup(rt.alloc(), &mut tlb, 1, 0x1fff, &mut found) == 0);
-    fence.rs1 = 0x1800;
-    fence.has_rs1 = 1;
-    fence.rs2 = 1;
-    assert!(rt; melissaledge_tlb_fence(rt.alloc(), &mut tlb, &fence) == 0);
-    assert!(rt; melissaledge_tlb_lookup(rt.alloc(), &mut tlb, 1, 0x1fff, &mut found) == 2);
-    assert!(rt; melissaledge_tlb_close(rt.alloc(), &mut tlb) == 0);
-}
-
 #[test]
 fn entry_answers(rt: HostRuntime) {
     let mut answer = BEFORE;
@@ -268,6 +166,9 @@ fn entry_answers(rt: HostRuntime) {
     assert!(rt; melissaledge_entry_translate(&ENTRY, &asked, &mut answer) == -5);
     asked = load_from(0x8000_0000_0000);
     assert!(rt; melissaledge_entry_translate(&ENTRY, &asked, &mut answer) == -16);
+    let mut bad = ENTRY;
+    bad.page_base = 0x1001;
+    assert!(rt; melissaledge_entry_translate(&bad, &load_from(0), &mut answer) == -12);
     assert!(rt; answer == BEFORE);
 }
 

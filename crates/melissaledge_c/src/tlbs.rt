@@ -1,83 +1,126 @@
-//! A TLB.
+//! A TLB in C's memory.
 
-ghost use Rattle.std.specs.Prelude.{◌≡◌, pos};
-ghost use Rattle.melissaledge_c.specs.Requests.{asked_of, entry_of, rs1_of, rs2_of, what_of};
-ghost use Rattle.melissaledge_c.specs.Codes.{scheme_of};
-ghost use Rattle.melissaledge_c.specs.Tlbs.{Answers, Changes, Closes, LooksUp, Opens, dropped, fenced_by, matched_at, with_entry};
+ghost use Rattle.std.specs.Prelude.{◌≡◌, ◌&&◌, if◌then◌else◌, length, pos, slice_get};
+ghost use Rattle.std.specs.Option.{ok_or};
+ghost use Rattle.melissaledge_c.specs.declared.codes.Fault.TheVariants as fault;
+ghost use Rattle.melissaledge_c.specs.Codes.{code_of, scheme_of};
+ghost use Rattle.melissaledge_c.specs.Requests.{asked_of, entry_of, what_of};
+ghost use Rattle.melissaledge_c.specs.SizedTlbs.{entries_in, is_there, is_whole, memory, places_of};
+ghost use Rattle.melissaledge_c.specs.Tlbs.{Answers, Drops, Fills, Inits, LooksUp, Replaces, Shows, Translates, dropped, fenced_by, matched_at};
 
 use crate::codes::{Fault, scheme_of};
 use crate::requests::{
     AccessAsked, EntryGiven, FenceAsked, WhatAsked, asked_of, entry_of, optional_word, what_of,
 };
-use crate::tlb_handle::TlbHandle;
+use crate::sized_tlb::{
+    TlbHead, fence, fill, first_match, is_capacity, is_whole, places, replace, serve,
+};
 use crate::translations::Answer;
 use pte::{Scheme, VirtAddr, tests_are_facts};
-use std::alloc::Global;
-use tlb::{Entry, Tlb};
+use tlb::Entry;
 
-/// Opens an empty TLB of a scheme, as `Tlb::new_in` has it. Refused with `Scheme`, `AlreadyOpen` or
-/// `NoMemory`, in this order, and then nothing has changed.
+/// Makes an empty TLB that holds so many entries at most. Refused with `Tlb` if they are no power
+/// of two from 1 to 4,096, or with `Length` if there are not twice as many slots, in this order, and
+/// then nothing has changed.
 #[unsafe(no_mangle)]
-pub extern "C" fn melissaledge_tlb_open(alloc: Global, scheme: u32, tlb: &mut TlbHandle) -> i32
-    ensures { Opens (scheme_of scheme) tlb.old.held result tlb.new.held }
+pub extern "C" fn melissaledge_tlb_init(
+    entries: u32,
+    head: &mut TlbHead,
+    slots: &mut [EntryGiven],
+) -> i32
+    ensures { Inits entries (memory head.old slots.old) result (memory head.new slots.new) }
 {
-    let Some(scheme) = scheme_of(scheme) else {
-        return Fault::Scheme.code();
-    };
-    if let Some(open) = tlb.take(alloc) {
-        tlb.put(open);
-        return Fault::AlreadyOpen.code();
+    if !is_capacity(entries) {
+        return Fault::Tlb.code();
     }
-    match Box::new(alloc, Tlb::new_in(scheme)) {
-        Ok(new) => {
-            tlb.put(new);
+    if slots.len() != 2 * entries as usize {
+        return Fault::Length.code();
+    }
+    *head = TlbHead {
+        first: 0,
+        capacity: entries,
+        count: 0,
+    };
+    0
+}
+
+/// Whether memory has a TLB, each of whose entries is of a page: 0, or else refused with `Tlb`.
+#[unsafe(no_mangle)]
+pub extern "C" fn melissaledge_tlb_check(head: &TlbHead, slots: &[EntryGiven]) -> i32
+    ensures { result ≡ (if is_there (memory head.now slots.now)
+        && is_whole (places_of (memory head.now slots.now)) then pos 0 else code_of fault.Tlb) }
+{
+    if head.is_tlb(slots.len()) && is_whole(places(head, slots)) {
+        0
+    } else {
+        Fault::Tlb.code()
+    }
+}
+
+/// How many entries there are. Refused with `Tlb`.
+#[unsafe(no_mangle)]
+pub extern "C" fn melissaledge_tlb_count(head: &TlbHead, slots: &[EntryGiven]) -> i32
+    ensures { result ≡ (if is_there (memory head.now slots.now) then pos head.now.count
+        else code_of fault.Tlb) }
+{
+    if head.is_tlb(slots.len()) {
+        head.count as i32
+    } else {
+        Fault::Tlb.code()
+    }
+}
+
+/// The entry of an age, of which the oldest has 0: 0 with the entry, or 2 if there are not so many.
+/// Refused with `Tlb`.
+#[unsafe(no_mangle)]
+pub extern "C" fn melissaledge_tlb_entry(
+    head: &TlbHead,
+    slots: &[EntryGiven],
+    age: u32,
+    entry: &mut EntryGiven,
+) -> i32
+    ensures { Shows (is_there (memory head.now slots.now))
+        (slice_get (places_of (memory head.now slots.now)) age) result entry.old entry.new }
+{
+    if !head.is_tlb(slots.len()) {
+        return Fault::Tlb.code();
+    }
+    match places(head, slots).get(age as usize) {
+        Some(found) => {
+            *entry = *found;
             0
         }
-        Err(_) => Fault::NoMemory.code(),
+        None => 2,
     }
 }
 
-/// Closes a TLB and gives its memory back. Refused with `NotOpen`.
-#[unsafe(no_mangle)]
-pub extern "C" fn melissaledge_tlb_close(alloc: Global, tlb: &mut TlbHandle) -> i32
-    ensures { Closes tlb.old.held result tlb.new.held }
-{
-    match tlb.take(alloc) {
-        Some(_) => 0,
-        None => Fault::NotOpen.code(),
-    }
-}
-
-/// The oldest entry that matches an address for an ASID, none if the address is not canonical.
-fn matched_at(tlb: &Tlb, asid: u16, va: u64) -> Option<Entry>
-    ensures { result ≡ matched_at tlb.now asid va }
+// The oldest entry that matches an address for an ASID, none if the address is not canonical.
+fn matched_at(places: &[EntryGiven], asid: u16, va: u64) -> Option<Entry>
+    ensures { result ≡ matched_at (entries_in places.now) asid va }
 {
     tests_are_facts();
     match VirtAddr::new_in(Scheme::Sv48, va) {
-        Some(va) => tlb.lookup(asid, va),
+        Some(_) => first_match(places, asid, va),
         None => None,
     }
 }
 
-/// The oldest entry that matches an address for an ASID, as `Tlb::lookup` has it: 0 with the entry,
-/// or 2 if there is none, which is also so if the address is not canonical. Refused with `NotOpen`.
+/// The oldest entry that matches an address for an ASID: 0 with the entry, or 2 if there is none,
+/// which is also so if the address is not canonical. Refused with `Tlb`.
 #[unsafe(no_mangle)]
 pub extern "C" fn melissaledge_tlb_lookup(
-    alloc: Global,
-    tlb: &mut TlbHandle,
+    head: &TlbHead,
+    slots: &[EntryGiven],
     asid: u16,
     va: u64,
     entry: &mut EntryGiven,
 ) -> i32
-    ensures looked_up { LooksUp tlb.old.held asid va result entry.old entry.new }
-    ensures kept { tlb.new.held ≡ tlb.old.held }
+    ensures { LooksUp (memory head.now slots.now) asid va result entry.old entry.new }
 {
-    let Some(open) = tlb.take(alloc) else {
-        return Fault::NotOpen.code();
-    };
-    let found = matched_at(&open, asid, va);
-    tlb.put(open);
-    match found {
+    if !head.is_tlb(slots.len()) {
+        return Fault::Tlb.code();
+    }
+    match matched_at(places(head, slots), asid, va) {
         Some(found) => {
             *entry = EntryGiven::of(&found);
             0
@@ -86,66 +129,133 @@ pub extern "C" fn melissaledge_tlb_lookup(
     }
 }
 
-/// Adds an entry, as `Tlb::fill` has it. Refused with `Page` or `NotOpen`.
+/// What the oldest entry that matches an address for an ASID answers to an access: 0 with the
+/// physical address or 1 with the page fault, and the entry, or 2 if there is none. Refused with
+/// `Access`, `Mode` or `Tlb`, in this order.
+#[unsafe(no_mangle)]
+pub extern "C" fn melissaledge_tlb_translate(
+    head: &TlbHead,
+    slots: &[EntryGiven],
+    asid: u16,
+    asked: &AccessAsked,
+    answer: &mut Answer,
+    entry: &mut EntryGiven,
+) -> i32
+    ensures { Translates (memory head.now slots.now) (asked_of asked.now) asid asked.now.va result
+        answer.old answer.new entry.old entry.new }
+{
+    tests_are_facts();
+    let (access, ctx) = match asked_of(asked) {
+        Ok(asked) => asked,
+        Err(fault) => return fault.code(),
+    };
+    if !head.is_tlb(slots.len()) {
+        return Fault::Tlb.code();
+    }
+    let Some(va) = VirtAddr::new_in(Scheme::Sv48, asked.va) else {
+        return 2;
+    };
+    let Some(found) = first_match(places(head, slots), asid, asked.va) else {
+        return 2;
+    };
+    *entry = EntryGiven::of(&found);
+    match found.translate(va, access, ctx) {
+        Ok(pa) => {
+            *answer = Answer::hit(pa, &found);
+            0
+        }
+        Err(trap) => {
+            *answer = Answer::trap(&trap);
+            1
+        }
+    }
+}
+
+/// Adds an entry as the youngest; of one too many the oldest goes. Refused with `Page` or `Tlb`, in
+/// this order.
 #[unsafe(no_mangle)]
 pub extern "C" fn melissaledge_tlb_fill(
-    alloc: Global,
-    tlb: &mut TlbHandle,
+    head: &mut TlbHead,
+    slots: &mut [EntryGiven],
     entry: &EntryGiven,
 ) -> i32
-    ensures { Changes (entry_of entry.now) with_entry tlb.old.held result tlb.new.held }
+    ensures { Fills (entry_of entry.now) (memory head.old slots.old) result
+        (memory head.new slots.new) }
 {
     let entry = match entry_of(entry) {
         Ok(entry) => entry,
         Err(fault) => return fault.code(),
     };
-    let Some(mut open) = tlb.take(alloc) else {
-        return Fault::NotOpen.code();
-    };
-    open.fill(entry);
-    tlb.put(open);
+    if !head.is_tlb(slots.len()) {
+        return Fault::Tlb.code();
+    }
+    fill(head, slots, &entry);
     0
 }
 
-/// SFENCE.VMA, as `Tlb::fence` has it. Refused with `NotOpen`.
+/// Drops what answers for the page of an entry in its address space, or if it is global in any, and
+/// adds it as the youngest; of one too many the oldest goes. How many entries were dropped for it.
+/// Refused with `Page` or `Tlb`, in this order.
+#[unsafe(no_mangle)]
+pub extern "C" fn melissaledge_tlb_replace(
+    head: &mut TlbHead,
+    slots: &mut [EntryGiven],
+    entry: &EntryGiven,
+) -> i32
+    ensures { Replaces (entry_of entry.now) (memory head.old slots.old) result
+        (memory head.new slots.new) }
+{
+    let entry = match entry_of(entry) {
+        Ok(entry) => entry,
+        Err(fault) => return fault.code(),
+    };
+    if !head.is_tlb(slots.len()) {
+        return Fault::Tlb.code();
+    }
+    replace(head, slots, &entry) as i32
+}
+
+/// SFENCE.VMA (privileged manual 4.2.1) of a hart whose satp has this scheme: how many entries it
+/// dropped. Refused with `Scheme` or `Tlb`, in this order.
 #[unsafe(no_mangle)]
 pub extern "C" fn melissaledge_tlb_fence(
-    alloc: Global,
-    tlb: &mut TlbHandle,
-    fence: &FenceAsked,
+    head: &mut TlbHead,
+    slots: &mut [EntryGiven],
+    scheme: u32,
+    asked: &FenceAsked,
 ) -> i32
-    ensures { Changes (Ok fence.now) fenced_by tlb.old.held result tlb.new.held }
+    ensures { Drops (ok_or (scheme_of scheme) fault.Scheme) (fenced_by asked.now)
+        (memory head.old slots.old) result (memory head.new slots.new) }
 {
-    let Some(mut open) = tlb.take(alloc) else {
-        return Fault::NotOpen.code();
+    let Some(scheme) = scheme_of(scheme) else {
+        return Fault::Scheme.code();
     };
-    open.fence(
-        optional_word(fence.has_rs1, fence.rs1),
-        optional_word(fence.has_rs2, fence.rs2),
-    );
-    tlb.put(open);
-    0
+    if !head.is_tlb(slots.len()) {
+        return Fault::Tlb.code();
+    }
+    let rs1 = optional_word(asked.has_rs1, asked.rs1);
+    let rs2 = optional_word(asked.has_rs2, asked.rs2);
+    fence(head, slots, scheme, rs1, rs2) as i32
 }
 
-/// Drops what is asked, as `Tlb::serve` has it. Refused with `Page` or `Kind`, or with `NotOpen`.
+/// Drops what is asked: how many entries it dropped. Refused with `Page` or `Kind`, or with `Tlb`.
 #[unsafe(no_mangle)]
 pub extern "C" fn melissaledge_tlb_serve(
-    alloc: Global,
-    tlb: &mut TlbHandle,
-    what: &WhatAsked,
+    head: &mut TlbHead,
+    slots: &mut [EntryGiven],
+    asked: &WhatAsked,
 ) -> i32
-    ensures { Changes (what_of what.now) dropped tlb.old.held result tlb.new.held }
+    ensures { Drops (what_of asked.now) dropped (memory head.old slots.old) result
+        (memory head.new slots.new) }
 {
-    let what = match what_of(what) {
+    let what = match what_of(asked) {
         Ok(what) => what,
         Err(fault) => return fault.code(),
     };
-    let Some(mut open) = tlb.take(alloc) else {
-        return Fault::NotOpen.code();
-    };
-    open.serve(&what);
-    tlb.put(open);
-    0
+    if !head.is_tlb(slots.len()) {
+        return Fault::Tlb.code();
+    }
+    serve(head, slots, &what) as i32
 }
 
 /// What an entry answers to an access, as `Entry::translate` has it: 0 with the physical address,

@@ -1,9 +1,10 @@
-//! Translation over a flat memory.
+//! Translation over a flat memory, or none at all.
 
-ghost use Rattle.std.specs.Prelude.{◌≡◌, length, Ok};
-ghost use Rattle.melissaledge_c.specs.Translations.{Translates, answer_of, hit_answer, memory_fault, request_of, trap_answer};
+ghost use Rattle.std.specs.Prelude.{◌≡◌, Ok};
+ghost use Rattle.melissaledge_c.specs.Translations.{Leads, Translates, answer_of, hit_answer, memory_fault, request_of, trap_answer};
 
-use crate::codes::{Fault, number_of, scheme_of, why_code};
+use crate::bare::{Translation, bare_answer, bare_status, translation_of};
+use crate::codes::{Fault, number_of, why_code};
 use crate::flat::Flat;
 use crate::requests::{AccessAsked, asked_of};
 use bitflags::Flags;
@@ -19,9 +20,9 @@ pub struct Tables {
     pub base_ppn: u64,
     /// How many frames there are, each of 512 words.
     pub frames: u64,
-    /// The PPN of the root table.
+    /// The PPN of the root table, which may lie outside the frames.
     pub root_ppn: u64,
-    /// The scheme: 8 for Sv39, 9 for Sv48.
+    /// MODE of satp: 0 for Bare, 8 for Sv39, 9 for Sv48.
     pub scheme: u32,
 }
 
@@ -50,7 +51,7 @@ pub struct Answer {
 /// What is asked of a translation, once it is found to be in order.
 #[derive(Clone, Copy, PartialEq, Eq)]
 pub(crate) struct Request {
-    pub(crate) scheme: Scheme,
+    pub(crate) translation: Translation,
     pub(crate) access: Access,
     pub(crate) ctx: Ctx,
 }
@@ -66,33 +67,30 @@ fn memory_fault(tables: &Tables, words: usize) -> Option<Fault>
     if words as u64 != frames * u64::from(TABLE_LENGTH) {
         return Some(Fault::Length);
     }
-    if tables.root_ppn < tables.base_ppn || tables.base_ppn + tables.frames <= tables.root_ppn {
+    if tables.root_ppn >= PPN_LIMIT {
         return Some(Fault::Root);
     }
     None
 }
 
 /// What is asked, or the first fault.
-fn request_of(tables: &Tables, words: usize, asked: &AccessAsked) -> Result<Request, Fault>
-    ensures { result ≡ request_of tables.now words asked.now }
+fn request_of(tables: &Tables, asked: &AccessAsked) -> Result<Request, Fault>
+    ensures { result ≡ request_of tables.now asked.now }
 {
-    let Some(scheme) = scheme_of(tables.scheme) else {
+    let Some(translation) = translation_of(tables.scheme) else {
         return Err(Fault::Scheme);
     };
     let (access, ctx) = asked_of(asked)?;
-    match memory_fault(tables, words) {
-        Some(fault) => Err(fault),
-        None => Ok(Request {
-            scheme,
-            access,
-            ctx,
-        }),
-    }
+    Ok(Request {
+        translation,
+        access,
+        ctx,
+    })
 }
 
 impl Answer {
     /// The answer of what a walk found.
-    fn found(found: &Found) -> Answer
+    pub(crate) fn found(found: &Found) -> Answer
         ensures { result ≡ answer_of (Ok found.now) }
     {
         Answer {
@@ -136,8 +134,10 @@ impl Answer {
 }
 
 /// Where an access leads over tables in a flat memory, as `walk::translate_in` has it: 0 with the
-/// translation, or 1 with the exception. Refused with `Scheme`, `Access`, `Mode`, `Memory`,
-/// `Length` or `Root`, the first that applies in this order, and then nothing has changed.
+/// translation, or 1 with the exception, as it is if the root lies outside memory. In Bare the
+/// physical address is the address, and nothing of the tables is read but `scheme`. Refused with
+/// `Scheme`, `Access`, `Mode`, `Memory`, `Length` or `Root`, the first that applies in this order,
+/// and then nothing has changed.
 #[unsafe(no_mangle)]
 pub extern "C" fn melissaledge_translate(
     tables: &Tables,
@@ -146,25 +146,45 @@ pub extern "C" fn melissaledge_translate(
     answer: &mut Answer,
 ) -> i32
     ensures { Translates tables.now words.now asked.now
-        (request_of tables.now (length words.now) asked.now) result answer.old answer.new }
+        (request_of tables.now asked.now) result answer.old answer.new }
 {
-    let request = match request_of(tables, words.len(), asked) {
+    let request = match request_of(tables, asked) {
         Ok(request) => request,
         Err(fault) => return fault.code(),
     };
+    match request.translation {
+        Translation::Bare => {
+            *answer = bare_answer(asked.va, request.access);
+            bare_status(asked.va)
+        }
+        Translation::Paged(scheme) => translate_over(
+            scheme, tables, words, asked.va, request, answer,
+        ),
+    }
+}
+
+/// Where an access leads over tables, refused with `Memory`, `Length` or `Root`.
+fn translate_over(
+    scheme: Scheme,
+    tables: &Tables,
+    words: &[u64],
+    va: u64,
+    request: Request,
+    answer: &mut Answer,
+) -> i32
+    ensures { Leads (Translation.Paged scheme) tables.now words.now va request result answer.old
+        answer.new }
+{
+    if let Some(fault) = memory_fault(tables, words.len()) {
+        return fault.code();
+    }
     let memory = Flat {
         base: tables.base_ppn,
         frames: tables.frames,
         words,
     };
-    match translate_in(
-        request.scheme,
-        &memory,
-        tables.root_ppn,
-        asked.va,
-        request.access,
-        request.ctx,
-    ) {
+    let (access, ctx) = (request.access, request.ctx);
+    match translate_in(scheme, &memory, tables.root_ppn, va, access, ctx) {
         Ok(found) => {
             *answer = Answer::found(&found);
             0
