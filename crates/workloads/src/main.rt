@@ -16,12 +16,12 @@
 #![tactic(auto)]
 
 mod digest;
-mod files;
+mod file_texts;
 mod kernel;
 mod machine;
 mod process;
 mod random;
-mod steps;
+mod scenarios;
 mod texts;
 mod traces;
 
@@ -97,11 +97,11 @@ const LAZY: Shape = Shape {
 /// The job of a name, and how many parts it has: records, files, batches.
 fn job_of(name: &str) -> Option<(Job, u64)> {
     match name {
-        "processes" => Some((Job::Watch(PROCESSES), 100_000)),
+        "processes" => Some((Job::Watch(PROCESSES), 120_000)),
         "harts" => Some((Job::Watch(HARTS), 100_000)),
-        "lazy" => Some((Job::Watch(LAZY), 200_000)),
-        "files" => Some((Job::Files, 300)),
-        "machine" => Some((Job::Machine, 2_000)),
+        "lazy" => Some((Job::Watch(LAZY), 400_000)),
+        "files" => Some((Job::Files, 800)),
+        "machine" => Some((Job::Machine, 4_000)),
         _ => None,
     }
 }
@@ -135,7 +135,7 @@ fn run(rt: &HostRuntime) -> Result<(), Failure> {
             let trace = traces::trace(alloc, shape, Random::new(seed), parts)?;
             traces::watch(alloc, &trace, &mut digest)?;
         }
-        Job::Files => files::run(alloc, seed, parts, &mut digest)?,
+        Job::Files => scenarios::run(alloc, seed, parts, &mut digest)?,
         Job::Machine => machine::run(alloc, seed, parts, &mut digest)?,
     }
     println!(rt; "{:016x} {}", digest.hash, digest.bytes)?;

@@ -1,5 +1,7 @@
 //! Numbers by a linear congruential generator.
 
+ghost use Rattle.std.specs.Prelude.{◌<◌, ◌^◌};
+
 /// A generator. Its numbers depend on its seed alone.
 #[derive(Clone, Copy, Debug, PartialEq, Eq)]
 pub struct Random {
@@ -15,7 +17,9 @@ impl Random {
     }
 
     /// The next 31 bits.
-    pub fn next(&mut self) -> u64 {
+    pub fn next(&mut self) -> u64
+        ensures { result < 2 ^ 31 }
+    {
         self.state = self
             .state
             .wrapping_mul(6_364_136_223_846_793_005)
@@ -24,7 +28,10 @@ impl Random {
     }
 
     /// A number below the limit; 0 below 0.
-    pub fn below(&mut self, limit: u64) -> u64 {
+    pub fn below(&mut self, limit: u64) -> u64
+        ensures below { 0 < limit → result < limit }
+        ensures small { result < 2 ^ 31 }
+    {
         let next = self.next();
         if limit == 0 { 0 } else { next % limit }
     }

@@ -4,13 +4,10 @@ use std::alloc::AllocError;
 
 /// Adds a number of lower-case hexadecimal digits.
 pub fn push_hexadecimal(text: &mut Vec<u8>, number: u64) -> Result<(), AllocError> {
-    let mut shift: u32 = 60;
-    while shift > 0 && number >> shift == 0 {
-        shift = shift.saturating_sub(4);
-    }
-    for back in 0..16_u32 {
-        if back * 4 <= shift {
-            let digit = (number >> (shift - back * 4) & 15) as u8;
+    for place in 0..16_u32 {
+        let rest = number >> (60 - place * 4);
+        if rest > 0 || place == 15 {
+            let digit = (rest & 15) as u8;
             text.push(if digit < 10 {
                 b'0' + digit
             } else {

@@ -2,14 +2,14 @@
 
 use crate::Failure;
 use crate::digest::Digest;
+use crate::file_texts::{Scenario, walk_file};
 use crate::random::Random;
-use crate::steps::{Scenario, walk_file};
 use scenario::{Inspection, Which, command, inspect_command};
 use std::alloc::Global;
 
 /// How many steps a file has: few are long.
 fn steps_of(random: &mut Random) -> u64 {
-    let most = 10 << random.below(13);
+    let most = 10_u64 << random.below(13);
     random.below(most) + 10
 }
 

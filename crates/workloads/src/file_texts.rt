@@ -49,7 +49,7 @@ impl Scenario {
         self.number(self.harts)?;
         self.add(b"\nspares = [")?;
         for _ in 0..self.harts {
-            self.number(self.pages + 2)?;
+            self.number(self.pages.saturating_add(2))?;
             self.add(b", ")?;
         }
         self.add(b"]\nspaces = [")?;
@@ -93,7 +93,7 @@ impl Scenario {
 
     /// The next store that maps a page, to a frame of its own or to another.
     fn map(&mut self, hart: u64, page: u64) -> Result<(), AllocError> {
-        let frame = 0x1000 + (page << 4 | self.random.below(16));
+        let frame = page << 4 | self.random.below(16) | 1 << 12;
         self.step(hart, b"map ")?;
         self.number(hart)?;
         self.add(b" 4K:")?;
