@@ -34,7 +34,7 @@ use Rattle.watch_engine.specs.Standing.{AreRoots, IsLeftWithin, Stands}
 use Rattle.watch_tables.specs.Through.{Passes}
 use Rattle.watch_tables.specs.Words.{AreFilled}
 use Rattle.watch_engine.proofs.Changes.{PassesIn, Stays, filled, stays_or_passes}
-use Rattle.watch_engine.proofs.Leaving.{any_weaker, filter_each, filter_in, filter_out}
+use Rattle.watch_engine.proofs.Leaving.{any_weaker, each_kept, filter_each, filter_in, filter_out}
 use Rattle.watch_engine.proofs.Lists.{KeepsKey, filter_same}
 use Rattle.watch_engine.proofs.MemoryChanges.{IsChange, changed_ages, changed_are}
 use Rattle.watch_engine.proofs.Moments.{held_stale, stale_some}
@@ -78,6 +78,15 @@ unless_keeps is n =
     let e : (t : Bool) (i : Held) → (cond t i (settled (is i) n i)).entry ≡ i.entry = λ t i. elim t as (λ t. (cond t i (settled (is i) n i)).entry ≡ i.entry) [ true ↦ refl | false ↦ k.entry i ] in
     let l : (t : Bool) (i : Held) → (cond t i (settled (is i) n i)).last_live ≡ i.last_live = λ t i. elim t as (λ t. (cond t i (settled (is i) n i)).last_live ≡ i.last_live) [ true ↦ refl | false ↦ k.last i ] in
     record { hart = λ i. h (is_some i.stale_since) i; root = λ i. r (is_some i.stale_since) i; entry = λ i. e (is_some i.stale_since) i; last = λ i. l (is_some i.stale_since) i }
+
+-- where all roots stay, so do all spaces that were left
+pub all_rooted : {scheme : Scheme} {trace : Trace} {words : Tables} {since : ℕ → ℕ → ℕ} {satps : List (Option Space)} {roots : List ℕ} {held : List Held} {left : List Left} {drops : List PastFence} {fences : List OpenFence} {claims : List OpenClaim} {count : ℕ}
+    → Stands scheme trace words since satps roots held left drops fences claims count → (frames : Frames) (these : List ℕ) → these ≡ without_frames frames satps roots
+    → (keeps : Bool) → keeps ≡ list_all (root_stays frames satps) roots → cond keeps left (filter (has_its_root these) left) ≡ filter (has_its_root these) left
+all_rooted {satps = satps} {roots} {left = left} at frames these are false all = refl
+all_rooted {trace = trace} {satps = satps} {roots} {left = left} {drops = drops} at frames these are true all =
+    let same : these ≡ roots = are ∙ all_stay (root_stays frames satps) roots (sym all) in
+    sym (each_kept (IsLeftWithin trace drops) (has_its_root these) (λ l w. ap (list_any (λ r. r == l.space.root)) same ∙ (at.spaces l.space.root ∙ w.root)) left at.leaving)
 
 module _ {scheme : Scheme} {trace : Trace} {words : Tables} {since : ℕ → ℕ → ℕ} {satps : List (Option Space)} {roots : List ℕ} {held : List Held} {left : List Left} {drops : List PastFence} {fences : List OpenFence} {claims : List OpenClaim} {count : ℕ}
     (at : Stands scheme trace words since satps roots held left drops fences claims count) (by : ℕ) (frames : Frames) (new : Tables) (ages : ℕ → ℕ → ℕ) (clears : new ≡ words_after (GiveOut by frames) words)

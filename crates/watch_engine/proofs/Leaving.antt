@@ -1,5 +1,5 @@
 -- Lists of spaces that were left.
-use Rattle.std.proofs.Common.{◌≡◌, ◌⊎◌, Bool, true, false, List, [], ◌∷◌, ◌++◌, filter, sym, ◌∙◌, refl, inl, inr}
+use Rattle.std.proofs.Common.{◌≡◌, ◌⊎◌, Bool, true, false, List, [], ◌∷◌, ◌++◌, filter, ap, sym, ◌∙◌, refl, inl, inr}
 use Rattle.std.specs.Prelude.{cond}
 use Rattle.watch_engine.specs.declared.left.Left.{Left}
 use Rattle.watch_engine.specs.Left.{AnyLeft, EachLeft}
@@ -67,6 +67,11 @@ filter-each-at P p l kept h rest false is = rest
 pub filter_each : (P Q : Left → Type 0) (p : Left → Bool) → ((l : Left) → P l → p l ≡ true → Q l) → (left : List Left) → EachLeft P left → EachLeft Q (filter p left)
 filter_each P Q p f [] e = tt
 filter_each P Q p f (l ∷ left) e = filter-each-at Q p l (filter p left) (f l e.0) (filter_each P Q p f left e.1) (p l) refl
+
+-- where it leaves each, it leaves the list
+pub each_kept : (P : Left → Type 0) (p : Left → Bool) → ((l : Left) → P l → p l ≡ true) → (left : List Left) → EachLeft P left → filter p left ≡ left
+each_kept P p f [] e = refl
+each_kept P p f (l ∷ left) e = ap (λ b. cond b (l ∷ filter p left) (filter p left)) (f l e.0) ∙ ap (λ ls. l ∷ ls) (each_kept P p f left e.1)
 
 -- with one more
 pub any_first : (P : Left → Type 0) (left : List Left) (l : Left) → AnyLeft P left → AnyLeft P (left ++ l ∷ [])

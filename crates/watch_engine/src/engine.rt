@@ -259,7 +259,7 @@ impl<T: Tables> Watch<T> {
         mark_given(&mut self.held, &cause, given.as_slice());
         self.tables.clear(frames);
         let keeps = drop_roots(&mut self.roots, frames, self.satps.spaces());
-        drop_rootless(&mut self.left, self.roots.as_slice());
+        drop_rootless(keeps, &mut self.left, self.roots.as_slice());
         self.count += 1;
         settle_taken(
             may_differ(addresses.as_slice(), keeps),

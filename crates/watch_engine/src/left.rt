@@ -1,6 +1,6 @@
 //! Spaces that harts have left, and fences since.
 
-ghost use Rattle.std.specs.Prelude.{◌≡◌, ◌++◌, ◌∷◌, [], None, OnErr, OnOk, drop, filter};
+ghost use Rattle.std.specs.Prelude.{◌≡◌, ◌++◌, ◌∷◌, [], None, OnErr, OnOk, drop, filter, if◌then◌else◌};
 ghost use Rattle.std.specs.List.{list_any};
 ghost use Rattle.watch_engine.specs.Left.{ended, fences_after, has_its_root, is_of_other, is_other, is_space, is_taken_since, left_after_fence, takes, with_left};
 ghost use Rattle.watch_engine.specs.declared.left.PastFence.TheVariants as past;
@@ -160,9 +160,18 @@ pub(crate) fn add_ended(
     Ok(())
 }
 
-/// Without spaces whose root is none of these.
-pub(crate) fn drop_rootless(left: &mut Vec<Left>, roots: &[u64])
+fn retain_rooted(left: &mut Vec<Left>, roots: &[u64])
     ensures { left.new.items ≡ filter (has_its_root roots.now) left.old.items }
 {
     left.retain(|l| has_root(roots, l.space.root));
+}
+
+/// Without spaces whose root is none of these, if a root is none any more.
+pub(crate) fn drop_rootless(keeps: bool, left: &mut Vec<Left>, roots: &[u64])
+    ensures { left.new.items ≡ (if keeps then left.old.items
+        else filter (has_its_root roots.now) left.old.items) }
+{
+    if !keeps {
+        retain_rooted(left, roots);
+    }
 }

@@ -90,13 +90,21 @@ fn keeps_all(roots: &[u64], frames: Frames, satps: &[Option<Space>]) -> bool
     true
 }
 
+fn retain_roots(roots: &mut Vec<u64>, frames: Frames, satps: &[Option<Space>])
+    ensures { roots.new.items ≡ without_frames frames satps.now roots.old.items }
+{
+    roots.retain(|root| stays(*root, frames, satps));
+}
+
 // Without frames that are given out, but for those in a satp; and whether all stay.
 pub(crate) fn drop_roots(roots: &mut Vec<u64>, frames: Frames, satps: &[Option<Space>]) -> bool
     ensures roots { roots.new.items ≡ without_frames frames satps.now roots.old.items }
     ensures all { result ≡ list_all (stays frames satps.now) roots.old.items }
 {
     let all = keeps_all(roots.as_slice(), frames, satps);
-    roots.retain(|root| stays(*root, frames, satps));
+    if !all {
+        retain_roots(roots, frames, satps);
+    }
     all
 }
 

@@ -1,6 +1,10 @@
-use Rattle.std.proofs.Common.{rules}
-use Rattle.std.proofs.lemmas.Fn.{filter_same}
+use Rattle.std.proofs.Common.{◌≡◌, true, sym, rules}
+use Rattle.std.specs.List.{list_all}
+use Rattle.watch_engine.specs.Held.{stays}
+use Rattle.watch_engine.proofs.SpaceRoots.{all_stay}
 use Rattle.watch_engine.proofs.roots.drop_roots.Goals as goal
 
-pub returns-clause-roots : goal.returns-clause-roots
-returns-clause-roots c = filter_same _ _ _ (λ x b g called. search rules) _ _ c.retain.ensures.filtered
+pub returns-else-not-all-clause-roots : goal.returns-else-not-all-clause-roots
+returns-else-not-all-clause-roots c =
+    let all : list_all (stays c.args.frames c.args.satps.now) c.args.roots.now.items ≡ true = search rules in
+    sym (all_stay (stays c.args.frames c.args.satps.now) c.args.roots.now.items all)
