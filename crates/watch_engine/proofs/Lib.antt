@@ -8,6 +8,7 @@ pub mod Leaving
 pub mod Gathering
 pub mod Steps
 pub mod Records
+pub mod RootOrder
 pub mod SpaceRoots
 pub mod Standings
 pub mod MemoryChanges

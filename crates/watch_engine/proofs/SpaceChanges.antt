@@ -19,12 +19,11 @@ use Rattle.watch_engine.specs.declared.left.Left.{Left}
 use Rattle.watch_engine.specs.declared.left.PastFence.{PastFence}
 use Rattle.watch_engine.specs.declared.open.OpenClaim.{OpenClaim}
 use Rattle.watch_engine.specs.declared.open.OpenFence.{OpenFence}
-use Rattle.watch_engine.specs.Held.{IsNormalized, all_found_again, found_again, is_current_by, knows, settled, translation_of, with_root}
+use Rattle.watch_engine.specs.Held.{AreEntered, IsNormalized, IsWith, all_found_again, found_again, is_current_by, knows, settled, translation_of}
 use Rattle.watch_engine.specs.Left.{EachLeft, IsLeftAt, IsLeftHeld, is_other, is_space, takes, with_left}
 use Rattle.watch_engine.specs.Follows.{AreHeld, IsHeldFrom, IsKnown}
 use Rattle.watch_engine.specs.Standing.{AreRoots, IsLeftWithin, Stands}
 use Rattle.watch_engine.proofs.Leaving.{any_first, any_last, any_member, any_out, any_pushed, any_weaker, any_with, each_pushed, filter_each, filter_in, filter_out}
-use Rattle.std.proofs.lemmas.List.Folds.{list_any-append}
 use Rattle.watch_engine.proofs.Moments.{held_stale, stale_some}
 use Rattle.watch_engine.proofs.Lists.{KeepsKey, filter_same, map_same}
 use Rattle.watch_engine.proofs.Records.{all_pass, quiet, same, same_keeps, settled_after}
@@ -121,7 +120,7 @@ module _ {scheme : Scheme} {trace : Trace} {words : Tables} {since : ℕ → ℕ
   other_roots these is = record { memory = at.memory; ages = at.ages; harts = at.harts; satp = at.satp; spaces = subst (AreRoots trace) (sym is) at.spaces; leaving = at.leaving; are = at.are; fence = at.fence; claim = at.claim; records = at.records }
 
 -- one test more
-or-more : (g t a b : Bool) → ((not g && t) || (g && (a || (b || false)))) ≡ (((not g && t) || (g && a)) || (g && b))
+or-more : (g t a b : Bool) → ((not g && t) || (g && (a || b))) ≡ (((not g && t) || (g && a)) || (g && b))
 or-more true t true b = refl
 or-more true t false true = refl
 or-more true t false false = refl
@@ -140,7 +139,7 @@ found-keeps test root =
 -- with the space that the hart leaves among those that were left
 module _ {scheme : Scheme} {trace : Trace} {words : Tables} {since : ℕ → ℕ → ℕ} {satps : List (Option Space)} {roots : List ℕ} {held : List Held} {left : List Left} {drops : List PastFence} {fences : List OpenFence} {claims : List OpenClaim} {count : ℕ}
     (at : Stands scheme trace words since satps roots held left drops fences claims count) (by : ℕ) (space : Option Space)
-    (leaves : (hart : ℕ) (x : Translation) → by ≡ hart → is_live scheme trace hart x ≡ true → IsLeftAt scheme words since drops left hart x count) (these : List ℕ) (entered : these ≡ with_root space roots) where
+    (leaves : (hart : ℕ) (x : Translation) → by ≡ hart → is_live scheme trace hart x ≡ true → IsLeftAt scheme words since drops left hart x count) (these : List ℕ) (entered : AreEntered space roots these) where
   abbrev newest : Record
   newest = Satp by space
 
@@ -157,7 +156,7 @@ module _ {scheme : Scheme} {trace : Trace} {words : Tables} {since : ℕ → ℕ
   Left_at hart x n l = (l.left ≡ n) × IsLeftHeld scheme words since drops l hart x
 
   spaces : AreRoots (newest ∷ trace) these
-  spaces = subst (AreRoots (newest ∷ trace)) (sym entered) (roots_entered trace by space roots at.spaces)
+  spaces = roots_entered trace by space roots these entered at.spaces
 
   more-roots : (root : ℕ) → IsTrue (is_root trace root) → IsTrue (is_root (newest ∷ trace) root)
   more-roots root is = or_right (has_root space root) (is_root trace root) is
@@ -225,7 +224,7 @@ module _ {scheme : Scheme} {trace : Trace} {words : Tables} {since : ℕ → ℕ
   current-then x = ap (λ w. is_current_by (is_mapped scheme w) roots x) at.memory ∙ roots_current scheme trace roots at.spaces x
 
   -- a new root
-  module _ (root : ℕ) (one_more : these ≡ roots ++ root ∷ []) where
+  module _ (root : ℕ) (one_more : IsWith root roots these) where
     abbrev found : Translation → Bool
     found x = x.entry.global && test (record x { root = root })
 
@@ -233,10 +232,9 @@ module _ {scheme : Scheme} {trace : Trace} {words : Tables} {since : ℕ → ℕ
     current-more x =
         let which : Translation → ℕ → Bool = λ x r. test (record x { root = r }) in
         sym (current-after x)
-        ∙ (ap (λ (rs : List ℕ). is_current_by test rs x) one_more
-        ∙ (ap (λ b. (not x.entry.global && test x) || (x.entry.global && b)) (list_any-append (which x) roots (root ∷ []))
+        ∙ (ap (λ b. (not x.entry.global && test x) || (x.entry.global && b)) (one_more (which x))
         ∙ (or-more x.entry.global (test x) (list_any (which x) roots) (which x root)
-        ∙ ap (λ b. b || found x) (current-then x))))
+        ∙ ap (λ b. b || found x) (current-then x)))
 
     found-after-satp : (i : Held) → IsKnown scheme trace i → found_again test root i ≡ After scheme newest trace i
     found-after-satp i known =
@@ -260,13 +258,13 @@ module _ {scheme : Scheme} {trace : Trace} {words : Tables} {since : ℕ → ℕ
       quiet scheme trace newest i
       (current_same scheme trace (newest ∷ trace) (translation_of i) (λ root. sym (at.spaces root) ∙ (ap (list_any (λ r. r == root)) (sym unchanged) ∙ spaces root)) (λ root counts. ((λ m. m), (λ m. m)))) known
 
-  entered-held : (new : Option ℕ) → (new ≡ None → these ≡ roots) → ((root : ℕ) → new ≡ Some root → these ≡ roots ++ root ∷ []) → (now : List Held) → now ≡ all_found_again test new held → AreHeld scheme (newest ∷ trace) New now
+  entered-held : (new : Option ℕ) → (new ≡ None → these ≡ roots) → ((root : ℕ) → new ≡ Some root → IsWith root roots these) → (now : List Held) → now ≡ all_found_again test new held → AreHeld scheme (newest ∷ trace) New now
   entered-held (Some root) same more now is =
       subst (AreHeld scheme (newest ∷ trace) New) (sym is) (entered-are (found_again test root) (found-keeps test root) (found-after-satp root (more root refl)))
   entered-held None unchanged more now is =
       subst (AreHeld scheme (newest ∷ trace) New) (map_same held ∙ sym is) (entered-are same same_keeps (quiet-after-satp (unchanged refl)))
 
-  pub satp_stands : by < length satps → (new : Option ℕ) → (new ≡ None → these ≡ roots) → ((root : ℕ) → new ≡ Some root → these ≡ roots ++ root ∷ []) → (now : List Held) → now ≡ all_found_again test new held → (stayed : List Left) → stayed ≡ kept → (written : List (Option Space)) → written ≡ set satps by space
+  pub satp_stands : by < length satps → (new : Option ℕ) → (new ≡ None → these ≡ roots) → ((root : ℕ) → new ≡ Some root → IsWith root roots these) → (now : List Held) → now ≡ all_found_again test new held → (stayed : List Left) → stayed ≡ kept → (written : List (Option Space)) → written ≡ set satps by space
       → Stands scheme (newest ∷ trace) words since written these now stayed drops fences claims (count + 1)
   satp_stands within new unchanged more now is stayed stay written put =
       let satp : (hart : ℕ) → get_or (set satps by space) hart None ≡ cond (by == hart) space (satp_of trace hart) =

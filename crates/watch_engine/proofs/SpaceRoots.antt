@@ -1,9 +1,8 @@
 -- The roots of address spaces, and what their tables have now.
-use Rattle.std.proofs.Common.{◌≡◌, ℕ, zero, suc, Bool, true, false, Option, Some, None, List, [], ◌∷◌, ◌++◌, filter, get_or, IsTrue, ap, sym, ◌∙◌, subst, refl, inl, inr}
+use Rattle.std.proofs.Common.{◌≡◌, ℕ, zero, suc, Bool, true, false, Option, Some, None, List, [], ◌∷◌, filter, get_or, IsTrue, ap, sym, ◌∙◌, subst, refl, inl, inr}
 use Rattle.std.specs.Prelude.{◌==◌, ◌&&◌, ◌||◌, ◌↔◌, cond, not}
 use Rattle.std.specs.List.{list_all, list_any}
 use Rattle.std.proofs.lemmas.Bool.{and_parts, and_from, cases_eq, eq-eqb, eqb-true, ne_eqb, or_cases, or_left, or_right, not-true, not_from_false}
-use Rattle.std.proofs.lemmas.List.Folds.{list_any-append}
 use Rattle.pte.specs.declared.scheme.Scheme.{Scheme}
 use Rattle.walk.proofs.Unique.{same_bool}
 use Rattle.watch.specs.declared.trace.Frames.{Frames}
@@ -17,7 +16,7 @@ use Rattle.watch.specs.ComputedTraces.{is_current}
 use Rattle.watch.proofs.Computed.{mapped_iff}
 use Rattle.watch.proofs.ComputedTraces.{current_iff}
 use Rattle.watch.proofs.Roots.{used_iff}
-use Rattle.watch_engine.specs.Held.{is_current_by, is_root_in, stays, with_root, without_frames}
+use Rattle.watch_engine.specs.Held.{AreEntered, is_current_by, is_root_in, stays, without_frames}
 use Rattle.watch_engine.specs.Standing.{AreRoots}
 
 any-at : (test : ℕ → Bool) (roots : List ℕ) → list_any test roots ≡ true → (r : ℕ) × (test r ≡ true) × (list_any (λ q. q == r) roots ≡ true)
@@ -87,25 +86,8 @@ current_same scheme before after x roots mapped =
     )
 
 -- a hart goes to a space
-swapped : (a b : Bool) → (a || (b || false)) ≡ (b || a)
-swapped true true = refl
-swapped true false = refl
-swapped false true = refl
-swapped false false = refl
-
-entered : (trace : Trace) (roots : List ℕ) (new : ℕ) (known : Bool) → list_any (λ r. r == new) roots ≡ known → AreRoots trace roots → (root : ℕ)
-    → list_any (λ r. r == root) (cond known roots (roots ++ new ∷ [])) ≡ ((new == root) || is_root trace root)
-entered trace roots new true known are root =
-    elim (cases_eq new root) [
-      | inl same ↦ subst (λ n. list_any (λ r. r == n) roots ≡ true) same known ∙ sym (ap (λ b. b || is_root trace root) (eq-eqb new root same))
-      | inr other ↦ are root ∙ sym (ap (λ b. b || is_root trace root) (ne_eqb new root other))
-    ]
-entered trace roots new false known are root =
-    list_any-append (λ r. r == root) roots (new ∷ []) ∙ (ap (λ b. b || ((new == root) || false)) (are root) ∙ swapped (is_root trace root) (new == root))
-
-pub roots_entered : (trace : Trace) (by : ℕ) (space : Option Space) (roots : List ℕ) → AreRoots trace roots → AreRoots (Satp by space ∷ trace) (with_root space roots)
-roots_entered trace by None roots are root = are root
-roots_entered trace by (Some space) roots are root = entered trace roots space.root (list_any (λ r. r == space.root) roots) refl are root
+pub roots_entered : (trace : Trace) (by : ℕ) (space : Option Space) (old new : List ℕ) → AreEntered space old new → AreRoots trace old → AreRoots (Satp by space ∷ trace) new
+roots_entered trace by space old new entered are root = entered root ∙ ap (λ b. has_root space root || b) (are root)
 
 -- frames are given out
 none-and : (b : Bool) → false ≡ (b && false)

@@ -1,6 +1,6 @@
 -- What harts may hold and the tables do not tell: a list of translations, each with its hart.
 use Rattle.std.specs.Prelude.{ℕ, Bool, true, false, not, ◌+◌, ◌≡◌, ◌==◌, ◌&&◌, ◌||◌, nat_le, nat_lt, if◌then◌else◌}
-use Rattle.std.specs.Prelude.{List, [], ◌∷◌, ◌++◌, filter, map, Option, Some, None, is_some}
+use Rattle.std.specs.Prelude.{List, [], ◌∷◌, filter, map, Option, Some, None, is_some}
 use Rattle.std.specs.List.{list_any}
 use Rattle.pte.specs.declared.scheme.Scheme.{Scheme}
 use Rattle.pte.specs.Address.{level_of, pages_of}
@@ -121,11 +121,15 @@ is_current_by test roots x =
     (not x.entry.global && test x)
     || (x.entry.global && list_any (λ root. test (record x { root = root })) roots)
 
--- with the root of a space that a hart goes to
-abbrev pub with_root : Option Space → List ℕ → List ℕ
-with_root None roots = roots
-with_root (Some space) roots =
-    if list_any (λ r. r == space.root) roots then roots else roots ++ space.root ∷ []
+-- the root of a space that a hart goes to is among them now, if it was not
+abbrev pub AreEntered : Option Space → List ℕ → List ℕ → Type 0
+AreEntered space old new =
+    (root : ℕ) → list_any (λ r. r == root) new
+    ≡ (has_root space root || list_any (λ r. r == root) old)
+
+-- one root is among them that was not
+abbrev pub IsWith : ℕ → List ℕ → List ℕ → Type 0
+IsWith root old new = (test : ℕ → Bool) → list_any test new ≡ (list_any test old || test root)
 
 -- without the frames that are given out, but for those in a satp
 abbrev pub is_root_in : List (Option Space) → ℕ → Bool

@@ -12,7 +12,7 @@ use crate::held::Held;
 use crate::left::{Left, PastFence, add_ended, add_fence, add_left, drop_left, drop_rootless};
 use crate::list::{drop_fenced, drop_remote, find_again, mark_given, remember_all, settle_taken};
 use crate::open::{OpenClaim, OpenFence, end_claim, end_fence, newest_claim, newest_fence};
-use crate::roots::{add_root, drop_roots};
+use crate::roots::Roots;
 use crate::satps::{Satps, satp_in};
 use crate::seen::{add_seen, add_seen_in};
 use crate::tables::Tables;
@@ -52,7 +52,7 @@ pub struct Watch<T: Tables> {
     scheme: Scheme,
     tables: T,
     satps: Satps,
-    roots: Vec<u64>,
+    roots: Roots,
     held: Vec<Held>,
     left: Vec<Left>,
     drops: Vec<PastFence>,
@@ -81,7 +81,7 @@ impl<T: Tables> Watch<T> {
             scheme,
             tables,
             satps: Satps::new(alloc),
-            roots: Vec::new(alloc),
+            roots: Roots::new(alloc),
             held: Vec::new(alloc),
             left: Vec::new(alloc),
             drops: Vec::new(alloc),
@@ -127,7 +127,7 @@ impl<T: Tables> Watch<T> {
             &self.tables,
             self.scheme,
             self.satps.spaces(),
-            self.roots.as_slice(),
+            &self.roots,
             address,
             ways.as_slice(),
             self.count,
@@ -148,7 +148,7 @@ impl<T: Tables> Watch<T> {
         let old = self.satp(hart);
         let fences = self.drops.as_slice().len();
         add_left(&mut self.left, hart, old, self.count, fences)?;
-        let new = add_root(&mut self.roots, space)?;
+        let new = self.roots.add(space)?;
         drop_left(&mut self.left, hart, space);
         self.satps.write(hart, space);
         self.count += 1;
@@ -258,8 +258,8 @@ impl<T: Tables> Watch<T> {
         remember_all(&mut self.held, seen.as_slice())?;
         mark_given(&mut self.held, &cause, given.as_slice());
         self.tables.clear(frames);
-        let keeps = drop_roots(&mut self.roots, frames, self.satps.spaces());
-        drop_rootless(keeps, &mut self.left, self.roots.as_slice());
+        let keeps = self.roots.drop_given(frames, self.satps.spaces());
+        drop_rootless(keeps, &mut self.left, &self.roots);
         self.count += 1;
         settle_taken(
             may_differ(addresses.as_slice(), keeps),

@@ -7,7 +7,7 @@ ghost use Rattle.watch_engine.specs.declared.left.PastFence.TheVariants as past;
 
 use crate::fence::{is_covered, is_fenced, names};
 use crate::open::OpenFence;
-use crate::roots::has_root;
+use crate::roots::Roots;
 use pte::Scheme;
 use std::alloc::AllocError;
 use tlb::Entry;
@@ -160,14 +160,14 @@ pub(crate) fn add_ended(
     Ok(())
 }
 
-fn retain_rooted(left: &mut Vec<Left>, roots: &[u64])
+fn retain_rooted(left: &mut Vec<Left>, roots: &Roots)
     ensures { left.new.items ≡ filter (has_its_root roots.now) left.old.items }
 {
-    left.retain(|l| has_root(roots, l.space.root));
+    left.retain(|l| roots.has(l.space.root));
 }
 
 /// Without spaces whose root is none of these, if a root is none any more.
-pub(crate) fn drop_rootless(keeps: bool, left: &mut Vec<Left>, roots: &[u64])
+pub(crate) fn drop_rootless(keeps: bool, left: &mut Vec<Left>, roots: &Roots)
     ensures { left.new.items ≡ (if keeps then left.old.items
         else filter (has_its_root roots.now) left.old.items) }
 {

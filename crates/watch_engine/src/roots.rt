@@ -1,14 +1,16 @@
 //! The roots of address spaces, and what their tables have now.
 
-ghost use Rattle.std.specs.Prelude.{ℕ, ◌≡◌, ◌==◌, ◌++◌, ◌∷◌, [], IfOk, None, OnErr, OnOk, Some};
+ghost use Rattle.std.specs.Prelude.{ℕ, ◌≡◌, ◌==◌, ◌<◌, ◌≤◌, [], IfOk, None, OnErr, OnOk, Some, length};
 ghost use Rattle.std.specs.List.{list_all, list_any};
+ghost use Rattle.std.specs.List.Sorted.{IsNonDecreasing, IsPartitionPoint};
 ghost use Rattle.watch.specs.Trace.{has_root as space_has_root, is_among};
 ghost use Rattle.watch.specs.Computed.{is_mapped};
-ghost use Rattle.watch_engine.specs.Held.{is_current_by, is_root_in, stays, with_root, without_frames};
+ghost use Rattle.watch_engine.specs.Held.{is_current_by, AreEntered, IsWith, is_root_in, stays, without_frames};
 
 use crate::tables::Tables;
 use pte::Scheme;
-use std::alloc::AllocError;
+use std::alloc::{AllocError, Global};
+use std::marker::Model;
 use tlb::Entry;
 use watch::{Frames, Space};
 
@@ -17,38 +19,6 @@ fn is_among(frames: Frames, ppn: u64) -> bool
     ensures { result ≡ is_among frames ppn }
 {
     ppn >= frames.first && ppn - frames.first < frames.count
-}
-
-pub(crate) fn has_root(roots: &[u64], frame: u64) -> bool
-    ensures { result ≡ list_any (λ r. r == frame) roots.now }
-{
-    for root in roots {
-        if *root == frame {
-            return true;
-        }
-    }
-    false
-}
-
-// With the root of a space that a hart goes to; the root, if it is new. At `Err` nothing changed.
-pub(crate) fn add_root(
-    roots: &mut Vec<u64>,
-    space: Option<Space>,
-) -> Result<Option<u64>, AllocError>
-    ensures ok { OnOk result (roots.new.items ≡ with_root space roots.old.items) }
-    ensures same { IfOk result (λ new. new ≡ None → roots.new.items ≡ roots.old.items) }
-    ensures more { IfOk result (λ new. (root : ℕ) → new ≡ Some root
-        → roots.new.items ≡ roots.old.items ++ root ∷ []) }
-    ensures err { OnErr result (roots.new.items ≡ roots.old.items) }
-{
-    let Some(space) = space else {
-        return Ok(None);
-    };
-    if has_root(roots.as_slice(), space.root) {
-        return Ok(None);
-    }
-    roots.push(space.root)?;
-    Ok(Some(space.root))
 }
 
 // The space has the root.
@@ -79,33 +49,131 @@ fn stays(root: u64, frames: Frames, satps: &[Option<Space>]) -> bool
     !is_among(frames, root) || is_root_in(satps, root)
 }
 
-fn keeps_all(roots: &[u64], frames: Frames, satps: &[Option<Space>]) -> bool
-    ensures { result ≡ list_all (stays frames satps.now) roots.now }
+// How many of them are below a PPN.
+fn count_below(ppns: &[u64], ppn: u64) -> usize
+    requires { IsNonDecreasing ppns.now }
+    ensures within { result ≤ length ppns.now }
+    ensures place { IsPartitionPoint (λ r. r < ppn) (λ r. ppn ≤ r) ppns.now result }
 {
-    for root in roots {
-        if !stays(*root, frames, satps) {
+    ppns.partition_point(|other| *other < ppn)
+}
+
+// The PPN is at the place where it would be.
+fn is_at(ppns: &[u64], place: usize, ppn: u64) -> bool
+    requires order { IsNonDecreasing ppns.now }
+    requires place { IsPartitionPoint (λ r. r < ppn) (λ r. ppn ≤ r) ppns.now place }
+    ensures { result ≡ list_any (λ r. r == ppn) ppns.now }
+{
+    place < ppns.len() && ppns[place] == ppn
+}
+
+// All of them stay, where those before a place are below the frames and the others are not.
+fn keeps_from(ppns: &[u64], mut place: usize, frames: Frames, satps: &[Option<Space>]) -> bool
+    requires order { IsNonDecreasing ppns.now }
+    requires place { IsPartitionPoint (λ r. r < frames.first) (λ r. frames.first ≤ r)
+        ppns.now place }
+    ensures { result ≡ list_all (stays frames satps.now) ppns.now }
+{
+    while place < ppns.len() {
+        let root = ppns[place];
+        if !is_among(frames, root) {
+            return true;
+        }
+        if !is_root_in(satps, root) {
             return false;
         }
+        place += 1;
     }
     true
 }
 
-fn retain_roots(roots: &mut Vec<u64>, frames: Frames, satps: &[Option<Space>])
-    ensures { roots.new.items ≡ without_frames frames satps.now roots.old.items }
-{
-    roots.retain(|root| stays(*root, frames, satps));
+/// The PPNs of the roots of address spaces, in ascending order.
+#[derive(Drop)]
+pub(crate) struct Roots {
+    ppns: Vec<u64>,
 }
 
-// Without frames that are given out, but for those in a satp; and whether all stay.
-pub(crate) fn drop_roots(roots: &mut Vec<u64>, frames: Frames, satps: &[Option<Space>]) -> bool
-    ensures roots { roots.new.items ≡ without_frames frames satps.now roots.old.items }
-    ensures all { result ≡ list_all (stays frames satps.now) roots.old.items }
-{
-    let all = keeps_all(roots.as_slice(), frames, satps);
-    if !all {
-        retain_roots(roots, frames, satps);
+impl Model for Roots {
+    ghost use Rattle.std.specs.Prelude.{List, ℕ};
+    ghost use Rattle.std.specs.List.Sorted.{IsNonDecreasing};
+
+    ghost Value = { List ℕ };
+
+    ghost view = { λ r. r.ppns.items };
+
+    ghost invariant = { λ r. IsNonDecreasing r.ppns.items };
+}
+
+impl Roots {
+    /// No root.
+    pub(crate) fn new(alloc: Global) -> Roots
+        ensures { result ≡ [] }
+    {
+        Roots {
+            ppns: Vec::new(alloc),
+        }
     }
-    all
+
+    /// One after the other.
+    pub(crate) fn as_slice(&self) -> &[u64]
+        ensures { result.now ≡ self.now }
+    {
+        self.ppns.as_slice()
+    }
+
+    /// The frame is one of them.
+    pub(crate) fn has(&self, frame: u64) -> bool
+        ensures { result ≡ list_any (λ r. r == frame) self.now }
+    {
+        let place = count_below(self.ppns.as_slice(), frame);
+        is_at(self.ppns.as_slice(), place, frame)
+    }
+
+    /// With the root of a space that a hart goes to; the root, if it is new. At `Err` nothing
+    /// changed.
+    pub(crate) fn add(&mut self, space: Option<Space>) -> Result<Option<u64>, AllocError>
+        ensures ok { OnOk result (AreEntered space self.old self.new) }
+        ensures same { IfOk result (λ new. new ≡ None → self.new ≡ self.old) }
+        ensures more { IfOk result (λ new. (root : ℕ) → new ≡ Some root
+            → IsWith root self.old self.new) }
+        ensures err { OnErr result (self.new ≡ self.old) }
+    {
+        let Some(space) = space else {
+            return Ok(None);
+        };
+        let place = count_below(self.ppns.as_slice(), space.root);
+        if is_at(self.ppns.as_slice(), place, space.root) {
+            return Ok(None);
+        }
+        self.ppns.insert(place, space.root)?;
+        Ok(Some(space.root))
+    }
+
+    // Whether all stay where frames are given out.
+    fn keeps_all(&self, frames: Frames, satps: &[Option<Space>]) -> bool
+        ensures { result ≡ list_all (stays frames satps.now) self.now }
+    {
+        let place = count_below(self.ppns.as_slice(), frames.first);
+        keeps_from(self.ppns.as_slice(), place, frames, satps)
+    }
+
+    fn retain(&mut self, frames: Frames, satps: &[Option<Space>])
+        ensures { self.new ≡ without_frames frames satps.now self.old }
+    {
+        self.ppns.retain(|root| stays(*root, frames, satps));
+    }
+
+    /// Without frames that are given out, but for those in a satp; and whether all stay.
+    pub(crate) fn drop_given(&mut self, frames: Frames, satps: &[Option<Space>]) -> bool
+        ensures roots { self.new ≡ without_frames frames satps.now self.old }
+        ensures all { result ≡ list_all (stays frames satps.now) self.old }
+    {
+        let all = self.keeps_all(frames, satps);
+        if !all {
+            self.retain(frames, satps);
+        }
+        all
+    }
 }
 
 // The tables of the root have the entry.

@@ -9,7 +9,7 @@ ghost use Rattle.watch_engine.specs.Touched.{asks, is_below, is_kept_after, is_t
 
 use crate::held::Held;
 use crate::live::is_live_in;
-use crate::roots::{has_root, is_current};
+use crate::roots::{Roots, is_current};
 use crate::satps::satp_in;
 use crate::tables::Tables;
 use pte::{PAGE_BYTES, Page, Scheme};
@@ -27,12 +27,12 @@ fn is_below(scheme: Scheme, address: u64, page: &Page, way: &Way) -> bool
 }
 
 #[inline(always)]
-fn is_touched_on(scheme: Scheme, roots: &[u64], address: u64, way: &Way, item: &Held) -> bool
+fn is_touched_on(scheme: Scheme, roots: &Roots, address: u64, way: &Way, item: &Held) -> bool
     ensures { result ≡ is_touched_on scheme roots.now (index_of address) (translation_of item.now)
         way.now }
 {
     is_below(scheme, address, &item.entry.page, way)
-        && (way.root == item.root || item.entry.global && has_root(roots, way.root))
+        && (way.root == item.root || item.entry.global && roots.has(way.root))
 }
 
 // A table of some level asks for the word at the index, on the path of the page.
@@ -46,7 +46,7 @@ fn asks(page: &Page, index: u16) -> bool
 
 // Few pages ask for the word at the index of the address, and of the others nothing more is read.
 #[inline(always)]
-fn is_touched(scheme: Scheme, roots: &[u64], address: u64, ways: &[Way], item: &Held) -> bool
+fn is_touched(scheme: Scheme, roots: &Roots, address: u64, ways: &[Way], item: &Held) -> bool
     ensures { result ≡ is_touched scheme roots.now (index_of address) ways.now
         (translation_of item.now) }
 {
@@ -67,7 +67,7 @@ fn is_kept_after<T: Tables>(
     tables: &T,
     scheme: Scheme,
     satps: &[Option<Space>],
-    roots: &[u64],
+    roots: &Roots,
     address: u64,
     ways: &[Way],
     item: &Held,
@@ -91,7 +91,7 @@ fn drop_live<T: Tables>(
     tables: &T,
     scheme: Scheme,
     satps: &[Option<Space>],
-    roots: &[u64],
+    roots: &Roots,
     address: u64,
     ways: &[Way],
 )
@@ -109,7 +109,7 @@ impl Held {
         tables: &T,
         scheme: Scheme,
         satps: &[Option<Space>],
-        roots: &[u64],
+        roots: &Roots,
         address: u64,
         ways: &[Way],
         count: u64,
@@ -123,7 +123,7 @@ impl Held {
         if !is_touched(scheme, roots, address, ways, self) {
             return false;
         }
-        let current = is_current(tables, scheme, roots, self.root, &self.entry);
+        let current = is_current(tables, scheme, roots.as_slice(), self.root, &self.entry);
         self.settle(current, count);
         let space = satp_in(satps, self.hart);
         is_live_in(tables, scheme, space, self.root, &self.entry)
@@ -136,7 +136,7 @@ fn settle_each_touched<T: Tables>(
     tables: &T,
     scheme: Scheme,
     satps: &[Option<Space>],
-    roots: &[u64],
+    roots: &Roots,
     address: u64,
     ways: &[Way],
     count: u64,
@@ -162,7 +162,7 @@ pub(crate) fn settle_touched<T: Tables>(
     tables: &T,
     scheme: Scheme,
     satps: &[Option<Space>],
-    roots: &[u64],
+    roots: &Roots,
     address: u64,
     ways: &[Way],
     count: u64,

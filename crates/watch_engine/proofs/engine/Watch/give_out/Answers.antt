@@ -1,4 +1,4 @@
-use Rattle.std.proofs.Common.{◌≡◌, ◌∙◌, sym, ap, subst, List, Option, map, filter, ◌+◌, ◌∷◌, [], ℕ, Bool}
+use Rattle.std.proofs.Common.{◌≡◌, ◌∙◌, sym, ap, subst, List, Option, map, ◌+◌, ◌∷◌, [], ℕ, Bool}
 use Rattle.std.specs.Prelude.{cond}
 use Rattle.std.specs.List.{list_all}
 use Rattle.walk.specs.Leads.{Tables}
@@ -13,7 +13,6 @@ use Rattle.watch_engine.specs.declared.left.Left.{Left}
 use Rattle.watch_engine.specs.declared.left.PastFence.{PastFence}
 use Rattle.watch_engine.specs.Held.{is_current_by, is_exposed_by, marked_if, remembered_all, settled_unless_stale, stays as root_stays, translation_of, without_frames}
 use Rattle.watch_engine.specs.Warnings.{AreWarnings, joined}
-use Rattle.watch_engine.specs.Left.{has_its_root}
 use Rattle.watch_engine.specs.Standing.{Stands}
 use Rattle.watch_engine.proofs.FrameChanges.{all_rooted, frames_stand}
 use Rattle.watch_engine.proofs.Gathering.{SeenIn}
@@ -66,19 +65,19 @@ returns-clause-ok g c = λ hart trace at.
     let held : List Held = watch.held.items in
     let frames = c.args.frames in
     let new : Tables = g.T.Tables.words c.clear.new.self in
-    let these : List ℕ = c.drop_roots-keeps.new.roots.items in
-    let these_are : these ≡ without_frames frames watch.satps.spaces.items watch.roots.items = c.drop_roots-keeps.ensures.roots ∙ (λ j. without_frames frames (c.spaces-2.ensures.value j) watch.roots.items) in
-    let keeps : Bool = c.drop_roots-keeps.result in
-    let keeps_is : keeps ≡ list_all (root_stays frames watch.satps.spaces.items) watch.roots.items = c.drop_roots-keeps.ensures.all ∙ (λ j. list_all (root_stays frames (c.spaces-2.ensures.value j)) watch.roots.items) in
+    let these : List ℕ = c.drop_given-keeps.new.self in
+    let these_are : these ≡ without_frames frames watch.satps.spaces.items watch.roots = c.drop_given-keeps.ensures.roots ∙ (λ j. without_frames frames (c.spaces-2.ensures.value j) watch.roots) in
+    let keeps : Bool = c.drop_given-keeps.result in
+    let keeps_is : keeps ≡ list_all (root_stays frames watch.satps.spaces.items) watch.roots = c.drop_given-keeps.ensures.all ∙ (λ j. list_all (root_stays frames (c.spaces-2.ensures.value j)) watch.roots) in
     let mark : Held → Held = marked_if Reuse (is_exposed_by frames) in
     let settle : List ℕ → Held → Held = λ rs i. settled_unless_stale (is_current_by (is_mapped scheme new) rs (translation_of i)) (watch.count + 1) i in
     let marks : c.mark_given.new.held.items ≡ map mark (remembered_all seen held) = c.mark_given.ensures ∙ ap (map mark) c.in_ok-remember_all.ensures.ok in
     let changed : Bool = c.may_differ.result in
     subst (λ (ls : List Left). Stands scheme (records.GiveOut hart frames ∷ trace) new (g.T.Tables.since c.clear.new.self) watch.satps.spaces.items these c.settle_taken.new.held.items ls drops watch.fences.items watch.claims.items (watch.count + 1))
-    (sym (c.drop_rootless.ensures ∙ (ap (λ (rs : List ℕ). cond keeps left (filter (has_its_root rs) left)) c.as_slice-7.ensures.value ∙ all_rooted at frames these these_are keeps keeps_is)))
+    (sym (c.drop_rootless.ensures ∙ all_rooted at frames these these_are keeps keeps_is))
     (frames_stand at hart frames new (g.T.Tables.since c.clear.new.self) (c.clear.ensures.words hart) c.clear.ensures.others addresses c.in_ok-addresses.ensures these these_are changed
-    (λ same. (sym c.as_slice-8.ensures.value ∙ c.may_differ.ensures.words same, sym keeps_is ∙ c.may_differ.ensures.roots same)) seen all _
-    (c.settle_taken.ensures ∙ (λ j. cond changed (map (settle (c.as_slice-9.ensures.value j)) (marks j)) (marks j))))
+    (λ same. (sym c.as_slice-7.ensures.value ∙ c.may_differ.ensures.words same, sym keeps_is ∙ c.may_differ.ensures.roots same)) seen all _
+    (c.settle_taken.ensures ∙ (λ j. cond changed (map (settle (c.as_slice-8.ensures j)) (marks j)) (marks j))))
 
 pub mark_given-requires : goal.mark_given-requires
 mark_given-requires g c = λ none.

@@ -49,8 +49,8 @@ returns-in_err-store-clause-err g c = λ trace at.
     let all = seen_of scheme words since watch.satps.spaces.items left drops watch.count c.args.address c.new-seen.result.items seen c.new-seen.ensures.items added in
     let stands = all_remembered at seen all.each _ c.in_ok-remember_all.ensures.ok in
     on_err _ _
-    (subst (λ (w : Tables). Stands scheme trace w (g.T.Tables.since c.store.new.self) watch.satps.spaces.items watch.roots.items c.remember_all.new.held.items left drops watch.fences.items watch.claims.items watch.count) (sym c.in_err-store.ensures.err)
-    (subst (λ (s : ℕ → ℕ → ℕ). Stands scheme trace words s watch.satps.spaces.items watch.roots.items c.remember_all.new.held.items left drops watch.fences.items watch.claims.items watch.count) (sym c.in_err-store.ensures.err_since) stands))
+    (subst (λ (w : Tables). Stands scheme trace w (g.T.Tables.since c.store.new.self) watch.satps.spaces.items watch.roots c.remember_all.new.held.items left drops watch.fences.items watch.claims.items watch.count) (sym c.in_err-store.ensures.err)
+    (subst (λ (s : ℕ → ℕ → ℕ). Stands scheme trace words s watch.satps.spaces.items watch.roots c.remember_all.new.held.items left drops watch.fences.items watch.claims.items watch.count) (sym c.in_err-store.ensures.err_since) stands))
 
 pub returns-clause-ok : goal.returns-clause-ok
 returns-clause-ok g c = λ hart trace at.
@@ -70,9 +70,9 @@ returns-clause-ok g c = λ hart trace at.
     let ways : List Way = c.in_ok-ways.ways.items in
     let new : Tables = g.T.Tables.words c.store.new.self in
     let index : ℕ = index_of c.args.address in
-    let roots : List ℕ = watch.roots.items in
-    let change : List Way → List ℕ → Held → Held = λ ws rs i. settled_if (is_touched scheme rs index ws (translation_of i)) (is_current_by (is_mapped scheme new) rs (translation_of i)) (watch.count + 1) i in
+    let roots : List ℕ = watch.roots in
+    let change : List Way → Held → Held = λ ws i. settled_if (is_touched scheme roots index ws (translation_of i)) (is_current_by (is_mapped scheme new) roots (translation_of i)) (watch.count + 1) i in
     store_stands at hart c.args.address c.args.word new (g.T.Tables.since c.store.new.self) (c.in_ok-store.ensures.ok hart) c.in_ok-store.ensures.others c.in_ok-store.ensures.count ways c.in_ok-ways.ensures.ways seen all _
     (c.settle_touched.ensures
-    ∙ (λ j. map (change (c.as_slice-5.ensures.value j) (c.as_slice-4.ensures.value j))
-    (filter (is_kept_after scheme new (c.spaces-2.ensures.value j) (c.as_slice-4.ensures.value j) index (c.as_slice-5.ensures.value j)) (c.in_ok-remember_all.ensures.ok j))))
+    ∙ (λ j. map (change (c.as_slice-4.ensures.value j))
+    (filter (is_kept_after scheme new (c.spaces-2.ensures.value j) roots index (c.as_slice-4.ensures.value j)) (c.in_ok-remember_all.ensures.ok j))))

@@ -2,9 +2,9 @@ use Rattle.std.proofs.Common.{◌≡◌, true, sym, rules}
 use Rattle.std.specs.List.{list_all}
 use Rattle.watch_engine.specs.Held.{stays}
 use Rattle.watch_engine.proofs.SpaceRoots.{all_stay}
-use Rattle.watch_engine.proofs.roots.drop_roots.Goals as goal
+use Rattle.watch_engine.proofs.roots.Roots.drop_given.Goals as goal
 
 pub returns-else-not-all-clause-roots : goal.returns-else-not-all-clause-roots
 returns-else-not-all-clause-roots c =
-    let all : list_all (stays c.args.frames c.args.satps.now) c.args.roots.now.items ≡ true = search rules in
-    sym (all_stay (stays c.args.frames c.args.satps.now) c.args.roots.now.items all)
+    let all : list_all (stays c.args.frames c.args.satps.now) c.args.self.now ≡ true = search rules in
+    sym (all_stay (stays c.args.frames c.args.satps.now) c.args.self.now all)
