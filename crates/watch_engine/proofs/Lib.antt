@@ -1,4 +1,5 @@
 pub mod Lists
+pub mod LastPlaces
 pub mod Moments
 pub mod Places
 pub mod Changes

@@ -3,6 +3,7 @@
 #![tactic(auto)]
 
 mod cause;
+mod chains;
 mod engine;
 mod fence;
 mod held;

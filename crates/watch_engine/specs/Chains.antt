@@ -1,0 +1,42 @@
+-- Keys in a list, and chains of places that find the newest place of a key: a bucket has a chain of the
+-- places of its keys.
+use Rattle.std.specs.Prelude.{ℕ, Bool, ◌+◌, ◌-◌, ◌/◌, ◌^◌, ◌≡◌, ◌==◌, ◌<◌, bit_and, bit_xor, if◌then◌else◌}
+use Rattle.std.specs.Prelude.{List, [], ◌∷◌, length, slice_index, take}
+
+-- one more than the last place at which a list has a key that passes a test, or what was found before it
+abbrev pub last_from : (ℕ → Bool) → ℕ → ℕ → List ℕ → ℕ
+last_from test found place [] = found
+last_from test found place (k ∷ keys) =
+    last_from test (if test k then place + 1 else found) (place + 1) keys
+
+-- one more than the last place of what passes a test, or 0 if nothing does
+abbrev pub last_where : (ℕ → Bool) → List ℕ → ℕ
+last_where test keys = last_from test 0 0 keys
+
+-- one more than the last place of a key, or 0 if it has none
+abbrev pub last_place : ℕ → List ℕ → ℕ
+last_place key keys = last_where (λ k. k == key) keys
+
+-- the bucket of a key, of so many
+unfoldable pub bucket_of : ℕ → ℕ → ℕ
+bucket_of buckets key = bit_and (bit_xor key (key / 2 ^ 15)) (buckets - 1)
+
+abbrev pub is_in : ℕ → ℕ → ℕ → Bool
+is_in buckets bucket key = bucket_of buckets key == bucket
+
+-- over so many buckets: a link leads from the place of a key to the last one before it in its bucket,
+-- and a head to the last one of all
+pub record AreChained (buckets : ℕ) (keys links heads : List ℕ) : Type 0 where
+  pub older :
+      (place : ℕ) → place < length keys
+      → slice_index links place
+      ≡ last_where (is_in buckets (bucket_of buckets (slice_index keys place))) (take place keys)
+  pub newest :
+      (bucket : ℕ) → bucket < buckets
+      → slice_index heads bucket ≡ last_where (is_in buckets bucket) keys
+
+-- the same, with a link for each key, and a bucket if there is one
+pub record AreChains (keys links heads : List ℕ) : Type 0 where
+  pub chained : AreChained (length heads) keys links heads
+  pub linked : length links ≡ length keys
+  pub open_first : 0 < length keys → 0 < length heads

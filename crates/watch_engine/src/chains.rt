@@ -1,0 +1,157 @@
+//! Keys that are found by their newest places.
+
+ghost use Rattle.std.specs.Prelude.{◌≡◌, ◌+◌, ◌<◌, ◌≤◌, ◌-◌, ◌++◌, ◌∷◌, [], OnErr, OnOk, length, slice_index, take};
+ghost use Rattle.watch_engine.specs.Chains.{AreChained, AreChains, bucket_of, last_place};
+
+use std::alloc::{AllocError, Global};
+
+/// How many buckets the first key opens.
+const FIRST_BUCKETS: usize = 8;
+
+/// Keys, the oldest first, and for each bucket of keys a chain of their places, the newest first.
+#[derive(Drop)]
+pub(crate) struct Chains {
+    pub(crate) keys: Vec<u64>,
+    /// For each place one more than the place of the next older key of its bucket, or 0.
+    links: Vec<usize>,
+    /// For each bucket one more than the place of its newest key, or 0.
+    heads: Vec<usize>,
+    ghost chains: { AreChains keys.items links.items heads.items },
+}
+
+// The bucket of a key. What lies above the low bits counts too, since they alone are often the same.
+#[inline(always)]
+#[tactic(auto, unfolding(crate::specs::Chains::bucket_of))]
+fn bucket_of(buckets: usize, key: u64) -> usize
+    requires { 0 < buckets }
+    ensures is { result ≡ bucket_of buckets key }
+    ensures within { result < buckets }
+{
+    ((key ^ key >> 15) & (buckets as u64 - 1)) as usize
+}
+
+// Puts the place of a key at the head of its bucket's chain.
+fn link(keys: &[u64], links: &mut [usize], heads: &mut [usize], place: usize)
+    requires place { place < length keys.now }
+    requires links { length links.old ≡ length keys.now }
+    requires heads { 0 < length heads.old }
+    requires before { AreChained (length heads.old) (take place keys.now) links.old heads.old }
+    ensures { AreChained (length heads.old) (take (place + 1) keys.now) links.new heads.new }
+{
+    let bucket = bucket_of(heads.len(), keys[place]);
+    links[place] = heads[bucket];
+    heads[bucket] = place + 1;
+}
+
+// Makes the chains of all keys anew.
+fn link_all(keys: &[u64], links: &mut [usize], heads: &mut [usize])
+    requires links { length links.old ≡ length keys.now }
+    requires heads { 0 < length heads.old }
+    ensures { AreChained (length heads.old) keys.now links.new heads.new }
+{
+    heads.fill(0);
+    for place in 0..keys.len() {
+        link(keys, links, heads, place);
+    }
+}
+
+impl Chains {
+    pub(crate) fn new(alloc: Global) -> Chains
+        ensures { result.keys.items ≡ [] }
+    {
+        Chains {
+            keys: Vec::new(alloc),
+            links: Vec::new(alloc),
+            heads: Vec::new(alloc),
+        }
+    }
+
+    // Opens the first buckets.
+    fn open(&mut self) -> Result<(), AllocError>
+        ensures keys { self.new.keys.items ≡ self.old.keys.items }
+        ensures open { OnOk result (0 < length self.new.heads.items) }
+    {
+        if self.heads.is_empty() {
+            self.heads.resize(FIRST_BUCKETS, 0)?;
+        }
+        Ok(())
+    }
+
+    // Doubles the buckets once there are more keys, if there is memory for that.
+    fn grow(&mut self)
+        ensures { self.new.keys.items ≡ self.old.keys.items }
+    {
+        let buckets = self.heads.len();
+        if self.keys.len() <= buckets || self.heads.resize(buckets.saturating_mul(2), 0).is_err() {
+            return;
+        }
+        link_all(
+            self.keys.as_slice(),
+            self.links.as_mut_slice(),
+            self.heads.as_mut_slice(),
+        );
+    }
+
+    /// With a key at the end. At `Err` the keys stay.
+    pub(crate) fn push(&mut self, key: u64) -> Result<(), AllocError>
+        ensures ok { OnOk result (self.new.keys.items ≡ self.old.keys.items ++ key ∷ []) }
+        ensures err { OnErr result (self.new.keys.items ≡ self.old.keys.items) }
+    {
+        self.open()?;
+        self.links.push(0)?;
+        if self.keys.push(key).is_err() {
+            let _ = self.links.pop();
+            return Err(AllocError);
+        }
+        let place = self.keys.len() - 1;
+        link(
+            self.keys.as_slice(),
+            self.links.as_mut_slice(),
+            self.heads.as_mut_slice(),
+            place,
+        );
+        self.grow();
+        Ok(())
+    }
+
+    // Goes down a chain of the key's bucket, from `newest` - 1, to a place of the key. One more than
+    // that, or 0 if the chain has none.
+    fn follow(&self, key: u64, newest: usize) -> usize
+        requires within { newest ≤ length self.now.keys.items }
+        requires bucket { 0 < newest → bucket_of (length self.now.heads.items)
+            (slice_index self.now.keys.items (newest - 1))
+            ≡ bucket_of (length self.now.heads.items) key }
+        ensures { result ≡ last_place key (take newest self.now.keys.items) }
+    {
+        let mut at = newest;
+        while at > 0 {
+            if self.keys[at - 1] == key {
+                return at;
+            }
+            at = self.links[at - 1];
+        }
+        0
+    }
+
+    /// One more than the newest place of a key, or 0 if it has none.
+    pub(crate) fn newest(&self, key: u64) -> usize
+        ensures { result ≡ last_place key self.now.keys.items }
+    {
+        if self.heads.is_empty() {
+            return 0;
+        }
+        let bucket = bucket_of(self.heads.len(), key);
+        self.follow(key, self.heads[bucket])
+    }
+
+    /// One more than the newest place of the same key before the one of which `place` is one more,
+    /// or 0 if there is none.
+    pub(crate) fn before(&self, place: usize) -> usize
+        requires some { 0 < place }
+        requires within { place ≤ length self.now.keys.items }
+        ensures { result ≡ last_place (slice_index self.now.keys.items (place - 1))
+            (take (place - 1) self.now.keys.items) }
+    {
+        self.follow(self.keys[place - 1], self.links[place - 1])
+    }
+}
