@@ -29,12 +29,12 @@ last_more test keys n h =
     ∙ last_snoc test (take n keys) (get_or keys n 0)
     ∙ ap (λ m. if test (get_or keys n 0) then m + 1 else last_where test (take n keys)) (length-take-le n keys (omega arith))
 
-last_yes : (test : ℕ → Bool) (keys : List ℕ) (n : ℕ) → n < length keys
+pub last_yes : (test : ℕ → Bool) (keys : List ℕ) (n : ℕ) → n < length keys
     → test (get_or keys n 0) ≡ true → last_where test (take (suc n) keys) ≡ suc n
 last_yes test keys n h fits =
     last_more test keys n h ∙ ap (λ b. if b then n + 1 else last_where test (take n keys)) fits ∙ omega arith
 
-last_no : (test : ℕ → Bool) (keys : List ℕ) (n : ℕ) → n < length keys
+pub last_no : (test : ℕ → Bool) (keys : List ℕ) (n : ℕ) → n < length keys
     → test (get_or keys n 0) ≡ false → last_where test (take (suc n) keys) ≡ last_where test (take n keys)
 last_no test keys n h differs =
     last_more test keys n h ∙ ap (λ b. if b then n + 1 else last_where test (take n keys)) differs
@@ -218,3 +218,7 @@ first keys links heads are key newest b room e is =
       bucket = λ some. bucket some ∙ e;
       same = sym (ap (last_place key) (sym all) ∙ last_by_bucket n key b (sym e) keys (length keys) (omega arith) ∙ ap (λ (m : ℕ). last_place key (take m keys)) found);
     }
+
+-- the same of the whole list
+pub last_of_all : (key : ℕ) (keys : List ℕ) → last_place key (take (length keys) keys) ≡ last_place key keys
+last_of_all key keys = ap (last_place key) (take-length keys)

@@ -1,5 +1,6 @@
 pub mod Lists
 pub mod LastPlaces
+pub mod ByKey
 pub mod Moments
 pub mod Places
 pub mod Changes

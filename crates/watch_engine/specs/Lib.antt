@@ -3,6 +3,7 @@ pub mod Left
 pub mod Seen
 pub mod Touched
 pub mod Causes
+pub mod PastFences
 pub mod Chains
 pub mod Open
 pub mod Follows

@@ -9,9 +9,10 @@ ghost use Rattle.watch_engine.specs.Warnings.{AreWarnings};
 
 use crate::cause::Cause;
 use crate::held::Held;
-use crate::left::{Left, PastFence, add_ended, add_fence, add_left, drop_left, drop_rootless};
+use crate::left::{Left, add_ended, add_fence, add_left, drop_left, drop_rootless};
 use crate::list::{drop_fenced, drop_remote, find_again, mark_given, remember_all, settle_taken};
 use crate::open::{OpenClaim, OpenFence, end_claim, end_fence, newest_claim, newest_fence};
+use crate::past_fences::PastFences;
 use crate::roots::Roots;
 use crate::satps::{Satps, satp_in};
 use crate::seen::{add_seen, add_seen_in};
@@ -55,7 +56,7 @@ pub struct Watch<T: Tables> {
     roots: Roots,
     held: Vec<Held>,
     left: Vec<Left>,
-    drops: Vec<PastFence>,
+    drops: PastFences,
     fences: Vec<OpenFence>,
     claims: Vec<OpenClaim>,
     count: u64,
@@ -84,7 +85,7 @@ impl<T: Tables> Watch<T> {
             roots: Roots::new(alloc),
             held: Vec::new(alloc),
             left: Vec::new(alloc),
-            drops: Vec::new(alloc),
+            drops: PastFences::new(alloc),
             fences: Vec::new(alloc),
             claims: Vec::new(alloc),
             count: 0,
@@ -114,7 +115,7 @@ impl<T: Tables> Watch<T> {
             self.scheme,
             self.satps.spaces(),
             self.left.as_slice(),
-            self.drops.as_slice(),
+            &self.drops,
             address,
             self.count,
             &mut seen,
@@ -146,7 +147,7 @@ impl<T: Tables> Watch<T> {
     {
         self.satps.add_hart(hart)?;
         let old = self.satp(hart);
-        let fences = self.drops.as_slice().len();
+        let fences = self.drops.fences.as_slice().len();
         add_left(&mut self.left, hart, old, self.count, fences)?;
         let new = self.roots.add(space)?;
         drop_left(&mut self.left, hart, space);
@@ -250,7 +251,7 @@ impl<T: Tables> Watch<T> {
             self.scheme,
             self.satps.spaces(),
             self.left.as_slice(),
-            self.drops.as_slice(),
+            &self.drops,
             addresses.as_slice(),
             self.count,
             &mut seen,

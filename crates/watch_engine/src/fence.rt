@@ -12,7 +12,7 @@ use tlb::Entry;
 use watch::{AddressRange, RemoteFence};
 
 /// How many ASIDs there are.
-const ASIDS: u64 = 1 << ASID_BITS;
+pub(crate) const ASIDS: u64 = 1 << ASID_BITS;
 
 /// Whether some address of the range lies in the page.
 pub(crate) fn reaches(range: &Option<AddressRange>, page: &Page) -> bool
@@ -53,7 +53,7 @@ pub(crate) fn is_fenced(scheme: Scheme, rs1: Option<u64>, rs2: Option<u64>, entr
     }
 }
 
-fn asid_register(asid: Option<u16>) -> Option<u64>
+pub(crate) fn asid_register(asid: Option<u16>) -> Option<u64>
     ensures { result ≡ asid }
 {
     match asid {

@@ -7,6 +7,7 @@ ghost use Rattle.watch_engine.specs.declared.left.PastFence.TheVariants as past;
 
 use crate::fence::{is_covered, is_fenced, names};
 use crate::open::OpenFence;
+use crate::past_fences::PastFences;
 use crate::roots::Roots;
 use pte::Scheme;
 use std::alloc::AllocError;
@@ -41,7 +42,7 @@ pub(crate) enum PastFence {
 }
 
 impl PastFence {
-    fn takes(&self, scheme: Scheme, left: &Left, entry: &Entry) -> bool
+    pub(crate) fn takes(&self, scheme: Scheme, left: &Left, entry: &Entry) -> bool
         ensures { result ≡ takes scheme left.now entry.now self.now }
     {
         match self {
@@ -124,15 +125,15 @@ pub(crate) fn drop_left_of(left: &mut Vec<Left>, hart: u8)
 /// After a fence of the hart: one of all drops all of what it has left. At `Err` nothing changed.
 pub(crate) fn add_fence(
     left: &mut Vec<Left>,
-    drops: &mut Vec<PastFence>,
+    drops: &mut PastFences,
     hart: u8,
     rs1: Option<u64>,
     rs2: Option<u64>,
 ) -> Result<(), AllocError>
     ensures left { OnOk result (left.new.items ≡ left_after_fence hart rs1 rs2 left.old.items) }
-    ensures drops { OnOk result (drops.new.items ≡ fences_after hart rs1 rs2 drops.old.items) }
+    ensures drops { OnOk result (drops.new.fences.items ≡ fences_after hart rs1 rs2 drops.old.fences.items) }
     ensures err { OnErr result (left.new.items ≡ left.old.items) }
-    ensures err_drops { OnErr result (drops.new.items ≡ drops.old.items) }
+    ensures err_drops { OnErr result (drops.new.fences.items ≡ drops.old.fences.items) }
 {
     if rs1.is_none() && rs2.is_none() {
         drop_left_of(left, hart);
@@ -143,12 +144,9 @@ pub(crate) fn add_fence(
 }
 
 /// After the end of a remote fence. At `Err` nothing changed.
-pub(crate) fn add_ended(
-    drops: &mut Vec<PastFence>,
-    fence: &Option<OpenFence>,
-) -> Result<(), AllocError>
-    ensures ok { OnOk result (drops.new.items ≡ ended fence.now drops.old.items) }
-    ensures err { OnErr result (drops.new.items ≡ drops.old.items) }
+pub(crate) fn add_ended(drops: &mut PastFences, fence: &Option<OpenFence>) -> Result<(), AllocError>
+    ensures ok { OnOk result (drops.new.fences.items ≡ ended fence.now drops.old.fences.items) }
+    ensures err { OnErr result (drops.new.fences.items ≡ drops.old.fences.items) }
 {
     let Some(open) = fence else {
         return Ok(());

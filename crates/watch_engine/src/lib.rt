@@ -13,6 +13,7 @@ mod list;
 mod live;
 mod open;
 mod page_tables;
+mod past_fences;
 mod roots;
 mod satps;
 mod seen;

@@ -9,8 +9,9 @@ ghost use Rattle.watch_tables.specs.Through.{Passes};
 ghost use Rattle.watch_tables.specs.Ways.{AreWays};
 
 use crate::held::LastLive;
-use crate::left::{Left, PastFence, is_taken_since};
+use crate::left::Left;
 use crate::live::is_live_in;
+use crate::past_fences::PastFences;
 use crate::satps::satp_in;
 use crate::tables::Tables;
 use pte::Scheme;
@@ -65,11 +66,11 @@ fn is_kept<T: Tables>(
     tables: &T,
     scheme: Scheme,
     satps: &[Option<Space>],
-    drops: &[PastFence],
+    drops: &PastFences,
     leaf: &RootLeaf,
     left: &Left,
 ) -> bool
-    ensures { result ≡ is_kept scheme (T.words tables.now) satps.now drops.now leaf.now left.now }
+    ensures { result ≡ is_kept scheme (T.words tables.now) satps.now drops.now.fences.items leaf.now left.now }
 {
     if left.space.root != leaf.root || leaf.since > left.left {
         return false;
@@ -77,7 +78,7 @@ fn is_kept<T: Tables>(
     let last = last_of(leaf, left);
     let space = satp_in(satps, left.hart);
     !is_live_in(tables, scheme, space, last.root, &last.entry)
-        && !is_taken_since(scheme, drops, left, &last.entry)
+        && !drops.is_taken_since(scheme, left, &last.entry)
 }
 
 // Adds the leaf, if the hart may hold it since it left the space.
@@ -86,12 +87,12 @@ fn add_kept<T: Tables>(
     tables: &T,
     scheme: Scheme,
     satps: &[Option<Space>],
-    drops: &[PastFence],
+    drops: &PastFences,
     leaf: &RootLeaf,
     left: &Left,
 ) -> Result<(), AllocError>
     ensures { OnOk result (seen.new.items ≡ seen.old.items
-        ++ kept_for scheme (T.words tables.now) satps.now drops.now leaf.now left.now) }
+        ++ kept_for scheme (T.words tables.now) satps.now drops.now.fences.items leaf.now left.now) }
 {
     if is_kept(tables, scheme, satps, drops, leaf, left) {
         seen.push(last_of(leaf, left))?;
@@ -105,12 +106,12 @@ fn add_kept_for_each<T: Tables>(
     tables: &T,
     scheme: Scheme,
     satps: &[Option<Space>],
-    drops: &[PastFence],
+    drops: &PastFences,
     leaf: &RootLeaf,
     left: &[Left],
 ) -> Result<(), AllocError>
     ensures { OnOk result (seen.new.items ≡ with_kept scheme (T.words tables.now) satps.now
-        drops.now leaf.now left.now seen.old.items) }
+        drops.now.fences.items leaf.now left.now seen.old.items) }
 {
     for space in left {
         add_kept(seen, tables, scheme, satps, drops, leaf, space)?;
@@ -125,13 +126,13 @@ fn add_leaves<T: Tables>(
     scheme: Scheme,
     satps: &[Option<Space>],
     left: &[Left],
-    drops: &[PastFence],
+    drops: &PastFences,
     leaves: &[RootLeaf],
     count: u64,
 ) -> Result<(), AllocError>
     requires { length satps.now ≤ 256 }
     ensures { OnOk result (seen.new.items ≡ with_leaves scheme (T.words tables.now) count satps.now
-        left.now drops.now leaves.now seen.old.items) }
+        left.now drops.now.fences.items leaves.now seen.old.items) }
 {
     for leaf in leaves {
         add_live_for_each(seen, leaf, satps, count)?;
@@ -148,7 +149,7 @@ pub(crate) fn add_seen<T: Tables>(
     scheme: Scheme,
     satps: &[Option<Space>],
     left: &[Left],
-    drops: &[PastFence],
+    drops: &PastFences,
     address: u64,
     count: u64,
     seen: &mut Vec<LastLive>,
@@ -157,7 +158,7 @@ pub(crate) fn add_seen<T: Tables>(
     ensures ways { IfOk result (λ ways. AreWays scheme (T.words tables.now) (T.since tables.now)
         (page_number address) ways.items) }
     ensures seen { OnOk result (AreAdded scheme (T.words tables.now) (T.since tables.now)
-        satps.now left.now drops.now count
+        satps.now left.now drops.now.fences.items count
         (λ (root : ℕ) (e : EntryOf). Passes scheme (T.words tables.now) root (page_number address)
         (index_of address) e.page) seen.old.items seen.new.items) }
 {
@@ -183,7 +184,7 @@ pub(crate) fn add_seen_in<T: Tables>(
     scheme: Scheme,
     satps: &[Option<Space>],
     left: &[Left],
-    drops: &[PastFence],
+    drops: &PastFences,
     addresses: &[u64],
     count: u64,
     seen: &mut Vec<LastLive>,
@@ -191,7 +192,7 @@ pub(crate) fn add_seen_in<T: Tables>(
     requires harts { length satps.now ≤ 256 }
     requires none { seen.old.items ≡ [] }
     ensures { OnOk result (AreSeen scheme (T.words tables.now) (T.since tables.now) satps.now
-        left.now drops.now count (λ (root : ℕ) (e : EntryOf). PassesAny scheme (T.words tables.now)
+        left.now drops.now.fences.items count (λ (root : ℕ) (e : EntryOf). PassesAny scheme (T.words tables.now)
         root addresses.now e) seen.new.items) }
 {
     for address in addresses {

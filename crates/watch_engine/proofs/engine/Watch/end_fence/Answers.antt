@@ -13,7 +13,7 @@ returns-clause-ok g c = λ hart trace at.
     let scheme = c.args.self.now.scheme in
     let token : ℕ = c.args.token in
     let held : List Held = c.args.self.now.held.items in
-    let drops : List PastFence = c.args.self.now.drops.items in
+    let drops : List PastFence = c.args.self.now.drops.fences.items in
     let is : c.newest_fence-fence.result ≡ newest_fence token None c.args.self.now.fences.items = c.newest_fence-fence.ensures ∙ ap (newest_fence token None) c.as_slice.ensures.value in
     remote_end_stands at hart token _ _ _
     (c.drop_remote.ensures ∙ ap (λ (f : Option OpenFence). filter (outlives_remote scheme f) held) is)

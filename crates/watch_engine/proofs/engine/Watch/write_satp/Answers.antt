@@ -13,11 +13,11 @@ returns-in_err-add_hart-clause-err g c = λ trace at. on_err _ _ (other_satps at
 
 pub returns-in_err-add_left-clause-err : goal.returns-in_err-add_left-clause-err
 returns-in_err-add_left-clause-err g c = λ trace at.
-    on_err _ _ (subst (λ (ls : List Left). Stands c.args.self.now.scheme trace (g.T.Tables.words c.args.self.now.tables) (g.T.Tables.since c.args.self.now.tables) c.add_hart.new.self.spaces.items c.args.self.now.roots c.args.self.now.held.items ls c.args.self.now.drops.items c.args.self.now.fences.items c.args.self.now.claims.items c.args.self.now.count) (sym c.in_err-add_left.ensures.err) (other_satps at _ c.add_hart.new.self.limit c.add_hart.ensures.same))
+    on_err _ _ (subst (λ (ls : List Left). Stands c.args.self.now.scheme trace (g.T.Tables.words c.args.self.now.tables) (g.T.Tables.since c.args.self.now.tables) c.add_hart.new.self.spaces.items c.args.self.now.roots c.args.self.now.held.items ls c.args.self.now.drops.fences.items c.args.self.now.fences.items c.args.self.now.claims.items c.args.self.now.count) (sym c.in_err-add_left.ensures.err) (other_satps at _ c.add_hart.new.self.limit c.add_hart.ensures.same))
 
 pub returns-in_err-new-clause-err : goal.returns-in_err-new-clause-err
 returns-in_err-new-clause-err g c = λ trace at.
-    let drops : List PastFence = c.args.self.now.drops.items in
+    let drops : List PastFence = c.args.self.now.drops.fences.items in
     let grown = other_satps at _ c.add_hart.new.self.limit c.add_hart.ensures.same in
     let long : length c.as_slice-fences.result.now ≡ length drops = ap (λ (ds : List PastFence). length ds) c.as_slice-fences.ensures.value in
     let pushed = left_pushed grown c.args.hart c.satp-old.result (sym c.satp-old.ensures) (length c.as_slice-fences.result.now) long _ c.in_ok-add_left.ensures.ok in
@@ -28,7 +28,7 @@ returns-clause-ok g c = λ trace at.
     let watch = c.args.self.now in
     let scheme = watch.scheme in
     let words : Tables = g.T.Tables.words watch.tables in
-    let drops : List PastFence = watch.drops.items in
+    let drops : List PastFence = watch.drops.fences.items in
     let held : List Held = watch.held.items in
     let these : List ℕ = c.add.new.self in
     let grown = other_satps at _ c.add_hart.new.self.limit c.add_hart.ensures.same in

@@ -1,0 +1,293 @@
+-- Fences that may drop an entry of a page of 4 KiB are found by three keys.
+use Rattle.std.proofs.Common.{◌≡◌, ℕ, ◌<◌, ◌≤◌, ◌+◌, ◌-◌, ◌%◌, Bool, true, false, not, List, [], ◌∷◌, length, take, drop, map, get_or, Option, Some, None, IsTrue, ap, sym, subst, ◌∙◌, refl, arith, zero, suc, inl, inr}
+use Rattle.std.specs.Prelude.{◌==◌, ◌⊎◌, ◌&&◌, ◌||◌, nat_le, nat_lt, if◌then◌else◌}
+use Rattle.std.specs.List.{list_any}
+use Rattle.std.proofs.lemmas.Bool.{and_parts, and_from, cases_Bool, cases_lt, eq-eqb, eqb-true, eqb-false, false_from_ne_true, not-true, true≢false}
+use Rattle.std.proofs.lemmas.Bool.Decides.{nat_tests}
+use Rattle.std.proofs.lemmas.List.{length-take-le, length-map, get_or_default, drop_all, drop-append-le, get_or-map}
+use Rattle.std.proofs.lemmas.List.Folds.{list_any-append}
+use Rattle.std.proofs.Math.Bool.{or-false}
+use Rattle.std.proofs.Math.Seq.{take-length, take-suc}
+use Rattle.pte.specs.declared.scheme.Scheme.{Scheme}
+use Rattle.pte.specs.declared.address.PageSize.TheVariants.{Kib4}
+use Rattle.pte.specs.Address.{IsPage, bytes_of, holds, is_canonical}
+use Rattle.tlb.specs.declared.store.Entry.{Entry}
+use Rattle.tlb.specs.Fence.{is_fenced, is_of_address, is_of_space}
+use Rattle.watch.specs.declared.trace.AddressRange.{AddressRange}
+use Rattle.watch.specs.Holding.{is_covered, names, reaches}
+use Rattle.watch_engine.specs.declared.left.Left.{Left}
+use Rattle.watch_engine.specs.declared.left.PastFence.{PastFence}
+use Rattle.watch_engine.specs.declared.left.PastFence.TheVariants.{Own, Remote}
+use Rattle.watch_engine.specs.Chains.{last_place}
+use Rattle.watch_engine.specs.Left.{is_taken_since, takes}
+use Rattle.watch_engine.specs.PastFences.{asid_key, is_in_page, is_taken_by, is_taken_by_asid, key_of, page_key, range_key, takes_by, wide_key}
+use Rattle.watch_engine.proofs.LastPlaces.{last_no, last_of_all, last_passes, last_within, last_yes}
+
+-- an entry of a page of 4 KiB
+pub record IsSmall (e : Entry) : Type 0 where
+  pub bytes : bytes_of e.page.size ≡ 4096
+  pub aligned : e.page.base % 4096 ≡ 0
+
+-- the key is one of the three of the entry
+abbrev pub Concerns : Entry → ℕ → Type 0
+Concerns e key =
+    (key ≡ page_key e.page.base)
+    ⊎ (((e.global ≡ false) × (key ≡ asid_key e.asid)) ⊎ (key ≡ wide_key None))
+
+of_address : (scheme : Scheme) (address : ℕ) (e : Entry) → IsSmall e → IsTrue (is_of_address scheme address e)
+    → page_key address ≡ page_key e.page.base
+of_address scheme address e small is =
+    let parts = and_parts (is_canonical scheme address) (holds e.page address) is in
+    let both = and_parts (nat_le e.page.base address) _ parts.1 in
+    let low : e.page.base ≤ address = grind (arith, nat_tests) in
+    let high : address < e.page.base + bytes_of e.page.size = grind (arith, nat_tests) in
+    omega (arith, small.bytes, small.aligned)
+
+of_range : (range : AddressRange) (e : Entry) → IsSmall e → IsTrue (is_in_page range) → IsTrue (reaches (Some range) e.page)
+    → page_key range.start ≡ page_key e.page.base
+of_range range e small fits is =
+    let all = and_parts (nat_lt 0 range.size) _ is in
+    let parts = and_parts (nat_lt range.start (e.page.base + bytes_of e.page.size)) (nat_lt e.page.base (range.start + range.size)) all.1 in
+    let some : 0 < range.size = grind (arith, nat_tests) in
+    let start : range.start < e.page.base + bytes_of e.page.size = grind (arith, nat_tests) in
+    let end : e.page.base < range.start + range.size = grind (arith, nat_tests) in
+    let within : range.size ≤ 4096 - range.start % 4096 = grind (arith, nat_tests) in
+    omega (arith, small.bytes, small.aligned)
+
+of_wide : (scheme : Scheme) (asid : Option ℕ) (e : Entry) → IsTrue (is_fenced scheme None asid e) → Concerns e (wide_key asid)
+of_wide scheme None e is = inr (inr refl)
+of_wide scheme (Some asid) e is =
+    let parts = and_parts (not e.global) _ is in
+    inr (inl (not-true _ parts.0, ap asid_key (sym (eqb-true _ _ parts.1))))
+
+of_fence : (scheme : Scheme) (range : Option AddressRange) (asid : Option ℕ) (e : Entry) → IsSmall e
+    → IsTrue (reaches range e.page) → IsTrue (is_fenced scheme None asid e) → Concerns e (range_key range asid)
+of_fence scheme None asid e small reach is = of_wide scheme asid e is
+of_fence scheme (Some range) asid e small reach is =
+    elim (cases_Bool (is_in_page range)) [
+      | inl narrow ↦ inl (ap (λ b. if b then page_key range.start else wide_key asid) narrow ∙ of_range range e small narrow reach)
+      | inr wide ↦ subst (Concerns e) (sym (ap (λ b. if b then page_key range.start else wide_key asid) wide)) (of_wide scheme asid e is)
+    ]
+
+of_own : (scheme : Scheme) (rs1 rs2 : Option ℕ) (of : ℕ) (e : Entry) → IsSmall e → IsTrue (is_fenced scheme rs1 rs2 e)
+    → Concerns e (key_of (Own of rs1 rs2))
+of_own scheme None rs2 of e small is = of_wide scheme rs2 e is
+of_own scheme (Some rs1) None of e small is = inl (of_address scheme rs1 e small is)
+of_own scheme (Some rs1) (Some rs2) of e small is =
+    inl (of_address scheme rs1 e small (and_parts (is_of_address scheme rs1 e) (is_of_space rs2 e) is).0)
+
+-- a fence that drops an entry of a page of 4 KiB has one of its keys
+concerns : (scheme : Scheme) (l : Left) (e : Entry) (fence : PastFence) → IsSmall e
+    → takes scheme l e fence ≡ true → Concerns e (key_of fence)
+concerns scheme l e (Own of rs1 rs2) small is =
+    of_own scheme rs1 rs2 of e small (and_parts (of == l.hart) _ is).1
+concerns scheme l e (Remote fence begun) small is =
+    let parts = and_parts (names fence l.hart) _ is in
+    let more = and_parts (is_covered scheme fence e) _ parts.1 in
+    let covered = and_parts (reaches fence.range e.page) (is_fenced scheme None fence.asid e) more.0 in
+    of_fence scheme fence.range fence.asid e small covered.0 covered.1
+
+by_key : (key : ℕ) (scheme : Scheme) (l : Left) (e : Entry) (fence : PastFence)
+    → takes scheme l e fence ≡ true → key_of fence ≡ key → takes_by key scheme l e fence ≡ true
+by_key key scheme l e fence is of = and_from _ _ is (eq-eqb _ _ of)
+
+with_left : (a b c : Bool) → a ≡ true → ((a || b) || c) ≡ true
+with_left a b c is = ap (λ t. (t || b) || c) is
+
+with_middle : (a b c : Bool) → b ≡ true → ((a || b) || c) ≡ true
+with_middle true b c is = refl
+with_middle false b c is = ap (λ t. t || c) is
+
+with_right : (a b c : Bool) → c ≡ true → ((a || b) || c) ≡ true
+with_right true b c is = refl
+with_right false true c is = refl
+with_right false false c is = is
+
+pub one_of : (a b c : Bool) → (a ≡ true) ⊎ ((b ≡ true) ⊎ (c ≡ true)) → ((a || b) || c) ≡ true
+one_of a b c (inl is) = with_left a b c is
+one_of a b c (inr (inl is)) = with_middle a b c is
+one_of a b c (inr (inr is)) = with_right a b c is
+
+pub third : (a b c : Bool) → a ≡ false → b ≡ false → ((a || b) || c) ≡ c
+third a b c p q = λ i. (p i || q i) || c
+
+none_of : (t a b c : Bool) → (a ≡ true → t ≡ true) → (b ≡ true → t ≡ true) → (c ≡ true → t ≡ true)
+    → (t ≡ true → ((a || b) || c) ≡ true) → t ≡ ((a || b) || c)
+none_of true a b c x y z w = sym (w refl)
+none_of false a b c x y z w =
+    let p : a ≡ false = false_from_ne_true a (λ h. true≢false (sym (x h))) in
+    let q : b ≡ false = false_from_ne_true b (λ h. true≢false (sym (y h))) in
+    let r : c ≡ false = false_from_ne_true c (λ h. true≢false (sym (z h))) in
+    λ i. (sym p i || sym q i) || sym r i
+
+-- a fence drops an entry of a page of 4 KiB if it has one of the three keys and drops it
+one_fence : (scheme : Scheme) (l : Left) (e : Entry) (fence : PastFence) → IsSmall e
+    → takes scheme l e fence
+    ≡ ((takes_by (page_key e.page.base) scheme l e fence || (not e.global && takes_by (asid_key e.asid) scheme l e fence))
+    || takes_by (wide_key None) scheme l e fence)
+one_fence scheme l e fence small =
+    let t : Bool = takes scheme l e fence in
+    let page : Bool = takes_by (page_key e.page.base) scheme l e fence in
+    let asid : Bool = takes_by (asid_key e.asid) scheme l e fence in
+    let all : Bool = takes_by (wide_key None) scheme l e fence in
+    none_of t page (not e.global && asid) all
+    (λ h. (and_parts t (key_of fence == page_key e.page.base) h).0)
+    (λ h. (and_parts t (key_of fence == asid_key e.asid) (and_parts (not e.global) asid h).1).0)
+    (λ h. (and_parts t (key_of fence == wide_key None) h).0)
+    (λ h. one_of page (not e.global && asid) all (elim (concerns scheme l e fence small h) [
+      | inl of ↦ inl (by_key _ scheme l e fence h of)
+      | inr (inl of) ↦ inr (inl (and_from (not e.global) asid (ap not of.0) (by_key _ scheme l e fence h of.1)))
+      | inr (inr of) ↦ inr (inr (by_key _ scheme l e fence h of))
+    ]))
+
+swapped : (p q r s : Bool) → ((p || q) || (r || s)) ≡ ((p || r) || (q || s))
+swapped true q r s = refl
+swapped false true true s = refl
+swapped false true false s = refl
+swapped false false r s = refl
+
+any_either : (P Q : PastFence → Bool) (fences : List PastFence)
+    → list_any (λ f. P f || Q f) fences ≡ (list_any P fences || list_any Q fences)
+any_either P Q [] = refl
+any_either P Q (f ∷ fences) =
+    ap (λ t. (P f || Q f) || t) (any_either P Q fences) ∙ swapped (P f) (Q f) (list_any P fences) (list_any Q fences)
+
+any_never : (fences : List PastFence) → list_any (λ f. false) fences ≡ false
+any_never [] = refl
+any_never (f ∷ fences) = any_never fences
+
+any_under : (g : Bool) (P : PastFence → Bool) (fences : List PastFence)
+    → list_any (λ f. g && P f) fences ≡ (g && list_any P fences)
+any_under true P fences = refl
+any_under false P fences = any_never fences
+
+any_same : (P Q : PastFence → Bool) → ((f : PastFence) → P f ≡ Q f) → (fences : List PastFence)
+    → list_any P fences ≡ list_any Q fences
+any_same P Q same [] = refl
+any_same P Q same (f ∷ fences) = λ i. same f i || any_same P Q same fences i
+
+-- so do fences
+pub by_three_keys : (scheme : Scheme) (l : Left) (e : Entry) (fences : List PastFence) → IsSmall e
+    → is_taken_since scheme fences l e
+    ≡ ((is_taken_by (page_key e.page.base) scheme fences l e || is_taken_by_asid scheme fences l e)
+    || is_taken_by (wide_key None) scheme fences l e)
+by_three_keys scheme l e fences small =
+    let since : List PastFence = drop l.fences fences in
+    let P : PastFence → Bool = takes_by (page_key e.page.base) scheme l e in
+    let Q : PastFence → Bool = takes_by (asid_key e.asid) scheme l e in
+    let R : PastFence → Bool = takes_by (wide_key None) scheme l e in
+    any_same (takes scheme l e) (λ f. (P f || (not e.global && Q f)) || R f) (λ f. one_fence scheme l e f small) since
+    ∙ any_either (λ f. P f || (not e.global && Q f)) R since
+    ∙ ap (λ t. t || list_any R since) (any_either P (λ f. not e.global && Q f) since)
+    ∙ ap (λ t. (list_any P since || t) || list_any R since) (any_under (not e.global) Q since)
+
+-- the fence at a place is not asked for
+none : PastFence
+none = Own 0 None None
+
+any_no : (P : PastFence → Bool) (fences : List PastFence) (since n : ℕ) → n < length fences
+    → P (get_or fences n none) ≡ false
+    → list_any P (drop since (take (suc n) fences)) ≡ list_any P (drop since (take n fences))
+any_no P fences since n h is =
+    let size : length (take n fences) ≡ n = length-take-le n fences (omega arith) in
+    let more = take-suc fences n none h in
+    elim (cases_lt n since) [
+      | inl before ↦
+          (let less : length (take (suc n) fences) ≡ suc n = length-take-le (suc n) fences (omega arith) in
+          ap (list_any P) (drop_all since (take (suc n) fences) (omega arith) ∙ sym (drop_all since (take n fences) (omega arith))))
+      | inr after ↦
+          (ap (λ (xs : List PastFence). list_any P (drop since xs)) more
+          ∙ ap (list_any P) (drop-append-le since (take n fences) (get_or fences n none ∷ []) (omega arith))
+          ∙ list_any-append P (drop since (take n fences)) (get_or fences n none ∷ [])
+          ∙ ap (λ t. list_any P (drop since (take n fences)) || (t || false)) is
+          ∙ or-false _)
+    ]
+
+-- only fences with the key count, so those after the last one with it do not
+any_last : (P : PastFence → Bool) (key : ℕ) → ((f : PastFence) → P f ≡ true → key_of f ≡ key)
+    → (fences : List PastFence) (since n : ℕ) → n ≤ length fences
+    → list_any P (drop since (take n fences))
+    ≡ list_any P (drop since (take (last_place key (take n (map key_of fences))) fences))
+any_last P key has fences since zero h = refl
+any_last P key has fences since (suc n) h =
+    let keys : List ℕ = map key_of fences in
+    let size : length keys ≡ length fences = length-map fences key_of in
+    let at : get_or keys n 0 ≡ key_of (get_or fences n none) = get_or-map key_of fences n none 0 (omega arith) in
+    elim (cases_Bool (get_or keys n 0 == key)) [
+      | inl here ↦ ap (λ (m : ℕ). list_any P (drop since (take m fences))) (sym (last_yes (λ k. k == key) keys n (omega arith) here))
+      | inr other ↦
+          (let not_taken : P (get_or fences n none) ≡ false =
+          false_from_ne_true _ (λ taken. eqb-false _ _ other (at ∙ has _ taken)) in
+          any_no P fences since n (omega arith) not_taken
+          ∙ any_last P key has fences since n (omega arith)
+          ∙ ap (λ (m : ℕ). list_any P (drop since (take m fences))) (sym (last_no (λ k. k == key) keys n (omega arith) other)))
+    ]
+
+has_key : (key : ℕ) (scheme : Scheme) (l : Left) (e : Entry) (fence : PastFence)
+    → takes_by key scheme l e fence ≡ true → key_of fence ≡ key
+has_key key scheme l e fence is = eqb-true _ _ (and_parts (takes scheme l e fence) _ is).1
+
+-- the walk is at the place before this: the fence there has the key, and the answer is that of the
+-- fences up to there
+pub record IsAt (key : ℕ) (scheme : Scheme) (l : Left) (e : Entry) (fences : List PastFence) (at : ℕ) : Type 0 where
+  pub within : at ≤ length fences
+  pub has : 0 < at → get_or (map key_of fences) (at - 1) 0 ≡ key
+  pub same : is_taken_by key scheme (take at fences) l e ≡ is_taken_by key scheme fences l e
+
+at_last : (key : ℕ) (scheme : Scheme) (l : Left) (e : Entry) (fences : List PastFence) (n : ℕ) → n ≤ length fences
+    → is_taken_by key scheme (take n fences) l e ≡ is_taken_by key scheme fences l e
+    → IsAt key scheme l e fences (last_place key (take n (map key_of fences)))
+at_last key scheme l e fences n h is =
+    let keys : List ℕ = map key_of fences in
+    let size : length keys ≡ length fences = length-map fences key_of in
+    let count : n ≤ length keys = omega arith in
+    let below : last_place key (take n keys) ≤ n = last_within (λ k. k == key) keys n count in
+    record {
+      within = omega arith;
+      has = λ some. eqb-true _ _ (last_passes (λ k. k == key) keys n count some);
+      same = sym (any_last (takes_by key scheme l e) key (has_key key scheme l e) fences l.fences n h) ∙ is;
+    }
+
+-- it begins at the newest fence with the key
+pub at_first : (key : ℕ) (scheme : Scheme) (l : Left) (e : Entry) (fences : List PastFence) (keys : List ℕ) (at : ℕ)
+    → keys ≡ map key_of fences → at ≡ last_place key keys → IsAt key scheme l e fences at
+at_first key scheme l e fences keys at are is =
+    let size : length (map key_of fences) ≡ length fences = length-map fences key_of in
+    let found : last_place key (take (length fences) (map key_of fences)) ≡ at =
+    ap (λ (n : ℕ). last_place key (take n (map key_of fences))) (sym size)
+    ∙ last_of_all key (map key_of fences) ∙ ap (last_place key) (sym are) ∙ sym is in
+    subst (IsAt key scheme l e fences) found
+    (at_last key scheme l e fences (length fences) (omega arith)
+    (ap (λ (xs : List PastFence). is_taken_by key scheme xs l e) (take-length fences)))
+
+-- and goes on to the next older one
+pub at_next : (key : ℕ) (scheme : Scheme) (l : Left) (e : Entry) (fences : List PastFence) (keys : List ℕ) (at older : ℕ) (fence : PastFence)
+    → keys ≡ map key_of fences → 0 < at → IsAt key scheme l e fences at
+    → fence ≡ get_or fences (at - 1) fence → takes scheme l e fence ≡ false
+    → older ≡ last_place (get_or keys (at - 1) 0) (take (at - 1) keys) → IsAt key scheme l e fences older
+at_next key scheme l e fences keys zero older fence are some was there no_drop is = absurd (omega arith)
+at_next key scheme l e fences keys (suc n) older fence are some was there no_drop is =
+    let at : suc n - 1 ≡ n = omega arith in
+    let room : n < length fences = omega (arith, was.within) in
+    let here : get_or fences n none ≡ fence =
+    get_or_default fences n none fence room ∙ ap (λ (m : ℕ). get_or fences m fence) (sym at) ∙ sym there in
+    let not_taken : takes_by key scheme l e (get_or fences n none) ≡ false =
+    ap (takes_by key scheme l e) here ∙ ap (λ t. t && (key_of fence == key)) no_drop in
+    let has : get_or keys (suc n - 1) 0 ≡ key = ap (λ (ks : List ℕ). get_or ks (suc n - 1) 0) are ∙ was.has some in
+    let found : older ≡ last_place key (take n (map key_of fences)) =
+    is ∙ (λ i. last_place (has i) (take (at i) (are i))) in
+    subst (IsAt key scheme l e fences) (sym found)
+    (at_last key scheme l e fences n (omega arith)
+    (sym (any_no (takes_by key scheme l e) fences l.fences n room not_taken) ∙ was.same))
+
+-- which lies before it
+pub older_is_less : (keys : List ℕ) (key at older : ℕ) → 0 < at → at ≤ length keys
+    → older ≡ last_place key (take (at - 1) keys) → older < at
+older_is_less keys key at older some within is =
+    let below : last_place key (take (at - 1) keys) ≤ at - 1 = last_within (λ k. k == key) keys (at - 1) (omega arith) in
+    omega arith
+
+pub small_entry : (e : Entry) → e.page.size ≡ Kib4 → IsPage e.page → IsSmall e
+small_entry e size page =
+    let bytes : bytes_of e.page.size ≡ 4096 = ap bytes_of size in
+    record { bytes = bytes; aligned = subst (λ (n : ℕ). e.page.base % n ≡ 0) bytes page.aligned }

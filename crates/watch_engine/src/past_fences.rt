@@ -1,0 +1,143 @@
+//! Fences that have been executed, each found by a key of what it can drop.
+
+ghost use Rattle.std.specs.Prelude.{◌≡◌, ◌≤◌, ◌+◌, ◌%◌, ◌^◌, ◌++◌, ◌∷◌, [], None, OnErr, OnOk, map};
+ghost use Rattle.watch_engine.specs.Left.{is_taken_since};
+ghost use Rattle.watch_engine.specs.PastFences.{asid_key, is_in_page, is_taken_by, is_taken_by_asid, key_of, page_key, range_key, wide_key};
+
+use crate::chains::Chains;
+use crate::fence::{ASIDS, asid_register};
+use crate::left::{Left, PastFence, is_taken_since};
+use pte::{PAGE_BYTES, PageSize, Scheme};
+use std::alloc::{AllocError, Global};
+use tlb::Entry;
+use watch::AddressRange;
+
+/// Keys of address spaces begin here: there are fewer pages.
+const ASID_KEYS: u64 = 1 << 52;
+
+fn page_key(address: u64) -> u64
+    ensures { result ≡ page_key address }
+{
+    address / PAGE_BYTES
+}
+
+fn asid_key(asid: u64) -> u64
+    requires { asid ≤ 2 ^ 16 }
+    ensures { result ≡ asid_key asid }
+{
+    ASID_KEYS + asid
+}
+
+fn wide_key(asid: Option<u64>) -> u64
+    ensures { result ≡ wide_key asid }
+{
+    match asid {
+        None => asid_key(ASIDS),
+        Some(asid) => asid_key(asid % ASIDS),
+    }
+}
+
+fn is_in_page(range: &AddressRange) -> bool
+    ensures { result ≡ is_in_page range.now }
+{
+    range.size <= PAGE_BYTES - range.start % PAGE_BYTES
+}
+
+fn range_key(range: &Option<AddressRange>, asid: Option<u64>) -> u64
+    ensures { result ≡ range_key range.now asid }
+{
+    let Some(range) = range else {
+        return wide_key(asid);
+    };
+    if is_in_page(range) {
+        page_key(range.start)
+    } else {
+        wide_key(asid)
+    }
+}
+
+impl PastFence {
+    // A fence drops no entry of a page of 4 KiB but one whose page, whose ASID or who as any has this key.
+    fn key(&self) -> u64
+        ensures { result ≡ key_of self.now }
+    {
+        match self {
+            PastFence::Own { rs1: None, rs2, .. } => wide_key(*rs2),
+            PastFence::Own {
+                rs1: Some(address),
+                ..
+            } => page_key(*address),
+            PastFence::Remote { fence, .. } => range_key(&fence.range, asid_register(fence.asid)),
+        }
+    }
+}
+
+/// Fences that have been executed, the oldest first.
+#[derive(Drop)]
+pub(crate) struct PastFences {
+    pub(crate) fences: Vec<PastFence>,
+    keys: Chains,
+    ghost keyed: { keys.keys.items ≡ map key_of fences.items },
+}
+
+impl PastFences {
+    pub(crate) fn new(alloc: Global) -> PastFences
+        ensures { result.fences.items ≡ [] }
+    {
+        PastFences {
+            fences: Vec::new(alloc),
+            keys: Chains::new(alloc),
+        }
+    }
+
+    /// With one more. At `Err` nothing changed.
+    pub(crate) fn push(&mut self, fence: PastFence) -> Result<(), AllocError>
+        ensures ok { OnOk result (self.new.fences.items ≡ self.old.fences.items ++ fence ∷ []) }
+        ensures err { OnErr result (self.new.fences.items ≡ self.old.fences.items) }
+    {
+        self.fences.push(fence)?;
+        if self.keys.push(fence.key()).is_err() {
+            let _ = self.fences.pop();
+            return Err(AllocError);
+        }
+        Ok(())
+    }
+
+    // Whether a fence with the key since the hart left the space has dropped the entry.
+    fn is_taken_by(&self, key: u64, scheme: Scheme, left: &Left, entry: &Entry) -> bool
+        ensures { result ≡ is_taken_by key scheme self.now.fences.items left.now entry.now }
+    {
+        let mut at = self.keys.newest(key);
+        while at as u64 > left.fences {
+            let fence = self.fences[at - 1];
+            if fence.takes(scheme, left, entry) {
+                return true;
+            }
+            at = self.keys.before(at);
+        }
+        false
+    }
+
+    // The same of fences for the ASID alone, which drop nothing that is global.
+    fn is_taken_by_asid(&self, scheme: Scheme, left: &Left, entry: &Entry) -> bool
+        ensures { result ≡ is_taken_by_asid scheme self.now.fences.items left.now entry.now }
+    {
+        !entry.global && self.is_taken_by(asid_key(u64::from(entry.asid)), scheme, left, entry)
+    }
+
+    /// Whether a fence since the hart left the space has dropped the entry.
+    pub(crate) fn is_taken_since(&self, scheme: Scheme, left: &Left, entry: &Entry) -> bool
+        ensures { result ≡ is_taken_since scheme self.now.fences.items left.now entry.now }
+    {
+        let PageSize::Kib4 = entry.page.size() else {
+            return is_taken_since(scheme, self.fences.as_slice(), left, entry);
+        };
+        if self.is_taken_by(page_key(entry.page.base().get()), scheme, left, entry) {
+            return true;
+        }
+        if self.is_taken_by_asid(scheme, left, entry) {
+            return true;
+        }
+        self.is_taken_by(wide_key(None), scheme, left, entry)
+    }
+}
