@@ -18,10 +18,10 @@ use Rattle.watch.specs.Holding.{is_covered, names, reaches}
 use Rattle.watch_engine.specs.declared.left.Left.{Left}
 use Rattle.watch_engine.specs.declared.left.PastFence.{PastFence}
 use Rattle.watch_engine.specs.declared.left.PastFence.TheVariants.{Own, Remote}
-use Rattle.watch_engine.specs.Chains.{last_place}
+use Rattle.watch_engine.specs.Chains.{above, last_place}
 use Rattle.watch_engine.specs.Left.{is_taken_since, takes}
 use Rattle.watch_engine.specs.PastFences.{asid_key, is_in_page, is_taken_by, is_taken_by_asid, key_of, page_key, range_key, takes_by, wide_key}
-use Rattle.watch_engine.proofs.LastPlaces.{last_no, last_of_all, last_passes, last_within, last_yes}
+use Rattle.watch_engine.proofs.LastPlaces.{above_less, above_more, last_no, last_of_all, last_passes, last_within, last_yes}
 
 -- an entry of a page of 4 KiB
 pub record IsSmall (e : Entry) : Type 0 where
@@ -227,36 +227,58 @@ has_key : (key : ℕ) (scheme : Scheme) (l : Left) (e : Entry) (fence : PastFenc
     → takes_by key scheme l e fence ≡ true → key_of fence ≡ key
 has_key key scheme l e fence is = eqb-true _ _ (and_parts (takes scheme l e fence) _ is).1
 
--- the walk is at the place before this: the fence there has the key, and the answer is that of the
--- fences up to there
+-- the walk is at the place before this: the fence there came since and has the key, and the answer is
+-- that of the fences up to there
 pub record IsAt (key : ℕ) (scheme : Scheme) (l : Left) (e : Entry) (fences : List PastFence) (at : ℕ) : Type 0 where
   pub within : at ≤ length fences
   pub has : 0 < at → get_or (map key_of fences) (at - 1) 0 ≡ key
+  pub since : 0 < at → l.fences < at
   pub same : is_taken_by key scheme (take at fences) l e ≡ is_taken_by key scheme fences l e
+
+-- fences before the hart left do not count
+none_since : (key : ℕ) (scheme : Scheme) (l : Left) (e : Entry) (fences : List PastFence) (n : ℕ)
+    → n ≤ length fences → n ≤ l.fences → is_taken_by key scheme (take n fences) l e ≡ false
+none_since key scheme l e fences n h old =
+    let size : length (take n fences) ≡ n = length-take-le n fences h in
+    ap (list_any (takes_by key scheme l e)) (drop_all l.fences (take n fences) (omega arith))
 
 at_last : (key : ℕ) (scheme : Scheme) (l : Left) (e : Entry) (fences : List PastFence) (n : ℕ) → n ≤ length fences
     → is_taken_by key scheme (take n fences) l e ≡ is_taken_by key scheme fences l e
-    → IsAt key scheme l e fences (last_place key (take n (map key_of fences)))
+    → IsAt key scheme l e fences (above l.fences (last_place key (take n (map key_of fences))))
 at_last key scheme l e fences n h is =
     let keys : List ℕ = map key_of fences in
     let size : length keys ≡ length fences = length-map fences key_of in
     let count : n ≤ length keys = omega arith in
-    let below : last_place key (take n keys) ≤ n = last_within (λ k. k == key) keys n count in
-    record {
-      within = omega arith;
-      has = λ some. eqb-true _ _ (last_passes (λ k. k == key) keys n count some);
-      same = sym (any_last (takes_by key scheme l e) key (has_key key scheme l e) fences l.fences n h) ∙ is;
-    }
+    let last : ℕ = last_place key (take n keys) in
+    let below : last ≤ n = last_within (λ k. k == key) keys n count in
+    let same : is_taken_by key scheme (take last fences) l e ≡ is_taken_by key scheme fences l e =
+    sym (any_last (takes_by key scheme l e) key (has_key key scheme l e) fences l.fences n h) ∙ is in
+    elim (cases_lt l.fences last) [
+      | inl since ↦ subst (IsAt key scheme l e fences) (sym (above_more l.fences last since)) (record {
+        within = omega arith;
+        has = λ some. eqb-true _ _ (last_passes (λ k. k == key) keys n count some);
+        since = λ some. since;
+        same = same;
+      })
+      | inr old ↦ subst (IsAt key scheme l e fences) (sym (above_less l.fences last old)) (record {
+        within = omega arith;
+        has = λ some. absurd (omega arith);
+        since = λ some. absurd (omega arith);
+        same =
+            none_since key scheme l e fences 0 (omega arith) (omega arith)
+            ∙ sym (none_since key scheme l e fences last (omega arith) old) ∙ same;
+      })
+    ]
 
 -- it begins at the newest fence with the key
 pub at_first : (key : ℕ) (scheme : Scheme) (l : Left) (e : Entry) (fences : List PastFence) (keys : List ℕ) (at : ℕ)
-    → keys ≡ map key_of fences → at ≡ last_place key keys → IsAt key scheme l e fences at
+    → keys ≡ map key_of fences → at ≡ above l.fences (last_place key keys) → IsAt key scheme l e fences at
 at_first key scheme l e fences keys at are is =
     let size : length (map key_of fences) ≡ length fences = length-map fences key_of in
-    let found : last_place key (take (length fences) (map key_of fences)) ≡ at =
+    let found : last_place key (take (length fences) (map key_of fences)) ≡ last_place key keys =
     ap (λ (n : ℕ). last_place key (take n (map key_of fences))) (sym size)
-    ∙ last_of_all key (map key_of fences) ∙ ap (last_place key) (sym are) ∙ sym is in
-    subst (IsAt key scheme l e fences) found
+    ∙ last_of_all key (map key_of fences) ∙ ap (last_place key) (sym are) in
+    subst (IsAt key scheme l e fences) (ap (above l.fences) found ∙ sym is)
     (at_last key scheme l e fences (length fences) (omega arith)
     (ap (λ (xs : List PastFence). is_taken_by key scheme xs l e) (take-length fences)))
 
@@ -264,7 +286,7 @@ at_first key scheme l e fences keys at are is =
 pub at_next : (key : ℕ) (scheme : Scheme) (l : Left) (e : Entry) (fences : List PastFence) (keys : List ℕ) (at older : ℕ) (fence : PastFence)
     → keys ≡ map key_of fences → 0 < at → IsAt key scheme l e fences at
     → fence ≡ get_or fences (at - 1) fence → takes scheme l e fence ≡ false
-    → older ≡ last_place (get_or keys (at - 1) 0) (take (at - 1) keys) → IsAt key scheme l e fences older
+    → older ≡ above l.fences (last_place (get_or keys (at - 1) 0) (take (at - 1) keys)) → IsAt key scheme l e fences older
 at_next key scheme l e fences keys zero older fence are some was there no_drop is = absurd (omega arith)
 at_next key scheme l e fences keys (suc n) older fence are some was there no_drop is =
     let at : suc n - 1 ≡ n = omega arith in
@@ -274,18 +296,22 @@ at_next key scheme l e fences keys (suc n) older fence are some was there no_dro
     let not_taken : takes_by key scheme l e (get_or fences n none) ≡ false =
     ap (takes_by key scheme l e) here ∙ ap (λ t. t && (key_of fence == key)) no_drop in
     let has : get_or keys (suc n - 1) 0 ≡ key = ap (λ (ks : List ℕ). get_or ks (suc n - 1) 0) are ∙ was.has some in
-    let found : older ≡ last_place key (take n (map key_of fences)) =
-    is ∙ (λ i. last_place (has i) (take (at i) (are i))) in
+    let found : older ≡ above l.fences (last_place key (take n (map key_of fences))) =
+    is ∙ (λ i. above l.fences (last_place (has i) (take (at i) (are i)))) in
     subst (IsAt key scheme l e fences) (sym found)
     (at_last key scheme l e fences n (omega arith)
     (sym (any_no (takes_by key scheme l e) fences l.fences n room not_taken) ∙ was.same))
 
 -- which lies before it
-pub older_is_less : (keys : List ℕ) (key at older : ℕ) → 0 < at → at ≤ length keys
-    → older ≡ last_place key (take (at - 1) keys) → older < at
-older_is_less keys key at older some within is =
-    let below : last_place key (take (at - 1) keys) ≤ at - 1 = last_within (λ k. k == key) keys (at - 1) (omega arith) in
-    omega arith
+pub older_is_less : (keys : List ℕ) (key at older floor : ℕ) → 0 < at → at ≤ length keys
+    → older ≡ above floor (last_place key (take (at - 1) keys)) → older < at
+older_is_less keys key at older floor some within is =
+    let last : ℕ = last_place key (take (at - 1) keys) in
+    let below : last ≤ at - 1 = last_within (λ k. k == key) keys (at - 1) (omega arith) in
+    elim (cases_lt floor last) [
+      | inl more ↦ (let e : older ≡ last = is ∙ above_more floor last more in omega arith)
+      | inr less ↦ (let e : older ≡ 0 = is ∙ above_less floor last less in omega arith)
+    ]
 
 pub small_entry : (e : Entry) → e.page.size ≡ Kib4 → IsPage e.page → IsSmall e
 small_entry e size page =

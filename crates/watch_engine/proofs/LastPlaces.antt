@@ -1,11 +1,12 @@
 -- The last place at which a list has what passes a test, and chains of such places.
 use Rattle.std.proofs.Common.{◌≡◌, ℕ, ◌<◌, ◌≤◌, ◌+◌, ◌-◌, Bool, true, false, List, [], ◌∷◌, ◌++◌, length, take, get_or, set, replicate, ap, sym, subst, ◌∙◌, refl, arith, zero, suc, inl, inr, length-append}
-use Rattle.std.specs.Prelude.{◌==◌, if◌then◌else◌}
+use Rattle.std.specs.Prelude.{◌==◌, nat_lt, if◌then◌else◌}
+use Rattle.std.proofs.lemmas.Bool.Decides.{nat_tests}
 use Rattle.std.proofs.lemmas.Bool.{cases_Bool, eq-eqb, eqb-true, eqb-false, false_from_ne_true, true≢false}
 use Rattle.std.proofs.lemmas.List.{take_more, length-take-le, get_or-replicate, get_or-set_same, get_or-set_other, take-append-le}
 use Rattle.std.proofs.Math.Seq.{get_or-append_seam, take-append_seam, take-length, take-suc}
 use Rattle.std.proofs.Math.ListN.{get_or-append}
-use Rattle.watch_engine.specs.Chains.{AreChained, AreChains, bucket_of, is_in, last_from, last_place, last_where}
+use Rattle.watch_engine.specs.Chains.{AreChained, AreChains, above, bucket_of, is_in, last_from, last_place, last_where}
 
 from_snoc : (test : ℕ → Bool) (found place : ℕ) (keys : List ℕ) (k : ℕ)
     → last_from test found place (keys ++ k ∷ [])
@@ -222,3 +223,9 @@ first keys links heads are key newest b room e is =
 -- the same of the whole list
 pub last_of_all : (key : ℕ) (keys : List ℕ) → last_place key (take (length keys) keys) ≡ last_place key keys
 last_of_all key keys = ap (last_place key) (take-length keys)
+
+pub above_more : (floor n : ℕ) → floor < n → above floor n ≡ n
+above_more floor n h = let test : nat_lt floor n ≡ true = grind (arith, nat_tests) in ap (λ t. if t then n else 0) test
+
+pub above_less : (floor n : ℕ) → n ≤ floor → above floor n ≡ 0
+above_less floor n h = let test : nat_lt floor n ≡ false = grind (arith, nat_tests) in ap (λ t. if t then n else 0) test

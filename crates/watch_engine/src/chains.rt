@@ -1,7 +1,7 @@
 //! Keys that are found by their newest places.
 
 ghost use Rattle.std.specs.Prelude.{◌≡◌, ◌+◌, ◌<◌, ◌≤◌, ◌-◌, ◌++◌, ◌∷◌, [], OnErr, OnOk, length, slice_index, take};
-ghost use Rattle.watch_engine.specs.Chains.{AreChained, AreChains, bucket_of, last_place};
+ghost use Rattle.watch_engine.specs.Chains.{AreChained, AreChains, above, bucket_of, last_place};
 
 use std::alloc::{AllocError, Global};
 
@@ -115,16 +115,16 @@ impl Chains {
     }
 
     // Goes down a chain of the key's bucket, from `newest` - 1, to a place of the key. One more than
-    // that, or 0 if the chain has none.
-    fn follow(&self, key: u64, newest: usize) -> usize
+    // that, or 0 if the chain has none above the floor.
+    fn follow(&self, key: u64, newest: usize, floor: usize) -> usize
         requires within { newest ≤ length self.now.keys.items }
         requires bucket { 0 < newest → bucket_of (length self.now.heads.items)
             (slice_index self.now.keys.items (newest - 1))
             ≡ bucket_of (length self.now.heads.items) key }
-        ensures { result ≡ last_place key (take newest self.now.keys.items) }
+        ensures { result ≡ above floor (last_place key (take newest self.now.keys.items)) }
     {
         let mut at = newest;
-        while at > 0 {
+        while at > floor {
             if self.keys[at - 1] == key {
                 return at;
             }
@@ -133,15 +133,34 @@ impl Chains {
         0
     }
 
-    /// One more than the newest place of a key, or 0 if it has none.
-    pub(crate) fn newest(&self, key: u64) -> usize
-        ensures { result ≡ last_place key self.now.keys.items }
+    /// One more than the newest place of a key, or 0 if that is no more than the floor. No place below
+    /// the floor is looked at.
+    pub(crate) fn newest_above(&self, key: u64, floor: usize) -> usize
+        ensures { result ≡ above floor (last_place key self.now.keys.items) }
     {
         if self.heads.is_empty() {
             return 0;
         }
         let bucket = bucket_of(self.heads.len(), key);
-        self.follow(key, self.heads[bucket])
+        self.follow(key, self.heads[bucket], floor)
+    }
+
+    /// One more than the newest place of a key, or 0 if it has none.
+    pub(crate) fn newest(&self, key: u64) -> usize
+        ensures { result ≡ last_place key self.now.keys.items }
+    {
+        self.newest_above(key, 0)
+    }
+
+    /// One more than the newest place of the same key before the one of which `place` is one more,
+    /// or 0 if that is no more than the floor. No place below the floor is looked at.
+    pub(crate) fn before_above(&self, place: usize, floor: usize) -> usize
+        requires some { 0 < place }
+        requires within { place ≤ length self.now.keys.items }
+        ensures { result ≡ above floor (last_place
+            (slice_index self.now.keys.items (place - 1)) (take (place - 1) self.now.keys.items)) }
+    {
+        self.follow(self.keys[place - 1], self.links[place - 1], floor)
     }
 
     /// One more than the newest place of the same key before the one of which `place` is one more,
@@ -152,6 +171,6 @@ impl Chains {
         ensures { result ≡ last_place (slice_index self.now.keys.items (place - 1))
             (take (place - 1) self.now.keys.items) }
     {
-        self.follow(self.keys[place - 1], self.links[place - 1])
+        self.before_above(place, 0)
     }
 }

@@ -107,13 +107,14 @@ impl PastFences {
     fn is_taken_by(&self, key: u64, scheme: Scheme, left: &Left, entry: &Entry) -> bool
         ensures { result ≡ is_taken_by key scheme self.now.fences.items left.now entry.now }
     {
-        let mut at = self.keys.newest(key);
-        while at as u64 > left.fences {
+        let since = left.fences as usize;
+        let mut at = self.keys.newest_above(key, since);
+        while at > 0 {
             let fence = self.fences[at - 1];
             if fence.takes(scheme, left, entry) {
                 return true;
             }
-            at = self.keys.before(at);
+            at = self.keys.before_above(at, since);
         }
         false
     }

@@ -1,8 +1,8 @@
 use Rattle.std.proofs.Common.{◌≡◌, ◌<◌, ◌∙◌, ℕ, List, ap, get_or, length, arith, rules}
 use Rattle.std.proofs.lemmas.Grind.{get_or_default_zero}
-use Rattle.watch_engine.specs.Chains.{bucket_of}
+use Rattle.watch_engine.specs.Chains.{above, bucket_of}
 use Rattle.watch_engine.proofs.LastPlaces.{first}
-use Rattle.watch_engine.proofs.chains.Chains.newest.Goals as goal
+use Rattle.watch_engine.proofs.chains.Chains.newest_above.Goals as goal
 
 pub follow-requires-clause-within : goal.follow-requires-clause-within
 follow-requires-clause-within c =
@@ -29,4 +29,4 @@ returns c =
     let size : c.len.result ≡ length heads = search rules in
     let room : b < length heads = omega (arith, c.bucket_of-bucket.ensures.within) in
     let is : c.index.result.now ≡ get_or heads b 0 = c.index.ensures ∙ get_or_default_zero heads b _ room in
-    c.follow.ensures ∙ (first _ _ heads c.args.self.now.chains c.args.key c.index.result.now b room (c.bucket_of-bucket.ensures.is ∙ ap (λ (n : ℕ). bucket_of n c.args.key) size) is).same
+    c.follow.ensures ∙ ap (above c.args.floor) (first _ _ heads c.args.self.now.chains c.args.key c.index.result.now b room (c.bucket_of-bucket.ensures.is ∙ ap (λ (n : ℕ). bucket_of n c.args.key) size) is).same
