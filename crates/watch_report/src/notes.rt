@@ -13,8 +13,19 @@ const RECENT: usize = 64;
 pub struct Notes {
     alloc: Global,
     texts: Vec<Vec<u8>>,
+    // for each text a number that texts seldom share
+    tags: Vec<u32>,
     // for each record one more than the place of its text, or 0 for no note
     places: Vec<u32>,
+}
+
+// A number of a text, by all of its bytes.
+fn tag_of(text: &[u8]) -> u32 {
+    let mut tag: u32 = 0;
+    for byte in text {
+        tag = tag.rotate_left(5) ^ u32::from(*byte);
+    }
+    tag
 }
 
 impl Notes {
@@ -25,6 +36,7 @@ impl Notes {
         Notes {
             alloc,
             texts: Vec::new(alloc),
+            tags: Vec::new(alloc),
             places: Vec::new(alloc),
         }
     }
@@ -42,14 +54,14 @@ impl Notes {
         }
     }
 
-    // The place of a recent text.
-    fn recent(&self, note: &[u8]) -> Option<usize>
+    // The place of a recent text, by its tag: few others are compared.
+    fn recent(&self, note: &[u8], tag: u32) -> Option<usize>
         ensures text { IfSome result (λ place. text_in self.now.texts.items place ≡ note.now) }
         ensures within { IfSome result (λ place. place ≤ length self.now.texts.items) }
     {
         let count = self.texts.len();
         for place in count.saturating_sub(RECENT)..count {
-            if self.text(place + 1) == note {
+            if self.tags.get(place) == Some(&tag) && self.text(place + 1) == note {
                 return Some(place + 1);
             }
         }
@@ -68,12 +80,14 @@ impl Notes {
         if note.is_empty() {
             return Ok(0);
         }
-        if let Some(place) = self.recent(note) {
+        let tag = tag_of(note);
+        if let Some(place) = self.recent(note, tag) {
             return Ok(place);
         }
         let mut text = Vec::new(self.alloc);
         text.extend_from_slice(note)?;
         self.texts.push(text)?;
+        self.tags.push(tag)?;
         Ok(self.texts.len())
     }
 
