@@ -1,5 +1,5 @@
--- Fences that may drop an entry of a page of 4 KiB are found by three keys.
-use Rattle.std.proofs.Common.{◌≡◌, ℕ, ◌<◌, ◌≤◌, ◌+◌, ◌-◌, ◌%◌, Bool, true, false, not, List, [], ◌∷◌, length, take, drop, map, get_or, Option, Some, None, IsTrue, ap, sym, subst, ◌∙◌, refl, arith, zero, suc, inl, inr}
+-- Fences that may drop an entry of a page of 4 KiB are found by four keys.
+use Rattle.std.proofs.Common.{◌*◌, ◌/◌, ◌^◌, ◌≡◌, ℕ, ◌<◌, ◌≤◌, ◌+◌, ◌-◌, ◌%◌, Bool, true, false, not, List, [], ◌∷◌, length, take, drop, map, get_or, Option, Some, None, IsTrue, ap, sym, subst, ◌∙◌, refl, arith, zero, suc, inl, inr}
 use Rattle.std.specs.Prelude.{◌==◌, ◌⊎◌, ◌&&◌, ◌||◌, nat_le, nat_lt, if◌then◌else◌}
 use Rattle.std.specs.List.{list_any}
 use Rattle.std.proofs.lemmas.Bool.{and_parts, and_from, cases_Bool, cases_lt, eq-eqb, eqb-true, eqb-false, false_from_ne_true, not-true, true≢false}
@@ -28,14 +28,15 @@ pub record IsSmall (e : Entry) : Type 0 where
   pub bytes : bytes_of e.page.size ≡ 4096
   pub aligned : e.page.base % 4096 ≡ 0
 
--- the key is one of the three of the entry
+-- the key is one of the four of the entry
 abbrev pub Concerns : Entry → ℕ → Type 0
 Concerns e key =
-    (key ≡ page_key e.page.base)
-    ⊎ (((e.global ≡ false) × (key ≡ asid_key e.asid)) ⊎ (key ≡ wide_key None))
+    (key ≡ page_key e.page.base None)
+    ⊎ (((e.global ≡ false) × ((key ≡ page_key e.page.base (Some e.asid)) ⊎ (key ≡ wide_key (Some e.asid))))
+    ⊎ (key ≡ wide_key None))
 
 of_address : (scheme : Scheme) (address : ℕ) (e : Entry) → IsSmall e → IsTrue (is_of_address scheme address e)
-    → page_key address ≡ page_key e.page.base
+    → address / 4096 ≡ e.page.base / 4096
 of_address scheme address e small is =
     let parts = and_parts (is_canonical scheme address) (holds e.page address) is in
     let both = and_parts (nat_le e.page.base address) _ parts.1 in
@@ -44,7 +45,7 @@ of_address scheme address e small is =
     omega (arith, small.bytes, small.aligned)
 
 of_range : (range : AddressRange) (e : Entry) → IsSmall e → IsTrue (is_in_page range) → IsTrue (reaches (Some range) e.page)
-    → page_key range.start ≡ page_key e.page.base
+    → range.start / 4096 ≡ e.page.base / 4096
 of_range range e small fits is =
     let all = and_parts (nat_lt 0 range.size) _ is in
     let parts = and_parts (nat_lt range.start (e.page.base + bytes_of e.page.size)) (nat_lt e.page.base (range.start + range.size)) all.1 in
@@ -54,27 +55,49 @@ of_range range e small fits is =
     let within : range.size ≤ 4096 - range.start % 4096 = grind (arith, nat_tests) in
     omega (arith, small.bytes, small.aligned)
 
-of_wide : (scheme : Scheme) (asid : Option ℕ) (e : Entry) → IsTrue (is_fenced scheme None asid e) → Concerns e (wide_key asid)
-of_wide scheme None e is = inr (inr refl)
-of_wide scheme (Some asid) e is =
+-- the fence has no ASID, or that of the entry, which is not global
+of_asid : (scheme : Scheme) (asid : Option ℕ) (e : Entry) → IsTrue (is_fenced scheme None asid e)
+    → (asid_key asid ≡ asid_key None) ⊎ ((e.global ≡ false) × (asid_key asid ≡ asid_key (Some e.asid)))
+of_asid scheme None e is = inl refl
+of_asid scheme (Some asid) e is =
     let parts = and_parts (not e.global) _ is in
-    inr (inl (not-true _ parts.0, ap asid_key (sym (eqb-true _ _ parts.1))))
+    let same : e.asid ≡ asid % 65536 = eqb-true _ _ parts.1 in
+    inr (not-true _ parts.0, omega arith)
+
+of_wide : (scheme : Scheme) (asid : Option ℕ) (e : Entry) → IsTrue (is_fenced scheme None asid e) → Concerns e (wide_key asid)
+of_wide scheme asid e is =
+    elim (of_asid scheme asid e is) [
+      | inl all ↦ inr (inr (ap (λ (n : ℕ). 2 ^ 53 + n) all))
+      | inr one ↦ inr (inl (one.0, inr (ap (λ (n : ℕ). 2 ^ 53 + n) one.1)))
+    ]
+
+of_page : (scheme : Scheme) (address : ℕ) (asid : Option ℕ) (e : Entry) → address / 4096 ≡ e.page.base / 4096
+    → IsTrue (is_fenced scheme None asid e) → Concerns e (page_key address asid)
+of_page scheme address asid e same is =
+    elim (of_asid scheme asid e is) [
+      | inl all ↦ inl (λ i. same i % 2 ^ 36 * 2 ^ 17 + all i)
+      | inr one ↦ inr (inl (one.0, inl (λ i. same i % 2 ^ 36 * 2 ^ 17 + one.1 i)))
+    ]
 
 of_fence : (scheme : Scheme) (range : Option AddressRange) (asid : Option ℕ) (e : Entry) → IsSmall e
     → IsTrue (reaches range e.page) → IsTrue (is_fenced scheme None asid e) → Concerns e (range_key range asid)
 of_fence scheme None asid e small reach is = of_wide scheme asid e is
 of_fence scheme (Some range) asid e small reach is =
     elim (cases_Bool (is_in_page range)) [
-      | inl narrow ↦ inl (ap (λ b. if b then page_key range.start else wide_key asid) narrow ∙ of_range range e small narrow reach)
-      | inr wide ↦ subst (Concerns e) (sym (ap (λ b. if b then page_key range.start else wide_key asid) wide)) (of_wide scheme asid e is)
+      | inl narrow ↦
+          subst (Concerns e) (sym (ap (λ b. if b then page_key range.start asid else wide_key asid) narrow))
+          (of_page scheme range.start asid e (of_range range e small narrow reach) is)
+      | inr wide ↦
+          subst (Concerns e) (sym (ap (λ b. if b then page_key range.start asid else wide_key asid) wide)) (of_wide scheme asid e is)
     ]
 
 of_own : (scheme : Scheme) (rs1 rs2 : Option ℕ) (of : ℕ) (e : Entry) → IsSmall e → IsTrue (is_fenced scheme rs1 rs2 e)
     → Concerns e (key_of (Own of rs1 rs2))
 of_own scheme None rs2 of e small is = of_wide scheme rs2 e is
-of_own scheme (Some rs1) None of e small is = inl (of_address scheme rs1 e small is)
+of_own scheme (Some rs1) None of e small is = of_page scheme rs1 None e (of_address scheme rs1 e small is) refl
 of_own scheme (Some rs1) (Some rs2) of e small is =
-    inl (of_address scheme rs1 e small (and_parts (is_of_address scheme rs1 e) (is_of_space rs2 e) is).0)
+    let parts = and_parts (is_of_address scheme rs1 e) (is_of_space rs2 e) is in
+    of_page scheme rs1 (Some rs2) e (of_address scheme rs1 e small parts.0) parts.1
 
 -- a fence that drops an entry of a page of 4 KiB has one of its keys
 concerns : (scheme : Scheme) (l : Left) (e : Entry) (fence : PastFence) → IsSmall e
@@ -120,23 +143,42 @@ none_of false a b c x y z w =
     let r : c ≡ false = false_from_ne_true c (λ h. true≢false (sym (z h))) in
     λ i. (sym p i || sym q i) || sym r i
 
--- a fence drops an entry of a page of 4 KiB if it has one of the three keys and drops it
+or_left : (a b : Bool) → a ≡ true → (a || b) ≡ true
+or_left a b is = ap (λ t. t || b) is
+
+or_right : (a b : Bool) → b ≡ true → (a || b) ≡ true
+or_right true b is = refl
+or_right false b is = is
+
+either_of : (a b t : Bool) → (a ≡ true → t ≡ true) → (b ≡ true → t ≡ true) → (a || b) ≡ true → t ≡ true
+either_of true b t x y is = x refl
+either_of false b t x y is = y is
+
+-- a fence drops an entry of a page of 4 KiB if it has one of the four keys and drops it
 one_fence : (scheme : Scheme) (l : Left) (e : Entry) (fence : PastFence) → IsSmall e
     → takes scheme l e fence
-    ≡ ((takes_by (page_key e.page.base) scheme l e fence || (not e.global && takes_by (asid_key e.asid) scheme l e fence))
+    ≡ ((takes_by (page_key e.page.base None) scheme l e fence
+    || (not e.global && (takes_by (page_key e.page.base (Some e.asid)) scheme l e fence || takes_by (wide_key (Some e.asid)) scheme l e fence)))
     || takes_by (wide_key None) scheme l e fence)
 one_fence scheme l e fence small =
     let t : Bool = takes scheme l e fence in
-    let page : Bool = takes_by (page_key e.page.base) scheme l e fence in
-    let asid : Bool = takes_by (asid_key e.asid) scheme l e fence in
+    let page : Bool = takes_by (page_key e.page.base None) scheme l e fence in
+    let own_page : Bool = takes_by (page_key e.page.base (Some e.asid)) scheme l e fence in
+    let own : Bool = takes_by (wide_key (Some e.asid)) scheme l e fence in
     let all : Bool = takes_by (wide_key None) scheme l e fence in
-    none_of t page (not e.global && asid) all
-    (λ h. (and_parts t (key_of fence == page_key e.page.base) h).0)
-    (λ h. (and_parts t (key_of fence == asid_key e.asid) (and_parts (not e.global) asid h).1).0)
+    none_of t page (not e.global && (own_page || own)) all
+    (λ h. (and_parts t (key_of fence == page_key e.page.base None) h).0)
+    (λ h. either_of own_page own t
+    (λ k. (and_parts t (key_of fence == page_key e.page.base (Some e.asid)) k).0)
+    (λ k. (and_parts t (key_of fence == wide_key (Some e.asid)) k).0)
+    (and_parts (not e.global) (own_page || own) h).1)
     (λ h. (and_parts t (key_of fence == wide_key None) h).0)
-    (λ h. one_of page (not e.global && asid) all (elim (concerns scheme l e fence small h) [
+    (λ h. one_of page (not e.global && (own_page || own)) all (elim (concerns scheme l e fence small h) [
       | inl of ↦ inl (by_key _ scheme l e fence h of)
-      | inr (inl of) ↦ inr (inl (and_from (not e.global) asid (ap not of.0) (by_key _ scheme l e fence h of.1)))
+      | inr (inl (g, inl of)) ↦
+          inr (inl (and_from (not e.global) (own_page || own) (ap not g) (or_left own_page own (by_key _ scheme l e fence h of))))
+      | inr (inl (g, inr of)) ↦
+          inr (inl (and_from (not e.global) (own_page || own) (ap not g) (or_right own_page own (by_key _ scheme l e fence h of))))
       | inr (inr of) ↦ inr (inr (by_key _ scheme l e fence h of))
     ]))
 
@@ -167,19 +209,21 @@ any_same P Q same [] = refl
 any_same P Q same (f ∷ fences) = λ i. same f i || any_same P Q same fences i
 
 -- so do fences
-pub by_three_keys : (scheme : Scheme) (l : Left) (e : Entry) (fences : List PastFence) → IsSmall e
+pub by_four_keys : (scheme : Scheme) (l : Left) (e : Entry) (fences : List PastFence) → IsSmall e
     → is_taken_since scheme fences l e
-    ≡ ((is_taken_by (page_key e.page.base) scheme fences l e || is_taken_by_asid scheme fences l e)
+    ≡ ((is_taken_by (page_key e.page.base None) scheme fences l e || is_taken_by_asid scheme fences l e)
     || is_taken_by (wide_key None) scheme fences l e)
-by_three_keys scheme l e fences small =
+by_four_keys scheme l e fences small =
     let since : List PastFence = drop l.fences fences in
-    let P : PastFence → Bool = takes_by (page_key e.page.base) scheme l e in
-    let Q : PastFence → Bool = takes_by (asid_key e.asid) scheme l e in
+    let P : PastFence → Bool = takes_by (page_key e.page.base None) scheme l e in
+    let Q : PastFence → Bool = takes_by (page_key e.page.base (Some e.asid)) scheme l e in
+    let S : PastFence → Bool = takes_by (wide_key (Some e.asid)) scheme l e in
     let R : PastFence → Bool = takes_by (wide_key None) scheme l e in
-    any_same (takes scheme l e) (λ f. (P f || (not e.global && Q f)) || R f) (λ f. one_fence scheme l e f small) since
-    ∙ any_either (λ f. P f || (not e.global && Q f)) R since
-    ∙ ap (λ t. t || list_any R since) (any_either P (λ f. not e.global && Q f) since)
-    ∙ ap (λ t. (list_any P since || t) || list_any R since) (any_under (not e.global) Q since)
+    any_same (takes scheme l e) (λ f. (P f || (not e.global && (Q f || S f))) || R f) (λ f. one_fence scheme l e f small) since
+    ∙ any_either (λ f. P f || (not e.global && (Q f || S f))) R since
+    ∙ ap (λ t. t || list_any R since) (any_either P (λ f. not e.global && (Q f || S f)) since)
+    ∙ ap (λ t. (list_any P since || t) || list_any R since)
+    (any_under (not e.global) (λ f. Q f || S f) since ∙ ap (λ t. not e.global && t) (any_either Q S since))
 
 -- the fence at a place is not asked for
 none : PastFence

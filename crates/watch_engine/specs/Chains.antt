@@ -1,6 +1,6 @@
 -- Keys in a list, and chains of places that find the newest place of a key: a bucket has a chain of the
 -- places of its keys.
-use Rattle.std.specs.Prelude.{ℕ, Bool, ◌+◌, ◌-◌, ◌/◌, ◌^◌, ◌≡◌, ◌==◌, ◌<◌, bit_and, bit_xor, nat_lt, if◌then◌else◌}
+use Rattle.std.specs.Prelude.{ℕ, Bool, ◌+◌, ◌-◌, ◌*◌, ◌%◌, ◌/◌, ◌^◌, ◌≡◌, ◌==◌, ◌<◌, bit_and, nat_lt, if◌then◌else◌}
 use Rattle.std.specs.Prelude.{List, [], ◌∷◌, length, slice_index, take}
 
 -- one more than the last place at which a list has a key that passes a test, or what was found before it
@@ -21,9 +21,9 @@ last_place key keys = last_where (λ k. k == key) keys
 abbrev pub above : ℕ → ℕ → ℕ
 above floor n = if nat_lt floor n then n else 0
 
--- the bucket of a key, of so many
+-- the bucket of a key, of so many: by a product that spreads keys that are near one another
 unfoldable pub bucket_of : ℕ → ℕ → ℕ
-bucket_of buckets key = bit_and (bit_xor key (key / 2 ^ 15)) (buckets - 1)
+bucket_of buckets key = bit_and (key * 0x9e37_79b9_7f4a_7c15 % 2 ^ 64 / 2 ^ 32) (buckets - 1)
 
 abbrev pub is_in : ℕ → ℕ → ℕ → Bool
 is_in buckets bucket key = bucket_of buckets key == bucket

@@ -19,7 +19,10 @@ pub(crate) struct Chains {
     ghost chains: { AreChains keys.items links.items heads.items },
 }
 
-// The bucket of a key. What lies above the low bits counts too, since they alone are often the same.
+/// An odd number, 2^64 times the golden ratio: products with it spread keys that are near one another.
+const SPREAD: u64 = 0x9e37_79b9_7f4a_7c15;
+
+// The bucket of a key.
 #[inline(always)]
 #[tactic(auto, unfolding(crate::specs::Chains::bucket_of))]
 fn bucket_of(buckets: usize, key: u64) -> usize
@@ -27,7 +30,7 @@ fn bucket_of(buckets: usize, key: u64) -> usize
     ensures is { result ≡ bucket_of buckets key }
     ensures within { result < buckets }
 {
-    ((key ^ key >> 15) & (buckets as u64 - 1)) as usize
+    (key.wrapping_mul(SPREAD) >> 32 & (buckets as u64 - 1)) as usize
 }
 
 // Puts the place of a key at the head of its bucket's chain.

@@ -1,6 +1,6 @@
 //! Fences that have been executed, each found by a key of what it can drop.
 
-ghost use Rattle.std.specs.Prelude.{◌≡◌, ◌≤◌, ◌+◌, ◌%◌, ◌^◌, ◌++◌, ◌∷◌, [], None, OnErr, OnOk, map};
+ghost use Rattle.std.specs.Prelude.{◌≡◌, ◌≤◌, ◌^◌, ◌++◌, ◌∷◌, [], None, OnErr, OnOk, map};
 ghost use Rattle.watch_engine.specs.Left.{is_taken_since};
 ghost use Rattle.watch_engine.specs.PastFences.{asid_key, is_in_page, is_taken_by, is_taken_by_asid, key_of, page_key, range_key, wide_key};
 
@@ -12,29 +12,32 @@ use std::alloc::{AllocError, Global};
 use tlb::Entry;
 use watch::AddressRange;
 
-/// Keys of address spaces begin here: there are fewer pages.
-const ASID_KEYS: u64 = 1 << 52;
+/// How many pages of 4 KiB canonical addresses have.
+const PAGES: u64 = 1 << 36;
 
-fn page_key(address: u64) -> u64
-    ensures { result ≡ page_key address }
+/// How many keys a page has: one for each ASID, and one for all of them.
+const KEYS: u64 = 2 * ASIDS;
+
+fn asid_key(asid: Option<u64>) -> u64
+    ensures is { result ≡ asid_key asid }
+    ensures within { result ≤ 2 ^ 16 }
 {
-    address / PAGE_BYTES
+    match asid {
+        None => ASIDS,
+        Some(asid) => asid % ASIDS,
+    }
 }
 
-fn asid_key(asid: u64) -> u64
-    requires { asid ≤ 2 ^ 16 }
-    ensures { result ≡ asid_key asid }
+fn page_key(address: u64, asid: Option<u64>) -> u64
+    ensures { result ≡ page_key address asid }
 {
-    ASID_KEYS + asid
+    address / PAGE_BYTES % PAGES * KEYS + asid_key(asid)
 }
 
 fn wide_key(asid: Option<u64>) -> u64
     ensures { result ≡ wide_key asid }
 {
-    match asid {
-        None => asid_key(ASIDS),
-        Some(asid) => asid_key(asid % ASIDS),
-    }
+    PAGES * KEYS + asid_key(asid)
 }
 
 fn is_in_page(range: &AddressRange) -> bool
@@ -50,14 +53,14 @@ fn range_key(range: &Option<AddressRange>, asid: Option<u64>) -> u64
         return wide_key(asid);
     };
     if is_in_page(range) {
-        page_key(range.start)
+        page_key(range.start, asid)
     } else {
         wide_key(asid)
     }
 }
 
 impl PastFence {
-    // A fence drops no entry of a page of 4 KiB but one whose page, whose ASID or who as any has this key.
+    // By what it can drop: of a page of 4 KiB only an entry of which this is one of four keys.
     fn key(&self) -> u64
         ensures { result ≡ key_of self.now }
     {
@@ -65,8 +68,9 @@ impl PastFence {
             PastFence::Own { rs1: None, rs2, .. } => wide_key(*rs2),
             PastFence::Own {
                 rs1: Some(address),
+                rs2,
                 ..
-            } => page_key(*address),
+            } => page_key(*address, *rs2),
             PastFence::Remote { fence, .. } => range_key(&fence.range, asid_register(fence.asid)),
         }
     }
@@ -119,11 +123,17 @@ impl PastFences {
         false
     }
 
-    // The same of fences for the ASID alone, which drop nothing that is global.
+    // The same of fences with the ASID of the entry, which drop nothing that is global.
     fn is_taken_by_asid(&self, scheme: Scheme, left: &Left, entry: &Entry) -> bool
         ensures { result ≡ is_taken_by_asid scheme self.now.fences.items left.now entry.now }
     {
-        !entry.global && self.is_taken_by(asid_key(u64::from(entry.asid)), scheme, left, entry)
+        if entry.global {
+            return false;
+        }
+        let asid = Some(u64::from(entry.asid));
+        let page = page_key(entry.page.base().get(), asid);
+        self.is_taken_by(page, scheme, left, entry)
+            || self.is_taken_by(wide_key(asid), scheme, left, entry)
     }
 
     /// Whether a fence since the hart left the space has dropped the entry.
@@ -133,7 +143,8 @@ impl PastFences {
         let PageSize::Kib4 = entry.page.size() else {
             return is_taken_since(scheme, self.fences.as_slice(), left, entry);
         };
-        if self.is_taken_by(page_key(entry.page.base().get()), scheme, left, entry) {
+        let page = page_key(entry.page.base().get(), None);
+        if self.is_taken_by(page, scheme, left, entry) {
             return true;
         }
         if self.is_taken_by_asid(scheme, left, entry) {
