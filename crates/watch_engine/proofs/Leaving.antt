@@ -1,8 +1,8 @@
 -- Lists of spaces that were left.
-use Rattle.std.proofs.Common.{◌≡◌, ◌⊎◌, Bool, true, false, List, [], ◌∷◌, ◌++◌, filter, ap, sym, ◌∙◌, refl, inl, inr}
-use Rattle.std.specs.Prelude.{cond}
+use Rattle.std.proofs.Common.{◌≡◌, ◌⊎◌, Bool, true, false, List, [], ◌∷◌, filter, ap, sym, ◌∙◌, refl, inl, inr}
+use Rattle.std.specs.Prelude.{cond, nat_le}
 use Rattle.watch_engine.specs.declared.left.Left.{Left}
-use Rattle.watch_engine.specs.Left.{AnyLeft, EachLeft}
+use Rattle.watch_engine.specs.Left.{AnyLeft, EachLeft, added}
 
 pub any_weaker : (P Q : Left → Type 0) → ((l : Left) → P l → Q l) → (left : List Left) → AnyLeft P left → AnyLeft Q left
 any_weaker P Q f [] a = absurd a
@@ -74,28 +74,45 @@ each_kept P p f [] e = refl
 each_kept P p f (l ∷ left) e = ap (λ b. cond b (l ∷ filter p left) (filter p left)) (f l e.0) ∙ ap (λ ls. l ∷ ls) (each_kept P p f left e.1)
 
 -- with one more
-pub any_first : (P : Left → Type 0) (left : List Left) (l : Left) → AnyLeft P left → AnyLeft P (left ++ l ∷ [])
+first-at : (P : Left → Type 0) (m : Left) (left : List Left) (l : Left) (b : Bool) → (AnyLeft P left → AnyLeft P (added l left)) → AnyLeft P (m ∷ left) → AnyLeft P (cond b (m ∷ added l left) (l ∷ m ∷ left))
+first-at P m left l true rest (inl p) = inl p
+first-at P m left l true rest (inr a) = inr (rest a)
+first-at P m left l false rest a = inr a
+
+pub any_first : (P : Left → Type 0) (left : List Left) (l : Left) → AnyLeft P left → AnyLeft P (added l left)
 any_first P [] l a = absurd a
-any_first P (m ∷ left) l (inl p) = inl p
-any_first P (m ∷ left) l (inr a) = inr (any_first P left l a)
+any_first P (m ∷ left) l a = first-at P m left l (nat_le m.space.root l.space.root) (any_first P left l) a
 
-pub any_last : (P : Left → Type 0) (left : List Left) (l : Left) → P l → AnyLeft P (left ++ l ∷ [])
+last-at : (P : Left → Type 0) (m : Left) (left : List Left) (l : Left) (b : Bool) → AnyLeft P (added l left) → P l → AnyLeft P (cond b (m ∷ added l left) (l ∷ m ∷ left))
+last-at P m left l true rest p = inr rest
+last-at P m left l false rest p = inl p
+
+pub any_last : (P : Left → Type 0) (left : List Left) (l : Left) → P l → AnyLeft P (added l left)
 any_last P [] l p = inl p
-any_last P (m ∷ left) l p = inr (any_last P left l p)
+any_last P (m ∷ left) l p = last-at P m left l (nat_le m.space.root l.space.root) (any_last P left l p) p
 
-pub any_pushed : (P : Left → Type 0) (left : List Left) (l : Left) → AnyLeft P (left ++ l ∷ []) → AnyLeft P left ⊎ P l
-any_pushed P [] l (inl p) = inr p
-any_pushed P [] l (inr a) = absurd a
-any_pushed P (m ∷ left) l (inl p) = inl (inl p)
-any_pushed P (m ∷ left) l (inr a) =
-    elim (any_pushed P left l a) [
+pushed-at : (P : Left → Type 0) (m : Left) (left : List Left) (l : Left) (b : Bool) → (AnyLeft P (added l left) → AnyLeft P left ⊎ P l) → AnyLeft P (cond b (m ∷ added l left) (l ∷ m ∷ left)) → AnyLeft P (m ∷ left) ⊎ P l
+pushed-at P m left l true rest (inl p) = inl (inl p)
+pushed-at P m left l true rest (inr a) =
+    elim (rest a) [
       | inl b ↦ inl (inr b)
       | inr p ↦ inr p
     ]
+pushed-at P m left l false rest (inl p) = inr p
+pushed-at P m left l false rest (inr a) = inl a
 
-pub each_pushed : (P : Left → Type 0) (left : List Left) (l : Left) → EachLeft P left → P l → EachLeft P (left ++ l ∷ [])
+pub any_pushed : (P : Left → Type 0) (left : List Left) (l : Left) → AnyLeft P (added l left) → AnyLeft P left ⊎ P l
+any_pushed P [] l (inl p) = inr p
+any_pushed P [] l (inr a) = absurd a
+any_pushed P (m ∷ left) l a = pushed-at P m left l (nat_le m.space.root l.space.root) (any_pushed P left l) a
+
+each-at : (P : Left → Type 0) (m : Left) (left : List Left) (l : Left) (b : Bool) → EachLeft P (m ∷ left) → EachLeft P (added l left) → P l → EachLeft P (cond b (m ∷ added l left) (l ∷ m ∷ left))
+each-at P m left l true e rest p = (e.0, rest)
+each-at P m left l false e rest p = (p, e)
+
+pub each_pushed : (P : Left → Type 0) (left : List Left) (l : Left) → EachLeft P left → P l → EachLeft P (added l left)
 each_pushed P [] l e p = (p, tt)
-each_pushed P (m ∷ left) l e p = (e.0, each_pushed P left l e.1 p)
+each_pushed P (m ∷ left) l e p = each-at P m left l (nat_le m.space.root l.space.root) e (each_pushed P left l e.1 p) p
 
 -- one of them
 pub record Member (P : Left → Type 0) (left : List Left) : Type 1 where

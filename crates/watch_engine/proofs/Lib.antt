@@ -7,6 +7,7 @@ pub mod Changes
 pub mod Opening
 pub mod Remembering
 pub mod Leaving
+pub mod LeftOrder
 pub mod Gathering
 pub mod Steps
 pub mod Records

@@ -1,5 +1,5 @@
 -- What a hart that writes satp leaves.
-use Rattle.std.proofs.Common.{◌≡◌, ℕ, Bool, true, false, ◌+◌, ◌<◌, ◌≤◌, ◌⊎◌, zero, suc, Option, Some, None, List, [], ◌∷◌, ◌++◌, length, get_or, set, map, filter, IsTrue, ap, sym, ◌∙◌, subst, refl, inl, inr, arith}
+use Rattle.std.proofs.Common.{◌≡◌, ℕ, Bool, true, false, ◌+◌, ◌<◌, ◌≤◌, ◌⊎◌, zero, suc, Option, Some, None, List, [], ◌∷◌, length, get_or, set, map, filter, IsTrue, ap, sym, ◌∙◌, subst, refl, inl, inr, arith}
 use Rattle.std.specs.Prelude.{◌==◌, ◌&&◌, ◌||◌, cond, is_some, not}
 use Rattle.std.specs.List.{list_any}
 use Rattle.std.proofs.lemmas.Bool.{and_parts, cases_Bool, cases_eq, eq-eqb, eqb-true, ne_eqb, or_right, true≢false}
@@ -20,7 +20,7 @@ use Rattle.watch_engine.specs.declared.left.PastFence.{PastFence}
 use Rattle.watch_engine.specs.declared.open.OpenClaim.{OpenClaim}
 use Rattle.watch_engine.specs.declared.open.OpenFence.{OpenFence}
 use Rattle.watch_engine.specs.Held.{AreEntered, IsNormalized, IsWith, all_found_again, found_again, is_current_by, knows, settled, translation_of}
-use Rattle.watch_engine.specs.Left.{EachLeft, IsLeftAt, IsLeftHeld, is_other, is_space, takes, with_left}
+use Rattle.watch_engine.specs.Left.{EachLeft, IsLeftAt, IsLeftHeld, added, is_other, is_space, takes, with_left}
 use Rattle.watch_engine.specs.Follows.{AreHeld, IsHeldFrom, IsKnown}
 use Rattle.watch_engine.specs.Standing.{AreRoots, IsLeftWithin, Stands}
 use Rattle.watch_engine.proofs.Leaving.{any_first, any_last, any_member, any_out, any_pushed, any_weaker, any_with, each_pushed, filter_each, filter_in, filter_out}
@@ -80,7 +80,7 @@ module _ {scheme : Scheme} {trace : Trace} {words : Tables} {since : ℕ → ℕ
         let live = (live_iff scheme trace hart x).1 (record { space = space; satp = satp; belongs = h.belongs; leaf = subst (λ w. HasLeaf scheme w space.root x.entry) at.memory h.leaf }) in
         live_from at hart x n live (omega arith)
 
-    one-pushed : Stands scheme trace words since satps roots held (left ++ one ∷ []) drops fences claims count
+    one-pushed : Stands scheme trace words since satps roots held (added one left) drops fences claims count
     one-pushed = record {
       memory = at.memory;
       ages = at.ages;
@@ -294,6 +294,6 @@ leaving_all {scheme} {trace} {words} {since} {satps} {roots} {held} {left} {drop
     let l = to_live at hart x live in
     let satp : old ≡ Some l.of = sym is ∙ (ap (λ h. get_or satps h None) mine ∙ l.satp) in
     let one : Left = record { hart = by; space = l.of; left = count; fences = length drops } in
-    let is_now : now ≡ left ++ one ∷ [] = are ∙ ((λ j. with_left by (satp j) count (long j) left)) in
+    let is_now : now ≡ added one left = are ∙ ((λ j. with_left by (satp j) count (long j) left)) in
     subst (λ (ls : List Left). IsLeftAt scheme words since drops ls hart x count) (sym is_now)
     (any_last (λ m. (m.left ≡ count) × IsLeftHeld scheme words since drops m hart x) left one (refl, one-held at by l.of (ap (λ h. get_or satps h None) mine ∙ l.satp) hart x mine l.belongs l.leaf))

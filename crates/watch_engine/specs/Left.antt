@@ -1,6 +1,6 @@
 -- What harts may hold of address spaces that they have left: what the tables still have, and have had
 -- since then without a change, and no fence has dropped (privileged manual 4.2.1).
-use Rattle.std.specs.Prelude.{ℕ, Bool, false, not, ◌≡◌, ◌==◌, ◌&&◌, ◌⊎◌, nat_lt, if◌then◌else◌}
+use Rattle.std.specs.Prelude.{ℕ, Bool, false, not, ◌≡◌, ◌==◌, ◌&&◌, ◌⊎◌, nat_le, nat_lt, if◌then◌else◌}
 use Rattle.std.specs.Prelude.{List, [], ◌∷◌, ◌++◌, drop, filter, Option, None, Some, is_some}
 use Rattle.std.specs.List.{list_any}
 use Rattle.pte.specs.declared.scheme.Scheme.{Scheme}
@@ -48,11 +48,17 @@ abbrev pub IsLeftAt : Scheme → Tables → (ℕ → ℕ → ℕ) → List PastF
 IsLeftAt scheme words since drops left hart x n =
     AnyLeft (λ l. (l.left ≡ n) × IsLeftHeld scheme words since drops l hart x) left
 
+-- with one more, behind all whose root is no greater
+abbrev pub added : Left → List Left → List Left
+added one [] = one ∷ []
+added one (l ∷ left) =
+    if nat_le l.space.root one.space.root then l ∷ added one left else one ∷ l ∷ left
+
 -- with the space that a hart leaves
 abbrev pub with_left : ℕ → Option Space → ℕ → ℕ → List Left → List Left
 with_left hart None now fences left = left
 with_left hart (Some space) now fences left =
-    left ++ record { hart = hart; space = space; left = now; fences = fences } ∷ []
+    added (record { hart = hart; space = space; left = now; fences = fences }) left
 
 abbrev pub is_space : Option Space → Space → Bool
 is_space None space = false

@@ -1,5 +1,6 @@
 pub mod Held
 pub mod Left
+pub mod LeftOrder
 pub mod Seen
 pub mod Touched
 pub mod Causes

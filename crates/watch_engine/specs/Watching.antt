@@ -9,4 +9,4 @@ use Rattle.watch_engine.specs.Standing.{Stands}
 abbrev pub Follows : {T : Type 0} → (T → Tables) → (T → ℕ → ℕ → ℕ) → Trace → Watch T → Type 0
 Follows words since trace w =
     Stands w.scheme trace (words w.tables) (since w.tables) w.satps.spaces.items w.roots w.held.items
-    w.left.items w.drops.fences.items w.fences.items w.claims.items w.count
+    w.left w.drops.fences.items w.fences.items w.claims.items w.count

@@ -9,7 +9,8 @@ ghost use Rattle.watch_engine.specs.Warnings.{AreWarnings};
 
 use crate::cause::Cause;
 use crate::held::Held;
-use crate::left::{Left, add_ended, add_fence, add_left, drop_left, drop_rootless};
+use crate::left::{add_ended, add_fence};
+use crate::left_spaces::LeftSpaces;
 use crate::list::{drop_fenced, drop_remote, find_again, mark_given, remember_all, settle_taken};
 use crate::open::{OpenClaim, OpenFence, end_claim, end_fence, newest_claim, newest_fence};
 use crate::past_fences::PastFences;
@@ -55,7 +56,7 @@ pub struct Watch<T: Tables> {
     satps: Satps,
     roots: Roots,
     held: Vec<Held>,
-    left: Vec<Left>,
+    left: LeftSpaces,
     drops: PastFences,
     fences: Vec<OpenFence>,
     claims: Vec<OpenClaim>,
@@ -84,7 +85,7 @@ impl<T: Tables> Watch<T> {
             satps: Satps::new(alloc),
             roots: Roots::new(alloc),
             held: Vec::new(alloc),
-            left: Vec::new(alloc),
+            left: LeftSpaces::new(alloc),
             drops: PastFences::new(alloc),
             fences: Vec::new(alloc),
             claims: Vec::new(alloc),
@@ -114,7 +115,7 @@ impl<T: Tables> Watch<T> {
             &self.tables,
             self.scheme,
             self.satps.spaces(),
-            self.left.as_slice(),
+            &self.left,
             &self.drops,
             address,
             self.count,
@@ -148,9 +149,9 @@ impl<T: Tables> Watch<T> {
         self.satps.add_hart(hart)?;
         let old = self.satp(hart);
         let fences = self.drops.fences.as_slice().len();
-        add_left(&mut self.left, hart, old, self.count, fences)?;
+        self.left.add(hart, old, self.count, fences)?;
         let new = self.roots.add(space)?;
-        drop_left(&mut self.left, hart, space);
+        self.left.drop_back(hart, space);
         self.satps.write(hart, space);
         self.count += 1;
         find_again(new, &mut self.held, &self.tables, self.scheme);
@@ -250,7 +251,7 @@ impl<T: Tables> Watch<T> {
             &self.tables,
             self.scheme,
             self.satps.spaces(),
-            self.left.as_slice(),
+            &self.left,
             &self.drops,
             addresses.as_slice(),
             self.count,
@@ -260,7 +261,7 @@ impl<T: Tables> Watch<T> {
         mark_given(&mut self.held, &cause, given.as_slice());
         self.tables.clear(frames);
         let keeps = self.roots.drop_given(frames, self.satps.spaces());
-        drop_rootless(keeps, &mut self.left, &self.roots);
+        self.left.drop_rootless(keeps, &self.roots);
         self.count += 1;
         settle_taken(
             may_differ(addresses.as_slice(), keeps),

@@ -1,14 +1,14 @@
 //! Spaces that harts have left, and fences since.
 
-ghost use Rattle.std.specs.Prelude.{◌≡◌, ◌++◌, ◌∷◌, [], None, OnErr, OnOk, drop, filter, if◌then◌else◌};
+ghost use Rattle.std.specs.Prelude.{◌≡◌, ◌++◌, ◌∷◌, [], None, OnErr, OnOk, drop};
 ghost use Rattle.std.specs.List.{list_any};
-ghost use Rattle.watch_engine.specs.Left.{ended, fences_after, has_its_root, is_of_other, is_other, is_space, is_taken_since, left_after_fence, takes, with_left};
+ghost use Rattle.watch_engine.specs.Left.{ended, fences_after, is_taken_since, left_after_fence, takes};
 ghost use Rattle.watch_engine.specs.declared.left.PastFence.TheVariants as past;
 
 use crate::fence::{is_covered, is_fenced, names};
+use crate::left_spaces::LeftSpaces;
 use crate::open::OpenFence;
 use crate::past_fences::PastFences;
-use crate::roots::Roots;
 use pte::Scheme;
 use std::alloc::AllocError;
 use tlb::Entry;
@@ -76,67 +76,21 @@ pub(crate) fn is_taken_since(
     false
 }
 
-/// With the space that a hart leaves. At `Err` nothing changed.
-pub(crate) fn add_left(
-    left: &mut Vec<Left>,
-    hart: u8,
-    space: Option<Space>,
-    count: u64,
-    fences: usize,
-) -> Result<(), AllocError>
-    ensures ok { OnOk result (left.new.items ≡ with_left hart space count fences left.old.items) }
-    ensures err { OnErr result (left.new.items ≡ left.old.items) }
-{
-    let Some(space) = space else {
-        return Ok(());
-    };
-    left.push(Left {
-        hart,
-        space,
-        left: count,
-        fences: fences as u64,
-    })?;
-    Ok(())
-}
-
-fn is_space(space: Option<Space>, other: &Space) -> bool
-    ensures { result ≡ is_space space other.now }
-{
-    match space {
-        None => false,
-        Some(space) => space.root == other.root && space.asid == other.asid,
-    }
-}
-
-/// Without the space to which the hart comes back.
-pub(crate) fn drop_left(left: &mut Vec<Left>, hart: u8, space: Option<Space>)
-    ensures { left.new.items ≡ filter (is_other hart space) left.old.items }
-{
-    left.retain(|l| !(l.hart == hart && is_space(space, &l.space)));
-}
-
-/// Without the spaces that the hart has left.
-pub(crate) fn drop_left_of(left: &mut Vec<Left>, hart: u8)
-    ensures { left.new.items ≡ filter (is_of_other hart) left.old.items }
-{
-    left.retain(|l| !(l.hart == hart));
-}
-
 /// After a fence of the hart: one of all drops all of what it has left. At `Err` nothing changed.
 pub(crate) fn add_fence(
-    left: &mut Vec<Left>,
+    left: &mut LeftSpaces,
     drops: &mut PastFences,
     hart: u8,
     rs1: Option<u64>,
     rs2: Option<u64>,
 ) -> Result<(), AllocError>
-    ensures left { OnOk result (left.new.items ≡ left_after_fence hart rs1 rs2 left.old.items) }
+    ensures left { OnOk result (left.new ≡ left_after_fence hart rs1 rs2 left.old) }
     ensures drops { OnOk result (drops.new.fences.items ≡ fences_after hart rs1 rs2 drops.old.fences.items) }
-    ensures err { OnErr result (left.new.items ≡ left.old.items) }
+    ensures err { OnErr result (left.new ≡ left.old) }
     ensures err_drops { OnErr result (drops.new.fences.items ≡ drops.old.fences.items) }
 {
     if rs1.is_none() && rs2.is_none() {
-        drop_left_of(left, hart);
+        left.drop_of(hart);
         return Ok(());
     }
     drops.push(PastFence::Own { hart, rs1, rs2 })?;
@@ -156,20 +110,4 @@ pub(crate) fn add_ended(drops: &mut PastFences, fence: &Option<OpenFence>) -> Re
         begun: open.begun,
     })?;
     Ok(())
-}
-
-fn retain_rooted(left: &mut Vec<Left>, roots: &Roots)
-    ensures { left.new.items ≡ filter (has_its_root roots.now) left.old.items }
-{
-    left.retain(|l| roots.has(l.space.root));
-}
-
-/// Without spaces whose root is none of these, if a root is none any more.
-pub(crate) fn drop_rootless(keeps: bool, left: &mut Vec<Left>, roots: &Roots)
-    ensures { left.new.items ≡ (if keeps then left.old.items
-        else filter (has_its_root roots.now) left.old.items) }
-{
-    if !keeps {
-        retain_rooted(left, roots);
-    }
 }

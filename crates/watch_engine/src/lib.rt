@@ -9,6 +9,7 @@ mod fence;
 mod held;
 mod laws;
 mod left;
+mod left_spaces;
 mod list;
 mod live;
 mod open;

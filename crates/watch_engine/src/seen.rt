@@ -10,6 +10,7 @@ ghost use Rattle.watch_tables.specs.Ways.{AreWays};
 
 use crate::held::LastLive;
 use crate::left::Left;
+use crate::left_spaces::LeftSpaces;
 use crate::live::is_live_in;
 use crate::past_fences::PastFences;
 use crate::satps::satp_in;
@@ -108,12 +109,12 @@ fn add_kept_for_each<T: Tables>(
     satps: &[Option<Space>],
     drops: &PastFences,
     leaf: &RootLeaf,
-    left: &[Left],
+    left: &LeftSpaces,
 ) -> Result<(), AllocError>
     ensures { OnOk result (seen.new.items ≡ with_kept scheme (T.words tables.now) satps.now
         drops.now.fences.items leaf.now left.now seen.old.items) }
 {
-    for space in left {
+    for space in left.of_root(leaf.root) {
         add_kept(seen, tables, scheme, satps, drops, leaf, space)?;
     }
     Ok(())
@@ -125,7 +126,7 @@ fn add_leaves<T: Tables>(
     tables: &T,
     scheme: Scheme,
     satps: &[Option<Space>],
-    left: &[Left],
+    left: &LeftSpaces,
     drops: &PastFences,
     leaves: &[RootLeaf],
     count: u64,
@@ -148,7 +149,7 @@ pub(crate) fn add_seen<T: Tables>(
     tables: &T,
     scheme: Scheme,
     satps: &[Option<Space>],
-    left: &[Left],
+    left: &LeftSpaces,
     drops: &PastFences,
     address: u64,
     count: u64,
@@ -183,7 +184,7 @@ pub(crate) fn add_seen_in<T: Tables>(
     tables: &T,
     scheme: Scheme,
     satps: &[Option<Space>],
-    left: &[Left],
+    left: &LeftSpaces,
     drops: &PastFences,
     addresses: &[u64],
     count: u64,

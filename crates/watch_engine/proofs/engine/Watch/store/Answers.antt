@@ -22,12 +22,11 @@ returns-in_err-remember_all-clause-err g c = λ trace at.
     let scheme = watch.scheme in
     let words = g.T.Tables.words watch.tables in
     let since = g.T.Tables.since watch.tables in
-    let seen : List LastLive = c.as_slice-2.result.now in
-    let left : List Left = watch.left.items in
+    let seen : List LastLive = c.as_slice.result.now in
+    let left : List Left = watch.left in
     let drops : List PastFence = watch.drops.fences.items in
-    let added = subst (AddedBy scheme words since watch.satps.spaces.items left drops watch.count c.args.address c.new-seen.result.items) (sym c.as_slice-2.ensures.value)
-    (subst (λ (ls : List Left). AddedBy scheme words since watch.satps.spaces.items ls drops watch.count c.args.address c.new-seen.result.items c.add_seen.new.seen.items) c.as_slice.ensures.value
-    (subst (λ (ss : List (Option Space)). AddedBy scheme words since ss c.as_slice.result.now drops watch.count c.args.address c.new-seen.result.items c.add_seen.new.seen.items) c.spaces.ensures.value c.in_ok-ways.ensures.seen)) in
+    let added = subst (AddedBy scheme words since watch.satps.spaces.items left drops watch.count c.args.address c.new-seen.result.items) (sym c.as_slice.ensures.value)
+    (subst (λ (ss : List (Option Space)). AddedBy scheme words since ss left drops watch.count c.args.address c.new-seen.result.items c.add_seen.new.seen.items) c.spaces.ensures.value c.in_ok-ways.ensures.seen) in
     let all = seen_of scheme words since watch.satps.spaces.items left drops watch.count c.args.address c.new-seen.result.items seen c.new-seen.ensures.items added in
     let e = c.in_err-remember_all.ensures.err in
     on_err _ _ (some_remembered at seen all.each e.0 _ e.1)
@@ -38,12 +37,11 @@ returns-in_err-store-clause-err g c = λ trace at.
     let scheme = watch.scheme in
     let words : Tables = g.T.Tables.words watch.tables in
     let since = g.T.Tables.since watch.tables in
-    let seen : List LastLive = c.as_slice-2.result.now in
-    let left : List Left = watch.left.items in
+    let seen : List LastLive = c.as_slice.result.now in
+    let left : List Left = watch.left in
     let drops : List PastFence = watch.drops.fences.items in
-    let added = subst (AddedBy scheme words since watch.satps.spaces.items left drops watch.count c.args.address c.new-seen.result.items) (sym c.as_slice-2.ensures.value)
-    (subst (λ (ls : List Left). AddedBy scheme words since watch.satps.spaces.items ls drops watch.count c.args.address c.new-seen.result.items c.add_seen.new.seen.items) c.as_slice.ensures.value
-    (subst (λ (ss : List (Option Space)). AddedBy scheme words since ss c.as_slice.result.now drops watch.count c.args.address c.new-seen.result.items c.add_seen.new.seen.items) c.spaces.ensures.value c.in_ok-ways.ensures.seen)) in
+    let added = subst (AddedBy scheme words since watch.satps.spaces.items left drops watch.count c.args.address c.new-seen.result.items) (sym c.as_slice.ensures.value)
+    (subst (λ (ss : List (Option Space)). AddedBy scheme words since ss left drops watch.count c.args.address c.new-seen.result.items c.add_seen.new.seen.items) c.spaces.ensures.value c.in_ok-ways.ensures.seen) in
     let all = seen_of scheme words since watch.satps.spaces.items left drops watch.count c.args.address c.new-seen.result.items seen c.new-seen.ensures.items added in
     let stands = all_remembered at seen all.each _ c.in_ok-remember_all.ensures.ok in
     on_err _ _
@@ -56,13 +54,12 @@ returns-clause-ok g c = λ hart trace at.
     let scheme = watch.scheme in
     let words : Tables = g.T.Tables.words watch.tables in
     let since = g.T.Tables.since watch.tables in
-    let seen : List LastLive = c.as_slice-2.result.now in
-    let left : List Left = watch.left.items in
+    let seen : List LastLive = c.as_slice.result.now in
+    let left : List Left = watch.left in
     let drops : List PastFence = watch.drops.fences.items in
     let held : List Held = watch.held.items in
-    let added = subst (AddedBy scheme words since watch.satps.spaces.items left drops watch.count c.args.address c.new-seen.result.items) (sym c.as_slice-2.ensures.value)
-    (subst (λ (ls : List Left). AddedBy scheme words since watch.satps.spaces.items ls drops watch.count c.args.address c.new-seen.result.items c.add_seen.new.seen.items) c.as_slice.ensures.value
-    (subst (λ (ss : List (Option Space)). AddedBy scheme words since ss c.as_slice.result.now drops watch.count c.args.address c.new-seen.result.items c.add_seen.new.seen.items) c.spaces.ensures.value c.in_ok-ways.ensures.seen)) in
+    let added = subst (AddedBy scheme words since watch.satps.spaces.items left drops watch.count c.args.address c.new-seen.result.items) (sym c.as_slice.ensures.value)
+    (subst (λ (ss : List (Option Space)). AddedBy scheme words since ss left drops watch.count c.args.address c.new-seen.result.items c.add_seen.new.seen.items) c.spaces.ensures.value c.in_ok-ways.ensures.seen) in
     let all = seen_of scheme words since watch.satps.spaces.items left drops watch.count c.args.address c.new-seen.result.items seen c.new-seen.ensures.items added in
     let ways : List Way = c.in_ok-ways.ways.items in
     let new : Tables = g.T.Tables.words c.store.new.self in
@@ -71,5 +68,5 @@ returns-clause-ok g c = λ hart trace at.
     let change : List Way → Held → Held = λ ws i. settled_if (is_touched scheme roots index ws (translation_of i)) (is_current_by (is_mapped scheme new) roots (translation_of i)) (watch.count + 1) i in
     store_stands at hart c.args.address c.args.word new (g.T.Tables.since c.store.new.self) (c.in_ok-store.ensures.ok hart) c.in_ok-store.ensures.others c.in_ok-store.ensures.count ways c.in_ok-ways.ensures.ways seen all _
     (c.settle_touched.ensures
-    ∙ (λ j. map (change (c.as_slice-3.ensures.value j))
-    (filter (is_kept_after scheme new (c.spaces-2.ensures.value j) roots index (c.as_slice-3.ensures.value j)) (c.in_ok-remember_all.ensures.ok j))))
+    ∙ (λ j. map (change (c.as_slice-2.ensures.value j))
+    (filter (is_kept_after scheme new (c.spaces-2.ensures.value j) roots index (c.as_slice-2.ensures.value j)) (c.in_ok-remember_all.ensures.ok j))))

@@ -1,0 +1,142 @@
+-- Spaces that were left, in the order of their roots.
+use Rattle.std.proofs.Common.{◌≡◌, ℕ, zero, suc, Bool, true, false, ◌-◌, ◌<◌, ◌≤◌, List, Option, Some, None, [], ◌∷◌, ◌++◌, length, get_or, take, drop, filter, ap, sym, ◌∙◌, refl, inl, inr, arith}
+use Rattle.std.specs.Prelude.{◌==◌, ◌&&◌, cond, not}
+use Rattle.std.specs.List.{insert, remove, slice_range}
+use Rattle.std.proofs.lemmas.Bool.{and_parts, cases_lt, eq-eqb, eqb-true, lt-leb, ne_eqb, not_from_false, false_from_ne_true}
+use Rattle.walk.specs.Leads.{Tables}
+use Rattle.pte.specs.declared.scheme.Scheme.{Scheme}
+use Rattle.watch.specs.declared.trace.Space.{Space}
+use Rattle.watch_engine.specs.declared.held.LastLive.{LastLive}
+use Rattle.watch_engine.specs.declared.left.Left.{Left}
+use Rattle.watch_engine.specs.declared.left.PastFence.{PastFence}
+use Rattle.watch_tables.specs.declared.leaf.RootLeaf.{RootLeaf}
+use Rattle.watch_engine.specs.Left.{added, is_other, is_space}
+use Rattle.watch_engine.specs.LeftOrder.{Begins, Ends}
+use Rattle.watch_engine.specs.Seen.{is_kept, kept_for, last_of, with_kept}
+use Rattle.watch_engine.proofs.Lists.{from_at_most}
+
+-- a run ends no earlier than it begins
+pub ends_late : (left : List Left) (start end root : ℕ) → start ≤ length left → Begins left start root → Ends left end root → start ≤ end
+ends_late [] start end root long begins ends = omega arith
+ends_late (l ∷ left) start end root long begins ends =
+    elim (cases_lt end start) [
+      | inl early ↦
+          let low = begins.0 end l (omega arith) early in
+          let high = ends.1 end l (omega arith) (omega arith) in
+          absurd (omega arith)
+      | inr late ↦ late
+    ]
+
+-- one more stands where the run of its root ends
+pub insert_is_added : (one : Left) (left : List Left) (place : ℕ) → Ends left place one.space.root → insert left place one ≡ added one left
+insert_is_added one [] zero ends = refl
+insert_is_added one [] (suc place) ends = refl
+insert_is_added one (l ∷ left) zero ends =
+    sym (ap (λ b. cond b (l ∷ added one left) (one ∷ l ∷ left)) (lt-leb l.space.root one.space.root (ends.1 0 l (omega arith) (omega arith))))
+insert_is_added one (l ∷ left) (suc place) ends =
+    ap (λ (ls : List Left). l ∷ ls) (insert_is_added one left place ((λ k d from early. ends.0 (suc k) d (omega arith) (omega arith)), (λ k d from among. ends.1 (suc k) d (omega arith) (omega arith))))
+    ∙ sym (ap (λ b. cond b (l ∷ added one left) (one ∷ l ∷ left)) (from_at_most l.space.root one.space.root (ends.0 0 l (omega arith) (omega arith))))
+
+-- a run in the middle, of which a test is so and of all others not
+take_none : (n : ℕ) → ◌≡◌ {A = List Left} (take n []) []
+take_none zero = refl
+take_none (suc n) = refl
+
+front : (p : Left → Bool) (left : List Left) (n : ℕ) → ((k : ℕ) (d : Left) → k < n → k < length left → p (get_or left k d) ≡ true) → ((k : ℕ) (d : Left) → n ≤ k → k < length left → p (get_or left k d) ≡ false) → take n left ≡ filter p left
+front p [] n is not_is = take_none n
+front p (l ∷ left) zero is not_is =
+    front p left zero (λ k d early among. absurd (omega arith)) (λ k d late among. not_is (suc k) d (omega arith) (omega arith))
+    ∙ sym (ap (λ b. cond b (l ∷ filter p left) (filter p left)) (not_is 0 l (omega arith) (omega arith)))
+front p (l ∷ left) (suc n) is not_is =
+    ap (λ (ls : List Left). l ∷ ls) (front p left n (λ k d early among. is (suc k) d (omega arith) (omega arith)) (λ k d late among. not_is (suc k) d (omega arith) (omega arith)))
+    ∙ sym (ap (λ b. cond b (l ∷ filter p left) (filter p left)) (is 0 l (omega arith) (omega arith)))
+
+run : (p : Left → Bool) (left : List Left) (start end : ℕ) → start ≤ end → ((k : ℕ) (d : Left) → k < start → k < length left → p (get_or left k d) ≡ false) → ((k : ℕ) (d : Left) → start ≤ k → k < end → k < length left → p (get_or left k d) ≡ true)
+    → ((k : ℕ) (d : Left) → end ≤ k → k < length left → p (get_or left k d) ≡ false) → slice_range left start end ≡ filter p left
+run p [] zero end order before is behind = take_none (end - 0)
+run p [] (suc start) end order before is behind = take_none (end - suc start)
+run p (l ∷ left) zero end order before is behind =
+    let same : end - 0 ≡ end = omega arith in
+    ap (λ n. take n (l ∷ left)) same ∙ front p (l ∷ left) end (λ k d early among. is k d (omega arith) early among) behind
+run p (l ∷ left) (suc start) end order before is behind =
+    let same : end - suc start ≡ (end - 1) - start = omega arith in
+    ap (λ n. take n (drop start left)) same
+    ∙ (run p left start (end - 1) (omega arith) (λ k d early among. before (suc k) d (omega arith) (omega arith)) (λ k d from early among. is (suc k) d (omega arith) (omega arith) (omega arith)) (λ k d late among. behind (suc k) d (omega arith) (omega arith))
+    ∙ sym (ap (λ b. cond b (l ∷ filter p left) (filter p left)) (before 0 l (omega arith) (omega arith))))
+
+pub run_of_root : (left : List Left) (start end root : ℕ) → start ≤ end → Begins left start root → Ends left end root → slice_range left start end ≡ filter (λ l. l.space.root == root) left
+run_of_root left start end root order begins ends =
+    run (λ l. l.space.root == root) left start end order
+    (λ k d early among. ne_eqb _ _ (λ same. let low = begins.0 k d (omega arith) early in absurd (omega arith)))
+    (λ k d from early among. let low = begins.1 k d from among in let high = ends.0 k d (omega arith) early in eq-eqb _ _ (omega arith))
+    (λ k d late among. ne_eqb _ _ (λ same. let high = ends.1 k d late among in absurd (omega arith)))
+
+-- those of other roots add nothing
+append_none : (seen : List LastLive) → seen ++ [] ≡ seen
+append_none [] = refl
+append_none (s ∷ seen) = ap (λ (ss : List LastLive). s ∷ ss) (append_none seen)
+
+pub kept_of_root : (scheme : Scheme) (words : Tables) (satps : List (Option Space)) (drops : List PastFence) (leaf : RootLeaf) (left : List Left) (seen : List LastLive)
+    → with_kept scheme words satps drops leaf (filter (λ l. l.space.root == leaf.root) left) seen ≡ with_kept scheme words satps drops leaf left seen
+kept_of_root scheme words satps drops leaf [] seen = refl
+kept_of_root scheme words satps drops leaf (l ∷ left) seen =
+    let rest : List Left = filter (λ l. l.space.root == leaf.root) left in
+    let go : (b : Bool) → (l.space.root == leaf.root) ≡ b → with_kept scheme words satps drops leaf (cond b (l ∷ rest) rest) seen ≡ with_kept scheme words satps drops leaf left (seen ++ kept_for scheme words satps drops leaf l) =
+    λ b. elim b as (λ b. (l.space.root == leaf.root) ≡ b → with_kept scheme words satps drops leaf (cond b (l ∷ rest) rest) seen ≡ with_kept scheme words satps drops leaf left (seen ++ kept_for scheme words satps drops leaf l)) [
+      | true ↦ λ same. kept_of_root scheme words satps drops leaf left (seen ++ kept_for scheme words satps drops leaf l)
+      | false ↦ λ other.
+          let none : is_kept scheme words satps drops leaf l ≡ false = false_from_ne_true _ (λ kept. let p = and_parts (l.space.root == leaf.root) _ kept in let no = sym p.0 ∙ other in cc) in
+          let nothing : kept_for scheme words satps drops leaf l ≡ [] = ap (λ b. cond b (last_of leaf l ∷ []) []) none in
+          kept_of_root scheme words satps drops leaf left seen
+          ∙ sym (ap (with_kept scheme words satps drops leaf left) (ap (λ (ks : List LastLive). seen ++ ks) nothing ∙ append_none seen))
+    ] in
+    go (l.space.root == leaf.root) refl
+
+-- what is behind a place without those that a test drops
+abbrev pub dropped_from : (Left → Bool) → ℕ → List Left → List Left
+dropped_from p place left = take place left ++ filter p (drop place left)
+
+pub behind_stays : (p : Left → Bool) (left : List Left) (place : ℕ) → ((k : ℕ) (d : Left) → place ≤ k → k < length left → p (get_or left k d) ≡ true) → left ≡ dropped_from p place left
+behind_stays p [] zero stays = refl
+behind_stays p [] (suc place) stays = refl
+behind_stays p (l ∷ left) zero stays =
+    ap (λ (ls : List Left). l ∷ ls) (behind_stays p left zero (λ k d from among. stays (suc k) d (omega arith) (omega arith)))
+    ∙ sym (ap (λ b. cond b (l ∷ filter p left) (filter p left)) (stays 0 l (omega arith) (omega arith)))
+behind_stays p (l ∷ left) (suc place) stays = ap (λ (ls : List Left). l ∷ ls) (behind_stays p left place (λ k d from among. stays (suc k) d (omega arith) (omega arith)))
+
+pub before_stays : (p : Left → Bool) (left : List Left) (place : ℕ) → ((k : ℕ) (d : Left) → k < place → k < length left → p (get_or left k d) ≡ true) → dropped_from p place left ≡ filter p left
+before_stays p [] zero stays = refl
+before_stays p [] (suc place) stays = refl
+before_stays p (l ∷ left) zero stays = refl
+before_stays p (l ∷ left) (suc place) stays =
+    ap (λ (ls : List Left). l ∷ ls) (before_stays p left place (λ k d early among. stays (suc k) d (omega arith) (omega arith)))
+    ∙ sym (ap (λ b. cond b (l ∷ filter p left) (filter p left)) (stays 0 l (omega arith) (omega arith)))
+
+pub one_stays : (p : Left → Bool) (left : List Left) (place : ℕ) (d : Left) → place < length left → p (get_or left place d) ≡ true → dropped_from p (suc place) left ≡ dropped_from p place left
+one_stays p [] place d among stays = absurd (omega arith)
+one_stays p (l ∷ left) zero d among stays = sym (ap (λ b. cond b (l ∷ filter p left) (filter p left)) stays)
+one_stays p (l ∷ left) (suc place) d among stays = ap (λ (ls : List Left). l ∷ ls) (one_stays p left place d (omega arith) stays)
+
+pub one_goes : (p : Left → Bool) (left : List Left) (place : ℕ) (d : Left) → place < length left → p (get_or left place d) ≡ false → remove (dropped_from p (suc place) left) place ≡ dropped_from p place left
+one_goes p [] place d among goes = absurd (omega arith)
+one_goes p (l ∷ left) zero d among goes = sym (ap (λ b. cond b (l ∷ filter p left) (filter p left)) goes)
+one_goes p (l ∷ left) (suc place) d among goes = ap (λ (ls : List Left). l ∷ ls) (one_goes p left place d (omega arith) goes)
+
+pub read_dropped : (p : Left → Bool) (left : List Left) (place : ℕ) (d : Left) → place < length left → get_or (dropped_from p (suc place) left) place d ≡ get_or left place d
+read_dropped p [] place d among = absurd (omega arith)
+read_dropped p (l ∷ left) zero d among = refl
+read_dropped p (l ∷ left) (suc place) d among = read_dropped p left place d (omega arith)
+
+-- what is of another root is of another space
+pub other_root : (hart : ℕ) (space : Space) (l : Left) → (space.root ≡ l.space.root → ⊥) → is_other hart (Some space) l ≡ true
+other_root hart space l other =
+    not_from_false _ (false_from_ne_true _ (λ t. other (eqb-true _ _ (and_parts (space.root == l.space.root) (space.asid == l.space.asid) (and_parts (l.hart == hart) (is_space (Some space) l.space) t).1).0)))
+
+-- no space is one to which a hart comes back
+none-and : (b : Bool) → not (b && false) ≡ true
+none-and true = refl
+none-and false = refl
+
+pub none_back : (hart : ℕ) (left : List Left) → filter (is_other hart None) left ≡ left
+none_back hart [] = refl
+none_back hart (l ∷ left) = ap (λ b. cond b (l ∷ filter (is_other hart None) left) (filter (is_other hart None) left)) (none-and (l.hart == hart)) ∙ ap (λ (ls : List Left). l ∷ ls) (none_back hart left)

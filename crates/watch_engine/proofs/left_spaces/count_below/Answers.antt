@@ -1,0 +1,10 @@
+use Rattle.std.proofs.Common.{ltb, ltb-true, ltb-false, rules}
+use Rattle.std.proofs.lemmas.List.Sorted.{IsPartitionPoint-from_clause, IsPartitionedBy-ltb}
+use Rattle.watch_engine.specs.declared.left.Left.{Left}
+use Rattle.watch_engine.proofs.left_spaces.count_below.Goals as goal
+
+pub returns-clause-place : goal.returns-clause-place
+returns-clause-place c =
+    let parted = IsPartitionedBy-ltb (λ (l : Left). l.space.root) _ c.args.root c.requires in
+    let point = IsPartitionPoint-from_clause (λ (l : Left). ltb l.space.root c.args.root) _ _ c.partition_point.ensures.partitioned parted (λ a r q k. search rules) in
+    ((λ k d from early. ltb-true _ _ (point.0 k d from early)), (λ k d from within. ltb-false _ _ (point.1 k d from within)))

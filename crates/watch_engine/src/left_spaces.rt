@@ -1,0 +1,158 @@
+//! The spaces that harts have left.
+
+ghost use Rattle.std.specs.Prelude.{◌≡◌, ◌==◌, ◌≤◌, [], OnErr, OnOk, Some, filter, if◌then◌else◌, length};
+ghost use Rattle.watch_engine.specs.LeftOrder.{AreByRoot, Begins, Ends};
+ghost use Rattle.watch_engine.specs.Left.{has_its_root, is_of_other, is_other, with_left};
+
+use crate::left::Left;
+use crate::roots::Roots;
+use std::alloc::{AllocError, Global};
+use std::marker::Model;
+use watch::Space;
+
+// How many of them have a root below this one.
+fn count_below(left: &[Left], root: u64) -> usize
+    requires { AreByRoot left.now }
+    ensures within { result ≤ length left.now }
+    ensures place { Begins left.now result root }
+{
+    left.partition_point(|l| l.space.root < root)
+}
+
+// How many of them have no root above this one.
+fn count_up_to(left: &[Left], root: u64) -> usize
+    requires { AreByRoot left.now }
+    ensures within { result ≤ length left.now }
+    ensures place { Ends left.now result root }
+{
+    left.partition_point(|l| l.space.root <= root)
+}
+
+// Those with the root.
+fn of_root(left: &[Left], root: u64) -> &[Left]
+    requires { AreByRoot left.now }
+    ensures { result.now ≡ filter (λ l. l.space.root == root) left.now }
+{
+    let start = count_below(left, root);
+    let end = count_up_to(left, root);
+    &left[start..end]
+}
+
+// It is of another hart or of another space.
+fn is_other(hart: u8, space: Space, left: &Left) -> bool
+    ensures { result ≡ is_other hart (Some space) left.now }
+{
+    !(left.hart == hart && space.root == left.space.root && space.asid == left.space.asid)
+}
+
+// Without the space to which the hart comes back: only those with its root can be that.
+fn drop_back(left: &mut Vec<Left>, hart: u8, space: Space)
+    requires { AreByRoot left.old.items }
+    ensures { left.new.items ≡ filter (is_other hart (Some space)) left.old.items }
+{
+    let start = count_below(left.as_slice(), space.root);
+    let mut end = count_up_to(left.as_slice(), space.root);
+    while end > start {
+        end -= 1;
+        if !is_other(hart, space, &left[end]) {
+            left.remove(end);
+        }
+    }
+}
+
+/// The spaces that harts have left, in the order of their roots, and those of one root in the order
+/// in which they were left.
+#[derive(Drop)]
+pub(crate) struct LeftSpaces {
+    spaces: Vec<Left>,
+}
+
+impl Model for LeftSpaces {
+    ghost use Rattle.std.specs.Prelude.{List};
+    ghost use Rattle.watch_engine.specs.LeftOrder.{AreByRoot};
+    ghost use Rattle.watch_engine.specs.declared.left.Left.{Left as LeftOf};
+
+    ghost Value = { List LeftOf };
+
+    ghost view = { λ s. s.spaces.items };
+
+    ghost invariant = { λ s. AreByRoot s.spaces.items };
+}
+
+impl LeftSpaces {
+    /// No space.
+    pub(crate) fn new(alloc: Global) -> LeftSpaces
+        ensures { result ≡ [] }
+    {
+        LeftSpaces {
+            spaces: Vec::new(alloc),
+        }
+    }
+
+    /// Those with the root.
+    pub(crate) fn of_root(&self, root: u64) -> &[Left]
+        ensures { result.now ≡ filter (λ l. l.space.root == root) self.now }
+    {
+        of_root(self.spaces.as_slice(), root)
+    }
+
+    /// With the space that a hart leaves. At `Err` nothing changed.
+    pub(crate) fn add(
+        &mut self,
+        hart: u8,
+        space: Option<Space>,
+        count: u64,
+        fences: usize,
+    ) -> Result<(), AllocError>
+        ensures ok { OnOk result (self.new ≡ with_left hart space count fences self.old) }
+        ensures err { OnErr result (self.new ≡ self.old) }
+    {
+        let Some(space) = space else {
+            return Ok(());
+        };
+        let place = count_up_to(self.spaces.as_slice(), space.root);
+        self.spaces.insert(
+            place,
+            Left {
+                hart,
+                space,
+                left: count,
+                fences: fences as u64,
+            },
+        )?;
+        Ok(())
+    }
+
+    /// Without the space to which the hart comes back.
+    pub(crate) fn drop_back(&mut self, hart: u8, space: Option<Space>)
+        ensures { self.new ≡ filter (is_other hart space) self.old }
+    {
+        match space {
+            None => {}
+            Some(space) => drop_back(&mut self.spaces, hart, space),
+        }
+    }
+
+    /// Without the spaces that the hart has left.
+    pub(crate) fn drop_of(&mut self, hart: u8)
+        ensures { self.new ≡ filter (is_of_other hart) self.old }
+    {
+        self.spaces.retain(|l| !(l.hart == hart));
+    }
+
+    fn retain_rooted(&mut self, roots: &Roots)
+        ensures { self.new ≡ filter (has_its_root roots.now) self.old }
+    {
+        self.spaces.retain(|l| roots.has(l.space.root));
+    }
+
+    /// Without spaces whose root is none of these, if a root is none any more.
+    pub(crate) fn drop_rootless(&mut self, keeps: bool, roots: &Roots)
+        ensures { self.new ≡ (if keeps then self.old
+            else filter (has_its_root roots.now) self.old) }
+    {
+        if !keeps {
+            self.retain_rooted(roots);
+        }
+    }
+}
