@@ -70,7 +70,7 @@ stale-stays n i h = λ j. record i { stale_since = some-same n i.stale_since h j
 mark-since : (b : Bool) (i : Held) → (marked_if Reuse (λ _. b) i).stale_since ≡ i.stale_since
 mark-since b i = elim b as (λ b. (marked_if Reuse (λ _. b) i).stale_since ≡ i.stale_since) [ true ↦ refl | false ↦ refl ]
 
-unless_keeps : (is : Held → Bool) (n : ℕ) → KeepsKey (λ i. settled_unless_stale (is i) n i)
+pub unless_keeps : (is : Held → Bool) (n : ℕ) → KeepsKey (λ i. settled_unless_stale (is i) n i)
 unless_keeps is n =
     let k = settled_keeps is n in
     let h : (t : Bool) (i : Held) → (cond t i (settled (is i) n i)).hart ≡ i.hart = λ t i. elim t as (λ t. (cond t i (settled (is i) n i)).hart ≡ i.hart) [ true ↦ refl | false ↦ k.hart i ] in

@@ -30,3 +30,9 @@ pub mod WarningAnswers
 pub mod Asked
 pub mod Touching
 pub mod Marking
+pub mod Keyed
+pub mod Walks
+pub mod Unlinking
+pub mod Dropping
+pub mod Staying
+pub mod Untouched

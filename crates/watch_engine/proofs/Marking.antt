@@ -1,8 +1,8 @@
 -- Where nothing is given that is new, all have the verdict already.
 use Rattle.std.proofs.Common.{◌≡◌, Bool, true, false, List, [], ◌∷◌, ◌++◌, length, map, ap, sym, ◌∙◌, refl, arith}
-use Rattle.std.specs.Prelude.{◌&&◌, cond, not}
+use Rattle.std.specs.Prelude.{◌&&◌, ◌||◌, cond, not}
 use Rattle.std.specs.List.{list_any}
-use Rattle.std.proofs.lemmas.Bool.{not-false}
+use Rattle.std.proofs.lemmas.Bool.{not-false, true≢false}
 use Rattle.std.proofs.lemmas.List.{length-append}
 use Rattle.watch.specs.declared.trace.Frames.{Frames}
 use Rattle.watch.specs.declared.trace.Verdict.{Verdict}
@@ -95,3 +95,14 @@ module _ (frames : Frames) where
 
   pub still_same_out : (seen : List LastLive) (held : List Held) → joined (Out frames) held [] ≡ [] → map (marked_if Reuse (is_exposed_by frames)) (remembered_all seen held) ≡ remembered_all seen held
   still_same_out seen held h = map_marked Reuse (is_exposed_by frames) (remembered_all seen held) (each-remembered seen held (all_marked (Out frames) held h))
+
+-- a cause that is of none gives no warning
+pub none_joined : (cause : Cause) (held : List Held) (w : List Warning) → list_any (applies cause) held ≡ false → joined cause held w ≡ w
+none_joined cause [] w none = refl
+none_joined cause (i ∷ held) w none =
+    let go : (b : Bool) → applies cause i ≡ b → joined cause held (cond ((b && not (is_marked (verdict_of cause) i)) && not (list_any (is_shown i) w)) (w ++ warning_of (verdict_of cause) i ∷ []) w) ≡ w =
+    λ b. elim b as (λ b. applies cause i ≡ b → joined cause held (cond ((b && not (is_marked (verdict_of cause) i)) && not (list_any (is_shown i) w)) (w ++ warning_of (verdict_of cause) i ∷ []) w) ≡ w) [
+      | true ↦ λ t. absurd (true≢false (sym (ap (λ (b : Bool). b || list_any (applies cause) held) t) ∙ none))
+      | false ↦ λ t. none_joined cause held w (sym (ap (λ (b : Bool). b || list_any (applies cause) held) t) ∙ none)
+    ] in
+    go (applies cause i) refl

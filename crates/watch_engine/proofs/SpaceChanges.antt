@@ -127,7 +127,7 @@ or-more true t false false = refl
 or-more false true a b = refl
 or-more false false a b = refl
 
-found-keeps : (test : Translation → Bool) (root : ℕ) → KeepsKey (found_again test root)
+pub found-keeps : (test : Translation → Bool) (root : ℕ) → KeepsKey (found_again test root)
 found-keeps test root =
     let is : Held → Bool = λ i. is_some i.stale_since && (i.entry.global && test (record { root = root; entry = i.entry })) in
     let h : (t : Bool) (i : Held) → (cond t (settled true 0 i) i).hart ≡ i.hart = λ t i. elim t as (λ t. (cond t (settled true 0 i) i).hart ≡ i.hart) [ true ↦ refl | false ↦ refl ] in

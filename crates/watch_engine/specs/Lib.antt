@@ -12,3 +12,5 @@ pub mod Warnings
 pub mod WorkedWarnings
 pub mod Standing
 pub mod Watching
+pub mod Keys
+pub mod Concerns

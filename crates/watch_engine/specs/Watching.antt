@@ -8,5 +8,5 @@ use Rattle.watch_engine.specs.Standing.{Stands}
 -- the watch has seen the records of the trace
 abbrev pub Follows : {T : Type 0} → (T → Tables) → (T → ℕ → ℕ → ℕ) → Trace → Watch T → Type 0
 Follows words since trace w =
-    Stands w.scheme trace (words w.tables) (since w.tables) w.satps.spaces.items w.roots w.held.items
+    Stands w.scheme trace (words w.tables) (since w.tables) w.satps.spaces.items w.roots w.held.list.items
     w.left w.drops.fences.items w.fences.items w.claims.items w.count

@@ -13,9 +13,9 @@ const FIRST_BUCKETS: usize = 8;
 pub(crate) struct Chains {
     pub(crate) keys: Vec<u64>,
     /// For each place one more than the place of the next older key of its bucket, or 0.
-    links: Vec<usize>,
+    pub(crate) links: Vec<usize>,
     /// For each bucket one more than the place of its newest key, or 0.
-    heads: Vec<usize>,
+    pub(crate) heads: Vec<usize>,
     ghost chains: { AreChains keys.items links.items heads.items },
 }
 
@@ -25,7 +25,7 @@ const SPREAD: u64 = 0x9e37_79b9_7f4a_7c15;
 // The bucket of a key.
 #[inline(always)]
 #[tactic(auto, unfolding(crate::specs::Chains::bucket_of))]
-fn bucket_of(buckets: usize, key: u64) -> usize
+pub(crate) fn bucket_of(buckets: usize, key: u64) -> usize
     requires { 0 < buckets }
     ensures is { result ≡ bucket_of buckets key }
     ensures within { result < buckets }
@@ -34,7 +34,7 @@ fn bucket_of(buckets: usize, key: u64) -> usize
 }
 
 // Puts the place of a key at the head of its bucket's chain.
-fn link(keys: &[u64], links: &mut [usize], heads: &mut [usize], place: usize)
+pub(crate) fn link(keys: &[u64], links: &mut [usize], heads: &mut [usize], place: usize)
     requires place { place < length keys.now }
     requires links { length links.old ≡ length keys.now }
     requires heads { 0 < length heads.old }

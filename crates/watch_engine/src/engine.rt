@@ -8,7 +8,7 @@ ghost use Rattle.watch_engine.specs.Open.{claim_begun};
 ghost use Rattle.watch_engine.specs.Warnings.{AreWarnings};
 
 use crate::cause::Cause;
-use crate::held::Held;
+use crate::held_list::HeldList;
 use crate::left::{add_ended, add_fence};
 use crate::left_spaces::LeftSpaces;
 use crate::list::{drop_fenced, drop_remote, find_again, mark_given, remember_all, settle_taken};
@@ -55,7 +55,7 @@ pub struct Watch<T: Tables> {
     tables: T,
     satps: Satps,
     roots: Roots,
-    held: Vec<Held>,
+    held: HeldList,
     left: LeftSpaces,
     drops: PastFences,
     fences: Vec<OpenFence>,
@@ -84,7 +84,7 @@ impl<T: Tables> Watch<T> {
             tables,
             satps: Satps::new(alloc),
             roots: Roots::new(alloc),
-            held: Vec::new(alloc),
+            held: HeldList::new(alloc),
             left: LeftSpaces::new(alloc),
             drops: PastFences::new(alloc),
             fences: Vec::new(alloc),
@@ -243,7 +243,7 @@ impl<T: Tables> Watch<T> {
             → OnErr result (Follows T.words T.since trace self.new) }
     {
         let cause = Cause::Out(frames);
-        let given = warnings(self.alloc, self.held.as_slice(), &cause)?;
+        let given = warnings(self.alloc, &self.held, &cause)?;
         let addresses = self.tables.stored_in(self.alloc, frames)?;
         let mut seen = Vec::new(self.alloc);
         add_seen_in(
@@ -287,7 +287,7 @@ impl<T: Tables> Watch<T> {
             → OnErr result (Follows T.words T.since trace self.new) }
     {
         let cause = Cause::Back(frames);
-        let given = warnings(self.alloc, self.held.as_slice(), &cause)?;
+        let given = warnings(self.alloc, &self.held, &cause)?;
         mark_given(&mut self.held, &cause, given.as_slice());
         self.count += 1;
         Ok(given)
@@ -307,7 +307,7 @@ impl<T: Tables> Watch<T> {
     {
         let claim = newest_claim(self.claims.as_slice(), token);
         let cause = Cause::Claim(claim);
-        let given = warnings(self.alloc, self.held.as_slice(), &cause)?;
+        let given = warnings(self.alloc, &self.held, &cause)?;
         mark_given(&mut self.held, &cause, given.as_slice());
         end_claim(&mut self.claims, token);
         self.count += 1;
@@ -332,7 +332,7 @@ impl<T: Tables> Watch<T> {
             space,
             address,
         };
-        let given = warnings(self.alloc, self.held.as_slice(), &cause)?;
+        let given = warnings(self.alloc, &self.held, &cause)?;
         self.count += 1;
         Ok(given)
     }

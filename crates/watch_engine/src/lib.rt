@@ -4,9 +4,12 @@
 
 mod cause;
 mod chains;
+mod concern;
 mod engine;
 mod fence;
 mod held;
+mod held_list;
+mod keys;
 mod laws;
 mod left;
 mod left_spaces;
@@ -15,6 +18,7 @@ mod live;
 mod open;
 mod page_tables;
 mod past_fences;
+mod relinked;
 mod roots;
 mod satps;
 mod seen;

@@ -7,7 +7,10 @@ ghost use Rattle.watch_engine.specs.Held.{all_found_again, found_again, is_curre
 ghost use Rattle.watch_engine.specs.Causes.{applies, verdict_of};
 
 use crate::cause::Cause;
+use crate::concern::Concern;
 use crate::held::{Held, LastLive};
+use crate::held_list::HeldList;
+use crate::keys::By;
 use crate::open::OpenFence;
 use crate::roots::{is_current, is_mapped};
 use crate::tables::Tables;
@@ -16,34 +19,40 @@ use pte::Scheme;
 use std::alloc::AllocError;
 
 // The place of a translation in the list.
-fn place_of(held: &[Held], live: &LastLive) -> Option<usize>
-    ensures { result ≡ place_in (is_of live.now.hart (last_translation live.now)) 0 held.now }
+fn place_of(held: &HeldList, live: &LastLive) -> Option<usize>
+    ensures { result ≡ place_in (is_of live.now.hart (last_translation live.now)) 0
+        held.now.list.items }
 {
-    for (place, item) in held.iter().enumerate() {
-        if item.is_of(live) {
-            return Some(place);
+    let items = held.as_slice();
+    let key = By::Page.key_of(&Held::from_live(live));
+    let mut found = None;
+    let mut at = held.pages.newest(key);
+    while at > 0 {
+        if items[at - 1].is_of(live) {
+            found = Some(at - 1);
         }
+        at = held.pages.before(at);
     }
-    None
+    found
 }
 
 // With a translation that was live. At `Err` nothing changed.
-pub(crate) fn remember(held: &mut Vec<Held>, live: &LastLive) -> Result<(), AllocError>
-    ensures ok { OnOk result (held.new.items ≡ remembered live.now held.old.items) }
-    ensures err { OnErr result (held.new.items ≡ held.old.items) }
+pub(crate) fn remember(held: &mut HeldList, live: &LastLive) -> Result<(), AllocError>
+    ensures ok { OnOk result (held.new.list.items ≡ remembered live.now held.old.list.items) }
+    ensures err { OnErr result (held.new.list.items ≡ held.old.list.items) }
 {
-    let Some(place) = place_of(held.as_slice(), live) else {
-        return Ok(held.push(Held::from_live(live))?);
+    let Some(place) = place_of(held, live) else {
+        return held.push(Held::from_live(live));
     };
-    held[place].touch(live.last_live);
+    held.list[place].touch(live.last_live);
     Ok(())
 }
 
 // With translations that were live. At `Err` some of them are there.
-pub(crate) fn remember_all(held: &mut Vec<Held>, live: &[LastLive]) -> Result<(), AllocError>
-    ensures ok { OnOk result (held.new.items ≡ remembered_all live.now held.old.items) }
+pub(crate) fn remember_all(held: &mut HeldList, live: &[LastLive]) -> Result<(), AllocError>
+    ensures ok { OnOk result (held.new.list.items ≡ remembered_all live.now held.old.list.items) }
     ensures err { OnErr result ((n : ℕ)
-        × (held.new.items ≡ remembered_all (take n live.now) held.old.items)) }
+        × (held.new.list.items ≡ remembered_all (take n live.now) held.old.list.items)) }
 {
     for item in live {
         remember(held, item)?;
@@ -73,22 +82,22 @@ fn find_each_again<T: Tables>(held: &mut [Held], tables: &T, scheme: Scheme, roo
     }
 }
 
-fn find_all_again<T: Tables>(held: &mut Vec<Held>, tables: &T, scheme: Scheme, root: u64)
-    ensures { held.new.items
-        ≡ map (found_again (is_mapped scheme (T.words tables.now)) root) held.old.items }
+fn find_all_again<T: Tables>(held: &mut HeldList, tables: &T, scheme: Scheme, root: u64)
+    ensures { held.new.list.items
+        ≡ map (found_again (is_mapped scheme (T.words tables.now)) root) held.old.list.items }
 {
-    find_each_again(held.as_mut_slice(), tables, scheme, root);
+    find_each_again(held.list.as_mut_slice(), tables, scheme, root);
 }
 
 // With what the tables of a root have, if a hart comes to a new one.
 pub(crate) fn find_again<T: Tables>(
     root: Option<u64>,
-    held: &mut Vec<Held>,
+    held: &mut HeldList,
     tables: &T,
     scheme: Scheme,
 )
-    ensures { held.new.items
-        ≡ all_found_again (is_mapped scheme (T.words tables.now)) root held.old.items }
+    ensures { held.new.list.items
+        ≡ all_found_again (is_mapped scheme (T.words tables.now)) root held.old.list.items }
 {
     if let Some(root) = root {
         find_all_again(held, tables, scheme, root);
@@ -131,31 +140,31 @@ fn settle_each_unless_stale<T: Tables>(
 }
 
 fn settle_all_unless_stale<T: Tables>(
-    held: &mut Vec<Held>,
+    held: &mut HeldList,
     tables: &T,
     scheme: Scheme,
     roots: &[u64],
     count: u64,
 )
-    ensures { held.new.items ≡ map (λ i. settled_unless_stale (is_current_by
+    ensures { held.new.list.items ≡ map (λ i. settled_unless_stale (is_current_by
         (is_mapped scheme (T.words tables.now)) roots.now (translation_of i)) count i)
-        held.old.items }
+        held.old.list.items }
 {
-    settle_each_unless_stale(held.as_mut_slice(), tables, scheme, roots, count);
+    settle_each_unless_stale(held.list.as_mut_slice(), tables, scheme, roots, count);
 }
 
 // With what the tables have now, if something may have been taken from that and nothing put to it.
 pub(crate) fn settle_taken<T: Tables>(
     changed: bool,
-    held: &mut Vec<Held>,
+    held: &mut HeldList,
     tables: &T,
     scheme: Scheme,
     roots: &[u64],
     count: u64,
 )
-    ensures { held.new.items ≡ (if changed then map (λ i. settled_unless_stale (is_current_by
+    ensures { held.new.list.items ≡ (if changed then map (λ i. settled_unless_stale (is_current_by
         (is_mapped scheme (T.words tables.now)) roots.now (translation_of i)) count i)
-        held.old.items else held.old.items) }
+        held.old.list.items else held.old.list.items) }
 {
     if changed {
         settle_all_unless_stale(held, tables, scheme, roots, count);
@@ -171,20 +180,20 @@ fn mark_each(held: &mut [Held], cause: &Cause)
 }
 
 // With the verdict of those that the cause is of.
-fn mark(held: &mut Vec<Held>, cause: &Cause)
-    ensures { held.new.items
-        ≡ map (marked_if (verdict_of cause.now) (applies cause.now)) held.old.items }
+fn mark(held: &mut HeldList, cause: &Cause)
+    ensures { held.new.list.items
+        ≡ map (marked_if (verdict_of cause.now) (applies cause.now)) held.old.list.items }
 {
-    mark_each(held.as_mut_slice(), cause);
+    mark_each(held.list.as_mut_slice(), cause);
 }
 
 // The same, where what is given by the cause is known: if nothing is, all keep the verdicts that they
 // have.
-pub(crate) fn mark_given(held: &mut Vec<Held>, cause: &Cause, given: &[Warning])
+pub(crate) fn mark_given(held: &mut HeldList, cause: &Cause, given: &[Warning])
     requires { given.now ≡ [] → map (marked_if (verdict_of cause.now) (applies cause.now))
-        held.old.items ≡ held.old.items }
-    ensures { held.new.items
-        ≡ map (marked_if (verdict_of cause.now) (applies cause.now)) held.old.items }
+        held.old.list.items ≡ held.old.list.items }
+    ensures { held.new.list.items
+        ≡ map (marked_if (verdict_of cause.now) (applies cause.now)) held.old.list.items }
 {
     if !given.is_empty() {
         mark(held, cause);
@@ -193,20 +202,28 @@ pub(crate) fn mark_given(held: &mut Vec<Held>, cause: &Cause, given: &[Warning])
 
 // Without what a fence of the hart drops.
 pub(crate) fn drop_fenced(
-    held: &mut Vec<Held>,
+    held: &mut HeldList,
     scheme: Scheme,
     hart: u8,
     rs1: Option<u64>,
     rs2: Option<u64>,
 )
-    ensures { held.new.items ≡ filter (outlives_fence scheme hart rs1 rs2) held.old.items }
+    ensures { held.new.list.items ≡ filter (outlives_fence scheme hart rs1 rs2) held.old.list.items }
 {
-    held.retain(|item| item.outlives_fence(scheme, hart, rs1, rs2));
+    held.drop_of(&Concern::Fence {
+        scheme,
+        hart,
+        rs1,
+        rs2,
+    });
 }
 
 // Without what the end of a remote fence drops.
-pub(crate) fn drop_remote(held: &mut Vec<Held>, scheme: Scheme, fence: &Option<OpenFence>)
-    ensures { held.new.items ≡ filter (outlives_remote scheme fence.now) held.old.items }
+pub(crate) fn drop_remote(held: &mut HeldList, scheme: Scheme, fence: &Option<OpenFence>)
+    ensures { held.new.list.items ≡ filter (outlives_remote scheme fence.now) held.old.list.items }
 {
-    held.retain(|item| item.outlives_remote(scheme, fence));
+    held.drop_of(&Concern::Remote {
+        scheme,
+        fence: *fence,
+    });
 }

@@ -1,13 +1,16 @@
 //! The translations that a store to a word can concern.
 
-ghost use Rattle.std.specs.Prelude.{ℕ, ◌≡◌, filter, map, not};
+ghost use Rattle.std.specs.Prelude.{ℕ, ◌≡◌, false, filter, map, not};
 ghost use Rattle.std.specs.List.{list_any};
 ghost use Rattle.watch.specs.Computed.{is_mapped};
 ghost use Rattle.watch.specs.Trace.{index_of};
 ghost use Rattle.watch_engine.specs.Held.{is_current_by, translation_of};
 ghost use Rattle.watch_engine.specs.Touched.{asks, is_below, is_kept_after, is_touched, is_touched_on, settled_if};
 
+use crate::concern::Concern;
 use crate::held::Held;
+use crate::held_list::HeldList;
+use crate::keys::By;
 use crate::live::is_live_in;
 use crate::roots::{Roots, is_current};
 use crate::satps::satp_in;
@@ -17,10 +20,10 @@ use watch::Space;
 use watch_tables::Way;
 
 /// How many bytes a word of a table has.
-const WORD_BYTES: u64 = 8;
+pub(crate) const WORD_BYTES: u64 = 8;
 
 // The page lies below the word at the address, on the way to its table.
-fn is_below(scheme: Scheme, address: u64, page: &Page, way: &Way) -> bool
+pub(crate) fn is_below(scheme: Scheme, address: u64, page: &Page, way: &Way) -> bool
     ensures { result ≡ is_below scheme (index_of address) page.now way.now }
 {
     way.is_below(scheme, address, *page)
@@ -87,7 +90,7 @@ fn is_kept_after<T: Tables>(
 
 // Without those that can be filled again.
 fn drop_live<T: Tables>(
-    held: &mut Vec<Held>,
+    held: &mut HeldList,
     tables: &T,
     scheme: Scheme,
     satps: &[Option<Space>],
@@ -95,10 +98,13 @@ fn drop_live<T: Tables>(
     address: u64,
     ways: &[Way],
 )
-    ensures { held.new.items ≡ filter (is_kept_after scheme (T.words tables.now) satps.now
-        roots.now (index_of address) ways.now) held.old.items }
+    ensures { held.new.list.items ≡ filter (is_kept_after scheme (T.words tables.now) satps.now
+        roots.now (index_of address) ways.now) held.old.list.items }
 {
-    held.retain(|item| is_kept_after(tables, scheme, satps, roots, address, ways, item));
+    held.list.retain(|item| is_kept_after(tables, scheme, satps, roots, address, ways, item));
+    held.pages.relink(held.list.as_slice(), By::Page, 0);
+    held.frames.relink(held.list.as_slice(), By::Frame, 0);
+    held.roots.relink(held.list.as_slice(), By::Root, 0);
 }
 
 impl Held {
@@ -155,10 +161,35 @@ fn settle_each_touched<T: Tables>(
     some
 }
 
-/// With what the tables have now of those that the store concerns, and without those that can be
-/// filled again.
-pub(crate) fn settle_touched<T: Tables>(
-    held: &mut Vec<Held>,
+// Whether the store may concern some item on a way: it does not where the answer is `false`.
+fn may_touch_on(held: &HeldList, scheme: Scheme, roots: &Roots, address: u64, way: &Way) -> bool
+    ensures { result ≡ false → list_any (λ i. is_touched_on scheme roots.now (index_of address)
+        (translation_of i) way.now) held.now.list.items ≡ false }
+{
+    held.may_concern(&Concern::Store {
+        scheme,
+        address,
+        way: *way,
+        is_root: roots.has(way.root),
+    })
+}
+
+// The same on any of the ways.
+fn may_touch(held: &HeldList, scheme: Scheme, roots: &Roots, address: u64, ways: &[Way]) -> bool
+    ensures { result ≡ false → list_any (λ i. is_touched scheme roots.now (index_of address)
+        ways.now (translation_of i)) held.now.list.items ≡ false }
+{
+    for way in ways {
+        if may_touch_on(held, scheme, roots, address, way) {
+            return true;
+        }
+    }
+    false
+}
+
+// The same of the list, without those that can be filled again.
+fn settle_all_touched<T: Tables>(
+    held: &mut HeldList,
     tables: &T,
     scheme: Scheme,
     satps: &[Option<Space>],
@@ -167,13 +198,13 @@ pub(crate) fn settle_touched<T: Tables>(
     ways: &[Way],
     count: u64,
 )
-    ensures { held.new.items ≡ map (λ i. settled_if (is_touched scheme roots.now
+    ensures { held.new.list.items ≡ map (λ i. settled_if (is_touched scheme roots.now
         (index_of address) ways.now (translation_of i)) (is_current_by (is_mapped scheme
         (T.words tables.now)) roots.now (translation_of i)) count i) (filter (is_kept_after scheme
-        (T.words tables.now) satps.now roots.now (index_of address) ways.now) held.old.items) }
+        (T.words tables.now) satps.now roots.now (index_of address) ways.now) held.old.list.items) }
 {
     let some = settle_each_touched(
-        held.as_mut_slice(),
+        held.list.as_mut_slice(),
         tables,
         scheme,
         satps,
@@ -184,5 +215,28 @@ pub(crate) fn settle_touched<T: Tables>(
     );
     if some {
         drop_live(held, tables, scheme, satps, roots, address, ways);
+    }
+}
+
+/// With what the tables have now of those that the store concerns, and without those that can be
+/// filled again.
+pub(crate) fn settle_touched<T: Tables>(
+    held: &mut HeldList,
+    tables: &T,
+    scheme: Scheme,
+    satps: &[Option<Space>],
+    roots: &Roots,
+    address: u64,
+    ways: &[Way],
+    count: u64,
+)
+    ensures { held.new.list.items ≡ map (λ i. settled_if (is_touched scheme roots.now
+        (index_of address) ways.now (translation_of i)) (is_current_by (is_mapped scheme
+        (T.words tables.now)) roots.now (translation_of i)) count i) (filter (is_kept_after scheme
+        (T.words tables.now) satps.now roots.now (index_of address) ways.now)
+        held.old.list.items) }
+{
+    if may_touch(held, scheme, roots, address, ways) {
+        settle_all_touched(held, tables, scheme, satps, roots, address, ways, count);
     }
 }

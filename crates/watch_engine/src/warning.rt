@@ -5,7 +5,9 @@ ghost use Rattle.watch_engine.specs.Warnings.{has_same_rights, is_line, is_same_
 ghost use Rattle.std.specs.List.{list_any};
 
 use crate::cause::Cause;
+use crate::concern::Concern;
 use crate::held::Held;
+use crate::held_list::HeldList;
 use pte::PteFlags;
 use std::alloc::{AllocError, Global};
 use tlb::Entry;
@@ -102,12 +104,8 @@ fn add_warning(warnings: &mut Vec<Warning>, item: &Held, cause: &Cause) -> Resul
     Ok(())
 }
 
-// The warnings for a cause.
-pub(crate) fn warnings(
-    alloc: Global,
-    held: &[Held],
-    cause: &Cause,
-) -> Result<Vec<Warning>, AllocError>
+// The warnings for a cause, of all items.
+fn all_warnings(alloc: Global, held: &[Held], cause: &Cause) -> Result<Vec<Warning>, AllocError>
     ensures { IfOk result (λ warnings. warnings.items ≡ joined cause.now held.now []) }
 {
     let mut warnings = Vec::new(alloc);
@@ -115,4 +113,18 @@ pub(crate) fn warnings(
         add_warning(&mut warnings, item, cause)?;
     }
     Ok(warnings)
+}
+
+// The warnings for a cause.
+pub(crate) fn warnings(
+    alloc: Global,
+    held: &HeldList,
+    cause: &Cause,
+) -> Result<Vec<Warning>, AllocError>
+    ensures { IfOk result (λ warnings. warnings.items ≡ joined cause.now held.now.list.items []) }
+{
+    if !held.may_concern(&Concern::Given(*cause)) {
+        return Ok(Vec::new(alloc));
+    }
+    all_warnings(alloc, held.as_slice(), cause)
 }

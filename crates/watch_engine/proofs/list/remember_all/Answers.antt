@@ -13,6 +13,6 @@ loop-item-preserved c =
     let one = c.in_ok-remember.ensures in
     let more = take_more live at l c.loop-item-test.true in
     one.ok ∙ (ap (remembered l) c.loop-item.invariant
-    ∙ (sym (remembered_push (take at live) l c.args.held.now.items)
-    ∙ ((λ j. remembered_all (take at live ++ c.item-item.is j ∷ []) c.args.held.now.items)
-    ∙ sym (ap (λ ls. remembered_all ls c.args.held.now.items) more))))
+    ∙ (sym (remembered_push (take at live) l c.args.held.now.list.items)
+    ∙ ((λ j. remembered_all (take at live ++ c.item-item.is j ∷ []) c.args.held.now.list.items)
+    ∙ sym (ap (λ ls. remembered_all ls c.args.held.now.list.items) more))))

@@ -1,8 +1,8 @@
-use Rattle.std.proofs.Common.{◌∙◌, sym, ap, subst, List, []}
+use Rattle.std.proofs.Common.{◌∙◌, sym, subst, List}
 use Rattle.watch.specs.declared.trace.Record.TheVariants as records
 use Rattle.watch_engine.specs.declared.cause.Cause.TheVariants.{Back}
 use Rattle.watch_engine.specs.declared.held.Held.{Held}
-use Rattle.watch_engine.specs.Warnings.{AreWarnings, joined}
+use Rattle.watch_engine.specs.Warnings.{AreWarnings}
 use Rattle.watch_engine.proofs.Judging.{are_warnings, back_causes}
 use Rattle.watch_engine.proofs.Marking.{still_same}
 use Rattle.watch_engine.proofs.PlainChanges.{back_stands}
@@ -12,8 +12,8 @@ pub returns-clause-warnings : goal.returns-clause-warnings
 returns-clause-warnings g c = λ hart trace at.
     let scheme = c.args.self.now.scheme in
     let frames = c.args.frames in
-    let held : List Held = c.args.self.now.held.items in
-    subst (AreWarnings scheme (records.GiveBack hart frames) trace) (sym (c.in_ok-given.ensures ∙ ap (λ (h : List Held). joined (Back frames) h []) c.as_slice.ensures.value))
+    let held : List Held = c.args.self.now.held.list.items in
+    subst (AreWarnings scheme (records.GiveBack hart frames) trace) (sym (c.in_ok-given.ensures))
     (are_warnings scheme (records.GiveBack hart frames) trace (Back frames) _ (back_causes scheme hart frames trace) held at.are)
 
 pub returns-clause-ok : goal.returns-clause-ok
@@ -21,5 +21,5 @@ returns-clause-ok g c = λ hart trace at. back_stands at hart c.args.frames _ c.
 
 pub mark_given-requires : goal.mark_given-requires
 mark_given-requires g c = λ none.
-    let held : List Held = c.args.self.now.held.items in
-    still_same (Back c.args.frames) held (sym (c.in_ok-given.ensures ∙ ap (λ (h : List Held). joined (Back c.args.frames) h []) c.as_slice.ensures.value) ∙ (sym c.as_slice-2.ensures.value ∙ none))
+    let held : List Held = c.args.self.now.held.list.items in
+    still_same (Back c.args.frames) held (sym (c.in_ok-given.ensures) ∙ (sym c.as_slice.ensures.value ∙ none))

@@ -1,6 +1,6 @@
 use Rattle.std.proofs.Common.{◌≡◌, drop, []}
 use Rattle.watch_engine.specs.Warnings.{joined}
-use Rattle.watch_engine.proofs.warning.warnings.Given as goal
+use Rattle.watch_engine.proofs.warning.all_warnings.Given as goal
 
 abbrev pub invariant-loop-item : goal.invariant-loop-item
 invariant-loop-item l = joined l.cause (drop l.item-index l.held) l.warnings.items ≡ joined l.cause l.held []

@@ -1,0 +1,197 @@
+//! What a record can concern of what harts may hold.
+
+ghost use Rattle.std.specs.Prelude.{◌≡◌, ◌+◌, ◌<◌, ◌^◌, Option, Some, ℕ, true};
+ghost use Rattle.watch_engine.specs.Concerns.{concerns};
+ghost use Rattle.watch_engine.specs.declared.held.Held.{Held as HeldOf};
+ghost use Rattle.watch_engine.specs.declared.keys.Keys.{Keys as KeysOf};
+ghost use Rattle.pte.specs.declared.scheme.Scheme.{Scheme as SchemeOf};
+ghost use Rattle.tlb.specs.Fence.{is_fenced};
+ghost use Rattle.watch.specs.Holding.{reaches};
+ghost use Rattle.watch_engine.specs.Causes.{applies};
+ghost use Rattle.watch_engine.specs.Held.{shares};
+ghost use Rattle.watch_engine.specs.Keys.{AreSmall, IsAmong, key_of};
+
+use crate::cause::Cause;
+use crate::held::Held;
+use crate::keys::{By, FRAME_LIMIT, Keys, PAGE_LIMIT};
+use crate::open::OpenFence;
+use crate::touched::{WORD_BYTES, is_below};
+use pte::{PAGE_BYTES, Scheme, TABLE_LENGTH};
+use watch::{AddressRange, Frames};
+use watch_tables::Way;
+
+/// How many pages or frames are looked for one by one. With more, the whole list is gone along.
+const FEW: u64 = 8;
+
+/// What a record can concern.
+#[derive(Clone, Copy, PartialEq, Eq, Debug)]
+pub(crate) enum Concern {
+    /// What a fence of a hart drops.
+    Fence {
+        scheme: Scheme,
+        hart: u8,
+        rs1: Option<u64>,
+        rs2: Option<u64>,
+    },
+    /// What the end of a remote fence drops.
+    Remote {
+        scheme: Scheme,
+        fence: Option<OpenFence>,
+    },
+    /// What a cause is of.
+    Given(Cause),
+    /// What lies below the word at an address that is stored to, on a way from what is a root now or
+    /// not.
+    Store {
+        scheme: Scheme,
+        address: u64,
+        way: Way,
+        is_root: bool,
+    },
+}
+
+// The keys of pages of 4 KiB from a number on.
+fn of_pages(first: u64, count: u64) -> Keys
+    ensures { result ≡ record { by = By.Page; first = first; count = count; limit = 2 ^ 27 } }
+{
+    Keys {
+        by: By::Page,
+        first,
+        count,
+        limit: PAGE_LIMIT,
+    }
+}
+
+// The keys of what a fence for an address takes.
+fn keys_of_fence(rs1: Option<u64>) -> Option<Keys>
+    ensures all { (keys : KeysOf) → result ≡ Some keys
+        → (scheme : SchemeOf) (rs2 : Option ℕ) (i : HeldOf)
+        → is_fenced scheme rs1 rs2 i.entry ≡ true → IsAmong keys (key_of keys.by i) }
+    ensures small { (keys : KeysOf) → result ≡ Some keys → AreSmall keys }
+{
+    match rs1 {
+        None => None,
+        Some(va) => Some(of_pages(va / PAGE_BYTES, 1)),
+    }
+}
+
+// The keys of the pages that a small range reaches.
+fn keys_of_range(range: &Option<AddressRange>) -> Option<Keys>
+    ensures all { (keys : KeysOf) → result ≡ Some keys → (i : HeldOf)
+        → reaches range.now i.entry.page ≡ true → IsAmong keys (key_of keys.by i) }
+    ensures small { (keys : KeysOf) → result ≡ Some keys → AreSmall keys }
+{
+    let Some(range) = range else {
+        return None;
+    };
+    if range.size > (FEW - 1) * PAGE_BYTES {
+        return None;
+    }
+    let count = (range.start % PAGE_BYTES + range.size + (PAGE_BYTES - 1)) / PAGE_BYTES;
+    Some(of_pages(range.start / PAGE_BYTES, count))
+}
+
+// The keys of few frames.
+fn keys_of_frames(frames: &Frames) -> Option<Keys>
+    ensures all { (keys : KeysOf) → result ≡ Some keys → (i : HeldOf)
+        → shares frames.now i.entry ≡ true → IsAmong keys (key_of keys.by i) }
+    ensures small { (keys : KeysOf) → result ≡ Some keys → AreSmall keys }
+{
+    if frames.count > FEW {
+        return None;
+    }
+    Some(Keys {
+        by: By::Frame,
+        first: frames.first % FRAME_LIMIT,
+        count: frames.count,
+        limit: FRAME_LIMIT,
+    })
+}
+
+// The keys of what a cause is of that is of few frames.
+fn keys_of_cause(cause: &Cause) -> Option<Keys>
+    ensures all { (keys : KeysOf) → result ≡ Some keys → (i : HeldOf)
+        → applies cause.now i ≡ true → IsAmong keys (key_of keys.by i) }
+    ensures small { (keys : KeysOf) → result ≡ Some keys → AreSmall keys }
+{
+    match cause {
+        Cause::Back(frames) => keys_of_frames(frames),
+        Cause::Out(frames) => keys_of_frames(frames),
+        Cause::Claim(_) => None,
+        Cause::Access { .. } => None,
+    }
+}
+
+// The keys of what lies below a word on a way. What is below the root of many is not looked for.
+fn keys_of_store(address: u64, way: &Way, is_root: bool) -> Option<Keys>
+    ensures all { (keys : KeysOf) → result ≡ Some keys → (scheme : SchemeOf) (i : HeldOf)
+        → concerns (Concern.Store scheme address way.now is_root) i ≡ true
+        → IsAmong keys (key_of keys.by i) }
+    ensures small { (keys : KeysOf) → result ≡ Some keys → AreSmall keys }
+{
+    if way.level == 0 {
+        let index = address % PAGE_BYTES / WORD_BYTES;
+        let pages = PAGE_LIMIT / u64::from(TABLE_LENGTH);
+        let first = way.vpn % pages * u64::from(TABLE_LENGTH) + index;
+        return Some(of_pages(first, 1));
+    }
+    if is_root {
+        return None;
+    }
+    Some(Keys {
+        by: By::Root,
+        first: way.root % FRAME_LIMIT,
+        count: 1,
+        limit: FRAME_LIMIT,
+    })
+}
+
+impl Concern {
+    /// The keys of all that the record concerns; `None` where they are too many.
+    pub(crate) fn keys(&self) -> Option<Keys>
+        ensures all { (keys : KeysOf) → result ≡ Some keys → (i : HeldOf)
+            → concerns self.now i ≡ true → IsAmong keys (key_of keys.by i) }
+        ensures small { (keys : KeysOf) → result ≡ Some keys → AreSmall keys }
+    {
+        match self {
+            Concern::Fence { rs1, .. } => keys_of_fence(*rs1),
+            Concern::Remote {
+                fence: Some(begun),
+                ..
+            } => keys_of_range(&begun.fence.range),
+            Concern::Remote { fence: None, .. } => None,
+            Concern::Given(cause) => keys_of_cause(cause),
+            Concern::Store {
+                address,
+                way,
+                is_root,
+                ..
+            } => keys_of_store(*address, way, *is_root),
+        }
+    }
+
+    /// Whether the record concerns the item.
+    pub(crate) fn is_of(&self, item: &Held) -> bool
+        ensures { result ≡ concerns self.now item.now }
+    {
+        match self {
+            Concern::Fence {
+                scheme,
+                hart,
+                rs1,
+                rs2,
+            } => !item.outlives_fence(*scheme, *hart, *rs1, *rs2),
+            Concern::Remote { scheme, fence } => !item.outlives_remote(*scheme, fence),
+            Concern::Given(cause) => item.is_of_cause(cause),
+            Concern::Store {
+                scheme,
+                address,
+                way,
+                is_root,
+            } => {
+                is_below(*scheme, *address, &item.entry.page, way)
+                    && (way.root == item.root || item.entry.global && *is_root)
+            }
+        }
+    }
+}
