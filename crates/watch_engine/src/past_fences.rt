@@ -15,9 +15,10 @@ use watch::AddressRange;
 /// How many pages of 4 KiB canonical addresses have.
 const PAGES: u64 = 1 << 36;
 
-/// How many keys a page has: one for each ASID, and one for all of them.
+/// How many keys a page has, more than ASIDs: one for each, and one for fences for all of them.
 const KEYS: u64 = 2 * ASIDS;
 
+// An ASID as a part of a key, or what stands for all of them.
 fn asid_key(asid: Option<u64>) -> u64
     ensures is { result ≡ asid_key asid }
     ensures within { result ≤ 2 ^ 16 }
@@ -28,18 +29,21 @@ fn asid_key(asid: Option<u64>) -> u64
     }
 }
 
+// The key of fences for addresses of one page.
 fn page_key(address: u64, asid: Option<u64>) -> u64
     ensures { result ≡ page_key address asid }
 {
     address / PAGE_BYTES % PAGES * KEYS + asid_key(asid)
 }
 
+// The key of fences for addresses of many pages.
 fn wide_key(asid: Option<u64>) -> u64
     ensures { result ≡ wide_key asid }
 {
     PAGES * KEYS + asid_key(asid)
 }
 
+// All addresses of the range lie in one page.
 fn is_in_page(range: &AddressRange) -> bool
     ensures { result ≡ is_in_page range.now }
 {
@@ -60,7 +64,8 @@ fn range_key(range: &Option<AddressRange>, asid: Option<u64>) -> u64
 }
 
 impl PastFence {
-    // By what it can drop: of a page of 4 KiB only an entry of which this is one of four keys.
+    // The key that it is found by. Of a page of 4 KiB it drops only entries that have it among their four:
+    // of the page or of many, each with the ASID of the entry or with none.
     fn key(&self) -> u64
         ensures { result ≡ key_of self.now }
     {
