@@ -1,5 +1,5 @@
 -- The addresses of the words in frames.
-use Rattle.std.proofs.Common.{ℕ, ◌≡◌, ◌+◌, ◌*◌, ◌/◌, ◌%◌, ◌<◌, ◌≤◌, Bool, true, false, Option, Some, None, List, [], ◌∷◌, ◌++◌, cond, ap, sym, ◌∙◌, subst, refl, inl, inr, ◌⊎◌, arith, IsTrue, IsSome}
+use Rattle.std.proofs.Common.{ℕ, ◌≡◌, ◌+◌, ◌*◌, ◌/◌, ◌%◌, ◌<◌, ◌≤◌, Bool, true, false, Option, Some, None, List, [], ◌∷◌, ◌++◌, cond, ap, sym, ◌∙◌, subst, refl, inl, inr, ◌⊎◌, arith, IsTrue, IsSome, is_some}
 use Rattle.std.specs.Prelude.{◌==◌, not, nat_le, nat_lt}
 use Rattle.std.specs.Option.{unwrap_or}
 use Rattle.std.specs.List.{Contains}
@@ -51,6 +51,9 @@ module _ (stored : ℕ → Option StoredWord) where
               ]
         ]
         )
+
+  pub has-word : (n : ℕ) (s : StoredWord) → stored n ≡ Some s → Has n
+  has-word n s is = ap is_some is
 
   word-at : (t i : ℕ) (s : StoredWord) → is_word t i ≡ true → stored (word_number t i) ≡ Some s → memory_of (λ n. value_of (stored n)) t i ≡ Some s.word
   word-at t i s word is = ap Some (cond-true (is_word t i) _ 0 word ∙ ap (λ (o : Option StoredWord). unwrap_or (value_of o) 0) is)

@@ -1,5 +1,5 @@
 -- The leaves through a word, by the ways to its table.
-use Rattle.std.proofs.Common.{◌≡◌, ℕ, ◌+◌, ◌<◌, ◌≤◌, ◌⊎◌, List, length, get_or, Some, ap, sym, ◌∙◌, subst, inl, inr, arith}
+use Rattle.std.proofs.Common.{◌≡◌, ℕ, ◌+◌, ◌<◌, ◌≤◌, ◌⊎◌, false, List, [], length, get_or, Some, ap, sym, ◌∙◌, subst, refl, inl, inr, arith}
 use Rattle.std.specs.Prelude.{◌↔◌}
 use Rattle.std.specs.List.{Contains}
 use Rattle.std.proofs.lemmas.Bool.{cases_lt}
@@ -12,10 +12,19 @@ use Rattle.tlb.specs.declared.store.Entry.{Entry}
 use Rattle.watch_tables.specs.declared.leaf.RootLeaf.{RootLeaf}
 use Rattle.watch_tables.specs.declared.way.Way.{Way}
 use Rattle.watch_tables.specs.Leaves.{IsLeafAt}
-use Rattle.watch_tables.specs.Paths.{IsUnchangedSince}
+use Rattle.watch_tables.specs.Paths.{IsUnchangedSince, is_leading, kind_in}
 use Rattle.watch_tables.specs.Ways.{AreWays, IsWay, vpn_from}
 use Rattle.watch_tables.specs.Through.{HasRootLeaf, IsLeafThrough, Passes}
 use Rattle.watch_tables.proofs.PathSince.{since-known}
+use Rattle.watch_tables.proofs.LeavesBelow.{nothing-at}
+use Rattle.watch.specs.Trace.{index_of}
+use Rattle.std.proofs.lemmas.Grind.{common_steps}
+
+pub index-small : (address : ℕ) → index_of address < 512
+index-small address = omega arith
+
+Contains-none : (x : RootLeaf) → Contains [] x → ⊥
+Contains-none x has = grind (arith, common_steps)
 
 module _ (scheme : Scheme) (words : Tables) (since : ℕ → ℕ → ℕ) (table index : ℕ) (ways : List Way) (are : AreWays scheme words since table ways) where
   pub way-at : (k : ℕ) (d : Way) → k < length ways → IsWay scheme words since (get_or ways k d)
@@ -45,6 +54,9 @@ module _ (scheme : Scheme) (words : Tables) (since : ℕ → ℕ → ℕ) (table
               let there : IsLeafAt scheme words since (get_or ways from other) index x = subst (λ j. IsLeafAt scheme words since (get_or ways j other) index x) same at in
               (added x).1 (inr (subst (λ (w : Way). IsLeafAt scheme words since w index x) (get_or_default ways from other d less) there))
         ]
+
+  pub table-at : (k : ℕ) (d : Way) → k < length ways → (get_or ways k d).at.table ≡ table
+  table-at k d less = (are.sound (get_or ways k d) (Contains-get_or ways k d less)).1
 
   -- a leaf by a way passes through the word
   passes-at : (way : Way) → Contains ways way → (x : RootLeaf) → IsLeafAt scheme words since way index x → Passes scheme words x.root table index x.entry.page
@@ -99,3 +111,10 @@ module _ (scheme : Scheme) (words : Tables) (since : ℕ → ℕ → ℕ) (table
 
     pub exact-all : (each : Each leaves (length ways)) → (root : ℕ) (e : Entry) → HasRootLeaf leaves root e ↔ IsLeafThrough scheme words root table index e
     exact-all each root e = (through-found root e, found-through each root e)
+
+  -- no leaf passes through a word that is neither a leaf nor a pointer
+  pub none-through : index < 512 → is_leading (kind_in (words table index)) ≡ false → (leaves : List RootLeaf) → leaves ≡ [] → (root : ℕ) (e : Entry) → HasRootLeaf leaves root e ↔ IsLeafThrough scheme words root table index e
+  none-through small out leaves empty = subst (λ (l : List RootLeaf). (root : ℕ) (e : Entry) → HasRootLeaf l root e ↔ IsLeafThrough scheme words root table index e) (sym empty) (
+      exact-all [] (λ x has. absurd (Contains-none x has)) (λ k other x below at.
+      let here : is_leading (kind_in (words (get_or ways k other).at.table index)) ≡ false = ap (λ t. is_leading (kind_in (words t index))) (table-at k other below) ∙ out in
+      absurd (nothing-at scheme words since (get_or ways k other) index (kind_in (words (get_or ways k other).at.table index)) (since (get_or ways k other).at.table index) (way-at k other below) small refl refl here x at)))

@@ -17,7 +17,7 @@ use Rattle.watch_tables.specs.declared.leaf.RootLeaf.{RootLeaf}
 use Rattle.watch_tables.specs.declared.path.Reached.{Reached}
 use Rattle.watch_tables.specs.declared.way.Way.{Way}
 use Rattle.watch_tables.specs.Leaves.{IsLeafAt, IsLeafBelow}
-use Rattle.watch_tables.specs.Paths.{IsPathSince, IsReached, entry_at, kind_in, leaf_from, leaf_of, pointed_from}
+use Rattle.watch_tables.specs.Paths.{IsPathSince, IsReached, entry_at, is_leading, kind_in, leaf_from, leaf_of, pointed_from}
 use Rattle.watch_tables.specs.Ways.{IsWay, later, vpn_from, way_from}
 use Rattle.watch_tables.proofs.Numbers.{same-page, vpn-next, vpn-split}
 use Rattle.watch_tables.proofs.Paths.{leaf-found, leaf-there, none-below, reached-below}
@@ -62,11 +62,18 @@ not-both g h pages kinds.Reserved at leaf p l = absurd (cc)
 not-both g h pages (kinds.Table ppn on_it) at leaf p l = absurd (cc)
 not-both g h pages (kinds.Leaf ppn flags) at leaf p l = absurd (cc)
 
-invalid-neither : (g : Bool) (pages : ℕ) (leaf : Leaf) → leaf_from g pages kinds.Invalid ≡ Some leaf → ⊥
-invalid-neither g pages leaf is = absurd (cc)
+-- a kind that does not lead on is neither
+neither : (g : Bool) (pages : ℕ) (kind : Kind) (leaf : Leaf) → is_leading kind ≡ false → leaf_from g pages kind ≡ Some leaf → ⊥
+neither g pages kinds.Invalid leaf out is = absurd (cc)
+neither g pages kinds.Reserved leaf out is = absurd (cc)
+neither g pages (kinds.Table ppn on_it) leaf out is = absurd (cc)
+neither g pages (kinds.Leaf ppn flags) leaf out is = absurd (cc)
 
-invalid-nowhere : (g : Bool) (at : Reached) → pointed_from g kinds.Invalid ≡ Some at → ⊥
-invalid-nowhere g at is = absurd (cc)
+nowhere : (g : Bool) (kind : Kind) (at : Reached) → is_leading kind ≡ false → pointed_from g kind ≡ Some at → ⊥
+nowhere g kinds.Invalid at out is = absurd (cc)
+nowhere g kinds.Reserved at out is = absurd (cc)
+nowhere g (kinds.Table ppn on_it) at out is = absurd (cc)
+nowhere g (kinds.Leaf ppn flags) at out is = absurd (cc)
 
 no-leaf-some : (leaf : Leaf) → None ≡ Some leaf → ⊥
 no-leaf-some leaf is = absurd (cc)
@@ -147,11 +154,11 @@ module _ (scheme : Scheme) (words : Tables) (since : ℕ → ℕ → ℕ) (way :
       ]
 
   -- no leaf is at an index whose word is neither
-  nothing-at : kind ≡ kinds.Invalid → (x : RootLeaf) → IsLeafAt scheme words since way index x → ⊥
-  nothing-at invalid x leaf =
+  pub nothing-at : is_leading kind ≡ false → (x : RootLeaf) → IsLeafAt scheme words since way index x → ⊥
+  nothing-at out x leaf =
       elim (leaf-or-pointer x leaf) [
-        | inl here ↦ invalid-neither way.at.global (level_pages way.level) (leaf_of x.entry) (ap (leaf_from way.at.global (level_pages way.level)) (sym invalid) ∙ here.1)
-        | inr there ↦ invalid-nowhere way.at.global there.1 (ap (pointed_from way.at.global) (sym invalid) ∙ there.2)
+        | inl here ↦ neither way.at.global (level_pages way.level) kind (leaf_of x.entry) out here.1
+        | inr there ↦ nowhere way.at.global kind there.1 out there.2
       ]
 
   -- the leaf at the index
@@ -281,15 +288,6 @@ module _ (scheme : Scheme) (words : Tables) (since : ℕ → ℕ → ℕ) (way :
 module _ (scheme : Scheme) (words : Tables) (since : ℕ → ℕ → ℕ) (way : Way) (is_way : IsWay scheme words since way) where
   nothing-at-zero : (n : ℕ) → n < 512 → words way.at.table n ≡ Some 0 → (x : RootLeaf) → IsLeafAt scheme words since way n x → ⊥
   nothing-at-zero n small zero = nothing-at scheme words since way n kinds.Invalid (since way.at.table n) is_way small (sym (ap kind_in zero ∙ zero-invalid)) refl refl
-
-  pub added-zero : (index : ℕ) (old : List RootLeaf) → index < 512 → words way.at.table index ≡ Some 0 → (x : RootLeaf) → Contains old x ↔ (Contains old x ⊎ IsLeafAt scheme words since way index x)
-  added-zero index old small zero x = (
-    (λ has. inl has),
-    (λ either. elim either [
-      | inl before ↦ before
-      | inr leaf ↦ absurd (nothing-at-zero index small zero x leaf)
-    ]),
-  )
 
   -- the words of a table, one after the other: what is added of the leaves of those before this one
   abbrev pub IsBefore : ℕ → RootLeaf → Type 0

@@ -1,7 +1,7 @@
 -- The tables and leaves that a path leads to (privileged manual 4.3.2, virtual address translation
 -- process, steps 1 to 6; 4.3.1, G).
 use Rattle.std.specs.Prelude.{ℕ, Bool, ◌≡◌, ◌≤◌, ◌+◌, ◌%◌, ◌==◌, ◌||◌, ◌↔◌, if◌then◌else◌, Option, Some}
-use Rattle.std.specs.Prelude.{None, IsTrue}
+use Rattle.std.specs.Prelude.{None, IsTrue, true, false}
 use Rattle.pte.specs.declared.scheme.Scheme.{Scheme}
 use Rattle.pte.specs.declared.entry.Kind.{Kind}
 use Rattle.pte.specs.declared.entry.Kind.TheVariants as kinds
@@ -44,6 +44,13 @@ pointed_from global kinds.Invalid = None
 pointed_from global kinds.Reserved = None
 pointed_from global (kinds.Table ppn on_it) = Some (record { table = ppn; global = global || on_it })
 pointed_from global (kinds.Leaf ppn flags) = None
+
+-- an entry of a kind may be a leaf or a pointer
+abbrev pub is_leading : Kind → Bool
+is_leading kinds.Invalid = false
+is_leading kinds.Reserved = false
+is_leading (kinds.Table ppn global) = true
+is_leading (kinds.Leaf ppn flags) = true
 
 -- the leaf that an entry of a kind is, for a page of this many pages of 4 KiB, if it is aligned
 abbrev pub leaf_from : Bool → ℕ → Kind → Option Leaf

@@ -3,6 +3,7 @@
 ghost use Rattle.std.specs.Prelude.{◌≡◌, ◌↔◌, IsTrue};
 ghost use Rattle.pte.specs.Address.{pages_of};
 ghost use Rattle.watch.specs.Staleness.{Permit};
+ghost use Rattle.watch_tables.specs.Paths.{is_leading};
 
 use pte::{Kind, Page, PageSize, PteFlags};
 use tlb::Entry;
@@ -37,6 +38,16 @@ fn permits(new: PteFlags, old: PteFlags) -> bool
         && (new.may_read() || !old.may_read())
         && (new.may_write() || !old.may_write())
         && (new.may_execute() || !old.may_execute())
+}
+
+/// Whether an entry of a kind may be a leaf or a pointer.
+pub(crate) fn leads_on(kind: Kind) -> bool
+    ensures { result ≡ is_leading kind }
+{
+    match kind {
+        Kind::Invalid | Kind::Reserved => false,
+        Kind::Table { .. } | Kind::Leaf { .. } => true,
+    }
 }
 
 impl Leaf {

@@ -7,46 +7,47 @@ ghost use Rattle.walk.specs.Maps.{page_number};
 ghost use Rattle.watch.specs.Trace.{index_of};
 ghost use Rattle.watch_tables.specs.declared.leaf.RootLeaf.{RootLeaf as RootLeafOf};
 ghost use Rattle.watch_tables.specs.Words.{since, words};
-ghost use Rattle.watch_tables.specs.Paths.{IsUnchangedSince};
+ghost use Rattle.watch_tables.specs.Paths.{IsUnchangedSince, kind_in};
 ghost use Rattle.watch_tables.specs.Ways.{AreWays, IsInLevels, IsWay};
 ghost use Rattle.watch_tables.specs.Leaves.{IsLeafAt, IsLeafBelow};
 ghost use Rattle.watch_tables.specs.Through.{HasRootLeaf, IsLeafThrough};
 
-use crate::leaf::{Leaf, RootLeaf};
+use crate::leaf::{Leaf, RootLeaf, leads_on};
 use crate::tables::{PageTables, index_of};
 use crate::way::{Way, latest};
-use pte::{PageSize, Pte, Scheme, TABLE_LENGTH};
+use pte::{Kind, PAGE_BYTES, PageSize, Pte, Scheme, TABLE_LENGTH};
 use std::alloc::{AllocError, Global};
 
 impl PageTables {
-    /// Adds the leaves at or below an index of the table of a way.
+    /// Adds the leaves at or below an index of the table of a way. The word there is of this kind, and
+    /// was stored when there had been this number of records.
     #[cycle(add_leaves)]
     fn add_leaves_at(
         &self,
         scheme: Scheme,
         way: Way,
         index: u16,
+        kind: Kind,
+        records: u64,
         out: &mut Vec<RootLeaf>,
     ) -> Result<(), AllocError>
         requires way { IsWay scheme (words self.now) (since self.now) way }
         requires index { index < TABLE_LENGTH }
+        requires kind { kind ≡ kind_in (words self.now way.at.table index) }
+        requires records { records ≡ since self.now way.at.table index }
         ensures { OnOk result ((x : RootLeafOf) → Contains out.new.items x ↔ (Contains out.old.items x
             ⊎ IsLeafAt scheme (words self.now) (since self.now) way index x)) }
     {
-        let Some(stored) = self.stored_at(way.at.table, index) else {
-            return Ok(());
-        };
-        let kind = Pte(stored.word).kind();
         let size = PageSize::at_level(way.level);
         if let Some(leaf) = Leaf::from_kind(way.at.global, size, kind) {
             out.push(RootLeaf {
                 root: way.root,
                 entry: leaf.entry(way.page(scheme, index)),
-                since: latest(way.since, stored.since),
+                since: latest(way.since, records),
             })?;
             return Ok(());
         }
-        match way.below(scheme, index, kind, stored.since) {
+        match way.below(scheme, index, kind, records) {
             Some(next) => self.add_leaves(scheme, next, out),
             None => Ok(()),
         }
@@ -65,8 +66,9 @@ impl PageTables {
             ⊎ IsLeafBelow scheme (words self.now) (since self.now) way x)) }
     {
         let mut from = 0;
-        while let Some(index) = self.next_index(way.at.table, from) {
-            self.add_leaves_at(scheme, way, index, out)?;
+        while let Some((index, stored)) = self.next_word(way.at.table, from) {
+            let kind = Pte(stored.word).kind();
+            self.add_leaves_at(scheme, way, index, kind, stored.since, out)?;
             from = index + 1;
         }
         Ok(())
@@ -92,8 +94,16 @@ impl PageTables {
             ↔ IsUnchangedSince scheme (words self.now) (since self.now) x.root x.entry count) }
     {
         let mut out = Vec::new(alloc);
+        let index = index_of(address);
+        let Some(stored) = self.stored_at(address / PAGE_BYTES, index) else {
+            return Ok(out);
+        };
+        let kind = Pte(stored.word).kind();
+        if !leads_on(kind) {
+            return Ok(out);
+        }
         for way in ways {
-            self.add_leaves_at(scheme, *way, index_of(address), &mut out)?;
+            self.add_leaves_at(scheme, *way, index, kind, stored.since, &mut out)?;
         }
         Ok(out)
     }

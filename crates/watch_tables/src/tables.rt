@@ -41,18 +41,18 @@ pub struct PageTables {
         ≡ is_table (table_of (get nat_cmp stored number)) table },
 }
 
-/// The least key from `start` on and below `end`.
-fn first_key(map: &BTreeMap<u64, StoredWord>, start: u64, end: u64) -> Option<u64>
+/// The least key from `start` on and below `end`, and what is under it.
+fn first_from(map: &BTreeMap<u64, StoredWord>, start: u64, end: u64) -> Option<(u64, StoredWord)>
     requires { start ≤ end }
-    ensures from { IfSome result (λ key. start ≤ key) }
-    ensures below { IfSome result (λ key. key < end) }
-    ensures present { IfSome result (λ key. IsSome (get nat_cmp map.now key)) }
-    ensures least { IfSome result (λ key. (q : ℕ) → start ≤ q → q < key
+    ensures from { IfSome result (λ first. start ≤ first.0) }
+    ensures below { IfSome result (λ first. first.0 < end) }
+    ensures present { IfSome result (λ first. get nat_cmp map.now first.0 ≡ Some first.1) }
+    ensures least { IfSome result (λ first. (q : ℕ) → start ≤ q → q < first.0
         → get nat_cmp map.now q ≡ None) }
     ensures none { result ≡ None → (q : ℕ) → start ≤ q → q < end → get nat_cmp map.now q ≡ None }
 {
     match map.range(start..end).next() {
-        Some((key, _)) => Some(*key),
+        Some((key, stored)) => Some((*key, *stored)),
         None => None,
     }
 }
@@ -194,14 +194,16 @@ impl PageTables {
         done
     }
 
-    /// The first index from `from` on at which a word of the table at a PPN is stored. All words
-    /// before it, or all from `from` on if there is none, are 0.
-    pub(crate) fn next_index(&self, table: u64, from: u16) -> Option<u16>
+    /// The first index from `from` on at which a word of the table at a PPN is stored, and what is
+    /// stored there. All words before it, or all from `from` on if there is none, are 0.
+    pub(crate) fn next_word(&self, table: u64, from: u16) -> Option<(u16, StoredWord)>
         requires { from ≤ TABLE_LENGTH }
-        ensures from { IfSome result (λ index. from ≤ index) }
-        ensures below { IfSome result (λ index. index < TABLE_LENGTH) }
-        ensures skipped { IfSome result (λ index. (n : ℕ) → from ≤ n → n < index
+        ensures from { IfSome result (λ next. from ≤ next.0) }
+        ensures below { IfSome result (λ next. next.0 < TABLE_LENGTH) }
+        ensures skipped { IfSome result (λ next. (n : ℕ) → from ≤ n → n < next.0
             → words self.now table n ≡ Some 0) }
+        ensures word { IfSome result (λ next. words self.now table next.0 ≡ Some next.1.word) }
+        ensures since { IfSome result (λ next. since self.now table next.0 ≡ next.1.since) }
         ensures none { result ≡ None → (n : ℕ) → from ≤ n → n < TABLE_LENGTH
             → words self.now table n ≡ Some 0 }
     {
@@ -210,8 +212,8 @@ impl PageTables {
         }
         let start = table * u64::from(TABLE_LENGTH);
         let end = start + u64::from(TABLE_LENGTH);
-        match first_key(&self.stored, start + u64::from(from), end) {
-            Some(number) => Some((number - start) as u16),
+        match first_from(&self.stored, start + u64::from(from), end) {
+            Some((number, stored)) => Some(((number - start) as u16, stored)),
             None => None,
         }
     }
@@ -223,7 +225,7 @@ impl PageTables {
     {
         let mut addresses = Vec::new(alloc);
         let (mut from, end) = numbers_of(frames);
-        while let Some(number) = first_key(&self.stored, from, end) {
+        while let Some((number, _)) = first_from(&self.stored, from, end) {
             addresses.push(number * WORD_BYTES)?;
             from = number + 1;
         }
@@ -238,9 +240,9 @@ impl PageTables {
             → since self.new t i ≡ since self.old t i }
     {
         let (start, end) = numbers_of(frames);
-        while let Some(number) = first_key(&self.stored, start, end) {
-            let gone = self.stored.remove(&number);
-            self.pointers.remove(pointed(gone), number);
+        while let Some((number, stored)) = first_from(&self.stored, start, end) {
+            self.stored.remove(&number);
+            self.pointers.remove(pointed(Some(stored)), number);
         }
     }
 }

@@ -5,7 +5,7 @@ use Rattle.std.specs.declared.ops.Bound.TheVariants.{Included, Excluded}
 use Rattle.std.specs.BTreeMap.Range.{IsInRange, IsRangeOf}
 use Rattle.std.proofs.lemmas.Map.Keys.{le_from_not_gt}
 use Rattle.watch_tables.specs.declared.tables.StoredWord.{StoredWord}
-use Rattle.watch_tables.proofs.tables.first_key.Goals as goal
+use Rattle.watch_tables.proofs.tables.first_from.Goals as goal
 
 none_unless : (o : Option StoredWord) → (IsSome o → ⊥) → o ≡ None
 none_unless None h = refl
@@ -29,4 +29,4 @@ none_before_first map start end first found rest is part q from before =
 
 pub returns-in-Some-clause-least : goal.returns-in-Some-clause-least
 returns-in-Some-clause-least c =
-    none_before_first c.args.map.now c.args.start c.args.end (c.in-Some.key.now, c.in-Some.field-0-1.now) _ _ c.in-Some.ensures.steps (c.range.ensures.in_range tt)
+    none_before_first c.args.map.now c.args.start c.args.end (c.in-Some.key.now, c.in-Some.stored.now) _ _ c.in-Some.ensures.steps (c.range.ensures.in_range tt)
