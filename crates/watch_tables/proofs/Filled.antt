@@ -8,7 +8,7 @@ use Rattle.std.proofs.lemmas.List.Elements.{Contains-append_left, Contains-push,
 use Rattle.walk.specs.Maps.{page_number}
 use Rattle.watch.specs.declared.trace.Frames.{Frames}
 use Rattle.watch.specs.Trace.{index_of, is_among}
-use Rattle.watch_tables.specs.declared.tables.StoredWord.{StoredWord}
+use Rattle.watch_tables.specs.declared.frame.StoredWord.{StoredWord}
 use Rattle.watch_tables.specs.Stored.{is_kept, up_to_limit, value_of}
 use Rattle.watch_tables.specs.Words.{AreFilled, is_word, memory_of, word_number}
 
@@ -158,3 +158,10 @@ all-filled stored kept frames start from end addresses at_start at_end le sound 
         place = omega arith;
       };
 }
+
+pub limit-most : (n : ℕ) → up_to_limit n ≤ 4503599627370496
+limit-most n =
+    elim (at_limit n) [
+      | inl below ↦ let small = below.0 in let is = below.1 in omega arith
+      | inr above ↦ let is = above.1 in omega arith
+    ]

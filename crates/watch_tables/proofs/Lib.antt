@@ -1,7 +1,10 @@
 pub mod Numbers
 pub mod PointerPairs
 pub mod Storing
+pub mod FrameWords
 pub mod Filled
+pub mod FrameAddresses
+pub mod FramePointers
 pub mod Memory
 pub mod Paths
 pub mod PathWords

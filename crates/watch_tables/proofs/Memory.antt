@@ -10,7 +10,7 @@ use Rattle.walk.specs.Maps.{page_number}
 use Rattle.walk.specs.Stores.{stored}
 use Rattle.watch.specs.declared.trace.Frames.{Frames}
 use Rattle.watch.specs.Trace.{index_of, is_among}
-use Rattle.watch_tables.specs.declared.tables.StoredWord.{StoredWord}
+use Rattle.watch_tables.specs.declared.frame.StoredWord.{StoredWord}
 use Rattle.watch_tables.specs.Stored.{is_table, table_of, table_of_kind, up_to_limit, value_of}
 use Rattle.watch_tables.specs.Words.{is_word, memory_of, word_number}
 use Rattle.watch_tables.proofs.Storing.{Put, zero-points-nowhere}

@@ -17,7 +17,7 @@ first-then true same second = refl
 first-then false true second = refl
 first-then false false second = refl
 
-is-same : (a b : ℕ) → is_eq (nat_cmp a b) ≡ (a == b)
+pub is-same : (a b : ℕ) → is_eq (nat_cmp a b) ≡ (a == b)
 is-same a b = grind (arith, nat_tests)
 
 not-less : (a b : ℕ) (rest : Bool) → (not (nat_lt a b) && ((a == b) && rest)) ≡ ((a == b) && rest)

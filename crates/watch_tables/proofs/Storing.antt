@@ -7,7 +7,7 @@ use Rattle.std.proofs.lemmas.Bool.{and_from, cases_eq, lt-ltb, cond-true, cond-f
 use Rattle.pte.specs.declared.entry.Kind.TheVariants as kinds
 use Rattle.pte.specs.Entry.{kind_of}
 use Rattle.walk.specs.Leads.{PointsTo}
-use Rattle.watch_tables.specs.declared.tables.StoredWord.{StoredWord}
+use Rattle.watch_tables.specs.declared.frame.StoredWord.{StoredWord}
 use Rattle.watch_tables.specs.Stored.{is_kept, is_table, table_of, table_of_kind, word_to_store}
 
 pub zero-invalid : kind_of 0 ≡ kinds.Invalid

@@ -1,4 +1,5 @@
 pub mod Stored
+pub mod InFrame
 pub mod Pointers
 pub mod Words
 pub mod Paths

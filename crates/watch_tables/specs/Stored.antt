@@ -5,11 +5,15 @@ use Rattle.pte.specs.declared.entry.Kind.{Kind}
 use Rattle.pte.specs.declared.entry.Kind.TheVariants as kinds
 use Rattle.pte.specs.Entry.{kind_of}
 use Rattle.watch_tables.specs.declared.tables.TheConstants.{FRAME_LIMIT}
-use Rattle.watch_tables.specs.declared.tables.StoredWord.{StoredWord}
+use Rattle.watch_tables.specs.declared.frame.StoredWord.{StoredWord}
 
 -- what is stored for a word, with the number of records so far: nothing for 0
 abbrev pub word_to_store : ℕ → ℕ → Option StoredWord
 word_to_store word count = if word == 0 then None else Some (record { word = word; since = count })
+
+-- a word counts if it is not 0
+abbrev pub filled_by : StoredWord → ℕ
+filled_by s = if s.word == 0 then 0 else 1
 
 -- the word, and since when it is so
 abbrev pub value_of : Option StoredWord → Option ℕ

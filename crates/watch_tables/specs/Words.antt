@@ -3,8 +3,6 @@ use Rattle.std.specs.Prelude.{ℕ, Bool, ◌≡◌, ◌≢◌, ◌+◌, ◌*◌,
 use Rattle.std.specs.Prelude.{List, IsTrue}
 use Rattle.std.specs.List.{Contains}
 use Rattle.std.specs.Option.{unwrap_or}
-use Rattle.std.specs.Ordering.{nat_cmp}
-use Rattle.std.specs.BTreeMap.{get}
 use Rattle.pte.specs.declared.address.TheConstants.{TABLE_LENGTH}
 use Rattle.walk.specs.Leads.{Tables}
 use Rattle.walk.specs.Maps.{page_number}
@@ -12,6 +10,7 @@ use Rattle.watch.specs.declared.trace.Frames.{Frames}
 use Rattle.watch.specs.Trace.{index_of, is_among}
 use Rattle.watch_tables.specs.declared.tables.PageTables.{PageTables}
 use Rattle.watch_tables.specs.declared.tables.TheConstants.{FRAME_LIMIT}
+use Rattle.watch_tables.specs.InFrame.{in_frames}
 use Rattle.watch_tables.specs.Stored.{since_of, value_of}
 
 -- the number of a word: its physical address, in words of 8 bytes
@@ -29,12 +28,12 @@ memory_of value ppn index =
 
 -- the words of memory
 abbrev pub words : PageTables → Tables
-words tables = memory_of (λ number. value_of (get nat_cmp tables.stored number))
+words tables = memory_of (λ number. value_of (in_frames tables.frames number))
 
 -- how many records had been when the word was stored, and 0 for a word that is 0
 abbrev pub since : PageTables → ℕ → ℕ → ℕ
 since tables ppn index =
-    if is_word ppn index then since_of (get nat_cmp tables.stored (word_number ppn index)) else 0
+    if is_word ppn index then since_of (in_frames tables.frames (word_number ppn index)) else 0
 
 -- some address is that of this word
 pub record HasAddress (addresses : List ℕ) (table index : ℕ) : Type 0 where

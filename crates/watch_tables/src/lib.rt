@@ -2,6 +2,7 @@
 //! address translation process).
 #![tactic(auto)]
 
+mod frame;
 mod laws;
 mod leaf;
 mod leaves;

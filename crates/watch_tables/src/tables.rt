@@ -1,13 +1,16 @@
 //! The words of memory that a trace has stored.
 
 ghost use Rattle.std.specs.Prelude.{ℕ, ◌≡◌, ◌<◌, ◌≤◌, ◌==◌, IfSome, IsSome, IsTrue, None, OnErr, OnOk};
-ghost use Rattle.std.specs.Prelude.{◌+◌, ◌*◌, if◌then◌else◌};
+ghost use Rattle.std.specs.Prelude.{◌+◌, ◌*◌, ◌/◌, ◌&&◌, ◌⊎◌, ◌↔◌, ◌≢◌, not, if◌then◌else◌};
+ghost use Rattle.std.specs.List.{Contains};
 ghost use Rattle.std.specs.Ordering.{nat_cmp};
 ghost use Rattle.std.specs.BTreeMap.{get};
 ghost use Rattle.watch.specs.Trace.{index_of};
 ghost use Rattle.watch_tables.specs.Stored.{is_kept, is_table, table_of, up_to_limit, word_to_store};
+ghost use Rattle.watch_tables.specs.InFrame.{IsOfFrame, in_frames, word_in};
 ghost use Rattle.watch_tables.specs.Pointers.{has_pointer};
 
+use crate::frame::{Frame, StoredWord};
 use crate::pointers::{Pointer, Pointers};
 use pte::{Kind, PAGE_BYTES, Pte, TABLE_LENGTH};
 use std::alloc::{AllocError, Global};
@@ -20,39 +23,45 @@ const WORD_BYTES: u64 = 8;
 /// How many frames of 4 KiB the physical addresses of 64 bits have.
 const FRAME_LIMIT: u64 = 1 << 52;
 
-/// A word that is not 0, and how many records had been when it became so.
-#[derive(Clone, Copy, PartialEq, Eq, Debug)]
-pub(crate) struct StoredWord {
-    /// The word.
-    pub(crate) word: u64,
-    /// The number of records.
-    pub(crate) since: u64,
-}
-
 /// The words of memory that a trace has stored, as page tables. Each other word is 0.
 #[derive(Drop)]
 pub struct PageTables {
-    // the words that are not 0, by their number, the physical address / 8
-    stored: BTreeMap<u64, StoredWord>,
-    // which of them are pointers, and to which table
+    // the frames that have a word that is not 0, by their PPN
+    frames: BTreeMap<u64, Frame>,
+    // which of the words are pointers, and to which table
     pointers: Pointers,
-    ghost kept: { (number : ℕ) → IsTrue (is_kept number (get nat_cmp stored number)) },
+    // where a frame is made
+    alloc: Global,
+    // the number of a word is its physical address / 8
+    ghost kept: { (number : ℕ) → IsTrue (is_kept number (in_frames frames number)) },
     ghost linked: { (table number : ℕ) → has_pointer pointers table number
-        ≡ is_table (table_of (get nat_cmp stored number)) table },
+        ≡ is_table (table_of (in_frames frames number)) table },
 }
 
-/// The least key from `start` on and below `end`, and what is under it.
-fn first_from(map: &BTreeMap<u64, StoredWord>, start: u64, end: u64) -> Option<(u64, StoredWord)>
+/// The frame of the least PPN from `start` on and below `end`.
+fn first_from(frames: &BTreeMap<u64, Frame>, start: u64, end: u64) -> Option<(u64, &Frame)>
     requires { start ≤ end }
     ensures from { IfSome result (λ first. start ≤ first.0) }
     ensures below { IfSome result (λ first. first.0 < end) }
-    ensures present { IfSome result (λ first. get nat_cmp map.now first.0 ≡ Some first.1) }
-    ensures least { IfSome result (λ first. (q : ℕ) → start ≤ q → q < first.0
-        → get nat_cmp map.now q ≡ None) }
-    ensures none { result ≡ None → (q : ℕ) → start ≤ q → q < end → get nat_cmp map.now q ≡ None }
+    ensures present { IfSome result (λ first. get nat_cmp frames.now first.0 ≡ Some first.1.now) }
+    ensures least { IfSome result (λ first. (ppn : ℕ) → start ≤ ppn → ppn < first.0
+        → get nat_cmp frames.now ppn ≡ None) }
+    ensures none { result ≡ None → (ppn : ℕ) → start ≤ ppn → ppn < end
+        → get nat_cmp frames.now ppn ≡ None }
 {
-    match map.range(start..end).next() {
-        Some((key, stored)) => Some((*key, *stored)),
+    match frames.range(start..end).next() {
+        Some((ppn, frame)) => Some((*ppn, frame)),
+        None => None,
+    }
+}
+
+/// What frames have under the number of a word.
+fn find(frames: &BTreeMap<u64, Frame>, number: u64) -> Option<StoredWord>
+    ensures { result ≡ in_frames frames.now number }
+{
+    let length = u64::from(TABLE_LENGTH);
+    match frames.get(&(number / length)) {
+        Some(frame) => frame.word((number % length) as u16),
         None => None,
     }
 }
@@ -65,23 +74,36 @@ pub(crate) fn index_of(address: u64) -> u16
     (address % PAGE_BYTES / WORD_BYTES) as u16
 }
 
-/// Puts a word down at its number, with the number of records so far; 0 is not kept. At `Err` nothing
-/// changed.
+/// Puts a word down under its number, with the number of records so far; 0 is not kept, and a frame
+/// goes with its last word. At `Err` nothing changed.
 fn put(
-    map: &mut BTreeMap<u64, StoredWord>,
+    frames: &mut BTreeMap<u64, Frame>,
+    alloc: Global,
     number: u64,
     word: u64,
     count: u64,
 ) -> Result<(), AllocError>
-    ensures ok { OnOk result ((n : ℕ) → get nat_cmp map.new n
-        ≡ (if n == number then word_to_store word count else get nat_cmp map.old n)) }
-    ensures err { OnErr result ((n : ℕ) → get nat_cmp map.new n ≡ get nat_cmp map.old n) }
+    ensures ok { OnOk result ((n : ℕ) → in_frames frames.new n
+        ≡ (if n == number then word_to_store word count else in_frames frames.old n)) }
+    ensures err { OnErr result ((n : ℕ) → in_frames frames.new n ≡ in_frames frames.old n) }
 {
-    if word == 0 {
-        map.remove(&number);
-        return Ok(());
+    let length = u64::from(TABLE_LENGTH);
+    let ppn = number / length;
+    let index = (number % length) as u16;
+    match frames.get_mut(&ppn) {
+        Some(frame) => {
+            frame.put(index, word, count);
+            if frame.is_empty() {
+                frames.remove(&ppn);
+            }
+        }
+        None if word == 0 => {}
+        None => {
+            let mut frame = Frame::new(alloc)?;
+            frame.put(index, word, count);
+            frames.insert(ppn, frame)?;
+        }
     }
-    map.insert(number, StoredWord { word, since: count })?;
     Ok(())
 }
 
@@ -98,15 +120,45 @@ fn pointed(stored: Option<StoredWord>) -> Option<u64>
     }
 }
 
-/// The numbers of the words of the frames: the first, and the one after the last.
-fn numbers_of(frames: Frames) -> (u64, u64)
-    ensures first { result.0 ≡ up_to_limit frames.first * TABLE_LENGTH }
-    ensures end { result.1 ≡ up_to_limit (frames.first + frames.count) * TABLE_LENGTH }
+/// The PPNs of frames: the first, and the one after the last.
+fn ppns_of(frames: Frames) -> (u64, u64)
+    ensures first { result.0 ≡ up_to_limit frames.first }
+    ensures end { result.1 ≡ up_to_limit (frames.first + frames.count) }
 {
-    let first = frames.first.min(FRAME_LIMIT);
-    let last = frames.first.saturating_add(frames.count).min(FRAME_LIMIT);
-    let length = u64::from(TABLE_LENGTH);
-    (first * length, last * length)
+    let last = frames.first.saturating_add(frames.count);
+    (frames.first.min(FRAME_LIMIT), last.min(FRAME_LIMIT))
+}
+
+/// Adds the physical addresses of the words of the frame at a PPN that are not 0.
+fn add_addresses(frame: &Frame, ppn: u64, addresses: &mut Vec<u64>) -> Result<(), AllocError>
+    requires { ppn < FRAME_LIMIT }
+    ensures { OnOk result ((address : ℕ) → Contains addresses.new.items address
+        ↔ (Contains addresses.old.items address ⊎ IsOfFrame frame.now ppn TABLE_LENGTH address)) }
+{
+    let first = ppn * u64::from(TABLE_LENGTH);
+    let mut from = 0;
+    while let Some((index, _)) = frame.next_word(from) {
+        addresses.push((first + u64::from(index)) * WORD_BYTES)?;
+        from = index + 1;
+    }
+    Ok(())
+}
+
+/// Takes out the pointers in the frame at a PPN.
+fn remove_pointers(pointers: &mut Pointers, frame: &Frame, ppn: u64)
+    requires { ppn < FRAME_LIMIT }
+    ensures inside { (t i : ℕ) → i < TABLE_LENGTH → has_pointer pointers.new t (ppn * TABLE_LENGTH + i)
+        ≡ (not (is_table (table_of (word_in frame.now i)) t)
+        && has_pointer pointers.old t (ppn * TABLE_LENGTH + i)) }
+    ensures outside { (t n : ℕ) → n / TABLE_LENGTH ≢ ppn
+        → has_pointer pointers.new t n ≡ has_pointer pointers.old t n }
+{
+    let first = ppn * u64::from(TABLE_LENGTH);
+    let mut from = 0;
+    while let Some((index, stored)) = frame.next_word(from) {
+        pointers.remove(pointed(Some(stored)), first + u64::from(index));
+        from = index + 1;
+    }
 }
 
 impl PageTables {
@@ -124,8 +176,9 @@ impl PageTables {
         ensures { words result ≡ words_of [] }
     {
         PageTables {
-            stored: BTreeMap::new(alloc),
+            frames: BTreeMap::new(alloc),
             pointers: Pointers::new(alloc),
+            alloc,
         }
     }
 
@@ -139,7 +192,7 @@ impl PageTables {
             return None;
         }
         let number = table * u64::from(TABLE_LENGTH) + u64::from(index);
-        self.stored.get(&number).copied()
+        find(&self.frames, number)
     }
 
     /// The pointer to a table whose word has the least number from `from` on.
@@ -156,7 +209,7 @@ impl PageTables {
         let Some(number) = self.pointers.next(table, from) else {
             return None;
         };
-        let Some(stored) = self.stored.get(&number).copied() else {
+        let Some(stored) = find(&self.frames, number) else {
             return None;
         };
         let Kind::Table { global, .. } = Pte(stored.word).kind() else {
@@ -182,13 +235,13 @@ impl PageTables {
         ensures err_since { OnErr result (since self.new ≡ since self.old) }
     {
         let number = address / WORD_BYTES;
-        let old = pointed(self.stored.get(&number).copied());
+        let old = pointed(find(&self.frames, number));
         let new = pointed(Some(StoredWord { word, since: count }));
         if old == new {
-            return put(&mut self.stored, number, word, count);
+            return put(&mut self.frames, self.alloc, number, word, count);
         }
         self.pointers.add(new, number)?;
-        let done = put(&mut self.stored, number, word, count);
+        let done = put(&mut self.frames, self.alloc, number, word, count);
         let gone = if done.is_ok() { old } else { new };
         self.pointers.remove(gone, number);
         done
@@ -210,10 +263,8 @@ impl PageTables {
         if table >= FRAME_LIMIT {
             return None;
         }
-        let start = table * u64::from(TABLE_LENGTH);
-        let end = start + u64::from(TABLE_LENGTH);
-        match first_from(&self.stored, start + u64::from(from), end) {
-            Some((number, stored)) => Some(((number - start) as u16, stored)),
+        match self.frames.get(&table) {
+            Some(frame) => frame.next_word(from),
             None => None,
         }
     }
@@ -224,10 +275,10 @@ impl PageTables {
         ensures { IfOk result (λ addresses. AreFilled (words self.now) frames addresses.items) }
     {
         let mut addresses = Vec::new(alloc);
-        let (mut from, end) = numbers_of(frames);
-        while let Some((number, _)) = first_from(&self.stored, from, end) {
-            addresses.push(number * WORD_BYTES)?;
-            from = number + 1;
+        let (mut from, end) = ppns_of(frames);
+        while let Some((ppn, frame)) = first_from(&self.frames, from, end) {
+            add_addresses(frame, ppn, &mut addresses)?;
+            from = ppn + 1;
         }
         Ok(addresses)
     }
@@ -239,10 +290,11 @@ impl PageTables {
         ensures others { (t i : ℕ) → is_among frames t ≡ false
             → since self.new t i ≡ since self.old t i }
     {
-        let (start, end) = numbers_of(frames);
-        while let Some((number, stored)) = first_from(&self.stored, start, end) {
-            self.stored.remove(&number);
-            self.pointers.remove(pointed(Some(stored)), number);
+        let (start, end) = ppns_of(frames);
+        while let Some((ppn, _)) = first_from(&self.frames, start, end) {
+            if let Some(frame) = self.frames.remove(&ppn) {
+                remove_pointers(&mut self.pointers, &frame, ppn);
+            }
         }
     }
 }

@@ -1,14 +1,14 @@
-use Rattle.std.proofs.Common.{ℕ, ◌≡◌, ◌<◌, ◌≤◌}
-use Rattle.std.specs.Ordering.{nat_cmp}
-use Rattle.std.specs.BTreeMap.{btree_map_len, get}
+use Rattle.std.proofs.Common.{ℕ, ◌≡◌, ◌<◌, ◌≤◌, ◌*◌}
+use Rattle.std.specs.BTreeMap.{btree_map_len}
+use Rattle.watch_tables.specs.InFrame.{in_frames}
 use Rattle.watch_tables.proofs.tables.PageTables.clear.Given as goal
 
--- what lies outside the range stays
-abbrev pub invariant-loop-number : goal.invariant-loop-number
-invariant-loop-number l = record {
-  below : (q : ℕ) → q < l.start → get nat_cmp l.self.stored q ≡ get nat_cmp l.fn.self.stored q;
-  above : (q : ℕ) → l.end ≤ q → get nat_cmp l.self.stored q ≡ get nat_cmp l.fn.self.stored q;
+-- what lies outside the frames stays
+abbrev pub invariant-loop-ppn : goal.invariant-loop-ppn
+invariant-loop-ppn l = record {
+  below : (n : ℕ) → n < l.start * 512 → in_frames l.self.frames n ≡ in_frames l.fn.self.frames n;
+  above : (n : ℕ) → l.end * 512 ≤ n → in_frames l.self.frames n ≡ in_frames l.fn.self.frames n;
 }
 
-abbrev pub decreases-loop-number : goal.decreases-loop-number
-decreases-loop-number l = btree_map_len l.self.stored
+abbrev pub decreases-loop-ppn : goal.decreases-loop-ppn
+decreases-loop-ppn l = btree_map_len l.self.frames

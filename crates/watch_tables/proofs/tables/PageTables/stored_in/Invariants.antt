@@ -1,18 +1,16 @@
-use Rattle.std.proofs.Common.{ℕ, ◌≡◌, ◌<◌, ◌≤◌, ◌*◌, ◌-◌}
-use Rattle.std.specs.Prelude.{IsSome}
-use Rattle.std.specs.List.{Contains}
-use Rattle.std.specs.Ordering.{nat_cmp}
-use Rattle.std.specs.BTreeMap.{get}
+use Rattle.std.proofs.Common.{◌≤◌, ◌*◌, ◌-◌}
+use Rattle.watch_tables.specs.InFrame.{in_frames}
+use Rattle.watch_tables.proofs.Filled.{Each, Sound}
 use Rattle.watch_tables.proofs.tables.PageTables.stored_in.Given as goal
 
--- the addresses of the words before this one are there
-abbrev pub invariant-loop-number : goal.invariant-loop-number
-invariant-loop-number l = record {
+-- the addresses of the words in the frames before this one are there
+abbrev pub invariant-loop-ppn : goal.invariant-loop-ppn
+invariant-loop-ppn l = record {
   from : l.initial.from ≤ l.from;
   to : l.from ≤ l.end;
-  sound : (address : ℕ) → Contains l.addresses.items address → (number : ℕ) × (address ≡ number * 8) × (l.initial.from ≤ number) × (number < l.from) × IsSome (get nat_cmp l.self.stored number);
-  each : (number : ℕ) → l.initial.from ≤ number → number < l.from → IsSome (get nat_cmp l.self.stored number) → Contains l.addresses.items (number * 8);
+  sound : Sound (in_frames l.self.frames) (l.initial.from * 512) (l.from * 512) l.addresses.items;
+  each : Each (in_frames l.self.frames) (l.initial.from * 512) (l.from * 512) l.addresses.items;
 }
 
-abbrev pub decreases-loop-number : goal.decreases-loop-number
-decreases-loop-number l = l.end - l.from
+abbrev pub decreases-loop-ppn : goal.decreases-loop-ppn
+decreases-loop-ppn l = l.end - l.from
