@@ -2,7 +2,7 @@
 use Rattle.std.proofs.Common.{◌≡◌, ℕ, Bool, true, false, zero, suc, ◌+◌, ◌-◌, ◌<◌, ◌≤◌, List, [], ◌∷◌, length, map, take, get_or, Option, Some, None, ◌++◌, ap, sym, subst, ◌∙◌, refl, arith, inl, inr, add-one}
 use Rattle.std.specs.Prelude.{◌==◌, ◌&&◌, ◌||◌, ◌⊎◌, cond, if◌then◌else◌}
 use Rattle.std.specs.List.{list_any}
-use Rattle.std.proofs.lemmas.Bool.{cases_Bool, eq-eqb, eqb-true, false_from_ne_true, true≢false}
+use Rattle.std.proofs.lemmas.Bool.{cases_Bool, eq-eqb, eqb-false, eqb-true, false_from_ne_true, true≢false}
 use Rattle.std.proofs.lemmas.List.{get_or-map, length-map, length-take-le, take_all}
 use Rattle.std.proofs.lemmas.List.Folds.{list_any_more}
 use Rattle.watch_engine.specs.declared.held.Held.{Held}
@@ -28,10 +28,6 @@ below f k items n d h differs =
 or_no : (b : Bool) → (b || false) ≡ b
 or_no true = refl
 or_no false = refl
-
-or_yes : (b : Bool) → (b || true) ≡ true
-or_yes true = refl
-or_yes false = refl
 
 and_no : (b : Bool) → (b && false) ≡ false
 and_no true = refl
@@ -88,15 +84,6 @@ start f k c (i ∷ items) at is =
     let long : length (map f (i ∷ items)) ≡ length (i ∷ items) = length-map (i ∷ items) f in
     at_last f k c (i ∷ items) i (length (i ∷ items)) (omega arith) (ap (list_any (keyed f k c)) (sym (take_all (length (i ∷ items)) (i ∷ items) (omega arith)))) at
     (is ∙ ap (last_place k) (sym (take_all (length (i ∷ items)) (map f (i ∷ items)) (omega arith))))
-
-pub found : (f : Held → ℕ) (k : ℕ) (c : Held → Bool) (items : List Held) (at : ℕ) (d : Held) → IsAt f k c items at → 0 < at → c (get_or items (at - 1) d) ≡ true → list_any (keyed f k c) items ≡ true
-found f k c items zero d w some is = absurd (omega arith)
-found f k c items (suc n) d w some is =
-    let back : suc n - 1 ≡ n = omega arith in
-    let h : n < length items = omega (arith, w.within) in
-    let key : f (get_or items n d) ≡ k = sym (get_or-map f items n d 0 h) ∙ (ap (λ (m : ℕ). get_or (map f items) m 0) (sym back) ∙ w.key some) in
-    let passes : keyed f k c (get_or items n d) ≡ true = (λ j. (eq-eqb _ _ key j && c (get_or items n d))) ∙ (ap (λ (m : ℕ). c (get_or items m d)) (sym back) ∙ is) in
-    w.any ∙ (any_suc (keyed f k c) items n d h ∙ (ap (λ (b : Bool). list_any (keyed f k c) (take n items) || b) passes ∙ or_yes (list_any (keyed f k c) (take n items))))
 
 pub next : (f : Held → ℕ) (k : ℕ) (c : Held → Bool) (items : List Held) (at : ℕ) (d : Held) → IsAt f k c items at → 0 < at → c (get_or items (at - 1) d) ≡ false
     → (older : ℕ) → older ≡ last_place (get_or (map f items) (at - 1) 0) (take (at - 1) (map f items)) → IsAt f k c items older
@@ -226,3 +213,55 @@ looks_on f k t goes items (suc n) d after w some older is =
           ∙ (ap (λ (m : ℕ). first_or (place_in t 0 (take n items)) (if t (get_or items m d) then Some m else after)) (sym back)
           ∙ ap (λ (o : Option ℕ). first_or o (if t (get_or items (suc n - 1) d) then Some (suc n - 1) else after)) (place_from f k t goes items d n (omega arith) ∙ ap (λ (m : ℕ). place_in t 0 (take m items)) key)));
     }
+
+-- of fewer items none passes either
+pub any_fewer : (t : Held → Bool) (items : List Held) (n m : ℕ) → n ≤ m → list_any t (take m items) ≡ false → list_any t (take n items) ≡ false
+any_fewer t items zero m h none = refl
+any_fewer t [] (suc n) m h none = refl
+any_fewer t (i ∷ items) (suc n) zero h none = absurd (omega arith)
+any_fewer t (i ∷ items) (suc n) (suc m) h none =
+    let parts = or_parts (t i) _ none in
+    ap (λ (b : Bool). b || list_any t (take n items)) parts.0 ∙ any_fewer t items n m (omega arith) parts.1
+
+pub below_or_is : (n m : ℕ) → n < m + 1 → (n < m) ⊎ (n ≡ m)
+below_or_is n m h = elim (cases_Bool (n == m)) [
+  | inl is ↦ inr (eqb-true _ _ is)
+  | inr differs ↦ (let other = eqb-false _ _ differs in inl (omega arith))
+]
+
+-- a walk for the oldest item with a key that a test passes is at a place, and has found what is from there on
+pub record Seeks (f : Held → ℕ) (k : ℕ) (c : Held → Bool) (items : List Held) (at first : ℕ) : Type 0 where
+  pub walk : IsAt f k (λ _. false) items at
+  pub within : first ≤ length items
+  pub any : list_any (keyed f k c) (take first items) ≡ list_any (keyed f k c) (take at items)
+
+pub seeks_first : (f : Held → ℕ) (k : ℕ) (c : Held → Bool) (items : List Held) (at first : ℕ) → first ≡ length items → at ≡ last_place k (map f items) → Seeks f k c items at first
+seeks_first f k c items at first all is =
+    record {
+      walk = start f k (λ _. false) items at is;
+      within = omega arith;
+      any = ap (list_any (keyed f k c)) (take_all first items (omega arith)) ∙ (start f k c items at is).any;
+    }
+
+pub seeks_on : (f : Held → ℕ) (k : ℕ) (c : Held → Bool) (items : List Held) (at : ℕ) (d : Held) (first : ℕ) → Seeks f k c items at first → 0 < at
+    → (older : ℕ) → older ≡ last_place (get_or (map f items) (at - 1) 0) (take (at - 1) (map f items))
+    → Seeks f k c items older (if c (get_or items (at - 1) d) then at - 1 else first)
+seeks_on f k c items zero d first w some older is = absurd (omega arith)
+seeks_on f k c items (suc n) d first w some older is =
+    let back : suc n - 1 ≡ n = omega arith in
+    let h : n < length items = omega (arith, w.walk.within) in
+    let key : last_place k (take n (map f items)) ≡ older =
+    sym (is ∙ ((λ j. last_place (w.walk.key some j) (take (suc n - 1) (map f items))) ∙ ap (λ (m : ℕ). last_place k (take m (map f items))) back)) in
+    let rest : list_any (keyed f k c) (take n items) ≡ list_any (keyed f k c) (take older items) = any_from f k c items d n (omega arith) ∙ ap (λ (m : ℕ). list_any (keyed f k c) (take m items)) key in
+    let walk = next f k (λ _. false) items (suc n) d w.walk some refl older is in
+    let go : (b : Bool) → c (get_or items n d) ≡ b → Seeks f k c items older (if b then n else first) = λ b. elim b as (λ b. c (get_or items n d) ≡ b → Seeks f k c items older (if b then n else first)) [
+      | true ↦ λ t. record { walk = walk; within = omega arith; any = rest }
+      | false ↦ λ t. record {
+        walk = walk;
+        within = w.within;
+        any =
+            (let none : keyed f k c (get_or items n d) ≡ false = ap (λ (b : Bool). (f (get_or items n d) == k) && b) t ∙ and_no (f (get_or items n d) == k) in
+            w.any ∙ (any_suc (keyed f k c) items n d h ∙ (ap (λ (b : Bool). list_any (keyed f k c) (take n items) || b) none ∙ (or_no (list_any (keyed f k c) (take n items)) ∙ rest))));
+      }
+    ] in
+    subst (λ (m : ℕ). Seeks f k c items older (if c (get_or items m d) then m else first)) (sym back) (go (c (get_or items n d)) refl)

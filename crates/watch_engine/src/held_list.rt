@@ -26,13 +26,15 @@ pub(crate) struct HeldList {
     ghost by_root: { roots.keys.items ≡ map (key_of Root) list.items },
 }
 
-// How many items stand before the first that the record concerns.
-fn first_of(items: &[Held], concern: &Concern) -> usize
+// How many items stand before the first that the record concerns, of which so many are known.
+fn first_from(items: &[Held], concern: &Concern, known: usize) -> usize
+    requires known { known ≤ length items.now }
+    requires none { list_any (concerns concern.now) (take known items.now) ≡ false }
     ensures none { list_any (concerns concern.now) (take result items.now) ≡ false }
     ensures within { result ≤ length items.now }
 {
-    for (place, item) in items.iter().enumerate() {
-        if concern.is_of(item) {
+    for place in known..items.len() {
+        if concern.is_of(&items[place]) {
             return place;
         }
     }
@@ -113,46 +115,61 @@ impl HeldList {
         }
     }
 
-    // The record concerns some item that has the key.
-    fn is_any(&self, by: By, key: u64, concern: &Concern) -> bool
-        ensures { result ≡ list_any (λ i. (key_of by i == key) && concerns concern.now i)
-            self.now.list.items }
+    // How many items stand before the oldest that has the key and that the record concerns.
+    fn first_with(&self, by: By, key: u64, concern: &Concern) -> usize
+        ensures none { list_any (λ i. (key_of by i == key) && concerns concern.now i)
+            (take result self.now.list.items) ≡ false }
+        ensures within { result ≤ length self.now.list.items }
     {
         let chains = self.chains(by);
         let items = self.list.as_slice();
+        let mut first = items.len();
         let mut at = chains.newest(key);
         while at > 0 {
             if concern.is_of(&items[at - 1]) {
-                return true;
+                first = at - 1;
             }
             at = chains.before(at);
         }
-        false
+        first
     }
 
-    // The record concerns some item that has one of the keys.
-    fn is_any_among(&self, keys: &Keys, concern: &Concern) -> bool
+    // The same of items that have one of the keys.
+    fn first_among(&self, keys: &Keys, concern: &Concern) -> usize
         requires { AreSmall keys.now }
-        ensures { result ≡ false
-            → ((i : HeldOf) → concerns concern.now i ≡ true → IsAmong keys.now (key_of keys.now.by i))
-            → list_any (concerns concern.now) self.now.list.items ≡ false }
+        ensures none { ((i : HeldOf) → concerns concern.now i ≡ true
+            → IsAmong keys.now (key_of keys.now.by i))
+            → list_any (concerns concern.now) (take result self.now.list.items) ≡ false }
+        ensures within { result ≤ length self.now.list.items }
     {
+        let mut first = self.first_with(keys.by, keys.limit, concern);
         for offset in 0..keys.count {
-            if self.is_any(keys.by, (keys.first + offset) % keys.limit, concern) {
-                return true;
+            let key = (keys.first + offset) % keys.limit;
+            let place = self.first_with(keys.by, key, concern);
+            if place < first {
+                first = place;
             }
         }
-        self.is_any(keys.by, keys.limit, concern)
+        first
+    }
+
+    /// A number of items, none of which the record concerns: all of them if it concerns none and few
+    /// keys tell so.
+    pub(crate) fn first_of(&self, concern: &Concern) -> usize
+        ensures none { list_any (concerns concern.now) (take result self.now.list.items) ≡ false }
+        ensures within { result ≤ length self.now.list.items }
+    {
+        match concern.keys() {
+            None => 0,
+            Some(keys) => self.first_among(&keys, concern),
+        }
     }
 
     /// Whether the record may concern some item: it does not where the answer is `false`.
     pub(crate) fn may_concern(&self, concern: &Concern) -> bool
         ensures { result ≡ false → list_any (concerns concern.now) self.now.list.items ≡ false }
     {
-        match concern.keys() {
-            None => true,
-            Some(keys) => self.is_any_among(&keys, concern),
-        }
+        self.first_of(concern) < self.list.len()
     }
 
     /// With one more item. At `Err` nothing changed.
@@ -176,10 +193,11 @@ impl HeldList {
         ensures { self.new.list.items
             ≡ filter (λ i. not (concerns concern.now i)) self.old.list.items }
     {
-        if !self.may_concern(concern) {
+        let known = self.first_of(concern);
+        if known == self.list.len() {
             return;
         }
-        let first = first_of(self.list.as_slice(), concern);
+        let first = first_from(self.list.as_slice(), concern, known);
         let kept = keep_others(self.list.as_mut_slice(), concern, first);
         self.list.truncate(kept);
         self.pages.relink(self.list.as_slice(), By::Page, first);

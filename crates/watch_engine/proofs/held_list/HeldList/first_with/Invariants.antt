@@ -1,10 +1,10 @@
 use Rattle.watch_engine.specs.Concerns.{concerns}
 use Rattle.watch_engine.specs.Keys.{key_of}
-use Rattle.watch_engine.proofs.Walks.{IsAt}
-use Rattle.watch_engine.proofs.held_list.HeldList.is_any.Given as goal
+use Rattle.watch_engine.proofs.Walks.{Seeks}
+use Rattle.watch_engine.proofs.held_list.HeldList.first_with.Given as goal
 
 abbrev pub invariant-loop-at : goal.invariant-loop-at
-invariant-loop-at l = IsAt (key_of l.fn.by) l.key (concerns l.concern) l.self.list.items l.at
+invariant-loop-at l = Seeks (key_of l.fn.by) l.key (concerns l.concern) l.self.list.items l.at l.first
 
 abbrev pub decreases-loop-at : goal.decreases-loop-at
 decreases-loop-at l = l.at
