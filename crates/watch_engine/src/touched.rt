@@ -1,6 +1,6 @@
 //! The translations that a store to a word can concern.
 
-ghost use Rattle.std.specs.Prelude.{ℕ, ◌≡◌, false, filter, map, not};
+ghost use Rattle.std.specs.Prelude.{ℕ, ◌≡◌, ◌≤◌, false, filter, length, map, not, take};
 ghost use Rattle.std.specs.List.{list_any};
 ghost use Rattle.watch.specs.Computed.{is_mapped};
 ghost use Rattle.watch.specs.Trace.{index_of};
@@ -88,7 +88,7 @@ fn is_kept_after<T: Tables>(
         ))
 }
 
-// Without those that can be filled again.
+// Without those that can be filled again, which none before a place can.
 fn drop_live<T: Tables>(
     held: &mut HeldList,
     tables: &T,
@@ -97,14 +97,18 @@ fn drop_live<T: Tables>(
     roots: &Roots,
     address: u64,
     ways: &[Way],
+    first: usize,
 )
+    requires first { first ≤ length held.old.list.items }
+    requires none { list_any (λ i. not (is_kept_after scheme (T.words tables.now) satps.now
+        roots.now (index_of address) ways.now i)) (take first held.old.list.items) ≡ false }
     ensures { held.new.list.items ≡ filter (is_kept_after scheme (T.words tables.now) satps.now
         roots.now (index_of address) ways.now) held.old.list.items }
 {
     held.list.retain(|item| is_kept_after(tables, scheme, satps, roots, address, ways, item));
-    held.pages.relink(held.list.as_slice(), By::Page, 0);
-    held.frames.relink(held.list.as_slice(), By::Frame, 0);
-    held.roots.relink(held.list.as_slice(), By::Root, 0);
+    held.pages.relink(held.list.as_slice(), By::Page, first);
+    held.frames.relink(held.list.as_slice(), By::Frame, first);
+    held.roots.relink(held.list.as_slice(), By::Root, first);
 }
 
 impl Held {
@@ -136,7 +140,8 @@ impl Held {
     }
 }
 
-// The same of each, and whether some can be filled again.
+// The same of each from a place on, where none before it is concerned, and whether some can be filled
+// again.
 fn settle_each_touched<T: Tables>(
     held: &mut [Held],
     tables: &T,
@@ -146,7 +151,11 @@ fn settle_each_touched<T: Tables>(
     address: u64,
     ways: &[Way],
     count: u64,
+    first: usize,
 ) -> bool
+    requires first { first ≤ length held.old }
+    requires none { list_any (λ i. is_touched scheme roots.now (index_of address) ways.now
+        (translation_of i)) (take first held.old) ≡ false }
     ensures items { held.new ≡ map (λ i. settled_if (is_touched scheme roots.now
         (index_of address) ways.now (translation_of i)) (is_current_by (is_mapped scheme
         (T.words tables.now)) roots.now (translation_of i)) count i) held.old }
@@ -154,19 +163,26 @@ fn settle_each_touched<T: Tables>(
         roots.now (index_of address) ways.now i)) held.old }
 {
     let mut some = false;
-    for item in held.iter_mut() {
-        let is_live = item.settle_if(tables, scheme, satps, roots, address, ways, count);
+    for place in first..held.len() {
+        let is_live = held[place].settle_if(tables, scheme, satps, roots, address, ways, count);
         some = some || is_live;
     }
     some
 }
 
-// Whether the store may concern some item on a way: it does not where the answer is `false`.
-fn may_touch_on(held: &HeldList, scheme: Scheme, roots: &Roots, address: u64, way: &Way) -> bool
-    ensures { result ≡ false → list_any (λ i. is_touched_on scheme roots.now (index_of address)
-        (translation_of i) way.now) held.now.list.items ≡ false }
+// A number of items, none of which the store concerns on the way.
+fn first_touched_on(
+    held: &HeldList,
+    scheme: Scheme,
+    roots: &Roots,
+    address: u64,
+    way: &Way,
+) -> usize
+    ensures none { list_any (λ i. is_touched_on scheme roots.now (index_of address)
+        (translation_of i) way.now) (take result held.now.list.items) ≡ false }
+    ensures within { result ≤ length held.now.list.items }
 {
-    held.may_concern(&Concern::Store {
+    held.first_of(&Concern::Store {
         scheme,
         address,
         way: *way,
@@ -174,21 +190,31 @@ fn may_touch_on(held: &HeldList, scheme: Scheme, roots: &Roots, address: u64, wa
     })
 }
 
-// The same on any of the ways.
-fn may_touch(held: &HeldList, scheme: Scheme, roots: &Roots, address: u64, ways: &[Way]) -> bool
-    ensures { result ≡ false → list_any (λ i. is_touched scheme roots.now (index_of address)
-        ways.now (translation_of i)) held.now.list.items ≡ false }
+// A number of items, none of which the store concerns: all of them if it concerns none and few keys
+// tell so.
+fn first_touched(
+    held: &HeldList,
+    scheme: Scheme,
+    roots: &Roots,
+    address: u64,
+    ways: &[Way],
+) -> usize
+    ensures none { list_any (λ i. is_touched scheme roots.now (index_of address) ways.now
+        (translation_of i)) (take result held.now.list.items) ≡ false }
+    ensures within { result ≤ length held.now.list.items }
 {
+    let mut first = held.as_slice().len();
     for way in ways {
-        if may_touch_on(held, scheme, roots, address, way) {
-            return true;
+        let place = first_touched_on(held, scheme, roots, address, way);
+        if place < first {
+            first = place;
         }
     }
-    false
+    first
 }
 
 // The same of the list, without those that can be filled again.
-fn settle_all_touched<T: Tables>(
+fn settle_touched_from<T: Tables>(
     held: &mut HeldList,
     tables: &T,
     scheme: Scheme,
@@ -197,7 +223,11 @@ fn settle_all_touched<T: Tables>(
     address: u64,
     ways: &[Way],
     count: u64,
+    first: usize,
 )
+    requires first { first ≤ length held.old.list.items }
+    requires none { list_any (λ i. is_touched scheme roots.now (index_of address) ways.now
+        (translation_of i)) (take first held.old.list.items) ≡ false }
     ensures { held.new.list.items ≡ map (λ i. settled_if (is_touched scheme roots.now
         (index_of address) ways.now (translation_of i)) (is_current_by (is_mapped scheme
         (T.words tables.now)) roots.now (translation_of i)) count i) (filter (is_kept_after scheme
@@ -212,9 +242,10 @@ fn settle_all_touched<T: Tables>(
         address,
         ways,
         count,
+        first,
     );
     if some {
-        drop_live(held, tables, scheme, satps, roots, address, ways);
+        drop_live(held, tables, scheme, satps, roots, address, ways, first);
     }
 }
 
@@ -236,7 +267,10 @@ pub(crate) fn settle_touched<T: Tables>(
         (T.words tables.now) satps.now roots.now (index_of address) ways.now)
         held.old.list.items) }
 {
-    if may_touch(held, scheme, roots, address, ways) {
-        settle_all_touched(held, tables, scheme, satps, roots, address, ways, count);
+    let first = first_touched(held, scheme, roots, address, ways);
+    if first < held.as_slice().len() {
+        settle_touched_from(
+            held, tables, scheme, satps, roots, address, ways, count, first,
+        );
     }
 }
