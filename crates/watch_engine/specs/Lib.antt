@@ -1,4 +1,5 @@
 pub mod Held
+pub mod LastAnswer
 pub mod Left
 pub mod LeftOrder
 pub mod Seen

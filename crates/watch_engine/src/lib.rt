@@ -10,6 +10,7 @@ mod fence;
 mod held;
 mod held_list;
 mod keys;
+mod last_answer;
 mod laws;
 mod left;
 mod left_spaces;

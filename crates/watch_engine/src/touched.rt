@@ -4,6 +4,7 @@ ghost use Rattle.std.specs.Prelude.{ℕ, ◌≡◌, ◌≤◌, false, filter, le
 ghost use Rattle.std.specs.List.{list_any};
 ghost use Rattle.watch.specs.Computed.{is_mapped};
 ghost use Rattle.watch.specs.Trace.{index_of};
+ghost use Rattle.watch_engine.specs.LastAnswer.{IsAnswered};
 ghost use Rattle.watch_engine.specs.Held.{is_current_by, translation_of};
 ghost use Rattle.watch_engine.specs.Touched.{asks, is_below, is_kept_after, is_touched, is_touched_on, settled_if};
 
@@ -11,8 +12,9 @@ use crate::concern::Concern;
 use crate::held::Held;
 use crate::held_list::HeldList;
 use crate::keys::By;
+use crate::last_answer::{LastAnswer, is_current_again};
 use crate::live::is_live_in;
-use crate::roots::{Roots, is_current};
+use crate::roots::Roots;
 use crate::satps::satp_in;
 use crate::tables::Tables;
 use pte::{PAGE_BYTES, Page, Scheme};
@@ -123,7 +125,12 @@ impl Held {
         address: u64,
         ways: &[Way],
         count: u64,
+        last: &mut Option<LastAnswer>,
     ) -> bool
+        requires { IsAnswered (is_current_by (is_mapped scheme (T.words tables.now)) roots.now)
+            last.old }
+        ensures last { IsAnswered (is_current_by (is_mapped scheme (T.words tables.now)) roots.now)
+            last.new }
         ensures item { self.new ≡ settled_if (is_touched scheme roots.now (index_of address)
             ways.now (translation_of self.old)) (is_current_by (is_mapped scheme
             (T.words tables.now)) roots.now (translation_of self.old)) count self.old }
@@ -133,7 +140,8 @@ impl Held {
         if !is_touched(scheme, roots, address, ways, self) {
             return false;
         }
-        let current = is_current(tables, scheme, roots.as_slice(), self.root, &self.entry);
+        let roots = roots.as_slice();
+        let current = is_current_again(tables, scheme, roots, last, self.root, &self.entry);
         self.settle(current, count);
         let space = satp_in(satps, self.hart);
         is_live_in(tables, scheme, space, self.root, &self.entry)
@@ -163,8 +171,11 @@ fn settle_each_touched<T: Tables>(
         roots.now (index_of address) ways.now i)) held.old }
 {
     let mut some = false;
+    let mut last = None;
     for place in first..held.len() {
-        let is_live = held[place].settle_if(tables, scheme, satps, roots, address, ways, count);
+        let is_live = held[place].settle_if(
+            tables, scheme, satps, roots, address, ways, count, &mut last,
+        );
         some = some || is_live;
     }
     some

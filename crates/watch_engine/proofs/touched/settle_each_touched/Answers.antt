@@ -32,6 +32,7 @@ loop-place-preserved g c =
     ] in (
       rw new (map_over_more f old c.loop-place.held at x within c.loop-place.invariant.0 c.index-held-place.is),
       some ∙ ((λ j. c.loop-place.invariant.1 j || tested j) ∙ sym (any_more q old at x within read)),
+      c.settle_if-is_live.ensures.last,
     )
 
 pub returns-clause-items : goal.returns-clause-items
@@ -55,4 +56,5 @@ loop-place-init g c =
     let front : List Held = take c.args.first c.args.held.now in (
       sym (ap (λ (l : List Held). l ++ drop c.args.first c.args.held.now) (same_each touch current c.args.count front c.requires.none) ∙ take-append-drop c.args.first c.args.held.now),
       sym (all_kept touch live front c.requires.none),
+      tt,
     )
