@@ -1,7 +1,8 @@
 -- The ways to a table, found from the table up.
-use Rattle.std.proofs.Common.{◌≡◌, ℕ, ◌+◌, ◌-◌, ◌*◌, ◌/◌, ◌%◌, ◌^◌, ◌<◌, ◌≤◌, ◌⊎◌, Some, List, [], ◌∷◌, ◌++◌, ap, sym, ◌∙◌, subst, refl, inl, inr, mod-lt, arith}
+use Rattle.std.proofs.Common.{◌≡◌, ℕ, true, false, ◌+◌, ◌-◌, ◌*◌, ◌/◌, ◌%◌, ◌^◌, ◌<◌, ◌≤◌, ◌⊎◌, Some, List, [], ◌∷◌, ◌++◌, ap, sym, ◌∙◌, subst, refl, inl, inr, mod-lt, arith}
+use Rattle.std.specs.Prelude.{◌==◌}
 use Rattle.std.specs.List.{Contains}
-use Rattle.std.proofs.lemmas.Bool.{cases_lt, or_cases, or_left, or_right}
+use Rattle.std.proofs.lemmas.Bool.{cases_lt, eqb-true, or_cases, or_left, or_right}
 use Rattle.std.proofs.lemmas.List.Elements.{Contains-push_cases}
 use Rattle.std.proofs.lemmas.Nat.{div-mul-add, mod-mul-add, mod-pow-add, mul-add-lt, pow-add, pow_pos, shr-shr}
 use Rattle.pte.specs.declared.scheme.Scheme.{Scheme}
@@ -13,6 +14,7 @@ use Rattle.walk.proofs.Paths.{leads-start, leads_down, leads_up, global-above, g
 use Rattle.watch_tables.specs.declared.way.Way.{Way}
 use Rattle.watch_tables.specs.declared.pointers.Pointer.{Pointer}
 use Rattle.watch_tables.specs.Words.{word_number}
+use Rattle.watch_tables.specs.Pointers.{has_number}
 use Rattle.watch_tables.specs.Paths.{IsPathSince}
 use Rattle.watch_tables.specs.Ways.{HasWay, IsWay, vpn_from, way_to}
 use Rattle.watch_tables.specs.Climbs.{ComesTo, HasWayBy, IsPointer, IsWayDown, vpn_between, way_by}
@@ -161,12 +163,13 @@ module _ (scheme : Scheme) (words : Tables) (since : ℕ → ℕ → ℕ) (heigh
     vpn_is = sym comes.vpn ∙ ap (λ k. va / level_bytes (way.level + 1) % 2 ^ k) exponents;
   }
 
--- what is added by the pointers up to one
-module _ (scheme : Scheme) (words : Tables) (since : ℕ → ℕ → ℕ) (height : ℕ) (way : Way) (down : IsWayDown scheme words since height way) where
-  abbrev pub EachBelow : List Way → ℕ → Type 0
-  EachBelow ways from = (root va t : ℕ) → ComesTo scheme words root va height way → Leads scheme words root va (height + 1) t (word_at words va (height + 1) t)
-      → word_number t (vpn_of va (height + 1)) < from → PointsTo (word_at words va (height + 1) t) way.root → HasWayBy scheme ways way root va
+-- each address that comes to the first table comes by a pointer that is left, or has its way
+abbrev pub EachBut : Scheme → Tables → ℕ → Way → List (ℕ × ℕ) → List Way → Type 0
+EachBut scheme words height way left ways = (root va t : ℕ) → ComesTo scheme words root va height way → Leads scheme words root va (height + 1) t (word_at words va (height + 1) t)
+    → PointsTo (word_at words va (height + 1) t) way.root → (has_number left (word_number t (vpn_of va (height + 1))) ≡ true) ⊎ HasWayBy scheme ways way root va
 
+-- what is added by all pointers but those that are left
+module _ (scheme : Scheme) (words : Tables) (since : ℕ → ℕ → ℕ) (height : ℕ) (way : Way) (down : IsWayDown scheme words since height way) where
   abbrev pub AreSound : List Way → List Way → Type 0
   AreSound first ways = (w : Way) → Contains ways w → Contains first w ⊎ (IsWay scheme words since w × (w.at.table ≡ way.at.table))
 
@@ -177,32 +180,51 @@ module _ (scheme : Scheme) (words : Tables) (since : ℕ → ℕ → ℕ) (heigh
         | inr is ↦ inr is
       ]
 
-  pub each-on : (pointer : Pointer) → IsPointer words since way.root pointer → (old new : List Way) (from : ℕ) → EachBelow old from → ((w : Way) → Contains old w → Contains new w)
-      → ((t i : ℕ) → from ≤ word_number t i → word_number t i < pointer.number → PointsTo (words t i) way.root → ⊥)
-      → ((root va : ℕ) → ComesTo scheme words root va (height + 1) (way_by way height pointer) → HasWayBy scheme new (way_by way height pointer) root va)
-      → EachBelow new (pointer.number + 1)
-  each-on pointer points old new from each more skipped by root va t comes path less point =
-      elim (cases_lt (word_number t (vpn_of va (height + 1))) from) [
-        | inl earlier ↦ has-more old new root way.level _ more (each root va t comes path earlier point)
-        | inr later_one ↦
-            elim (cases_lt (word_number t (vpn_of va (height + 1))) pointer.number) [
-              | inl between ↦ absurd (skipped t (vpn_of va (height + 1)) later_one between point)
-              | inr last ↦ by root va (comes-up scheme words since height way down pointer points root va t comes path (omega arith))
-            ]
-      ]
+  module _ (pair : ℕ × ℕ) (left all : List (ℕ × ℕ)) (first : all ≡ pair ∷ left) (old : List Way) (each : EachBut scheme words height way all old) where
+    now-or-later : (root va t : ℕ) → ComesTo scheme words root va height way → Leads scheme words root va (height + 1) t (word_at words va (height + 1) t)
+        → PointsTo (word_at words va (height + 1) t) way.root → (word_number t (vpn_of va (height + 1)) ≡ pair.1) ⊎ ((has_number left (word_number t (vpn_of va (height + 1))) ≡ true) ⊎ HasWayBy scheme old way root va)
+    now-or-later root va t comes path point =
+        elim (each root va t comes path point) [
+          | inl has ↦
+              elim (or_cases (pair.1 == word_number t (vpn_of va (height + 1))) (has_number left (word_number t (vpn_of va (height + 1)))) (subst (λ l. has_number l (word_number t (vpn_of va (height + 1))) ≡ true) first has)) [
+                | inl same ↦ inl (sym (eqb-true pair.1 (word_number t (vpn_of va (height + 1))) same))
+                | inr later ↦ inr (inl later)
+              ]
+          | inr there ↦ inr (inr there)
+        ]
+
+    pub each-on : (pointer : Pointer) → IsPointer words since way.root pointer → pointer.number ≡ pair.1 → (new : List Way) → ((w : Way) → Contains old w → Contains new w)
+        → ((root va : ℕ) → ComesTo scheme words root va (height + 1) (way_by way height pointer) → HasWayBy scheme new (way_by way height pointer) root va)
+        → EachBut scheme words height way left new
+    each-on pointer points number new more by root va t comes path point =
+        elim (now-or-later root va t comes path point) [
+          | inl same ↦ inr (by root va (comes-up scheme words since height way down pointer points root va t comes path (same ∙ sym number)))
+          | inr either ↦
+              elim either [
+                | inl later ↦ inl later
+                | inr there ↦ inr (has-more old new root way.level _ more there)
+              ]
+        ]
+
+    pub each-past : ((t i : ℕ) → word_number t i ≡ pair.1 → PointsTo (words t i) way.root → ⊥) → EachBut scheme words height way left old
+    each-past none root va t comes path point =
+        elim (now-or-later root va t comes path point) [
+          | inl same ↦ absurd (none t (vpn_of va (height + 1)) same point)
+          | inr either ↦ either
+        ]
 
   -- each address that comes to the first table comes by one of its pointers
-  pub each-of-all : height < top_level scheme → (ways : List Way) (from : ℕ) → EachBelow ways from → ((t i : ℕ) → from ≤ word_number t i → PointsTo (words t i) way.root → ⊥)
+  pub each-of-all : height < top_level scheme → (ways : List Way) (left : List (ℕ × ℕ)) → left ≡ [] → EachBut scheme words height way left ways
       → (root va : ℕ) → ComesTo scheme words root va height way → HasWayBy scheme ways way root va
-  each-of-all lower ways from each none root va comes =
+  each-of-all lower ways left none each root va comes =
       let up = leads_up scheme words root va height way.root (word_at words va height way.root) lower comes.leads in
       let path = up.2 in
       let word : up.1 ≡ word_at words va (height + 1) up.0 = path.here in
       let here : Leads scheme words root va (height + 1) up.0 (word_at words va (height + 1) up.0) = subst (Leads scheme words root va (height + 1) up.0) word path in
       let point : PointsTo (word_at words va (height + 1) up.0) way.root = subst (λ o. PointsTo o way.root) word up.3 in
-      elim (cases_lt (word_number up.0 (vpn_of va (height + 1))) from) [
-        | inl earlier ↦ each root va up.0 comes here earlier point
-        | inr later_one ↦ absurd (none up.0 (vpn_of va (height + 1)) later_one point)
+      elim (each root va up.0 comes here point) [
+        | inl has ↦ let never : false ≡ true = subst (λ l. has_number l (word_number up.0 (vpn_of va (height + 1))) ≡ true) none has in absurd (cc)
+        | inr there ↦ there
       ]
 
 -- a way that is pushed

@@ -4,6 +4,8 @@ use Rattle.std.specs.Prelude.{◌==◌, ◌&&◌, nat_lt, Result, Ok, Err, OnOk}
 use mathlib.Core.Path.{fun_ext}
 use Rattle.std.specs.Option.{unwrap_or}
 use Rattle.std.proofs.lemmas.Bool.{cases_lt, and_parts, and_from, ltb-true, lt-ltb, eqb-true, eq-eqb, cond-true, cond-false, false_from_ne_true}
+use Rattle.pte.specs.declared.entry.Kind.{Kind}
+use Rattle.pte.specs.declared.entry.Kind.TheVariants as kinds
 use Rattle.pte.specs.Entry.{kind_of}
 use Rattle.walk.specs.Leads.{Tables, PointsTo}
 use Rattle.walk.specs.Maps.{page_number}
@@ -117,10 +119,12 @@ linked-pointer at has linked table t i point =
       linked table (word_number t i) ∙ ap (λ o. is_table o table) known.1 ∙ eq-eqb table table refl,
     )
 
--- so where none is kept, none points
-pub none-points : (at : ℕ → Option StoredWord) (has : ℕ → ℕ → Bool) → ((t n : ℕ) → has t n ≡ is_table (table_of (at n)) t)
-    → (table from : ℕ) (Below : ℕ → Type 0) → ((n : ℕ) → from ≤ n → n < 18446744073709551616 → Below n → has table n ≡ false) → (t i : ℕ) → from ≤ word_number t i → Below (word_number t i) → PointsTo (memory at t i) table → ⊥
-none-points at has linked table from Below none t i low below point =
-    let known = linked-pointer at has linked table t i point in
-    let never : true ≡ false = sym known.1 ∙ none (word_number t i) low known.0 below in
-    absurd (cc)
+pub table-at : (at : ℕ → Option StoredWord) (t i table number : ℕ) (o : Option StoredWord) → at number ≡ o → word_number t i ≡ number → PointsTo (memory at t i) table → table_of o ≡ Some table
+table-at at t i table number o is here point = ap table_of (sym is) ∙ ap (λ n. table_of (at n)) (sym here) ∙ (stored-table at t i table (is_word t i) (at (word_number t i)) refl refl point).1
+
+-- the kind that points to a table
+pub kind-of-table : (k : Kind) (table : ℕ) → table_of_kind k ≡ Some table → (global : Bool) × (k ≡ kinds.Table table global)
+kind-of-table kinds.Invalid table is = absurd (cc)
+kind-of-table kinds.Reserved table is = absurd (cc)
+kind-of-table (kinds.Table ppn global) table is = (global, let same : ppn ≡ table = cc in ap (λ p. kinds.Table p global) same)
+kind-of-table (kinds.Leaf ppn flags) table is = absurd (cc)

@@ -1,16 +1,16 @@
 -- Pairs of numbers in order.
-use Rattle.std.proofs.Common.{rules, ℕ, ◌≡◌, ◌<◌, ◌≤◌, Bool, true, false, cond, ap, ◌∙◌, subst, refl, arith, ◌⊎◌, inl, inr, ltb, List, [], ◌∷◌}
-use Rattle.std.proofs.lemmas.Bool.{eqb-true, ltb-true}
+use Rattle.std.proofs.Common.{ℕ, ◌≡◌, ◌≤◌, Bool, true, false, cond, ap, sym, ◌∙◌, refl, arith, List, [], ◌∷◌}
+use Rattle.std.proofs.lemmas.Bool.{and_parts, eq-eqb, eqb-true, or_left, or_right}
 use Rattle.std.proofs.lemmas.Bool.Decides.{nat_tests}
-use Rattle.std.proofs.lemmas.Map.Keys.{le_from_not_gt}
 use Rattle.std.specs.Prelude.{◌==◌, ◌&&◌, ◌||◌, not, nat_lt}
 use Rattle.std.specs.declared.cmp.Ordering.{Ordering}
 use Rattle.std.specs.declared.cmp.Ordering.TheVariants.{Less, Equal, Greater}
-use Rattle.std.specs.Ordering.{is_eq, is_gt, nat_cmp, ordering_then}
-use Rattle.std.specs.BTreeSet.{BTreeSet, contains, IsKeyRangeOf}
+use Rattle.std.specs.Ordering.{is_eq, nat_cmp, ordering_then}
+use Rattle.std.specs.BTreeSet.{BTreeSet, contains, keys_between}
 use Rattle.std.specs.declared.ops.Bound.TheVariants.{Included}
-use Rattle.std.specs.BTreeMap.Range.{IsInRange}
-use Rattle.watch_tables.specs.Pointers.{pair_cmp}
+use Rattle.std.specs.BTreeMap.Range.{range_contains}
+use Rattle.std.specs.List.{filter, list_any}
+use Rattle.watch_tables.specs.Pointers.{has_number, pair_cmp}
 
 first-then : (less same : Bool) (second : Ordering) → is_eq (ordering_then (cond less Less (cond same Equal Greater)) second) ≡ (not less && (same && is_eq second))
 first-then true same second = refl
@@ -45,58 +45,34 @@ module _ (old new : BTreeSet (ℕ × ℕ)) (table number : ℕ) where
       → (t n : ℕ) → contains pair_cmp new (t, n) ≡ (not ((table == t) && (number == n)) && contains pair_cmp old (t, n))
   without-pair set t n = set (t, n) ∙ ap (λ b. cond b false (contains pair_cmp old (t, n))) (same-pair table number t n) ∙ chosen-and ((table == t) && (number == n)) (contains pair_cmp old (t, n))
 
--- pairs with one first number, between two second ones
-pub within : (t from to n : ℕ) → from ≤ n → n ≤ to → IsInRange pair_cmp (Included (t, from)) (Included (t, to)) (t, n)
-within t from to n low high = search rules
+-- a pair with the first number of a range, up to its last one, is in it
+within : (t to n : ℕ) → n ≤ to → range_contains pair_cmp (Included (t, 0)) (Included (t, to)) (t, n) ≡ true
+within t to n low = grind (arith, nat_tests)
 
--- the first number is less, or they are one and the second is at most as large
-module _ (a b t n : ℕ) where
-  by-tests : (less same : Bool) → ltb a t ≡ less → (a == t) ≡ same → is_gt (ordering_then (cond less Less (cond same Equal Greater)) (nat_cmp b n)) ≡ false → (a < t) ⊎ ((a ≡ t) × (b ≤ n))
-  by-tests true same l s h = inl (ltb-true a t l)
-  by-tests false true l s h = inr (eqb-true a t s, le_from_not_gt b n h)
-  by-tests false false l s h = absurd (cc)
+module _ (t to n : ℕ) (high : n ≤ to) where
+  abbrev is_in : ℕ × ℕ → Bool
+  is_in = range_contains pair_cmp (Included (t, 0)) (Included (t, to))
 
-  pub pair-le : is_gt (pair_cmp (a, b) (t, n)) ≡ false → (a < t) ⊎ ((a ≡ t) × (b ≤ n))
-  pair-le h = by-tests (ltb a t) (a == t) refl refl h
+  abbrev is_this : ℕ × ℕ → Bool
+  is_this = λ q. is_eq (pair_cmp (t, n) q)
 
-not_true : (b : Bool) → (b ≡ true → ⊥) → b ≡ false
-not_true true h = absurd (h refl)
-not_true false h = refl
+  this-is : (a b : ℕ) → is_this (a, b) ≡ true → (t ≡ a) × (n ≡ b)
+  this-is a b is = let both = and_parts (t == a) (n == b) (sym (same-pair t n a b) ∙ is) in (eqb-true t a both.0, eqb-true n b both.1)
 
--- a range by its bounds
-pub part-at : (set : BTreeSet (ℕ × ℕ)) (from to : ℕ × ℕ) (found : List (ℕ × ℕ)) (start end : ℕ × ℕ) → from ≡ start → to ≡ end → IsKeyRangeOf pair_cmp (Included from) (Included to) set found → IsKeyRangeOf pair_cmp (Included start) (Included end) set found
-part-at set from to found start end at_start at_end part =
-    subst (λ b. IsKeyRangeOf pair_cmp (Included start) (Included b) set found) at_end (subst (λ a. IsKeyRangeOf pair_cmp (Included a) (Included to) set found) at_start part)
+  one-more : (a b : ℕ) (pairs : List (ℕ × ℕ)) (same inside : Bool) → is_this (a, b) ≡ same → is_in (a, b) ≡ inside → (list_any is_this pairs ≡ true → has_number (filter is_in pairs) n ≡ true)
+      → (same || list_any is_this pairs) ≡ true → has_number (cond inside ((a, b) ∷ filter is_in pairs) (filter is_in pairs)) n ≡ true
+  one-more a b pairs false true is at rest has = or_right (b == n) (has_number (filter is_in pairs) n) (rest has)
+  one-more a b pairs false false is at rest has = rest has
+  one-more a b pairs true true is at rest has = or_left (b == n) (has_number (filter is_in pairs) n) (eq-eqb b n (sym (this-is a b is).1))
+  one-more a b pairs true false is at rest has =
+      let never : true ≡ false = sym (within t to n high) ∙ ap (λ k. is_in (k, n)) (this-is a b is).0 ∙ ap (λ k. is_in (a, k)) (this-is a b is).1 ∙ at in
+      absurd (cc)
 
-module _ (set : BTreeSet (ℕ × ℕ)) (t from to : ℕ) where
-  -- the pairs between two second numbers have the first one
-  pub first-is : (a b : ℕ) → IsInRange pair_cmp (Included (t, from)) (Included (t, to)) (a, b) → (a ≡ t) × (from ≤ b) × (b ≤ to)
-  first-is a b inside =
-      elim (pair-le t from a b inside.0) [
-        | inl more ↦
-            elim (pair-le a b t to inside.1) [
-              | inl less ↦ absurd (omega arith)
-              | inr same ↦ absurd (let e = same.0 in omega arith)
-            ]
-        | inr same ↦
-            elim (pair-le a b t to inside.1) [
-              | inl less ↦ absurd (let e = same.0 in omega arith)
-              | inr also ↦ (also.0, same.1, also.1)
-            ]
-      ]
+  -- what a range of pairs has
+  pub in-range : (pairs : List (ℕ × ℕ)) → list_any is_this pairs ≡ true → has_number (filter is_in pairs) n ≡ true
+  in-range [] has = absurd (cc)
+  in-range (q ∷ pairs) has = one-more q.0 q.1 pairs (is_this q) (is_in q) refl refl (in-range pairs) has
 
-  -- before the first pair of a range is none
-  pub none-before : (first : ℕ × ℕ) (found rest : List (ℕ × ℕ)) → found ≡ first ∷ rest → IsKeyRangeOf pair_cmp (Included (t, from)) (Included (t, to)) set found
-      → (n : ℕ) → from ≤ n → n < first.1 → contains pair_cmp set (t, n) ≡ false
-  none-before first found rest is part n low before =
-      let of_cons = subst (IsKeyRangeOf pair_cmp (Included (t, from)) (Included (t, to)) set) is part in
-      let inside = first-is first.0 first.1 (of_cons.1).0 in
-      not_true (contains pair_cmp set (t, n)) (λ has.
-      elim (pair-le first.0 first.1 t n (of_cons.2 (t, n) (within t from to n low (let below = inside.2 in omega arith)) has)) [
-        | inl less ↦ let e = inside.0 in omega arith
-        | inr same ↦ let le = same.1 in omega arith
-      ])
-
-  pub none-there : (found : List (ℕ × ℕ)) → found ≡ [] → IsKeyRangeOf pair_cmp (Included (t, from)) (Included (t, to)) set found
-      → (n : ℕ) → from ≤ n → n ≤ to → contains pair_cmp set (t, n) ≡ false
-  none-there found is part n low high = part.5 is (t, n) (within t from to n low high)
+  pub in-part : (set : BTreeSet (ℕ × ℕ)) (start end : ℕ × ℕ) (part : List (ℕ × ℕ)) → start ≡ (t, 0) → end ≡ (t, to) → part ≡ keys_between pair_cmp (Included start) (Included end) set → contains pair_cmp set (t, n) ≡ true → has_number part n ≡ true
+  in-part set start end part at_start at_end is has =
+      ap (λ l. has_number l n) (is ∙ ap (λ s. keys_between pair_cmp (Included s) (Included end) set) at_start ∙ ap (λ e. keys_between pair_cmp (Included (t, 0)) (Included e) set) at_end) ∙ in-range set.keys has

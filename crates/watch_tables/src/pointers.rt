@@ -1,11 +1,11 @@
 //! Which words point to a table.
 
-ghost use Rattle.std.specs.Prelude.{ℕ, ◌≡◌, ◌≤◌, ◌<◌, ◌^◌, ◌==◌, ◌&&◌, ◌||◌, not};
-ghost use Rattle.std.specs.Prelude.{IfSome, IsTrue, None, OnErr, OnOk, false};
+ghost use Rattle.std.specs.Prelude.{ℕ, ◌≡◌, ◌<◌, ◌^◌, ◌==◌, ◌&&◌, ◌||◌, not};
+ghost use Rattle.std.specs.Prelude.{IsTrue, OnErr, OnOk, false};
 ghost use Rattle.watch_tables.specs.Stored.{is_table};
 
 use std::alloc::{AllocError, Global};
-use std::collections::BTreeSet;
+use std::collections::btree_set::{BTreeSet, Range};
 
 /// A word that is a pointer.
 #[derive(Clone, Copy, PartialEq, Eq, Debug)]
@@ -26,7 +26,7 @@ pub(crate) struct Pointers {
 }
 
 impl Pointers {
-    ghost use Rattle.watch_tables.specs.Pointers.{has_pointer};
+    ghost use Rattle.watch_tables.specs.Pointers.{has_number, has_pointer};
 
     /// No pointers.
     pub(crate) fn new(alloc: Global) -> Pointers
@@ -59,18 +59,11 @@ impl Pointers {
         }
     }
 
-    /// The least number from `from` on of a word that points to a table.
-    pub(crate) fn next(&self, table: u64, from: u64) -> Option<u64>
-        ensures from { IfSome result (λ number. from ≤ number) }
-        ensures points { IfSome result (λ number. IsTrue (has_pointer self.now table number)) }
-        ensures skipped { IfSome result (λ number. (n : ℕ) → from ≤ n → n < number
-            → has_pointer self.now table n ≡ false) }
-        ensures none { result ≡ None → (n : ℕ) → from ≤ n → n < 2 ^ 64
-            → has_pointer self.now table n ≡ false }
+    /// The pairs of a table and the number of each word that points to it, ascending.
+    pub(crate) fn to(&self, table: u64) -> Range<'_, (u64, u64)>
+        ensures { (n : ℕ) → n < 2 ^ 64 → IsTrue (has_pointer self.now table n)
+            → IsTrue (has_number result n) }
     {
-        match self.pairs.range((table, from)..=(table, u64::MAX)).next() {
-            Some((_, number)) => Some(*number),
-            None => None,
-        }
+        self.pairs.range((table, 0)..=(table, u64::MAX))
     }
 }

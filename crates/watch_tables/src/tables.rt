@@ -8,13 +8,14 @@ ghost use Rattle.std.specs.BTreeMap.{get};
 ghost use Rattle.watch.specs.Trace.{index_of};
 ghost use Rattle.watch_tables.specs.Stored.{is_kept, is_table, table_of, up_to_limit, word_to_store};
 ghost use Rattle.watch_tables.specs.InFrame.{IsOfFrame, in_frames, word_in};
-ghost use Rattle.watch_tables.specs.Pointers.{has_pointer};
+ghost use Rattle.watch_tables.specs.Pointers.{has_number, has_pointer};
 
 use crate::frame::{Frame, StoredWord};
 use crate::pointers::{Pointer, Pointers};
 use pte::{Kind, PAGE_BYTES, Pte, TABLE_LENGTH};
 use std::alloc::{AllocError, Global};
 use std::collections::BTreeMap;
+use std::collections::btree_set::Range;
 use watch::Frames;
 
 /// How many bytes a word of a table has.
@@ -195,26 +196,31 @@ impl PageTables {
         find(&self.frames, number)
     }
 
-    /// The pointer to a table whose word has the least number from `from` on.
-    pub(crate) fn next_pointer(&self, table: u64, from: u64) -> Option<Pointer>
+    /// The pairs of a table and the number of each word that points to it, ascending.
+    pub(crate) fn pointers_to(&self, table: u64) -> Range<'_, (u64, u64)>
+        ensures { (t i : ℕ) → PointsTo (words self.now t i) table
+            → IsTrue (has_number result (word_number t i)) }
+    {
+        self.pointers.to(table)
+    }
+
+    /// The pointer that the word with a number is, if it points to a table.
+    pub(crate) fn pointer(&self, table: u64, number: u64) -> Option<Pointer>
         ensures some { IfSome result (λ pointer.
             IsPointer (words self.now) (since self.now) table pointer) }
-        ensures small { IfSome result (λ pointer. pointer.number < FRAME_LIMIT * TABLE_LENGTH) }
-        ensures from { IfSome result (λ pointer. from ≤ pointer.number) }
-        ensures skipped { IfSome result (λ pointer. (t i : ℕ) → from ≤ word_number t i
-            → word_number t i < pointer.number → ¬ PointsTo (words self.now t i) table) }
-        ensures none { result ≡ None → (t i : ℕ) → from ≤ word_number t i
+        ensures number { IfSome result (λ pointer. pointer.number ≡ number) }
+        ensures none { result ≡ None → (t i : ℕ) → word_number t i ≡ number
             → ¬ PointsTo (words self.now t i) table }
     {
-        let Some(number) = self.pointers.next(table, from) else {
-            return None;
-        };
         let Some(stored) = find(&self.frames, number) else {
             return None;
         };
-        let Kind::Table { global, .. } = Pte(stored.word).kind() else {
+        let Kind::Table { ppn, global } = Pte(stored.word).kind() else {
             return None;
         };
+        if ppn != table {
+            return None;
+        }
         Some(Pointer {
             number,
             global,

@@ -34,10 +34,11 @@ impl PageTables {
             out.push(way)?;
             return Ok(());
         }
-        let mut from = 0;
-        while let Some(pointer) = self.next_pointer(way.root, from) {
+        for &(_, number) in self.pointers_to(way.root) {
+            let Some(pointer) = self.pointer(way.root, number) else {
+                continue;
+            };
             self.add_ways(scheme, height + 1, way.above(height, pointer), out)?;
-            from = pointer.number + 1;
         }
         Ok(())
     }
