@@ -19,6 +19,7 @@ use Rattle.watch_engine.specs.Left.{AnyLeft, IsLeftHeld, is_taken_since}
 use Rattle.watch_engine.specs.Seen.{AreAdded, AreSeen, EachSeen, IsSeen, PassesAny, is_kept, kept_for, last_of, live_for, with_kept, with_leaves, with_live}
 use Rattle.watch_tables.specs.Paths.{IsUnchangedSince}
 use Rattle.watch_tables.specs.Through.{HasRootLeaf, IsLeafThrough, Passes}
+use Rattle.watch_engine.proofs.Filling.{same_default}
 use Rattle.watch_engine.proofs.Leaving.{any_member}
 use Rattle.watch_engine.proofs.Lists.{at_most, from_at_most, is_itself}
 
@@ -225,11 +226,6 @@ module _ (scheme : Scheme) (words : Tables) (since : ℕ → ℕ → ℕ) (satps
   leaf-listed hart x n leaf lists (f ∷ leaves) (suc k) seen within at =
       leaf-listed hart x n leaf lists leaves k (with_kept scheme words satps drops f left (with_live now f 0 satps seen)) (omega arith) at
 
-  same-default : (leaves : List RootLeaf) (k : ℕ) (d e : RootLeaf) → k < length leaves → get_or leaves k d ≡ get_or leaves k e
-  same-default [] k d e within = absurd (omega arith)
-  same-default (f ∷ leaves) zero d e within = refl
-  same-default (f ∷ leaves) (suc k) d e within = same-default leaves k d e (omega arith)
-
   module _ (table index : ℕ) (leaves : List RootLeaf) (exact : (root : ℕ) (e : Entry) → HasRootLeaf leaves root e ↔ IsLeafThrough scheme words root table index e)
       (age : (leaf : RootLeaf) → Contains leaves leaf → (n : ℕ) → (leaf.since ≤ n) ↔ IsUnchangedSince scheme words since leaf.root leaf.entry n) where
     abbrev Goes : ℕ → Entry → Type 0
@@ -252,7 +248,7 @@ module _ (scheme : Scheme) (words : Tables) (since : ℕ → ℕ → ℕ) (satps
 
     pub leaves_added : (old : List LastLive) → AreAdded scheme words since satps left drops now Goes old (with_leaves scheme words now satps left drops leaves old)
     leaves_added old = record {
-      each = λ e. each-leaves leaves old (each_of IsLeafSeen leaves (λ k d within. contained (get_or leaves k d) (k, within, same-default leaves k (get_or leaves k d) d within))) e;
+      each = λ e. each-leaves leaves old (each_of IsLeafSeen leaves (λ k d within. contained (get_or leaves k d) (k, within, same_default leaves k (get_or leaves k d) d within))) e;
       still = λ hart x n h. still-leaves hart x n leaves old h;
       live = λ hart x norm l goes.
           listed-by hart x now l.of.root l.leaf goes

@@ -15,3 +15,4 @@ pub mod Standing
 pub mod Watching
 pub mod Keys
 pub mod Concerns
+pub mod Filling

@@ -1,13 +1,52 @@
 //! What a hart can fill now.
 
-ghost use Rattle.std.specs.Prelude.{◌≡◌};
+ghost use Rattle.std.specs.Prelude.{◌≡◌, get_or, set};
 ghost use Rattle.watch.specs.Computed.{has_leaf};
 ghost use Rattle.watch.specs.ComputedTraces.{belongs_to, is_live_in};
+ghost use Rattle.watch_engine.specs.declared.live.Answer.TheVariants.{Unasked};
+ghost use Rattle.watch_engine.specs.Filling.{answer_from};
 
 use crate::tables::Tables;
 use pte::Scheme;
 use tlb::Entry;
 use watch::Space;
+
+/// What a hart has answered to whether it can fill a leaf now.
+#[derive(Clone, Copy, PartialEq, Eq, Debug)]
+pub(crate) enum Answer {
+    Unasked,
+    Live,
+    NotLive,
+}
+
+impl Answer {
+    fn from_live(live: bool) -> Answer
+        ensures { result ≡ answer_from live }
+    {
+        if live { Answer::Live } else { Answer::NotLive }
+    }
+}
+
+/// What the hart has answered, if there is a place for it.
+pub(crate) fn answer_of(answers: &[Answer], hart: u8) -> Answer
+    ensures { result ≡ get_or answers.now hart Unasked }
+{
+    match answers.get(hart as usize) {
+        Some(answer) => *answer,
+        None => Answer::Unasked,
+    }
+}
+
+/// With what the hart answers, if there is a place for it.
+pub(crate) fn keep_answer(answers: &mut [Answer], hart: u8, live: bool)
+    ensures { answers.new ≡ set answers.old hart (answer_from live) }
+{
+    let place = hart as usize;
+    if place >= answers.len() {
+        return;
+    }
+    answers[place] = Answer::from_live(live);
+}
 
 fn belongs_to(space: &Space, root: u64, entry: &Entry) -> bool
     ensures { result ≡ belongs_to space.now (record { root = root; entry = entry.now }) }

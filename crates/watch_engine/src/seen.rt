@@ -1,17 +1,21 @@
 //! What is remembered of leaves before a word on their paths changes.
 
-ghost use Rattle.std.specs.Prelude.{ℕ, ◌≡◌, ◌≤◌, ◌++◌, [], IfOk, OnOk, List, length};
+ghost use Rattle.std.specs.Prelude.{ℕ, ◌≡◌, ◌≤◌, ◌<◌, ◌++◌, [], IfOk, None, OnOk, List, drop, get_or, length, true};
 ghost use Rattle.walk.specs.Maps.{page_number};
 ghost use Rattle.watch.specs.Trace.{index_of};
 ghost use Rattle.tlb.specs.declared.store.Entry.{Entry as EntryOf};
+ghost use Rattle.watch.specs.ComputedTraces.{is_live_in};
+ghost use Rattle.watch_engine.specs.Filling.{AreAnswers, are_alike};
+ghost use Rattle.watch_engine.specs.Held.{last_translation};
 ghost use Rattle.watch_engine.specs.Seen.{AreAdded, AreSeen, PassesAny, is_kept, kept_for, last_of, live_for, with_kept, with_leaves, with_live};
+ghost use Rattle.watch_tables.specs.declared.leaf.RootLeaf.{RootLeaf as RootLeafOf};
 ghost use Rattle.watch_tables.specs.Through.{Passes};
 ghost use Rattle.watch_tables.specs.Ways.{AreWays};
 
-use crate::held::LastLive;
+use crate::held::{LastLive, is_same_entry};
 use crate::left::Left;
 use crate::left_spaces::LeftSpaces;
-use crate::live::is_live_in;
+use crate::live::{Answer, answer_of, is_live_in, keep_answer};
 use crate::past_fences::PastFences;
 use crate::satps::satp_in;
 use crate::tables::Tables;
@@ -19,6 +23,9 @@ use pte::Scheme;
 use std::alloc::{AllocError, Global};
 use watch::Space;
 use watch_tables::{RootLeaf, Way};
+
+/// How many harts there can be.
+const HARTS: usize = 256;
 
 // Adds the leaf, if the hart can fill it now.
 fn add_live(
@@ -62,8 +69,35 @@ fn last_of(leaf: &RootLeaf, left: &Left) -> LastLive
     LastLive::of_leaf(left.hart, left.space, &leaf.entry, left.left)
 }
 
+// Whether the hart can fill the leaf now. It is asked once, if there is a place for its answer.
+fn is_live_once<T: Tables>(
+    answers: &mut [Answer],
+    tables: &T,
+    scheme: Scheme,
+    satps: &[Option<Space>],
+    leaf: &RootLeaf,
+    left: &Left,
+) -> bool
+    requires { AreAnswers scheme (T.words tables.now) satps.now leaf.now.entry answers.old }
+    ensures is { result ≡ is_live_in scheme (T.words tables.now) (get_or satps.now left.now.hart None)
+        (last_translation (last_of leaf.now left.now)) }
+    ensures answers { AreAnswers scheme (T.words tables.now) satps.now leaf.now.entry answers.new }
+{
+    match answer_of(answers, left.hart) {
+        Answer::Live => return true,
+        Answer::NotLive => return false,
+        Answer::Unasked => {}
+    }
+    let last = last_of(leaf, left);
+    let space = satp_in(satps, left.hart);
+    let live = is_live_in(tables, scheme, space, last.root, &last.entry);
+    keep_answer(answers, left.hart, live);
+    live
+}
+
 // The hart may hold the leaf since it left the space, and cannot fill it now.
 fn is_kept<T: Tables>(
+    answers: &mut [Answer],
     tables: &T,
     scheme: Scheme,
     satps: &[Option<Space>],
@@ -71,20 +105,24 @@ fn is_kept<T: Tables>(
     leaf: &RootLeaf,
     left: &Left,
 ) -> bool
-    ensures { result ≡ is_kept scheme (T.words tables.now) satps.now drops.now.fences.items leaf.now left.now }
+    requires { AreAnswers scheme (T.words tables.now) satps.now leaf.now.entry answers.old }
+    ensures is { result ≡ is_kept scheme (T.words tables.now) satps.now drops.now.fences.items leaf.now left.now }
+    ensures answers { AreAnswers scheme (T.words tables.now) satps.now leaf.now.entry answers.new }
 {
     if left.space.root != leaf.root || leaf.since > left.left {
         return false;
     }
+    if is_live_once(answers, tables, scheme, satps, leaf, left) {
+        return false;
+    }
     let last = last_of(leaf, left);
-    let space = satp_in(satps, left.hart);
-    !is_live_in(tables, scheme, space, last.root, &last.entry)
-        && !drops.is_taken_since(scheme, left, &last.entry)
+    !drops.is_taken_since(scheme, left, &last.entry)
 }
 
 // Adds the leaf, if the hart may hold it since it left the space.
 fn add_kept<T: Tables>(
     seen: &mut Vec<LastLive>,
+    answers: &mut [Answer],
     tables: &T,
     scheme: Scheme,
     satps: &[Option<Space>],
@@ -92,10 +130,12 @@ fn add_kept<T: Tables>(
     leaf: &RootLeaf,
     left: &Left,
 ) -> Result<(), AllocError>
-    ensures { OnOk result (seen.new.items ≡ seen.old.items
+    requires { AreAnswers scheme (T.words tables.now) satps.now leaf.now.entry answers.old }
+    ensures seen { OnOk result (seen.new.items ≡ seen.old.items
         ++ kept_for scheme (T.words tables.now) satps.now drops.now.fences.items leaf.now left.now) }
+    ensures answers { AreAnswers scheme (T.words tables.now) satps.now leaf.now.entry answers.new }
 {
-    if is_kept(tables, scheme, satps, drops, leaf, left) {
+    if is_kept(answers, tables, scheme, satps, drops, leaf, left) {
         seen.push(last_of(leaf, left))?;
     }
     Ok(())
@@ -104,6 +144,7 @@ fn add_kept<T: Tables>(
 // Adds the leaf for each hart that may hold it since it left a space.
 fn add_kept_for_each<T: Tables>(
     seen: &mut Vec<LastLive>,
+    answers: &mut [Answer],
     tables: &T,
     scheme: Scheme,
     satps: &[Option<Space>],
@@ -111,13 +152,89 @@ fn add_kept_for_each<T: Tables>(
     leaf: &RootLeaf,
     left: &LeftSpaces,
 ) -> Result<(), AllocError>
-    ensures { OnOk result (seen.new.items ≡ with_kept scheme (T.words tables.now) satps.now
+    requires { AreAnswers scheme (T.words tables.now) satps.now leaf.now.entry answers.old }
+    ensures seen { OnOk result (seen.new.items ≡ with_kept scheme (T.words tables.now) satps.now
         drops.now.fences.items leaf.now left.now seen.old.items) }
+    ensures answers { AreAnswers scheme (T.words tables.now) satps.now leaf.now.entry answers.new }
 {
     for space in left.of_root(leaf.root) {
-        add_kept(seen, tables, scheme, satps, drops, leaf, space)?;
+        add_kept(seen, answers, tables, scheme, satps, drops, leaf, space)?;
     }
     Ok(())
+}
+
+// Adds the leaf for each hart that it is live for, or that may hold it since it left a space.
+fn add_leaf<T: Tables>(
+    seen: &mut Vec<LastLive>,
+    answers: &mut [Answer],
+    tables: &T,
+    scheme: Scheme,
+    satps: &[Option<Space>],
+    left: &LeftSpaces,
+    drops: &PastFences,
+    leaf: &RootLeaf,
+    count: u64,
+) -> Result<(), AllocError>
+    requires harts { length satps.now ≤ 256 }
+    requires answers { AreAnswers scheme (T.words tables.now) satps.now leaf.now.entry answers.old }
+    ensures seen { OnOk result (seen.new.items ≡ with_kept scheme (T.words tables.now) satps.now
+        drops.now.fences.items leaf.now left.now (with_live count leaf.now 0 satps.now seen.old.items)) }
+    ensures answers { AreAnswers scheme (T.words tables.now) satps.now leaf.now.entry answers.new }
+{
+    add_live_for_each(seen, leaf, satps, count)?;
+    add_kept_for_each(seen, answers, tables, scheme, satps, drops, leaf, left)
+}
+
+// Global leaves with the same entry.
+fn are_alike(leaf: &RootLeaf, other: &RootLeaf) -> bool
+    ensures { result ≡ are_alike leaf.now other.now }
+{
+    leaf.entry.global && is_same_entry(&leaf.entry, &other.entry)
+}
+
+// Adds global leaves with the same entry, such as those of a page of the kernel in the tables of each
+// process, and answers where the next is another.
+fn add_alike<T: Tables>(
+    seen: &mut Vec<LastLive>,
+    tables: &T,
+    scheme: Scheme,
+    satps: &[Option<Space>],
+    left: &LeftSpaces,
+    drops: &PastFences,
+    leaves: &[RootLeaf],
+    start: usize,
+    count: u64,
+) -> Result<usize, AllocError>
+    requires harts { length satps.now ≤ 256 }
+    requires start { start < length leaves.now }
+    requires global { (d : RootLeafOf) → (get_or leaves.now start d).entry.global ≡ true }
+    ensures end { IfOk result (λ end. start < end) }
+    ensures seen { IfOk result (λ end. with_leaves scheme (T.words tables.now) count satps.now
+        left.now drops.now.fences.items (drop end leaves.now) seen.new.items
+        ≡ with_leaves scheme (T.words tables.now) count satps.now
+        left.now drops.now.fences.items (drop start leaves.now) seen.old.items) }
+{
+    let first = leaves[start];
+    let mut answers = [Answer::Unasked; HARTS];
+    let mut at = start;
+    loop {
+        let leaf = &leaves[at];
+        add_leaf(
+            seen,
+            &mut answers,
+            tables,
+            scheme,
+            satps,
+            left,
+            drops,
+            leaf,
+            count,
+        )?;
+        at += 1;
+        if at >= leaves.len() || !are_alike(&first, &leaves[at]) {
+            return Ok(at);
+        }
+    }
 }
 
 // Adds the leaves for each hart that they are live for, or that may hold them since it left a space.
@@ -135,9 +252,25 @@ fn add_leaves<T: Tables>(
     ensures { OnOk result (seen.new.items ≡ with_leaves scheme (T.words tables.now) count satps.now
         left.now drops.now.fences.items leaves.now seen.old.items) }
 {
-    for leaf in leaves {
-        add_live_for_each(seen, leaf, satps, count)?;
-        add_kept_for_each(seen, tables, scheme, satps, drops, leaf, left)?;
+    let mut at = 0;
+    while at < leaves.len() {
+        let leaf = &leaves[at];
+        if at + 1 < leaves.len() && are_alike(leaf, &leaves[at + 1]) {
+            at = add_alike(seen, tables, scheme, satps, left, drops, leaves, at, count)?;
+        } else {
+            add_leaf(
+                seen,
+                &mut [],
+                tables,
+                scheme,
+                satps,
+                left,
+                drops,
+                leaf,
+                count,
+            )?;
+            at += 1;
+        }
     }
     Ok(())
 }
