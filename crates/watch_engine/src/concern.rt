@@ -40,8 +40,8 @@ pub(crate) enum Concern {
     },
     /// What a cause is of.
     Given(Cause),
-    /// What lies below the word at an address that is stored to, on a way from what is a root now or
-    /// not.
+    /// What lies below the word at an address that is stored to, on a way. `is_root`: the way begins at
+    /// the root of an address space.
     Store {
         scheme: Scheme,
         address: u64,
@@ -122,7 +122,8 @@ fn keys_of_cause(cause: &Cause) -> Option<Keys>
     }
 }
 
-// The keys of what lies below a word on a way. What is below the root of many is not looked for.
+// The keys of what lies below a word on a way. On a way of a higher level from what is a root now, what
+// is global counts whatever its root, so the whole list is gone along.
 fn keys_of_store(address: u64, way: &Way, is_root: bool) -> Option<Keys>
     ensures all { (keys : KeysOf) → result ≡ Some keys → (scheme : SchemeOf) (i : HeldOf)
         → concerns (Concern.Store scheme address way.now is_root) i ≡ true
@@ -142,7 +143,7 @@ fn keys_of_store(address: u64, way: &Way, is_root: bool) -> Option<Keys>
         by: By::Root,
         first: way.root % FRAME_LIMIT,
         count: 1,
-        limit: FRAME_LIMIT,
+        limit: FRAME_LIMIT + 1,
     })
 }
 

@@ -1,6 +1,6 @@
 //! Fences that have been executed, each found by a key of what it can drop.
 
-ghost use Rattle.std.specs.Prelude.{◌≡◌, ◌≤◌, ◌^◌, ◌++◌, ◌∷◌, [], None, OnErr, OnOk, map};
+ghost use Rattle.std.specs.Prelude.{◌≡◌, ◌≤◌, ◌^◌, ◌++◌, ◌∷◌, [], None, OnErr, OnOk, map, true};
 ghost use Rattle.watch_engine.specs.Left.{is_taken_since};
 ghost use Rattle.watch_engine.specs.PastFences.{asid_key, is_in_page, is_taken_by, is_taken_by_asid, key_of, page_key, range_key, wide_key};
 
@@ -15,7 +15,7 @@ use watch::AddressRange;
 /// How many pages of 4 KiB canonical addresses have.
 const PAGES: u64 = 1 << 36;
 
-/// How many keys a page has, more than ASIDs: one for each, and one for fences for all of them.
+/// How many numbers keys leave to the ASID of a page: there is one for each ASID, and one for all.
 const KEYS: u64 = 2 * ASIDS;
 
 // An ASID as a part of a key, or what stands for all of them.
@@ -64,8 +64,8 @@ fn range_key(range: &Option<AddressRange>, asid: Option<u64>) -> u64
 }
 
 impl PastFence {
-    // The key that it is found by. Of a page of 4 KiB it drops only entries that have it among their four:
-    // of the page or of many, each with the ASID of the entry or with none.
+    // The key that it is found by. An entry of 4 KiB that it drops has this key among four: of its page or
+    // of many pages, with its ASID or with none.
     fn key(&self) -> u64
         ensures { result ≡ key_of self.now }
     {
@@ -86,7 +86,9 @@ impl PastFence {
 pub(crate) struct PastFences {
     pub(crate) fences: Vec<PastFence>,
     keys: Chains,
-    ghost keyed: { keys.keys.items ≡ map key_of fences.items },
+    /// Each has its key. Once there was no memory for one, all are asked.
+    is_keyed: bool,
+    ghost keyed: { is_keyed ≡ true → keys.keys.items ≡ map key_of fences.items },
 }
 
 impl PastFences {
@@ -96,6 +98,7 @@ impl PastFences {
         PastFences {
             fences: Vec::new(alloc),
             keys: Chains::new(alloc),
+            is_keyed: true,
         }
     }
 
@@ -105,15 +108,15 @@ impl PastFences {
         ensures err { OnErr result (self.new.fences.items ≡ self.old.fences.items) }
     {
         self.fences.push(fence)?;
-        if self.keys.push(fence.key()).is_err() {
-            let _ = self.fences.pop();
-            return Err(AllocError);
+        if self.is_keyed && self.keys.push(fence.key()).is_err() {
+            self.is_keyed = false;
         }
         Ok(())
     }
 
     // Whether a fence with the key since the hart left the space has dropped the entry.
     fn is_taken_by(&self, key: u64, scheme: Scheme, left: &Left, entry: &Entry) -> bool
+        requires { self.now.is_keyed ≡ true }
         ensures { result ≡ is_taken_by key scheme self.now.fences.items left.now entry.now }
     {
         let since = left.fences as usize;
@@ -130,6 +133,7 @@ impl PastFences {
 
     // The same of fences with the ASID of the entry, which drop nothing that is global.
     fn is_taken_by_asid(&self, scheme: Scheme, left: &Left, entry: &Entry) -> bool
+        requires { self.now.is_keyed ≡ true }
         ensures { result ≡ is_taken_by_asid scheme self.now.fences.items left.now entry.now }
     {
         if entry.global {
@@ -145,6 +149,9 @@ impl PastFences {
     pub(crate) fn is_taken_since(&self, scheme: Scheme, left: &Left, entry: &Entry) -> bool
         ensures { result ≡ is_taken_since scheme self.now.fences.items left.now entry.now }
     {
+        if !self.is_keyed {
+            return is_taken_since(scheme, self.fences.as_slice(), left, entry);
+        }
         let PageSize::Kib4 = entry.page.size() else {
             return is_taken_since(scheme, self.fences.as_slice(), left, entry);
         };

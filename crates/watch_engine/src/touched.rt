@@ -21,6 +21,9 @@ use pte::{PAGE_BYTES, Page, Scheme};
 use watch::Space;
 use watch_tables::Way;
 
+/// On how many ways items are looked for one way after the other. With more, all are gone along.
+const MOST_WAYS: usize = 64;
+
 /// How many bytes a word of a table has.
 pub(crate) const WORD_BYTES: u64 = 8;
 
@@ -215,8 +218,14 @@ fn first_touched(
     ensures within { result ≤ length held.now.list.items }
 {
     let mut first = held.as_slice().len();
+    if first == 0 || ways.len() > MOST_WAYS {
+        return 0;
+    }
     for way in ways {
         let place = first_touched_on(held, scheme, roots, address, way);
+        if place == 0 {
+            return 0;
+        }
         if place < first {
             first = place;
         }

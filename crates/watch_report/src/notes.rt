@@ -5,7 +5,7 @@ ghost use Rattle.watch_report.specs.TraceText.{Noted, note_at};
 
 use std::alloc::{AllocError, Global};
 
-/// With how many of the last texts a new note is compared.
+/// Among how many of the last texts a new note is looked for.
 const RECENT: usize = 64;
 
 /// The notes of the records that were read. A text that comes again soon is kept once.
@@ -86,6 +86,7 @@ impl Notes {
         }
         let mut text = Vec::new(self.alloc);
         text.extend_from_slice(note)?;
+        self.tags.reserve(1)?;
         self.texts.push(text)?;
         self.tags.push(tag)?;
         Ok(self.texts.len())
