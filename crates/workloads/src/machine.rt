@@ -5,23 +5,30 @@ use crate::digest::Digest;
 use crate::random::Random;
 use arrayvec::ArrayVec;
 use history::{Event, Reply};
-use pte::{Access, Ctx, Mode, Page, PageSize, PteFlags, Scheme, VirtAddr};
-use spaces::{Config, MAX_HARTS, Memory, OpenFault, Place, Space, apply, next_map_edit};
+use pte::{Access, Ctx, Mode, Page, PageSize, PteFlags, Scheme, VirtAddr, What};
+use shoot::Request;
+use spaces::{
+    Config, MAX_HARTS, Memory, OpenFault, Place, Space, Wish, apply, next_edit, next_map_edit,
+};
 use std::alloc::{AllocError, Global};
 use stepcore::Machine;
 use tlb::{Entry, Tlb};
-use walk::translate_in;
+use walk::{Trap, Why, translate_in};
 
 const HARTS: u8 = MAX_HARTS as u8;
 
 /// How many pages of a space come and go.
 const PAGES: u64 = 24;
 
-/// How many events are made at once.
-const BATCH: u64 = 4096;
+/// How many times events are added to a batch: four to forty each time, about eight on the mean.
+const ADDED: u64 = 1024;
 
-/// How many addresses are translated in each batch, and how many calls of a TLB are made.
+/// How many addresses are translated in each batch, and how many calls of a TLB are made: no more than
+/// a page has bytes, so that each is of another byte.
 const CALLS: u64 = 4096;
+
+/// How many pages of the memory of the translations get another frame before each batch.
+const MOVED: u64 = 8;
 
 /// How many pages the memory of the translations has: in each of 16 tables 512.
 const MAPPED: u64 = 16 * 512;
@@ -139,6 +146,33 @@ fn add(events: &mut Vec<Event>, random: &mut Random) -> Result<(), AllocError> {
     }
 }
 
+/// A number for what an exception says.
+fn number_of_trap(trap: &Trap) -> u64 {
+    let why = match trap.why {
+        Why::NotCanonical => 0,
+        Why::Outside => 1,
+        Why::Invalid => 2,
+        Why::Reserved => 3,
+        Why::TooDeep => 4,
+        Why::Denied => 5,
+        Why::Misaligned => 6,
+        Why::NotAccessed => 7,
+        Why::NotDirty => 8,
+    };
+    u64::from(trap.cause) << 4 | why
+}
+
+/// A number for what a request says.
+fn number_of_request(request: &Request) -> u64 {
+    let what = match request.what {
+        What::PageOf(page, None) => page.base().get() << 2,
+        What::PageOf(page, Some(asid)) => page.base().get() << 2 | u64::from(asid) << 40 | 1,
+        What::SpaceOf(asid) => u64::from(asid) << 40 | 2,
+        What::All => 3,
+    };
+    u64::from(request.ticket) << 16 ^ what
+}
+
 /// Takes replies.
 fn take(replies: &[Reply], digest: &mut Digest) {
     for reply in replies {
@@ -146,14 +180,14 @@ fn take(replies: &[Reply], digest: &mut Digest) {
             Reply::Hit(pa) => (1, *pa),
             Reply::Filled(pa) => (2, *pa),
             Reply::More => (3, 0),
-            Reply::Trap(_) => (4, 0),
+            Reply::Trap(trap) => (4, number_of_trap(trap)),
             Reply::Table(ppn) => (5, *ppn),
             Reply::Leaf => (6, 0),
             Reply::Opened(ticket) => (7, u64::from(*ticket)),
             Reply::Ok => (8, 0),
-            Reply::Taken(_) => (9, 0),
+            Reply::Taken(request) => (9, number_of_request(request)),
             Reply::Done => (10, 0),
-            Reply::Waiting(_) => (11, 0),
+            Reply::Waiting(harts) => (11, u64::from(*harts)),
             Reply::Refused(refusal) => (12, u64::from(refusal.code())),
         };
         digest.take_number(value << 4 | kind);
@@ -167,6 +201,21 @@ fn store_next(memory: &mut Memory, va: u64, frame: u64) {
         if let Ok(edit) = next_map_edit(memory, 0, place, page(va), frame, flags()) {
             apply(memory, edit);
         }
+    }
+}
+
+/// Gives a page of the first space another frame.
+fn move_page(memory: &mut Memory, va: u64, frame: u64) {
+    let place = Place::Space(0);
+    if memory.has(place) {
+        let wish = Wish::Unmap {
+            place,
+            page: page(va),
+        };
+        if let Ok(edit) = next_edit(memory, 0, &wish) {
+            apply(memory, edit);
+        }
+        store_next(memory, va, frame);
     }
 }
 
@@ -191,11 +240,11 @@ fn translate(memory: &Memory, random: &mut Random, digest: &mut Digest) {
         return;
     }
     let root = memory.root(0);
-    for _ in 0..CALLS {
-        let va = random.below(MAPPED + MAPPED / 8) << 12 | random.below(512) << 3;
+    for offset in 0..CALLS {
+        let va = random.below(MAPPED + MAPPED / 8) << 12 | offset;
         let value = match translate_in(Scheme::Sv39, memory, root, va, Access::Load, CTX) {
             Ok(found) => found.pa,
-            Err(_) => 1,
+            Err(trap) => number_of_trap(&trap),
         };
         digest.take_number(value);
     }
@@ -203,10 +252,10 @@ fn translate(memory: &Memory, random: &mut Random, digest: &mut Digest) {
 
 /// Looks up addresses in a TLB, fills what is not there, and drops a page now and then.
 fn call(tlb: &mut Tlb, random: &mut Random, digest: &mut Digest) {
-    for _ in 0..CALLS {
+    for offset in 0..CALLS {
         let number = random.below(20);
         let asid = random.below(2) as u16;
-        let va = VirtAddr::new(number << 12).unwrap_or_default();
+        let va = VirtAddr::new(number << 12 | offset).unwrap_or_default();
         if random.is_below(2) {
             tlb.fence(Some(number << 12), Some(u64::from(asid)));
         }
@@ -231,18 +280,22 @@ pub fn run(alloc: Global, seed: u64, count: u64, digest: &mut Digest) -> Result<
         Err(OpenFault::NoMemory) => return Err(Failure::NoMemory),
         Err(OpenFault::BadLayout) => return Err(Failure::Refused),
     };
-    let memory = memory(alloc, &mut random)?;
+    let mut memory = memory(alloc, &mut random)?;
     let mut tlb = Tlb::new();
     let mut events = Vec::new(alloc);
     let mut replies = Vec::new(alloc);
     for _ in 0..count {
         events.clear();
         replies.clear();
-        for _ in 0..BATCH / 4 {
+        for _ in 0..ADDED {
             add(&mut events, &mut random)?;
         }
         machine.run(&events, &mut replies)?;
         take(&replies, digest);
+        for _ in 0..MOVED {
+            let number = random.below(MAPPED);
+            move_page(&mut memory, number << 12, random.below(1 << 24));
+        }
         translate(&memory, &mut random, digest);
         call(&mut tlb, &mut random, digest);
     }

@@ -231,5 +231,8 @@ pub fn watch(alloc: Global, trace: &[u8], digest: &mut Digest) -> Result<(), Fai
         return Err(Failure::Refused);
     }
     digest.take_number(u64::from(status));
+    if err.bytes > 0 {
+        digest.take_number(err.hash);
+    }
     Ok(())
 }
