@@ -41,6 +41,8 @@ pub struct Shape {
     pub pages: usize,
     /// It gives frames of its own pages back before it fences, and writes notes.
     pub lazy: bool,
+    /// The most records of a trace, or a few more.
+    pub records: u64,
 }
 
 /// A kernel, and what it has recorded.

@@ -5,8 +5,8 @@
 //!
 //! | name | the job |
 //! |---|---|
-//! | processes | `watch` on the trace of a kernel with many processes |
-//! | harts | `watch` on the trace of a kernel with 64 harts |
+//! | processes | `watch` on traces of kernels with many processes |
+//! | harts | `watch` on traces of kernels with 64 harts |
 //! | lazy | `watch` on the trace of a kernel that fences late, with notes |
 //! | files | `run`, `stale`, `show`, `check`, `draw` and `walk` on scenario files of many sizes |
 //! | machine | events on a machine, translations, and calls of a TLB |
@@ -27,7 +27,6 @@ mod traces;
 
 use digest::Digest;
 use kernel::Shape;
-use random::Random;
 use std::alloc::{AllocError, Global};
 use std::process::ExitCode;
 use std::{env, io};
@@ -59,7 +58,7 @@ impl From<io::Error> for Failure {
 /// A job.
 #[derive(Clone, Copy, Debug, PartialEq, Eq)]
 enum Job {
-    /// A trace of a kernel of a shape.
+    /// Traces of kernels of a shape.
     Watch(Shape),
     Files,
     Machine,
@@ -78,6 +77,7 @@ const PROCESSES: Shape = Shape {
     processes: 256,
     pages: 64,
     lazy: false,
+    records: 120_000,
 };
 
 const HARTS: Shape = Shape {
@@ -85,6 +85,7 @@ const HARTS: Shape = Shape {
     processes: 16,
     pages: 64,
     lazy: false,
+    records: 100_000,
 };
 
 const LAZY: Shape = Shape {
@@ -92,13 +93,14 @@ const LAZY: Shape = Shape {
     processes: 24,
     pages: 64,
     lazy: true,
+    records: 400_000,
 };
 
 /// The job of a name, and how many parts it has: records, files, batches.
 fn job_of(name: &str) -> Option<(Job, u64)> {
     match name {
-        "processes" => Some((Job::Watch(PROCESSES), 120_000)),
-        "harts" => Some((Job::Watch(HARTS), 100_000)),
+        "processes" => Some((Job::Watch(PROCESSES), 480_000)),
+        "harts" => Some((Job::Watch(HARTS), 500_000)),
         "lazy" => Some((Job::Watch(LAZY), 400_000)),
         "files" => Some((Job::Files, 800)),
         "machine" => Some((Job::Machine, 4_000)),
@@ -131,10 +133,7 @@ fn run(rt: &HostRuntime) -> Result<(), Failure> {
     let alloc = rt.alloc();
     let mut digest = Digest::new();
     match job {
-        Job::Watch(shape) => {
-            let trace = traces::trace(alloc, shape, Random::new(seed), parts)?;
-            traces::watch(alloc, &trace, &mut digest)?;
-        }
+        Job::Watch(shape) => traces::run(alloc, shape, seed, parts, &mut digest)?,
         Job::Files => scenarios::run(alloc, seed, parts, &mut digest)?,
         Job::Machine => machine::run(alloc, seed, parts, &mut digest)?,
     }

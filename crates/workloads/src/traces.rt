@@ -202,12 +202,7 @@ fn begun(alloc: Global, shape: Shape, random: Random) -> Result<Kernel, AllocErr
 }
 
 /// The trace of a kernel of a shape, of so many records or a few more.
-pub fn trace(
-    alloc: Global,
-    shape: Shape,
-    random: Random,
-    records: u64,
-) -> Result<Vec<u8>, AllocError> {
+fn trace(alloc: Global, shape: Shape, random: Random, records: u64) -> Result<Vec<u8>, AllocError> {
     let mut kernel = begun(alloc, shape, random)?;
     let mut settled: u64 = 0;
     for _ in 0..records.saturating_mul(16) {
@@ -224,7 +219,7 @@ pub fn trace(
 }
 
 /// `watch` on a trace.
-pub fn watch(alloc: Global, trace: &[u8], digest: &mut Digest) -> Result<(), Failure> {
+fn watch(alloc: Global, trace: &[u8], digest: &mut Digest) -> Result<(), Failure> {
     let mut err = Digest::new();
     let status = watch_command(alloc, "trace", trace, digest, &mut err);
     if status > 1 {
@@ -233,6 +228,25 @@ pub fn watch(alloc: Global, trace: &[u8], digest: &mut Digest) -> Result<(), Fai
     digest.take_number(u64::from(status));
     if err.bytes > 0 {
         digest.take_number(err.hash);
+    }
+    Ok(())
+}
+
+/// `watch` on the traces of kernels of a shape, one after another, that have so many records in all or a
+/// few more.
+pub fn run(
+    alloc: Global,
+    shape: Shape,
+    seed: u64,
+    records: u64,
+    digest: &mut Digest,
+) -> Result<(), Failure> {
+    let most = shape.records.max(1);
+    for number in 0..records.div_ceil(most) {
+        let rest = records.saturating_sub(number.saturating_mul(most));
+        let random = Random::new(number << 32 | seed);
+        let text = trace(alloc, shape, random, rest.min(most))?;
+        watch(alloc, &text, digest)?;
     }
     Ok(())
 }
