@@ -8,6 +8,7 @@
 //! | processes | `watch` on traces of kernels with many processes |
 //! | harts | `watch` on traces of kernels with 64 harts |
 //! | lazy | `watch` on the trace of a kernel that fences late, with notes |
+//! | ranges | `watch` on the trace of a kernel that unmaps runs of pages, and superpages, in Sv48 |
 //! | files | `run`, `stale`, `show`, `check`, `draw` and `walk` on scenario files of many sizes |
 //! | machine | events on a machine, translations, and calls of a TLB |
 //!
@@ -21,6 +22,7 @@ mod kernel;
 mod machine;
 mod process;
 mod random;
+mod ranges;
 mod scenarios;
 mod texts;
 mod traces;
@@ -60,6 +62,8 @@ impl From<io::Error> for Failure {
 enum Job {
     /// Traces of kernels of a shape.
     Watch(Shape),
+    /// A trace of a kernel of a shape, which maps and unmaps runs of pages.
+    Ranges(Shape),
     Files,
     Machine,
 }
@@ -96,12 +100,21 @@ const LAZY: Shape = Shape {
     records: 400_000,
 };
 
+const RANGES: Shape = Shape {
+    harts: 8,
+    processes: 24,
+    pages: 1024,
+    lazy: false,
+    records: 250_000,
+};
+
 /// The job of a name, and how many parts it has: records, files, batches.
 fn job_of(name: &str) -> Option<(Job, u64)> {
     match name {
         "processes" => Some((Job::Watch(PROCESSES), 480_000)),
         "harts" => Some((Job::Watch(HARTS), 500_000)),
         "lazy" => Some((Job::Watch(LAZY), 400_000)),
+        "ranges" => Some((Job::Ranges(RANGES), 250_000)),
         "files" => Some((Job::Files, 800)),
         "machine" => Some((Job::Machine, 4_000)),
         _ => None,
@@ -134,6 +147,7 @@ fn run(rt: &HostRuntime) -> Result<(), Failure> {
     let mut digest = Digest::new();
     match job {
         Job::Watch(shape) => traces::run(alloc, shape, seed, parts, &mut digest)?,
+        Job::Ranges(shape) => ranges::run(alloc, shape, seed, parts, &mut digest)?,
         Job::Files => scenarios::run(alloc, seed, parts, &mut digest)?,
         Job::Machine => machine::run(alloc, seed, parts, &mut digest)?,
     }
@@ -147,7 +161,7 @@ fn main(rt: HostRuntime) -> ExitCode {
     };
     let _ = match failure {
         Failure::Usage => {
-            eprintln!(rt; "usage: workloads processes|harts|lazy|files|machine SEED [PARTS]")
+            eprintln!(rt; "usage: workloads processes|harts|lazy|ranges|files|machine SEED [PARTS]")
         }
         Failure::NoMemory => eprintln!(rt; "workloads: no memory"),
         Failure::Refused => eprintln!(rt; "workloads: the input is refused"),

@@ -219,7 +219,7 @@ fn trace(alloc: Global, shape: Shape, random: Random, records: u64) -> Result<Ve
 }
 
 /// `watch` on a trace.
-fn watch(alloc: Global, trace: &[u8], digest: &mut Digest) -> Result<(), Failure> {
+pub fn watch(alloc: Global, trace: &[u8], digest: &mut Digest) -> Result<(), Failure> {
     let mut err = Digest::new();
     let status = watch_command(alloc, "trace", trace, digest, &mut err);
     if status > 1 {
