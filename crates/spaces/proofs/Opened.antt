@@ -1,19 +1,21 @@
 -- The words at the opening, and what a memory just opened keeps.
-use Rattle.std.proofs.Common.{Option, ◌≡◌, ℕ, zero, suc, ◌+◌, ◌*◌, ◌/◌, ◌%◌, ◌<◌, ◌≤◌, Bool, true, false, cond, Some, None, List, [], ◌∷◌, length, length-append, replicate, map, ◌∙◌, ap, refl, inl, inr, arith}
-use Rattle.std.specs.Prelude.{nat_le, nat_lt, slice_get}
+use Rattle.std.proofs.Common.{Option, ◌≡◌, ℕ, zero, suc, ◌+◌, ◌*◌, ◌/◌, ◌%◌, ◌<◌, ◌≤◌, Bool, true, false, cond, Some, None, List, [], ◌∷◌, length, length-append, replicate, map, sym, ◌∙◌, ap, refl, inl, inr, arith}
+use Rattle.std.specs.Prelude.{◌&&◌, nat_le, nat_lt, slice_get}
 use borrow.Author.Tests.{ltb-true, leb-true}
 use Rattle.std.proofs.lemmas.Bool.{and_parts, cases_lt}
-use Rattle.std.proofs.lemmas.List.{length-map}
+use Rattle.std.proofs.lemmas.Bool.Decides.{nat_tests}
+use Rattle.std.proofs.lemmas.List.{ext_get_or, length-map}
 use Rattle.std.proofs.lemmas.List.Elements.{All-map}
+use Rattle.std.proofs.lemmas.Option.{get_or_from_slice_get}
 use Rattle.pte.specs.declared.address.TheConstants.{TABLE_LENGTH}
 use Rattle.spaces.specs.declared.configuration.Config.{Config}
 use Rattle.spaces.specs.declared.configuration.Space.{Space}
 use Rattle.spaces.specs.declared.places.Place.{Place}
 use Rattle.spaces.proofs.Lists.{slice_get-front, slice_get-last}
-use Rattle.spaces.specs.Layout.{Layout, layout_of, frame_count, is_frame}
+use Rattle.spaces.specs.Layout.{Layout, layout_of, frame_count, is_frame, is_root}
 use Rattle.spaces.specs.Limits.{MeetsLimits}
 use Rattle.spaces.specs.declared.configuration.TheConstants.{MAX_FRAMES}
-use Rattle.spaces.specs.Opening.{first_word, first_words, is_word, opening}
+use Rattle.spaces.specs.Opening.{first_word, first_words, is_word, opening, root_word}
 use Rattle.spaces.specs.Held.{Held, IsLayout, word_index, memory_words}
 
 pub length-first_words : (l : Layout) (n : ℕ) → length (first_words l n) ≡ n
@@ -33,6 +35,20 @@ slice_get-first_words l (suc n) k h =
           let last : n ≡ k = omega arith in
           slice_get-last (first_words l n) _ k (omega arith) ∙ ap (λ m. Some (first_word l (l.base + m / TABLE_LENGTH) (m % TABLE_LENGTH))) last
     ]
+
+-- a list is that of these words if each of its words is: of a root as told, of any other frame 0
+pub first_words-is : (l : Layout) (words : List ℕ) (from to : ℕ) → from ≡ l.window → to ≡ l.window + length l.homes → length words ≡ frame_count l * TABLE_LENGTH
+    → ((n : ℕ) → n < frame_count l * TABLE_LENGTH → slice_get words n ≡ Some (cond (nat_le from (n / TABLE_LENGTH) && nat_lt (n / TABLE_LENGTH) to) (root_word l (n % TABLE_LENGTH)) 0))
+    → words ≡ first_words l (frame_count l * TABLE_LENGTH)
+first_words-is l words from to first last long each =
+    ext_get_or 0 words (first_words l (frame_count l * TABLE_LENGTH)) (long ∙ sym (length-first_words l _))
+    (λ n less.
+    let below : n < frame_count l * TABLE_LENGTH = omega (arith, less, long) in
+    get_or_from_slice_get words n _ 0 (each n below) ∙ ap (λ b. cond b (root_word l (n % TABLE_LENGTH)) 0) (same (n / TABLE_LENGTH))
+    ∙ sym (get_or_from_slice_get (first_words l (frame_count l * TABLE_LENGTH)) n _ 0 (slice_get-first_words l _ n below)))
+  where
+    same : (k : ℕ) → nat_le from k && nat_lt k to ≡ is_root l (l.base + k)
+    same k = grind (arith, nat_tests)
 
 pub words-open : (l : Layout) (holders : List (Option Place)) (ppn i : ℕ) → memory_words (record { layout = l; words = first_words l (frame_count l * TABLE_LENGTH); holders = holders }) ppn i ≡ opening l ppn i
 unfolding memory_words

@@ -1,11 +1,11 @@
 //! Table memory.
 
-ghost use Rattle.std.specs.Prelude.{◌≡◌, ◌+◌, ◌*◌, ◌<◌, ◌≤◌, ◌^◌, ◌↔◌, ◌&&◌, ◌||◌, IsTrue, IfOk, IfSome, length, map, nat_le, nat_lt, slice_index, slice_get, slice_set, sum, take, Some, None, replicate, ℕ, true, is_some, if◌then◌else◌};
+ghost use Rattle.std.specs.Prelude.{◌≡◌, ◌+◌, ◌*◌, ◌/◌, ◌%◌, ◌==◌, ◌<◌, ◌≤◌, ◌^◌, ◌↔◌, ◌&&◌, ◌||◌, IsTrue, IfOk, IfSome, length, map, nat_le, nat_lt, slice_index, slice_get, slice_set, sum, take, Some, None, replicate, ℕ, true, is_some, if◌then◌else◌};
 ghost use Rattle.pte.specs.declared.entry.TheConstants.{PPN_BITS};
-ghost use Rattle.spaces.specs.Layout.{frame_count, HasPlace, home_of, layout_of, root_ppn, user_slots};
+ghost use Rattle.spaces.specs.Layout.{first_window_slot, frame_count, HasPlace, home_of, layout_of, root_ppn, user_slots};
 ghost use Rattle.spaces.specs.Limits.{MeetsLimits};
 ghost use Rattle.spaces.specs.declared.configuration.TheConstants.{MAX_FRAMES};
-ghost use Rattle.spaces.specs.Opening.{first_word, first_words, is_word, opening};
+ghost use Rattle.spaces.specs.Opening.{first_words, is_word, opening, root_word};
 ghost use Rattle.spaces.specs.Edits.{place_of};
 ghost use Rattle.spaces.specs.EditStages.{edit_start};
 ghost use Rattle.spaces.specs.Held.{holders_of, IsMemory, is_own_at, spare_of, word_index, memory_words};
@@ -96,29 +96,41 @@ pub fn first_words(alloc: Global, config: &Config) -> Result<Vec<u64>, AllocErro
     ensures { IfOk result (λ words. words.items
         ≡ first_words (layout_of config.now) (frame_count (layout_of config.now) * TABLE_LENGTH)) }
 {
-    let count = config.frame_count() * u64::from(TABLE_LENGTH);
-    let mut words = Vec::with_capacity(alloc, count as usize)?;
-    for at in 0..count {
-        let ppn = config.base + at / u64::from(TABLE_LENGTH);
-        let index = (at % u64::from(TABLE_LENGTH)) as u16;
-        words.push(first_word(config, ppn, index))?;
-    }
+    let count = (config.frame_count() * u64::from(TABLE_LENGTH)) as usize;
+    let mut words = Vec::with_capacity(alloc, count)?;
+    words.resize(count, 0)?;
+    store_roots(&mut words, config);
     Ok(words)
 }
 
-/// A word at the opening.
-fn first_word(config: &Config, ppn: u64, index: u16) -> u64
+/// Stores the window's slots of each root. All words are 0 before.
+fn store_roots(words: &mut [u64], config: &Config)
     requires limits { MeetsLimits MAX_FRAMES config.now }
-    requires index { index < TABLE_LENGTH }
-    ensures { result ≡ first_word (layout_of config.now) ppn index }
+    requires zeros { words.old ≡ replicate (frame_count (layout_of config.now) * TABLE_LENGTH) 0 }
+    ensures { words.new
+        ≡ first_words (layout_of config.now) (frame_count (layout_of config.now) * TABLE_LENGTH) }
 {
-    let roots = config.base + u64::from(config.window);
+    let window = usize::from(config.window);
+    for root in window..window + config.spaces.len() {
+        store_root(words, config, root);
+    }
+}
+
+/// Stores the window's slots of the root whose frame has this number.
+fn store_root(words: &mut [u64], config: &Config, root: usize)
+    requires limits { MeetsLimits MAX_FRAMES config.now }
+    requires inside { root * TABLE_LENGTH + TABLE_LENGTH ≤ length words.old }
+    ensures length { length words.new ≡ length words.old }
+    ensures words { (n : ℕ)
+        → slice_get words.new n
+        ≡ (if n / TABLE_LENGTH == root && nat_le (first_window_slot (layout_of config.now))
+        (n % TABLE_LENGTH) then Some (root_word (layout_of config.now) (n % TABLE_LENGTH))
+        else slice_get words.old n) }
+{
     let first_slot = TABLE_LENGTH - config.window;
-    let is_root = roots <= ppn && ppn < roots + config.spaces.len() as u64;
-    if is_root && first_slot <= index {
-        Pte::table(config.base + u64::from(index - first_slot), true).0
-    } else {
-        0
+    for index in first_slot..TABLE_LENGTH {
+        let at = root * usize::from(TABLE_LENGTH) + usize::from(index);
+        words[at] = Pte::table(config.base + u64::from(index - first_slot), true).0;
     }
 }
 
