@@ -2,24 +2,24 @@
 use Rattle.std.proofs.Common.{ℕ, ◌≡◌, ◌+◌, ◌*◌, ◌/◌, ◌%◌, ◌<◌, ◌≤◌, Option, Some, None, List, [], ◌∷◌, ◌++◌, ap, sym, ◌∙◌, subst, inl, inr, ◌⊎◌, arith, IsSome, is_some}
 use Rattle.std.specs.Prelude.{◌↔◌}
 use Rattle.std.specs.List.{Contains}
-use Rattle.std.specs.Ordering.{nat_cmp}
-use Rattle.std.specs.BTreeMap.{BTreeMap, get}
 use Rattle.std.proofs.lemmas.Bool.{cases_lt}
 use Rattle.std.proofs.lemmas.List.Elements.{Contains-append_left, Contains-push, Contains-push_cases}
 use Rattle.watch_tables.specs.declared.frame.Frame.{Frame}
+use Rattle.watch_tables.specs.declared.frame_table.FrameTable.{FrameTable}
 use Rattle.watch_tables.specs.declared.frame.StoredWord.{StoredWord}
-use Rattle.watch_tables.specs.InFrame.{IsOfFrame, in_frames, word_in, word_of}
+use Rattle.watch_tables.specs.InFrame.{IsOfFrame, word_in, word_of}
+use Rattle.watch_tables.specs.FrameTables.{frame_of, in_frames}
 use Rattle.watch_tables.proofs.Filled.{Each, Sound}
 
 -- a word by its number, in its frame
-pub in-frame : (frames : BTreeMap ℕ Frame) (ppn i : ℕ) (o : Option Frame) → i < 512 → get nat_cmp frames ppn ≡ o → in_frames frames (ppn * 512 + i) ≡ word_of o i
+pub in-frame : (frames : FrameTable) (ppn i : ℕ) (o : Option Frame) → i < 512 → frame_of frames ppn ≡ o → in_frames frames (ppn * 512 + i) ≡ word_of o i
 in-frame frames ppn i o small is =
     let frame : (ppn * 512 + i) / 512 ≡ ppn = omega arith in
     let place : (ppn * 512 + i) % 512 ≡ i = omega arith in
-    ap (λ k. word_of (get nat_cmp frames k) ((ppn * 512 + i) % 512)) frame ∙ ap (λ k. word_of (get nat_cmp frames ppn) k) place ∙ ap (λ f. word_of f i) is
+    ap (λ k. word_of (frame_of frames k) ((ppn * 512 + i) % 512)) frame ∙ ap (λ k. word_of (frame_of frames ppn) k) place ∙ ap (λ f. word_of f i) is
 
 -- the words of a frame that is not there
-pub no-frame : (frames : BTreeMap ℕ Frame) (number : ℕ) → get nat_cmp frames (number / 512) ≡ None → in_frames frames number ≡ None
+pub no-frame : (frames : FrameTable) (number : ℕ) → frame_of frames (number / 512) ≡ None → in_frames frames number ≡ None
 no-frame frames number none = ap (λ f. word_of f (number % 512)) none
 
 none-stored : (o : Option StoredWord) → o ≡ None → IsSome o → ⊥
@@ -86,7 +86,7 @@ module _ (frame : Frame) (ppn : ℕ) (first : List ℕ) where
   )
 
 -- the addresses of the words of the frames before one, and of that one
-module _ (frames : BTreeMap ℕ Frame) (start from ppn : ℕ) (frame : Frame) (old new : List ℕ) (low : start ≤ from) (later : from ≤ ppn) (there : get nat_cmp frames ppn ≡ Some frame) (added : Added frame ppn old 512 new) where
+module _ (frames : FrameTable) (start from ppn : ℕ) (frame : Frame) (old new : List ℕ) (low : start ≤ from) (later : from ≤ ppn) (there : frame_of frames ppn ≡ Some frame) (added : Added frame ppn old 512 new) where
   pub sound-frame : Sound (in_frames frames) (start * 512) (from * 512) old → Sound (in_frames frames) (start * 512) ((ppn + 1) * 512) new
   sound-frame sound address has =
       elim ((added address).0 has) [
@@ -99,7 +99,7 @@ module _ (frames : BTreeMap ℕ Frame) (start from ppn : ℕ) (frame : Frame) (o
             (ppn * 512 + of.index, of.is, omega arith, omega arith, subst (λ o. IsSome o) (sym (in-frame frames ppn of.index (Some frame) small there)) of.filled)
       ]
 
-  pub each-frame : ((k : ℕ) → from ≤ k → k < ppn → get nat_cmp frames k ≡ None) → Each (in_frames frames) (start * 512) (from * 512) old → Each (in_frames frames) (start * 512) ((ppn + 1) * 512) new
+  pub each-frame : ((k : ℕ) → from ≤ k → k < ppn → frame_of frames k ≡ None) → Each (in_frames frames) (start * 512) (from * 512) old → Each (in_frames frames) (start * 512) ((ppn + 1) * 512) new
   each-frame skipped each number above below has =
       elim (cases_lt number (from * 512)) [
         | inl earlier ↦ (added (number * 8)).1 (inl (each number above earlier has))

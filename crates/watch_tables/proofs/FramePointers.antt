@@ -1,15 +1,14 @@
 -- The pointers of a frame that goes.
 use Rattle.std.proofs.Common.{ℕ, ◌≡◌, ◌≢◌, ◌+◌, ◌*◌, ◌/◌, ◌%◌, ◌<◌, ◌≤◌, Bool, true, false, Option, Some, None, ap, sym, ◌∙◌, subst, refl, inl, inr, ◌⊎◌, arith, IsTrue}
 use Rattle.std.specs.Prelude.{◌==◌, ◌&&◌, not, cond}
-use Rattle.std.specs.Ordering.{is_eq, nat_cmp}
-use Rattle.std.specs.BTreeMap.{BTreeMap, get}
 use Rattle.std.proofs.lemmas.Bool.{cases_lt, cases_eq, eq-eqb, eqb-true, cond-true, cond-false, false_from_ne_true}
 use Rattle.watch_tables.specs.declared.frame.Frame.{Frame}
+use Rattle.watch_tables.specs.declared.frame_table.FrameTable.{FrameTable}
 use Rattle.watch_tables.specs.declared.frame.StoredWord.{StoredWord}
-use Rattle.watch_tables.specs.InFrame.{in_frames, word_in, word_of}
+use Rattle.watch_tables.specs.InFrame.{word_in, word_of}
+use Rattle.watch_tables.specs.FrameTables.{frame_of, in_frames}
 use Rattle.watch_tables.specs.Stored.{is_kept, is_table, table_of}
 use Rattle.watch_tables.proofs.FrameAddresses.{in-frame}
-use Rattle.watch_tables.proofs.PointerPairs.{is-same}
 
 -- what is left where one is taken out, and elsewhere
 taken : (a b : Bool) (test : Bool) → test ≡ true → (not (a && test) && b) ≡ (not a && b)
@@ -77,22 +76,22 @@ module _ (frame : Frame) (ppn : ℕ) (first : ℕ → ℕ → Bool) where
               ]
         ]
 
--- what a map has without a key
-module _ (old new : BTreeMap ℕ Frame) (ppn : ℕ) (without : (k : ℕ) → get nat_cmp new k ≡ cond (is_eq (nat_cmp ppn k)) None (get nat_cmp old k)) where
-  pub is-gone : get nat_cmp new ppn ≡ None
-  is-gone = without ppn ∙ cond-true (is_eq (nat_cmp ppn ppn)) None _ (is-same ppn ppn ∙ eq-eqb ppn ppn refl)
+-- what a table has without a frame
+module _ (old new : FrameTable) (ppn : ℕ) (without : (k : ℕ) → frame_of new k ≡ cond (k == ppn) None (frame_of old k)) where
+  pub is-gone : frame_of new ppn ≡ None
+  is-gone = without ppn ∙ cond-true (ppn == ppn) None _ (eq-eqb ppn ppn refl)
 
-  pub is-kept : (k : ℕ) → (k ≡ ppn → ⊥) → get nat_cmp new k ≡ get nat_cmp old k
-  is-kept k out = without k ∙ cond-false (is_eq (nat_cmp ppn k)) None _ (is-same ppn k ∙ false_from_ne_true (ppn == k) (λ h. out (sym (eqb-true ppn k h))))
+  pub is-kept : (k : ℕ) → (k ≡ ppn → ⊥) → frame_of new k ≡ frame_of old k
+  is-kept k out = without k ∙ cond-false (k == ppn) None _ (false_from_ne_true (k == ppn) (λ h. out (eqb-true k ppn h)))
 
 none-left : (b : Bool) → (not b && b) ≡ false
 none-left true = refl
 none-left false = refl
 
 -- a frame is taken out, and its pointers with it
-module _ (old new : BTreeMap ℕ Frame) (ppn : ℕ) (frame : Frame) (there : get nat_cmp old ppn ≡ Some frame) (gone : get nat_cmp new ppn ≡ None) (kept : (k : ℕ) → (k ≡ ppn → ⊥) → get nat_cmp new k ≡ get nat_cmp old k) where
+module _ (old new : FrameTable) (ppn : ℕ) (frame : Frame) (there : frame_of old ppn ≡ Some frame) (gone : frame_of new ppn ≡ None) (kept : (k : ℕ) → (k ≡ ppn → ⊥) → frame_of new k ≡ frame_of old k) where
   pub here-gone : (n : ℕ) → n / 512 ≡ ppn → in_frames new n ≡ None
-  here-gone n is = ap (λ k. word_of (get nat_cmp new k) (n % 512)) is ∙ ap (λ f. word_of f (n % 512)) gone
+  here-gone n is = ap (λ k. word_of (frame_of new k) (n % 512)) is ∙ ap (λ f. word_of f (n % 512)) gone
 
   pub there-kept : (n : ℕ) → (n / 512 ≡ ppn → ⊥) → in_frames new n ≡ in_frames old n
   there-kept n out = ap (λ f. word_of f (n % 512)) (kept (n / 512) out)

@@ -2,6 +2,7 @@ pub mod Numbers
 pub mod PointerPairs
 pub mod Storing
 pub mod FrameWords
+pub mod FrameRows
 pub mod Filled
 pub mod FrameAddresses
 pub mod FramePointers

@@ -1,7 +1,5 @@
 -- What frames have under the number of a word.
-use Rattle.std.specs.Prelude.{ℕ, ◌==◌, ◌≡◌, ◌<◌, ◌+◌, ◌*◌, ◌/◌, ◌%◌, IsSome, if◌then◌else◌, Option, None, Some, slice_get}
-use Rattle.std.specs.Ordering.{nat_cmp}
-use Rattle.std.specs.BTreeMap.{BTreeMap, get}
+use Rattle.std.specs.Prelude.{ℕ, ◌==◌, ◌≡◌, ◌<◌, ◌+◌, ◌*◌, IsSome, if◌then◌else◌, Option, None, Some, slice_get}
 use Rattle.pte.specs.declared.address.TheConstants.{TABLE_LENGTH}
 use Rattle.watch_tables.specs.declared.frame.Frame.{Frame}
 use Rattle.watch_tables.specs.declared.frame.StoredWord.{StoredWord}
@@ -19,10 +17,6 @@ word_in frame index = if_filled (slice_get frame.words.items index)
 abbrev pub word_of : Option Frame → ℕ → Option StoredWord
 word_of None index = None
 word_of (Some frame) index = word_in frame index
-
--- what frames, by their PPN, have under the number of a word
-abbrev pub in_frames : BTreeMap ℕ Frame → ℕ → Option StoredWord
-in_frames frames number = word_of (get nat_cmp frames (number / TABLE_LENGTH)) (number % TABLE_LENGTH)
 
 -- the physical address is that of a word of the frame at a PPN that is not 0, at an index below this one
 pub record IsOfFrame (frame : Frame) (ppn below address : ℕ) : Type 0 where

@@ -1,5 +1,7 @@
 pub mod Stored
 pub mod InFrame
+pub mod FrameRow
+pub mod FrameTables
 pub mod Pointers
 pub mod Words
 pub mod Paths

@@ -10,7 +10,7 @@ use Rattle.watch.specs.declared.trace.Frames.{Frames}
 use Rattle.watch.specs.Trace.{index_of, is_among}
 use Rattle.watch_tables.specs.declared.tables.PageTables.{PageTables}
 use Rattle.watch_tables.specs.declared.tables.TheConstants.{FRAME_LIMIT}
-use Rattle.watch_tables.specs.InFrame.{in_frames}
+use Rattle.watch_tables.specs.FrameTables.{in_frames}
 use Rattle.watch_tables.specs.Stored.{since_of, value_of}
 
 -- the number of a word: its physical address, in words of 8 bytes

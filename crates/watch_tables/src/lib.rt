@@ -3,6 +3,7 @@
 #![tactic(auto)]
 
 mod frame;
+mod frame_table;
 mod laws;
 mod leaf;
 mod leaves;

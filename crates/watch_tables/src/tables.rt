@@ -3,18 +3,17 @@
 ghost use Rattle.std.specs.Prelude.{ℕ, ◌≡◌, ◌<◌, ◌≤◌, ◌==◌, IfSome, IsSome, IsTrue, None, OnErr, OnOk};
 ghost use Rattle.std.specs.Prelude.{◌+◌, ◌*◌, ◌/◌, ◌&&◌, ◌⊎◌, ◌↔◌, ◌≢◌, not, if◌then◌else◌};
 ghost use Rattle.std.specs.List.{Contains};
-ghost use Rattle.std.specs.Ordering.{nat_cmp};
-ghost use Rattle.std.specs.BTreeMap.{get};
 ghost use Rattle.watch.specs.Trace.{index_of};
 ghost use Rattle.watch_tables.specs.Stored.{is_kept, is_table, table_of, up_to_limit, word_to_store};
-ghost use Rattle.watch_tables.specs.InFrame.{IsOfFrame, in_frames, word_in};
+ghost use Rattle.watch_tables.specs.InFrame.{IsOfFrame, word_in};
+ghost use Rattle.watch_tables.specs.FrameTables.{in_frames};
 ghost use Rattle.watch_tables.specs.Pointers.{has_number, has_pointer};
 
 use crate::frame::{Frame, StoredWord};
+use crate::frame_table::FrameTable;
 use crate::pointers::{Pointer, Pointers};
 use pte::{Kind, PAGE_BYTES, Pte, TABLE_LENGTH};
 use std::alloc::{AllocError, Global};
-use std::collections::BTreeMap;
 use std::collections::btree_set::Range;
 use watch::Frames;
 
@@ -28,7 +27,7 @@ const FRAME_LIMIT: u64 = 1 << 52;
 #[derive(Drop)]
 pub struct PageTables {
     // the frames that have a word that is not 0, by their PPN
-    frames: BTreeMap<u64, Frame>,
+    frames: FrameTable,
     // which of the words are pointers, and to which table
     pointers: Pointers,
     // where a frame is made
@@ -39,29 +38,12 @@ pub struct PageTables {
         ≡ is_table (table_of (in_frames frames number)) table },
 }
 
-/// The frame of the least PPN from `start` on and below `end`.
-fn first_from(frames: &BTreeMap<u64, Frame>, start: u64, end: u64) -> Option<(u64, &Frame)>
-    requires { start ≤ end }
-    ensures from { IfSome result (λ first. start ≤ first.0) }
-    ensures below { IfSome result (λ first. first.0 < end) }
-    ensures present { IfSome result (λ first. get nat_cmp frames.now first.0 ≡ Some first.1.now) }
-    ensures least { IfSome result (λ first. (ppn : ℕ) → start ≤ ppn → ppn < first.0
-        → get nat_cmp frames.now ppn ≡ None) }
-    ensures none { result ≡ None → (ppn : ℕ) → start ≤ ppn → ppn < end
-        → get nat_cmp frames.now ppn ≡ None }
-{
-    match frames.range(start..end).next() {
-        Some((ppn, frame)) => Some((*ppn, frame)),
-        None => None,
-    }
-}
-
 /// What frames have under the number of a word.
-fn find(frames: &BTreeMap<u64, Frame>, number: u64) -> Option<StoredWord>
+fn find(frames: &FrameTable, number: u64) -> Option<StoredWord>
     ensures { result ≡ in_frames frames.now number }
 {
     let length = u64::from(TABLE_LENGTH);
-    match frames.get(&(number / length)) {
+    match frames.find(number / length) {
         Some(frame) => frame.word((number % length) as u16),
         None => None,
     }
@@ -73,39 +55,6 @@ pub(crate) fn index_of(address: u64) -> u16
     ensures range { result < TABLE_LENGTH }
 {
     (address % PAGE_BYTES / WORD_BYTES) as u16
-}
-
-/// Puts a word down under its number, with the number of records so far; 0 is not kept, and a frame
-/// goes with its last word. At `Err` nothing changed.
-fn put(
-    frames: &mut BTreeMap<u64, Frame>,
-    alloc: Global,
-    number: u64,
-    word: u64,
-    count: u64,
-) -> Result<(), AllocError>
-    ensures ok { OnOk result ((n : ℕ) → in_frames frames.new n
-        ≡ (if n == number then word_to_store word count else in_frames frames.old n)) }
-    ensures err { OnErr result ((n : ℕ) → in_frames frames.new n ≡ in_frames frames.old n) }
-{
-    let length = u64::from(TABLE_LENGTH);
-    let ppn = number / length;
-    let index = (number % length) as u16;
-    match frames.get_mut(&ppn) {
-        Some(frame) => {
-            frame.put(index, word, count);
-            if frame.is_empty() {
-                frames.remove(&ppn);
-            }
-        }
-        None if word == 0 => {}
-        None => {
-            let mut frame = Frame::new(alloc)?;
-            frame.put(index, word, count);
-            frames.insert(ppn, frame)?;
-        }
-    }
-    Ok(())
 }
 
 /// The table that a stored word points to.
@@ -177,7 +126,7 @@ impl PageTables {
         ensures { words result ≡ words_of [] }
     {
         PageTables {
-            frames: BTreeMap::new(alloc),
+            frames: FrameTable::new(alloc),
             pointers: Pointers::new(alloc),
             alloc,
         }
@@ -244,10 +193,10 @@ impl PageTables {
         let old = pointed(find(&self.frames, number));
         let new = pointed(Some(StoredWord { word, since: count }));
         if old == new {
-            return put(&mut self.frames, self.alloc, number, word, count);
+            return self.frames.put(self.alloc, number, word, count);
         }
         self.pointers.add(new, number)?;
-        let done = put(&mut self.frames, self.alloc, number, word, count);
+        let done = self.frames.put(self.alloc, number, word, count);
         let gone = if done.is_ok() { old } else { new };
         self.pointers.remove(gone, number);
         done
@@ -269,7 +218,7 @@ impl PageTables {
         if table >= FRAME_LIMIT {
             return None;
         }
-        match self.frames.get(&table) {
+        match self.frames.find(table) {
             Some(frame) => frame.next_word(from),
             None => None,
         }
@@ -282,7 +231,7 @@ impl PageTables {
     {
         let mut addresses = Vec::new(alloc);
         let (mut from, end) = ppns_of(frames);
-        while let Some((ppn, frame)) = first_from(&self.frames, from, end) {
+        while let Some((ppn, frame)) = self.frames.first_from(from, end) {
             add_addresses(frame, ppn, &mut addresses)?;
             from = ppn + 1;
         }
@@ -297,8 +246,8 @@ impl PageTables {
             → since self.new t i ≡ since self.old t i }
     {
         let (start, end) = ppns_of(frames);
-        while let Some((ppn, _)) = first_from(&self.frames, start, end) {
-            if let Some(frame) = self.frames.remove(&ppn) {
+        while let Some((ppn, _)) = self.frames.first_from(start, end) {
+            if let Some(frame) = self.frames.remove(ppn) {
                 remove_pointers(&mut self.pointers, &frame, ppn);
             }
         }

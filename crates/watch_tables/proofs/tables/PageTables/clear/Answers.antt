@@ -1,5 +1,5 @@
 use Rattle.std.proofs.Common.{◌*◌, ◌/◌, ap, sym, arith}
-use Rattle.watch_tables.specs.InFrame.{in_frames}
+use Rattle.watch_tables.specs.FrameTables.{in_frames}
 use Rattle.watch_tables.specs.Pointers.{has_pointer}
 use Rattle.watch_tables.proofs.Memory.{memory-cleared}
 use Rattle.watch_tables.proofs.FrameAddresses.{no-frame}
@@ -9,8 +9,8 @@ use Rattle.watch_tables.proofs.tables.PageTables.clear.Goals as goal
 pub invariant_of-self : goal.invariant_of-self
 invariant_of-self c =
     let there = sym c.in-Some-remove.ensures.value in
-    let gone = is-gone c.loop-ppn.self.frames c.remove.new.self c.in-Some.ppn (c.remove.ensures.updates).0 in
-    let kept = is-kept c.loop-ppn.self.frames c.remove.new.self c.in-Some.ppn (c.remove.ensures.updates).0 in
+    let gone = is-gone c.loop-ppn.self.frames c.remove.new.self c.in-Some.ppn c.remove.ensures.without in
+    let kept = is-kept c.loop-ppn.self.frames c.remove.new.self c.in-Some.ppn c.remove.ensures.without in
     record {
       kept = kept-without c.loop-ppn.self.frames c.remove.new.self c.in-Some.ppn c.in-Some-remove.frame there gone kept c.loop-ppn.self.kept;
       linked = linked-without c.loop-ppn.self.frames c.remove.new.self c.in-Some.ppn c.in-Some-remove.frame there gone kept (has_pointer c.loop-ppn.self.pointers) (has_pointer c.remove_pointers.new.pointers) c.loop-ppn.self.linked c.remove_pointers.ensures.inside

@@ -1,6 +1,5 @@
 use Rattle.std.proofs.Common.{ℕ, ◌≡◌, ◌<◌, ◌≤◌, ◌*◌}
-use Rattle.std.specs.BTreeMap.{btree_map_len}
-use Rattle.watch_tables.specs.InFrame.{in_frames}
+use Rattle.watch_tables.specs.FrameTables.{frame_count, in_frames}
 use Rattle.watch_tables.proofs.tables.PageTables.clear.Given as goal
 
 -- what lies outside the frames stays
@@ -11,4 +10,4 @@ invariant-loop-ppn l = record {
 }
 
 abbrev pub decreases-loop-ppn : goal.decreases-loop-ppn
-decreases-loop-ppn l = btree_map_len l.self.frames
+decreases-loop-ppn l = frame_count l.self.frames

@@ -1,5 +1,5 @@
 use Rattle.std.proofs.Common.{◌≡◌, None, Some, sym, ◌∙◌, ap}
-use Rattle.watch_tables.specs.InFrame.{in_frames}
+use Rattle.watch_tables.specs.FrameTables.{in_frames}
 use Rattle.watch_tables.specs.Stored.{table_of_kind}
 use Rattle.watch_tables.proofs.Memory.{kind-of-table, table-at}
 use Rattle.watch_tables.proofs.tables.PageTables.pointer.Goals as goal

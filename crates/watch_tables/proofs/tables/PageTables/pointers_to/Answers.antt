@@ -1,4 +1,4 @@
-use Rattle.watch_tables.specs.InFrame.{in_frames}
+use Rattle.watch_tables.specs.FrameTables.{in_frames}
 use Rattle.watch_tables.specs.Pointers.{has_pointer}
 use Rattle.watch_tables.specs.Words.{word_number}
 use Rattle.watch_tables.proofs.Memory.{linked-pointer}

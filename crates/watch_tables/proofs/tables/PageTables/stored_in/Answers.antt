@@ -1,5 +1,5 @@
 use Rattle.std.proofs.Common.{◌+◌, ◌*◌, ◌/◌, ap, arith}
-use Rattle.watch_tables.specs.InFrame.{in_frames}
+use Rattle.watch_tables.specs.FrameTables.{in_frames}
 use Rattle.watch_tables.proofs.Filled.{all-filled, limit-most}
 use Rattle.watch_tables.proofs.FrameAddresses.{each-frame, no-frame, sound-frame}
 use Rattle.watch_tables.proofs.tables.PageTables.stored_in.Goals as goal

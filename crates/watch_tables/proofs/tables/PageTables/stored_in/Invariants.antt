@@ -1,5 +1,5 @@
 use Rattle.std.proofs.Common.{◌≤◌, ◌*◌, ◌-◌}
-use Rattle.watch_tables.specs.InFrame.{in_frames}
+use Rattle.watch_tables.specs.FrameTables.{in_frames}
 use Rattle.watch_tables.proofs.Filled.{Each, Sound}
 use Rattle.watch_tables.proofs.tables.PageTables.stored_in.Given as goal
 

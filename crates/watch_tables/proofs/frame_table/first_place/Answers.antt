@@ -4,10 +4,9 @@ use Rattle.std.specs.BTreeMap.{BTreeMap, get}
 use Rattle.std.specs.declared.ops.Bound.TheVariants.{Included, Excluded}
 use Rattle.std.specs.BTreeMap.Range.{IsInRange, IsRangeOf}
 use Rattle.std.proofs.lemmas.Map.Keys.{le_from_not_gt}
-use Rattle.watch_tables.specs.declared.frame.Frame.{Frame}
-use Rattle.watch_tables.proofs.tables.first_from.Goals as goal
+use Rattle.watch_tables.proofs.frame_table.first_place.Goals as goal
 
-none_unless : (o : Option Frame) → (IsSome o → ⊥) → o ≡ None
+none_unless : (o : Option ℕ) → (IsSome o → ⊥) → o ≡ None
 none_unless None h = refl
 none_unless (Some x) h = absurd (h refl)
 
@@ -18,7 +17,7 @@ before_end : (start end q : ℕ) → IsInRange nat_cmp (Included start) (Exclude
 before_end start end q inside = search (rules, inside.1)
 
 -- before the first key of a range is none
-none_before_first : (map : BTreeMap ℕ Frame) (start end : ℕ) (first : ℕ × Frame) (found rest : List (ℕ × Frame)) → found ≡ first ∷ rest → IsRangeOf nat_cmp (Included start) (Excluded end) map found
+none_before_first : (map : BTreeMap ℕ ℕ) (start end : ℕ) (first : ℕ × ℕ) (found rest : List (ℕ × ℕ)) → found ≡ first ∷ rest → IsRangeOf nat_cmp (Included start) (Excluded end) map found
     → (q : ℕ) → start ≤ q → q < first.0 → get nat_cmp map q ≡ None
 none_before_first map start end first found rest is part q from before =
     let of_cons = subst (IsRangeOf nat_cmp (Included start) (Excluded end) map) is part in
@@ -29,4 +28,4 @@ none_before_first map start end first found rest is part q from before =
 
 pub returns-in-Some-clause-least : goal.returns-in-Some-clause-least
 returns-in-Some-clause-least c =
-    none_before_first c.args.frames.now c.args.start c.args.end (c.in-Some.ppn.now, c.in-Some.frame.now) _ _ c.in-Some.ensures.steps (c.range.ensures.in_range tt)
+    none_before_first c.args.places.now c.args.start c.args.end (c.in-Some.ppn.now, c.in-Some.place.now) _ _ c.in-Some.ensures.steps (c.range.ensures.in_range tt)

@@ -1,0 +1,268 @@
+//! The frames that have a word that is not 0.
+
+ghost use Rattle.std.specs.Prelude.{ℕ, ◌≡◌, ◌<◌, ◌≤◌, ◌+◌, ◌==◌, ◌&&◌, ◌↔◌, ◌≢◌, ◌/◌, if◌then◌else◌};
+ghost use Rattle.std.specs.Prelude.{IfSome, IsSome, IsTrue, None, OnErr, OnOk, Some, length, slice_get};
+ghost use Rattle.std.specs.Ordering.{nat_cmp};
+ghost use Rattle.std.specs.BTreeMap.{get};
+ghost use Rattle.watch_tables.specs.Stored.{word_to_store};
+ghost use Rattle.watch_tables.specs.InFrame.{word_of};
+ghost use Rattle.watch_tables.specs.FrameRow.{IsInStep, frame_at, ppn_at};
+
+use crate::frame::Frame;
+use pte::TABLE_LENGTH;
+use std::alloc::{AllocError, Global};
+use std::collections::BTreeMap;
+
+/// How many hints the first frame makes.
+const FIRST_HINTS: usize = 16;
+
+/// An odd number, 2^64 times the golden ratio: products with it spread PPNs that are near one another.
+const SPREAD: u64 = 0x9e37_79b9_7f4a_7c15;
+
+/// A frame that has a PPN.
+#[derive(Drop)]
+pub(crate) struct PlacedFrame {
+    /// The PPN.
+    ppn: u64,
+    /// Its words.
+    frame: Frame,
+}
+
+/// Frames, by their PPN.
+#[derive(Drop)]
+pub(crate) struct FrameTable {
+    // the place in the row of each PPN
+    places: BTreeMap<u64, usize>,
+    // the frames, in no order
+    row: Vec<PlacedFrame>,
+    // for each hash of a PPN a place where a frame of such a PPN may stand; where none does, or
+    // another, the map tells
+    hints: Vec<usize>,
+    ghost in_step: { IsInStep (get nat_cmp places) row.items },
+}
+
+/// The hash of a PPN, below the number of hints.
+#[inline(always)]
+fn hash_of(count: usize, ppn: u64) -> usize
+    requires { 0 < count }
+    ensures { result < count }
+{
+    (ppn.wrapping_mul(SPREAD) >> 32 & (count as u64 - 1)) as usize
+}
+
+/// A place where a frame of a PPN may stand.
+#[inline(always)]
+fn hinted(hints: &[usize], ppn: u64) -> usize {
+    if hints.is_empty() {
+        return 0;
+    }
+    hints[hash_of(hints.len(), ppn)]
+}
+
+/// Sets the hint of a PPN.
+fn hint(hints: &mut [usize], ppn: u64, place: usize) {
+    if !hints.is_empty() {
+        let hash = hash_of(hints.len(), ppn);
+        hints[hash] = place;
+    }
+}
+
+/// Doubles the hints once more than half as many frames are there, if there is memory for that, and
+/// makes them anew.
+fn spread(hints: &mut Vec<usize>, row: &[PlacedFrame]) {
+    let count = hints.len();
+    if row.len() <= count / 2 {
+        return;
+    }
+    let more = count.saturating_mul(2).max(FIRST_HINTS);
+    if hints.resize(more, 0).is_err() {
+        return;
+    }
+    for place in 0..row.len() {
+        hint(hints.as_mut_slice(), row[place].ppn, place);
+    }
+}
+
+/// Puts a word down at an index of the frame at a place of a row, with the number of records so far;
+/// 0 is not kept. Whether each word of the frame is 0 then.
+fn put_in(row: &mut Vec<PlacedFrame>, place: usize, index: u16, word: u64, count: u64) -> bool
+    requires place { place < length row.old.items }
+    requires index { index < TABLE_LENGTH }
+    ensures ppns { (p : ℕ) → ppn_at row.new.items p ≡ ppn_at row.old.items p }
+    ensures others { (p : ℕ) → p ≢ place
+        → frame_at row.new.items (Some p) ≡ frame_at row.old.items (Some p) }
+    ensures words { (i : ℕ) → word_of (frame_at row.new.items (Some place)) i
+        ≡ (if i == index then word_to_store word count
+        else word_of (frame_at row.old.items (Some place)) i) }
+    ensures empty { IsTrue result
+        → (i : ℕ) → word_of (frame_at row.new.items (Some place)) i ≡ None }
+{
+    let frame = &mut row[place].frame;
+    frame.put(index, word, count);
+    frame.is_empty()
+}
+
+/// The least PPN from `start` on and below `end`, and its place.
+fn first_place(places: &BTreeMap<u64, usize>, start: u64, end: u64) -> Option<(u64, usize)>
+    requires { start ≤ end }
+    ensures from { IfSome result (λ first. start ≤ first.0) }
+    ensures below { IfSome result (λ first. first.0 < end) }
+    ensures present { IfSome result (λ first. get nat_cmp places.now first.0 ≡ Some first.1) }
+    ensures least { IfSome result (λ first. (ppn : ℕ) → start ≤ ppn → ppn < first.0
+        → get nat_cmp places.now ppn ≡ None) }
+    ensures none { result ≡ None → (ppn : ℕ) → start ≤ ppn → ppn < end
+        → get nat_cmp places.now ppn ≡ None }
+{
+    match places.range(start..end).next() {
+        Some((ppn, place)) => Some((*ppn, *place)),
+        None => None,
+    }
+}
+
+/// Gives a PPN that has a place another one.
+fn move_to(places: &mut BTreeMap<u64, usize>, ppn: u64, place: usize)
+    requires { IsSome (get nat_cmp places.old ppn) }
+    ensures { (k : ℕ) → get nat_cmp places.new k
+        ≡ (if k == ppn then Some place else get nat_cmp places.old k) }
+{
+    if let Some(at) = places.get_mut(&ppn) {
+        *at = place;
+    }
+}
+
+impl FrameTable {
+    ghost use Rattle.watch_tables.specs.FrameTables.{frame_count, frame_of, in_frames};
+
+    /// No frames.
+    pub(crate) fn new(alloc: Global) -> FrameTable
+        ensures { (ppn : ℕ) → frame_of result ppn ≡ None }
+    {
+        FrameTable {
+            places: BTreeMap::new(alloc),
+            row: Vec::new(alloc),
+            hints: Vec::new(alloc),
+        }
+    }
+
+    /// The place of a PPN: where it is hinted, or else where the map has it.
+    fn place_of(&self, ppn: u64) -> Option<usize>
+        ensures { result ≡ get nat_cmp self.now.places ppn }
+    {
+        let place = hinted(self.hints.as_slice(), ppn);
+        if place < self.row.len() && self.row[place].ppn == ppn {
+            return Some(place);
+        }
+        match self.places.get(&ppn) {
+            Some(place) => Some(*place),
+            None => None,
+        }
+    }
+
+    /// The frame of a PPN.
+    pub(crate) fn find(&self, ppn: u64) -> Option<&Frame>
+        ensures some { IfSome result (λ frame. frame_of self.now ppn ≡ Some frame.now) }
+        ensures none { result ≡ None → frame_of self.now ppn ≡ None }
+    {
+        match self.place_of(ppn) {
+            Some(place) => Some(&self.row[place].frame),
+            None => None,
+        }
+    }
+
+    /// The frame of the least PPN from `start` on and below `end`.
+    pub(crate) fn first_from(&self, start: u64, end: u64) -> Option<(u64, &Frame)>
+        requires { start ≤ end }
+        ensures from { IfSome result (λ first. start ≤ first.0) }
+        ensures below { IfSome result (λ first. first.0 < end) }
+        ensures present { IfSome result (λ first. frame_of self.now first.0 ≡ Some first.1.now) }
+        ensures least { IfSome result (λ first. (ppn : ℕ) → start ≤ ppn → ppn < first.0
+            → frame_of self.now ppn ≡ None) }
+        ensures none { result ≡ None → (ppn : ℕ) → start ≤ ppn → ppn < end
+            → frame_of self.now ppn ≡ None }
+    {
+        match first_place(&self.places, start, end) {
+            Some((ppn, place)) => Some((ppn, &self.row[place].frame)),
+            None => None,
+        }
+    }
+
+    /// Adds the frame of a PPN that has none. At `Err` nothing changed.
+    fn add(&mut self, ppn: u64, frame: Frame) -> Result<(), AllocError>
+        requires { frame_of self.old ppn ≡ None }
+        ensures ok { OnOk result ((k : ℕ) → frame_of self.new k
+            ≡ (if k == ppn then Some frame else frame_of self.old k)) }
+        ensures err { OnErr result ((k : ℕ) → frame_of self.new k ≡ frame_of self.old k) }
+    {
+        let place = self.row.len();
+        self.row.push(PlacedFrame { ppn, frame })?;
+        if self.places.insert(ppn, place).is_err() {
+            let _ = self.row.pop();
+            return Err(AllocError);
+        }
+        spread(&mut self.hints, self.row.as_slice());
+        hint(self.hints.as_mut_slice(), ppn, place);
+        Ok(())
+    }
+
+    /// Takes the frame of a PPN out, if it has one. The last frame of the row comes to its place.
+    pub(crate) fn remove(&mut self, ppn: u64) -> Option<Frame>
+        ensures value { result ≡ frame_of self.old ppn }
+        ensures without { (k : ℕ) → frame_of self.new k
+            ≡ (if k == ppn then None else frame_of self.old k) }
+        ensures fewer { IsSome result → frame_count self.new + 1 ≡ frame_count self.old }
+    {
+        let Some(place) = self.places.remove(&ppn) else {
+            return None;
+        };
+        let gone = self.row.swap_remove(place);
+        if place == self.row.len() {
+            return Some(gone.frame);
+        }
+        let moved = self.row[place].ppn;
+        move_to(&mut self.places, moved, place);
+        hint(self.hints.as_mut_slice(), moved, place);
+        Some(gone.frame)
+    }
+
+    /// Puts a word down under its number, in the frame at a place. The frame goes with its last word.
+    fn put_at(&mut self, place: usize, number: u64, word: u64, count: u64)
+        requires { get nat_cmp self.old.places (number / TABLE_LENGTH) ≡ Some place }
+        ensures { (n : ℕ) → in_frames self.new n
+            ≡ (if n == number then word_to_store word count else in_frames self.old n) }
+    {
+        let length = u64::from(TABLE_LENGTH);
+        let ppn = number / length;
+        if put_in(&mut self.row, place, (number % length) as u16, word, count) {
+            self.remove(ppn);
+            return;
+        }
+        hint(self.hints.as_mut_slice(), ppn, place);
+    }
+
+    /// Puts a word down under its number, with the number of records so far; 0 is not kept, and a frame
+    /// goes with its last word. At `Err` nothing changed.
+    pub(crate) fn put(
+        &mut self,
+        alloc: Global,
+        number: u64,
+        word: u64,
+        count: u64,
+    ) -> Result<(), AllocError>
+        ensures ok { OnOk result ((n : ℕ) → in_frames self.new n
+            ≡ (if n == number then word_to_store word count else in_frames self.old n)) }
+        ensures err { OnErr result ((n : ℕ) → in_frames self.new n ≡ in_frames self.old n) }
+    {
+        let length = u64::from(TABLE_LENGTH);
+        let ppn = number / length;
+        if let Some(place) = self.place_of(ppn) {
+            self.put_at(place, number, word, count);
+            return Ok(());
+        }
+        if word == 0 {
+            return Ok(());
+        }
+        let mut frame = Frame::new(alloc)?;
+        frame.put((number % length) as u16, word, count);
+        self.add(ppn, frame)
+    }
+}
