@@ -8,24 +8,29 @@ use std::alloc::{AllocError, Global};
 /// Among how many of the last texts a new note is looked for.
 const RECENT: usize = 64;
 
+/// In how many rows the texts are linked.
+const ROWS: usize = 256;
+
 /// The notes of the records that were read. A text that comes again soon is kept once.
 #[derive(Drop)]
 pub struct Notes {
     alloc: Global,
     texts: Vec<Vec<u8>>,
-    // for each text a number that texts seldom share
-    tags: Vec<u32>,
+    // for each text the place of the one before it in its row, or 0 for none
+    before: Vec<u32>,
+    // for each row the place of its newest text, or 0 for none
+    newest: [u32; ROWS],
     // for each record one more than the place of its text, or 0 for no note
     places: Vec<u32>,
 }
 
-// A number of a text, by all of its bytes.
-fn tag_of(text: &[u8]) -> u32 {
-    let mut tag: u32 = 0;
+// The row of a text, by all of its bytes.
+fn row_of(text: &[u8]) -> u8 {
+    let mut mixed: u32 = 0;
     for byte in text {
-        tag = tag.rotate_left(5) ^ u32::from(*byte);
+        mixed = mixed.rotate_left(5) ^ u32::from(*byte);
     }
-    tag
+    (mixed.wrapping_mul(0x9E37_79B1) >> 24) as u8
 }
 
 impl Notes {
@@ -36,7 +41,8 @@ impl Notes {
         Notes {
             alloc,
             texts: Vec::new(alloc),
-            tags: Vec::new(alloc),
+            before: Vec::new(alloc),
+            newest: [0; ROWS],
             places: Vec::new(alloc),
         }
     }
@@ -54,16 +60,32 @@ impl Notes {
         }
     }
 
-    // The place of a recent text, by its tag: few others are compared.
-    fn recent(&self, note: &[u8], tag: u32) -> Option<usize>
+    // The place of the text before another in its row, or 0 for none.
+    fn before(&self, place: usize) -> usize {
+        if place == 0 {
+            return 0;
+        }
+        match self.before.get(place - 1) {
+            Some(before) => *before as usize,
+            None => 0,
+        }
+    }
+
+    // The place of a recent text, from the newest of its row back: few others are compared.
+    fn recent(&self, note: &[u8], row: u8) -> Option<usize>
         ensures text { IfSome result (λ place. text_in self.now.texts.items place ≡ note.now) }
         ensures within { IfSome result (λ place. place ≤ length self.now.texts.items) }
     {
         let count = self.texts.len();
-        for place in count.saturating_sub(RECENT)..count {
-            if self.tags.get(place) == Some(&tag) && self.text(place + 1) == note {
-                return Some(place + 1);
+        let mut place = self.newest[usize::from(row)] as usize;
+        for _ in 0..RECENT {
+            if place <= count.saturating_sub(RECENT) || place > count {
+                return None;
             }
+            if self.text(place) == note {
+                return Some(place);
+            }
+            place = self.before(place);
         }
         None
     }
@@ -80,16 +102,21 @@ impl Notes {
         if note.is_empty() {
             return Ok(0);
         }
-        let tag = tag_of(note);
-        if let Some(place) = self.recent(note, tag) {
+        let row = row_of(note);
+        if let Some(place) = self.recent(note, row) {
             return Ok(place);
         }
         let mut text = Vec::new(self.alloc);
         text.extend_from_slice(note)?;
-        self.tags.reserve(1)?;
+        self.before.reserve(1)?;
         self.texts.push(text)?;
-        self.tags.push(tag)?;
-        Ok(self.texts.len())
+        self.before.push(self.newest[usize::from(row)])?;
+        let place = self.texts.len();
+        let Ok(newest) = u32::try_from(place) else {
+            return Err(AllocError);
+        };
+        self.newest[usize::from(row)] = newest;
+        Ok(place)
     }
 
     /// With the note of the next record, which is empty if it has none.

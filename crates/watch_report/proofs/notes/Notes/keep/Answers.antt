@@ -7,9 +7,9 @@ use Rattle.watch_report.proofs.notes.Notes.keep.Goals as goal
 pub returns-clause-text : goal.returns-clause-text
 returns-clause-text c =
     let texts : List (Vec ℕ) = c.args.self.now.texts.items in
-    let last : c.len.result ≡ length texts + 1 = search rules in
+    let last : c.len-place.result ≡ length texts + 1 = search rules in
     let copied : c.extend_from_slice.new.self.items ≡ c.args.note.now = search rules in
-    ap (λ (ts : List (Vec ℕ)). text_in ts c.len.result) c.in_ok-push.ensures.items ∙ (text_in-last texts c.extend_from_slice.new.self c.len.result last ∙ copied)
+    ap (λ (ts : List (Vec ℕ)). text_in ts c.len-place.result) c.in_ok-push.ensures.items ∙ (text_in-last texts c.extend_from_slice.new.self c.len-place.result last ∙ copied)
 
 pub returns-clause-others : goal.returns-clause-others
 returns-clause-others c = λ p within.
