@@ -1,4 +1,4 @@
--- Fences that may drop an entry of a page of 4 KiB are found by four keys.
+-- Fences that may drop an entry are found by four keys.
 use Rattle.std.proofs.Common.{◌*◌, ◌/◌, ◌^◌, ◌≡◌, ℕ, ◌<◌, ◌≤◌, ◌+◌, ◌-◌, ◌%◌, Bool, true, false, not, List, [], ◌∷◌, length, take, drop, map, get_or, Option, Some, None, IsTrue, ap, sym, subst, ◌∙◌, refl, arith, zero, suc, inl, inr}
 use Rattle.std.specs.Prelude.{◌==◌, ◌⊎◌, ◌&&◌, ◌||◌, nat_le, nat_lt, if◌then◌else◌}
 use Rattle.std.specs.List.{list_any}
@@ -9,8 +9,9 @@ use Rattle.std.proofs.lemmas.List.Folds.{list_any-append}
 use Rattle.std.proofs.Math.Bool.{or-false}
 use Rattle.std.proofs.Math.Seq.{take-length, take-suc}
 use Rattle.pte.specs.declared.scheme.Scheme.{Scheme}
-use Rattle.pte.specs.declared.address.PageSize.TheVariants.{Kib4}
-use Rattle.pte.specs.Address.{IsPage, bytes_of, holds, is_canonical}
+use Rattle.pte.specs.declared.address.PageSize.{PageSize}
+use Rattle.pte.specs.declared.address.PageSize.TheVariants.{Kib4, Mib2, Gib1, Gib512}
+use Rattle.pte.specs.Address.{bytes_of, holds, is_canonical}
 use Rattle.tlb.specs.declared.store.Entry.{Entry}
 use Rattle.tlb.specs.Fence.{is_fenced, is_of_address, is_of_space}
 use Rattle.watch.specs.declared.trace.AddressRange.{AddressRange}
@@ -23,37 +24,53 @@ use Rattle.watch_engine.specs.Left.{is_taken_since, takes}
 use Rattle.watch_engine.specs.PastFences.{asid_key, is_in_page, is_taken_by, is_taken_by_asid, key_of, page_key, range_key, takes_by, wide_key}
 use Rattle.watch_engine.proofs.LastPlaces.{above_less, above_more, last_no, last_of_all, last_passes, last_within, last_yes}
 
--- an entry of a page of 4 KiB
-pub record IsSmall (e : Entry) : Type 0 where
-  pub bytes : bytes_of e.page.size ≡ 4096
-  pub aligned : e.page.base % 4096 ≡ 0
+-- the entry's page begins at a multiple of its size
+abbrev pub IsAligned : Entry → Type 0
+IsAligned e = e.page.base % bytes_of e.page.size ≡ 0
 
 -- the key is one of the four of the entry
 abbrev pub Concerns : Entry → ℕ → Type 0
 Concerns e key =
-    (key ≡ page_key e.page.base None)
-    ⊎ (((e.global ≡ false) × ((key ≡ page_key e.page.base (Some e.asid)) ⊎ (key ≡ wide_key (Some e.asid))))
+    (key ≡ page_key e.page.size e.page.base None)
+    ⊎ (((e.global ≡ false) × ((key ≡ page_key e.page.size e.page.base (Some e.asid)) ⊎ (key ≡ wide_key (Some e.asid))))
     ⊎ (key ≡ wide_key None))
 
-of_address : (scheme : Scheme) (address : ℕ) (e : Entry) → IsSmall e → IsTrue (is_of_address scheme address e)
-    → address / 4096 ≡ e.page.base / 4096
-of_address scheme address e small is =
+-- an address of a page has its number
+in_page : (size : PageSize) (base address : ℕ) → base % bytes_of size ≡ 0 → base ≤ address
+    → address < base + bytes_of size → address / bytes_of size ≡ base / bytes_of size
+in_page Kib4 base address aligned low high = omega arith
+in_page Mib2 base address aligned low high = omega arith
+in_page Gib1 base address aligned low high = omega arith
+in_page Gib512 base address aligned low high = omega arith
+
+-- so has the start of a range within one page that reaches that page
+across : (size : PageSize) (base start count : ℕ) → base % bytes_of size ≡ 0 → start < base + bytes_of size
+    → base < start + count → count ≤ bytes_of size - start % bytes_of size
+    → start / bytes_of size ≡ base / bytes_of size
+across Kib4 base start count aligned before after within = omega arith
+across Mib2 base start count aligned before after within = omega arith
+across Gib1 base start count aligned before after within = omega arith
+across Gib512 base start count aligned before after within = omega arith
+
+of_address : (scheme : Scheme) (address : ℕ) (e : Entry) → IsAligned e → IsTrue (is_of_address scheme address e)
+    → address / bytes_of e.page.size ≡ e.page.base / bytes_of e.page.size
+of_address scheme address e aligned is =
     let parts = and_parts (is_canonical scheme address) (holds e.page address) is in
     let both = and_parts (nat_le e.page.base address) _ parts.1 in
     let low : e.page.base ≤ address = grind (arith, nat_tests) in
     let high : address < e.page.base + bytes_of e.page.size = grind (arith, nat_tests) in
-    omega (arith, small.bytes, small.aligned)
+    in_page e.page.size e.page.base address aligned low high
 
-of_range : (range : AddressRange) (e : Entry) → IsSmall e → IsTrue (is_in_page range) → IsTrue (reaches (Some range) e.page)
-    → range.start / 4096 ≡ e.page.base / 4096
-of_range range e small fits is =
+of_range : (range : AddressRange) (e : Entry) → IsAligned e → IsTrue (is_in_page e.page.size range) → IsTrue (reaches (Some range) e.page)
+    → range.start / bytes_of e.page.size ≡ e.page.base / bytes_of e.page.size
+of_range range e aligned fits is =
     let all = and_parts (nat_lt 0 range.size) _ is in
     let parts = and_parts (nat_lt range.start (e.page.base + bytes_of e.page.size)) (nat_lt e.page.base (range.start + range.size)) all.1 in
     let some : 0 < range.size = grind (arith, nat_tests) in
     let start : range.start < e.page.base + bytes_of e.page.size = grind (arith, nat_tests) in
     let end : e.page.base < range.start + range.size = grind (arith, nat_tests) in
-    let within : range.size ≤ 4096 - range.start % 4096 = grind (arith, nat_tests) in
-    omega (arith, small.bytes, small.aligned)
+    let within : range.size ≤ bytes_of e.page.size - range.start % bytes_of e.page.size = grind (arith, nat_tests) in
+    across e.page.size e.page.base range.start range.size aligned start end within
 
 -- the fence has no ASID, or that of the entry, which is not global
 of_asid : (scheme : Scheme) (asid : Option ℕ) (e : Entry) → IsTrue (is_fenced scheme None asid e)
@@ -71,47 +88,47 @@ of_wide scheme asid e is =
       | inr one ↦ inr (inl (one.0, inr (ap (λ (n : ℕ). 2 ^ 53 + n) one.1)))
     ]
 
-of_page : (scheme : Scheme) (address : ℕ) (asid : Option ℕ) (e : Entry) → address / 4096 ≡ e.page.base / 4096
-    → IsTrue (is_fenced scheme None asid e) → Concerns e (page_key address asid)
+of_page : (scheme : Scheme) (address : ℕ) (asid : Option ℕ) (e : Entry) → address / bytes_of e.page.size ≡ e.page.base / bytes_of e.page.size
+    → IsTrue (is_fenced scheme None asid e) → Concerns e (page_key e.page.size address asid)
 of_page scheme address asid e same is =
     elim (of_asid scheme asid e is) [
       | inl all ↦ inl (λ i. same i % 2 ^ 36 * 2 ^ 17 + all i)
       | inr one ↦ inr (inl (one.0, inl (λ i. same i % 2 ^ 36 * 2 ^ 17 + one.1 i)))
     ]
 
-of_fence : (scheme : Scheme) (range : Option AddressRange) (asid : Option ℕ) (e : Entry) → IsSmall e
-    → IsTrue (reaches range e.page) → IsTrue (is_fenced scheme None asid e) → Concerns e (range_key range asid)
-of_fence scheme None asid e small reach is = of_wide scheme asid e is
-of_fence scheme (Some range) asid e small reach is =
-    elim (cases_Bool (is_in_page range)) [
+of_fence : (scheme : Scheme) (range : Option AddressRange) (asid : Option ℕ) (e : Entry) → IsAligned e
+    → IsTrue (reaches range e.page) → IsTrue (is_fenced scheme None asid e) → Concerns e (range_key e.page.size range asid)
+of_fence scheme None asid e aligned reach is = of_wide scheme asid e is
+of_fence scheme (Some range) asid e aligned reach is =
+    elim (cases_Bool (is_in_page e.page.size range)) [
       | inl narrow ↦
-          subst (Concerns e) (sym (ap (λ b. if b then page_key range.start asid else wide_key asid) narrow))
-          (of_page scheme range.start asid e (of_range range e small narrow reach) is)
+          subst (Concerns e) (sym (ap (λ b. if b then page_key e.page.size range.start asid else wide_key asid) narrow))
+          (of_page scheme range.start asid e (of_range range e aligned narrow reach) is)
       | inr wide ↦
-          subst (Concerns e) (sym (ap (λ b. if b then page_key range.start asid else wide_key asid) wide)) (of_wide scheme asid e is)
+          subst (Concerns e) (sym (ap (λ b. if b then page_key e.page.size range.start asid else wide_key asid) wide)) (of_wide scheme asid e is)
     ]
 
-of_own : (scheme : Scheme) (rs1 rs2 : Option ℕ) (of : ℕ) (e : Entry) → IsSmall e → IsTrue (is_fenced scheme rs1 rs2 e)
-    → Concerns e (key_of (Own of rs1 rs2))
-of_own scheme None rs2 of e small is = of_wide scheme rs2 e is
-of_own scheme (Some rs1) None of e small is = of_page scheme rs1 None e (of_address scheme rs1 e small is) refl
-of_own scheme (Some rs1) (Some rs2) of e small is =
+of_own : (scheme : Scheme) (rs1 rs2 : Option ℕ) (of : ℕ) (e : Entry) → IsAligned e → IsTrue (is_fenced scheme rs1 rs2 e)
+    → Concerns e (key_of e.page.size (Own of rs1 rs2))
+of_own scheme None rs2 of e aligned is = of_wide scheme rs2 e is
+of_own scheme (Some rs1) None of e aligned is = of_page scheme rs1 None e (of_address scheme rs1 e aligned is) refl
+of_own scheme (Some rs1) (Some rs2) of e aligned is =
     let parts = and_parts (is_of_address scheme rs1 e) (is_of_space rs2 e) is in
-    of_page scheme rs1 (Some rs2) e (of_address scheme rs1 e small parts.0) parts.1
+    of_page scheme rs1 (Some rs2) e (of_address scheme rs1 e aligned parts.0) parts.1
 
 -- a fence that drops an entry of a page of 4 KiB has one of its keys
-concerns : (scheme : Scheme) (l : Left) (e : Entry) (fence : PastFence) → IsSmall e
-    → takes scheme l e fence ≡ true → Concerns e (key_of fence)
-concerns scheme l e (Own of rs1 rs2) small is =
-    of_own scheme rs1 rs2 of e small (and_parts (of == l.hart) _ is).1
-concerns scheme l e (Remote fence begun) small is =
+concerns : (scheme : Scheme) (l : Left) (e : Entry) (fence : PastFence) → IsAligned e
+    → takes scheme l e fence ≡ true → Concerns e (key_of e.page.size fence)
+concerns scheme l e (Own of rs1 rs2) aligned is =
+    of_own scheme rs1 rs2 of e aligned (and_parts (of == l.hart) _ is).1
+concerns scheme l e (Remote fence begun) aligned is =
     let parts = and_parts (names fence l.hart) _ is in
     let more = and_parts (is_covered scheme fence e) _ parts.1 in
     let covered = and_parts (reaches fence.range e.page) (is_fenced scheme None fence.asid e) more.0 in
-    of_fence scheme fence.range fence.asid e small covered.0 covered.1
+    of_fence scheme fence.range fence.asid e aligned covered.0 covered.1
 
 by_key : (key : ℕ) (scheme : Scheme) (l : Left) (e : Entry) (fence : PastFence)
-    → takes scheme l e fence ≡ true → key_of fence ≡ key → takes_by key scheme l e fence ≡ true
+    → takes scheme l e fence ≡ true → key_of e.page.size fence ≡ key → takes_by key scheme l e fence ≡ true
 by_key key scheme l e fence is of = and_from _ _ is (eq-eqb _ _ of)
 
 with_left : (a b c : Bool) → a ≡ true → ((a || b) || c) ≡ true
@@ -155,25 +172,25 @@ either_of true b t x y is = x refl
 either_of false b t x y is = y is
 
 -- a fence drops an entry of a page of 4 KiB if it has one of the four keys and drops it
-one_fence : (scheme : Scheme) (l : Left) (e : Entry) (fence : PastFence) → IsSmall e
+one_fence : (scheme : Scheme) (l : Left) (e : Entry) (fence : PastFence) → IsAligned e
     → takes scheme l e fence
-    ≡ ((takes_by (page_key e.page.base None) scheme l e fence
-    || (not e.global && (takes_by (page_key e.page.base (Some e.asid)) scheme l e fence || takes_by (wide_key (Some e.asid)) scheme l e fence)))
+    ≡ ((takes_by (page_key e.page.size e.page.base None) scheme l e fence
+    || (not e.global && (takes_by (page_key e.page.size e.page.base (Some e.asid)) scheme l e fence || takes_by (wide_key (Some e.asid)) scheme l e fence)))
     || takes_by (wide_key None) scheme l e fence)
-one_fence scheme l e fence small =
+one_fence scheme l e fence aligned =
     let t : Bool = takes scheme l e fence in
-    let page : Bool = takes_by (page_key e.page.base None) scheme l e fence in
-    let own_page : Bool = takes_by (page_key e.page.base (Some e.asid)) scheme l e fence in
+    let page : Bool = takes_by (page_key e.page.size e.page.base None) scheme l e fence in
+    let own_page : Bool = takes_by (page_key e.page.size e.page.base (Some e.asid)) scheme l e fence in
     let own : Bool = takes_by (wide_key (Some e.asid)) scheme l e fence in
     let all : Bool = takes_by (wide_key None) scheme l e fence in
     none_of t page (not e.global && (own_page || own)) all
-    (λ h. (and_parts t (key_of fence == page_key e.page.base None) h).0)
+    (λ h. (and_parts t (key_of e.page.size fence == page_key e.page.size e.page.base None) h).0)
     (λ h. either_of own_page own t
-    (λ k. (and_parts t (key_of fence == page_key e.page.base (Some e.asid)) k).0)
-    (λ k. (and_parts t (key_of fence == wide_key (Some e.asid)) k).0)
+    (λ k. (and_parts t (key_of e.page.size fence == page_key e.page.size e.page.base (Some e.asid)) k).0)
+    (λ k. (and_parts t (key_of e.page.size fence == wide_key (Some e.asid)) k).0)
     (and_parts (not e.global) (own_page || own) h).1)
-    (λ h. (and_parts t (key_of fence == wide_key None) h).0)
-    (λ h. one_of page (not e.global && (own_page || own)) all (elim (concerns scheme l e fence small h) [
+    (λ h. (and_parts t (key_of e.page.size fence == wide_key None) h).0)
+    (λ h. one_of page (not e.global && (own_page || own)) all (elim (concerns scheme l e fence aligned h) [
       | inl of ↦ inl (by_key _ scheme l e fence h of)
       | inr (inl (g, inl of)) ↦
           inr (inl (and_from (not e.global) (own_page || own) (ap not g) (or_left own_page own (by_key _ scheme l e fence h of))))
@@ -209,17 +226,17 @@ any_same P Q same [] = refl
 any_same P Q same (f ∷ fences) = λ i. same f i || any_same P Q same fences i
 
 -- so do fences
-pub by_four_keys : (scheme : Scheme) (l : Left) (e : Entry) (fences : List PastFence) → IsSmall e
+pub by_four_keys : (scheme : Scheme) (l : Left) (e : Entry) (fences : List PastFence) → IsAligned e
     → is_taken_since scheme fences l e
-    ≡ ((is_taken_by (page_key e.page.base None) scheme fences l e || is_taken_by_asid scheme fences l e)
+    ≡ ((is_taken_by (page_key e.page.size e.page.base None) scheme fences l e || is_taken_by_asid scheme fences l e)
     || is_taken_by (wide_key None) scheme fences l e)
-by_four_keys scheme l e fences small =
+by_four_keys scheme l e fences aligned =
     let since : List PastFence = drop l.fences fences in
-    let P : PastFence → Bool = takes_by (page_key e.page.base None) scheme l e in
-    let Q : PastFence → Bool = takes_by (page_key e.page.base (Some e.asid)) scheme l e in
+    let P : PastFence → Bool = takes_by (page_key e.page.size e.page.base None) scheme l e in
+    let Q : PastFence → Bool = takes_by (page_key e.page.size e.page.base (Some e.asid)) scheme l e in
     let S : PastFence → Bool = takes_by (wide_key (Some e.asid)) scheme l e in
     let R : PastFence → Bool = takes_by (wide_key None) scheme l e in
-    any_same (takes scheme l e) (λ f. (P f || (not e.global && (Q f || S f))) || R f) (λ f. one_fence scheme l e f small) since
+    any_same (takes scheme l e) (λ f. (P f || (not e.global && (Q f || S f))) || R f) (λ f. one_fence scheme l e f aligned) since
     ∙ any_either (λ f. P f || (not e.global && (Q f || S f))) R since
     ∙ ap (λ t. t || list_any R since) (any_either P (λ f. not e.global && (Q f || S f)) since)
     ∙ ap (λ t. (list_any P since || t) || list_any R since)
@@ -248,34 +265,34 @@ any_no P fences since n h is =
     ]
 
 -- only fences with the key count, so those after the last one with it do not
-any_last : (P : PastFence → Bool) (key : ℕ) → ((f : PastFence) → P f ≡ true → key_of f ≡ key)
+any_last : (size : PageSize) (P : PastFence → Bool) (key : ℕ) → ((f : PastFence) → P f ≡ true → key_of size f ≡ key)
     → (fences : List PastFence) (since n : ℕ) → n ≤ length fences
     → list_any P (drop since (take n fences))
-    ≡ list_any P (drop since (take (last_place key (take n (map key_of fences))) fences))
-any_last P key has fences since zero h = refl
-any_last P key has fences since (suc n) h =
-    let keys : List ℕ = map key_of fences in
-    let size : length keys ≡ length fences = length-map fences key_of in
-    let at : get_or keys n 0 ≡ key_of (get_or fences n none) = get_or-map key_of fences n none 0 (omega arith) in
+    ≡ list_any P (drop since (take (last_place key (take n (map (key_of size) fences))) fences))
+any_last size P key has fences since zero h = refl
+any_last size P key has fences since (suc n) h =
+    let keys : List ℕ = map (key_of size) fences in
+    let many : length keys ≡ length fences = length-map fences (key_of size) in
+    let at : get_or keys n 0 ≡ key_of size (get_or fences n none) = get_or-map (key_of size) fences n none 0 (omega arith) in
     elim (cases_Bool (get_or keys n 0 == key)) [
       | inl here ↦ ap (λ (m : ℕ). list_any P (drop since (take m fences))) (sym (last_yes (λ k. k == key) keys n (omega arith) here))
       | inr other ↦
           (let not_taken : P (get_or fences n none) ≡ false =
           false_from_ne_true _ (λ taken. eqb-false _ _ other (at ∙ has _ taken)) in
           any_no P fences since n (omega arith) not_taken
-          ∙ any_last P key has fences since n (omega arith)
+          ∙ any_last size P key has fences since n (omega arith)
           ∙ ap (λ (m : ℕ). list_any P (drop since (take m fences))) (sym (last_no (λ k. k == key) keys n (omega arith) other)))
     ]
 
 has_key : (key : ℕ) (scheme : Scheme) (l : Left) (e : Entry) (fence : PastFence)
-    → takes_by key scheme l e fence ≡ true → key_of fence ≡ key
+    → takes_by key scheme l e fence ≡ true → key_of e.page.size fence ≡ key
 has_key key scheme l e fence is = eqb-true _ _ (and_parts (takes scheme l e fence) _ is).1
 
 -- the walk is at the place before this: the fence there came since and has the key, and the answer is
 -- that of the fences up to there
 pub record IsAt (key : ℕ) (scheme : Scheme) (l : Left) (e : Entry) (fences : List PastFence) (at : ℕ) : Type 0 where
   pub within : at ≤ length fences
-  pub has : 0 < at → get_or (map key_of fences) (at - 1) 0 ≡ key
+  pub has : 0 < at → get_or (map (key_of e.page.size) fences) (at - 1) 0 ≡ key
   pub since : 0 < at → l.fences < at
   pub same : is_taken_by key scheme (take at fences) l e ≡ is_taken_by key scheme fences l e
 
@@ -288,15 +305,15 @@ none_since key scheme l e fences n h old =
 
 at_last : (key : ℕ) (scheme : Scheme) (l : Left) (e : Entry) (fences : List PastFence) (n : ℕ) → n ≤ length fences
     → is_taken_by key scheme (take n fences) l e ≡ is_taken_by key scheme fences l e
-    → IsAt key scheme l e fences (above l.fences (last_place key (take n (map key_of fences))))
+    → IsAt key scheme l e fences (above l.fences (last_place key (take n (map (key_of e.page.size) fences))))
 at_last key scheme l e fences n h is =
-    let keys : List ℕ = map key_of fences in
-    let size : length keys ≡ length fences = length-map fences key_of in
+    let keys : List ℕ = map (key_of e.page.size) fences in
+    let size : length keys ≡ length fences = length-map fences (key_of e.page.size) in
     let count : n ≤ length keys = omega arith in
     let last : ℕ = last_place key (take n keys) in
     let below : last ≤ n = last_within (λ k. k == key) keys n count in
     let same : is_taken_by key scheme (take last fences) l e ≡ is_taken_by key scheme fences l e =
-    sym (any_last (takes_by key scheme l e) key (has_key key scheme l e) fences l.fences n h) ∙ is in
+    sym (any_last e.page.size (takes_by key scheme l e) key (has_key key scheme l e) fences l.fences n h) ∙ is in
     elim (cases_lt l.fences last) [
       | inl since ↦ subst (IsAt key scheme l e fences) (sym (above_more l.fences last since)) (record {
         within = omega arith;
@@ -316,19 +333,19 @@ at_last key scheme l e fences n h is =
 
 -- it begins at the newest fence with the key
 pub at_first : (key : ℕ) (scheme : Scheme) (l : Left) (e : Entry) (fences : List PastFence) (keys : List ℕ) (at : ℕ)
-    → keys ≡ map key_of fences → at ≡ above l.fences (last_place key keys) → IsAt key scheme l e fences at
+    → keys ≡ map (key_of e.page.size) fences → at ≡ above l.fences (last_place key keys) → IsAt key scheme l e fences at
 at_first key scheme l e fences keys at are is =
-    let size : length (map key_of fences) ≡ length fences = length-map fences key_of in
-    let found : last_place key (take (length fences) (map key_of fences)) ≡ last_place key keys =
-    ap (λ (n : ℕ). last_place key (take n (map key_of fences))) (sym size)
-    ∙ last_of_all key (map key_of fences) ∙ ap (last_place key) (sym are) in
+    let size : length (map (key_of e.page.size) fences) ≡ length fences = length-map fences (key_of e.page.size) in
+    let found : last_place key (take (length fences) (map (key_of e.page.size) fences)) ≡ last_place key keys =
+    ap (λ (n : ℕ). last_place key (take n (map (key_of e.page.size) fences))) (sym size)
+    ∙ last_of_all key (map (key_of e.page.size) fences) ∙ ap (last_place key) (sym are) in
     subst (IsAt key scheme l e fences) (ap (above l.fences) found ∙ sym is)
     (at_last key scheme l e fences (length fences) (omega arith)
     (ap (λ (xs : List PastFence). is_taken_by key scheme xs l e) (take-length fences)))
 
 -- and goes on to the next older one
 pub at_next : (key : ℕ) (scheme : Scheme) (l : Left) (e : Entry) (fences : List PastFence) (keys : List ℕ) (at older : ℕ) (fence : PastFence)
-    → keys ≡ map key_of fences → 0 < at → IsAt key scheme l e fences at
+    → keys ≡ map (key_of e.page.size) fences → 0 < at → IsAt key scheme l e fences at
     → fence ≡ get_or fences (at - 1) fence → takes scheme l e fence ≡ false
     → older ≡ above l.fences (last_place (get_or keys (at - 1) 0) (take (at - 1) keys)) → IsAt key scheme l e fences older
 at_next key scheme l e fences keys zero older fence are some was there no_drop is = absurd (omega arith)
@@ -338,9 +355,9 @@ at_next key scheme l e fences keys (suc n) older fence are some was there no_dro
     let here : get_or fences n none ≡ fence =
     get_or_default fences n none fence room ∙ ap (λ (m : ℕ). get_or fences m fence) (sym at) ∙ sym there in
     let not_taken : takes_by key scheme l e (get_or fences n none) ≡ false =
-    ap (takes_by key scheme l e) here ∙ ap (λ t. t && (key_of fence == key)) no_drop in
+    ap (takes_by key scheme l e) here ∙ ap (λ t. t && (key_of e.page.size fence == key)) no_drop in
     let has : get_or keys (suc n - 1) 0 ≡ key = ap (λ (ks : List ℕ). get_or ks (suc n - 1) 0) are ∙ was.has some in
-    let found : older ≡ above l.fences (last_place key (take n (map key_of fences))) =
+    let found : older ≡ above l.fences (last_place key (take n (map (key_of e.page.size) fences))) =
     is ∙ (λ i. above l.fences (last_place (has i) (take (at i) (are i)))) in
     subst (IsAt key scheme l e fences) (sym found)
     (at_last key scheme l e fences n (omega arith)
@@ -356,8 +373,3 @@ older_is_less keys key at older floor some within is =
       | inl more ↦ (let e : older ≡ last = is ∙ above_more floor last more in omega arith)
       | inr less ↦ (let e : older ≡ 0 = is ∙ above_less floor last less in omega arith)
     ]
-
-pub small_entry : (e : Entry) → e.page.size ≡ Kib4 → IsPage e.page → IsSmall e
-small_entry e size page =
-    let bytes : bytes_of e.page.size ≡ 4096 = ap bytes_of size in
-    record { bytes = bytes; aligned = subst (λ (n : ℕ). e.page.base % n ≡ 0) bytes page.aligned }

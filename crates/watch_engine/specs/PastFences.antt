@@ -1,11 +1,12 @@
--- By which key a fence that has been executed is found: by its ASID if it has one, and by the page if all
--- its addresses lie in one of 4 KiB.
+-- By which key a fence that has been executed is found, for entries of pages of a size: by its ASID if it
+-- has one, and by the page if all its addresses lie in one of that size.
 use Rattle.std.specs.Prelude.{ℕ, Bool, ◌+◌, ◌-◌, ◌*◌, ◌/◌, ◌%◌, ◌^◌, ◌==◌, ◌&&◌, ◌||◌, nat_le, not, if◌then◌else◌}
 use Rattle.std.specs.Prelude.{List, drop, Option, None, Some}
 use Rattle.std.specs.List.{list_any}
+use Rattle.pte.specs.Address.{bytes_of}
+use Rattle.pte.specs.declared.address.PageSize.{PageSize}
 use Rattle.pte.specs.declared.scheme.Scheme.{Scheme}
 use Rattle.pte.specs.declared.TheConstants.{ASID_BITS}
-use Rattle.pte.specs.declared.address.TheConstants.{PAGE_BYTES}
 use Rattle.tlb.specs.declared.store.Entry.{Entry}
 use Rattle.watch.specs.declared.trace.AddressRange.{AddressRange}
 use Rattle.watch_engine.specs.Left.{takes}
@@ -18,29 +19,30 @@ abbrev pub asid_key : Option ℕ → ℕ
 asid_key None = 2 ^ ASID_BITS
 asid_key (Some asid) = asid % 2 ^ ASID_BITS
 
--- the page that an address lies in, of the 2 ^ 36 of canonical addresses, and the ASID
-abbrev pub page_key : ℕ → Option ℕ → ℕ
-page_key address asid = address / PAGE_BYTES % 2 ^ 36 * 2 ^ 17 + asid_key asid
+-- the page of a size that an address lies in, of the 2 ^ 36 or fewer of canonical addresses, and the ASID
+abbrev pub page_key : PageSize → ℕ → Option ℕ → ℕ
+page_key size address asid = address / bytes_of size % 2 ^ 36 * 2 ^ 17 + asid_key asid
 
 abbrev pub wide_key : Option ℕ → ℕ
 wide_key asid = 2 ^ 53 + asid_key asid
 
 -- all addresses of the range lie in one page
-abbrev pub is_in_page : AddressRange → Bool
-is_in_page range = nat_le range.size (PAGE_BYTES - range.start % PAGE_BYTES)
+abbrev pub is_in_page : PageSize → AddressRange → Bool
+is_in_page size range = nat_le range.size (bytes_of size - range.start % bytes_of size)
 
-abbrev pub range_key : Option AddressRange → Option ℕ → ℕ
-range_key None asid = wide_key asid
-range_key (Some range) asid = if is_in_page range then page_key range.start asid else wide_key asid
+abbrev pub range_key : PageSize → Option AddressRange → Option ℕ → ℕ
+range_key size None asid = wide_key asid
+range_key size (Some range) asid =
+    if is_in_page size range then page_key size range.start asid else wide_key asid
 
-abbrev pub key_of : PastFence → ℕ
-key_of (Own of None rs2) = wide_key rs2
-key_of (Own of (Some address) rs2) = page_key address rs2
-key_of (Remote fence begun) = range_key fence.range fence.asid
+abbrev pub key_of : PageSize → PastFence → ℕ
+key_of size (Own of None rs2) = wide_key rs2
+key_of size (Own of (Some address) rs2) = page_key size address rs2
+key_of size (Remote fence begun) = range_key size fence.range fence.asid
 
 -- a fence with the key since the hart left the space has dropped the entry
 abbrev pub takes_by : ℕ → Scheme → Left → Entry → PastFence → Bool
-takes_by key scheme l e fence = takes scheme l e fence && (key_of fence == key)
+takes_by key scheme l e fence = takes scheme l e fence && (key_of e.page.size fence == key)
 
 abbrev pub is_taken_by : ℕ → Scheme → List PastFence → Left → Entry → Bool
 is_taken_by key scheme fences l e = list_any (takes_by key scheme l e) (drop l.fences fences)
@@ -49,5 +51,5 @@ is_taken_by key scheme fences l e = list_any (takes_by key scheme l e) (drop l.f
 abbrev pub is_taken_by_asid : Scheme → List PastFence → Left → Entry → Bool
 is_taken_by_asid scheme fences l e =
     not e.global
-    && (is_taken_by (page_key e.page.base (Some e.asid)) scheme fences l e
+    && (is_taken_by (page_key e.page.size e.page.base (Some e.asid)) scheme fences l e
     || is_taken_by (wide_key (Some e.asid)) scheme fences l e)

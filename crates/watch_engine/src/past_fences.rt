@@ -1,18 +1,20 @@
-//! Fences that have been executed, each found by a key of what it can drop.
+//! Fences that have been executed, each found by keys of what it can drop.
 
-ghost use Rattle.std.specs.Prelude.{◌≡◌, ◌≤◌, ◌^◌, ◌++◌, ◌∷◌, [], None, OnErr, OnOk, map, true};
+ghost use Rattle.std.specs.Prelude.{◌≡◌, ◌≤◌, ◌/◌, ◌^◌, ◌++◌, ◌∷◌, [], None, OnErr, OnOk, map, true};
+ghost use Rattle.pte.specs.Address.{bytes_of};
+ghost use Rattle.pte.specs.declared.address.PageSize.TheVariants.{Kib4, Mib2};
 ghost use Rattle.watch_engine.specs.Left.{is_taken_since};
 ghost use Rattle.watch_engine.specs.PastFences.{asid_key, is_in_page, is_taken_by, is_taken_by_asid, key_of, page_key, range_key, wide_key};
 
 use crate::chains::Chains;
 use crate::fence::{ASIDS, asid_register};
 use crate::left::{Left, PastFence, is_taken_since};
-use pte::{PAGE_BYTES, PageSize, Scheme};
+use pte::{PageSize, Scheme};
 use std::alloc::{AllocError, Global};
 use tlb::Entry;
 use watch::AddressRange;
 
-/// How many pages of 4 KiB canonical addresses have.
+/// How many pages of 4 KiB canonical addresses have. There are fewer of each larger size.
 const PAGES: u64 = 1 << 36;
 
 /// How many numbers keys leave to the ASID of a page: there is one for each ASID, and one for all.
@@ -29,11 +31,23 @@ fn asid_key(asid: Option<u64>) -> u64
     }
 }
 
-// The key of fences for addresses of one page.
-fn page_key(address: u64, asid: Option<u64>) -> u64
-    ensures { result ≡ page_key address asid }
+// The number of the page of a size that an address lies in.
+fn page_number(size: PageSize, address: u64) -> u64
+    ensures { result ≡ address / bytes_of size }
 {
-    address / PAGE_BYTES % PAGES * KEYS + asid_key(asid)
+    match size {
+        PageSize::Kib4 => address / PageSize::Kib4.bytes(),
+        PageSize::Mib2 => address / PageSize::Mib2.bytes(),
+        PageSize::Gib1 => address / PageSize::Gib1.bytes(),
+        PageSize::Gib512 => address / PageSize::Gib512.bytes(),
+    }
+}
+
+// The key of fences for addresses of one page of a size.
+fn page_key(size: PageSize, address: u64, asid: Option<u64>) -> u64
+    ensures { result ≡ page_key size address asid }
+{
+    page_number(size, address) % PAGES * KEYS + asid_key(asid)
 }
 
 // The key of fences for addresses of many pages.
@@ -43,31 +57,32 @@ fn wide_key(asid: Option<u64>) -> u64
     PAGES * KEYS + asid_key(asid)
 }
 
-// All addresses of the range lie in one page.
-fn is_in_page(range: &AddressRange) -> bool
-    ensures { result ≡ is_in_page range.now }
+// All addresses of the range lie in one page of the size.
+fn is_in_page(size: PageSize, range: &AddressRange) -> bool
+    ensures { result ≡ is_in_page size range.now }
 {
-    range.size <= PAGE_BYTES - range.start % PAGE_BYTES
+    let bytes = size.bytes();
+    range.size <= bytes - range.start % bytes
 }
 
-fn range_key(range: &Option<AddressRange>, asid: Option<u64>) -> u64
-    ensures { result ≡ range_key range.now asid }
+fn range_key(size: PageSize, range: &Option<AddressRange>, asid: Option<u64>) -> u64
+    ensures { result ≡ range_key size range.now asid }
 {
     let Some(range) = range else {
         return wide_key(asid);
     };
-    if is_in_page(range) {
-        page_key(range.start, asid)
+    if is_in_page(size, range) {
+        page_key(size, range.start, asid)
     } else {
         wide_key(asid)
     }
 }
 
 impl PastFence {
-    // The key that it is found by. An entry of 4 KiB that it drops has this key among four: of its page or
-    // of many pages, with its ASID or with none.
-    fn key(&self) -> u64
-        ensures { result ≡ key_of self.now }
+    // The key that it is found by, for entries of pages of a size. One that it drops has this key among
+    // four: of its page or of many pages, with its ASID or with none.
+    fn key(&self, size: PageSize) -> u64
+        ensures { result ≡ key_of size self.now }
     {
         match self {
             PastFence::Own { rs1: None, rs2, .. } => wide_key(*rs2),
@@ -75,54 +90,58 @@ impl PastFence {
                 rs1: Some(address),
                 rs2,
                 ..
-            } => page_key(*address, *rs2),
-            PastFence::Remote { fence, .. } => range_key(&fence.range, asid_register(fence.asid)),
+            } => page_key(size, *address, *rs2),
+            PastFence::Remote { fence, .. } => {
+                range_key(size, &fence.range, asid_register(fence.asid))
+            }
         }
     }
 }
 
-/// Fences that have been executed, the oldest first.
+/// The keys of fences, for entries of pages of one size.
 #[derive(Drop)]
-pub(crate) struct PastFences {
-    pub(crate) fences: Vec<PastFence>,
+struct FenceKeys {
     keys: Chains,
-    /// Each has its key. Once there was no memory for one, all are asked.
+    /// Each fence has its key. Once there was no memory for one, all fences are asked.
     is_keyed: bool,
-    ghost keyed: { is_keyed ≡ true → keys.keys.items ≡ map key_of fences.items },
 }
 
-impl PastFences {
-    pub(crate) fn new(alloc: Global) -> PastFences
-        ensures { result.fences.items ≡ [] }
+impl FenceKeys {
+    fn new(alloc: Global) -> FenceKeys
+        ensures { result.keys.keys.items ≡ [] }
     {
-        PastFences {
-            fences: Vec::new(alloc),
+        FenceKeys {
             keys: Chains::new(alloc),
             is_keyed: true,
         }
     }
 
-    /// With one more. At `Err` nothing changed.
-    pub(crate) fn push(&mut self, fence: PastFence) -> Result<(), AllocError>
-        ensures ok { OnOk result (self.new.fences.items ≡ self.old.fences.items ++ fence ∷ []) }
-        ensures err { OnErr result (self.new.fences.items ≡ self.old.fences.items) }
+    // With the key of one more fence, if there is memory for it.
+    fn push(&mut self, key: u64)
+        ensures before { self.new.is_keyed ≡ true → self.old.is_keyed ≡ true }
+        ensures keys { self.new.is_keyed ≡ true → self.new.keys.keys.items ≡ self.old.keys.keys.items ++ key ∷ [] }
     {
-        self.fences.push(fence)?;
-        if self.is_keyed && self.keys.push(fence.key()).is_err() {
+        if self.is_keyed && self.keys.push(key).is_err() {
             self.is_keyed = false;
         }
-        Ok(())
     }
 
     // Whether a fence with the key since the hart left the space has dropped the entry.
-    fn is_taken_by(&self, key: u64, scheme: Scheme, left: &Left, entry: &Entry) -> bool
-        requires { self.now.is_keyed ≡ true }
-        ensures { result ≡ is_taken_by key scheme self.now.fences.items left.now entry.now }
+    fn is_taken_by(
+        &self,
+        fences: &[PastFence],
+        key: u64,
+        scheme: Scheme,
+        left: &Left,
+        entry: &Entry,
+    ) -> bool
+        requires { self.now.keys.keys.items ≡ map (key_of entry.now.page.size) fences.now }
+        ensures { result ≡ is_taken_by key scheme fences.now left.now entry.now }
     {
         let since = left.fences as usize;
         let mut at = self.keys.newest_above(key, since);
         while at > 0 {
-            let fence = self.fences[at - 1];
+            let fence = fences[at - 1];
             if fence.takes(scheme, left, entry) {
                 return true;
             }
@@ -132,36 +151,94 @@ impl PastFences {
     }
 
     // The same of fences with the ASID of the entry, which drop nothing that is global.
-    fn is_taken_by_asid(&self, scheme: Scheme, left: &Left, entry: &Entry) -> bool
-        requires { self.now.is_keyed ≡ true }
-        ensures { result ≡ is_taken_by_asid scheme self.now.fences.items left.now entry.now }
+    fn is_taken_by_asid(
+        &self,
+        fences: &[PastFence],
+        scheme: Scheme,
+        left: &Left,
+        entry: &Entry,
+    ) -> bool
+        requires { self.now.keys.keys.items ≡ map (key_of entry.now.page.size) fences.now }
+        ensures { result ≡ is_taken_by_asid scheme fences.now left.now entry.now }
     {
         if entry.global {
             return false;
         }
         let asid = Some(u64::from(entry.asid));
-        let page = page_key(entry.page.base().get(), asid);
-        self.is_taken_by(page, scheme, left, entry)
-            || self.is_taken_by(wide_key(asid), scheme, left, entry)
+        let page = page_key(entry.page.size(), entry.page.base().get(), asid);
+        self.is_taken_by(fences, page, scheme, left, entry)
+            || self.is_taken_by(fences, wide_key(asid), scheme, left, entry)
+    }
+
+    // Whether a fence since the hart left the space has dropped the entry, found by the entry's keys.
+    fn is_taken_since(
+        &self,
+        fences: &[PastFence],
+        scheme: Scheme,
+        left: &Left,
+        entry: &Entry,
+    ) -> bool
+        requires { self.now.keys.keys.items ≡ map (key_of entry.now.page.size) fences.now }
+        ensures { result ≡ is_taken_since scheme fences.now left.now entry.now }
+    {
+        let page = page_key(entry.page.size(), entry.page.base().get(), None);
+        if self.is_taken_by(fences, page, scheme, left, entry) {
+            return true;
+        }
+        if self.is_taken_by_asid(fences, scheme, left, entry) {
+            return true;
+        }
+        self.is_taken_by(fences, wide_key(None), scheme, left, entry)
+    }
+}
+
+/// Fences that have been executed, the oldest first.
+#[derive(Drop)]
+pub(crate) struct PastFences {
+    pub(crate) fences: Vec<PastFence>,
+    /// Their keys for entries of 4 KiB.
+    small: FenceKeys,
+    /// Their keys for entries of 2 MiB.
+    large: FenceKeys,
+    ghost small_keyed: { small.is_keyed ≡ true → small.keys.keys.items ≡ map (key_of Kib4) fences.items },
+    ghost large_keyed: { large.is_keyed ≡ true → large.keys.keys.items ≡ map (key_of Mib2) fences.items },
+}
+
+impl PastFences {
+    pub(crate) fn new(alloc: Global) -> PastFences
+        ensures { result.fences.items ≡ [] }
+    {
+        PastFences {
+            fences: Vec::new(alloc),
+            small: FenceKeys::new(alloc),
+            large: FenceKeys::new(alloc),
+        }
+    }
+
+    /// With one more. At `Err` nothing changed.
+    pub(crate) fn push(&mut self, fence: PastFence) -> Result<(), AllocError>
+        ensures ok { OnOk result (self.new.fences.items ≡ self.old.fences.items ++ fence ∷ []) }
+        ensures err { OnErr result (self.new.fences.items ≡ self.old.fences.items) }
+    {
+        self.fences.push(fence)?;
+        self.small.push(fence.key(PageSize::Kib4));
+        self.large.push(fence.key(PageSize::Mib2));
+        Ok(())
     }
 
     /// Whether a fence since the hart left the space has dropped the entry.
     pub(crate) fn is_taken_since(&self, scheme: Scheme, left: &Left, entry: &Entry) -> bool
         ensures { result ≡ is_taken_since scheme self.now.fences.items left.now entry.now }
     {
-        if !self.is_keyed {
-            return is_taken_since(scheme, self.fences.as_slice(), left, entry);
+        let fences = self.fences.as_slice();
+        match entry.page.size() {
+            PageSize::Kib4 if self.small.is_keyed => {
+                self.small.is_taken_since(fences, scheme, left, entry)
+            }
+            PageSize::Mib2 if self.large.is_keyed => {
+                self.large.is_taken_since(fences, scheme, left, entry)
+            }
+            _ => is_taken_since(scheme, fences, left, entry),
         }
-        let PageSize::Kib4 = entry.page.size() else {
-            return is_taken_since(scheme, self.fences.as_slice(), left, entry);
-        };
-        let page = page_key(entry.page.base().get(), None);
-        if self.is_taken_by(page, scheme, left, entry) {
-            return true;
-        }
-        if self.is_taken_by_asid(scheme, left, entry) {
-            return true;
-        }
-        self.is_taken_by(wide_key(None), scheme, left, entry)
     }
 }
