@@ -382,7 +382,7 @@ impl Picture {
 }
 
 /// Writes a record as a document.
-fn write(alloc: Global, record: &Record) -> Result<String, AllocError> {
+pub(crate) fn write(alloc: Global, record: &Record) -> Result<String, AllocError> {
     let mut picture = Picture::new(alloc, record);
     picture.push_front(record)?;
     let rows = u32::try_from(record.rows.len()).unwrap_or(u32::MAX);

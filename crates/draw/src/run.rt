@@ -11,9 +11,12 @@ use files::{Fault, RunScenario};
 use lines::{push_hexadecimal, push_page};
 use pte::Page;
 use spaces::OpenFault;
-use stale::{BecameStale, StaleAt, StaleItem, StaleUse, step_stale};
+use stale::{BecameStale, StaleAt, StaleItem, StaleUse, may_end_stale, step_stale};
 use std::alloc::{AllocError, Global};
 use stepcore::{Event, Machine, Reply};
+
+#[cfg(test)]
+mod asked_always;
 
 /// A run while it is recorded: what is open, and what has ended.
 #[derive(Drop)]
@@ -302,7 +305,9 @@ impl Recorder {
         if !matches!(reply, Reply::Refused(_)) {
             self.note(row, event, &reply)?;
             self.note_items(row, items.as_slice())?;
-            self.note_drops(machine, row)?;
+            if may_end_stale(event, &reply) {
+                self.note_drops(machine, row)?;
+            }
         }
         self.add_row(event, reply)
     }

@@ -21,3 +21,4 @@ pub mod Passing
 pub mod Whole
 pub mod Options
 pub mod Lasts
+mod Unchanged

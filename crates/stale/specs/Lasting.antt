@@ -1,5 +1,5 @@
 -- How long an entry holds stale mappings of a page.
-use Rattle.std.specs.Prelude.{ℕ, false, if◌then◌else◌, Contains}
+use Rattle.std.specs.Prelude.{ℕ, Bool, true, false, if◌then◌else◌, Contains}
 use Rattle.pte.specs.Address.{Span}
 use Rattle.pte.specs.Entry.{is_user}
 use Rattle.pte.specs.declared.flags.PteFlags.{PteFlags}
@@ -9,7 +9,10 @@ use Rattle.walk.specs.Maps.{LiesIn}
 use Rattle.tlb.specs.declared.store.Entry.{Entry}
 use Rattle.tlb.specs.Mappings.{Mapping, IsMappingOf}
 use Rattle.history.specs.Setup.{Setup}
-use Rattle.history.specs.Turns.{History}
+use Rattle.history.specs.declared.event.Event.{Event}
+use Rattle.history.specs.declared.event.Event.TheVariants.{Begin, Load, Flush, Switch, Post, Take, Ack, Collect, Finish, Close}
+use Rattle.history.specs.declared.reply.Reply.{Reply}
+use Rattle.history.specs.Turns.{History, is_filled}
 use Rattle.history.specs.Harts.{entries_of}
 use Rattle.stale.specs.Stale.{Stale}
 
@@ -26,3 +29,18 @@ pub record StaleIn (setup : Setup) (history : History) (hart : ℕ) (e : Entry) 
 abbrev pub own_context : PteFlags → Ctx
 own_context flags =
     record { mode = if is_user flags.0 then User else Super; sum = false; mxr = false }
+
+-- whether an event that got this reply may change words of tables, entries of TLBs, or which spaces
+-- there are: a Load where it fills, and all but these others
+abbrev pub may_change : Event → Reply → Bool
+may_change (Load hart) reply = is_filled reply
+may_change (Begin hart va access ctx) reply = false
+may_change (Flush hart scope named) reply = false
+may_change (Switch hart space) reply = false
+may_change (Post hart ticket to) reply = false
+may_change (Take hart from) reply = false
+may_change (Ack hart) reply = false
+may_change (Collect hart ticket from) reply = false
+may_change (Finish hart ticket) reply = false
+may_change (Close hart to) reply = false
+may_change _ reply = true

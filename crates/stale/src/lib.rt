@@ -3,6 +3,7 @@
 #![tactic(auto)]
 
 mod changes;
+mod ends;
 mod hits;
 mod items;
 mod lasting;
@@ -11,6 +12,7 @@ mod promises;
 mod report;
 mod runs;
 
+pub use ends::may_end_stale;
 pub use hits::{StaleUse, stale_use};
 pub use items::{BecameStale, StaleAt, StaleItem};
 pub use lasting::stale_page;

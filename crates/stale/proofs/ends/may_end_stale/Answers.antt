@@ -1,0 +1,6 @@
+use Rattle.std.proofs.Common.{sym, ◌∙◌}
+use Rattle.stale.proofs.Unchanged.{unchanged}
+use Rattle.stale.proofs.ends.may_end_stale.Goals as goal
+
+pub returns : goal.returns
+returns c = λ plain. unchanged c.args.event.now c.args.reply.now (sym c.may_change.ensures ∙ plain)

@@ -1,0 +1,50 @@
+//! Which steps can end that a TLB holds a stale mapping.
+
+ghost use Rattle.std.specs.Prelude.{ℕ, ◌≡◌, ◌↔◌, false};
+ghost use Rattle.pte.specs.Address.{Span};
+ghost use Rattle.tlb.specs.declared.store.Entry.{Entry};
+ghost use Rattle.tlb.specs.Mappings.{Mapping};
+ghost use Rattle.history.specs.Setup.{Setup};
+ghost use Rattle.history.specs.Turns.{History};
+ghost use Rattle.history.specs.Runs.{with_turn};
+ghost use Rattle.stale.specs.Lasting.{may_change, StaleIn};
+
+use stepcore::{Event, Reply};
+
+/// Whether a step that got this reply may change tables, TLBs, or which spaces there are.
+fn may_change(event: &Event, reply: &Reply) -> bool
+    ensures { result ≡ may_change event.now reply.now }
+{
+    match *event {
+        Event::Load { .. } => matches!(reply, Reply::Filled(_)),
+        Event::Begin { .. }
+        | Event::Flush { .. }
+        | Event::Switch { .. }
+        | Event::Post { .. }
+        | Event::Take { .. }
+        | Event::Ack { .. }
+        | Event::Collect { .. }
+        | Event::Finish { .. }
+        | Event::Close { .. } => false,
+        Event::Map { .. }
+        | Event::Unmap { .. }
+        | Event::Protect { .. }
+        | Event::Fence { .. }
+        | Event::ServeFence { .. }
+        | Event::AckSelf { .. }
+        | Event::Retire { .. }
+        | Event::Reclaim { .. }
+        | Event::Create { .. } => true,
+    }
+}
+
+/// Whether a step that got this reply can change which stale mappings TLBs hold. `false`: they hold
+/// just those after it that they held before it.
+pub fn may_end_stale(event: &Event, reply: &Reply) -> bool
+    ensures { result ≡ false → (setup : Setup) (history : History) (hart : ℕ) (e : Entry)
+        (page : Span) (m : Mapping)
+        → StaleIn setup (with_turn event.now reply.now history) hart e page m
+        ↔ StaleIn setup history hart e page m }
+{
+    may_change(event, reply)
+}
