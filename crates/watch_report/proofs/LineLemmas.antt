@@ -1,19 +1,25 @@
 -- A line in front of a text.
-use Rattle.std.proofs.Common.{◌≡◌, ◌≢◌, ℕ, Bool, true, false, List, [], ◌∷◌, ◌++◌, All, Option, None, Some, IfSome, cond, eqb, refl, sym, ap, subst, ◌∙◌, append_assoc, ne_eqb, eqb-true}
-use Rattle.std.specs.Io.KnownBytes.{Consumes, IsAtEnd}
+use Rattle.std.proofs.Common.{◌≡◌, ◌≢◌, ℕ, ◌+◌, ◌≤◌, ◌<◌, Bool, true, false, List, [], ◌∷◌, ◌++◌, All, Option, None, Some, IfSome, cond, eqb, length, take, get_or, refl, sym, ap, subst, ◌∙◌, append_assoc, ne_eqb, eq-eqb, eqb-true, arith, zero-le, get_or-take, length-take-le}
+use Rattle.std.specs.Io.KnownBytes.{Consumes, IsAtEnd, Keeps}
 use Rattle.std.specs.Io.BufRead.{take_through, drop_through, DropsThrough}
-use Rattle.std.proofs.lemmas.List.Elements.{All-head, All-tail}
+use Rattle.std.proofs.lemmas.List.{take_more}
+use Rattle.std.proofs.lemmas.List.Elements.{All-from_get_or, All-head, All-tail}
 use Rattle.std.proofs.lemmas.List.Splits.{slice_split_at, slice_split_none}
+use Rattle.memchr.specs.Find.{IsFirstByte, is_byte}
 use Rattle.watch_report.specs.Reading.{CutsLine, IsLastUnless, ReadsLine}
 use Rattle.watch_report.specs.TraceText.{is_feed, lines_of}
 
 no_feed : (line : List ℕ) → All (λ byte. byte ≢ 10) line → All (λ byte. is_feed byte ≡ false) line
 no_feed line h = λ k d less. ne_eqb _ 10 (h k d less)
 
--- bytes that were read up to a line feed, or to the end
+-- bytes that were read up to a line feed
+cut_feed : (bytes line : List ℕ) → bytes ≡ line ++ 10 ∷ [] → All (λ byte. byte ≢ 10) line → CutsLine true bytes line
+cut_feed bytes line ends none =
+    λ after. ap (λ (b : List ℕ). lines_of (b ++ after)) ends ∙ ap lines_of (append_assoc line (10 ∷ []) after) ∙ slice_split_at is_feed line 10 after (no_feed line none) refl
+
+-- or to the end
 cut : (more : Bool) (bytes line : List ℕ) → (more ≡ true → bytes ≡ line ++ 10 ∷ []) → (more ≡ false → line ≡ bytes) → All (λ byte. byte ≢ 10) line → CutsLine more bytes line
-cut true bytes line ends whole none =
-    λ after. ap (λ (b : List ℕ). lines_of (b ++ after)) (ends refl) ∙ ap lines_of (append_assoc line (10 ∷ []) after) ∙ slice_split_at is_feed line 10 after (no_feed line none) refl
+cut true bytes line ends whole none = cut_feed bytes line (ends refl) none
 cut false bytes line ends whole none = ap lines_of (sym (whole refl)) ∙ slice_split_none is_feed line (no_feed line none)
 
 -- what has no line feed was read to the end
@@ -41,4 +47,32 @@ reads_line more left rest bytes line ends whole none read drops consumed =
       consumed = consumed;
       cut = cut more bytes line ends whole none;
       last = last more left rest bytes line whole none read drops consumed;
+    }
+
+-- a reader that showed its bytes kept them
+unknown_last : (more : Bool) (rest : Option (List ℕ)) → IsLastUnless more None rest
+unknown_last true rest = tt
+unknown_last false rest = tt
+
+pub kept_line : (left mid rest : Option (List ℕ)) (line : List ℕ) (more : Bool) → Keeps left mid → ReadsLine mid rest line more → ReadsLine left rest line more
+kept_line None mid rest line more kept read = record { bytes = read.bytes; consumed = tt; cut = read.cut; last = unknown_last more rest }
+kept_line (Some all) None rest line more kept read = absurd kept
+kept_line (Some all) (Some same) rest line more kept read = subst (λ (l : List ℕ). ReadsLine (Some l) rest line more) kept read
+
+-- the line before the first line feed that a reader shows
+pub shown_line : (left rest : Option (List ℕ)) (shown line : List ℕ) (end : ℕ) → IsFirstByte (is_byte 10) shown (Some end) → line ≡ take end shown → Consumes left rest (take (end + 1) shown)
+    → ReadsLine left rest line true
+shown_line left rest shown line end first is consumed =
+    let long : length (take end shown) ≡ end = length-take-le end shown (omega (arith, first.0.high)) in
+    let none : All (λ byte. byte ≢ 10) (take end shown) =
+    All-from_get_or (λ byte. byte ≢ 10) (take end shown) 0 (λ i less feed.
+        let before : i < end = omega (arith, less, long) in
+        first.0.before i zero-le before (eq-eqb _ 10 (sym (get_or-take end shown i 0 before) ∙ feed))) in
+    let ends : take (end + 1) shown ≡ line ++ 10 ∷ [] =
+    take_more shown end 0 first.0.high ∙ ap (λ byte. take end shown ++ byte ∷ []) (eqb-true (get_or shown end 0) 10 first.1) ∙ ap (λ (l : List ℕ). l ++ 10 ∷ []) (sym is) in
+    record {
+      bytes = take (end + 1) shown;
+      consumed = consumed;
+      cut = cut_feed (take (end + 1) shown) line ends (subst (All (λ byte. byte ≢ 10)) (sym is) none);
+      last = tt;
     }

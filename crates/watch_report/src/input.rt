@@ -1,10 +1,11 @@
 //! Reading line by line.
-ghost use Rattle.std.specs.Prelude.{◌≡◌, ◌≢◌, ◌++◌, ◌∷◌, ℕ, List, [], All, IfOk, IfErr, OnErr, false, true};
+ghost use Rattle.std.specs.Prelude.{◌≡◌, ◌≢◌, ◌++◌, ◌∷◌, ℕ, List, [], All, IfOk, IfErr, IfSome, None, Ok, OnErr, false, true};
 ghost use Rattle.std.specs.Io.{StopsAt};
-ghost use Rattle.std.specs.Io.KnownBytes.{Consumes};
+ghost use Rattle.std.specs.Io.KnownBytes.{Consumes, Keeps};
 ghost use Rattle.watch_report.specs.Reading.{IsReadFault, ReadsLine};
 
 use crate::fault::ReportFault;
+use memchr::memchr;
 use std::io;
 use std::io::BufRead;
 
@@ -35,6 +36,41 @@ fn read_fault(error: &io::Error) -> ReportFault
     }
 }
 
+/// Reads a line that the reader shows whole, or the end, into an empty `line`. `None`: it shows
+/// neither, and nothing was read.
+fn read_shown<R: BufRead>(
+    input: &mut R,
+    line: &mut Vec<u8>,
+) -> Result<Option<bool>, ReportFault>
+    requires empty { line.old.items ≡ [] }
+    ensures read { IfOk result (λ read. IfSome read (λ more.
+        ReadsLine (R.remaining input.old) (R.remaining input.new) line.new.items more)) }
+    ensures kept { result ≡ Ok None → (line.new.items ≡ [])
+        × Keeps (R.remaining input.old) (R.remaining input.new) }
+    ensures err { OnErr result (Consumes (R.remaining input.old) (R.remaining input.new) []) }
+    ensures fault { IfErr result IsReadFault }
+{
+    let shown = match input.fill_buf() {
+        Ok(shown) => shown,
+        Err(error) => {
+            return if error.kind() == io::ErrorKind::Interrupted {
+                Ok(None)
+            } else {
+                Err(read_fault(&error))
+            };
+        }
+    };
+    if shown.is_empty() {
+        return Ok(Some(false));
+    }
+    let Some(end) = memchr(b'\n', shown) else {
+        return Ok(None);
+    };
+    line.extend_from_slice(&shown[..end])?;
+    input.consume(end + 1);
+    Ok(Some(true))
+}
+
 /// Reads a line, without its line feed, in place of what `line` held. Whether more come after it:
 /// only the last line has no line feed at its end.
 pub fn read_line<R: BufRead>(input: &mut R, line: &mut Vec<u8>) -> Result<bool, ReportFault>
@@ -45,6 +81,9 @@ pub fn read_line<R: BufRead>(input: &mut R, line: &mut Vec<u8>) -> Result<bool, 
     ensures fault { IfErr result IsReadFault }
 {
     line.clear();
+    if let Some(more) = read_shown(input, line)? {
+        return Ok(more);
+    }
     if let Err(error) = input.read_until(b'\n', line) {
         return Err(read_fault(&error));
     }
