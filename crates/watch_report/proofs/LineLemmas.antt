@@ -1,5 +1,5 @@
 -- A line in front of a text.
-use Rattle.std.proofs.Common.{◌≡◌, ◌≢◌, ℕ, ◌+◌, ◌≤◌, ◌<◌, Bool, true, false, List, [], ◌∷◌, ◌++◌, All, Option, None, Some, IfSome, cond, eqb, length, take, get_or, refl, sym, ap, subst, ◌∙◌, append_assoc, ne_eqb, eq-eqb, eqb-true, arith, zero-le, get_or-take, length-take-le}
+use Rattle.std.proofs.Common.{◌≡◌, ◌≢◌, ℕ, ◌+◌, ◌<◌, Bool, true, false, List, [], ◌∷◌, ◌++◌, All, Option, None, Some, IfSome, cond, eqb, length, take, get_or, refl, sym, ap, subst, ◌∙◌, append_assoc, ne_eqb, eq-eqb, eqb-true, arith, zero-le, get_or-take, length-take-le}
 use Rattle.std.specs.Io.KnownBytes.{Consumes, IsAtEnd, Keeps}
 use Rattle.std.specs.Io.BufRead.{take_through, drop_through, DropsThrough}
 use Rattle.std.proofs.lemmas.List.{take_more}
@@ -66,8 +66,8 @@ shown_line left rest shown line end first is consumed =
     let long : length (take end shown) ≡ end = length-take-le end shown (omega (arith, first.0.high)) in
     let none : All (λ byte. byte ≢ 10) (take end shown) =
     All-from_get_or (λ byte. byte ≢ 10) (take end shown) 0 (λ i less feed.
-        let before : i < end = omega (arith, less, long) in
-        first.0.before i zero-le before (eq-eqb _ 10 (sym (get_or-take end shown i 0 before) ∙ feed))) in
+    let before : i < end = omega (arith, less, long) in
+    first.0.before i zero-le before (eq-eqb _ 10 (sym (get_or-take end shown i 0 before) ∙ feed))) in
     let ends : take (end + 1) shown ≡ line ++ 10 ∷ [] =
     take_more shown end 0 first.0.high ∙ ap (λ byte. take end shown ++ byte ∷ []) (eqb-true (get_or shown end 0) 10 first.1) ∙ ap (λ (l : List ℕ). l ++ 10 ∷ []) (sym is) in
     record {

@@ -1,5 +1,5 @@
 -- Digits read from the left.
-use Rattle.std.proofs.Common.{◌≡◌, ℕ, zero, suc, ◌+◌, ◌*◌, ◌<◌, ◌≤◌, ◌^◌, Bool, true, nat_lt, List, [], ◌∷◌, length, take, get_or, Some, None, refl, subst, arith, inl, inr, length-take}
+use Rattle.std.proofs.Common.{◌≡◌, ℕ, min, zero, suc, ◌+◌, ◌*◌, ◌<◌, ◌≤◌, ◌^◌, Bool, true, nat_lt, List, [], ◌∷◌, length, take, get_or, Some, None, refl, subst, arith, inl, inr, length-take}
 use Rattle.std.specs.List.{list_all}
 use Rattle.std.specs.Char.{digit_value}
 use Rattle.std.specs.Str.Parse.{AllDigits, digits_value}
@@ -61,6 +61,10 @@ next_small radix ds i number digit small short less h is e below =
     let more : digits_value radix (take (i + 1) ds) ≡ digits_value radix (take i ds) * radix + digit_value (get_or ds i 0) = digits_value_more radix ds i less in
     let fits : digits_value radix (take (i + 1) ds) < 2 ^ 64 = small_number radix (take (i + 1) ds) small (omega (arith, length-take (i + 1) ds)) all in
     rw (is, e, ← more) fits
+
+-- a digit below the radix has its own value
+pub small_digit : (value digit small radix : ℕ) → radix ≤ 16 → digit ≡ min value 16 → small ≡ digit → small < radix → digit ≡ value
+small_digit value digit small radix most is same below = omega (arith, most, is, same, below)
 
 pub left_fits : (a b : ℕ) → a + b < 2 ^ 64 → a < 2 ^ 64
 left_fits a b h = omega arith

@@ -38,10 +38,7 @@ fn read_fault(error: &io::Error) -> ReportFault
 
 /// Reads a line that the reader shows whole, or the end, into an empty `line`. `None`: it shows
 /// neither, and nothing was read.
-fn read_shown<R: BufRead>(
-    input: &mut R,
-    line: &mut Vec<u8>,
-) -> Result<Option<bool>, ReportFault>
+fn read_shown<R: BufRead>(input: &mut R, line: &mut Vec<u8>) -> Result<Option<bool>, ReportFault>
     requires empty { line.old.items ≡ [] }
     ensures read { IfOk result (λ read. IfSome read (λ more.
         ReadsLine (R.remaining input.old) (R.remaining input.new) line.new.items more)) }

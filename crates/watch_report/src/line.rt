@@ -8,6 +8,7 @@ use crate::fields::next_field;
 use crate::header::Header;
 use crate::numbers::hart;
 use crate::record::record_by;
+use memchr::memchr2;
 use watch::Record as TraceRecord;
 
 /// What a line of a trace says.
@@ -23,19 +24,11 @@ pub enum Line<'a> {
     Empty,
 }
 
-fn begins_note(byte: u8) -> bool
-    ensures { result ≡ begins_note byte }
-{
-    byte == b'@' || byte == b'#'
-}
-
 /// How many bytes stand before the first `@` or `#`, or at all.
 fn note_start(text: &[u8]) -> usize
     ensures { result ≡ position_or_len begins_note text.now }
 {
-    text.iter()
-        .position(|byte| begins_note(*byte))
-        .unwrap_or(text.len())
+    memchr2(b'@', b'#', text).unwrap_or(text.len())
 }
 
 /// The text without the space at its end. `None`: no space stands there.

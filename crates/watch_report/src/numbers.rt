@@ -1,11 +1,28 @@
 //! The numbers that fields write.
-ghost use Rattle.std.specs.Prelude.{◌≡◌, ◌≤◌, ◌<◌, ◌+◌, ◌*◌, ◌^◌};
+ghost use Rattle.std.specs.Prelude.{◌≡◌, ◌≤◌, ◌<◌, ◌+◌, ◌*◌, ◌^◌, min};
 ghost use Rattle.std.specs.Char.{digit_value};
-ghost use Rattle.std.specs.Option.{SomeIff};
 ghost use Rattle.watch_report.specs.Fields.{hart_field, hexadecimal_field, number_field, optional_field};
 
 /// The longest numeral.
 const MOST_DIGITS: usize = 16;
+
+/// What is no digit has this value.
+const NO_DIGIT: u8 = 16;
+
+/// The value of a digit up to `f`.
+fn digit(byte: u8) -> u8
+    ensures { result ≡ min (digit_value byte) 16 }
+{
+    if b'0' <= byte && byte <= b'9' {
+        byte - b'0'
+    } else if b'a' <= byte && byte <= b'f' {
+        byte - b'a' + 10
+    } else if b'A' <= byte && byte <= b'F' {
+        byte - b'A' + 10
+    } else {
+        NO_DIGIT
+    }
+}
 
 /// The number that 1 to 16 digits write.
 pub fn number(radix: u32, field: &[u8]) -> Option<u64>
@@ -17,8 +34,11 @@ pub fn number(radix: u32, field: &[u8]) -> Option<u64>
         return None;
     }
     let mut number = 0;
-    for digit in field {
-        let digit = char::from(*digit).to_digit(radix)?;
+    for byte in field {
+        let digit = digit(*byte);
+        if u32::from(digit) >= radix {
+            return None;
+        }
         number = number * u64::from(radix) + u64::from(digit);
     }
     Some(number)
