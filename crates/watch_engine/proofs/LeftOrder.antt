@@ -1,7 +1,8 @@
 -- Spaces that were left, in the order of their roots.
-use Rattle.std.proofs.Common.{◌≡◌, ℕ, zero, suc, Bool, true, false, ◌-◌, ◌<◌, ◌≤◌, List, Option, Some, None, [], ◌∷◌, ◌++◌, length, get_or, take, drop, filter, ap, sym, ◌∙◌, refl, inl, inr, arith}
+use Rattle.std.proofs.Common.{◌≡◌, ℕ, zero, suc, Bool, true, false, ◌+◌, ◌-◌, ◌<◌, ◌≤◌, List, Option, Some, None, [], ◌∷◌, ◌++◌, length, get_or, take, drop, filter, ap, sym, ◌∙◌, refl, inl, inr, arith}
 use Rattle.std.specs.Prelude.{◌==◌, ◌&&◌, cond, not}
 use Rattle.std.specs.List.{insert, remove, slice_range}
+use Rattle.std.proofs.lemmas.List.{drop_more}
 use Rattle.std.proofs.lemmas.Bool.{and_parts, cases_lt, eq-eqb, eqb-true, lt-leb, ne_eqb, not_from_false, false_from_ne_true}
 use Rattle.walk.specs.Leads.{Tables}
 use Rattle.pte.specs.declared.scheme.Scheme.{Scheme}
@@ -12,7 +13,7 @@ use Rattle.watch_engine.specs.declared.left.PastFence.{PastFence}
 use Rattle.watch_tables.specs.declared.leaf.RootLeaf.{RootLeaf}
 use Rattle.watch_engine.specs.Left.{added, is_other, is_space}
 use Rattle.watch_engine.specs.LeftOrder.{Begins, Ends}
-use Rattle.watch_engine.specs.Seen.{is_kept, kept_for, last_of, with_kept}
+use Rattle.watch_engine.specs.Seen.{is_kept, kept_for, last_of, with_kept, with_leaves, with_live}
 use Rattle.watch_engine.proofs.Lists.{from_at_most}
 
 -- a run ends no earlier than it begins
@@ -91,6 +92,27 @@ kept_of_root scheme words satps drops leaf (l ∷ left) seen =
           ∙ sym (ap (with_kept scheme words satps drops leaf left) (ap (λ (ks : List LastLive). seen ++ ks) nothing ∙ append_none seen))
     ] in
     go (l.space.root == leaf.root) refl
+
+-- one leaf more of those with a root, of which the spaces with that root are asked
+pub leaf_added : (scheme : Scheme) (words : Tables) (now : ℕ) (satps : List (Option Space)) (left run : List Left) (drops : List PastFence)
+    (leaves : List RootLeaf) (at root : ℕ) (leaf : RootLeaf) (seen new : List LastLive)
+    → at < length leaves → leaf ≡ get_or leaves at leaf → (get_or leaves at leaf).root ≡ root
+    → run ≡ filter (λ l. l.space.root == root) left
+    → new ≡ with_kept scheme words satps drops leaf run (with_live now leaf 0 satps seen)
+    → with_leaves scheme words now satps left drops (drop (at + 1) leaves) new
+    ≡ with_leaves scheme words now satps left drops (drop at leaves) seen
+leaf_added scheme words now satps left run drops leaves at root leaf seen new within is of among added =
+    let live : List LastLive = with_live now leaf 0 satps seen in
+    let same : leaf.root ≡ root = ap (λ (l : RootLeaf). l.root) is ∙ of in
+    let all : run ≡ filter (λ l. l.space.root == leaf.root) left =
+    among ∙ ap (λ (r : ℕ). filter (λ (l : Left). l.space.root == r) left) (sym same) in
+    let more : new ≡ with_kept scheme words satps drops leaf left live =
+    added ∙ (ap (λ (ls : List Left). with_kept scheme words satps drops leaf ls live) all
+    ∙ kept_of_root scheme words satps drops leaf left live) in
+    let rest : drop at leaves ≡ leaf ∷ drop (at + 1) leaves =
+    drop_more leaves at leaf within ∙ ap (λ (l : RootLeaf). l ∷ drop (at + 1) leaves) (sym is) in
+    ap (with_leaves scheme words now satps left drops (drop (at + 1) leaves)) more
+    ∙ ap (λ (ls : List RootLeaf). with_leaves scheme words now satps left drops ls seen) (sym rest)
 
 -- what is behind a place without those that a test drops
 abbrev pub dropped_from : (Left → Bool) → ℕ → List Left → List Left

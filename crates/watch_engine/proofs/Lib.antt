@@ -8,6 +8,7 @@ pub mod Opening
 pub mod Remembering
 pub mod Leaving
 pub mod LeftOrder
+pub mod LiveHarts
 pub mod Filling
 pub mod Gathering
 pub mod Steps

@@ -2,6 +2,7 @@ pub mod Held
 pub mod LastAnswer
 pub mod Left
 pub mod LeftOrder
+pub mod Satps
 pub mod Seen
 pub mod Touched
 pub mod Causes

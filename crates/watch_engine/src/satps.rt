@@ -1,7 +1,10 @@
 //! What is in the satp of each hart.
 
-ghost use Rattle.std.specs.Prelude.{ℕ, ◌≡◌, ◌≤◌, ◌<◌, [], get_or, length, set, None, OnOk};
+ghost use Rattle.std.specs.Prelude.{ℕ, ◌≡◌, ◌≤◌, ◌<◌, [], false, get_or, length, set, None, OnOk};
+ghost use Rattle.watch.specs.Trace.{has_root};
+ghost use Rattle.watch_engine.specs.Satps.{AreAllOf};
 
+use crate::roots::is_root_of;
 use std::alloc::{AllocError, Global};
 use watch::Space;
 
@@ -13,6 +16,48 @@ pub(crate) fn satp_in(satps: &[Option<Space>], hart: u8) -> Option<Space>
         Some(space) => *space,
         None => None,
     }
+}
+
+/// Some harts that follow one another.
+#[derive(Clone, Copy, PartialEq, Eq, Debug)]
+pub(crate) struct Harts {
+    pub(crate) first: usize,
+    pub(crate) end: usize,
+}
+
+// The first hart with the root in its satp, or how many there are.
+fn first_of_root(satps: &[Option<Space>], root: u64) -> usize
+    ensures within { result ≤ length satps.now }
+    ensures before { (k : ℕ) → k < result → has_root (get_or satps.now k None) root ≡ false }
+{
+    let mut at = 0;
+    while at < satps.len() && !is_root_of(&satps[at], root) {
+        at += 1;
+    }
+    at
+}
+
+// One more than the last hart with the root in its satp from a first one on, or the first one.
+fn end_of_root(satps: &[Option<Space>], root: u64, first: usize) -> usize
+    requires { first ≤ length satps.now }
+    ensures from { first ≤ result }
+    ensures within { result ≤ length satps.now }
+    ensures behind { (k : ℕ) → result ≤ k → has_root (get_or satps.now k None) root ≡ false }
+{
+    let mut end = satps.len();
+    while end > first && !is_root_of(&satps[end - 1], root) {
+        end -= 1;
+    }
+    end
+}
+
+/// From the first to the last hart with the root in its satp.
+pub(crate) fn harts_of_root(satps: &[Option<Space>], root: u64) -> Harts
+    ensures { AreAllOf satps.now root result }
+{
+    let first = first_of_root(satps, root);
+    let end = end_of_root(satps, root, first);
+    Harts { first, end }
 }
 
 /// What is in the satp of each hart, up to the last that has written its own: the others translate

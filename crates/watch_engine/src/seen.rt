@@ -1,12 +1,13 @@
 //! What is remembered of leaves before a word on their paths changes.
 
-ghost use Rattle.std.specs.Prelude.{ℕ, ◌≡◌, ◌≤◌, ◌<◌, ◌++◌, [], IfOk, None, OnOk, List, drop, get_or, length, true};
+ghost use Rattle.std.specs.Prelude.{ℕ, ◌≡◌, ◌≤◌, ◌<◌, ◌++◌, [], IfOk, IsTrue, None, OnOk, List, drop, get_or, length, true};
 ghost use Rattle.walk.specs.Maps.{page_number};
 ghost use Rattle.watch.specs.Trace.{index_of};
 ghost use Rattle.tlb.specs.declared.store.Entry.{Entry as EntryOf};
 ghost use Rattle.watch.specs.ComputedTraces.{is_live_in};
 ghost use Rattle.watch_engine.specs.Filling.{AreAnswers, are_alike};
 ghost use Rattle.watch_engine.specs.Held.{last_translation};
+ghost use Rattle.watch_engine.specs.Satps.{AreAllOf};
 ghost use Rattle.watch_engine.specs.Seen.{AreAdded, AreSeen, PassesAny, is_kept, kept_for, last_of, live_for, with_kept, with_leaves, with_live};
 ghost use Rattle.watch_tables.specs.declared.leaf.RootLeaf.{RootLeaf as RootLeafOf};
 ghost use Rattle.watch_tables.specs.Through.{Passes};
@@ -17,7 +18,7 @@ use crate::left::Left;
 use crate::left_spaces::LeftSpaces;
 use crate::live::{Answer, answer_of, is_live_in, keep_answer};
 use crate::past_fences::PastFences;
-use crate::satps::satp_in;
+use crate::satps::{Harts, harts_of_root, satp_in};
 use crate::tables::Tables;
 use pte::Scheme;
 use std::alloc::{AllocError, Global};
@@ -46,18 +47,20 @@ fn add_live(
     Ok(())
 }
 
-// Adds the leaf for each hart that can fill it now.
+// Adds the leaf for each hart that can fill it now: these are among those with its root.
 fn add_live_for_each(
     seen: &mut Vec<LastLive>,
     leaf: &RootLeaf,
     satps: &[Option<Space>],
+    harts: Harts,
     count: u64,
 ) -> Result<(), AllocError>
-    requires { length satps.now ≤ 256 }
+    requires limit { length satps.now ≤ 256 }
+    requires harts { AreAllOf satps.now leaf.now.root harts }
     ensures { OnOk result (seen.new.items ≡ with_live count leaf.now 0 satps.now seen.old.items) }
 {
-    for (hart, space) in satps.iter().enumerate() {
-        add_live(seen, leaf, hart as u8, *space, count)?;
+    for hart in harts.first..harts.end {
+        add_live(seen, leaf, hart as u8, satps[hart], count)?;
     }
     Ok(())
 }
@@ -141,7 +144,7 @@ fn add_kept<T: Tables>(
     Ok(())
 }
 
-// Adds the leaf for each hart that may hold it since it left a space.
+// Adds the leaf for each hart that may hold it since it left one of the spaces.
 fn add_kept_for_each<T: Tables>(
     seen: &mut Vec<LastLive>,
     answers: &mut [Answer],
@@ -150,21 +153,46 @@ fn add_kept_for_each<T: Tables>(
     satps: &[Option<Space>],
     drops: &PastFences,
     leaf: &RootLeaf,
-    left: &LeftSpaces,
+    left: &[Left],
 ) -> Result<(), AllocError>
     requires { AreAnswers scheme (T.words tables.now) satps.now leaf.now.entry answers.old }
     ensures seen { OnOk result (seen.new.items ≡ with_kept scheme (T.words tables.now) satps.now
         drops.now.fences.items leaf.now left.now seen.old.items) }
     ensures answers { AreAnswers scheme (T.words tables.now) satps.now leaf.now.entry answers.new }
 {
-    for space in left.of_root(leaf.root) {
+    for space in left {
         add_kept(seen, answers, tables, scheme, satps, drops, leaf, space)?;
     }
     Ok(())
 }
 
-// Adds the leaf for each hart that it is live for, or that may hold it since it left a space.
+// Adds the leaf for each hart that it is live for, or that may hold it since it left one of the
+// spaces. The harts with its root are among these.
 fn add_leaf<T: Tables>(
+    seen: &mut Vec<LastLive>,
+    answers: &mut [Answer],
+    tables: &T,
+    scheme: Scheme,
+    satps: &[Option<Space>],
+    harts: Harts,
+    left: &[Left],
+    drops: &PastFences,
+    leaf: &RootLeaf,
+    count: u64,
+) -> Result<(), AllocError>
+    requires limit { length satps.now ≤ 256 }
+    requires harts { AreAllOf satps.now leaf.now.root harts }
+    requires answers { AreAnswers scheme (T.words tables.now) satps.now leaf.now.entry answers.old }
+    ensures seen { OnOk result (seen.new.items ≡ with_kept scheme (T.words tables.now) satps.now
+        drops.now.fences.items leaf.now left.now (with_live count leaf.now 0 satps.now seen.old.items)) }
+    ensures answers { AreAnswers scheme (T.words tables.now) satps.now leaf.now.entry answers.new }
+{
+    add_live_for_each(seen, leaf, satps, harts, count)?;
+    add_kept_for_each(seen, answers, tables, scheme, satps, drops, leaf, left)
+}
+
+// The same of any leaf, with all spaces that harts have left.
+fn add_one<T: Tables>(
     seen: &mut Vec<LastLive>,
     answers: &mut [Answer],
     tables: &T,
@@ -175,14 +203,17 @@ fn add_leaf<T: Tables>(
     leaf: &RootLeaf,
     count: u64,
 ) -> Result<(), AllocError>
-    requires harts { length satps.now ≤ 256 }
+    requires limit { length satps.now ≤ 256 }
     requires answers { AreAnswers scheme (T.words tables.now) satps.now leaf.now.entry answers.old }
     ensures seen { OnOk result (seen.new.items ≡ with_kept scheme (T.words tables.now) satps.now
         drops.now.fences.items leaf.now left.now (with_live count leaf.now 0 satps.now seen.old.items)) }
     ensures answers { AreAnswers scheme (T.words tables.now) satps.now leaf.now.entry answers.new }
 {
-    add_live_for_each(seen, leaf, satps, count)?;
-    add_kept_for_each(seen, answers, tables, scheme, satps, drops, leaf, left)
+    let harts = harts_of_root(satps, leaf.root);
+    let left = left.of_root(leaf.root);
+    add_leaf(
+        seen, answers, tables, scheme, satps, harts, left, drops, leaf, count,
+    )
 }
 
 // Global leaves with the same entry.
@@ -219,7 +250,7 @@ fn add_alike<T: Tables>(
     let mut at = start;
     loop {
         let leaf = &leaves[at];
-        add_leaf(
+        add_one(
             seen,
             &mut answers,
             tables,
@@ -232,6 +263,59 @@ fn add_alike<T: Tables>(
         )?;
         at += 1;
         if at >= leaves.len() || !are_alike(&first, &leaves[at]) {
+            return Ok(at);
+        }
+    }
+}
+
+// The leaf at a place and the next one are global and have the same entry.
+fn begins_alike(leaves: &[RootLeaf], at: usize) -> bool
+    requires { at < length leaves.now }
+    ensures { IsTrue result → (d : RootLeafOf) → (get_or leaves.now at d).entry.global ≡ true }
+{
+    at + 1 < leaves.len() && are_alike(&leaves[at], &leaves[at + 1])
+}
+
+// Adds leaves of one root, up to those that are alike, and answers where the next is another.
+fn add_of_root<T: Tables>(
+    seen: &mut Vec<LastLive>,
+    tables: &T,
+    scheme: Scheme,
+    satps: &[Option<Space>],
+    left: &LeftSpaces,
+    drops: &PastFences,
+    leaves: &[RootLeaf],
+    start: usize,
+    count: u64,
+) -> Result<usize, AllocError>
+    requires limit { length satps.now ≤ 256 }
+    requires start { start < length leaves.now }
+    ensures end { IfOk result (λ end. start < end) }
+    ensures seen { IfOk result (λ end. with_leaves scheme (T.words tables.now) count satps.now
+        left.now drops.now.fences.items (drop end leaves.now) seen.new.items
+        ≡ with_leaves scheme (T.words tables.now) count satps.now
+        left.now drops.now.fences.items (drop start leaves.now) seen.old.items) }
+{
+    let root = leaves[start].root;
+    let harts = harts_of_root(satps, root);
+    let spaces = left.of_root(root);
+    let mut at = start;
+    loop {
+        let leaf = &leaves[at];
+        add_leaf(
+            seen,
+            &mut [],
+            tables,
+            scheme,
+            satps,
+            harts,
+            spaces,
+            drops,
+            leaf,
+            count,
+        )?;
+        at += 1;
+        if at >= leaves.len() || leaves[at].root != root || begins_alike(leaves, at) {
             return Ok(at);
         }
     }
@@ -254,22 +338,10 @@ fn add_leaves<T: Tables>(
 {
     let mut at = 0;
     while at < leaves.len() {
-        let leaf = &leaves[at];
-        if at + 1 < leaves.len() && are_alike(leaf, &leaves[at + 1]) {
+        if begins_alike(leaves, at) {
             at = add_alike(seen, tables, scheme, satps, left, drops, leaves, at, count)?;
         } else {
-            add_leaf(
-                seen,
-                &mut [],
-                tables,
-                scheme,
-                satps,
-                left,
-                drops,
-                leaf,
-                count,
-            )?;
-            at += 1;
+            at = add_of_root(seen, tables, scheme, satps, left, drops, leaves, at, count)?;
         }
     }
     Ok(())

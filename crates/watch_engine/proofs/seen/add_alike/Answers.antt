@@ -38,7 +38,7 @@ loop-at-preserved g c =
       omega arith,
       within,
       λ d. ap (λ (l : RootLeaf). l.entry) (same_default leaves (at + 1) d next within ∙ sym c.index-leaves-at-else-at-leaves.is) ∙ sym alike,
-      subst (λ (e : Entry). AreAnswers c.args.scheme (g.T.Tables.words c.args.tables.now) c.args.satps.now e c.add_leaf.new.answers) same c.in_ok-add_leaf.ensures.answers,
-      ap (with (drop (at + 1) leaves)) c.in_ok-add_leaf.ensures.seen
+      subst (λ (e : Entry). AreAnswers c.args.scheme (g.T.Tables.words c.args.tables.now) c.args.satps.now e c.add_one.new.answers) same c.in_ok-add_one.ensures.answers,
+      ap (with (drop (at + 1) leaves)) c.in_ok-add_one.ensures.seen
           ∙ (ap (λ (ls : List RootLeaf). with ls c.loop-at.seen.items) (sym rest) ∙ c.loop-at.invariant.4),
     )

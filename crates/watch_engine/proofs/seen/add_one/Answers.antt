@@ -1,0 +1,15 @@
+use Rattle.std.proofs.Common.{◌≡◌, ◌∙◌, OnOk, ap, subst, List}
+use Rattle.watch_engine.specs.declared.left.Left.{Left}
+use Rattle.watch_engine.specs.declared.held.LastLive.{LastLive}
+use Rattle.watch_engine.specs.Seen.{with_kept, with_live}
+use Rattle.watch_engine.proofs.LeftOrder.{kept_of_root}
+use Rattle.watch_engine.proofs.seen.add_one.Goals as goal
+
+pub returns-clause-seen : goal.returns-clause-seen
+returns-clause-seen g c =
+    let live : List LastLive = with_live c.args.count c.args.leaf.now 0 c.args.satps.now c.args.seen.now.items in
+    let kept : List Left → List LastLive = λ ls. with_kept c.args.scheme (g.T.Tables.words c.args.tables.now) c.args.satps.now c.args.drops.now.fences.items c.args.leaf.now ls live in
+    let same : kept c.of_root-left.result.now ≡ kept c.args.left.now =
+    ap kept c.of_root-left.ensures
+    ∙ kept_of_root c.args.scheme (g.T.Tables.words c.args.tables.now) c.args.satps.now c.args.drops.now.fences.items c.args.leaf.now c.args.left.now live in
+    subst (λ (ls : List LastLive). OnOk c.add_leaf.result (c.add_leaf.new.seen.items ≡ ls)) same c.add_leaf.ensures.seen
