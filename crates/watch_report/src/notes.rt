@@ -24,7 +24,8 @@ pub struct Notes {
     places: Vec<u32>,
 }
 
-// The row of a text, by all of its bytes.
+// The row of a text, by all of its bytes. The factor (2^32 by the golden ratio) spreads them over
+// the high bits.
 fn row_of(text: &[u8]) -> u8 {
     let mut mixed: u32 = 0;
     for byte in text {
@@ -71,7 +72,8 @@ impl Notes {
         }
     }
 
-    // The place of a recent text, from the newest of its row back: few others are compared.
+    // The place of a recent text, from the newest of its row back: few others are compared, and no
+    // more than there are recent texts.
     fn recent(&self, note: &[u8], row: u8) -> Option<usize>
         ensures text { IfSome result (λ place. text_in self.now.texts.items place ≡ note.now) }
         ensures within { IfSome result (λ place. place ≤ length self.now.texts.items) }
