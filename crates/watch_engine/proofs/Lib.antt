@@ -30,11 +30,11 @@ pub mod WarningTests
 pub mod WarnedPages
 pub mod WarningAnswers
 pub mod Asked
-pub mod Touching
 pub mod Marking
 pub mod Keyed
 pub mod Walks
 pub mod Unlinking
 pub mod Dropping
+pub mod Emptying
 pub mod Staying
 pub mod Untouched

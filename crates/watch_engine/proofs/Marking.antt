@@ -11,9 +11,11 @@ use Rattle.watch_engine.specs.declared.cause.Cause.{Cause}
 use Rattle.watch_engine.specs.declared.cause.Cause.TheVariants.{Out}
 use Rattle.watch_engine.specs.declared.held.Held.{Held}
 use Rattle.watch_engine.specs.declared.held.LastLive.{LastLive}
+use Rattle.watch_engine.specs.declared.slot.Slot.{Slot}
 use Rattle.watch_engine.specs.declared.warning.Warning.{Warning}
 use Rattle.watch_engine.specs.Causes.{applies, is_given_by, is_marked, verdict_of}
 use Rattle.watch_engine.specs.Held.{Each, is_exposed_by, is_of, last_translation, marked, marked_if, remembered, remembered_all}
+use Rattle.watch_engine.specs.Slots.{items_of}
 use Rattle.watch_engine.specs.Warnings.{is_shown, joined, warning_of, with_warning}
 use Rattle.watch_engine.proofs.Places.{touched}
 
@@ -106,3 +108,11 @@ none_joined cause (i ∷ held) w none =
       | false ↦ λ t. none_joined cause held w (sym (ap (λ (b : Bool). b || list_any (applies cause) held) t) ∙ none)
     ] in
     go (applies cause i) refl
+
+-- the warnings of places, one after another
+item_joined : (cause : Cause) (i : Held) (b : Bool) (rest : List Held) (w : List Warning) → joined cause (cond b rest (i ∷ rest)) w ≡ joined cause rest (cond b w (with_warning cause i w))
+item_joined cause i true rest w = refl
+item_joined cause i false rest w = refl
+
+pub slot_joined : (cause : Cause) (s : Slot) (slots : List Slot) (w : List Warning) → joined cause (items_of (s ∷ slots)) w ≡ joined cause (items_of slots) (cond s.is_gone w (with_warning cause s.item w))
+slot_joined cause s slots w = item_joined cause s.item s.is_gone (items_of slots) w

@@ -216,11 +216,6 @@ is_taken_by scheme (Some o) i =
 abbrev pub outlives_remote : Scheme → Option OpenFence → Held → Bool
 outlives_remote scheme fence i = not (is_taken_by scheme fence i)
 
--- the place of the first that a test passes, counted from a number on
-abbrev pub place_in : (Held → Bool) → ℕ → List Held → Option ℕ
-place_in test n [] = None
-place_in test n (i ∷ held) = if test i then Some n else place_in test (n + 1) held
-
 abbrev pub Each : (Held → Type 0) → List Held → Type 0
 Each P [] = Unit {0}
 Each P (i ∷ held) = P i × Each P held

@@ -17,3 +17,4 @@ pub mod Watching
 pub mod Keys
 pub mod Concerns
 pub mod Filling
+pub mod Slots

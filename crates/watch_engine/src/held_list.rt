@@ -1,66 +1,40 @@
 //! The list of what harts may hold, and where its items stand by page, by frame and by root.
 
-ghost use Rattle.std.specs.Prelude.{◌≡◌, ◌<◌, ◌≤◌, ◌&&◌, ◌==◌, ◌++◌, ◌∷◌, [], OnErr, OnOk, ℕ, false, filter, length, map, not, take, true};
+ghost use Rattle.std.specs.Prelude.{◌≡◌, ◌≤◌, ◌&&◌, ◌==◌, ◌++◌, ◌∷◌, [], OnErr, OnOk, false, filter, length, map, not, take, true};
 ghost use Rattle.std.specs.List.{list_any};
 ghost use Rattle.watch_engine.specs.Concerns.{concerns};
 ghost use Rattle.watch_engine.specs.declared.held.Held.{Held as HeldOf};
+ghost use Rattle.watch_engine.specs.declared.keys.By.{By as ByOf};
 ghost use Rattle.watch_engine.specs.declared.keys.By.TheVariants.{Frame, Page, Root};
 ghost use Rattle.watch_engine.specs.Keys.{AreSmall, BeginsWith, IsAmong, key_of};
+ghost use Rattle.watch_engine.specs.Slots.{has, items_of, key_in};
 
 use crate::chains::Chains;
 use crate::concern::Concern;
 use crate::held::Held;
 use crate::keys::{By, Keys};
+use crate::slot::Slot;
+use crate::slots::{drop_each, drop_with_keys, end_of};
 use std::alloc::{AllocError, Global};
 
+/// How many empty places are let be, however few items there are.
+const FEW_EMPTY: usize = 16;
+
 /// What harts may hold and the tables do not tell, with chains that find items by page, by frame and
-/// by root.
+/// by root. An item that goes leaves its place empty, so that nothing moves and no chain changes; all
+/// are closed up once more than half of them are empty, or empty ones have cost as much. What harts hold
+/// is the items that are there, in their order.
 #[derive(Drop)]
 pub(crate) struct HeldList {
-    pub(crate) list: Vec<Held>,
+    pub(crate) slots: Vec<Slot>,
+    /// How often a place was emptied or found empty since all were closed up, which so many steps pay.
+    pub(crate) empty: usize,
     pub(crate) pages: Chains,
     pub(crate) frames: Chains,
     pub(crate) roots: Chains,
-    ghost by_page: { pages.keys.items ≡ map (key_of Page) list.items },
-    ghost by_frame: { frames.keys.items ≡ map (key_of Frame) list.items },
-    ghost by_root: { roots.keys.items ≡ map (key_of Root) list.items },
-}
-
-// How many items stand before the first that the record concerns, of which so many are known.
-fn first_from(items: &[Held], concern: &Concern, known: usize) -> usize
-    requires known { known ≤ length items.now }
-    requires none { list_any (concerns concern.now) (take known items.now) ≡ false }
-    ensures none { list_any (concerns concern.now) (take result items.now) ≡ false }
-    ensures within { result ≤ length items.now }
-{
-    for place in known..items.len() {
-        if concern.is_of(&items[place]) {
-            return place;
-        }
-    }
-    items.len()
-}
-
-// Keeps the items that the record does not concern, in their order, where those before `first` are
-// known; how many are kept.
-fn keep_others(items: &mut [Held], concern: &Concern, first: usize) -> usize
-    requires first { first ≤ length items.old }
-    requires none { list_any (concerns concern.now) (take first items.old) ≡ false }
-    ensures kept { take result items.new
-        ≡ filter (λ i. not (concerns concern.now i)) items.old }
-    ensures same { take first items.new ≡ take first items.old }
-    ensures from { first ≤ result }
-    ensures within { result ≤ length items.old }
-{
-    let mut kept = first;
-    for place in first..items.len() {
-        let item = items[place];
-        if !concern.is_of(&item) {
-            items[kept] = item;
-            kept += 1;
-        }
-    }
-    kept
+    ghost by_page: { pages.keys.items ≡ map (key_in Page) slots.items },
+    ghost by_frame: { frames.keys.items ≡ map (key_in Frame) slots.items },
+    ghost by_root: { roots.keys.items ≡ map (key_in Root) slots.items },
 }
 
 // Adds the keys of an item. At `Err` some of them are there.
@@ -85,28 +59,80 @@ fn push_keys(
     roots.push(By::Root.key_of(item))
 }
 
+// With the keys of these places, of which there are no more than keys, and up to a place the same.
+fn relink_all(
+    pages: &mut Chains,
+    frames: &mut Chains,
+    roots: &mut Chains,
+    slots: &[Slot],
+    first: usize,
+)
+    requires first { first ≤ length slots.now }
+    requires fewer_pages { length slots.now ≤ length pages.old.keys.items }
+    requires fewer_frames { length slots.now ≤ length frames.old.keys.items }
+    requires fewer_roots { length slots.now ≤ length roots.old.keys.items }
+    requires same_pages { take first pages.old.keys.items ≡ map (key_in Page) (take first slots.now) }
+    requires same_frames { take first frames.old.keys.items
+        ≡ map (key_in Frame) (take first slots.now) }
+    requires same_roots { take first roots.old.keys.items ≡ map (key_in Root) (take first slots.now) }
+    ensures pages { pages.new.keys.items ≡ map (key_in Page) slots.now }
+    ensures frames { frames.new.keys.items ≡ map (key_in Frame) slots.now }
+    ensures roots { roots.new.keys.items ≡ map (key_in Root) slots.now }
+{
+    pages.relink(slots, By::Page, first);
+    frames.relink(slots, By::Frame, first);
+    roots.relink(slots, By::Root, first);
+}
+
+// Drops the items with one of the keys that the record concerns. How many places are empty then of those
+// that were looked at.
+fn drop_by(
+    slots: &mut [Slot],
+    pages: &Chains,
+    frames: &Chains,
+    roots: &Chains,
+    keys: &Keys,
+    concern: &Concern,
+) -> usize
+    requires small { AreSmall keys.now }
+    requires pages { pages.now.keys.items ≡ map (key_in Page) slots.old }
+    requires frames { frames.now.keys.items ≡ map (key_in Frame) slots.old }
+    requires roots { roots.now.keys.items ≡ map (key_in Root) slots.old }
+    ensures left { ((i : HeldOf) → concerns concern.now i ≡ true
+        → IsAmong keys.now (key_of keys.now.by i)) → items_of slots.new
+        ≡ filter (λ i. not (concerns concern.now i)) (items_of slots.old) }
+    ensures keys { (by : ByOf) → map (key_in by) slots.new ≡ map (key_in by) slots.old }
+{
+    match keys.by {
+        By::Page => drop_with_keys(slots, pages, keys, concern),
+        By::Frame => drop_with_keys(slots, frames, keys, concern),
+        By::Root => drop_with_keys(slots, roots, keys, concern),
+    }
+}
+
 impl HeldList {
     /// Nothing.
     pub(crate) fn new(alloc: Global) -> HeldList
-        ensures { result.list.items ≡ [] }
+        ensures { items_of result.slots.items ≡ [] }
     {
         HeldList {
-            list: Vec::new(alloc),
+            slots: Vec::new(alloc),
+            empty: 0,
             pages: Chains::new(alloc),
             frames: Chains::new(alloc),
             roots: Chains::new(alloc),
         }
     }
 
-    /// The items.
-    pub(crate) fn as_slice(&self) -> &[Held]
-        ensures value { result.now ≡ self.now.list.items }
+    /// The places of items.
+    pub(crate) fn as_slice(&self) -> &[Slot]
+        ensures value { result.now ≡ self.now.slots.items }
     {
-        self.list.as_slice()
+        self.slots.as_slice()
     }
 
     fn chains(&self, by: By) -> &Chains
-        ensures { result.now.keys.items ≡ map (key_of by) self.now.list.items }
+        ensures { result.now.keys.items ≡ map (key_in by) self.now.slots.items }
     {
         match by {
             By::Page => &self.pages,
@@ -115,18 +141,18 @@ impl HeldList {
         }
     }
 
-    // How many items stand before the oldest that has the key and that the record concerns.
+    // How many places stand before the oldest item that has the key and that the record concerns.
     fn first_with(&self, by: By, key: u64, concern: &Concern) -> usize
-        ensures none { list_any (λ i. (key_of by i == key) && concerns concern.now i)
-            (take result self.now.list.items) ≡ false }
-        ensures within { result ≤ length self.now.list.items }
+        ensures none { list_any (λ s. (key_in by s == key) && has (concerns concern.now) s)
+            (take result self.now.slots.items) ≡ false }
+        ensures within { result ≤ length self.now.slots.items }
     {
         let chains = self.chains(by);
-        let items = self.list.as_slice();
-        let mut first = items.len();
+        let slots = self.slots.as_slice();
+        let mut first = slots.len();
         let mut at = chains.newest(key);
         while at > 0 {
-            if concern.is_of(&items[at - 1]) {
+            if slots[at - 1].is_of(concern) {
                 first = at - 1;
             }
             at = chains.before(at);
@@ -139,8 +165,8 @@ impl HeldList {
         requires { AreSmall keys.now }
         ensures none { ((i : HeldOf) → concerns concern.now i ≡ true
             → IsAmong keys.now (key_of keys.now.by i))
-            → list_any (concerns concern.now) (take result self.now.list.items) ≡ false }
-        ensures within { result ≤ length self.now.list.items }
+            → list_any (has (concerns concern.now)) (take result self.now.slots.items) ≡ false }
+        ensures within { result ≤ length self.now.slots.items }
     {
         let mut first = self.first_with(keys.by, keys.limit, concern);
         for offset in 0..keys.count {
@@ -153,11 +179,12 @@ impl HeldList {
         first
     }
 
-    /// A number of items, none of which the record concerns: all of them if it concerns none and few
-    /// keys tell so.
+    /// A number of places, where no item is that the record concerns: all of them if it concerns none
+    /// and few keys tell so.
     pub(crate) fn first_of(&self, concern: &Concern) -> usize
-        ensures none { list_any (concerns concern.now) (take result self.now.list.items) ≡ false }
-        ensures within { result ≤ length self.now.list.items }
+        ensures none { list_any (has (concerns concern.now)) (take result self.now.slots.items)
+            ≡ false }
+        ensures within { result ≤ length self.now.slots.items }
     {
         match concern.keys() {
             None => 0,
@@ -167,41 +194,135 @@ impl HeldList {
 
     /// Whether the record may concern some item: it does not where the answer is `false`.
     pub(crate) fn may_concern(&self, concern: &Concern) -> bool
-        ensures { result ≡ false → list_any (concerns concern.now) self.now.list.items ≡ false }
+        ensures { result ≡ false
+            → list_any (concerns concern.now) (items_of self.now.slots.items) ≡ false }
     {
-        self.first_of(concern) < self.list.len()
+        self.first_of(concern) < self.slots.len()
     }
 
-    /// With one more item. At `Err` nothing changed.
-    pub(crate) fn push(&mut self, item: Held) -> Result<(), AllocError>
-        ensures ok { OnOk result (self.new.list.items ≡ self.old.list.items ++ item ∷ []) }
-        ensures err { OnErr result (self.new.list.items ≡ self.old.list.items) }
+    // With one more item. At `Err` nothing changed.
+    fn try_push(&mut self, item: &Held) -> Result<(), AllocError>
+        ensures ok { OnOk result (items_of self.new.slots.items
+            ≡ items_of self.old.slots.items ++ item.now ∷ []) }
+        ensures err { OnErr result (items_of self.new.slots.items
+            ≡ items_of self.old.slots.items) }
     {
-        let count = self.list.len();
-        let keyed = push_keys(&mut self.pages, &mut self.frames, &mut self.roots, &item);
-        if keyed.is_ok() && self.list.push(item).is_ok() {
+        let count = self.slots.len();
+        let keyed = push_keys(&mut self.pages, &mut self.frames, &mut self.roots, item);
+        if keyed.is_ok() && self.slots.push(Slot::new(*item)).is_ok() {
             return Ok(());
         }
-        self.pages.relink(self.list.as_slice(), By::Page, count);
-        self.frames.relink(self.list.as_slice(), By::Frame, count);
-        self.roots.relink(self.list.as_slice(), By::Root, count);
+        relink_all(
+            &mut self.pages,
+            &mut self.frames,
+            &mut self.roots,
+            self.slots.as_slice(),
+            count,
+        );
         Err(AllocError)
+    }
+
+    // Without the empty places behind the last item.
+    fn cut_end(&mut self)
+        ensures { items_of self.new.slots.items ≡ items_of self.old.slots.items }
+    {
+        let count = self.slots.len();
+        let end = end_of(self.slots.as_slice());
+        self.slots.truncate(end);
+        relink_all(
+            &mut self.pages,
+            &mut self.frames,
+            &mut self.roots,
+            self.slots.as_slice(),
+            end,
+        );
+        self.empty = self.empty.saturating_sub(count - end);
+    }
+
+    // Without the empty places.
+    fn close_up(&mut self)
+        ensures { items_of self.new.slots.items ≡ items_of self.old.slots.items }
+    {
+        self.slots.retain(|slot| !slot.is_gone);
+        relink_all(
+            &mut self.pages,
+            &mut self.frames,
+            &mut self.roots,
+            self.slots.as_slice(),
+            0,
+        );
+        self.empty = 0;
+    }
+
+    /// With one more item. At `Err` nothing changed: empty places are closed up before memory is said to
+    /// be short.
+    pub(crate) fn push(&mut self, item: Held) -> Result<(), AllocError>
+        ensures ok { OnOk result (items_of self.new.slots.items
+            ≡ items_of self.old.slots.items ++ item ∷ []) }
+        ensures err { OnErr result (items_of self.new.slots.items
+            ≡ items_of self.old.slots.items) }
+    {
+        if self.try_push(&item).is_ok() {
+            return Ok(());
+        }
+        if self.empty == 0 {
+            return Err(AllocError);
+        }
+        self.close_up();
+        self.try_push(&item)
+    }
+
+    /// Closes up where that is worth its cost, after so many places were emptied or found empty. It needs
+    /// no memory.
+    pub(crate) fn tidy(&mut self, empty: usize)
+        ensures { items_of self.new.slots.items ≡ items_of self.old.slots.items }
+    {
+        if empty == 0 {
+            return;
+        }
+        self.empty = self.empty.saturating_add(empty);
+        self.cut_end();
+        if self.empty > FEW_EMPTY && self.empty > self.slots.len() / 2 {
+            self.close_up();
+        }
+    }
+
+    // Without the items with these keys that the record concerns.
+    fn drop_few(&mut self, keys: &Keys, concern: &Concern)
+        requires small { AreSmall keys.now }
+        requires all { (i : HeldOf) → concerns concern.now i ≡ true
+            → IsAmong keys.now (key_of keys.now.by i) }
+        ensures { items_of self.new.slots.items
+            ≡ filter (λ i. not (concerns concern.now i)) (items_of self.old.slots.items) }
+    {
+        let empty = drop_by(
+            self.slots.as_mut_slice(),
+            &self.pages,
+            &self.frames,
+            &self.roots,
+            keys,
+            concern,
+        );
+        self.tidy(empty);
+    }
+
+    // The same, where all items are looked at.
+    fn drop_all(&mut self, concern: &Concern)
+        ensures { items_of self.new.slots.items
+            ≡ filter (λ i. not (concerns concern.now i)) (items_of self.old.slots.items) }
+    {
+        let empty = drop_each(self.slots.as_mut_slice(), concern);
+        self.tidy(empty);
     }
 
     /// Without the items that the record concerns.
     pub(crate) fn drop_of(&mut self, concern: &Concern)
-        ensures { self.new.list.items
-            ≡ filter (λ i. not (concerns concern.now i)) self.old.list.items }
+        ensures { items_of self.new.slots.items
+            ≡ filter (λ i. not (concerns concern.now i)) (items_of self.old.slots.items) }
     {
-        let known = self.first_of(concern);
-        if known == self.list.len() {
-            return;
+        match concern.keys() {
+            None => self.drop_all(concern),
+            Some(keys) => self.drop_few(&keys, concern),
         }
-        let first = first_from(self.list.as_slice(), concern, known);
-        let kept = keep_others(self.list.as_mut_slice(), concern, first);
-        self.list.truncate(kept);
-        self.pages.relink(self.list.as_slice(), By::Page, first);
-        self.frames.relink(self.list.as_slice(), By::Frame, first);
-        self.roots.relink(self.list.as_slice(), By::Root, first);
     }
 }

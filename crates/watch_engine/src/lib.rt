@@ -23,6 +23,8 @@ mod relinked;
 mod roots;
 mod satps;
 mod seen;
+mod slot;
+mod slots;
 mod tables;
 mod touched;
 mod warning;

@@ -1,10 +1,11 @@
 //! The list of what harts may hold.
 
-ghost use Rattle.std.specs.Prelude.{ℕ, Bool, ◌≡◌, ◌↔◌, ◌++◌, ◌∷◌, [], map, filter, Option, OnOk, OnErr, IfOk, IsTrue, take, if◌then◌else◌};
+ghost use Rattle.std.specs.Prelude.{ℕ, Bool, false, ◌≡◌, ◌↔◌, ◌++◌, ◌∷◌, [], map, filter, Option, OnOk, OnErr, IfOk, IsTrue, take, if◌then◌else◌};
 ghost use Rattle.watch.specs.Computed.{is_mapped};
 ghost use Rattle.watch_engine.specs.declared.held.Held.{Held as HeldOf};
-ghost use Rattle.watch_engine.specs.Held.{all_found_again, found_again, is_current_by, is_of, last_translation, marked_if, outlives_fence, outlives_remote, place_in, remembered, remembered_all, settled_unless_stale, translation_of};
+ghost use Rattle.watch_engine.specs.Held.{all_found_again, found_again, is_current_by, is_of, last_translation, marked_if, outlives_fence, outlives_remote, remembered, remembered_all, settled_unless_stale, translation_of};
 ghost use Rattle.watch_engine.specs.Causes.{applies, verdict_of};
+ghost use Rattle.watch_engine.specs.Slots.{has, items_of, place_in, turned};
 
 use crate::cause::Cause;
 use crate::concern::Concern;
@@ -13,22 +14,23 @@ use crate::held_list::HeldList;
 use crate::keys::By;
 use crate::open::OpenFence;
 use crate::roots::{is_current, is_mapped};
+use crate::slot::Slot;
 use crate::tables::Tables;
 use crate::warning::Warning;
 use pte::Scheme;
 use std::alloc::AllocError;
 
-// The place of a translation in the list.
+// The place of a translation.
 fn place_of(held: &HeldList, live: &LastLive) -> Option<usize>
-    ensures { result ≡ place_in (is_of live.now.hart (last_translation live.now)) 0
-        held.now.list.items }
+    ensures { result ≡ place_in (has (is_of live.now.hart (last_translation live.now))) 0
+        held.now.slots.items }
 {
-    let items = held.as_slice();
+    let slots = held.as_slice();
     let key = By::Page.key_of(&Held::from_live(live));
     let mut found = None;
     let mut at = held.pages.newest(key);
     while at > 0 {
-        if items[at - 1].is_of(live) {
+        if slots[at - 1].is_of_live(live) {
             found = Some(at - 1);
         }
         at = held.pages.before(at);
@@ -38,21 +40,24 @@ fn place_of(held: &HeldList, live: &LastLive) -> Option<usize>
 
 // With a translation that was live. At `Err` nothing changed.
 pub(crate) fn remember(held: &mut HeldList, live: &LastLive) -> Result<(), AllocError>
-    ensures ok { OnOk result (held.new.list.items ≡ remembered live.now held.old.list.items) }
-    ensures err { OnErr result (held.new.list.items ≡ held.old.list.items) }
+    ensures ok { OnOk result (items_of held.new.slots.items
+        ≡ remembered live.now (items_of held.old.slots.items)) }
+    ensures err { OnErr result (items_of held.new.slots.items ≡ items_of held.old.slots.items) }
 {
     let Some(place) = place_of(held, live) else {
         return held.push(Held::from_live(live));
     };
-    held.list[place].touch(live.last_live);
+    held.slots[place].item.touch(live.last_live);
     Ok(())
 }
 
 // With translations that were live. At `Err` some of them are there.
 pub(crate) fn remember_all(held: &mut HeldList, live: &[LastLive]) -> Result<(), AllocError>
-    ensures ok { OnOk result (held.new.list.items ≡ remembered_all live.now held.old.list.items) }
+    ensures ok { OnOk result (items_of held.new.slots.items
+        ≡ remembered_all live.now (items_of held.old.slots.items)) }
     ensures err { OnErr result ((n : ℕ)
-        × (held.new.list.items ≡ remembered_all (take n live.now) held.old.list.items)) }
+        × (items_of held.new.slots.items
+        ≡ remembered_all (take n live.now) (items_of held.old.slots.items))) }
 {
     for item in live {
         remember(held, item)?;
@@ -74,19 +79,33 @@ impl Held {
     }
 }
 
-fn find_each_again<T: Tables>(held: &mut [Held], tables: &T, scheme: Scheme, root: u64)
-    ensures { held.new ≡ map (found_again (is_mapped scheme (T.words tables.now)) root) held.old }
+impl Slot {
+    // The same of the item that is there.
+    fn find_again<T: Tables>(&mut self, tables: &T, scheme: Scheme, root: u64)
+        ensures { self.new ≡ turned (found_again (is_mapped scheme (T.words tables.now)) root)
+            (λ i. false) self.old }
+    {
+        if !self.is_gone {
+            self.item.find_again(tables, scheme, root);
+        }
+    }
+}
+
+fn find_each_again<T: Tables>(slots: &mut [Slot], tables: &T, scheme: Scheme, root: u64)
+    ensures { slots.new ≡ map (turned (found_again (is_mapped scheme (T.words tables.now)) root)
+        (λ i. false)) slots.old }
 {
-    for item in held.iter_mut() {
-        item.find_again(tables, scheme, root);
+    for slot in slots.iter_mut() {
+        slot.find_again(tables, scheme, root);
     }
 }
 
 fn find_all_again<T: Tables>(held: &mut HeldList, tables: &T, scheme: Scheme, root: u64)
-    ensures { held.new.list.items
-        ≡ map (found_again (is_mapped scheme (T.words tables.now)) root) held.old.list.items }
+    ensures { items_of held.new.slots.items
+        ≡ map (found_again (is_mapped scheme (T.words tables.now)) root)
+        (items_of held.old.slots.items) }
 {
-    find_each_again(held.list.as_mut_slice(), tables, scheme, root);
+    find_each_again(held.slots.as_mut_slice(), tables, scheme, root);
 }
 
 // With what the tables of a root have, if a hart comes to a new one.
@@ -96,8 +115,9 @@ pub(crate) fn find_again<T: Tables>(
     tables: &T,
     scheme: Scheme,
 )
-    ensures { held.new.list.items
-        ≡ all_found_again (is_mapped scheme (T.words tables.now)) root held.old.list.items }
+    ensures { items_of held.new.slots.items
+        ≡ all_found_again (is_mapped scheme (T.words tables.now)) root
+        (items_of held.old.slots.items) }
 {
     if let Some(root) = root {
         find_all_again(held, tables, scheme, root);
@@ -124,18 +144,38 @@ impl Held {
     }
 }
 
+impl Slot {
+    // The same of the item that is there.
+    fn settle_unless_stale<T: Tables>(
+        &mut self,
+        tables: &T,
+        scheme: Scheme,
+        roots: &[u64],
+        count: u64,
+    )
+        ensures { self.new ≡ turned (λ i. settled_unless_stale (is_current_by
+            (is_mapped scheme (T.words tables.now)) roots.now (translation_of i)) count i)
+            (λ i. false) self.old }
+    {
+        if !self.is_gone {
+            self.item.settle_unless_stale(tables, scheme, roots, count);
+        }
+    }
+}
+
 fn settle_each_unless_stale<T: Tables>(
-    held: &mut [Held],
+    slots: &mut [Slot],
     tables: &T,
     scheme: Scheme,
     roots: &[u64],
     count: u64,
 )
-    ensures { held.new ≡ map (λ i. settled_unless_stale (is_current_by
-        (is_mapped scheme (T.words tables.now)) roots.now (translation_of i)) count i) held.old }
+    ensures { slots.new ≡ map (turned (λ i. settled_unless_stale (is_current_by
+        (is_mapped scheme (T.words tables.now)) roots.now (translation_of i)) count i)
+        (λ i. false)) slots.old }
 {
-    for item in held.iter_mut() {
-        item.settle_unless_stale(tables, scheme, roots, count);
+    for slot in slots.iter_mut() {
+        slot.settle_unless_stale(tables, scheme, roots, count);
     }
 }
 
@@ -146,11 +186,11 @@ fn settle_all_unless_stale<T: Tables>(
     roots: &[u64],
     count: u64,
 )
-    ensures { held.new.list.items ≡ map (λ i. settled_unless_stale (is_current_by
+    ensures { items_of held.new.slots.items ≡ map (λ i. settled_unless_stale (is_current_by
         (is_mapped scheme (T.words tables.now)) roots.now (translation_of i)) count i)
-        held.old.list.items }
+        (items_of held.old.slots.items) }
 {
-    settle_each_unless_stale(held.list.as_mut_slice(), tables, scheme, roots, count);
+    settle_each_unless_stale(held.slots.as_mut_slice(), tables, scheme, roots, count);
 }
 
 // With what the tables have now, if something may have been taken from that and nothing put to it.
@@ -162,38 +202,52 @@ pub(crate) fn settle_taken<T: Tables>(
     roots: &[u64],
     count: u64,
 )
-    ensures { held.new.list.items ≡ (if changed then map (λ i. settled_unless_stale (is_current_by
+    ensures { items_of held.new.slots.items
+        ≡ (if changed then map (λ i. settled_unless_stale (is_current_by
         (is_mapped scheme (T.words tables.now)) roots.now (translation_of i)) count i)
-        held.old.list.items else held.old.list.items) }
+        (items_of held.old.slots.items) else items_of held.old.slots.items) }
 {
     if changed {
         settle_all_unless_stale(held, tables, scheme, roots, count);
     }
 }
 
-fn mark_each(held: &mut [Held], cause: &Cause)
-    ensures { held.new ≡ map (marked_if (verdict_of cause.now) (applies cause.now)) held.old }
+impl Slot {
+    // With the verdict, if the cause is of the item that is there.
+    fn mark_by(&mut self, cause: &Cause)
+        ensures { self.new ≡ turned (marked_if (verdict_of cause.now) (applies cause.now))
+            (λ i. false) self.old }
+    {
+        if !self.is_gone {
+            self.item.mark_by(cause);
+        }
+    }
+}
+
+fn mark_each(slots: &mut [Slot], cause: &Cause)
+    ensures { slots.new ≡ map (turned (marked_if (verdict_of cause.now) (applies cause.now))
+        (λ i. false)) slots.old }
 {
-    for item in held.iter_mut() {
-        item.mark_by(cause);
+    for slot in slots.iter_mut() {
+        slot.mark_by(cause);
     }
 }
 
 // With the verdict of those that the cause is of.
 fn mark(held: &mut HeldList, cause: &Cause)
-    ensures { held.new.list.items
-        ≡ map (marked_if (verdict_of cause.now) (applies cause.now)) held.old.list.items }
+    ensures { items_of held.new.slots.items
+        ≡ map (marked_if (verdict_of cause.now) (applies cause.now)) (items_of held.old.slots.items) }
 {
-    mark_each(held.list.as_mut_slice(), cause);
+    mark_each(held.slots.as_mut_slice(), cause);
 }
 
 // The same, where what is given by the cause is known: if nothing is, all keep the verdicts that they
 // have.
 pub(crate) fn mark_given(held: &mut HeldList, cause: &Cause, given: &[Warning])
     requires { given.now ≡ [] → map (marked_if (verdict_of cause.now) (applies cause.now))
-        held.old.list.items ≡ held.old.list.items }
-    ensures { held.new.list.items
-        ≡ map (marked_if (verdict_of cause.now) (applies cause.now)) held.old.list.items }
+        (items_of held.old.slots.items) ≡ items_of held.old.slots.items }
+    ensures { items_of held.new.slots.items
+        ≡ map (marked_if (verdict_of cause.now) (applies cause.now)) (items_of held.old.slots.items) }
 {
     if !given.is_empty() {
         mark(held, cause);
@@ -208,7 +262,8 @@ pub(crate) fn drop_fenced(
     rs1: Option<u64>,
     rs2: Option<u64>,
 )
-    ensures { held.new.list.items ≡ filter (outlives_fence scheme hart rs1 rs2) held.old.list.items }
+    ensures { items_of held.new.slots.items
+        ≡ filter (outlives_fence scheme hart rs1 rs2) (items_of held.old.slots.items) }
 {
     held.drop_of(&Concern::Fence {
         scheme,
@@ -220,7 +275,8 @@ pub(crate) fn drop_fenced(
 
 // Without what the end of a remote fence drops.
 pub(crate) fn drop_remote(held: &mut HeldList, scheme: Scheme, fence: &Option<OpenFence>)
-    ensures { held.new.list.items ≡ filter (outlives_remote scheme fence.now) held.old.list.items }
+    ensures { items_of held.new.slots.items
+        ≡ filter (outlives_remote scheme fence.now) (items_of held.old.slots.items) }
 {
     held.drop_of(&Concern::Remote {
         scheme,

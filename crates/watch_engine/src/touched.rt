@@ -7,15 +7,16 @@ ghost use Rattle.watch.specs.Trace.{index_of};
 ghost use Rattle.watch_engine.specs.LastAnswer.{IsAnswered};
 ghost use Rattle.watch_engine.specs.Held.{is_current_by, translation_of};
 ghost use Rattle.watch_engine.specs.Touched.{asks, is_below, is_kept_after, is_touched, is_touched_on, settled_if};
+ghost use Rattle.watch_engine.specs.Slots.{has, items_of, turned};
 
 use crate::concern::Concern;
 use crate::held::Held;
 use crate::held_list::HeldList;
-use crate::keys::By;
 use crate::last_answer::{LastAnswer, is_current_again};
 use crate::live::is_live_in;
 use crate::roots::Roots;
 use crate::satps::satp_in;
+use crate::slot::Slot;
 use crate::tables::Tables;
 use pte::{PAGE_BYTES, Page, Scheme};
 use watch::Space;
@@ -70,52 +71,6 @@ fn is_touched(scheme: Scheme, roots: &Roots, address: u64, ways: &[Way], item: &
     false
 }
 
-#[inline(always)]
-fn is_kept_after<T: Tables>(
-    tables: &T,
-    scheme: Scheme,
-    satps: &[Option<Space>],
-    roots: &Roots,
-    address: u64,
-    ways: &[Way],
-    item: &Held,
-) -> bool
-    ensures { result ≡ is_kept_after scheme (T.words tables.now) satps.now roots.now
-        (index_of address) ways.now item.now }
-{
-    !(is_touched(scheme, roots, address, ways, item)
-        && is_live_in(
-            tables,
-            scheme,
-            satp_in(satps, item.hart),
-            item.root,
-            &item.entry,
-        ))
-}
-
-// Without those that can be filled again, which none before a place can.
-fn drop_live<T: Tables>(
-    held: &mut HeldList,
-    tables: &T,
-    scheme: Scheme,
-    satps: &[Option<Space>],
-    roots: &Roots,
-    address: u64,
-    ways: &[Way],
-    first: usize,
-)
-    requires first { first ≤ length held.old.list.items }
-    requires none { list_any (λ i. not (is_kept_after scheme (T.words tables.now) satps.now
-        roots.now (index_of address) ways.now i)) (take first held.old.list.items) ≡ false }
-    ensures { held.new.list.items ≡ filter (is_kept_after scheme (T.words tables.now) satps.now
-        roots.now (index_of address) ways.now) held.old.list.items }
-{
-    held.list.retain(|item| is_kept_after(tables, scheme, satps, roots, address, ways, item));
-    held.pages.relink(held.list.as_slice(), By::Page, first);
-    held.frames.relink(held.list.as_slice(), By::Frame, first);
-    held.roots.relink(held.list.as_slice(), By::Root, first);
-}
-
 impl Held {
     // With what the tables have now, if the store concerns it. Whether it can be filled again.
     #[inline(always)]
@@ -151,10 +106,44 @@ impl Held {
     }
 }
 
-// The same of each from a place on, where none before it is concerned, and whether some can be filled
-// again.
+impl Slot {
+    // The same of the item that is there, and without one that can be filled again. Whether the place
+    // is empty now.
+    #[inline(always)]
+    fn settle_if<T: Tables>(
+        &mut self,
+        tables: &T,
+        scheme: Scheme,
+        satps: &[Option<Space>],
+        roots: &Roots,
+        address: u64,
+        ways: &[Way],
+        count: u64,
+        last: &mut Option<LastAnswer>,
+    ) -> bool
+        requires { IsAnswered (is_current_by (is_mapped scheme (T.words tables.now)) roots.now)
+            last.old }
+        ensures last { IsAnswered (is_current_by (is_mapped scheme (T.words tables.now)) roots.now)
+            last.new }
+        ensures slot { self.new ≡ turned (λ i. settled_if (is_touched scheme roots.now
+            (index_of address) ways.now (translation_of i)) (is_current_by (is_mapped scheme
+            (T.words tables.now)) roots.now (translation_of i)) count i)
+            (λ i. not (is_kept_after scheme (T.words tables.now) satps.now roots.now
+            (index_of address) ways.now i)) self.old }
+    {
+        if self.is_gone {
+            return true;
+        }
+        self.is_gone = self
+            .item
+            .settle_if(tables, scheme, satps, roots, address, ways, count, last);
+        self.is_gone
+    }
+}
+
+// The same of each from a place on, where none before it is concerned; how many are empty then.
 fn settle_each_touched<T: Tables>(
-    held: &mut [Held],
+    slots: &mut [Slot],
     tables: &T,
     scheme: Scheme,
     satps: &[Option<Space>],
@@ -163,28 +152,30 @@ fn settle_each_touched<T: Tables>(
     ways: &[Way],
     count: u64,
     first: usize,
-) -> bool
-    requires first { first ≤ length held.old }
-    requires none { list_any (λ i. is_touched scheme roots.now (index_of address) ways.now
-        (translation_of i)) (take first held.old) ≡ false }
-    ensures items { held.new ≡ map (λ i. settled_if (is_touched scheme roots.now
+) -> usize
+    requires first { first ≤ length slots.old }
+    requires none { list_any (has (λ i. is_touched scheme roots.now (index_of address) ways.now
+        (translation_of i))) (take first slots.old) ≡ false }
+    ensures { slots.new ≡ map (turned (λ i. settled_if (is_touched scheme roots.now
         (index_of address) ways.now (translation_of i)) (is_current_by (is_mapped scheme
-        (T.words tables.now)) roots.now (translation_of i)) count i) held.old }
-    ensures live { result ≡ list_any (λ i. not (is_kept_after scheme (T.words tables.now) satps.now
-        roots.now (index_of address) ways.now i)) held.old }
+        (T.words tables.now)) roots.now (translation_of i)) count i)
+        (λ i. not (is_kept_after scheme (T.words tables.now) satps.now roots.now
+        (index_of address) ways.now i))) slots.old }
 {
-    let mut some = false;
+    let mut empty: usize = 0;
     let mut last = None;
-    for place in first..held.len() {
-        let is_live = held[place].settle_if(
+    for place in first..slots.len() {
+        let is_empty = slots[place].settle_if(
             tables, scheme, satps, roots, address, ways, count, &mut last,
         );
-        some = some || is_live;
+        if is_empty {
+            empty = empty.saturating_add(1);
+        }
     }
-    some
+    empty
 }
 
-// A number of items, none of which the store concerns on the way.
+// A number of places, none of which has an item that the store concerns on the way.
 fn first_touched_on(
     held: &HeldList,
     scheme: Scheme,
@@ -192,9 +183,9 @@ fn first_touched_on(
     address: u64,
     way: &Way,
 ) -> usize
-    ensures none { list_any (λ i. is_touched_on scheme roots.now (index_of address)
-        (translation_of i) way.now) (take result held.now.list.items) ≡ false }
-    ensures within { result ≤ length held.now.list.items }
+    ensures none { list_any (has (λ i. is_touched_on scheme roots.now (index_of address)
+        (translation_of i) way.now)) (take result held.now.slots.items) ≡ false }
+    ensures within { result ≤ length held.now.slots.items }
 {
     held.first_of(&Concern::Store {
         scheme,
@@ -204,8 +195,8 @@ fn first_touched_on(
     })
 }
 
-// A number of items, none of which the store concerns: all of them if it concerns none and few keys
-// tell so.
+// A number of places, none of which has an item that the store concerns: all of them if it concerns
+// none and few keys tell so.
 fn first_touched(
     held: &HeldList,
     scheme: Scheme,
@@ -213,9 +204,9 @@ fn first_touched(
     address: u64,
     ways: &[Way],
 ) -> usize
-    ensures none { list_any (λ i. is_touched scheme roots.now (index_of address) ways.now
-        (translation_of i)) (take result held.now.list.items) ≡ false }
-    ensures within { result ≤ length held.now.list.items }
+    ensures none { list_any (has (λ i. is_touched scheme roots.now (index_of address) ways.now
+        (translation_of i))) (take result held.now.slots.items) ≡ false }
+    ensures within { result ≤ length held.now.slots.items }
 {
     let mut first = held.as_slice().len();
     if first == 0 || ways.len() > MOST_WAYS {
@@ -245,16 +236,17 @@ fn settle_touched_from<T: Tables>(
     count: u64,
     first: usize,
 )
-    requires first { first ≤ length held.old.list.items }
-    requires none { list_any (λ i. is_touched scheme roots.now (index_of address) ways.now
-        (translation_of i)) (take first held.old.list.items) ≡ false }
-    ensures { held.new.list.items ≡ map (λ i. settled_if (is_touched scheme roots.now
+    requires first { first ≤ length held.old.slots.items }
+    requires none { list_any (has (λ i. is_touched scheme roots.now (index_of address) ways.now
+        (translation_of i))) (take first held.old.slots.items) ≡ false }
+    ensures { items_of held.new.slots.items ≡ map (λ i. settled_if (is_touched scheme roots.now
         (index_of address) ways.now (translation_of i)) (is_current_by (is_mapped scheme
         (T.words tables.now)) roots.now (translation_of i)) count i) (filter (is_kept_after scheme
-        (T.words tables.now) satps.now roots.now (index_of address) ways.now) held.old.list.items) }
+        (T.words tables.now) satps.now roots.now (index_of address) ways.now)
+        (items_of held.old.slots.items)) }
 {
-    let some = settle_each_touched(
-        held.list.as_mut_slice(),
+    let empty = settle_each_touched(
+        held.slots.as_mut_slice(),
         tables,
         scheme,
         satps,
@@ -264,9 +256,7 @@ fn settle_touched_from<T: Tables>(
         count,
         first,
     );
-    if some {
-        drop_live(held, tables, scheme, satps, roots, address, ways, first);
-    }
+    held.tidy(empty);
 }
 
 /// With what the tables have now of those that the store concerns, and without those that can be
@@ -281,11 +271,11 @@ pub(crate) fn settle_touched<T: Tables>(
     ways: &[Way],
     count: u64,
 )
-    ensures { held.new.list.items ≡ map (λ i. settled_if (is_touched scheme roots.now
+    ensures { items_of held.new.slots.items ≡ map (λ i. settled_if (is_touched scheme roots.now
         (index_of address) ways.now (translation_of i)) (is_current_by (is_mapped scheme
         (T.words tables.now)) roots.now (translation_of i)) count i) (filter (is_kept_after scheme
         (T.words tables.now) satps.now roots.now (index_of address) ways.now)
-        held.old.list.items) }
+        (items_of held.old.slots.items)) }
 {
     let first = first_touched(held, scheme, roots, address, ways);
     if first < held.as_slice().len() {

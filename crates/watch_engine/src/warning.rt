@@ -1,13 +1,15 @@
 //! Warnings.
 
-ghost use Rattle.std.specs.Prelude.{◌≡◌, [], IfOk, OnOk};
+ghost use Rattle.std.specs.Prelude.{◌≡◌, [], IfOk, OnOk, if◌then◌else◌};
 ghost use Rattle.watch_engine.specs.Warnings.{has_same_rights, is_line, is_same_page, is_same_scope, is_shown, joined, warning_of, with_warning};
 ghost use Rattle.std.specs.List.{list_any};
+ghost use Rattle.watch_engine.specs.Slots.{items_of};
 
 use crate::cause::Cause;
 use crate::concern::Concern;
 use crate::held::Held;
 use crate::held_list::HeldList;
+use crate::slot::Slot;
 use pte::PteFlags;
 use std::alloc::{AllocError, Global};
 use tlb::Entry;
@@ -93,24 +95,26 @@ fn is_shown(warnings: &[Warning], item: &Held) -> bool
     false
 }
 
-// With the warning of a translation, if there is one and it is not shown yet.
-fn add_warning(warnings: &mut Vec<Warning>, item: &Held, cause: &Cause) -> Result<(), AllocError>
-    ensures { OnOk result (warnings.new.items
-        ≡ with_warning cause.now item.now warnings.old.items) }
+// With the warning of a translation that is there, if there is one and it is not shown yet.
+fn add_warning(warnings: &mut Vec<Warning>, slot: &Slot, cause: &Cause) -> Result<(), AllocError>
+    ensures { OnOk result (warnings.new.items ≡ (if slot.now.is_gone then warnings.old.items
+        else with_warning cause.now slot.now.item warnings.old.items)) }
 {
-    if item.is_given_by(cause) && !is_shown(warnings.as_slice(), item) {
+    let item = &slot.item;
+    if !slot.is_gone && item.is_given_by(cause) && !is_shown(warnings.as_slice(), item) {
         warnings.push(Warning::of(cause.verdict(), item))?;
     }
     Ok(())
 }
 
 // The warnings for a cause, of all items.
-fn all_warnings(alloc: Global, held: &[Held], cause: &Cause) -> Result<Vec<Warning>, AllocError>
-    ensures { IfOk result (λ warnings. warnings.items ≡ joined cause.now held.now []) }
+fn all_warnings(alloc: Global, slots: &[Slot], cause: &Cause) -> Result<Vec<Warning>, AllocError>
+    ensures { IfOk result (λ warnings.
+        warnings.items ≡ joined cause.now (items_of slots.now) []) }
 {
     let mut warnings = Vec::new(alloc);
-    for item in held {
-        add_warning(&mut warnings, item, cause)?;
+    for slot in slots {
+        add_warning(&mut warnings, slot, cause)?;
     }
     Ok(warnings)
 }
@@ -121,7 +125,8 @@ pub(crate) fn warnings(
     held: &HeldList,
     cause: &Cause,
 ) -> Result<Vec<Warning>, AllocError>
-    ensures { IfOk result (λ warnings. warnings.items ≡ joined cause.now held.now.list.items []) }
+    ensures { IfOk result (λ warnings.
+        warnings.items ≡ joined cause.now (items_of held.now.slots.items) []) }
 {
     if !held.may_concern(&Concern::Given(*cause)) {
         return Ok(Vec::new(alloc));

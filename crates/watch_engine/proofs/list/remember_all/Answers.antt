@@ -1,3 +1,4 @@
+use Rattle.watch_engine.specs.Slots.{items_of}
 use Rattle.std.proofs.Common.{◌∙◌, sym, ap, ℕ, take, ◌++◌, ◌∷◌, []}
 use Rattle.std.proofs.lemmas.List.{take_more}
 use Rattle.watch_engine.specs.declared.held.LastLive.{LastLive}
@@ -13,6 +14,6 @@ loop-item-preserved c =
     let one = c.in_ok-remember.ensures in
     let more = take_more live at l c.loop-item-test.true in
     one.ok ∙ (ap (remembered l) c.loop-item.invariant
-    ∙ (sym (remembered_push (take at live) l c.args.held.now.list.items)
-    ∙ ((λ j. remembered_all (take at live ++ c.item-item.is j ∷ []) c.args.held.now.list.items)
-    ∙ sym (ap (λ ls. remembered_all ls c.args.held.now.list.items) more))))
+    ∙ (sym (remembered_push (take at live) l (items_of c.args.held.now.slots.items))
+    ∙ ((λ j. remembered_all (take at live ++ c.item-item.is j ∷ []) (items_of c.args.held.now.slots.items))
+    ∙ sym (ap (λ ls. remembered_all ls (items_of c.args.held.now.slots.items)) more))))

@@ -1,3 +1,4 @@
+use Rattle.watch_engine.specs.Slots.{items_of}
 use Rattle.std.proofs.Common.{◌≡◌, sym, ap, subst, List, length, ℕ}
 use Rattle.walk.specs.Leads.{Tables}
 use Rattle.watch_engine.specs.declared.held.Held.{Held}
@@ -13,7 +14,7 @@ returns-in_err-add_hart-clause-err g c = λ trace at. on_err _ _ (other_satps at
 
 pub returns-in_err-add-clause-err : goal.returns-in_err-add-clause-err
 returns-in_err-add-clause-err g c = λ trace at.
-    on_err _ _ (subst (λ (ls : List Left). Stands c.args.self.now.scheme trace (g.T.Tables.words c.args.self.now.tables) (g.T.Tables.since c.args.self.now.tables) c.add_hart.new.self.spaces.items c.args.self.now.roots c.args.self.now.held.list.items ls c.args.self.now.drops.fences.items c.args.self.now.fences.items c.args.self.now.claims.items c.args.self.now.count) (sym c.in_err-add.ensures.err) (other_satps at _ c.add_hart.new.self.limit c.add_hart.ensures.same))
+    on_err _ _ (subst (λ (ls : List Left). Stands c.args.self.now.scheme trace (g.T.Tables.words c.args.self.now.tables) (g.T.Tables.since c.args.self.now.tables) c.add_hart.new.self.spaces.items c.args.self.now.roots (items_of c.args.self.now.held.slots.items) ls c.args.self.now.drops.fences.items c.args.self.now.fences.items c.args.self.now.claims.items c.args.self.now.count) (sym c.in_err-add.ensures.err) (other_satps at _ c.add_hart.new.self.limit c.add_hart.ensures.same))
 
 pub returns-in_err-new-clause-err : goal.returns-in_err-new-clause-err
 returns-in_err-new-clause-err g c = λ trace at.
@@ -29,7 +30,7 @@ returns-clause-ok g c = λ trace at.
     let scheme = watch.scheme in
     let words : Tables = g.T.Tables.words watch.tables in
     let drops : List PastFence = watch.drops.fences.items in
-    let held : List Held = watch.held.list.items in
+    let held : List Held = (items_of watch.held.slots.items) in
     let these : List ℕ = c.add-2.new.self in
     let grown = other_satps at _ c.add_hart.new.self.limit c.add_hart.ensures.same in
     let long : length c.as_slice-fences.result.now ≡ length drops = ap (λ (ds : List PastFence). length ds) c.as_slice-fences.ensures.value in

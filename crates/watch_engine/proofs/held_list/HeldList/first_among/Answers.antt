@@ -1,9 +1,11 @@
 use Rattle.std.proofs.Common.{ℕ, ◌≡◌, ◌≤◌, ◌+◌, ◌%◌, Bool, List, false, inl, inr, subst, sym, take, arith}
+use Rattle.std.specs.Prelude.{not}
 use Rattle.std.specs.List.{list_any}
-use Rattle.watch_engine.specs.declared.held.Held.{Held}
+use Rattle.std.proofs.lemmas.Bool.{and_parts}
+use Rattle.watch_engine.specs.declared.slot.Slot.{Slot}
 use Rattle.watch_engine.specs.declared.keys.Keys.{Keys}
 use Rattle.watch_engine.specs.Concerns.{concerns}
-use Rattle.watch_engine.specs.Keys.{key_of}
+use Rattle.watch_engine.specs.Slots.{has, key_in}
 use Rattle.watch_engine.proofs.Walks.{any_fewer, below_or_is, keyed, none_among}
 use Rattle.watch_engine.proofs.held_list.HeldList.first_among.Goals.{then-place-first, else-place-first}
 use Rattle.watch_engine.proofs.held_list.HeldList.first_among.Goals as goal
@@ -11,10 +13,10 @@ use Rattle.watch_engine.proofs.held_list.HeldList.first_among.Goals as goal
 pub loop-offset-preserved : goal.loop-offset-preserved
 loop-offset-preserved c =
     let keys : Keys = c.args.keys.now in
-    let items : List Held = c.args.self.now.list.items in
+    let items : List Slot = c.args.self.now.slots.items in
     let was = c.loop-offset.invariant in
-    let at : ℕ → Held → Bool = λ n. keyed (key_of keys.by) ((keys.first + n) % keys.limit) (concerns c.args.concern.now) in
-    let large : Held → Bool = keyed (key_of keys.by) keys.limit (concerns c.args.concern.now) in
+    let at : ℕ → Slot → Bool = λ n. keyed (key_in keys.by) ((keys.first + n) % keys.limit) (has (concerns c.args.concern.now)) in
+    let large : Slot → Bool = keyed (key_in keys.by) keys.limit (has (concerns c.args.concern.now)) in
     let place : ℕ = c.first_with-place.result in
     elim c.if-place-first.branch [
       | then-place-first w ↦
@@ -42,5 +44,5 @@ loop-offset-preserved c =
 pub returns-clause-none : goal.returns-clause-none
 returns-clause-none c = λ are.
     let keys : Keys = c.args.keys.now in
-    none_among (key_of keys.by) (concerns c.args.concern.now) keys.count (λ n. (keys.first + n) % keys.limit) keys.limit (take c.loop-offset.first c.args.self.now.list.items)
-    (λ n h. c.loop-offset.invariant.each n (omega arith)) c.loop-offset.invariant.large are
+    none_among (key_in keys.by) (has (concerns c.args.concern.now)) keys.count (λ n. (keys.first + n) % keys.limit) keys.limit (take c.loop-offset.first c.args.self.now.slots.items)
+    (λ n h. c.loop-offset.invariant.each n (omega arith)) c.loop-offset.invariant.large (λ s is. are s.item (and_parts (not s.is_gone) (concerns c.args.concern.now s.item) is).1)

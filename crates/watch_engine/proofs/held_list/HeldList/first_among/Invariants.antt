@@ -1,14 +1,14 @@
 use Rattle.std.proofs.Common.{ℕ, ◌≡◌, ◌<◌, ◌≤◌, ◌+◌, ◌%◌, false, length, take}
 use Rattle.std.specs.List.{list_any}
 use Rattle.watch_engine.specs.Concerns.{concerns}
-use Rattle.watch_engine.specs.Keys.{key_of}
+use Rattle.watch_engine.specs.Slots.{has, key_in}
 use Rattle.watch_engine.proofs.Walks.{keyed}
 use Rattle.watch_engine.proofs.held_list.HeldList.first_among.Given as goal
 
 -- before the first, those with the keys so far are not concerned
 abbrev pub invariant-loop-offset : goal.invariant-loop-offset
 invariant-loop-offset l = record {
-  large : list_any (keyed (key_of l.keys.by) l.keys.limit (concerns l.concern)) (take l.first l.self.list.items) ≡ false;
-  each : (n : ℕ) → n < l.offset → list_any (keyed (key_of l.keys.by) ((l.keys.first + n) % l.keys.limit) (concerns l.concern)) (take l.first l.self.list.items) ≡ false;
-  within : l.first ≤ length l.self.list.items;
+  large : list_any (keyed (key_in l.keys.by) l.keys.limit (has (concerns l.concern))) (take l.first l.self.slots.items) ≡ false;
+  each : (n : ℕ) → n < l.offset → list_any (keyed (key_in l.keys.by) ((l.keys.first + n) % l.keys.limit) (has (concerns l.concern))) (take l.first l.self.slots.items) ≡ false;
+  within : l.first ≤ length l.self.slots.items;
 }

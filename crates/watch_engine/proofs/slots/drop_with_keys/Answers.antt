@@ -1,0 +1,41 @@
+use Rattle.std.proofs.Common.{ℕ, ◌≡◌, ◌+◌, ◌%◌, ◌∙◌, Bool, List, false, inl, inr, subst, sym, arith}
+use Rattle.std.specs.Prelude.{not}
+use Rattle.std.specs.List.{list_any}
+use Rattle.std.proofs.lemmas.Bool.{and_parts}
+use Rattle.watch_engine.specs.declared.held.Held.{Held}
+use Rattle.watch_engine.specs.declared.keys.Keys.{Keys}
+use Rattle.watch_engine.specs.declared.slot.Slot.{Slot}
+use Rattle.watch_engine.specs.Concerns.{concerns}
+use Rattle.watch_engine.specs.Slots.{has, items_of, key_in}
+use Rattle.watch_engine.proofs.Dropping.{filter_none}
+use Rattle.watch_engine.proofs.Emptying.{any_items, without_both}
+use Rattle.watch_engine.proofs.Walks.{below_or_is, keyed, none_among}
+use Rattle.watch_engine.proofs.slots.drop_with_keys.Goals as goal
+
+pub loop-offset-preserved : goal.loop-offset-preserved
+loop-offset-preserved c =
+    let keys : Keys = c.args.keys.now in
+    let goes : Held → Bool = concerns c.args.concern.now in
+    let was = c.loop-offset.invariant in
+    let one = c.drop_with_key-more.ensures in
+    let now : List Slot = c.drop_with_key-more.new.slots in
+    let key : ℕ → ℕ = λ n. (keys.first + n) % keys.limit in
+    record {
+      without = without_both goes c.args.slots.now c.loop-offset.slots now was.without one.without;
+      large = one.without.none keys.by keys.limit was.large;
+      each = λ n h. elim (below_or_is n c.loop-offset.offset (omega arith)) [
+        | inl low ↦ one.without.none keys.by (key n) (was.each n low)
+        | inr is ↦ subst (λ (m : ℕ). list_any (keyed (key_in keys.by) (key m) (has goes)) now ≡ false) (sym is) one.none
+      ];
+    }
+
+pub returns-clause-left : goal.returns-clause-left
+returns-clause-left c = λ are.
+    let keys : Keys = c.args.keys.now in
+    let goes : Held → Bool = concerns c.args.concern.now in
+    let slots : List Slot = c.loop-offset.slots in
+    let was = c.loop-offset.invariant in
+    let none : list_any (has goes) slots ≡ false =
+    none_among (key_in keys.by) (has goes) keys.count (λ n. (keys.first + n) % keys.limit) keys.limit slots
+    (λ n h. was.each n (omega arith)) was.large (λ s is. are s.item (and_parts (not s.is_gone) (goes s.item) is).1) in
+    sym (filter_none goes (items_of slots) (sym (any_items goes slots) ∙ none)) ∙ was.without.left
