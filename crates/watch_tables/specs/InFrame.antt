@@ -1,4 +1,4 @@
--- What frames have under the number of a word.
+-- What a frame has at an index, and at which addresses its words stand.
 use Rattle.std.specs.Prelude.{ℕ, ◌==◌, ◌≡◌, ◌<◌, ◌+◌, ◌*◌, IsSome, if◌then◌else◌, Option, None, Some, slice_get}
 use Rattle.pte.specs.declared.address.TheConstants.{TABLE_LENGTH}
 use Rattle.watch_tables.specs.declared.frame.Frame.{Frame}
