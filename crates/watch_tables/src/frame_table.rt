@@ -1,7 +1,7 @@
 //! The frames that have a word that is not 0.
 
-ghost use Rattle.std.specs.Prelude.{ℕ, ◌≡◌, ◌<◌, ◌≤◌, ◌+◌, ◌==◌, ◌&&◌, ◌↔◌, ◌≢◌, ◌/◌, if◌then◌else◌};
-ghost use Rattle.std.specs.Prelude.{IfSome, IsSome, IsTrue, None, OnErr, OnOk, Some, length, slice_get};
+ghost use Rattle.std.specs.Prelude.{ℕ, ◌≡◌, ◌<◌, ◌≤◌, ◌+◌, ◌==◌, ◌≢◌, ◌/◌, if◌then◌else◌};
+ghost use Rattle.std.specs.Prelude.{IfSome, IsSome, IsTrue, None, OnErr, OnOk, Some, length};
 ghost use Rattle.std.specs.Ordering.{nat_cmp};
 ghost use Rattle.std.specs.BTreeMap.{get};
 ghost use Rattle.watch_tables.specs.Stored.{word_to_store};

@@ -1,10 +1,10 @@
 //! The words of memory that a trace has stored.
 
-ghost use Rattle.std.specs.Prelude.{ℕ, ◌≡◌, ◌<◌, ◌≤◌, ◌==◌, IfSome, IsSome, IsTrue, None, OnErr, OnOk};
-ghost use Rattle.std.specs.Prelude.{◌+◌, ◌*◌, ◌/◌, ◌&&◌, ◌⊎◌, ◌↔◌, ◌≢◌, not, if◌then◌else◌};
+ghost use Rattle.std.specs.Prelude.{ℕ, ◌≡◌, ◌<◌, ◌≤◌, IfSome, IsSome, IsTrue, None, OnErr, OnOk};
+ghost use Rattle.std.specs.Prelude.{◌+◌, ◌*◌, ◌/◌, ◌&&◌, ◌⊎◌, ◌↔◌, ◌≢◌, not};
 ghost use Rattle.std.specs.List.{Contains};
 ghost use Rattle.watch.specs.Trace.{index_of};
-ghost use Rattle.watch_tables.specs.Stored.{is_kept, is_table, table_of, up_to_limit, word_to_store};
+ghost use Rattle.watch_tables.specs.Stored.{is_kept, is_table, table_of, up_to_limit};
 ghost use Rattle.watch_tables.specs.InFrame.{IsOfFrame, word_in};
 ghost use Rattle.watch_tables.specs.FrameTables.{in_frames};
 ghost use Rattle.watch_tables.specs.Pointers.{has_number, has_pointer};
