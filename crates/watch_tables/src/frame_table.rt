@@ -67,6 +67,13 @@ fn hint(hints: &mut [usize], ppn: u64, place: usize) {
     }
 }
 
+/// Makes the hints of all frames of a row anew.
+fn hint_all(hints: &mut [usize], row: &[PlacedFrame]) {
+    for place in 0..row.len() {
+        hint(hints, row[place].ppn, place);
+    }
+}
+
 /// Doubles the hints once more than half as many frames are there, if there is memory for that, and
 /// makes them anew.
 fn spread(hints: &mut Vec<usize>, row: &[PlacedFrame]) {
@@ -75,11 +82,8 @@ fn spread(hints: &mut Vec<usize>, row: &[PlacedFrame]) {
         return;
     }
     let more = count.saturating_mul(2).max(FIRST_HINTS);
-    if hints.resize(more, 0).is_err() {
-        return;
-    }
-    for place in 0..row.len() {
-        hint(hints.as_mut_slice(), row[place].ppn, place);
+    if hints.resize(more, 0).is_ok() {
+        hint_all(hints.as_mut_slice(), row);
     }
 }
 
@@ -204,8 +208,8 @@ impl FrameTable {
         Ok(())
     }
 
-    /// Takes the frame of a PPN out, if it has one. The last frame of the row comes to its place.
-    pub(crate) fn remove(&mut self, ppn: u64) -> Option<Frame>
+    // Takes the frame of a PPN out, if it has one. The last frame of the row comes to its place.
+    fn take_out(&mut self, ppn: u64) -> Option<Frame>
         ensures value { result ≡ frame_of self.old ppn }
         ensures without { (k : ℕ) → frame_of self.new k
             ≡ (if k == ppn then None else frame_of self.old k) }
@@ -222,6 +226,34 @@ impl FrameTable {
         move_to(&mut self.places, moved, place);
         hint(self.hints.as_mut_slice(), moved, place);
         Some(gone.frame)
+    }
+
+    // Gives room back where three quarters of it are free, since frames have gone.
+    fn shrink(&mut self)
+        ensures frames { (k : ℕ) → frame_of self.new k ≡ frame_of self.old k }
+        ensures count { frame_count self.new ≡ frame_count self.old }
+    {
+        let count = self.row.len();
+        if count >= self.row.capacity() / 4 {
+            return;
+        }
+        self.row.shrink_to(2 * count);
+        let hints = (2 * count).checked_next_power_of_two().unwrap_or(0);
+        self.hints.truncate(hints.max(FIRST_HINTS));
+        self.hints.shrink_to(0);
+        hint_all(self.hints.as_mut_slice(), self.row.as_slice());
+    }
+
+    /// Takes the frame of a PPN out, if it has one.
+    pub(crate) fn remove(&mut self, ppn: u64) -> Option<Frame>
+        ensures value { result ≡ frame_of self.old ppn }
+        ensures without { (k : ℕ) → frame_of self.new k
+            ≡ (if k == ppn then None else frame_of self.old k) }
+        ensures fewer { IsSome result → frame_count self.new + 1 ≡ frame_count self.old }
+    {
+        let gone = self.take_out(ppn);
+        self.shrink();
+        gone
     }
 
     /// Puts a word down under its number, in the frame at a place. The frame goes with its last word.

@@ -3,7 +3,7 @@ use Rattle.std.specs.Ordering.{nat_cmp}
 use Rattle.std.specs.BTreeMap.{get}
 use Rattle.std.proofs.lemmas.Option.{slice_get_read}
 use Rattle.watch_tables.proofs.FrameRows.{comes-from, frame-is, frames-moved, frames-shorter, has-elsewhere, has-there, moved-elsewhere, moved-has-place, moved-there, place-in-row, rest-of, step-moved, step-shorter}
-use Rattle.watch_tables.proofs.frame_table.FrameTable.remove.Goals as goal
+use Rattle.watch_tables.proofs.frame_table.FrameTable.take_out.Goals as goal
 
 pub swap_remove-gone-requires : goal.swap_remove-gone-requires
 swap_remove-gone-requires c =
