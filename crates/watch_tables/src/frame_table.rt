@@ -212,7 +212,7 @@ impl FrameTable {
         Ok(())
     }
 
-    // Takes the frame of a PPN out, if it has one. The last frame of the row comes to its place.
+    /// Takes the frame of a PPN out, if it has one. The last frame of the row comes to its place.
     fn take_out(&mut self, ppn: u64) -> Option<Frame>
         ensures value { result ≡ frame_of self.old ppn }
         ensures without { (k : ℕ) → frame_of self.new k
@@ -232,16 +232,19 @@ impl FrameTable {
         Some(gone.frame)
     }
 
-    // Gives room back where three quarters of it are free, since frames have gone.
+    /// Gives room back where three quarters of it are free, since frames have gone.
     fn shrink(&mut self)
         ensures frames { (k : ℕ) → frame_of self.new k ≡ frame_of self.old k }
         ensures count { frame_count self.new ≡ frame_count self.old }
     {
-        let count = self.row.len();
-        if count >= self.row.capacity() / 4 {
+        let (count, room) = (self.row.len(), self.row.capacity());
+        if count >= room / 4 {
             return;
         }
         self.row.shrink_to(2 * count);
+        if self.row.capacity() >= room {
+            return;
+        }
         let hints = count.saturating_mul(HINTS_EACH);
         let hints = hints.checked_next_power_of_two().unwrap_or(0);
         self.hints.truncate(hints.max(FIRST_HINTS));
