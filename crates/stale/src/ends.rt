@@ -38,10 +38,12 @@ fn may_change(event: &Event, reply: &Reply) -> bool
     }
 }
 
-/// Whether a step that got this reply can change which stale mappings TLBs hold. `false`: they hold
+/// Whether a step that got this reply can change which stale mappings TLBs hold: a Load where it
+/// fills, and any step that may change tables, TLBs, or which spaces there are. `false`: they hold
 /// just those after it that they held before it.
 pub fn may_end_stale(event: &Event, reply: &Reply) -> bool
-    ensures { result ≡ false → (setup : Setup) (history : History) (hart : ℕ) (e : Entry)
+    ensures steps { result ≡ may_change event.now reply.now }
+    ensures kept { result ≡ false → (setup : Setup) (history : History) (hart : ℕ) (e : Entry)
         (page : Span) (m : Mapping)
         → StaleIn setup (with_turn event.now reply.now history) hart e page m
         ↔ StaleIn setup history hart e page m }
