@@ -3,7 +3,8 @@
 ghost use Rattle.std.specs.Prelude.{ℕ, ◌≡◌, ◌<◌, ◌≤◌, ◌==◌, if◌then◌else◌, length};
 ghost use Rattle.std.specs.Prelude.{IfOk, IfSome, IsTrue, None, Some};
 ghost use Rattle.std.specs.List.{sum_by};
-ghost use Rattle.watch_tables.specs.Stored.{filled_by, word_to_store};
+ghost use Rattle.std.specs.Option.{unwrap_or};
+ghost use Rattle.watch_tables.specs.Stored.{filled_by, value_of, word_to_store};
 
 use pte::TABLE_LENGTH;
 use std::alloc::{AllocError, Global};
@@ -59,6 +60,15 @@ impl Frame {
             return None;
         }
         Some(stored)
+    }
+
+    /// The word at an index.
+    #[inline(always)]
+    pub(crate) fn value(&self, index: u16) -> u64
+        requires { index < TABLE_LENGTH }
+        ensures { result ≡ unwrap_or (value_of (word_in self.now index)) 0 }
+    {
+        self.words[usize::from(index)].word
     }
 
     /// Puts a word down at an index, with the number of records so far; 0 is not kept.

@@ -4,7 +4,8 @@ ghost use Rattle.std.specs.Prelude.{ℕ, ◌≡◌, ◌<◌, ◌≤◌, ◌+◌,
 ghost use Rattle.std.specs.Prelude.{IfSome, IsSome, IsTrue, None, OnErr, OnOk, Some, length};
 ghost use Rattle.std.specs.Ordering.{nat_cmp};
 ghost use Rattle.std.specs.BTreeMap.{get};
-ghost use Rattle.watch_tables.specs.Stored.{word_to_store};
+ghost use Rattle.std.specs.Option.{unwrap_or};
+ghost use Rattle.watch_tables.specs.Stored.{value_of, word_to_store};
 ghost use Rattle.watch_tables.specs.InFrame.{word_of};
 ghost use Rattle.watch_tables.specs.FrameRow.{IsInStep, frame_at, ppn_at};
 
@@ -152,21 +153,43 @@ impl FrameTable {
         }
     }
 
-    /// The place of a PPN: where it is hinted, or else where the map has it.
-    fn place_of(&self, ppn: u64) -> Option<usize>
-        ensures { result ≡ get nat_cmp self.now.places ppn }
+    /// The place of a PPN, if it is hinted.
+    #[inline(always)]
+    fn hinted_place(&self, ppn: u64) -> Option<usize>
+        ensures { IfSome result (λ place. get nat_cmp self.now.places ppn ≡ Some place) }
     {
         let place = hinted(self.hints.as_slice(), ppn);
         if place < self.row.len() && self.row[place].ppn == ppn {
             return Some(place);
         }
+        None
+    }
+
+    /// The place of a PPN, by the map.
+    #[cold]
+    #[inline(never)]
+    fn mapped_place(&self, ppn: u64) -> Option<usize>
+        ensures { result ≡ get nat_cmp self.now.places ppn }
+    {
         match self.places.get(&ppn) {
             Some(place) => Some(*place),
             None => None,
         }
     }
 
+    /// The place of a PPN: where it is hinted, or else where the map has it.
+    #[inline(always)]
+    fn place_of(&self, ppn: u64) -> Option<usize>
+        ensures { result ≡ get nat_cmp self.now.places ppn }
+    {
+        match self.hinted_place(ppn) {
+            Some(place) => Some(place),
+            None => self.mapped_place(ppn),
+        }
+    }
+
     /// The frame of a PPN.
+    #[inline(always)]
     pub(crate) fn find(&self, ppn: u64) -> Option<&Frame>
         ensures some { IfSome result (λ frame. frame_of self.now ppn ≡ Some frame.now) }
         ensures none { result ≡ None → frame_of self.now ppn ≡ None }
@@ -174,6 +197,31 @@ impl FrameTable {
         match self.place_of(ppn) {
             Some(place) => Some(&self.row[place].frame),
             None => None,
+        }
+    }
+
+    /// The word at an index of the frame of a PPN, by the map.
+    #[cold]
+    #[inline(never)]
+    fn mapped_value(&self, ppn: u64, index: u16) -> u64
+        requires { index < TABLE_LENGTH }
+        ensures { result ≡ unwrap_or (value_of (word_of (frame_of self.now ppn) index)) 0 }
+    {
+        match self.find(ppn) {
+            Some(frame) => frame.value(index),
+            None => 0,
+        }
+    }
+
+    /// The word at an index of the frame of a PPN: of the hinted frame, or else of that of the map.
+    #[inline(always)]
+    pub(crate) fn value(&self, ppn: u64, index: u16) -> u64
+        requires { index < TABLE_LENGTH }
+        ensures { result ≡ unwrap_or (value_of (word_of (frame_of self.now ppn) index)) 0 }
+    {
+        match self.hinted_place(ppn) {
+            Some(place) => self.row[place].frame.value(index),
+            None => self.mapped_value(ppn, index),
         }
     }
 

@@ -55,6 +55,7 @@ impl Leaf {
 
     /// The leaf of a page of a size that an entry of a kind is, below pointers of which one has G or
     /// none has; `None` for what is no leaf, and for one that is not aligned.
+    #[inline(always)]
     pub(crate) fn from_kind(global: bool, size: PageSize, kind: Kind) -> Option<Leaf>
         ensures { result ≡ leaf_from global (pages_of size) kind }
     {
@@ -82,6 +83,7 @@ impl Leaf {
     }
 
     /// Whether the leaf has what a TLB's entry has.
+    #[inline(always)]
     pub(crate) fn is_of(&self, entry: &Entry) -> bool
         ensures { IsTrue result ↔ (self.now ≡ leaf_of entry.now) }
     {
@@ -90,6 +92,7 @@ impl Leaf {
 
     /// Whether the leaf has the PPN of a TLB's entry and at least its rights, and is as global as
     /// it is.
+    #[inline(always)]
     pub(crate) fn is_at_least(&self, entry: &Entry) -> bool
         ensures { IsTrue result ↔ IsAtLeast self.now entry.now }
     {

@@ -25,13 +25,14 @@ pub(crate) struct Reached {
 
 impl Reached {
     /// The table that an entry of a kind in this one points to; `None` for what is no pointer.
+    #[inline(always)]
     pub(crate) fn below(self, kind: Kind) -> Option<Reached>
         ensures { result ≡ pointed_from self.global kind }
     {
         match kind {
             Kind::Table { ppn, global } => Some(Reached {
                 table: ppn,
-                global: self.global || global,
+                global: self.global | global,
             }),
             _ => None,
         }
@@ -40,17 +41,16 @@ impl Reached {
 
 impl PageTables {
     /// The kind of the word at an index, below 512, of the table at a PPN.
+    #[inline(always)]
     fn kind(&self, table: u64, index: u16) -> Kind
         ensures { result ≡ kind_in (words self.now table index) }
     {
-        match self.stored_at(table, index) {
-            Some(stored) => Pte(stored.word).kind(),
-            None => Kind::Invalid,
-        }
+        Pte(self.word(table, index)).kind()
     }
 
     /// The table of a level that the pointers of an address lead to from the root at a PPN, or
     /// `None` if they lead to none.
+    #[inline(always)]
     fn table_at(&self, scheme: Scheme, root: u64, va: VirtAddr, level: u8) -> Option<Reached>
         requires { level ≤ top_level scheme }
         ensures some { IfSome result (λ at. IsReached scheme (words self.now) root va level at) }
@@ -73,6 +73,7 @@ impl PageTables {
     }
 
     /// The leaf of just this page, of its base and its size, in the tables of the root at a PPN.
+    #[inline(always)]
     fn leaf_at(&self, scheme: Scheme, root: u64, page: Page) -> Option<Leaf>
         ensures { (e : EntryOf) → e.page ≡ page
             → HasLeaf scheme (words self.now) root e ↔ (result ≡ Some (leaf_of e)) }

@@ -132,6 +132,17 @@ impl PageTables {
         }
     }
 
+    /// The word at an index of the table at a PPN.
+    #[inline(always)]
+    pub(crate) fn word(&self, table: u64, index: u16) -> u64
+        ensures { words self.now table index ≡ Some result }
+    {
+        if table >= FRAME_LIMIT || index >= TABLE_LENGTH {
+            return 0;
+        }
+        self.frames.value(table, index)
+    }
+
     /// What is stored at an index of the table at a PPN.
     pub(crate) fn stored_at(&self, table: u64, index: u16) -> Option<StoredWord>
         ensures some { IfSome result (λ stored. words self.now table index ≡ Some stored.word) }
