@@ -1,5 +1,5 @@
 -- The words of a frame, and how many are not 0.
-use Rattle.std.proofs.Common.{ℕ, ◌≡◌, ◌<◌, ◌≤◌, Bool, true, false, Some, None, List, [], ◌∷◌, cond, length, set, zero, suc, ap, sym, ◌∙◌, refl, inl, inr, arith}
+use Rattle.std.proofs.Common.{ℕ, ◌≡◌, ◌<◌, ◌≤◌, Bool, true, false, Some, None, List, [], ◌∷◌, ◌++◌, cond, length, set, zero, suc, ap, sym, ◌∙◌, refl, inl, inr, arith}
 use Rattle.std.specs.Prelude.{◌==◌, slice_get}
 use Rattle.std.specs.List.{sum_by}
 use Rattle.std.proofs.lemmas.Bool.{cases_eq, eq-eqb, eqb-true, cond-true, cond-false, false_from_ne_true}
@@ -7,7 +7,8 @@ use Rattle.std.proofs.lemmas.List.Sums.{sum_by-cons}
 use Rattle.tlb.proofs.Dropping.{slice_get-set_same, slice_get-set_other}
 use Rattle.watch_tables.specs.declared.frame.StoredWord.{StoredWord}
 use Rattle.watch_tables.specs.Stored.{filled_by, word_to_store}
-use Rattle.watch_tables.specs.InFrame.{if_filled}
+use Rattle.watch_tables.specs.declared.frame.Frame.{Frame}
+use Rattle.watch_tables.specs.InFrame.{AreEmpty, if_filled, word_in}
 
 filled-small : (s : StoredWord) (test : Bool) → (s.word == 0) ≡ test → cond test 0 1 ≤ 1
 filled-small s true is = omega arith
@@ -51,3 +52,8 @@ words-set words at index word count same small i =
           ap if_filled (slice_get-set_other words at i s (λ h. other (sym h ∙ same)))
           ∙ sym (cond-false (i == index) (word_to_store word count) (if_filled (slice_get words i)) (false_from_ne_true (i == index) (λ h. other (eqb-true i index h))))
     ]
+
+-- the last of frames of which each word is 0
+pub last-empty : (frames : List Frame) (frame : Frame) → AreEmpty (frames ++ frame ∷ []) → (i : ℕ) → word_in frame i ≡ None
+last-empty [] frame empty i = empty 0 i
+last-empty (f ∷ frames) frame empty i = last-empty frames frame (λ p. empty (suc p)) i

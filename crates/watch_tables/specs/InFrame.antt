@@ -1,5 +1,5 @@
 -- What a frame has at an index, and at which addresses its words stand.
-use Rattle.std.specs.Prelude.{ℕ, ◌==◌, ◌≡◌, ◌<◌, ◌+◌, ◌*◌, IsSome, if◌then◌else◌, Option, None, Some, slice_get}
+use Rattle.std.specs.Prelude.{ℕ, ◌==◌, ◌≡◌, ◌<◌, ◌+◌, ◌*◌, IsSome, if◌then◌else◌, List, Option, None, Some, slice_get}
 use Rattle.pte.specs.declared.address.TheConstants.{TABLE_LENGTH}
 use Rattle.watch_tables.specs.declared.frame.Frame.{Frame}
 use Rattle.watch_tables.specs.declared.frame.StoredWord.{StoredWord}
@@ -17,6 +17,10 @@ word_in frame index = if_filled (slice_get frame.words.items index)
 abbrev pub word_of : Option Frame → ℕ → Option StoredWord
 word_of None index = None
 word_of (Some frame) index = word_in frame index
+
+-- each word of the frames is 0
+abbrev pub AreEmpty : List Frame → Type 0
+AreEmpty frames = (place index : ℕ) → word_of (slice_get frames place) index ≡ None
 
 -- the physical address is that of a word of the frame at a PPN that is not 0, at an index below this one
 pub record IsOfFrame (frame : Frame) (ppn below address : ℕ) : Type 0 where

@@ -1,12 +1,12 @@
 //! The frames that have a word that is not 0.
 
 ghost use Rattle.std.specs.Prelude.{ℕ, ◌≡◌, ◌<◌, ◌≤◌, ◌+◌, ◌==◌, ◌≢◌, ◌/◌, if◌then◌else◌};
-ghost use Rattle.std.specs.Prelude.{IfSome, IsSome, IsTrue, None, OnErr, OnOk, Some, length};
+ghost use Rattle.std.specs.Prelude.{IfOk, IfSome, IsSome, IsTrue, None, OnErr, OnOk, Some, length};
 ghost use Rattle.std.specs.Ordering.{nat_cmp};
 ghost use Rattle.std.specs.BTreeMap.{get};
 ghost use Rattle.std.specs.Option.{unwrap_or};
 ghost use Rattle.watch_tables.specs.Stored.{value_of, word_to_store};
-ghost use Rattle.watch_tables.specs.InFrame.{word_of};
+ghost use Rattle.watch_tables.specs.InFrame.{AreEmpty, word_in, word_of};
 ghost use Rattle.watch_tables.specs.FrameRow.{IsInStep, frame_at, ppn_at};
 
 use crate::frame::Frame;
@@ -20,6 +20,10 @@ const FIRST_HINTS: usize = 16;
 /// How many hints there are for a frame at least, if there is memory for them. With two, a third of the
 /// look-ups in a trace of Linux met the hint of another frame.
 const HINTS_EACH: usize = 8;
+
+/// How many frames are kept at most for PPNs to come, so that tables that come and go need not be made
+/// anew each time.
+const SPARE_FRAMES: usize = 16;
 
 /// An odd number, 2^64 times the golden ratio: products with it spread PPNs that are near one another.
 const SPREAD: u64 = 0x9e37_79b9_7f4a_7c15;
@@ -43,6 +47,9 @@ pub(crate) struct FrameTable {
     // for each hash of a PPN a place where a frame of such a PPN may stand; where none does, or
     // another, the map tells
     hints: Vec<usize>,
+    // frames that lost their last word, for PPNs to come
+    spare: Vec<Frame>,
+    ghost empty: { AreEmpty spare.items },
     ghost in_step: { IsInStep (get nat_cmp places) row.items },
 }
 
@@ -150,6 +157,28 @@ impl FrameTable {
             places: BTreeMap::new(alloc),
             row: Vec::new(alloc),
             hints: Vec::new(alloc),
+            spare: Vec::new(alloc),
+        }
+    }
+
+    /// A frame of which each word is 0: a spare one, or else a new one.
+    fn empty_frame(&mut self, alloc: Global) -> Result<Frame, AllocError>
+        ensures empty { IfOk result (λ frame. (i : ℕ) → word_in frame i ≡ None) }
+        ensures frames { (k : ℕ) → frame_of self.new k ≡ frame_of self.old k }
+    {
+        match self.spare.pop() {
+            Some(frame) => Ok(frame),
+            None => Frame::new(alloc),
+        }
+    }
+
+    /// Keeps a frame of which each word is 0 as a spare one, if that is not one too many.
+    fn keep(&mut self, frame: Frame)
+        requires { (i : ℕ) → word_in frame i ≡ None }
+        ensures { (k : ℕ) → frame_of self.new k ≡ frame_of self.old k }
+    {
+        if self.spare.len() < SPARE_FRAMES {
+            let _ = self.spare.push(frame);
         }
     }
 
@@ -321,7 +350,9 @@ impl FrameTable {
         let length = u64::from(TABLE_LENGTH);
         let ppn = number / length;
         if put_in(&mut self.row, place, (number % length) as u16, word, count) {
-            self.remove(ppn);
+            if let Some(frame) = self.remove(ppn) {
+                self.keep(frame);
+            }
             return;
         }
         hint(self.hints.as_mut_slice(), ppn, place);
@@ -349,7 +380,7 @@ impl FrameTable {
         if word == 0 {
             return Ok(());
         }
-        let mut frame = Frame::new(alloc)?;
+        let mut frame = self.empty_frame(alloc)?;
         frame.put((number % length) as u16, word, count);
         self.add(ppn, frame)
     }

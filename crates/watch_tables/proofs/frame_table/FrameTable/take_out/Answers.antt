@@ -11,8 +11,8 @@ swap_remove-gone-requires c =
     let low = place-in-row (get nat_cmp c.args.self.now.places) c.args.self.now.row.items c.args.self.now.in_step c.args.ppn c.in-Some.place (sym c.remove.ensures.value ∙ c.in-Some.is) in
     omega arith
 
-pub invariant_of-self-then-place-len : goal.invariant_of-self-then-place-len
-invariant_of-self-then-place-len c =
+pub invariant_of-self-then-place-len-clause-in_step : goal.invariant_of-self-then-place-len-clause-in_step
+invariant_of-self-then-place-len-clause-in_step c =
     let row = c.args.self.now.row.items in
     let new = c.swap_remove-gone.new.self.items in
     let places = get nat_cmp c.args.self.now.places in
@@ -24,7 +24,7 @@ invariant_of-self-then-place-len c =
     let rest = rest-of row new c.in-Some.place _ c.swap_remove-gone.result full shorter (c.swap_remove-gone.ensures.by_index).1 in
     let gone = has-there places mid c.args.ppn None (c.remove.ensures.updates).0 in
     let others = has-elsewhere places mid c.args.ppn None (c.remove.ensures.updates).0 in
-    record { in_step = step-shorter places mid row new c.args.self.now.in_step c.args.ppn c.in-Some.place there shorter rest gone others (c.if-place-len.true ∙ c.len.ensures ∙ left) }
+    step-shorter places mid row new c.args.self.now.in_step c.args.ppn c.in-Some.place there shorter rest gone others (c.if-place-len.true ∙ c.len.ensures ∙ left)
 
 pub returns-then-place-len-clause-value : goal.returns-then-place-len-clause-value
 returns-then-place-len-clause-value c =
@@ -77,8 +77,8 @@ move_to-requires c =
     let was = comes-from row new c.in-Some.place _ c.index.result.now full shorter inside (c.swap_remove-gone.ensures.by_index).0 comes in
     ap is_some (moved-has-place places mid row new c.args.self.now.in_step c.args.ppn c.in-Some.place there shorter rest gone others inside c.index.result.now was comes)
 
-pub invariant_of-self-2 : goal.invariant_of-self-2
-invariant_of-self-2 c =
+pub invariant_of-self-2-clause-in_step : goal.invariant_of-self-2-clause-in_step
+invariant_of-self-2-clause-in_step c =
     let row = c.args.self.now.row.items in
     let new = c.swap_remove-gone.new.self.items in
     let places = get nat_cmp c.args.self.now.places in
@@ -96,7 +96,7 @@ invariant_of-self-2 c =
     let after = get nat_cmp c.move_to.new.places in
     let here = moved-there mid after c.index.result.now.ppn (Some c.in-Some.place) c.move_to.ensures in
     let elsewhere = moved-elsewhere mid after c.index.result.now.ppn (Some c.in-Some.place) c.move_to.ensures in
-    record { in_step = step-moved places mid row new c.args.self.now.in_step c.args.ppn c.in-Some.place there shorter rest gone others inside c.index.result.now was comes after here elsewhere }
+    step-moved places mid row new c.args.self.now.in_step c.args.ppn c.in-Some.place there shorter rest gone others inside c.index.result.now was comes after here elsewhere
 
 pub returns-clause-value : goal.returns-clause-value
 returns-clause-value c =
