@@ -9,6 +9,7 @@ pub mod FramePointers
 pub mod Memory
 pub mod Paths
 pub mod PathWords
+pub mod RootWords
 pub mod PathSince
 pub mod Climbing
 pub mod WaysBelow

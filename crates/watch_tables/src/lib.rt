@@ -2,6 +2,7 @@
 //! address translation process).
 #![tactic(auto)]
 
+mod any_root;
 mod frame;
 mod frame_table;
 mod laws;
