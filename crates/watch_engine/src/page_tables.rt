@@ -47,4 +47,8 @@ impl Tables for PageTables {
     fn is_mapped(&self, scheme: Scheme, root: u64, entry: &Entry) -> bool {
         PageTables::is_mapped(self, scheme, root, entry)
     }
+
+    fn is_mapped_in_any(&self, scheme: Scheme, roots: &[u64], entry: &Entry) -> bool {
+        PageTables::is_mapped_in_any(self, scheme, roots, entry)
+    }
 }

@@ -189,12 +189,7 @@ fn is_mapped_in_any<T: Tables>(tables: &T, scheme: Scheme, roots: &[u64], entry:
     ensures { result ≡ list_any (λ root. is_mapped scheme (T.words tables.now)
         (record { root = root; entry = entry.now })) roots.now }
 {
-    for root in roots {
-        if is_mapped(tables, scheme, *root, entry) {
-            return true;
-        }
-    }
-    false
+    tables.is_mapped_in_any(scheme, roots, entry)
 }
 
 // The tables of the root have the entry or, where it is global, those of one of the roots.

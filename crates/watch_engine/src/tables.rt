@@ -1,11 +1,13 @@
 //! The page tables of a trace.
 
 ghost use Rattle.std.specs.Prelude.{ℕ, ◌≡◌, ◌≤◌, ◌↔◌, Option, Some, OnOk, OnErr, IfOk, Contains, IsTrue, false};
+ghost use Rattle.std.specs.List.{list_any};
 ghost use Rattle.pte.specs.declared.scheme.Scheme.{Scheme as SchemeOf};
 ghost use Rattle.tlb.specs.declared.store.Entry.{Entry as EntryOf};
 ghost use Rattle.walk.specs.Maps.{page_number};
 ghost use Rattle.watch.specs.Trace.{index_of, is_among, words_after};
 ghost use Rattle.watch.specs.declared.trace.Record.TheVariants.{GiveOut, Store};
+ghost use Rattle.watch.specs.Computed.{is_mapped};
 ghost use Rattle.watch.specs.Holding.{HasLeaf};
 ghost use Rattle.watch.specs.Staleness.{IsMapped};
 ghost use Rattle.watch_tables.specs.declared.leaf.RootLeaf.{RootLeaf as RootLeafOf};
@@ -81,4 +83,17 @@ pub trait Tables {
     fn is_mapped(&self, scheme: Scheme, root: u64, entry: &Entry) -> bool
         ensures { IsTrue result
             ↔ IsMapped scheme (words self.now) (record { root = root; entry = entry.now }) };
+
+    /// The same of the tables under one of these roots.
+    fn is_mapped_in_any(&self, scheme: Scheme, roots: &[u64], entry: &Entry) -> bool
+        ensures { result ≡ list_any (λ root. is_mapped scheme (words self.now)
+            (record { root = root; entry = entry.now })) roots.now }
+    {
+        for root in roots {
+            if self.is_mapped(scheme, *root, entry) {
+                return true;
+            }
+        }
+        false
+    }
 }
