@@ -10,6 +10,7 @@ pub mod Leaving
 pub mod LeftOrder
 pub mod LiveHarts
 pub mod Filling
+pub mod Sharing
 pub mod Gathering
 pub mod Steps
 pub mod Records

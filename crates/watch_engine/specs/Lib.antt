@@ -18,3 +18,4 @@ pub mod Keys
 pub mod Concerns
 pub mod Filling
 pub mod Slots
+pub mod Shared

@@ -23,6 +23,7 @@ mod relinked;
 mod roots;
 mod satps;
 mod seen;
+mod shared;
 mod slot;
 mod slots;
 mod tables;

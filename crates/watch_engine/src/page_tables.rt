@@ -48,6 +48,10 @@ impl Tables for PageTables {
         PageTables::is_mapped(self, scheme, root, entry)
     }
 
+    fn has_same_word(&self, table: u64, other: u64, index: u16) -> bool {
+        PageTables::has_same_word(self, table, other, index)
+    }
+
     fn is_mapped_in_any(&self, scheme: Scheme, roots: &[u64], entry: &Entry) -> bool {
         PageTables::is_mapped_in_any(self, scheme, roots, entry)
     }

@@ -1,10 +1,11 @@
 //! What is remembered of leaves before a word on their paths changes.
 
-ghost use Rattle.std.specs.Prelude.{ℕ, ◌≡◌, ◌≤◌, ◌<◌, ◌++◌, [], IfOk, IsTrue, None, OnOk, List, drop, get_or, length, true};
+ghost use Rattle.std.specs.Prelude.{ℕ, ◌≡◌, ◌≤◌, ◌<◌, ◌++◌, [], Contains, IfOk, IsTrue, None, OnOk, List, drop, get_or, length, true};
 ghost use Rattle.walk.specs.Maps.{page_number};
 ghost use Rattle.watch.specs.Trace.{index_of};
 ghost use Rattle.tlb.specs.declared.store.Entry.{Entry as EntryOf};
 ghost use Rattle.watch.specs.ComputedTraces.{is_live_in};
+ghost use Rattle.watch.specs.Holding.{HasLeaf};
 ghost use Rattle.watch_engine.specs.Filling.{AreAnswers, are_alike};
 ghost use Rattle.watch_engine.specs.Held.{last_translation};
 ghost use Rattle.watch_engine.specs.Satps.{AreAllOf};
@@ -19,14 +20,12 @@ use crate::left_spaces::LeftSpaces;
 use crate::live::{Answer, answer_of, is_live_in, keep_answer};
 use crate::past_fences::PastFences;
 use crate::satps::{Harts, harts_of_root, satp_in};
+use crate::shared::{HARTS, answers_below, are_beside};
 use crate::tables::Tables;
 use pte::Scheme;
 use std::alloc::{AllocError, Global};
 use watch::Space;
 use watch_tables::{RootLeaf, Way};
-
-/// How many harts there can be.
-const HARTS: usize = 256;
 
 // Adds the leaf, if the hart can fill it now.
 fn add_live(
@@ -276,7 +275,70 @@ fn begins_alike(leaves: &[RootLeaf], at: usize) -> bool
     at + 1 < leaves.len() && are_alike(&leaves[at], &leaves[at + 1])
 }
 
-// Adds leaves of one root, up to those that are alike, and answers where the next is another.
+// The leaf at a place and the next one are global, and below the same word of the same root.
+fn begins_beside(scheme: Scheme, leaves: &[RootLeaf], at: usize) -> bool
+    requires { at < length leaves.now }
+    ensures { IsTrue result → (d : RootLeafOf) → (get_or leaves.now at d).entry.global ≡ true }
+{
+    at + 1 < leaves.len() && are_beside(scheme, &leaves[at], &leaves[at + 1])
+}
+
+// Adds global leaves below the same word of one root, such as those of the kernel where the frame of
+// a root is given out, and answers where the next is another.
+fn add_beside<T: Tables>(
+    seen: &mut Vec<LastLive>,
+    tables: &T,
+    scheme: Scheme,
+    satps: &[Option<Space>],
+    left: &LeftSpaces,
+    drops: &PastFences,
+    leaves: &[RootLeaf],
+    start: usize,
+    count: u64,
+) -> Result<usize, AllocError>
+    requires limit { length satps.now ≤ 256 }
+    requires start { start < length leaves.now }
+    requires global { (d : RootLeafOf) → (get_or leaves.now start d).entry.global ≡ true }
+    requires leaves { (x : RootLeafOf) → Contains leaves.now x
+        → HasLeaf scheme (T.words tables.now) x.root x.entry }
+    ensures end { IfOk result (λ end. start < end) }
+    ensures seen { IfOk result (λ end. with_leaves scheme (T.words tables.now) count satps.now
+        left.now drops.now.fences.items (drop end leaves.now) seen.new.items
+        ≡ with_leaves scheme (T.words tables.now) count satps.now
+        left.now drops.now.fences.items (drop start leaves.now) seen.old.items) }
+{
+    let first = leaves[start];
+    let harts = harts_of_root(satps, first.root);
+    let spaces = left.of_root(first.root);
+    let known = answers_below(tables, scheme, satps, spaces, &first);
+    let mut at = start;
+    loop {
+        let leaf = &leaves[at];
+        let mut answers = known;
+        add_leaf(
+            seen,
+            &mut answers,
+            tables,
+            scheme,
+            satps,
+            harts,
+            spaces,
+            drops,
+            leaf,
+            count,
+        )?;
+        at += 1;
+        if at >= leaves.len()
+            || begins_alike(leaves, at)
+            || !are_beside(scheme, &first, &leaves[at])
+        {
+            return Ok(at);
+        }
+    }
+}
+
+// Adds leaves of one root, up to those that are alike or below one word of it, and answers where the
+// next is another.
 fn add_of_root<T: Tables>(
     seen: &mut Vec<LastLive>,
     tables: &T,
@@ -315,7 +377,11 @@ fn add_of_root<T: Tables>(
             count,
         )?;
         at += 1;
-        if at >= leaves.len() || leaves[at].root != root || begins_alike(leaves, at) {
+        if at >= leaves.len()
+            || leaves[at].root != root
+            || begins_alike(leaves, at)
+            || begins_beside(scheme, leaves, at)
+        {
             return Ok(at);
         }
     }
@@ -332,7 +398,9 @@ fn add_leaves<T: Tables>(
     leaves: &[RootLeaf],
     count: u64,
 ) -> Result<(), AllocError>
-    requires { length satps.now ≤ 256 }
+    requires limit { length satps.now ≤ 256 }
+    requires leaves { (x : RootLeafOf) → Contains leaves.now x
+        → HasLeaf scheme (T.words tables.now) x.root x.entry }
     ensures { OnOk result (seen.new.items ≡ with_leaves scheme (T.words tables.now) count satps.now
         left.now drops.now.fences.items leaves.now seen.old.items) }
 {
@@ -340,6 +408,8 @@ fn add_leaves<T: Tables>(
     while at < leaves.len() {
         if begins_alike(leaves, at) {
             at = add_alike(seen, tables, scheme, satps, left, drops, leaves, at, count)?;
+        } else if begins_beside(scheme, leaves, at) {
+            at = add_beside(seen, tables, scheme, satps, left, drops, leaves, at, count)?;
         } else {
             at = add_of_root(seen, tables, scheme, satps, left, drops, leaves, at, count)?;
         }

@@ -84,6 +84,13 @@ pub trait Tables {
         ensures { IsTrue result
             ↔ IsMapped scheme (words self.now) (record { root = root; entry = entry.now }) };
 
+    /// Whether the tables at two PPNs are known to have the same word at an index.
+    fn has_same_word(&self, _table: u64, _other: u64, _index: u16) -> bool
+        ensures { IsTrue result → words self.now _table _index ≡ words self.now _other _index }
+    {
+        false
+    }
+
     /// The same of the tables under one of these roots.
     fn is_mapped_in_any(&self, scheme: Scheme, roots: &[u64], entry: &Entry) -> bool
         ensures { result ≡ list_any (λ root. is_mapped scheme (words self.now)

@@ -75,8 +75,8 @@ mapped-filled scheme words root e m is =
 pub unmapped-like : (scheme : Scheme) (words : Tables) (root other : ℕ) (e : Entry) → word_at words e.page.base (top_level scheme) root ≡ word_at words e.page.base (top_level scheme) other → is_mapped scheme words (record { root = root; entry = e }) ≡ false → is_mapped scheme words (record { root = other; entry = e }) ≡ false
 unmapped-like scheme words root other e same none =
     false_from_ne_true _ (λ h.
-        false_iff _ _ (mapped_iff scheme words (record { root = root; entry = e })) none
-        (mapped-like scheme words other root e (sym same) ((mapped_iff scheme words (record { root = other; entry = e })).0 h)))
+    false_iff _ _ (mapped_iff scheme words (record { root = root; entry = e })) none
+    (mapped-like scheme words other root e (sym same) ((mapped_iff scheme words (record { root = other; entry = e })).0 h)))
 
 pub unmapped-zero : (scheme : Scheme) (words : Tables) (root : ℕ) (e : Entry) → word_at words e.page.base (top_level scheme) root ≡ Some 0 → is_mapped scheme words (record { root = root; entry = e }) ≡ false
 unmapped-zero scheme words root e is =

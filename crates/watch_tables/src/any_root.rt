@@ -1,6 +1,6 @@
 //! Whether the tables of one of many roots have an entry.
 
-ghost use Rattle.std.specs.Prelude.{ℕ, ◌≡◌, Some, false};
+ghost use Rattle.std.specs.Prelude.{ℕ, ◌≡◌, ◌↔◌, IsTrue, Some, false};
 ghost use Rattle.std.specs.List.{list_any};
 ghost use Rattle.pte.specs.Address.{top_level, vpn_of};
 ghost use Rattle.watch.specs.Computed.{is_mapped};
@@ -19,6 +19,14 @@ impl PageTables {
             Some(stored) => stored.word,
             None => 0,
         }
+    }
+
+    /// Whether the tables at two PPNs have the same word at an index. Where two roots have the same
+    /// word for an address, they have the same tables for it from there on.
+    pub fn has_same_word(&self, table: u64, other: u64, index: u16) -> bool
+        ensures { IsTrue result ↔ (words self.now table index ≡ words self.now other index) }
+    {
+        self.word(table, index) == self.word(other, index)
     }
 
     /// Whether the tables of the root have the entry, whose address has this word in the root. Below

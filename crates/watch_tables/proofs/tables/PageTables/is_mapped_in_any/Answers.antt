@@ -18,5 +18,5 @@ loop-root-preserved c =
       sym (any_past _ c.args.roots.now c.loop-root.root-index 0 c.loop-root-test.true none) ∙ c.loop-root.invariant.0,
       c.loop-root.invariant.1,
       λ other is. unmapped-like c.args.scheme (words c.args.self.now) root other c.args.entry.now
-      (ap (words c.args.self.now root) (sym c.loop-root.invariant.1) ∙ c.word-word.ensures ∙ sym is) none,
+          (ap (words c.args.self.now root) (sym c.loop-root.invariant.1) ∙ c.word-word.ensures ∙ sym is) none,
     )

@@ -1,0 +1,27 @@
+-- Leaves below the same word of a root.
+use Rattle.std.specs.Prelude.{◌≡◌, List, Option, true}
+use Rattle.pte.specs.declared.scheme.Scheme.{Scheme}
+use Rattle.pte.specs.Address.{top_level, vpn_of}
+use Rattle.walk.specs.Leads.{Tables}
+use Rattle.tlb.specs.declared.store.Entry.{Entry}
+use Rattle.watch.specs.declared.trace.Space.{Space}
+use Rattle.watch.specs.Holding.{HasLeaf}
+use Rattle.watch_tables.specs.declared.leaf.RootLeaf.{RootLeaf}
+use Rattle.watch_engine.specs.declared.live.Answer.{Answer}
+use Rattle.watch_engine.specs.Filling.{AreAnswers}
+
+-- the entry is global, and below the word of the leaf's root that is above the leaf
+pub record IsBelow (scheme : Scheme) (leaf : RootLeaf) (e : Entry) : Type 0 where
+  pub global : e.global ≡ true
+  pub index : vpn_of e.page.base (top_level scheme) ≡ vpn_of leaf.entry.page.base (top_level scheme)
+
+-- the same of a leaf of the same root
+pub record IsBeside (scheme : Scheme) (leaf other : RootLeaf) : Type 0 where
+  pub root : leaf.root ≡ other.root
+  pub below : IsBelow scheme leaf other.entry
+
+-- what harts answer of each such leaf that the tables of the root have
+abbrev pub AreAnswersBelow : Scheme → Tables → List (Option Space) → RootLeaf → List Answer → Type 0
+AreAnswersBelow scheme words satps leaf answers =
+    (e : Entry) → IsBelow scheme leaf e → HasLeaf scheme words leaf.root e
+    → AreAnswers scheme words satps e answers

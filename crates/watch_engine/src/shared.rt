@@ -1,0 +1,86 @@
+//! Leaves in tables that a root shares with the roots that harts have in their satps.
+
+ghost use Rattle.std.specs.Prelude.{◌≡◌, IsTrue, true};
+ghost use Rattle.pte.specs.Address.{top_level, vpn_of};
+ghost use Rattle.tlb.specs.declared.store.Entry.{Entry as EntryOf};
+ghost use Rattle.watch.specs.declared.trace.Space.{Space as SpaceOf};
+ghost use Rattle.watch.specs.ComputedTraces.{is_live_in};
+ghost use Rattle.watch.specs.Holding.{HasLeaf};
+ghost use Rattle.watch_engine.specs.Held.{translation_in};
+ghost use Rattle.watch_engine.specs.Shared.{AreAnswersBelow, IsBelow, IsBeside};
+
+use crate::left::Left;
+use crate::live::{Answer, keep_answer};
+use crate::satps::satp_in;
+use crate::tables::Tables;
+use pte::Scheme;
+use watch::Space;
+use watch_tables::RootLeaf;
+
+/// How many harts there can be.
+pub(crate) const HARTS: usize = 256;
+
+// The index of the word of the root above the leaf.
+fn index_in_root(scheme: Scheme, leaf: &RootLeaf) -> u16
+    ensures { result ≡ vpn_of leaf.now.entry.page.base (top_level scheme) }
+{
+    leaf.entry.page.base().vpn(scheme.top_level())
+}
+
+/// Global leaves below the same word of the same root.
+pub(crate) fn are_beside(scheme: Scheme, leaf: &RootLeaf, other: &RootLeaf) -> bool
+    ensures other { IsTrue result → IsBeside scheme leaf.now other.now }
+    ensures leaf { IsTrue result → leaf.now.entry.global ≡ true }
+{
+    leaf.entry.global
+        && other.entry.global
+        && leaf.root == other.root
+        && index_in_root(scheme, leaf) == index_in_root(scheme, other)
+}
+
+// The root of the space has the word above the leaf: then who has the space can fill what is below it.
+fn has_word<T: Tables>(tables: &T, scheme: Scheme, space: Option<Space>, leaf: &RootLeaf) -> bool
+    ensures { IsTrue result → (e : EntryOf) (s : SpaceOf) → IsBelow scheme leaf.now e
+        → HasLeaf scheme (T.words tables.now) leaf.now.root e
+        → is_live_in scheme (T.words tables.now) space (translation_in s e) ≡ true }
+{
+    match space {
+        None => false,
+        Some(space) => { tables.has_same_word(leaf.root, space.root, index_in_root(scheme, leaf)) }
+    }
+}
+
+// The hart answers, if its root has the word above the leaf.
+fn answer_below<T: Tables>(
+    answers: &mut [Answer],
+    tables: &T,
+    scheme: Scheme,
+    satps: &[Option<Space>],
+    hart: u8,
+    leaf: &RootLeaf,
+)
+    requires { AreAnswersBelow scheme (T.words tables.now) satps.now leaf.now answers.old }
+    ensures { AreAnswersBelow scheme (T.words tables.now) satps.now leaf.now answers.new }
+{
+    if has_word(tables, scheme, satp_in(satps, hart), leaf) {
+        keep_answer(answers, hart, true);
+    }
+}
+
+/// What the harts that left these spaces answer of each global leaf below the word above this leaf:
+/// those whose root has the same word can fill it, and the others are still to be asked.
+pub(crate) fn answers_below<T: Tables>(
+    tables: &T,
+    scheme: Scheme,
+    satps: &[Option<Space>],
+    left: &[Left],
+    leaf: &RootLeaf,
+) -> [Answer; HARTS]
+    ensures { AreAnswersBelow scheme (T.words tables.now) satps.now leaf.now result }
+{
+    let mut answers = [Answer::Unasked; HARTS];
+    for space in left {
+        answer_below(&mut answers, tables, scheme, satps, space.hart, leaf);
+    }
+    answers
+}
