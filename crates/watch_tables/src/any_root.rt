@@ -11,16 +11,6 @@ use pte::Scheme;
 use tlb::Entry;
 
 impl PageTables {
-    /// The word at an index of the table at a PPN.
-    fn word(&self, table: u64, index: u16) -> u64
-        ensures { words self.now table index ≡ Some result }
-    {
-        match self.stored_at(table, index) {
-            Some(stored) => stored.word,
-            None => 0,
-        }
-    }
-
     /// Whether the tables at two PPNs have the same word at an index. Where two roots have the same
     /// word for an address, they have the same tables for it from there on.
     pub fn has_same_word(&self, table: u64, other: u64, index: u16) -> bool
