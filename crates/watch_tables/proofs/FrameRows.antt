@@ -11,13 +11,13 @@ use Rattle.watch_tables.specs.declared.frame_table.PlacedFrame.{PlacedFrame}
 use Rattle.watch_tables.specs.FrameRow.{IsInStep, frame_at, ppn_at}
 use Rattle.watch_tables.proofs.PointerPairs.{is-same}
 
-abbrev ppn_of : Option PlacedFrame → Option ℕ
+abbrev pub ppn_of : Option PlacedFrame → Option ℕ
 ppn_of = option_map (λ (f : PlacedFrame). f.ppn)
 
 abbrev words_of : Option PlacedFrame → Option Frame
 words_of = option_map (λ (f : PlacedFrame). f.frame)
 
-same-some : (a b : ℕ) → Some a ≡ Some b → a ≡ b
+pub same-some : (a b : ℕ) → Some a ≡ Some b → a ≡ b
 same-some a b is = cc
 
 never-some : (a : ℕ) → None ≡ Some a → ⊥

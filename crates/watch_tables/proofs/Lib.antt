@@ -3,6 +3,7 @@ pub mod PointerPairs
 pub mod Storing
 pub mod FrameWords
 pub mod FrameRows
+pub mod Hinted
 pub mod Filled
 pub mod FrameAddresses
 pub mod FramePointers

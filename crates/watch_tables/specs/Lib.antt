@@ -1,6 +1,7 @@
 pub mod Stored
 pub mod InFrame
 pub mod FrameRow
+pub mod Hints
 pub mod FrameTables
 pub mod Pointers
 pub mod Words

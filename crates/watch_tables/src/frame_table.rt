@@ -8,31 +8,23 @@ ghost use Rattle.std.specs.Option.{unwrap_or};
 ghost use Rattle.watch_tables.specs.Stored.{value_of, word_to_store};
 ghost use Rattle.watch_tables.specs.InFrame.{AreEmpty, word_in, word_of};
 ghost use Rattle.watch_tables.specs.FrameRow.{IsInStep, frame_at, ppn_at};
+ghost use Rattle.watch_tables.specs.Hints.{AreHinted};
 
 use crate::frame::Frame;
+use crate::hints::{Hints, NO_PLACE};
 use pte::TABLE_LENGTH;
 use std::alloc::{AllocError, Global};
 use std::collections::BTreeMap;
-
-/// How many hints the first frame makes.
-const FIRST_HINTS: usize = 16;
-
-/// How many hints there are for a frame at least, if there is memory for them. With two, a third of the
-/// look-ups in a trace of Linux met the hint of another frame.
-const HINTS_EACH: usize = 8;
 
 /// How many frames are kept at most for PPNs to come, so that tables that come and go need not be made
 /// anew each time.
 const SPARE_FRAMES: usize = 16;
 
-/// An odd number, 2^64 times the golden ratio: products with it spread PPNs that are near one another.
-const SPREAD: u64 = 0x9e37_79b9_7f4a_7c15;
-
 /// A frame that has a PPN.
 #[derive(Drop)]
 pub(crate) struct PlacedFrame {
     /// The PPN.
-    ppn: u64,
+    pub(crate) ppn: u64,
     /// Its words.
     frame: Frame,
 }
@@ -44,59 +36,13 @@ pub(crate) struct FrameTable {
     places: BTreeMap<u64, usize>,
     // the frames, in no order
     row: Vec<PlacedFrame>,
-    // for each hash of a PPN a place where a frame of such a PPN may stand; where none does, or
-    // another, the map tells
-    hints: Vec<usize>,
+    // where a frame may stand; where it does not, the map tells
+    hints: Hints,
     // frames that lost their last word, for PPNs to come
     spare: Vec<Frame>,
     ghost empty: { AreEmpty spare.items },
     ghost in_step: { IsInStep (get nat_cmp places) row.items },
-}
-
-/// The hash of a PPN, below the number of hints.
-#[inline(always)]
-fn hash_of(count: usize, ppn: u64) -> usize
-    requires { 0 < count }
-    ensures { result < count }
-{
-    (ppn.wrapping_mul(SPREAD) >> 32 & (count as u64 - 1)) as usize
-}
-
-/// A place where a frame of a PPN may stand.
-#[inline(always)]
-fn hinted(hints: &[usize], ppn: u64) -> usize {
-    if hints.is_empty() {
-        return 0;
-    }
-    hints[hash_of(hints.len(), ppn)]
-}
-
-/// Sets the hint of a PPN.
-fn hint(hints: &mut [usize], ppn: u64, place: usize) {
-    if !hints.is_empty() {
-        let hash = hash_of(hints.len(), ppn);
-        hints[hash] = place;
-    }
-}
-
-/// Makes the hints of all frames of a row anew.
-fn hint_all(hints: &mut [usize], row: &[PlacedFrame]) {
-    for place in 0..row.len() {
-        hint(hints, row[place].ppn, place);
-    }
-}
-
-/// Doubles the hints where there are too few for the frames, if there is memory for that, and makes them
-/// anew.
-fn spread(hints: &mut Vec<usize>, row: &[PlacedFrame]) {
-    let count = hints.len();
-    if row.len() <= count / HINTS_EACH {
-        return;
-    }
-    let more = count.saturating_mul(2).max(FIRST_HINTS);
-    if hints.resize(more, 0).is_ok() {
-        hint_all(hints.as_mut_slice(), row);
-    }
+    ghost hinted: { AreHinted hints row.items },
 }
 
 /// Puts a word down at an index of the frame at a place of a row, with the number of records so far;
@@ -156,7 +102,7 @@ impl FrameTable {
         FrameTable {
             places: BTreeMap::new(alloc),
             row: Vec::new(alloc),
-            hints: Vec::new(alloc),
+            hints: Hints::new(alloc),
             spare: Vec::new(alloc),
         }
     }
@@ -187,19 +133,22 @@ impl FrameTable {
     fn hinted_place(&self, ppn: u64) -> Option<usize>
         ensures { IfSome result (λ place. get nat_cmp self.now.places ppn ≡ Some place) }
     {
-        let place = hinted(self.hints.as_slice(), ppn);
+        let place = self.hints.get(ppn);
         if place < self.row.len() && self.row[place].ppn == ppn {
             return Some(place);
         }
         None
     }
 
-    /// The place of a PPN, by the map.
+    /// The place of a PPN that is not where it is hinted, by the map.
     #[cold]
     #[inline(never)]
     fn mapped_place(&self, ppn: u64) -> Option<usize>
         ensures { result ≡ get nat_cmp self.now.places ppn }
     {
+        if self.hints.get(ppn) == NO_PLACE {
+            return None;
+        }
         match self.places.get(&ppn) {
             Some(place) => Some(*place),
             None => None,
@@ -254,6 +203,26 @@ impl FrameTable {
         }
     }
 
+    /// The least PPN from `start` on and below `end`, and its place. One PPN alone is looked up.
+    fn first_between(&self, start: u64, end: u64) -> Option<(u64, usize)>
+        requires { start ≤ end }
+        ensures from { IfSome result (λ first. start ≤ first.0) }
+        ensures below { IfSome result (λ first. first.0 < end) }
+        ensures present { IfSome result (λ first. get nat_cmp self.now.places first.0 ≡ Some first.1) }
+        ensures least { IfSome result (λ first. (ppn : ℕ) → start ≤ ppn → ppn < first.0
+            → get nat_cmp self.now.places ppn ≡ None) }
+        ensures none { result ≡ None → (ppn : ℕ) → start ≤ ppn → ppn < end
+            → get nat_cmp self.now.places ppn ≡ None }
+    {
+        if end - start != 1 {
+            return first_place(&self.places, start, end);
+        }
+        match self.place_of(start) {
+            Some(place) => Some((start, place)),
+            None => None,
+        }
+    }
+
     /// The frame of the least PPN from `start` on and below `end`.
     pub(crate) fn first_from(&self, start: u64, end: u64) -> Option<(u64, &Frame)>
         requires { start ≤ end }
@@ -265,7 +234,7 @@ impl FrameTable {
         ensures none { result ≡ None → (ppn : ℕ) → start ≤ ppn → ppn < end
             → frame_of self.now ppn ≡ None }
     {
-        match first_place(&self.places, start, end) {
+        match self.first_between(start, end) {
             Some((ppn, place)) => Some((ppn, &self.row[place].frame)),
             None => None,
         }
@@ -284,8 +253,8 @@ impl FrameTable {
             let _ = self.row.pop();
             return Err(AllocError);
         }
-        spread(&mut self.hints, self.row.as_slice());
-        hint(self.hints.as_mut_slice(), ppn, place);
+        self.hints.set(ppn, place);
+        self.hints.spread(self.row.as_slice());
         Ok(())
     }
 
@@ -305,15 +274,16 @@ impl FrameTable {
         }
         let moved = self.row[place].ppn;
         move_to(&mut self.places, moved, place);
-        hint(self.hints.as_mut_slice(), moved, place);
+        self.hints.set(moved, place);
         Some(gone.frame)
     }
 
-    /// Gives room back where three quarters of it are free, since frames have gone.
+    /// Counts a frame that has gone, and gives room back where three quarters of it are free.
     fn shrink(&mut self)
         ensures frames { (k : ℕ) → frame_of self.new k ≡ frame_of self.old k }
         ensures count { frame_count self.new ≡ frame_count self.old }
     {
+        self.hints.count_gone(self.row.as_slice());
         let (count, room) = (self.row.len(), self.row.capacity());
         if count >= room / 4 {
             return;
@@ -322,11 +292,7 @@ impl FrameTable {
         if self.row.capacity() >= room {
             return;
         }
-        let hints = count.saturating_mul(HINTS_EACH);
-        let hints = hints.checked_next_power_of_two().unwrap_or(0);
-        self.hints.truncate(hints.max(FIRST_HINTS));
-        self.hints.shrink_to(0);
-        hint_all(self.hints.as_mut_slice(), self.row.as_slice());
+        self.hints.shrink(self.row.as_slice());
     }
 
     /// Takes the frame of a PPN out, if it has one.
@@ -355,7 +321,7 @@ impl FrameTable {
             }
             return;
         }
-        hint(self.hints.as_mut_slice(), ppn, place);
+        self.hints.set(ppn, place);
     }
 
     /// Puts a word down under its number, with the number of records so far; 0 is not kept, and a frame

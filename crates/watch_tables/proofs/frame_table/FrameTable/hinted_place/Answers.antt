@@ -7,5 +7,5 @@ use Rattle.watch_tables.proofs.frame_table.FrameTable.hinted_place.Goals as goal
 
 pub returns-then-index-ppn : goal.returns-then-index-ppn
 returns-then-index-ppn c =
-    let here = slice_get_read c.args.self.now.row.items _ c.hinted-place.result c.index.result.now refl (omega arith) c.index.ensures in
-    ap (get nat_cmp c.args.self.now.places) (sym c.if-index-ppn.true) ∙ place-is (get nat_cmp c.args.self.now.places) c.args.self.now.row.items c.args.self.now.in_step c.hinted-place.result c.index.result.now here
+    let here = slice_get_read c.args.self.now.row.items _ c.get-place.result c.index.result.now refl (omega arith) c.index.ensures in
+    ap (get nat_cmp c.args.self.now.places) (sym c.if-index-ppn.true) ∙ place-is (get nat_cmp c.args.self.now.places) c.args.self.now.row.items c.args.self.now.in_step c.get-place.result c.index.result.now here

@@ -2,6 +2,8 @@ use Rattle.std.proofs.Common.{◌≡◌, ◌∙◌, ◌<◌, ◌+◌, ap, refl, 
 use Rattle.std.specs.Ordering.{nat_cmp}
 use Rattle.std.specs.BTreeMap.{get}
 use Rattle.std.proofs.lemmas.Option.{slice_get_read}
+use Rattle.watch_tables.specs.Hints.{IsHinted}
+use Rattle.watch_tables.proofs.Hinted.{each-moved, each-shorter}
 use Rattle.watch_tables.proofs.FrameRows.{comes-from, frame-is, frames-moved, frames-shorter, has-elsewhere, has-there, moved-elsewhere, moved-has-place, moved-there, place-in-row, rest-of, step-moved, step-shorter}
 use Rattle.watch_tables.proofs.frame_table.FrameTable.take_out.Goals as goal
 
@@ -127,3 +129,26 @@ returns-clause-without c =
     let here = moved-there mid after c.index.result.now.ppn (Some c.in-Some.place) c.move_to.ensures in
     let elsewhere = moved-elsewhere mid after c.index.result.now.ppn (Some c.in-Some.place) c.move_to.ensures in
     frames-moved places mid row new c.args.self.now.in_step c.args.ppn c.in-Some.place there shorter rest gone others inside c.index.result.now was comes after here elsewhere
+
+pub invariant_of-self-then-place-len-clause-hinted : goal.invariant_of-self-then-place-len-clause-hinted
+invariant_of-self-then-place-len-clause-hinted c =
+    let row = c.args.self.now.row.items in
+    let new = c.swap_remove-gone.new.self.items in
+    let full = c.args.self.now.row.ok.0 in
+    let left = c.swap_remove-gone.new.self.ok.0 in
+    let shorter : length new + 1 ≡ length row = (let len = c.swap_remove-gone.ensures.len in omega arith) in
+    let rest = rest-of row new c.in-Some.place _ c.swap_remove-gone.result full shorter (c.swap_remove-gone.ensures.by_index).1 in
+    each-shorter (IsHinted c.args.self.now.hints) (IsHinted c.args.self.now.hints) row new c.args.self.now.hinted (λ k has. has) c.in-Some.place rest (c.if-place-len.true ∙ c.len.ensures ∙ left)
+
+pub invariant_of-self-2-clause-hinted : goal.invariant_of-self-2-clause-hinted
+invariant_of-self-2-clause-hinted c =
+    let row = c.args.self.now.row.items in
+    let new = c.swap_remove-gone.new.self.items in
+    let there = sym c.remove.ensures.value ∙ c.in-Some.is in
+    let full = c.args.self.now.row.ok.0 in
+    let left = c.swap_remove-gone.new.self.ok.0 in
+    let shorter : length new + 1 ≡ length row = (let len = c.swap_remove-gone.ensures.len in omega arith) in
+    let rest = rest-of row new c.in-Some.place _ c.swap_remove-gone.result full shorter (c.swap_remove-gone.ensures.by_index).1 in
+    let inside : c.in-Some.place < length new = (let low = place-in-row (get nat_cmp c.args.self.now.places) row c.args.self.now.in_step c.args.ppn c.in-Some.place there in let apart = c.if-place-len.false in omega arith) in
+    let comes = slice_get_read new _ c.in-Some.place c.index.result.now refl inside c.index.ensures in
+    each-moved (IsHinted c.args.self.now.hints) (IsHinted c.set.new.self) row new c.args.self.now.hinted c.set.ensures.kept c.in-Some.place rest c.index.result.now comes c.set.ensures.own
