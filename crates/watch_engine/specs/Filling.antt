@@ -14,6 +14,11 @@ abbrev pub answer_from : Bool → Answer
 answer_from true = Live
 answer_from false = NotLive
 
+abbrev pub is_live_answer : Answer → Bool
+is_live_answer Unasked = false
+is_live_answer Live = true
+is_live_answer NotLive = false
+
 -- what is known is so
 abbrev pub Agrees : Answer → Bool → Type 0
 Agrees Unasked live = Unit {0}

@@ -1,5 +1,6 @@
 -- Leaves below the same word of a root.
-use Rattle.std.specs.Prelude.{◌≡◌, List, Option, true}
+use Rattle.std.specs.Prelude.{Bool, ◌≡◌, List, Option, get_or, true}
+use Rattle.std.specs.List.{list_all}
 use Rattle.pte.specs.declared.scheme.Scheme.{Scheme}
 use Rattle.pte.specs.Address.{top_level, vpn_of}
 use Rattle.walk.specs.Leads.{Tables}
@@ -7,8 +8,10 @@ use Rattle.tlb.specs.declared.store.Entry.{Entry}
 use Rattle.watch.specs.declared.trace.Space.{Space}
 use Rattle.watch.specs.Holding.{HasLeaf}
 use Rattle.watch_tables.specs.declared.leaf.RootLeaf.{RootLeaf}
+use Rattle.watch_engine.specs.declared.left.Left.{Left}
 use Rattle.watch_engine.specs.declared.live.Answer.{Answer}
-use Rattle.watch_engine.specs.Filling.{AreAnswers}
+use Rattle.watch_engine.specs.declared.live.Answer.TheVariants.{Unasked}
+use Rattle.watch_engine.specs.Filling.{AreAnswers, is_live_answer}
 
 -- the entry is global, and below the word of the leaf's root that is above the leaf
 pub record IsBelow (scheme : Scheme) (leaf : RootLeaf) (e : Entry) : Type 0 where
@@ -25,3 +28,7 @@ abbrev pub AreAnswersBelow : Scheme → Tables → List (Option Space) → RootL
 AreAnswersBelow scheme words satps leaf answers =
     (e : Entry) → IsBelow scheme leaf e → HasLeaf scheme words leaf.root e
     → AreAnswers scheme words satps e answers
+
+-- each hart that left one of the spaces can fill it
+abbrev pub are_all_live : List Answer → List Left → Bool
+are_all_live answers left = list_all (λ l. is_live_answer (get_or answers l.hart Unasked)) left

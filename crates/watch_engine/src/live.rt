@@ -4,7 +4,7 @@ ghost use Rattle.std.specs.Prelude.{◌≡◌, get_or, set};
 ghost use Rattle.watch.specs.Computed.{has_leaf};
 ghost use Rattle.watch.specs.ComputedTraces.{belongs_to, is_live_in};
 ghost use Rattle.watch_engine.specs.declared.live.Answer.TheVariants.{Unasked};
-ghost use Rattle.watch_engine.specs.Filling.{answer_from};
+ghost use Rattle.watch_engine.specs.Filling.{answer_from, is_live_answer};
 
 use crate::tables::Tables;
 use pte::Scheme;
@@ -24,6 +24,16 @@ impl Answer {
         ensures { result ≡ answer_from live }
     {
         if live { Answer::Live } else { Answer::NotLive }
+    }
+
+    /// The hart can fill the leaf.
+    pub(crate) fn is_live(self) -> bool
+        ensures { result ≡ is_live_answer self }
+    {
+        match self {
+            Answer::Live => true,
+            Answer::Unasked | Answer::NotLive => false,
+        }
     }
 }
 

@@ -10,17 +10,18 @@ ghost use Rattle.watch_engine.specs.Filling.{AreAnswers, are_alike};
 ghost use Rattle.watch_engine.specs.Held.{last_translation};
 ghost use Rattle.watch_engine.specs.Satps.{AreAllOf};
 ghost use Rattle.watch_engine.specs.Seen.{AreAdded, AreSeen, PassesAny, is_kept, kept_for, last_of, live_for, with_kept, with_leaves, with_live};
+ghost use Rattle.watch_engine.specs.Shared.{are_all_live};
 ghost use Rattle.watch_tables.specs.declared.leaf.RootLeaf.{RootLeaf as RootLeafOf};
 ghost use Rattle.watch_tables.specs.Through.{Passes};
 ghost use Rattle.watch_tables.specs.Ways.{AreWays};
 
-use crate::held::{LastLive, is_same_entry};
+use crate::held::LastLive;
 use crate::left::Left;
 use crate::left_spaces::LeftSpaces;
 use crate::live::{Answer, answer_of, is_live_in, keep_answer};
 use crate::past_fences::PastFences;
 use crate::satps::{Harts, harts_of_root, satp_in};
-use crate::shared::{HARTS, answers_below, are_beside};
+use crate::shared::{HARTS, answers_below, are_alike, are_all_live, are_beside, begins_beside};
 use crate::tables::Tables;
 use pte::Scheme;
 use std::alloc::{AllocError, Global};
@@ -190,6 +191,45 @@ fn add_leaf<T: Tables>(
     add_kept_for_each(seen, answers, tables, scheme, satps, drops, leaf, left)
 }
 
+// The same where some answers are known, or it is known that each hart that left can fill the leaf.
+fn add_known<T: Tables>(
+    seen: &mut Vec<LastLive>,
+    known: &[Answer; HARTS],
+    all: bool,
+    tables: &T,
+    scheme: Scheme,
+    satps: &[Option<Space>],
+    harts: Harts,
+    left: &[Left],
+    drops: &PastFences,
+    leaf: &RootLeaf,
+    count: u64,
+) -> Result<(), AllocError>
+    requires limit { length satps.now ≤ 256 }
+    requires harts { AreAllOf satps.now leaf.now.root harts }
+    requires answers { AreAnswers scheme (T.words tables.now) satps.now leaf.now.entry known.now }
+    requires all { IsTrue all → IsTrue (are_all_live known.now left.now) }
+    ensures { OnOk result (seen.new.items ≡ with_kept scheme (T.words tables.now) satps.now
+        drops.now.fences.items leaf.now left.now (with_live count leaf.now 0 satps.now seen.old.items)) }
+{
+    if all {
+        return add_live_for_each(seen, leaf, satps, harts, count);
+    }
+    let mut answers = *known;
+    add_leaf(
+        seen,
+        &mut answers,
+        tables,
+        scheme,
+        satps,
+        harts,
+        left,
+        drops,
+        leaf,
+        count,
+    )
+}
+
 // The same of any leaf, with all spaces that harts have left.
 fn add_one<T: Tables>(
     seen: &mut Vec<LastLive>,
@@ -213,13 +253,6 @@ fn add_one<T: Tables>(
     add_leaf(
         seen, answers, tables, scheme, satps, harts, left, drops, leaf, count,
     )
-}
-
-// Global leaves with the same entry.
-fn are_alike(leaf: &RootLeaf, other: &RootLeaf) -> bool
-    ensures { result ≡ are_alike leaf.now other.now }
-{
-    leaf.entry.global && is_same_entry(&leaf.entry, &other.entry)
 }
 
 // Adds global leaves with the same entry, such as those of a page of the kernel in the tables of each
@@ -275,14 +308,6 @@ fn begins_alike(leaves: &[RootLeaf], at: usize) -> bool
     at + 1 < leaves.len() && are_alike(&leaves[at], &leaves[at + 1])
 }
 
-// The leaf at a place and the next one are global, and below the same word of the same root.
-fn begins_beside(scheme: Scheme, leaves: &[RootLeaf], at: usize) -> bool
-    requires { at < length leaves.now }
-    ensures { IsTrue result → (d : RootLeafOf) → (get_or leaves.now at d).entry.global ≡ true }
-{
-    at + 1 < leaves.len() && are_beside(scheme, &leaves[at], &leaves[at + 1])
-}
-
 // Adds global leaves below the same word of one root, such as those of the kernel where the frame of
 // a root is given out, and answers where the next is another.
 fn add_beside<T: Tables>(
@@ -311,21 +336,12 @@ fn add_beside<T: Tables>(
     let harts = harts_of_root(satps, first.root);
     let spaces = left.of_root(first.root);
     let known = answers_below(tables, scheme, satps, spaces, &first);
+    let all = are_all_live(&known, spaces);
     let mut at = start;
     loop {
         let leaf = &leaves[at];
-        let mut answers = known;
-        add_leaf(
-            seen,
-            &mut answers,
-            tables,
-            scheme,
-            satps,
-            harts,
-            spaces,
-            drops,
-            leaf,
-            count,
+        add_known(
+            seen, &known, all, tables, scheme, satps, harts, spaces, drops, leaf, count,
         )?;
         at += 1;
         if at >= leaves.len()

@@ -1,16 +1,19 @@
-//! Leaves in tables that a root shares with the roots that harts have in their satps.
+//! Leaves of which harts answer alike.
 
-ghost use Rattle.std.specs.Prelude.{◌≡◌, IsTrue, true};
+ghost use Rattle.std.specs.Prelude.{◌≡◌, ◌<◌, IsTrue, get_or, length, true};
 ghost use Rattle.pte.specs.Address.{top_level, vpn_of};
 ghost use Rattle.tlb.specs.declared.store.Entry.{Entry as EntryOf};
 ghost use Rattle.watch.specs.declared.trace.Space.{Space as SpaceOf};
 ghost use Rattle.watch.specs.ComputedTraces.{is_live_in};
 ghost use Rattle.watch.specs.Holding.{HasLeaf};
+ghost use Rattle.watch_tables.specs.declared.leaf.RootLeaf.{RootLeaf as RootLeafOf};
+ghost use Rattle.watch_engine.specs.Filling.{are_alike};
 ghost use Rattle.watch_engine.specs.Held.{translation_in};
-ghost use Rattle.watch_engine.specs.Shared.{AreAnswersBelow, IsBelow, IsBeside};
+ghost use Rattle.watch_engine.specs.Shared.{AreAnswersBelow, are_all_live, IsBelow, IsBeside};
 
+use crate::held::is_same_entry;
 use crate::left::Left;
-use crate::live::{Answer, keep_answer};
+use crate::live::{Answer, answer_of, keep_answer};
 use crate::satps::satp_in;
 use crate::tables::Tables;
 use pte::Scheme;
@@ -19,6 +22,13 @@ use watch_tables::RootLeaf;
 
 /// How many harts there can be.
 pub(crate) const HARTS: usize = 256;
+
+/// Global leaves with the same entry.
+pub(crate) fn are_alike(leaf: &RootLeaf, other: &RootLeaf) -> bool
+    ensures { result ≡ are_alike leaf.now other.now }
+{
+    leaf.entry.global && is_same_entry(&leaf.entry, &other.entry)
+}
 
 // The index of the word of the root above the leaf.
 fn index_in_root(scheme: Scheme, leaf: &RootLeaf) -> u16
@@ -36,6 +46,14 @@ pub(crate) fn are_beside(scheme: Scheme, leaf: &RootLeaf, other: &RootLeaf) -> b
         && other.entry.global
         && leaf.root == other.root
         && index_in_root(scheme, leaf) == index_in_root(scheme, other)
+}
+
+/// The leaf at a place and the next one are such leaves.
+pub(crate) fn begins_beside(scheme: Scheme, leaves: &[RootLeaf], at: usize) -> bool
+    requires { at < length leaves.now }
+    ensures { IsTrue result → (d : RootLeafOf) → (get_or leaves.now at d).entry.global ≡ true }
+{
+    at + 1 < leaves.len() && are_beside(scheme, &leaves[at], &leaves[at + 1])
 }
 
 // The root of the space has the word above the leaf: then who has the space can fill what is below it.
@@ -83,4 +101,16 @@ pub(crate) fn answers_below<T: Tables>(
         answer_below(&mut answers, tables, scheme, satps, space.hart, leaf);
     }
     answers
+}
+
+/// Each hart that left one of these spaces can fill the leaf.
+pub(crate) fn are_all_live(answers: &[Answer], left: &[Left]) -> bool
+    ensures { result ≡ are_all_live answers.now left.now }
+{
+    for space in left {
+        if !answer_of(answers, space.hart).is_live() {
+            return false;
+        }
+    }
+    true
 }

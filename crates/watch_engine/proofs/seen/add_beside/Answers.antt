@@ -7,8 +7,8 @@ use Rattle.watch_engine.proofs.Filling.{same_default}
 use Rattle.watch_engine.proofs.LeftOrder.{leaf_added}
 use Rattle.watch_engine.proofs.seen.add_beside.Goals as goal
 
-pub add_leaf-requires-clause-answers : goal.add_leaf-requires-clause-answers
-add_leaf-requires-clause-answers g c =
+pub add_known-requires-clause-answers : goal.add_known-requires-clause-answers
+add_known-requires-clause-answers g c =
     let leaves : List RootLeaf = c.args.leaves.now in
     let first : RootLeaf = c.index-leaves-start.result in
     let leaf : RootLeaf = c.index-leaves-at.result in
@@ -21,8 +21,8 @@ pub returns-then-at-leaves-clause-seen : goal.returns-then-at-leaves-clause-seen
 returns-then-at-leaves-clause-seen g c =
     let leaf : RootLeaf = c.index-leaves-at.result in
     leaf_added c.args.scheme (g.T.Tables.words c.args.tables.now) c.args.count c.args.satps.now c.args.left.now c.of_root-spaces.result.now c.args.drops.now.fences.items
-    c.args.leaves.now c.loop-at.at c.index-leaves-start.result.root leaf c.loop-at.seen.items c.add_leaf.new.seen.items
-    c.loop-at.invariant.1 c.index-leaves-at.is (sym (c.loop-at.invariant.2 leaf).root) c.of_root-spaces.ensures c.in_ok-add_leaf.ensures.seen
+    c.args.leaves.now c.loop-at.at c.index-leaves-start.result.root leaf c.loop-at.seen.items c.add_known.new.seen.items
+    c.loop-at.invariant.1 c.index-leaves-at.is (sym (c.loop-at.invariant.2 leaf).root) c.of_root-spaces.ensures c.in_ok-add_known.ensures
     ∙ c.loop-at.invariant.3
 
 pub loop-at-preserved : goal.loop-at-preserved
@@ -38,7 +38,7 @@ loop-at-preserved g c =
       within,
       λ d. subst (IsBeside c.args.scheme first) (c.index-leaves-at-else-begins_alike.is ∙ same_default leaves (at + 1) next d within) beside,
       leaf_added c.args.scheme (g.T.Tables.words c.args.tables.now) c.args.count c.args.satps.now c.args.left.now c.of_root-spaces.result.now c.args.drops.now.fences.items
-          leaves at first.root leaf c.loop-at.seen.items c.add_leaf.new.seen.items
-          c.loop-at.invariant.1 c.index-leaves-at.is (sym (c.loop-at.invariant.2 leaf).root) c.of_root-spaces.ensures c.in_ok-add_leaf.ensures.seen
+          leaves at first.root leaf c.loop-at.seen.items c.add_known.new.seen.items
+          c.loop-at.invariant.1 c.index-leaves-at.is (sym (c.loop-at.invariant.2 leaf).root) c.of_root-spaces.ensures c.in_ok-add_known.ensures
           ∙ c.loop-at.invariant.3,
     )
