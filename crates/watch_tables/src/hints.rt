@@ -111,13 +111,13 @@ impl Hints {
     }
 
     /// Counts a frame that has gone from a row. Makes the hints anew where many may be of frames that
-    /// have gone.
+    /// have gone: as many as pay for it.
     pub(crate) fn count_gone(&mut self, row: &[PlacedFrame])
         requires { AreHinted self.old row.now }
         ensures { AreHinted self.new row.now }
     {
         self.gone = self.gone.saturating_add(1);
-        if self.gone > self.places.len() / HINTS_EACH {
+        if self.gone > row.len().max(self.places.len() / HINTS_EACH) {
             self.make(row);
         }
     }
