@@ -1,5 +1,10 @@
 pub mod Numerals
 pub mod Positions
+pub mod DigitTable
+pub mod FieldLemmas
+pub mod DashLemmas
+pub mod LetterLemmas
+pub mod RecordLemmas
 pub mod Hexadecimal
 pub mod CountLemmas
 pub mod Spaced

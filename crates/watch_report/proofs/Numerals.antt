@@ -24,7 +24,7 @@ all_digits_from_test radix (c ∷ cs) h =
     (grind (arith, nat_tests), all_digits_from_test radix cs parts.1)
 
 -- a digit among digits
-digit_below : (radix : ℕ) (ds : List ℕ) (i : ℕ) → AllDigits radix ds → i < length ds → digit_value (get_or ds i 0) < radix
+pub digit_below : (radix : ℕ) (ds : List ℕ) (i : ℕ) → AllDigits radix ds → i < length ds → digit_value (get_or ds i 0) < radix
 digit_below radix [] i h less = absurd (omega arith)
 digit_below radix (c ∷ cs) zero h less = h.0
 digit_below radix (c ∷ cs) (suc i) h less = digit_below radix cs i h.1 (omega arith)
@@ -54,7 +54,7 @@ small_number radix ds small short h =
     omega (arith, below, base, most)
 
 -- and so each digit more
-pub next_small : (radix : ℕ) (ds : List ℕ) (i number digit : ℕ) → radix ≤ 16 → length ds ≤ 16 → i < length ds → AllDigits radix (take i ds) → number ≡ digits_value radix (take i ds)
+pub next_small : (radix : ℕ) (ds : List ℕ) (i number digit : ℕ) → radix ≤ 16 → i < 16 → i < length ds → AllDigits radix (take i ds) → number ≡ digits_value radix (take i ds)
     → digit ≡ digit_value (get_or ds i 0) → digit < radix → number * radix + digit < 2 ^ 64
 next_small radix ds i number digit small short less h is e below =
     let all = digits_more radix ds i less h (subst (λ d. d < radix) e below) in

@@ -1,5 +1,7 @@
 pub mod Fields
+pub mod NextFields
 pub mod Records
+pub mod ReadRecords
 pub mod TraceLines
 pub mod Warnings
 pub mod RecordLines

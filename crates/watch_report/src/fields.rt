@@ -1,9 +1,11 @@
 //! The fields of a line.
 ghost use Rattle.std.specs.Prelude.{◌≡◌, [], ◌∷◌, MatchOption, None, Some};
 ghost use Rattle.std.specs.List.{position_or_len};
-ghost use Rattle.watch_report.specs.Fields.{fields_of, five_fields, four_fields, is_separator, one_field, three_fields, two_fields};
+ghost use Rattle.watch_report.specs.NextFields.{next_letter};
+ghost use Rattle.watch_report.specs.Fields.{fields_of, four_fields, is_separator, one_field, three_fields, two_fields};
 
-fn is_separator(byte: u8) -> bool
+#[inline(always)]
+pub fn is_separator(byte: u8) -> bool
     ensures { result ≡ is_separator byte }
 {
     byte == b' '
@@ -19,7 +21,7 @@ fn field_len(text: &[u8]) -> usize
 }
 
 /// The first field of a text, and what stands after its space. `None`: the text is one field.
-pub fn next_field(text: &[u8]) -> Option<(&[u8], &[u8])>
+fn next_field(text: &[u8]) -> Option<(&[u8], &[u8])>
     ensures { MatchOption result (fields_of text.now ≡ text.now ∷ [])
         (λ next. fields_of text.now ≡ next.0.now ∷ fields_of next.1.now) }
 {
@@ -32,7 +34,7 @@ pub fn next_field(text: &[u8]) -> Option<(&[u8], &[u8])>
 }
 
 /// The field of a text that is just one.
-pub fn one_field(text: &[u8]) -> Option<&[u8]>
+fn one_field(text: &[u8]) -> Option<&[u8]>
     ensures { MatchOption result (one_field (fields_of text.now)
         ≡ None) (λ a. one_field (fields_of text.now) ≡ Some a.now) }
 {
@@ -43,7 +45,7 @@ pub fn one_field(text: &[u8]) -> Option<&[u8]>
 }
 
 /// The fields of a text that is two.
-pub fn two_fields(text: &[u8]) -> Option<(&[u8], &[u8])>
+fn two_fields(text: &[u8]) -> Option<(&[u8], &[u8])>
     ensures { MatchOption result (two_fields (fields_of text.now)
         ≡ None) (λ a. two_fields (fields_of text.now) ≡ Some (a.0.now, a.1.now)) }
 {
@@ -73,13 +75,21 @@ pub fn four_fields(text: &[u8]) -> Option<(&[u8], &[u8], &[u8], &[u8])>
     Some((a, b, c, d))
 }
 
-/// The fields of a text that is five.
-pub fn five_fields(text: &[u8]) -> Option<(&[u8], &[u8], &[u8], &[u8], &[u8])>
-    ensures { MatchOption result (five_fields (fields_of text.now)
-        ≡ None) (λ a. five_fields (fields_of text.now)
-        ≡ Some (a.0.now, a.1.now, a.2.now, a.3.now, a.4.now)) }
+/// The byte of a first field that is one byte, and what stands after its space.
+#[inline(always)]
+pub fn next_letter(text: &[u8]) -> Option<(u8, &[u8])>
+    ensures { MatchOption result (next_letter (fields_of text.now) ≡ None)
+        (λ next. next_letter (fields_of text.now) ≡ Some (next.0, fields_of next.1.now)) }
 {
-    let (a, rest) = next_field(text)?;
-    let (b, c, d, e) = four_fields(rest)?;
-    Some((a, b, c, d, e))
+    if text.len() < 2 {
+        return None;
+    }
+    if is_separator(text[0]) {
+        return None;
+    }
+    if is_separator(text[1]) {
+        Some((text[0], &text[2..]))
+    } else {
+        None
+    }
 }

@@ -4,7 +4,7 @@ ghost use Rattle.watch_report.specs.Fields.{fields_of};
 ghost use Rattle.watch_report.specs.TraceLines.{header_in, hart_count_field, is_format, scheme_field};
 
 use crate::fields::four_fields;
-use crate::numbers::number;
+use crate::numbers::decimal;
 use pte::Scheme;
 
 /// What the first line of a trace says of the machine.
@@ -20,7 +20,7 @@ pub struct Header {
 fn harts(field: &[u8]) -> Option<u8>
     ensures { result ≡ hart_count_field field.now }
 {
-    let harts = number(10, field)?;
+    let harts = decimal(field)?;
     if 0 < harts && harts <= 64 {
         Some(harts as u8)
     } else {

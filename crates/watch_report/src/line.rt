@@ -2,11 +2,12 @@
 ghost use Rattle.std.specs.Prelude.{◌≡◌, MatchOption, None, Some, option_map};
 ghost use Rattle.std.specs.List.{position_or_len};
 ghost use Rattle.watch_report.specs.Fields.{fields_of};
+ghost use Rattle.watch_report.specs.ReadRecords.{read_fields};
 ghost use Rattle.watch_report.specs.TraceLines.{before_note, begins_note, line_in, said_by, note_of, record_in, record_line_in, without_space};
 
-use crate::fields::next_field;
+use crate::fields::next_letter;
 use crate::header::Header;
-use crate::numbers::hart;
+use crate::numbers::next_hart;
 use crate::record::record_by;
 use memchr::memchr2;
 use watch::Record as TraceRecord;
@@ -54,14 +55,20 @@ fn split_note(text: &[u8]) -> Option<(&[u8], &[u8])>
     }
 }
 
+/// The fields of a record, read one after another.
+fn read_fields(header: Header, text: &[u8]) -> Option<TraceRecord>
+    ensures { result ≡ read_fields header (fields_of text.now) }
+{
+    let (letter, rest) = next_letter(text)?;
+    let (hart, rest) = next_hart(header.harts, rest)?;
+    record_by(header.scheme, letter, hart, rest)
+}
+
 /// The record that a text writes, without a note.
 fn record(header: Header, text: &[u8]) -> Option<TraceRecord>
     ensures { result ≡ record_in header (fields_of text.now) }
 {
-    let (letter, rest) = next_field(text)?;
-    let (number, rest) = next_field(rest)?;
-    let hart = hart(header.harts, number)?;
-    record_by(header.scheme, letter, hart, rest)
+    read_fields(header, text)
 }
 
 /// The line of a record.

@@ -1,10 +1,10 @@
 //! The records that fields write, after their letter and their hart.
 ghost use Rattle.std.specs.Prelude.{◌≡◌};
 ghost use Rattle.watch_report.specs.Fields.{fields_of};
-ghost use Rattle.watch_report.specs.Records.{asid_field, claim_begin_in, claim_end_in, claim_range, fence_in, fence_range, give_back_in, give_out_in, satp_mode, record_by, remote_begin_in, remote_end_in, satp_in, satp_write_in, store_in, use_in};
+ghost use Rattle.watch_report.specs.ReadRecords.{last_asid, read_claim_begin, read_fence, read_frames, read_give_back, read_give_out, read_record, read_remote_begin, read_satp_write, read_store};
+ghost use Rattle.watch_report.specs.Records.{claim_end_in, claim_range, fence_range, remote_end_in, satp_mode, satp_in, use_in};
 
-use crate::fields::{five_fields, four_fields, one_field, two_fields};
-use crate::numbers::{hexadecimal, optional};
+use crate::numbers::{last_hexadecimal, last_optional, next_hexadecimal, next_optional};
 use pte::{ASID_BITS, PPN_BITS, PPN_LIMIT, Scheme};
 use watch::{AddressRange, Claim, Frames, Record, RemoteFence, Space};
 
@@ -41,10 +41,10 @@ fn satp_space(scheme: Scheme, satp: u64) -> Option<Option<Space>>
 }
 
 /// An ASID of 16 bits, or `-` for every ASID.
-fn asid(field: &[u8]) -> Option<Option<u16>>
-    ensures { result ≡ asid_field field.now }
+fn asid(text: &[u8]) -> Option<Option<u16>>
+    ensures { result ≡ last_asid (fields_of text.now) }
 {
-    match optional(field)? {
+    match last_optional(text)? {
         None => Some(None),
         Some(asid) => {
             if asid < ASIDS {
@@ -80,11 +80,10 @@ fn claim_range(start: u64, size: u64) -> Option<AddressRange>
 
 /// What stands after `w H`.
 fn store(hart: u8, text: &[u8]) -> Option<Record>
-    ensures { result ≡ store_in hart (fields_of text.now) }
+    ensures { result ≡ read_store hart (fields_of text.now) }
 {
-    let (address, word) = two_fields(text)?;
-    let address = hexadecimal(address)?;
-    let word = hexadecimal(word)?;
+    let (address, rest) = next_hexadecimal(text)?;
+    let word = last_hexadecimal(rest)?;
     if address % 8 == 0 {
         Some(Record::Store {
             hart,
@@ -98,33 +97,31 @@ fn store(hart: u8, text: &[u8]) -> Option<Record>
 
 /// What stands after `s H`.
 fn satp_write(scheme: Scheme, hart: u8, text: &[u8]) -> Option<Record>
-    ensures { result ≡ satp_write_in scheme hart (fields_of text.now) }
+    ensures { result ≡ read_satp_write scheme hart (fields_of text.now) }
 {
-    let satp = hexadecimal(one_field(text)?)?;
+    let satp = last_hexadecimal(text)?;
     let space = satp_space(scheme, satp)?;
     Some(Record::Satp { hart, space })
 }
 
 /// What stands after `f H`.
 fn fence(hart: u8, text: &[u8]) -> Option<Record>
-    ensures { result ≡ fence_in hart (fields_of text.now) }
+    ensures { result ≡ read_fence hart (fields_of text.now) }
 {
-    let (first, second) = two_fields(text)?;
-    let rs1 = optional(first)?;
-    let rs2 = optional(second)?;
+    let (rs1, rest) = next_optional(text)?;
+    let rs2 = last_optional(rest)?;
     Some(Record::Fence { hart, rs1, rs2 })
 }
 
 /// What stands after `r H`.
 fn remote_begin(hart: u8, text: &[u8]) -> Option<Record>
-    ensures { result ≡ remote_begin_in hart (fields_of text.now) }
+    ensures { result ≡ read_remote_begin hart (fields_of text.now) }
 {
-    let (token, mask, start, size, space) = five_fields(text)?;
-    let token = hexadecimal(token)?;
-    let harts = hexadecimal(mask)?;
-    let start = hexadecimal(start)?;
-    let size = hexadecimal(size)?;
-    let asid = asid(space)?;
+    let (token, rest) = next_hexadecimal(text)?;
+    let (harts, rest) = next_hexadecimal(rest)?;
+    let (start, rest) = next_hexadecimal(rest)?;
+    let (size, rest) = next_hexadecimal(rest)?;
+    let asid = asid(rest)?;
     let range = fence_range(start, size);
     Some(Record::RemoteBegin {
         hart,
@@ -137,45 +134,44 @@ fn remote_begin(hart: u8, text: &[u8]) -> Option<Record>
 fn remote_end(hart: u8, text: &[u8]) -> Option<Record>
     ensures { result ≡ remote_end_in hart (fields_of text.now) }
 {
-    let token = hexadecimal(one_field(text)?)?;
+    let token = last_hexadecimal(text)?;
     Some(Record::RemoteEnd { hart, token })
+}
+
+/// What stands after `a H` or `z H`.
+#[inline(always)]
+fn frames(text: &[u8]) -> Option<Frames>
+    ensures { result ≡ read_frames (fields_of text.now) }
+{
+    let (first, rest) = next_hexadecimal(text)?;
+    let count = last_hexadecimal(rest)?;
+    Some(Frames { first, count })
 }
 
 /// What stands after `a H`.
 fn give_out(hart: u8, text: &[u8]) -> Option<Record>
-    ensures { result ≡ give_out_in hart (fields_of text.now) }
+    ensures { result ≡ read_give_out hart (fields_of text.now) }
 {
-    let (first, count) = two_fields(text)?;
-    let first = hexadecimal(first)?;
-    let count = hexadecimal(count)?;
-    Some(Record::GiveOut {
-        hart,
-        frames: Frames { first, count },
-    })
+    let frames = frames(text)?;
+    Some(Record::GiveOut { hart, frames })
 }
 
 /// What stands after `z H`.
 fn give_back(hart: u8, text: &[u8]) -> Option<Record>
-    ensures { result ≡ give_back_in hart (fields_of text.now) }
+    ensures { result ≡ read_give_back hart (fields_of text.now) }
 {
-    let (first, count) = two_fields(text)?;
-    let first = hexadecimal(first)?;
-    let count = hexadecimal(count)?;
-    Some(Record::GiveBack {
-        hart,
-        frames: Frames { first, count },
-    })
+    let frames = frames(text)?;
+    Some(Record::GiveBack { hart, frames })
 }
 
 /// What stands after `c H`.
 fn claim_begin(hart: u8, text: &[u8]) -> Option<Record>
-    ensures { result ≡ claim_begin_in hart (fields_of text.now) }
+    ensures { result ≡ read_claim_begin hart (fields_of text.now) }
 {
-    let (token, root, start, size) = four_fields(text)?;
-    let token = hexadecimal(token)?;
-    let root = optional(root)?;
-    let start = hexadecimal(start)?;
-    let size = hexadecimal(size)?;
+    let (token, rest) = next_hexadecimal(text)?;
+    let (root, rest) = next_optional(rest)?;
+    let (start, rest) = next_hexadecimal(rest)?;
+    let size = last_hexadecimal(rest)?;
     let range = claim_range(start, size);
     Some(Record::ClaimBegin {
         hart,
@@ -188,7 +184,7 @@ fn claim_begin(hart: u8, text: &[u8]) -> Option<Record>
 fn claim_end(hart: u8, text: &[u8]) -> Option<Record>
     ensures { result ≡ claim_end_in hart (fields_of text.now) }
 {
-    let token = hexadecimal(one_field(text)?)?;
+    let token = last_hexadecimal(text)?;
     Some(Record::ClaimEnd { hart, token })
 }
 
@@ -196,33 +192,33 @@ fn claim_end(hart: u8, text: &[u8]) -> Option<Record>
 fn usage(hart: u8, text: &[u8]) -> Option<Record>
     ensures { result ≡ use_in hart (fields_of text.now) }
 {
-    let address = hexadecimal(one_field(text)?)?;
+    let address = last_hexadecimal(text)?;
     Some(Record::Use { hart, address })
 }
 
 /// The record of a letter and a hart, with the text after them.
-pub fn record_by(scheme: Scheme, letter: &[u8], hart: u8, text: &[u8]) -> Option<Record>
-    ensures { result ≡ record_by scheme letter.now hart (fields_of text.now) }
+pub fn record_by(scheme: Scheme, letter: u8, hart: u8, text: &[u8]) -> Option<Record>
+    ensures { result ≡ read_record scheme letter hart (fields_of text.now) }
 {
-    if letter == b"w".as_slice() {
+    if letter == b'w' {
         store(hart, text)
-    } else if letter == b"s".as_slice() {
+    } else if letter == b's' {
         satp_write(scheme, hart, text)
-    } else if letter == b"f".as_slice() {
+    } else if letter == b'f' {
         fence(hart, text)
-    } else if letter == b"r".as_slice() {
+    } else if letter == b'r' {
         remote_begin(hart, text)
-    } else if letter == b"e".as_slice() {
+    } else if letter == b'e' {
         remote_end(hart, text)
-    } else if letter == b"a".as_slice() {
+    } else if letter == b'a' {
         give_out(hart, text)
-    } else if letter == b"z".as_slice() {
+    } else if letter == b'z' {
         give_back(hart, text)
-    } else if letter == b"c".as_slice() {
+    } else if letter == b'c' {
         claim_begin(hart, text)
-    } else if letter == b"d".as_slice() {
+    } else if letter == b'd' {
         claim_end(hart, text)
-    } else if letter == b"u".as_slice() {
+    } else if letter == b'u' {
         usage(hart, text)
     } else {
         None
