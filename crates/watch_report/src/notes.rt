@@ -24,14 +24,20 @@ pub struct Notes {
     places: Vec<u32>,
 }
 
-// The row of a text, by all of its bytes. The factor (2^32 by the golden ratio) spreads them over
-// the high bits.
+// 2^64 by the golden ratio: a factor that spreads bytes over the high bits.
+const SPREAD: u64 = 0x9E37_79B9_7F4A_7C15;
+
+// The row of a text, by all of its bytes, eight at a time.
 fn row_of(text: &[u8]) -> u8 {
-    let mut mixed: u32 = 0;
-    for byte in text {
-        mixed = mixed.rotate_left(5) ^ u32::from(*byte);
+    let mut mixed: u64 = 0;
+    let (words, rest) = text.as_chunks::<8>();
+    for word in words {
+        mixed = (mixed.rotate_left(5) ^ u64::from_le_bytes(*word)).wrapping_mul(SPREAD);
     }
-    (mixed.wrapping_mul(0x9E37_79B1) >> 24) as u8
+    for byte in rest {
+        mixed = mixed.rotate_left(5) ^ u64::from(*byte);
+    }
+    (mixed.wrapping_mul(SPREAD) >> 56) as u8
 }
 
 impl Notes {
