@@ -1,14 +1,16 @@
 //! The words of a text.
-ghost use Rattle.std.specs.Prelude.{◌≡◌, ◌<◌, not, [], ◌∷◌, IfOk, IfSome, MatchOption, None, Some, length, map};
+ghost use Rattle.std.specs.Prelude.{◌≡◌, ◌<◌, false, not, [], ◌∷◌, IfOk, IfSome, MatchOption, None, Some, length, map, slice_index};
 ghost use Rattle.std.specs.List.{position_or_len};
 ghost use Rattle.steps.specs.Words.{four_words, is_blank, is_over, one_word, three_words, two_words, words_of};
 
 use std::alloc::{AllocError, Global};
 
+/// Most bytes are above the space, which one test tells.
+#[inline(always)]
 fn is_blank(byte: u8) -> bool
     ensures { result ≡ is_blank byte }
 {
-    byte == b' ' || byte == b'\t'
+    byte <= b' ' && (byte == b' ' || byte == b'\t')
 }
 
 /// How many bytes stand before the first that is not blank.
@@ -20,13 +22,21 @@ fn blank_len(text: &[u8]) -> usize
         .unwrap_or(text.len())
 }
 
-/// How many bytes stand before the first blank.
-fn word_len(text: &[u8]) -> usize
-    ensures { result ≡ position_or_len is_blank text.now }
+/// The word that a text begins with, and what stands after the blank that ends it.
+fn split_word(text: &[u8]) -> (&[u8], &[u8])
+    requires some { 0 < length text.now }
+    requires plain { is_blank (slice_index text.now 0) ≡ false }
+    ensures words { words_of text.now ≡ result.0.now ∷ words_of result.1.now }
+    ensures shorter { length result.1.now < length text.now }
 {
-    text.iter()
-        .position(|byte| is_blank(*byte))
-        .unwrap_or(text.len())
+    let mut end = 1;
+    while end < text.len() {
+        if is_blank(text[end]) {
+            return (&text[..end], &text[end + 1..]);
+        }
+        end += 1;
+    }
+    (text, &[])
 }
 
 /// The first word of a text, and what stands after it.
@@ -39,7 +49,7 @@ pub fn next_word(text: &[u8]) -> Option<(&[u8], &[u8])>
     if text.is_empty() {
         return None;
     }
-    Some(text.split_at(word_len(text)))
+    Some(split_word(text))
 }
 
 /// Whether no word is left.
@@ -50,6 +60,7 @@ pub fn is_over(text: &[u8]) -> bool
 }
 
 /// The word of a text that has just one.
+#[inline(always)]
 pub fn one_word(text: &[u8]) -> Option<&[u8]>
     ensures { MatchOption result (one_word (words_of text.now)
         ≡ None) (λ a. one_word (words_of text.now) ≡ Some a.now) }
@@ -59,6 +70,7 @@ pub fn one_word(text: &[u8]) -> Option<&[u8]>
 }
 
 /// The words of a text that has two.
+#[inline(always)]
 pub fn two_words(text: &[u8]) -> Option<(&[u8], &[u8])>
     ensures { MatchOption result (two_words (words_of text.now)
         ≡ None) (λ a. two_words (words_of text.now) ≡ Some (a.0.now, a.1.now)) }
@@ -69,6 +81,7 @@ pub fn two_words(text: &[u8]) -> Option<(&[u8], &[u8])>
 }
 
 /// The words of a text that has three.
+#[inline(always)]
 pub fn three_words(text: &[u8]) -> Option<(&[u8], &[u8], &[u8])>
     ensures { MatchOption result (three_words (words_of text.now)
         ≡ None) (λ a. three_words (words_of text.now) ≡ Some (a.0.now, a.1.now, a.2.now)) }
@@ -79,6 +92,7 @@ pub fn three_words(text: &[u8]) -> Option<(&[u8], &[u8], &[u8])>
 }
 
 /// The words of a text that has four.
+#[inline(always)]
 pub fn four_words(text: &[u8]) -> Option<(&[u8], &[u8], &[u8], &[u8])>
     ensures { MatchOption result (four_words (words_of text.now)
         ≡ None) (λ a. four_words (words_of text.now) ≡ Some (a.0.now, a.1.now, a.2.now, a.3.now)) }
