@@ -1,3 +1,4 @@
+pub mod EventLemmas
 pub mod FieldLemmas
 pub mod GrammarLemmas
 pub mod GroupLemmas
@@ -8,6 +9,7 @@ pub mod MoreHarts
 pub mod NamedLemmas
 pub mod NextWord
 pub mod NumLemmas
+pub mod PageLemmas
 pub mod Readings
 pub mod RunLemmas
 pub mod SpellingLemmas

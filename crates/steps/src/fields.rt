@@ -1,5 +1,6 @@
 //! The words of a step.
 ghost use Rattle.std.specs.Prelude.{◌≡◌, option_map};
+ghost use Rattle.steps.specs.Groups.{letter};
 ghost use Rattle.steps.specs.Fields.{among, are_there, asid_of, flag_of, flags_of, listed_of, named_among, named_of, page_after, page_at, page_of, place_of, register_of, scope_of, sized_page_of, space_of, ticket_of, with_hart, with_letters, with_part};
 
 use crate::fault::StepFault;
@@ -96,6 +97,13 @@ pub fn register(word: &[u8]) -> Option<Option<u64>>
     Some(Some(value))
 }
 
+/// The first letter of a word, 0 where there is none.
+fn first_letter(word: &[u8]) -> u8
+    ensures { result ≡ letter word.now 0 }
+{
+    word.first().copied().unwrap_or(0)
+}
+
 /// A page of this size, whose address stands after a prefix.
 fn page_after(prefix: &[u8], size: PageSize, word: &[u8]) -> Option<PageWord>
     ensures { result ≡ page_after prefix.now size word.now }
@@ -105,14 +113,21 @@ fn page_after(prefix: &[u8], size: PageSize, word: &[u8]) -> Option<PageWord>
     Some(PageWord { base, size })
 }
 
-/// `4K`, `2M`, `1G` or `512G`, a colon, and an address.
+/// `4K`, `2M`, `1G` or `512G`, a colon, and an address: the first digit tells which it can be.
+#[tactic(auto, using(crate::proofs::PageLemmas::page_by_4, crate::proofs::PageLemmas::page_by_2, crate::proofs::PageLemmas::page_by_1, crate::proofs::PageLemmas::page_by_others))]
 fn sized_page(word: &[u8]) -> Option<PageWord>
     ensures { result ≡ sized_page_of word.now }
 {
-    page_after(b"4K:".as_slice(), PageSize::Kib4, word)
-        .or(page_after(b"2M:".as_slice(), PageSize::Mib2, word))
-        .or(page_after(b"1G:".as_slice(), PageSize::Gib1, word))
-        .or(page_after(b"512G:".as_slice(), PageSize::Gib512, word))
+    let first = first_letter(word);
+    if first == b'4' {
+        page_after(b"4K:".as_slice(), PageSize::Kib4, word)
+    } else if first == b'2' {
+        page_after(b"2M:".as_slice(), PageSize::Mib2, word)
+    } else if first == b'1' {
+        page_after(b"1G:".as_slice(), PageSize::Gib1, word)
+    } else {
+        page_after(b"512G:".as_slice(), PageSize::Gib512, word)
+    }
 }
 
 /// A size that the scheme has, a colon, and an address.
@@ -157,21 +172,19 @@ fn flag(letter: u8) -> Option<PteFlags>
     }
 }
 
-/// The flags of the letters and those that are set already, of which no letter may be.
-fn with_letters(flags: PteFlags, letters: &[u8]) -> Option<PteFlags>
-    ensures { option_map (λ flags. flags.0) result ≡ with_letters flags.0 letters.now }
+/// The flags of the letters, each of which stands once.
+fn with_letters(letters: &[u8]) -> Option<PteFlags>
+    ensures { option_map (λ flags. flags.0) result ≡ with_letters 0 letters.now }
 {
-    match letters {
-        [] => Some(flags),
-        [letter, rest @ ..] => {
-            let flag = flag(*letter)?;
-            if flags.intersects(flag) {
-                None
-            } else {
-                with_letters(flags.union(flag), rest)
-            }
+    let mut flags = PteFlags::empty();
+    for letter in letters {
+        let flag = flag(*letter)?;
+        if flags.intersects(flag) {
+            return None;
         }
+        flags = flags.union(flag);
     }
+    Some(flags)
 }
 
 /// Letters of `rwxugad`, each at most once, or `-` for none.
@@ -184,7 +197,7 @@ pub fn flags(word: &[u8]) -> Option<PteFlags>
     if word == b"-".as_slice() {
         return Some(PteFlags::empty());
     }
-    with_letters(PteFlags::empty(), word)
+    with_letters(word)
 }
 
 /// The hart of this number, where there are `harts` harts with numbers from 0. `NoSuchHart`: the

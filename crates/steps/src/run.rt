@@ -106,15 +106,19 @@ fn event(scheme: Scheme, harts: u8, hart: u8, step: Spelled) -> Result<Event, St
     }
 }
 
-/// The event of a step by the hart with this number, if it exists.
+/// The event of a step by the hart with this number, if it exists. Only where it does not is it
+/// asked whether `run` has the step: `event` refuses those that it has not.
+#[tactic(auto, using(crate::proofs::EventLemmas::known_hart))]
 fn run_step_by(scheme: Scheme, harts: u8, hart: u64, step: Spelled) -> Result<Event, StepFault>
     ensures { result ≡ run_step_by scheme harts hart step }
 {
-    if !step.is_of_run() {
-        return Err(StepFault::NotStep);
+    if hart < u64::from(harts) {
+        event(scheme, harts, hart as u8, step)
+    } else if step.is_of_run() {
+        Err(StepFault::NoSuchHart)
+    } else {
+        Err(StepFault::NotStep)
     }
-    let hart = among(harts, hart)?;
-    event(scheme, harts, hart, step)
 }
 
 /// The step of `run` that a text writes, in a scheme and with `harts` harts, whose numbers are from
