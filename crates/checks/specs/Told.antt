@@ -6,9 +6,9 @@ use Rattle.toml.specs.Parse.{parse_document}
 use Rattle.files.specs.Faults.{Failure, fault_in, not_toml}
 use Rattle.files.specs.declared.fault.Fault.{Fault}
 use Rattle.files.specs.declared.fault.Fault.TheVariants as faults
-use Rattle.files.specs.LiveFile.{live_keys, live_scenario_of}
-use Rattle.files.specs.RunFile.{run_keys, run_scenario_of}
-use Rattle.files.specs.WalkFile.{walk_keys, walk_scenario_of}
+use Rattle.files.specs.LiveFile.{live_keys, live_plan_of, live_scenario_of}
+use Rattle.files.specs.RunFile.{run_keys, run_plan_of, run_scenario_of}
+use Rattle.files.specs.WalkFile.{walk_keys, walk_plan_of, walk_scenario_of}
 use Rattle.checks.specs.declared.commands.Command.{Command}
 use Rattle.checks.specs.declared.commands.Command.TheVariants.{Walk, Run, Live}
 
@@ -52,6 +52,12 @@ abbrev pub fault_for : Command → List ℕ → Option Failure
 fault_for Walk text = fault_in (walk_scenario_of text)
 fault_for Run text = fault_in (run_scenario_of text)
 fault_for Live text = fault_in (live_scenario_of text)
+
+-- that of a document for a command
+abbrev pub fault_in_members : Command → Members → Option Failure
+fault_in_members Walk ms = fault_in (walk_plan_of ms)
+fault_in_members Run ms = fault_in (run_plan_of ms)
+fault_in_members Live ms = fault_in (live_plan_of ms)
 
 abbrev pub fault_by : Option Members → List ℕ → Option Failure
 fault_by None text = Some not_toml

@@ -4,17 +4,17 @@ ghost use Rattle.toml.specs.Parse.{parse_document};
 ghost use Rattle.toml.specs.View.{table_view};
 ghost use Rattle.files.specs.Faults.{failure_of, fault_in};
 ghost use Rattle.files.specs.declared.fault.Fault.TheVariants.{NotToml};
-ghost use Rattle.files.specs.LiveFile.{live_scenario_of};
-ghost use Rattle.files.specs.RunFile.{run_scenario_of};
-ghost use Rattle.files.specs.WalkFile.{walk_scenario_of};
-ghost use Rattle.checks.specs.Told.{command_of, fault_for, fault_of, is_memory, last_text, lines_text, most_told, name_by, name_of, whole_text};
+ghost use Rattle.files.specs.LiveFile.{live_plan_of};
+ghost use Rattle.files.specs.RunFile.{run_plan_of};
+ghost use Rattle.files.specs.WalkFile.{walk_plan_of};
+ghost use Rattle.checks.specs.Told.{command_of, fault_for, fault_in_members, fault_of, is_memory, last_text, lines_text, most_told, name_by, name_of, whole_text};
 
 use crate::commands::{Command, command_of};
 use crate::keys_known::tell_unknown;
 use crate::report::{MOST_TOLD, Piece, Report, Spot};
 use crate::steps_told::{tell_live, tell_run, tell_walk};
 use crate::values::Document;
-use files::{Fault, read_live, read_run, read_walk};
+use files::{Fault, live_scenario_in, run_scenario_in, walk_scenario_in};
 use std::alloc::{AllocError, Global};
 use toml::Table;
 
@@ -56,47 +56,51 @@ fn told(fault: Fault) -> Result<Option<Fault>, AllocError>
 }
 
 #[tactic(auto, using(crate::proofs::FaultLemmas::failing))]
-fn walk_fault(alloc: Global, text: &str) -> Result<Option<Fault>, AllocError>
+fn walk_fault(alloc: Global, table: &Table) -> Result<Option<Fault>, AllocError>
     ensures { IfOk result (λ fault. option_map failure_of fault ≡ option_map Some
-        (fault_in (walk_scenario_of text.now))) }
+        (fault_in (walk_plan_of (table_view table.now)))) }
 {
-    match read_walk(alloc, text) {
+    match walk_scenario_in(alloc, table) {
         Ok(_scenario) => Ok(None),
         Err(fault) => told(fault),
     }
 }
 
 #[tactic(auto, using(crate::proofs::FaultLemmas::failing))]
-fn run_fault(alloc: Global, text: &str) -> Result<Option<Fault>, AllocError>
+fn run_fault(alloc: Global, table: &Table) -> Result<Option<Fault>, AllocError>
     ensures { IfOk result (λ fault. option_map failure_of fault ≡ option_map Some
-        (fault_in (run_scenario_of text.now))) }
+        (fault_in (run_plan_of (table_view table.now)))) }
 {
-    match read_run(alloc, text) {
+    match run_scenario_in(alloc, table) {
         Ok(_scenario) => Ok(None),
         Err(fault) => told(fault),
     }
 }
 
 #[tactic(auto, using(crate::proofs::FaultLemmas::failing))]
-fn live_fault(alloc: Global, text: &str) -> Result<Option<Fault>, AllocError>
+fn live_fault(alloc: Global, table: &Table) -> Result<Option<Fault>, AllocError>
     ensures { IfOk result (λ fault. option_map failure_of fault ≡ option_map Some
-        (fault_in (live_scenario_of text.now))) }
+        (fault_in (live_plan_of (table_view table.now)))) }
 {
-    match read_live(alloc, text) {
+    match live_scenario_in(alloc, table) {
         Ok(_scenario) => Ok(None),
         Err(fault) => told(fault),
     }
 }
 
-/// The first fault of a text for a command. `AllocError`: there was not enough memory.
-fn fault_for(alloc: Global, command: Command, text: &str) -> Result<Option<Fault>, AllocError>
+/// The first fault of a document for a command. `AllocError`: there was not enough memory.
+fn fault_in_table(
+    alloc: Global,
+    command: Command,
+    table: &Table,
+) -> Result<Option<Fault>, AllocError>
     ensures { IfOk result (λ fault. option_map failure_of fault ≡ option_map Some
-        (fault_for command text.now)) }
+        (fault_in_members command (table_view table.now))) }
 {
     match command {
-        Command::Walk => walk_fault(alloc, text),
-        Command::Run => run_fault(alloc, text),
-        Command::Live => live_fault(alloc, text),
+        Command::Walk => walk_fault(alloc, table),
+        Command::Run => run_fault(alloc, table),
+        Command::Live => live_fault(alloc, table),
     }
 }
 
@@ -222,8 +226,10 @@ fn report_of(
     }
 }
 
-/// What is found in a document that was read.
+/// What is found in a document that was read, whose text this is.
+#[tactic(auto, using(crate::proofs::FaultLemmas::fault_of_members))]
 fn check_table(alloc: Global, text: &str, table: &Table) -> Result<Checked, AllocError>
+    requires { parse_document text.now ≡ Some (table_view table.now) }
     ensures fault { IfOk result (λ checked. option_map failure_of checked.fault ≡ option_map Some
         (fault_for (command_of (table_view table.now)) text.now)) }
     ensures told { IfOk result (λ checked. (checked.fault ≡ None) ↔ (vec_len checked.lines ≡ 0)) }
@@ -232,7 +238,7 @@ fn check_table(alloc: Global, text: &str, table: &Table) -> Result<Checked, Allo
         (name_of (command_of (table_view table.now))) (map string_bytes checked.lines.items)) }
 {
     let command = command_of(table);
-    let fault = fault_for(alloc, command, text)?;
+    let fault = fault_in_table(alloc, command, table)?;
     let document = Document { text, table };
     let lines = report_of(alloc, &document, command, &fault)?.lines;
     let text = text_of(alloc, command.name(), lines.as_slice())?;

@@ -2,7 +2,8 @@
 //! its first fault.
 //!
 //! `read_walk`, `read_run` and `read_live` answer what the text of a file for `walk`, `run` and
-//! `live` asks for. Nothing is run: what comes of a scenario is in the crate `scenario`.
+//! `live` asks for, and `walk_scenario_in`, `run_scenario_in` and `live_scenario_in` the same of a
+//! document that was parsed already. Nothing is run: what comes of a scenario is in the crate `scenario`.
 #![tactic(auto)]
 
 mod documents;
@@ -25,7 +26,7 @@ pub use frames::TableFrames;
 pub use key_laws::{least_unknown_key, mode_is_sv39_by_default, worked_modes};
 pub use known_keys::{LIVE_KEYS, RUN_KEYS, WALK_KEYS};
 pub use limits::{MOST_FRAMES, MOST_STEPS};
-pub use live_file::{DEFAULT_TURNS, read_live};
+pub use live_file::{DEFAULT_TURNS, live_scenario_in, read_live};
 pub use plan::{LiveScenario, RunScenario, WalkScenario};
-pub use run_file::read_run;
-pub use walk_file::read_walk;
+pub use run_file::{read_run, run_scenario_in};
+pub use walk_file::{read_walk, walk_scenario_in};

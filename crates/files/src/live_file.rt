@@ -192,9 +192,10 @@ fn scripts_steps(
     Ok(all)
 }
 
-/// The scenario of a document.
+/// The scenario that a document is, or the first of its faults, as `read_live` answers for its
+/// text. `NoMemory` if there is not enough memory.
 #[tactic(auto, unfolding(crate::specs::LiveFile::live_plan_of))]
-fn scenario(alloc: Global, table: &Table) -> Result<LiveScenario, Fault>
+pub fn live_scenario_in(alloc: Global, table: &Table) -> Result<LiveScenario, Fault>
     ensures { Gives live_view result (live_plan_of (table_view table.now)) }
 {
     check_keys(alloc, table, &LIVE_KEYS)?;
@@ -225,5 +226,5 @@ pub fn read_live(alloc: Global, text: &str) -> Result<LiveScenario, Fault>
     ensures { Gives live_view result (live_scenario_of text.now) }
 {
     let table = document(alloc, text)?;
-    scenario(alloc, &table)
+    live_scenario_in(alloc, &table)
 }

@@ -32,9 +32,10 @@ fn events(alloc: Global, scheme: Scheme, harts: u8, texts: &[&str]) -> Result<Ve
     Ok(events)
 }
 
-/// The scenario of a document.
+/// The scenario that a document is, or the first of its faults, as `read_run` answers for its
+/// text. `NoMemory` if there is not enough memory.
 #[tactic(auto, unfolding(crate::specs::RunFile::run_plan_of))]
-fn scenario(alloc: Global, table: &Table) -> Result<RunScenario, Fault>
+pub fn run_scenario_in(alloc: Global, table: &Table) -> Result<RunScenario, Fault>
     ensures { Gives run_view result (run_plan_of (table_view table.now)) }
 {
     check_keys(alloc, table, &RUN_KEYS)?;
@@ -56,5 +57,5 @@ pub fn read_run(alloc: Global, text: &str) -> Result<RunScenario, Fault>
     ensures { Gives run_view result (run_scenario_of text.now) }
 {
     let table = document(alloc, text)?;
-    scenario(alloc, &table)
+    run_scenario_in(alloc, &table)
 }

@@ -154,9 +154,10 @@ fn steps(alloc: Global, texts: &[&str]) -> Result<Vec<WalkStep>, Fault>
     Ok(steps)
 }
 
-/// The scenario of a document.
+/// The scenario that a document is, or the first of its faults, as `read_walk` answers for its
+/// text. `NoMemory` if there is not enough memory.
 #[tactic(auto, unfolding(crate::specs::WalkFile::walk_plan_of))]
-fn scenario(alloc: Global, table: &Table) -> Result<WalkScenario, Fault>
+pub fn walk_scenario_in(alloc: Global, table: &Table) -> Result<WalkScenario, Fault>
     ensures { Gives plan_view result (walk_plan_of (table_view table.now)) }
 {
     check_keys(alloc, table, &WALK_KEYS)?;
@@ -184,5 +185,5 @@ pub fn read_walk(alloc: Global, text: &str) -> Result<WalkScenario, Fault>
     ensures { Gives plan_view result (walk_scenario_of text.now) }
 {
     let table = document(alloc, text)?;
-    scenario(alloc, &table)
+    walk_scenario_in(alloc, &table)
 }
