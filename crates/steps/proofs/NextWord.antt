@@ -1,9 +1,9 @@
 -- The first word of a text, and what stands after it.
-use Rattle.std.proofs.Common.{◌≡◌, ℕ, ◌+◌, ◌-◌, ◌<◌, ◌≤◌, suc, Bool, true, false, not, List, [], ◌∷◌, length, take, drop, get_or, nat_lt, Some, None, if◌then◌else◌, refl, sym, ap, subst, ◌∙◌, arith, length-drop}
+use Rattle.std.proofs.Common.{◌≡◌, ℕ, ◌+◌, ◌<◌, ◌≤◌, suc, Bool, true, false, not, List, [], ◌∷◌, length, take, drop, get_or, nat_lt, Some, None, if◌then◌else◌, refl, sym, ap, subst, ◌∙◌, arith, length-drop}
 use Rattle.std.specs.List.{AllByRecursion, position_or_len}
 use Rattle.std.specs.Option.{unwrap_or}
 use Rattle.std.proofs.lemmas.Bool.Decides.{nat_tests}
-use Rattle.std.proofs.lemmas.List.{drop_all, drop_more, get_or-drop, take_all, take-append-drop}
+use Rattle.std.proofs.lemmas.List.{drop_all, get_or-drop, take_all, take-append-drop}
 use Rattle.std.proofs.lemmas.List.Sums.{passes_at_first, position_or_len_is}
 use Rattle.steps.specs.Grammar.{Breaks}
 use Rattle.steps.specs.Words.{is_blank, words_of}
@@ -92,16 +92,12 @@ first_word text h =
       shorter = omega (arith, splits.shorter, length-drop (blank_len text) text);
     }
 
--- a blank at a place adds no word
-past_blank : (text : List ℕ) (end : ℕ) → end < length text → is_blank (get_or text end 0) ≡ true → words_of (drop end text) ≡ words_of (drop (end + 1) text)
-past_blank text end less blank = ap words_of (drop_more text end 0 less) ∙ words_of-blank (get_or text end 0) (drop (end + 1) text) blank
-
 -- the word before the first blank, where none stands in front
 pub word_before_blank : (text : List ℕ) (end : ℕ) → 0 < length text → is_blank (get_or text 0 0) ≡ false → end < length text
-    → ((k : ℕ) → k < end → is_blank (get_or text k 0) ≡ false) → is_blank (get_or text end 0) ≡ true → words_of text ≡ take end text ∷ words_of (drop (end + 1) text)
+    → ((k : ℕ) → k < end → is_blank (get_or text k 0) ≡ false) → is_blank (get_or text end 0) ≡ true → words_of text ≡ take end text ∷ words_of (drop end text)
 word_before_blank text end some plain less before blank =
     let is : word_len text ≡ end = position_or_len_is is_blank text end 0 (omega arith) before (λ _. blank) in
-    subst (λ n. words_of text ≡ take n text ∷ words_of (drop n text)) is (plain_splits text some plain).words ∙ ap (λ rest. take end text ∷ rest) (past_blank text end less blank)
+    subst (λ n. words_of text ≡ take n text ∷ words_of (drop n text)) is (plain_splits text some plain).words
 
 -- the one word of a text without a blank
 pub word_to_end : (text : List ℕ) → 0 < length text → is_blank (get_or text 0 0) ≡ false → ((k : ℕ) → k < length text → is_blank (get_or text k 0) ≡ false) → words_of text ≡ text ∷ []
@@ -110,10 +106,6 @@ word_to_end text some plain each =
     let word : take (word_len text) text ≡ text = take_all (word_len text) text (omega (arith, is)) in
     let rest : drop (word_len text) text ≡ [] = drop_all (word_len text) text (omega (arith, is)) in
     (plain_splits text some plain).words ∙ rw (word, rest) refl
-
--- a slice from a place to the end
-pub slice_to_end : (n : ℕ) (text : List ℕ) → take (length text - n) (drop n text) ≡ drop n text
-slice_to_end n text = take_all (length text - n) (drop n text) (omega (arith, length-drop n text))
 
 -- the byte that stands after all blanks in front is none
 pub plain_front : (text : List ℕ) → blank_len text < length text → is_blank (get_or (drop (blank_len text) text) 0 0) ≡ false

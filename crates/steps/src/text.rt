@@ -22,7 +22,7 @@ fn blank_len(text: &[u8]) -> usize
         .unwrap_or(text.len())
 }
 
-/// The word that a text begins with, and what stands after the blank that ends it.
+/// The word that a text begins with, and what stands after it.
 fn split_word(text: &[u8]) -> (&[u8], &[u8])
     requires some { 0 < length text.now }
     requires plain { is_blank (slice_index text.now 0) ≡ false }
@@ -32,7 +32,7 @@ fn split_word(text: &[u8]) -> (&[u8], &[u8])
     let mut end = 1;
     while end < text.len() {
         if is_blank(text[end]) {
-            return (&text[..end], &text[end + 1..]);
+            return text.split_at(end);
         }
         end += 1;
     }

@@ -5,6 +5,7 @@ use Rattle.steps.proofs.text.split_word.Given as goal
 abbrev pub invariant-loop-end : goal.invariant-loop-end
 invariant-loop-end l =
     record {
+      some : 0 < l.end;
       within : l.end ≤ length l.text;
       plain : (k : ℕ) → k < l.end → is_blank (get_or l.text k 0) ≡ false;
     }
