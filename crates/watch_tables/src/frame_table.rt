@@ -128,19 +128,26 @@ impl FrameTable {
         }
     }
 
-    /// The place of a PPN, if it is hinted.
+    /// The place, if the frame of a PPN stands there.
     #[inline(always)]
-    fn hinted_place(&self, ppn: u64) -> Option<usize>
+    fn place_if_of(&self, ppn: u64, place: usize) -> Option<usize>
         ensures { IfSome result (λ place. get nat_cmp self.now.places ppn ≡ Some place) }
     {
-        let place = self.hints.get(ppn);
         if place < self.row.len() && self.row[place].ppn == ppn {
             return Some(place);
         }
         None
     }
 
-    /// The place of a PPN that is not where it is hinted, by the map.
+    /// The place of a PPN, if it is hinted first.
+    #[inline(always)]
+    fn hinted_place(&self, ppn: u64) -> Option<usize>
+        ensures { IfSome result (λ place. get nat_cmp self.now.places ppn ≡ Some place) }
+    {
+        self.place_if_of(ppn, self.hints.get(ppn))
+    }
+
+    /// The place of a PPN that is not hinted first: where it is hinted second, or else by the map.
     #[cold]
     #[inline(never)]
     fn mapped_place(&self, ppn: u64) -> Option<usize>
@@ -148,6 +155,9 @@ impl FrameTable {
     {
         if self.hints.get(ppn) == NO_PLACE {
             return None;
+        }
+        if let Some(place) = self.place_if_of(ppn, self.hints.second(ppn)) {
+            return Some(place);
         }
         match self.places.get(&ppn) {
             Some(place) => Some(*place),

@@ -40,14 +40,24 @@ fn hash_of(count: usize, ppn: u64) -> usize
     (ppn.wrapping_mul(SPREAD) >> 32 & (count as u64 - 1)) as usize
 }
 
-/// Sets the hint of a PPN.
+/// Sets the hint of a PPN: the first, or the second where the first is of another place and the second
+/// is free.
 fn set(places: &mut [usize], ppn: u64, place: usize)
     ensures own { IsIn places.new ppn }
     ensures kept { (k : ℕ) → IsIn places.old k → IsIn places.new k }
 {
-    if !places.is_empty() {
-        let hash = hash_of(places.len(), ppn);
-        places[hash] = place.min(NO_PLACE - 1);
+    if places.is_empty() {
+        return;
+    }
+    let place = place.min(NO_PLACE - 1);
+    let first = hash_of(places.len(), ppn);
+    let second = first ^ 1;
+    if places[first] == NO_PLACE || places[first] == place || second >= places.len() {
+        places[first] = place;
+    } else if places[second] == NO_PLACE || places[second] == place {
+        places[second] = place;
+    } else {
+        places[first] = place;
     }
 }
 
@@ -71,6 +81,18 @@ impl Hints {
             return 0;
         }
         self.places[hash_of(self.places.len(), ppn)]
+    }
+
+    /// Another place where the frame of a PPN may stand.
+    pub(crate) fn second(&self, ppn: u64) -> usize {
+        if self.places.is_empty() {
+            return 0;
+        }
+        let second = hash_of(self.places.len(), ppn) ^ 1;
+        if second >= self.places.len() {
+            return 0;
+        }
+        self.places[second]
     }
 
     /// Sets the hint of a PPN.
