@@ -1,14 +1,13 @@
 -- A field that is `-` for none.
-use Rattle.std.proofs.Common.{◌≡◌, ℕ, ◌+◌, ◌-◌, ◌<◌, ◌≤◌, zero, suc, Bool, true, false, Option, Some, None, option_map, codes, List, [], ◌∷◌, length, take, drop, get_or, eqb, eqb-true, nat_eq, refl, sym, ap, subst, ◌∙◌, inl, inr, arith, if◌then◌else◌, ◌&&◌}
+use Rattle.std.proofs.Common.{◌≡◌, ℕ, ◌+◌, ◌-◌, ◌≤◌, Bool, true, false, Option, Some, None, option_map, codes, List, [], ◌∷◌, length, take, drop, eqb, eqb-true, nat_eq, refl, sym, ap, subst, ◌∙◌, inl, inr, arith, if◌then◌else◌, ◌&&◌}
 use Rattle.std.specs.Cmp.Lexicographic.{pointwise}
 use Rattle.std.specs.List.{position_or_len}
 use Rattle.std.specs.Str.{bytes_eq}
-use Rattle.std.proofs.lemmas.Bool.{and_from, and_parts, both_ways, cases_Bool, cases_lt, false≢true}
+use Rattle.std.proofs.lemmas.Bool.{and_parts, cases_Bool, cases_lt, false≢true}
 use Rattle.std.proofs.lemmas.List.Splits.{length-slice_split}
-use Rattle.std.proofs.lemmas.List.Sums.{passes_at_first}
 use Rattle.watch_report.specs.Fields.{◌>>=◌, fields_of, is_separator, number_field, one_field, optional_field}
-use Rattle.watch_report.specs.NextFields.{last_optional, next_number, next_optional}
-use Rattle.watch_report.proofs.FieldLemmas.{next_of, only_number}
+use Rattle.watch_report.specs.NextFields.{last_optional, next_optional}
+use Rattle.watch_report.proofs.FieldLemmas.{only_number}
 use Rattle.watch_report.proofs.Positions.{first_field, last_field, not_one_field}
 
 -- what was read, and the fields after it

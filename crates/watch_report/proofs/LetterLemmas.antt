@@ -1,11 +1,9 @@
 -- A first field of one byte.
-use Rattle.std.proofs.Common.{◌≡◌, ℕ, ◌+◌, ◌-◌, ◌<◌, ◌≤◌, true, false, Option, Some, None, List, [], ◌∷◌, length, take, drop, get_or, refl, sym, ap, ◌∙◌, inl, inr, arith}
-use Rattle.std.specs.List.{onto_first}
+use Rattle.std.proofs.Common.{◌≡◌, ℕ, ◌+◌, ◌<◌, true, Option, Some, None, List, [], ◌∷◌, length, refl, ap, ◌∙◌, inl, inr, arith}
 use Rattle.std.proofs.lemmas.Bool.{cases_Bool}
 use Rattle.std.proofs.lemmas.List.Splits.{length-slice_split, slice_split-cons_no, slice_split-cons_yes}
 use Rattle.watch_report.specs.Fields.{◌>>=◌, fields_of, is_separator}
 use Rattle.watch_report.specs.NextFields.{next_letter, only_byte}
-use Rattle.watch_report.proofs.Positions.{slice_to_end}
 
 abbrev letter_with : List (List ℕ) → Option ℕ → Option (ℕ × List (List ℕ))
 letter_with fields read = read >>= λ x. Some (x, fields)
