@@ -5,12 +5,10 @@ ghost use Rattle.steps.specs.Words.{four_words, is_blank, is_over, one_word, thr
 
 use std::alloc::{AllocError, Global};
 
-/// Most bytes are above the space, which one test tells.
-#[inline(always)]
 fn is_blank(byte: u8) -> bool
     ensures { result ≡ is_blank byte }
 {
-    byte <= b' ' && (byte == b' ' || byte == b'\t')
+    byte == b' ' || byte == b'\t'
 }
 
 /// How many bytes stand before the first that is not blank.
@@ -60,7 +58,6 @@ pub fn is_over(text: &[u8]) -> bool
 }
 
 /// The word of a text that has just one.
-#[inline(always)]
 pub fn one_word(text: &[u8]) -> Option<&[u8]>
     ensures { MatchOption result (one_word (words_of text.now)
         ≡ None) (λ a. one_word (words_of text.now) ≡ Some a.now) }
@@ -70,7 +67,6 @@ pub fn one_word(text: &[u8]) -> Option<&[u8]>
 }
 
 /// The words of a text that has two.
-#[inline(always)]
 pub fn two_words(text: &[u8]) -> Option<(&[u8], &[u8])>
     ensures { MatchOption result (two_words (words_of text.now)
         ≡ None) (λ a. two_words (words_of text.now) ≡ Some (a.0.now, a.1.now)) }
@@ -81,7 +77,6 @@ pub fn two_words(text: &[u8]) -> Option<(&[u8], &[u8])>
 }
 
 /// The words of a text that has three.
-#[inline(always)]
 pub fn three_words(text: &[u8]) -> Option<(&[u8], &[u8], &[u8])>
     ensures { MatchOption result (three_words (words_of text.now)
         ≡ None) (λ a. three_words (words_of text.now) ≡ Some (a.0.now, a.1.now, a.2.now)) }
@@ -92,7 +87,6 @@ pub fn three_words(text: &[u8]) -> Option<(&[u8], &[u8], &[u8])>
 }
 
 /// The words of a text that has four.
-#[inline(always)]
 pub fn four_words(text: &[u8]) -> Option<(&[u8], &[u8], &[u8], &[u8])>
     ensures { MatchOption result (four_words (words_of text.now)
         ≡ None) (λ a. four_words (words_of text.now) ≡ Some (a.0.now, a.1.now, a.2.now, a.3.now)) }
