@@ -1,5 +1,5 @@
 -- Below words that are the same two roots have the same tables.
-use Rattle.std.proofs.Common.{◌≡◌, ℕ, zero, suc, ◌+◌, ◌-◌, ◌<◌, ◌≤◌, Bool, false, List, [], ◌∷◌, drop, get_or, length, Option, Some, None, ap, sym, ◌∙◌, subst, refl, arith}
+use Rattle.std.proofs.Common.{◌≡◌, ℕ, zero, suc, ◌+◌, ◌-◌, ◌<◌, ◌≤◌, Bool, true, false, cond, List, [], ◌∷◌, drop, get_or, length, Option, Some, None, ap, sym, ◌∙◌, subst, refl, arith}
 use Rattle.std.specs.Prelude.{◌||◌}
 use Rattle.std.specs.List.{list_any}
 use Rattle.pte.specs.declared.scheme.Scheme.{Scheme}
@@ -89,3 +89,8 @@ any_past test (x ∷ xs) zero d within none = ap (λ b. b || list_any test xs) n
 any_past test (x ∷ xs) (suc k) d within none =
     let next : suc (k + 1) ≡ suc k + 1 = omega arith in
     any_past test xs k d (omega arith) none ∙ ap (λ n. list_any test (drop n (x ∷ xs))) next
+
+-- one of two, by a test
+pub chosen : (test : Bool) (a b : ℕ) (P : ℕ → Type 0) → P a → P b → P (cond test a b)
+chosen true a b P p q = p
+chosen false a b P p q = q
