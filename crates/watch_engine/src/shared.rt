@@ -64,7 +64,7 @@ fn has_word<T: Tables>(tables: &T, scheme: Scheme, space: Option<Space>, leaf: &
 {
     match space {
         None => false,
-        Some(space) => { tables.has_same_word(leaf.root, space.root, index_in_root(scheme, leaf)) }
+        Some(space) => tables.has_same_word(leaf.root, space.root, index_in_root(scheme, leaf)),
     }
 }
 
