@@ -40,8 +40,8 @@ fn hash_of(count: usize, ppn: u64) -> usize
     (ppn.wrapping_mul(SPREAD) >> 32 & (count as u64 - 1)) as usize
 }
 
-/// Sets the hint of a PPN: the first, or the second where the first is of another place and the second
-/// is free.
+/// Sets the first hint of a PPN, if none of its two is of that place. What the first was of goes to the
+/// second, if that is free.
 fn set(places: &mut [usize], ppn: u64, place: usize)
     ensures own { IsIn places.new ppn }
     ensures kept { (k : ℕ) → IsIn places.old k → IsIn places.new k }
@@ -52,12 +52,13 @@ fn set(places: &mut [usize], ppn: u64, place: usize)
     let place = place.min(NO_PLACE - 1);
     let first = hash_of(places.len(), ppn);
     let second = first ^ 1;
-    if places[first] == NO_PLACE || places[first] == place || second >= places.len() {
-        places[first] = place;
-    } else if places[second] == NO_PLACE || places[second] == place {
-        places[second] = place;
-    } else {
-        places[first] = place;
+    let old = places[first];
+    if old == place || old != NO_PLACE && second < places.len() && places[second] == place {
+        return;
+    }
+    places[first] = place;
+    if second < places.len() && places[second] == NO_PLACE {
+        places[second] = old;
     }
 }
 
