@@ -1,5 +1,5 @@
 -- How long an entry holds stale mappings of a page.
-use Rattle.std.specs.Prelude.{ℕ, Bool, true, false, if◌then◌else◌, Contains}
+use Rattle.std.specs.Prelude.{ℕ, Bool, true, false, ◌==◌, ◌&&◌, if◌then◌else◌, Contains}
 use Rattle.pte.specs.Address.{Span}
 use Rattle.pte.specs.Entry.{is_user}
 use Rattle.pte.specs.declared.flags.PteFlags.{PteFlags}
@@ -10,9 +10,9 @@ use Rattle.tlb.specs.declared.store.Entry.{Entry}
 use Rattle.tlb.specs.Mappings.{Mapping, IsMappingOf}
 use Rattle.history.specs.Setup.{Setup}
 use Rattle.history.specs.declared.event.Event.{Event}
-use Rattle.history.specs.declared.event.Event.TheVariants.{Begin, Load, Flush, Switch, Post, Take, Ack, Collect, Finish, Close}
+use Rattle.history.specs.declared.event.Event.TheVariants.{Begin, Load, Flush, Switch, Fence, Post, Take, ServeFence, Ack, AckSelf, Collect, Finish, Close}
 use Rattle.history.specs.declared.reply.Reply.{Reply}
-use Rattle.history.specs.Turns.{History, is_filled}
+use Rattle.history.specs.Turns.{History, is_filled, is_ok, is_progress}
 use Rattle.history.specs.Harts.{entries_of}
 use Rattle.stale.specs.Stale.{Stale}
 
@@ -44,3 +44,11 @@ may_change (Collect hart ticket from) reply = false
 may_change (Finish hart ticket) reply = false
 may_change (Close hart to) reply = false
 may_change _ reply = true
+
+-- the same, where of entries those of one hart count: a hart fills and fences its own TLB alone
+abbrev pub may_change_at : Event → Reply → ℕ → Bool
+may_change_at (Load by) reply hart = is_filled reply && (by == hart)
+may_change_at (Fence by rs1 rs2) reply hart = is_ok reply && (by == hart)
+may_change_at (ServeFence by) reply hart = is_ok reply && (by == hart)
+may_change_at (AckSelf by ticket) reply hart = is_progress reply && (by == hart)
+may_change_at event reply hart = may_change event reply

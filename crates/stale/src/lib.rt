@@ -12,7 +12,7 @@ mod promises;
 mod report;
 mod runs;
 
-pub use ends::may_end_stale;
+pub use ends::{may_end_stale, may_end_stale_at};
 pub use hits::{StaleUse, stale_use};
 pub use items::{BecameStale, StaleAt, StaleItem};
 pub use lasting::stale_page;
