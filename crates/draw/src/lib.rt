@@ -11,6 +11,7 @@ mod legend;
 mod picture;
 mod record;
 mod recorder;
+mod rows;
 mod run;
 mod shapes;
 mod step_words;

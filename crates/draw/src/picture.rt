@@ -8,14 +8,16 @@ use crate::layout::{
     row_top,
 };
 use crate::legend::push_legend;
-use crate::record::{Arrow, Bar, Message, Record, Span, StaleHit};
+use crate::record::{Arrow, Bar, Message, Record, Row, Span, StaleHit};
+use crate::rows::{push_hart, push_row, push_words};
 use crate::run::{push_mapping, record};
 use crate::shapes::{
-    Area, push_arrow, push_dot, push_escaped, push_full_head, push_line, push_number,
-    push_open_head, push_rect, push_text,
+    Area, push_arrow, push_dot, push_escaped, push_full_head, push_line, push_open_head, push_rect,
+    push_text,
 };
 use crate::style::STYLE;
 use files::{Fault, RunScenario};
+use itoa::Buffer;
 use pte::Page;
 use std::alloc::{AllocError, Global};
 
@@ -26,7 +28,7 @@ const TAIL: u64 = 12;
 #[derive(Drop)]
 struct Picture {
     svg: String,
-    /// A text before it is escaped.
+    /// A text before it is escaped: the title, or the label of a stale mapping.
     scratch: String,
     width: u64,
     height: u64,
@@ -44,6 +46,33 @@ fn push_title(text: &mut String, harts: usize, steps: usize) -> Result<(), Alloc
     push_count(text, harts, "hart")?;
     text.push_str(" in ")?;
     push_count(text, steps, "step")
+}
+
+/// How the text of a step begins that no stale mapping answered.
+fn opening_of(row: &Row) -> &'static str {
+    if row.is_refused {
+        "<text class='refused' x='"
+    } else {
+        "<text class='step' x='"
+    }
+}
+
+/// Adds the label of a bar: in its first row, and below each line of heads.
+fn push_labels(
+    svg: &mut String,
+    opening: &str,
+    x: u64,
+    bar: &Bar,
+    label: &str,
+) -> Result<(), AllocError> {
+    let mut digits = Buffer::new();
+    let x = digits.format(x);
+    push_words(svg, opening, x, row_middle(bar.first) + 4, label)?;
+    for heads in heads_above(bar.first)..heads_above(bar.last) {
+        let row = heads.saturating_mul(ROWS_A_HEAD);
+        push_words(svg, opening, x, row_middle(row) + 4, label)?;
+    }
+    Ok(())
 }
 
 impl Picture {
@@ -114,15 +143,11 @@ impl Picture {
                 height: HEAD_HEIGHT - 6,
             },
         )?;
+        let mut digits = Buffer::new();
+        let y = digits.format(top + 17);
         let mut hart: u64 = 0;
         for column in columns {
-            self.scratch.clear();
-            write!(self.scratch, "hart {hart}")?;
-            let at = Point {
-                x: column.text_x(),
-                y: top + 17,
-            };
-            push_text(&mut self.svg, "hart", at, self.scratch.as_str())?;
+            push_hart(&mut self.svg, column.text_x(), y, hart)?;
             hart = hart.saturating_add(1);
         }
         Ok(())
@@ -130,19 +155,13 @@ impl Picture {
 
     /// Adds the numbers of the rows and their lines, and the heads of the columns.
     fn push_rows(&mut self, columns: &[Column], rows: u32) -> Result<(), AllocError> {
+        let mut digits = Buffer::new();
+        let right = digits.format(self.width);
         for row in 0..rows {
             if row % ROWS_A_HEAD == 0 {
                 self.push_heads(columns, row)?;
             }
-            let y = row_middle(row);
-            push_line(
-                &mut self.svg,
-                "row",
-                Point { x: 46, y },
-                Point { x: self.width, y },
-            )?;
-            let at = Point { x: 40, y: y + 4 };
-            push_number(&mut self.svg, "number", at, u64::from(row) + 1)?;
+            push_row(&mut self.svg, right, row_middle(row), u64::from(row) + 1)?;
         }
         for column in columns {
             let x = u64::from(column.left);
@@ -179,17 +198,6 @@ impl Picture {
         )
     }
 
-    /// Adds the ticket of an order in a row.
-    fn push_ticket(&mut self, x: u64, row: u32, ticket: u32) -> Result<(), AllocError>
-        requires { x < 2 ^ 60 }
-    {
-        let at = Point {
-            x: x + 7,
-            y: row_middle(row) + 4,
-        };
-        push_number(&mut self.svg, "ticket", at, u64::from(ticket))
-    }
-
     /// Adds the bar of an order, and its ticket: in the first row, and below each line of heads.
     fn push_order(
         &mut self,
@@ -204,24 +212,14 @@ impl Picture {
         if let Some(row) = done {
             self.push_span("done", x, 14, row, bar)?;
         }
-        self.push_ticket(x, bar.first, ticket)?;
-        for heads in heads_above(bar.first)..heads_above(bar.last) {
-            self.push_ticket(x, heads.saturating_mul(ROWS_A_HEAD), ticket)?;
-        }
-        Ok(())
-    }
-
-    /// Adds the label of a stale mapping in a row.
-    fn push_label(&mut self, x: u64, row: u32, page: Page, ppn: u64) -> Result<(), AllocError>
-        requires { x < 2 ^ 60 }
-    {
-        self.scratch.clear();
-        push_mapping(&mut self.scratch, page, ppn)?;
-        let at = Point {
-            x: x + 5,
-            y: row_middle(row) + 4,
-        };
-        push_text(&mut self.svg, "mapping", at, self.scratch.as_str())
+        let mut digits = Buffer::new();
+        push_labels(
+            &mut self.svg,
+            "<text class='ticket' x='",
+            x + 7,
+            bar,
+            digits.format(ticket),
+        )
     }
 
     /// Adds the bar of a stale mapping, and its label: in the first row, and below each line of
@@ -235,11 +233,15 @@ impl Picture {
     ) -> Result<(), AllocError> {
         let x = column.stale_x(bar.lane);
         self.push_span("stale", x, column.stale_width(), bar.first, bar)?;
-        self.push_label(x, bar.first, page, ppn)?;
-        for heads in heads_above(bar.first)..heads_above(bar.last) {
-            self.push_label(x, heads.saturating_mul(ROWS_A_HEAD), page, ppn)?;
-        }
-        Ok(())
+        self.scratch.clear();
+        push_mapping(&mut self.scratch, page, ppn)?;
+        push_labels(
+            &mut self.svg,
+            "<text class='mapping' x='",
+            x + 5,
+            bar,
+            self.scratch.as_str(),
+        )
     }
 
     /// Adds a bar.
@@ -360,19 +362,21 @@ impl Picture {
                 return Ok(());
             };
             if let Some(column) = record.columns.get(usize::from(row.hart)) {
-                let mut class = if row.is_refused { "refused" } else { "step" };
+                let mut opening = opening_of(row);
                 if let Some(hit) = record.hits.get(next_hit) {
                     if hit.row == number {
                         self.push_hit(column, hit, row.characters())?;
-                        class = "hit-words";
+                        opening = "<text class='hit-words' x='";
                         next_hit += 1;
                     }
                 }
-                let at = Point {
-                    x: column.text_x(),
-                    y: row_middle(number) + 4,
-                };
-                push_text(&mut self.svg, class, at, words)?;
+                push_words(
+                    &mut self.svg,
+                    opening,
+                    Buffer::new().format(column.text_x()),
+                    row_middle(number) + 4,
+                    words,
+                )?;
             }
             texts = rest;
             number = number.saturating_add(1);

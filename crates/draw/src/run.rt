@@ -11,7 +11,9 @@ use files::{Fault, RunScenario};
 use lines::{push_hexadecimal, push_page};
 use pte::Page;
 use spaces::OpenFault;
-use stale::{BecameStale, StaleAt, StaleItem, StaleUse, may_end_stale, step_stale};
+use stale::{
+    BecameStale, StaleAt, StaleItem, StaleUse, may_end_stale, may_end_stale_at, step_stale,
+};
 use std::alloc::{AllocError, Global};
 use stepcore::{Event, Machine, Reply};
 
@@ -238,11 +240,20 @@ impl Recorder {
         }
     }
 
-    /// Ends the bars of mappings that are stale no more after a step.
-    fn note_drops(&mut self, machine: &Machine, row: u32) -> Result<(), AllocError> {
+    /// Ends the bars of mappings that are stale no more after a step: only TLBs of which the step can
+    /// end one are asked.
+    fn note_drops(
+        &mut self,
+        machine: &Machine,
+        row: u32,
+        event: &Event,
+        reply: &Reply,
+    ) -> Result<(), AllocError> {
         let mut hart: u8 = 0;
         for track in self.tracks.as_mut_slice() {
-            track.drop_over(machine, hart, row, &mut self.record.bars)?;
+            if may_end_stale_at(event, reply, hart) {
+                track.drop_over(machine, hart, row, &mut self.record.bars)?;
+            }
             hart = hart.saturating_add(1);
         }
         Ok(())
@@ -306,7 +317,7 @@ impl Recorder {
             self.note(row, event, &reply)?;
             self.note_items(row, items.as_slice())?;
             if may_end_stale(event, &reply) {
-                self.note_drops(machine, row)?;
+                self.note_drops(machine, row, event, &reply)?;
             }
         }
         self.add_row(event, reply)

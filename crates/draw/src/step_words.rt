@@ -1,7 +1,11 @@
 //! The texts of steps: the words of a file's step without the hart, and the reply.
 
+ghost use Rattle.std.specs.Prelude.{◌≡◌, ◌++◌, OnOk, string_bytes};
+ghost use Rattle.std.specs.Fmt.{decimal};
+
 use bitflags::Flags;
 use history::Scope;
+use itoa::Buffer;
 use lines::{push_harts, push_hexadecimal, push_page, push_reply};
 use pte::{Access, Ctx, Mode, Page, PteFlags};
 use shoot::HartSet;
@@ -34,33 +38,44 @@ pub fn hart_of(event: &Event) -> u8 {
     }
 }
 
-fn mode_word(mode: Mode) -> &'static str {
+/// The first word of an access, and the mode.
+fn begin_words(mode: Mode) -> &'static str {
     match mode {
-        Mode::User => "u",
-        Mode::Super => "s",
+        Mode::User => "begin u",
+        Mode::Super => "begin s",
     }
 }
 
-fn access_word(access: Access) -> &'static str {
+/// What stands before the address of an access.
+fn access_words(access: Access) -> &'static str {
     match access {
-        Access::Fetch => "fetch",
-        Access::Load => "load",
-        Access::Store => "store",
+        Access::Fetch => " fetch 0x",
+        Access::Load => " load 0x",
+        Access::Store => " store 0x",
     }
 }
 
-fn word_if(holds: bool, word: &'static str) -> &'static str {
-    if holds { word } else { "" }
+/// Adds words, and a number in decimal behind them.
+#[inline(always)]
+fn push_number(text: &mut String, words: &str, n: u64) -> Result<(), AllocError>
+    ensures ok { OnOk result (string_bytes text.new ≡ string_bytes text.old ++ words.now
+        ++ decimal n) }
+{
+    text.push_str(words)?;
+    text.push_str(Buffer::new().format(n))
+}
+
+/// Adds a word if something holds.
+#[inline(always)]
+fn push_if(text: &mut String, holds: bool, word: &'static str) -> Result<(), AllocError> {
+    if holds { text.push_str(word) } else { Ok(()) }
 }
 
 fn push_begin(text: &mut String, va: u64, access: Access, ctx: Ctx) -> Result<(), AllocError> {
-    text.push_str("begin ")?;
-    text.push_str(mode_word(ctx.mode))?;
-    text.push_str(word_if(ctx.sum, "+sum"))?;
-    text.push_str(word_if(ctx.mxr, "+mxr"))?;
-    text.push_str(" ")?;
-    text.push_str(access_word(access))?;
-    text.push_str(" 0x")?;
+    text.push_str(begin_words(ctx.mode))?;
+    push_if(text, ctx.sum, "+sum")?;
+    push_if(text, ctx.mxr, "+mxr")?;
+    text.push_str(access_words(access))?;
     push_hexadecimal(text, va)
 }
 
@@ -68,13 +83,13 @@ fn push_flags(text: &mut String, flags: PteFlags) -> Result<(), AllocError> {
     if flags.is_empty() {
         return text.push_str("-");
     }
-    text.push_str(word_if(flags.may_read(), "r"))?;
-    text.push_str(word_if(flags.may_write(), "w"))?;
-    text.push_str(word_if(flags.may_execute(), "x"))?;
-    text.push_str(word_if(flags.is_user(), "u"))?;
-    text.push_str(word_if(flags.is_global(), "g"))?;
-    text.push_str(word_if(flags.is_accessed(), "a"))?;
-    text.push_str(word_if(flags.is_dirty(), "d"))
+    push_if(text, flags.may_read(), "r")?;
+    push_if(text, flags.may_write(), "w")?;
+    push_if(text, flags.may_execute(), "x")?;
+    push_if(text, flags.is_user(), "u")?;
+    push_if(text, flags.is_global(), "g")?;
+    push_if(text, flags.is_accessed(), "a")?;
+    push_if(text, flags.is_dirty(), "d")
 }
 
 fn push_named(text: &mut String, named: u8) -> Result<(), AllocError> {
@@ -94,26 +109,29 @@ fn push_place_page(
 ) -> Result<(), AllocError> {
     text.push_str(word)?;
     match place {
-        Place::Space(space) => write!(text, " {space} ")?,
-        Place::Kernel => text.push_str(" k ")?,
+        Place::Space(space) => push_number(text, " ", u64::from(space))?,
+        Place::Kernel => text.push_str(" k")?,
     }
+    text.push_str(" ")?;
     push_page(text, page)?;
     text.push_str(" ")
 }
 
 fn push_flush(text: &mut String, scope: Scope, named: u8) -> Result<(), AllocError> {
     match scope {
-        Scope::Space(space) => write!(text, "flush {space} ")?,
-        Scope::All => text.push_str("flush all ")?,
+        Scope::Space(space) => push_number(text, "flush ", u64::from(space))?,
+        Scope::All => text.push_str("flush all")?,
     }
+    text.push_str(" ")?;
     push_named(text, named)
 }
 
 fn push_register(text: &mut String, register: Option<u64>) -> Result<(), AllocError> {
-    match register {
-        None => text.push_str(" x0"),
-        Some(value) => write!(text, " 0x{value:x}"),
-    }
+    let Some(value) = register else {
+        return text.push_str(" x0");
+    };
+    text.push_str(" 0x")?;
+    push_hexadecimal(text, value)
 }
 
 fn push_fence(text: &mut String, rs1: Option<u64>, rs2: Option<u64>) -> Result<(), AllocError> {
@@ -133,7 +151,9 @@ fn push_edit(text: &mut String, event: &Event) -> Result<(), AllocError> {
             ..
         } => {
             push_place_page(text, "map", place, page)?;
-            write!(text, "0x{ppn:x} ")?;
+            text.push_str("0x")?;
+            push_hexadecimal(text, ppn)?;
+            text.push_str(" ")?;
             push_flags(text, flags)
         }
         Event::Unmap {
@@ -162,6 +182,37 @@ fn push_edit(text: &mut String, event: &Event) -> Result<(), AllocError> {
     }
 }
 
+/// Adds a word, a ticket and a hart.
+fn push_ticket_hart(
+    text: &mut String,
+    word: &str,
+    ticket: u32,
+    hart: u8,
+) -> Result<(), AllocError> {
+    push_number(text, word, u64::from(ticket))?;
+    push_number(text, " ", u64::from(hart))
+}
+
+/// Adds the words of a step of which the words behind its name are numbers.
+fn push_numbered(text: &mut String, event: &Event) -> Result<(), AllocError> {
+    match *event {
+        Event::Switch { space, .. } => push_number(text, "switch ", u64::from(space)),
+        Event::Post { ticket, to, .. } => push_ticket_hart(text, "post ", ticket, to),
+        Event::Take { from, .. } => push_number(text, "take ", u64::from(from)),
+        Event::AckSelf { ticket, .. } => push_number(text, "ackself ", u64::from(ticket)),
+        Event::Collect { ticket, from, .. } => push_ticket_hart(text, "collect ", ticket, from),
+        Event::Finish { ticket, .. } => push_number(text, "finish ", u64::from(ticket)),
+        Event::Close { to, .. } => push_number(text, "close ", u64::from(to)),
+        Event::Retire { space, .. } => push_number(text, "retire ", u64::from(space)),
+        Event::Reclaim { space, .. } => push_number(text, "reclaim ", u64::from(space)),
+        Event::Create { space, asid, .. } => {
+            push_number(text, "create ", u64::from(space))?;
+            push_number(text, " ", u64::from(asid))
+        }
+        _ => push_edit(text, event),
+    }
+}
+
 /// Adds the words of a step, without its hart, as a file has them.
 fn push_event(text: &mut String, event: &Event) -> Result<(), AllocError> {
     match *event {
@@ -172,20 +223,10 @@ fn push_event(text: &mut String, event: &Event) -> Result<(), AllocError> {
             ..
         } => push_begin(text, va, access, ctx),
         Event::Load { .. } => text.push_str("load"),
-        Event::Switch { space, .. } => write!(text, "switch {space}"),
         Event::Fence { rs1, rs2, .. } => push_fence(text, rs1, rs2),
-        Event::Post { ticket, to, .. } => write!(text, "post {ticket} {to}"),
-        Event::Take { from, .. } => write!(text, "take {from}"),
         Event::ServeFence { .. } => text.push_str("servefence"),
         Event::Ack { .. } => text.push_str("ack"),
-        Event::AckSelf { ticket, .. } => write!(text, "ackself {ticket}"),
-        Event::Collect { ticket, from, .. } => write!(text, "collect {ticket} {from}"),
-        Event::Finish { ticket, .. } => write!(text, "finish {ticket}"),
-        Event::Close { to, .. } => write!(text, "close {to}"),
-        Event::Retire { space, .. } => write!(text, "retire {space}"),
-        Event::Reclaim { space, .. } => write!(text, "reclaim {space}"),
-        Event::Create { space, asid, .. } => write!(text, "create {space} {asid}"),
-        _ => push_edit(text, event),
+        _ => push_numbered(text, event),
     }
 }
 

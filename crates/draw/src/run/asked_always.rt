@@ -130,6 +130,16 @@ fn made_run(alloc: Global, seed: u64) -> Result<String, AllocError> {
     Ok(text)
 }
 
+/// Ends the bars of mappings that are stale no more: each TLB is asked.
+fn drop_all(recorder: &mut Recorder, machine: &Machine, row: u32) -> Result<(), AllocError> {
+    let mut hart: u8 = 0;
+    for track in recorder.tracks.as_mut_slice() {
+        track.drop_over(machine, hart, row, &mut recorder.record.bars)?;
+        hart = hart.saturating_add(1);
+    }
+    Ok(())
+}
+
 /// Makes a step, and records it: after each it is asked which mappings are stale no more.
 fn step_asked(
     recorder: &mut Recorder,
@@ -143,7 +153,7 @@ fn step_asked(
     if !matches!(reply, Reply::Refused(_)) {
         recorder.note(row, event, &reply)?;
         recorder.note_items(row, items.as_slice())?;
-        recorder.note_drops(machine, row)?;
+        drop_all(recorder, machine, row)?;
     }
     recorder.add_row(event, reply)
 }
