@@ -70,7 +70,8 @@ fn may_change_at(event: &Event, reply: &Reply, hart: u8) -> bool
 /// Whether a step that got this reply can change which stale mappings the TLB of this hart holds.
 /// `false`: it holds just those after it that it held before it.
 pub fn may_end_stale_at(event: &Event, reply: &Reply, hart: u8) -> bool
-    ensures { result ≡ false → (setup : Setup) (history : History) (e : Entry) (page : Span)
+    ensures steps { result ≡ may_change_at event.now reply.now hart }
+    ensures kept { result ≡ false → (setup : Setup) (history : History) (e : Entry) (page : Span)
         (m : Mapping) → StaleIn setup (with_turn event.now reply.now history) hart e page m
         ↔ StaleIn setup history hart e page m }
 {

@@ -184,14 +184,6 @@ pub(crate) fn is_mapped<T: Tables>(tables: &T, scheme: Scheme, root: u64, entry:
     tables.is_mapped(scheme, root, entry)
 }
 
-// The tables of one of the roots have the entry.
-fn is_mapped_in_any<T: Tables>(tables: &T, scheme: Scheme, roots: &[u64], entry: &Entry) -> bool
-    ensures { result ≡ list_any (λ root. is_mapped scheme (T.words tables.now)
-        (record { root = root; entry = entry.now })) roots.now }
-{
-    tables.is_mapped_in_any(scheme, roots, entry)
-}
-
 // The tables of the root have the entry or, where it is global, those of one of the roots.
 pub(crate) fn is_current<T: Tables>(
     tables: &T,
@@ -204,7 +196,7 @@ pub(crate) fn is_current<T: Tables>(
         (record { root = root; entry = entry.now }) }
 {
     if entry.global {
-        is_mapped_in_any(tables, scheme, roots, entry)
+        tables.is_mapped_in_any(scheme, roots, entry)
     } else {
         is_mapped(tables, scheme, root, entry)
     }

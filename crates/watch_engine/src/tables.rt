@@ -85,9 +85,10 @@ pub trait Tables {
             ↔ IsMapped scheme (words self.now) (record { root = root; entry = entry.now }) };
 
     /// Whether the tables at two PPNs are known to have the same word at an index.
-    fn has_same_word(&self, _table: u64, _other: u64, _index: u16) -> bool
-        ensures { IsTrue result → words self.now _table _index ≡ words self.now _other _index }
+    fn has_same_word(&self, table: u64, other: u64, index: u16) -> bool
+        ensures { IsTrue result → words self.now table index ≡ words self.now other index }
     {
+        let _ = (table, other, index);
         false
     }
 

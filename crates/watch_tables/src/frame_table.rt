@@ -118,12 +118,13 @@ impl FrameTable {
         }
     }
 
-    /// Keeps a frame of which each word is 0 as a spare one, if that is not one too many.
+    /// Keeps a frame of which each word is 0 as a spare one, if that is not one too many: there are no
+    /// more than frames with words.
     fn keep(&mut self, frame: Frame)
         requires { (i : ℕ) → word_in frame i ≡ None }
         ensures { (k : ℕ) → frame_of self.new k ≡ frame_of self.old k }
     {
-        if self.spare.len() < SPARE_FRAMES {
+        if self.spare.len() < SPARE_FRAMES.min(self.row.len()) {
             let _ = self.spare.push(frame);
         }
     }
@@ -188,20 +189,20 @@ impl FrameTable {
         }
     }
 
-    /// The word at an index of the frame of a PPN, by the map.
+    /// The word at an index of the frame of a PPN that is not hinted first.
     #[cold]
     #[inline(never)]
     fn mapped_value(&self, ppn: u64, index: u16) -> u64
         requires { index < TABLE_LENGTH }
         ensures { result ≡ unwrap_or (value_of (word_of (frame_of self.now ppn) index)) 0 }
     {
-        match self.find(ppn) {
-            Some(frame) => frame.value(index),
+        match self.mapped_place(ppn) {
+            Some(place) => self.row[place].frame.value(index),
             None => 0,
         }
     }
 
-    /// The word at an index of the frame of a PPN: of the hinted frame, or else of that of the map.
+    /// The word at an index of the frame of a PPN.
     #[inline(always)]
     pub(crate) fn value(&self, ppn: u64, index: u16) -> u64
         requires { index < TABLE_LENGTH }
@@ -288,11 +289,22 @@ impl FrameTable {
         Some(gone.frame)
     }
 
+    /// Drops a spare frame where there are more of them than frames with words.
+    fn drop_spare(&mut self)
+        ensures frames { (k : ℕ) → frame_of self.new k ≡ frame_of self.old k }
+        ensures count { frame_count self.new ≡ frame_count self.old }
+    {
+        if self.spare.len() > self.row.len() {
+            let _spare = self.spare.pop();
+        }
+    }
+
     /// Counts a frame that has gone, and gives room back where three quarters of it are free.
     fn shrink(&mut self)
         ensures frames { (k : ℕ) → frame_of self.new k ≡ frame_of self.old k }
         ensures count { frame_count self.new ≡ frame_count self.old }
     {
+        self.drop_spare();
         self.hints.count_gone(self.row.as_slice());
         let (count, room) = (self.row.len(), self.row.capacity());
         if count >= room / 4 {

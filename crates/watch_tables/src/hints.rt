@@ -84,7 +84,7 @@ impl Hints {
         self.places[hash_of(self.places.len(), ppn)]
     }
 
-    /// Another place where the frame of a PPN may stand.
+    /// Another place where the frame of a PPN may stand; 0 where none is named.
     pub(crate) fn second(&self, ppn: u64) -> usize {
         if self.places.is_empty() {
             return 0;
