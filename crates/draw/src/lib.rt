@@ -9,6 +9,8 @@ mod lanes;
 mod layout;
 mod legend;
 mod picture;
+#[cfg(test)]
+mod random;
 mod record;
 mod recorder;
 mod rows;

@@ -18,7 +18,7 @@ use std::alloc::{AllocError, Global};
 use stepcore::{Event, Machine, Reply};
 
 #[cfg(test)]
-mod asked_always;
+pub mod asked_always;
 
 /// A run while it is recorded: what is open, and what has ended.
 #[derive(Drop)]

@@ -3,29 +3,13 @@
 
 use super::{Recorder, open};
 use crate::picture::{draw_text, write};
+use crate::random::Random;
 use crate::record::{Record, Span};
 use files::{Fault, RunScenario, read_run};
 use stale::{StaleAt, step_stale};
 use std::alloc::{AllocError, Global};
 use std::test::Fail;
 use stepcore::{Event, Machine, Reply};
-
-/// Numbers by a linear congruential generator.
-#[derive(Drop)]
-struct Random {
-    state: u64,
-}
-
-impl Random {
-    /// A number below a limit; 0 below 0.
-    fn below(&mut self, limit: u64) -> u64 {
-        self.state = self
-            .state
-            .wrapping_mul(6_364_136_223_846_793_005)
-            .wrapping_add(1_442_695_040_888_963_407);
-        (self.state >> 33) % limit.max(1)
-    }
-}
 
 /// The requests of order 0 of hart 0 to harts 1 and 2, from post to collect.
 const SHOT_DOWN: &str = "'0 post 0 1', '0 post 0 2', '0 ackself 0', '1 take 0', '2 take 0',
@@ -110,11 +94,11 @@ fn push_access(text: &mut String, random: &mut Random, at: u64) -> Result<(), Al
 }
 
 /// A file of a run of three harts in two spaces.
-fn made_run(alloc: Global, seed: u64) -> Result<String, AllocError> {
-    let mut random = Random { state: seed };
+pub fn made_run(alloc: Global, seed: u64, turns: u32) -> Result<String, AllocError> {
+    let mut random = Random::new(seed);
     let mut text = String::from_str(alloc, "harts = 3\nspaces = ['0 1', '0 2']\nsteps = [\n")?;
     let mut page = 0;
-    for _ in 0..1000_u32 {
+    for _ in 0..turns {
         match random.below(16) {
             0..=1 => page = some_page(&mut random),
             2..=6 => push_edit(&mut text, &mut random, page)?,
@@ -186,7 +170,7 @@ fn ended(record: &Record) -> usize {
 fn pictures_are_those_of_asking_always(rt: HostRuntime) -> Result<(), Fail> {
     let alloc = rt.alloc();
     for seed in 0..8_u64 {
-        let text = made_run(alloc, seed)?;
+        let text = made_run(alloc, seed, 1000)?;
         let Ok(scenario) = read_run(alloc, text.as_str()) else {
             return Err(Fail::from("the file is not read"));
         };
