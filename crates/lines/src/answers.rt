@@ -1,7 +1,7 @@
 //! The lines of the answers of translations.
 ghost use Rattle.std.specs.Prelude.{◌≡◌, ◌<◌, ◌^◌, ◌++◌, Err, OnOk, IfOk, codes, string_bytes};
 ghost use Rattle.pte.specs.declared.entry.TheConstants.{PPN_BITS};
-ghost use Rattle.lines.specs.AnswerLines.{global_text, line_of, size_text, trap_text, why_text, WritesLines};
+ghost use Rattle.lines.specs.AnswerLines.{global_text, line_of, size_text, why_text, WritesLines};
 
 use crate::numbers::{push_decimal, push_hexadecimal};
 use pte::{PageSize, Scheme};
@@ -57,25 +57,14 @@ fn push_page(text: &mut String, found: &Found) -> Result<(), AllocError>
     text.push_str("\n")
 }
 
-/// Adds the text of an exception.
-pub(crate) fn push_trap(text: &mut String, trap: Trap) -> Result<(), AllocError>
-    ensures ok { OnOk result (string_bytes text.new ≡ string_bytes text.old ++ trap_text trap) }
-{
-    text.push_str("trap ")?;
-    push_decimal(text, usize::from(trap.cause))?;
-    text.push_str(" ")?;
-    text.push_str(why_word(trap.why))
-}
-
 /// Adds the line of an exception.
-fn push_trap_line(text: &mut String, number: usize, trap: Trap) -> Result<(), AllocError>
+fn push_trap(text: &mut String, number: usize, trap: Trap) -> Result<(), AllocError>
     ensures ok { OnOk result (string_bytes text.new ≡ string_bytes text.old
         ++ line_of number (Err trap)) }
 {
-    push_decimal(text, number)?;
-    text.push_str(" ")?;
-    push_trap(text, trap)?;
-    text.push_str("\n")
+    let cause = trap.cause;
+    let why = why_word(trap.why);
+    writeln!(text, "{number} trap {cause} {why}")
 }
 
 /// Adds the line of an answer.
@@ -95,7 +84,7 @@ fn push_line(
             push_hexadecimal(text, found.pa)?;
             push_page(text, &found)
         }
-        Err(trap) => push_trap_line(text, number, trap),
+        Err(trap) => push_trap(text, number, trap),
     }
 }
 

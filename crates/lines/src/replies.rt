@@ -1,9 +1,8 @@
 //! The lines of the replies to steps.
-ghost use Rattle.std.specs.Prelude.{◌≡◌, ◌++◌, OnOk, IfOk, codes, false, string_bytes};
-ghost use Rattle.std.specs.Fmt.{decimal, digits};
+ghost use Rattle.std.specs.Prelude.{◌≡◌, ◌++◌, OnOk, IfOk, string_bytes};
 ghost use Rattle.lines.specs.ReplyLines.{harts_text, next_text, page_text, reach_text, refusal_text, reply_line, reply_lines, reply_text, request_text, what_text};
 
-use crate::answers::{push_trap, size_word};
+use crate::answers::{size_word, why_word};
 use crate::numbers::{push_decimal, push_hexadecimal};
 use history::{Refusal, Reply};
 use pte::{MAX_HARTS, Page, What};
@@ -56,10 +55,10 @@ fn push_hart(text: &mut String, is_first: bool, hart: u8) -> Result<(), AllocErr
         ++ next_text is_first hart) }
 {
     if is_first {
-        return push_decimal(text, usize::from(hart));
+        write!(text, "{hart}")
+    } else {
+        write!(text, ",{hart}")
     }
-    text.push_str(",")?;
-    push_decimal(text, usize::from(hart))
 }
 
 /// Adds the harts of a set, ascending, with commas between them.
@@ -80,18 +79,9 @@ pub fn push_harts(text: &mut String, set: HartSet) -> Result<(), AllocError>
 pub fn push_page(text: &mut String, page: Page) -> Result<(), AllocError>
     ensures ok { OnOk result (string_bytes text.new ≡ string_bytes text.old ++ page_text page) }
 {
-    text.push_str(size_word(page.size()))?;
-    text.push_str(":0x")?;
-    push_hexadecimal(text, page.base().get())
-}
-
-/// Adds an ASID.
-fn push_asid(text: &mut String, asid: u16) -> Result<(), AllocError>
-    ensures ok { OnOk result (string_bytes text.new ≡ string_bytes text.old ++ codes "asid "
-        ++ decimal asid) }
-{
-    text.push_str("asid ")?;
-    push_decimal(text, usize::from(asid))
+    let size = size_word(page.size());
+    let base = page.base().get();
+    write!(text, "{size}:0x{base:x}")
 }
 
 /// Adds where a page is dropped.
@@ -99,7 +89,7 @@ fn push_reach(text: &mut String, asid: Option<u16>) -> Result<(), AllocError>
     ensures ok { OnOk result (string_bytes text.new ≡ string_bytes text.old ++ reach_text asid) }
 {
     match asid {
-        Some(asid) => push_asid(text, asid),
+        Some(asid) => write!(text, "asid {asid}"),
         None => text.push_str("global"),
     }
 }
@@ -115,7 +105,7 @@ pub fn push_what(text: &mut String, what: What) -> Result<(), AllocError>
             text.push_str(" ")?;
             push_reach(text, asid)
         }
-        What::SpaceOf(asid) => push_asid(text, asid),
+        What::SpaceOf(asid) => write!(text, "asid {asid}"),
         What::All => text.push_str("all"),
     }
 }
@@ -124,20 +114,9 @@ fn push_request(text: &mut String, request: Request) -> Result<(), AllocError>
     ensures ok { OnOk result (string_bytes text.new ≡ string_bytes text.old
         ++ request_text request) }
 {
-    text.push_str("taken ")?;
-    push_decimal(text, request.ticket as usize)?;
-    text.push_str(" ")?;
+    let ticket = request.ticket;
+    write!(text, "taken {ticket} ")?;
     push_what(text, request.what)
-}
-
-/// Adds words, and a number in hexadecimal after them.
-#[inline(always)]
-fn push_number(text: &mut String, words: &str, n: u64) -> Result<(), AllocError>
-    ensures ok { OnOk result (string_bytes text.new ≡ string_bytes text.old ++ words.now
-        ++ digits 16 false n) }
-{
-    text.push_str(words)?;
-    push_hexadecimal(text, n)
 }
 
 /// Adds the text of a reply.
@@ -145,16 +124,23 @@ pub fn push_reply(text: &mut String, reply: Reply) -> Result<(), AllocError>
     ensures ok { OnOk result (string_bytes text.new ≡ string_bytes text.old ++ reply_text reply) }
 {
     match reply {
-        Reply::Hit(pa) => push_number(text, "hit 0x", pa),
-        Reply::Trap(trap) => push_trap(text, trap),
-        Reply::More => text.push_str("more"),
-        Reply::Filled(pa) => push_number(text, "fill 0x", pa),
-        Reply::Table(ppn) => push_number(text, "table 0x", ppn),
-        Reply::Leaf => text.push_str("leaf"),
-        Reply::Opened(ticket) => {
-            text.push_str("opened ")?;
-            push_decimal(text, ticket as usize)
+        Reply::Hit(pa) => {
+            text.push_str("hit 0x")?;
+            push_hexadecimal(text, pa)
         }
+        Reply::Trap(trap) => {
+            let cause = trap.cause;
+            let why = why_word(trap.why);
+            write!(text, "trap {cause} {why}")
+        }
+        Reply::More => text.push_str("more"),
+        Reply::Filled(pa) => {
+            text.push_str("fill 0x")?;
+            push_hexadecimal(text, pa)
+        }
+        Reply::Table(ppn) => write!(text, "table 0x{ppn:x}"),
+        Reply::Leaf => text.push_str("leaf"),
+        Reply::Opened(ticket) => write!(text, "opened {ticket}"),
         Reply::Ok => text.push_str("ok"),
         Reply::Taken(request) => push_request(text, request),
         Reply::Done => text.push_str("done"),
