@@ -1,5 +1,5 @@
-//! What a picture has many of: rows, heads of columns, and texts in them. Each is written in as few
-//! pieces as it has numbers, and a number that stands twice is made once.
+//! What a picture has many of: rows, heads of columns, and texts in them. Each is written in few
+//! pieces, and a number that stands twice is made once.
 
 ghost use Rattle.std.specs.Prelude.{ℕ, List, ◌≡◌, ◌<◌, ◌^◌, ◌++◌, OnOk, codes, string_bytes};
 ghost use Rattle.std.specs.Fmt.{decimal};
