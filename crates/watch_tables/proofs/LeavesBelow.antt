@@ -46,7 +46,7 @@ chosen : (n : ℕ) (x : Way) (test : Bool) → (n == 0) ≡ test → 0 < n → c
 chosen n x true is above none = let zero = eqb-true n 0 is in omega arith
 chosen n x false is above none = absurd (cc)
 
-none-pointed : (way : Way) (index : ℕ) (kind : Kind) (age : ℕ) (at : Reached) → way_from way index kind age ≡ None → 0 < way.level → pointed_from way.at.global kind ≡ Some at → ⊥
+pub none-pointed : (way : Way) (index : ℕ) (kind : Kind) (age : ℕ) (at : Reached) → way_from way index kind age ≡ None → 0 < way.level → pointed_from way.at.global kind ≡ Some at → ⊥
 none-pointed way index kind age at none above pointed =
     let below : Reached → Way = λ to. record { root = way.root; level = way.level - 1; vpn = way.vpn * 512 + index; at = to; since = later way.since age } in
     chosen way.level (below at) (way.level == 0) refl above (subst (λ o. cond (way.level == 0) None (option_map below o) ≡ None) pointed none)
@@ -56,7 +56,7 @@ pub by-level : (g : Bool) (kind : Kind) (sized level : ℕ) (made leaf : Option 
 by-level g kind sized level made leaf at by is = ap (λ k. leaf_from g (level_pages k) kind) (sym at) ∙ sym by ∙ is
 
 -- no word is a pointer and a leaf
-not-both : (g h : Bool) (pages : ℕ) (kind : Kind) (at : Reached) (leaf : Leaf) → pointed_from g kind ≡ Some at → leaf_from h pages kind ≡ Some leaf → ⊥
+pub not-both : (g h : Bool) (pages : ℕ) (kind : Kind) (at : Reached) (leaf : Leaf) → pointed_from g kind ≡ Some at → leaf_from h pages kind ≡ Some leaf → ⊥
 not-both g h pages kinds.Invalid at leaf p l = absurd (cc)
 not-both g h pages kinds.Reserved at leaf p l = absurd (cc)
 not-both g h pages (kinds.Table ppn on_it) at leaf p l = absurd (cc)
@@ -75,7 +75,7 @@ nowhere g kinds.Reserved at out is = absurd (cc)
 nowhere g (kinds.Table ppn on_it) at out is = absurd (cc)
 nowhere g (kinds.Leaf ppn flags) at out is = absurd (cc)
 
-no-leaf-some : (leaf : Leaf) → None ≡ Some leaf → ⊥
+pub no-leaf-some : (leaf : Leaf) → None ≡ Some leaf → ⊥
 no-leaf-some leaf is = absurd (cc)
 
 some_or_none : {X : Type 0} (o : Option X) → (o ≡ None) ⊎ ((x : X) × (o ≡ Some x))
@@ -126,7 +126,7 @@ module _ (scheme : Scheme) (words : Tables) (since : ℕ → ℕ → ℕ) (way :
       })
 
   -- a leaf at the index is the word there, or stands behind it
-  leaf-or-pointer : (x : RootLeaf) → IsLeafAt scheme words since way index x
+  pub leaf-or-pointer : (x : RootLeaf) → IsLeafAt scheme words since way index x
       → ((level_of x.entry.page.size ≡ way.level) × (leaf_from way.at.global (level_pages way.level) kind ≡ Some (leaf_of x.entry)))
       ⊎ ((level_of x.entry.page.size < way.level) × (next : Reached) × (pointed_from way.at.global kind ≡ Some next))
   leaf-or-pointer x leaf =
@@ -166,7 +166,7 @@ module _ (scheme : Scheme) (words : Tables) (since : ℕ → ℕ → ℕ) (way :
     abbrev pub here-leaf : RootLeaf
     here-leaf = record { root = way.root; entry = entry_at page leaf; since = later way.since age }
 
-    word-leaf-at : IsLeafAt scheme words since way index here-leaf
+    pub word-leaf-at : IsLeafAt scheme words since way index here-leaf
     word-leaf-at =
         let known = vpns-below page.base vpns in
         let reached = subst (λ k. IsReached scheme words way.root page.base k way.at) (sym level) (is_way.reached page.base known.0) in
@@ -209,7 +209,7 @@ module _ (scheme : Scheme) (words : Tables) (since : ℕ → ℕ → ℕ) (way :
         ]
 
   -- the leaves below the index
-  below-at : (next : Way) → IsNext way index kind age next → (x : RootLeaf) → IsLeafBelow scheme words since next x → IsLeafAt scheme words since way index x
+  pub below-at : (next : Way) → IsNext way index kind age next → (x : RootLeaf) → IsLeafBelow scheme words since next x → IsLeafAt scheme words since way index x
   below-at next below x leaf =
       let e : Entry = x.entry in
       let root : next.root ≡ way.root = ap (λ (w : Way). w.root) below.is in
@@ -221,7 +221,7 @@ module _ (scheme : Scheme) (words : Tables) (since : ℕ → ℕ → ℕ) (way :
       let known = vpns-below e.page.base (ap (λ k. vpn_from scheme k e.page.base) up ∙ leaf.vpn ∙ vpn) in
       record { below = record { root_is = leaf.root_is ∙ root; leaf = leaf.leaf; level = omega arith; vpn = known.0 }; index_is = known.1 }
 
-  at-below : (next : Way) → IsNext way index kind age next → (x : RootLeaf) → IsLeafAt scheme words since way index x → IsLeafBelow scheme words since next x
+  pub at-below : (next : Way) → IsNext way index kind age next → (x : RootLeaf) → IsLeafAt scheme words since way index x → IsLeafBelow scheme words since next x
   at-below next below x leaf =
       let e : Entry = x.entry in
       let root : next.root ≡ way.root = ap (λ (w : Way). w.root) below.is in

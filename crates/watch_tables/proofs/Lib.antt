@@ -15,4 +15,5 @@ pub mod PathSince
 pub mod Climbing
 pub mod WaysBelow
 pub mod LeavesBelow
+pub mod GlobalLeaves
 pub mod Gathering

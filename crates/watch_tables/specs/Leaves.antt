@@ -1,5 +1,5 @@
 -- The leaves at and below a table (privileged manual 4.3.2, virtual address translation process).
-use Rattle.std.specs.Prelude.{ℕ, ◌≡◌, ◌+◌, ◌≤◌, ◌↔◌}
+use Rattle.std.specs.Prelude.{ℕ, ◌≡◌, ◌+◌, ◌≤◌, ◌↔◌, IsTrue}
 use Rattle.pte.specs.declared.scheme.Scheme.{Scheme}
 use Rattle.pte.specs.Address.{level_of, vpn_of}
 use Rattle.walk.specs.Leads.{Tables}
@@ -31,3 +31,12 @@ pub record IsLeafAt (scheme : Scheme) (words : Tables) (since : ℕ → ℕ → 
     (x : RootLeaf) : Type 0 where
   pub below : IsLeafBelow scheme words since way x
   pub index_is : vpn_of x.entry.page.base way.level ≡ index
+
+-- each leaf at or below an index of the table is global, and each in the table or below it
+abbrev pub AreGlobalAt : Scheme → Tables → (ℕ → ℕ → ℕ) → Way → ℕ → Type 0
+AreGlobalAt scheme words since way index =
+    (x : RootLeaf) → IsLeafAt scheme words since way index x → IsTrue x.entry.global
+
+abbrev pub AreGlobalBelow : Scheme → Tables → (ℕ → ℕ → ℕ) → Way → Type 0
+AreGlobalBelow scheme words since way =
+    (x : RootLeaf) → IsLeafBelow scheme words since way x → IsTrue x.entry.global

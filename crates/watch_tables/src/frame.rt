@@ -1,10 +1,10 @@
 //! The words of one frame of memory.
 
 ghost use Rattle.std.specs.Prelude.{ℕ, ◌≡◌, ◌<◌, ◌≤◌, ◌==◌, if◌then◌else◌, length};
-ghost use Rattle.std.specs.Prelude.{IfOk, IfSome, IsTrue, None, Some};
+ghost use Rattle.std.specs.Prelude.{IfOk, IfSome, IsTrue, None, Some, false};
 ghost use Rattle.std.specs.List.{sum_by};
 ghost use Rattle.std.specs.Option.{unwrap_or};
-ghost use Rattle.watch_tables.specs.Stored.{filled_by, value_of, word_to_store};
+ghost use Rattle.watch_tables.specs.Stored.{filled_by, lacks_g, value_of, word_to_store};
 
 use pte::TABLE_LENGTH;
 use std::alloc::{AllocError, Global};
@@ -34,6 +34,15 @@ fn filled(stored: StoredWord) -> u64
     ensures { result ≡ filled_by stored }
 {
     if stored.word == 0 { 0 } else { 1 }
+}
+
+/// Whether a word has V, and no G: below a word that lacks V nothing is valid, and below one that has
+/// G everything is global.
+#[inline(always)]
+pub(crate) fn lacks_g(word: u64) -> bool
+    ensures { result ≡ lacks_g word }
+{
+    word % 2 == 1 && word / 32 % 2 == 0
 }
 
 impl Frame {
@@ -104,6 +113,25 @@ impl Frame {
         for index in from..TABLE_LENGTH {
             if let Some(stored) = self.word(index) {
                 return Some((index, stored));
+            }
+        }
+        None
+    }
+
+    /// The first index from `from` on at which a word lacks G, and what is stored there.
+    pub(crate) fn next_lacking_g(&self, from: u16) -> Option<(u16, StoredWord)>
+        requires { from ≤ TABLE_LENGTH }
+        ensures from { IfSome result (λ next. from ≤ next.0) }
+        ensures below { IfSome result (λ next. next.0 < TABLE_LENGTH) }
+        ensures present { IfSome result (λ next. word_in self.now next.0 ≡ Some next.1) }
+        ensures skipped { IfSome result (λ next. (n : ℕ) → from ≤ n → n < next.0
+            → lacks_g (unwrap_or (value_of (word_in self.now n)) 0) ≡ false) }
+        ensures none { result ≡ None → (n : ℕ) → from ≤ n → n < TABLE_LENGTH
+            → lacks_g (unwrap_or (value_of (word_in self.now n)) 0) ≡ false }
+    {
+        for index in from..TABLE_LENGTH {
+            if lacks_g(self.value(index)) {
+                return Some((index, self.words[usize::from(index)]));
             }
         }
         None

@@ -69,6 +69,14 @@ impl Leaf {
         }
     }
 
+    /// Whether G is set in the leaf or in a pointer above it.
+    #[inline(always)]
+    pub(crate) fn is_global(self) -> bool
+        ensures { result ≡ self.global }
+    {
+        self.global
+    }
+
     /// The entry of a TLB for the leaf of a page, with ASID 0.
     pub(crate) fn entry(self, page: Page) -> Entry
         ensures { result ≡ entry_at page self }

@@ -5,6 +5,7 @@
 mod any_root;
 mod frame;
 mod frame_table;
+mod global;
 mod hints;
 mod laws;
 mod leaf;

@@ -119,7 +119,7 @@ impl PageTables {
     ghost use Rattle.walk.specs.Leads.{PointsTo};
     ghost use Rattle.watch_tables.specs.Words.{AreFilled, since, word_number, words};
     ghost use Rattle.watch_tables.specs.Climbs.{IsPointer};
-    ghost use Rattle.watch_tables.specs.Stored.{since_of, value_of};
+    ghost use Rattle.watch_tables.specs.Stored.{lacks_g, since_of, value_of};
 
     /// Memory of which nothing is stored.
     pub fn new(alloc: Global) -> PageTables
@@ -231,6 +231,28 @@ impl PageTables {
         }
         match self.frames.find(table) {
             Some(frame) => frame.next_word(from),
+            None => None,
+        }
+    }
+
+    /// The first index from `from` on at which a word of the table at a PPN lacks G, and what is stored
+    /// there.
+    pub(crate) fn next_lacking_g(&self, table: u64, from: u16) -> Option<(u16, StoredWord)>
+        requires { from ≤ TABLE_LENGTH }
+        ensures from { IfSome result (λ next. from ≤ next.0) }
+        ensures below { IfSome result (λ next. next.0 < TABLE_LENGTH) }
+        ensures skipped { IfSome result (λ next. (n word : ℕ) → from ≤ n → n < next.0
+            → words self.now table n ≡ Some word → lacks_g word ≡ false) }
+        ensures word { IfSome result (λ next. words self.now table next.0 ≡ Some next.1.word) }
+        ensures since { IfSome result (λ next. since self.now table next.0 ≡ next.1.since) }
+        ensures none { result ≡ None → (n word : ℕ) → from ≤ n → n < TABLE_LENGTH
+            → words self.now table n ≡ Some word → lacks_g word ≡ false }
+    {
+        if table >= FRAME_LIMIT {
+            return None;
+        }
+        match self.frames.find(table) {
+            Some(frame) => frame.next_lacking_g(from),
             None => None,
         }
     }
