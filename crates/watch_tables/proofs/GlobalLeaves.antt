@@ -1,5 +1,5 @@
 -- Whether the leaves at an index of the table of a way, and below it, are global.
-use Rattle.std.proofs.Common.{◌≡◌, ℕ, zero, suc, ◌+◌, ◌-◌, ◌*◌, ◌%◌, ◌^◌, ◌<◌, ◌≤◌, Bool, true, false, Option, Some, None, IsTrue, cond, ap, sym, ◌∙◌, subst, refl, inl, inr, arith}
+use Rattle.std.proofs.Common.{◌≡◌, ℕ, zero, suc, ◌+◌, ◌-◌, ◌*◌, ◌/◌, ◌%◌, ◌^◌, ◌<◌, ◌≤◌, Bool, true, false, Option, Some, None, IsTrue, cond, ap, sym, ◌∙◌, subst, refl, inl, inr, arith}
 use Rattle.std.specs.Prelude.{◌↔◌, ◌==◌, not}
 use Rattle.std.proofs.lemmas.Nat.{mul-add-lt, pow-add}
 use Rattle.std.proofs.lemmas.Bool.{and_cases, cases_lt, cond-true, not-false}
@@ -192,3 +192,46 @@ module _ (scheme : Scheme) (words : Tables) (since : ℕ → ℕ → ℕ) (way :
         | inl here ↦ absurd (no-leaf-some (leaf_of x.entry) (sym no_leaf ∙ here.1))
         | inr there ↦ let lower = there.0 in absurd (none-pointed way index kind age there.1 no_pointer (omega arith) there.2)
       ]
+
+-- from a root
+module _ (scheme : Scheme) (words : Tables) (since : ℕ → ℕ → ℕ) (root index : ℕ) where
+  pub root-is-way : IsWay scheme words since (way_to root (top_level scheme))
+  root-is-way = way-from-root scheme words since (top_level scheme) (way_to root (top_level scheme)) (starts scheme words since root (top_level scheme) (omega arith)) refl
+
+  abbrev pub AreRootGlobal : Type 0
+  AreRootGlobal = (e : Entry) → HasLeaf scheme words root e → vpn_of e.page.base (top_level scheme) ≡ index → e.global ≡ true
+
+  -- there are no VPNs above the root's
+  none-above : (va : ℕ) → vpn_from scheme (top_level scheme + 1) va ≡ 0
+  none-above va =
+      let none : 9 * (top_level scheme + 1 - (top_level scheme + 1)) ≡ 0 = omega arith in
+      let one : (n : ℕ) → n % 2 ^ 0 ≡ 0 = λ n. omega arith in
+      ap (λ k. va / level_bytes (top_level scheme + 1) % 2 ^ k) none ∙ one (va / level_bytes (top_level scheme + 1))
+
+  pub root-leaves : AreGlobalAt scheme words since (way_to root (top_level scheme)) index → AreRootGlobal
+  root-leaves all e has asked =
+      let age = since-known scheme words since root e.page.base (level_of e.page.size) has.table (Some has.word) has.leads in
+      let plain : Entry = record { asid = 0; global = e.global; page = e.page; ppn = e.ppn; flags = e.flags } in
+      all (record { root = root; entry = plain; since = age.0 }) (record {
+        below = record {
+          root_is = refl;
+          leaf = record {
+            asid = refl;
+            leaf = record { table = has.table; word = has.word; page = has.page; leads = has.leads; kind = has.kind; aligned = has.aligned; global = has.global };
+            since_is = age.1;
+          };
+          level = has.page.level;
+          vpn = none-above e.page.base;
+        };
+        index_is = asked;
+      })
+
+  pub root-iff : (way : Way) (g : Bool) → way ≡ way_to root (top_level scheme) → (IsTrue g ↔ AreGlobalAt scheme words since way index) → IsTrue g ↔ AreRootGlobal
+  root-iff way g is known =
+      let at = subst (λ (w : Way). IsTrue g ↔ AreGlobalAt scheme words since w index) is known in (
+        (λ on. root-leaves (at.0 on)),
+        (λ all. at.1 (λ x leaf. all x.entry (subst (λ r. HasLeaf scheme words r x.entry) leaf.below.root_is leaf.below.leaf.leaf) leaf.index_is)),
+      )
+
+  pub root-unless : (word : ℕ) → index < 512 → words root index ≡ Some word → lacks_g word ≡ false → AreRootGlobal
+  root-unless word small is has = root-leaves (global-unless scheme words since (way_to root (top_level scheme)) root-is-way index word small is has)
