@@ -1,6 +1,6 @@
 -- Whether the leaves at an index of the table of a way, and below it, are global.
-use Rattle.std.proofs.Common.{◌≡◌, ℕ, zero, suc, ◌+◌, ◌-◌, ◌*◌, ◌/◌, ◌%◌, ◌^◌, ◌<◌, ◌≤◌, Bool, true, false, Option, Some, None, IsTrue, cond, ap, sym, ◌∙◌, subst, refl, inl, inr, arith}
-use Rattle.std.specs.Prelude.{◌↔◌, ◌==◌, not}
+use Rattle.std.proofs.Common.{◌≡◌, ℕ, zero, suc, ◌+◌, ◌-◌, ◌*◌, ◌/◌, ◌%◌, ◌^◌, ◌<◌, ◌≤◌, Bool, true, false, Some, None, IsTrue, ap, sym, ◌∙◌, subst, refl, inl, inr, arith}
+use Rattle.std.specs.Prelude.{◌↔◌, not}
 use Rattle.std.proofs.lemmas.Nat.{mul-add-lt, pow-add}
 use Rattle.std.proofs.lemmas.Bool.{and_cases, cases_lt, cond-true, not-false}
 use Rattle.pte.specs.declared.scheme.Scheme.{Scheme}
@@ -11,19 +11,18 @@ use Rattle.pte.specs.declared.entry.Kind.{Kind}
 use Rattle.pte.specs.declared.entry.Kind.TheVariants as kinds
 use Rattle.pte.specs.Address.{IsCanonical, IsPageOf, Span, address_bits, level_bytes, level_of, level_pages, top_level, vpn_of}
 use Rattle.pte.specs.Entry.{is_global, is_valid, kind_of}
-use Rattle.walk.specs.Leads.{Tables, Leads, word_at}
+use Rattle.walk.specs.Leads.{Tables, Leads}
 use Rattle.tlb.specs.declared.store.Entry.{Entry}
 use Rattle.watch.specs.Holding.{HasLeaf}
 use Rattle.watch_tables.specs.declared.leaf.Leaf.{Leaf}
 use Rattle.watch_tables.specs.declared.leaf.RootLeaf.{RootLeaf}
 use Rattle.watch_tables.specs.declared.way.Way.{Way}
-use Rattle.watch_tables.specs.Leaves.{AreGlobalAt, AreGlobalBelow, IsLeafAt, IsLeafBelow}
-use Rattle.watch_tables.specs.Paths.{entry_at, kind_in, leaf_from, leaf_of}
+use Rattle.watch_tables.specs.Leaves.{AreGlobalAt, AreGlobalBelow, IsLeafBelow}
+use Rattle.watch_tables.specs.Paths.{kind_in, leaf_from, leaf_of}
 use Rattle.watch_tables.specs.Stored.{lacks_g}
-use Rattle.watch_tables.specs.Ways.{IsInLevels, IsWay, vpn_from, way_from, way_to}
+use Rattle.watch_tables.specs.Ways.{IsWay, vpn_from, way_from, way_to}
 use Rattle.watch_tables.proofs.Climbing.{starts, way-from-root}
 use Rattle.watch_tables.proofs.LeavesBelow.{at-below, below-at, leaf-or-pointer, next-is, no-leaf-some, none-pointed, not-both, nothing-at, word-leaf-at}
-use Rattle.watch_tables.proofs.Numbers.{vpn-next}
 use Rattle.watch_tables.proofs.PathSince.{since-known}
 
 -- a canonical address has any bits that an address may have

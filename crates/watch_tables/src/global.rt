@@ -19,14 +19,7 @@ impl PageTables {
     /// Whether each leaf at or below an index of the table of a way is global. The word there is of
     /// this kind, and was stored when there had been this number of records.
     #[cycle(are_global_below)]
-    fn are_global_at(
-        &self,
-        scheme: Scheme,
-        way: Way,
-        index: u16,
-        kind: Kind,
-        records: u64,
-    ) -> bool
+    fn are_global_at(&self, scheme: Scheme, way: Way, index: u16, kind: Kind, records: u64) -> bool
         requires way { IsWay scheme (words self.now) (since self.now) way }
         requires index { index < TABLE_LENGTH }
         requires kind { kind ≡ kind_in (words self.now way.at.table index) }

@@ -40,8 +40,8 @@ fn hash_of(count: usize, ppn: u64) -> usize
     (ppn.wrapping_mul(SPREAD) >> 32 & (count as u64 - 1)) as usize
 }
 
-/// Sets the first hint of a PPN, if none of its two is of that place. What the first was of goes to the
-/// second, if that is free.
+/// Makes a place the first hint of a PPN, if neither of its two hints is that place yet. The hint that
+/// stood there goes to the second, if that is free. Where there are no hints, nothing is done.
 fn set(places: &mut [usize], ppn: u64, place: usize)
     ensures own { IsIn places.new ppn }
     ensures kept { (k : ℕ) → IsIn places.old k → IsIn places.new k }
@@ -84,7 +84,8 @@ impl Hints {
         self.places[hash_of(self.places.len(), ppn)]
     }
 
-    /// Another place where the frame of a PPN may stand; 0 where none is named.
+    /// The second hint of a PPN: another place where its frame may stand, or `NO_PLACE` where that hint
+    /// is free; 0 where there is no second hint.
     pub(crate) fn second(&self, ppn: u64) -> usize {
         if self.places.is_empty() {
             return 0;

@@ -40,7 +40,7 @@ impl Reached {
 }
 
 impl PageTables {
-    /// The kind of the word at an index, below 512, of the table at a PPN.
+    /// The kind of the word at an index of the table at a PPN.
     #[inline(always)]
     fn kind(&self, table: u64, index: u16) -> Kind
         ensures { result ≡ kind_in (words self.now table index) }

@@ -1,5 +1,4 @@
 use Rattle.std.proofs.Common.{◌∙◌, ap, refl, subst, sym, arith}
-use Rattle.pte.specs.Address.{top_level}
 use Rattle.watch_tables.specs.declared.way.Way.{Way}
 use Rattle.watch_tables.specs.Words.{since, words}
 use Rattle.watch_tables.specs.Ways.{IsWay, way_to}
