@@ -18,8 +18,7 @@ use Rattle.watch_tables.specs.declared.leaf.Leaf.{Leaf}
 use Rattle.watch_tables.specs.declared.leaf.RootLeaf.{RootLeaf}
 use Rattle.watch_tables.specs.declared.way.Way.{Way}
 use Rattle.watch_tables.specs.Leaves.{AreGlobalAt, AreGlobalBelow, IsLeafBelow}
-use Rattle.watch_tables.specs.Paths.{kind_in, leaf_from, leaf_of}
-use Rattle.watch_tables.specs.Stored.{lacks_g}
+use Rattle.watch_tables.specs.Paths.{kind_in, lacks_g, leaf_from, leaf_of}
 use Rattle.watch_tables.specs.Ways.{IsWay, vpn_from, way_from, way_to}
 use Rattle.watch_tables.proofs.Climbing.{starts, way-from-root}
 use Rattle.watch_tables.proofs.LeavesBelow.{at-below, below-at, leaf-or-pointer, next-is, no-leaf-some, none-pointed, not-both, nothing-at, word-leaf-at}

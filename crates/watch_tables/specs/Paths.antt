@@ -1,12 +1,12 @@
 -- The tables and leaves that a path leads to (privileged manual 4.3.2, virtual address translation
 -- process, steps 1 to 6; 4.3.1, G).
 use Rattle.std.specs.Prelude.{ℕ, Bool, ◌≡◌, ◌≤◌, ◌+◌, ◌%◌, ◌==◌, ◌||◌, ◌↔◌, if◌then◌else◌, Option, Some}
-use Rattle.std.specs.Prelude.{None, IsTrue, true, false}
+use Rattle.std.specs.Prelude.{◌&&◌, not, None, IsTrue, true, false}
 use Rattle.pte.specs.declared.scheme.Scheme.{Scheme}
 use Rattle.pte.specs.declared.entry.Kind.{Kind}
 use Rattle.pte.specs.declared.entry.Kind.TheVariants as kinds
 use Rattle.pte.specs.Address.{Span, level_of, vpn_of}
-use Rattle.pte.specs.Entry.{kind_of, is_global}
+use Rattle.pte.specs.Entry.{kind_of, is_global, is_valid}
 use Rattle.walk.specs.Leads.{Tables, word_at, Leads, IsGlobalAt}
 use Rattle.tlb.specs.declared.store.Entry.{Entry}
 use Rattle.watch.specs.Staleness.{Permit}
@@ -51,6 +51,10 @@ is_leading kinds.Invalid = false
 is_leading kinds.Reserved = false
 is_leading (kinds.Table ppn global) = true
 is_leading (kinds.Leaf ppn flags) = true
+
+-- the word may be a leaf or a pointer without G: V is set, and G is clear
+abbrev pub lacks_g : ℕ → Bool
+lacks_g word = is_valid word && not (is_global word)
 
 -- the leaf that an entry of a kind is, for a page of this many pages of 4 KiB, if it is aligned
 abbrev pub leaf_from : Bool → ℕ → Kind → Option Leaf

@@ -3,7 +3,7 @@ use Rattle.std.specs.Prelude.{ℕ, Bool, false, nat_lt, ◌*◌, ◌==◌, ◌&&
 use Rattle.pte.specs.declared.address.TheConstants.{TABLE_LENGTH}
 use Rattle.pte.specs.declared.entry.Kind.{Kind}
 use Rattle.pte.specs.declared.entry.Kind.TheVariants as kinds
-use Rattle.pte.specs.Entry.{is_global, is_valid, kind_of}
+use Rattle.pte.specs.Entry.{kind_of}
 use Rattle.watch_tables.specs.declared.tables.TheConstants.{FRAME_LIMIT}
 use Rattle.watch_tables.specs.declared.frame.StoredWord.{StoredWord}
 
@@ -23,10 +23,6 @@ value_of (Some s) = Some s.word
 abbrev pub since_of : Option StoredWord → ℕ
 since_of None = 0
 since_of (Some s) = s.since
-
--- V is set in the word, and G is clear
-abbrev pub lacks_g : ℕ → Bool
-lacks_g word = is_valid word && not (is_global word)
 
 -- the table that it points to
 abbrev pub table_of_kind : Kind → Option ℕ

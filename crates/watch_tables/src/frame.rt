@@ -4,8 +4,9 @@ ghost use Rattle.std.specs.Prelude.{ℕ, ◌≡◌, ◌<◌, ◌≤◌, ◌==◌
 ghost use Rattle.std.specs.Prelude.{IfOk, IfSome, IsTrue, None, Some, false};
 ghost use Rattle.std.specs.List.{sum_by};
 ghost use Rattle.std.specs.Option.{unwrap_or};
-ghost use Rattle.watch_tables.specs.Stored.{filled_by, lacks_g, value_of, word_to_store};
+ghost use Rattle.watch_tables.specs.Stored.{filled_by, value_of, word_to_store};
 
+use crate::leaf::lacks_g;
 use pte::TABLE_LENGTH;
 use std::alloc::{AllocError, Global};
 
@@ -36,17 +37,9 @@ fn filled(stored: StoredWord) -> u64
     if stored.word == 0 { 0 } else { 1 }
 }
 
-/// Whether a word has V, and no G: below a word that lacks V nothing is valid, and below one that has
-/// G everything is global.
-#[inline(always)]
-pub(crate) fn lacks_g(word: u64) -> bool
-    ensures { result ≡ lacks_g word }
-{
-    word % 2 == 1 && word / 32 % 2 == 0
-}
-
 impl Frame {
     ghost use Rattle.watch_tables.specs.InFrame.{word_in};
+    ghost use Rattle.watch_tables.specs.Paths.{lacks_g};
 
     /// A frame of which each word is 0.
     pub(crate) fn new(alloc: Global) -> Result<Frame, AllocError>

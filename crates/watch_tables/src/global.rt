@@ -9,8 +9,7 @@ ghost use Rattle.watch_tables.specs.Paths.{kind_in};
 ghost use Rattle.watch_tables.specs.Ways.{IsWay};
 ghost use Rattle.watch_tables.specs.Leaves.{AreGlobalAt, AreGlobalBelow};
 
-use crate::frame::lacks_g;
-use crate::leaf::Leaf;
+use crate::leaf::{Leaf, lacks_g};
 use crate::tables::PageTables;
 use crate::way::Way;
 use pte::{Kind, PageSize, Pte, Scheme, TABLE_LENGTH};

@@ -3,10 +3,13 @@
 ghost use Rattle.std.specs.Prelude.{◌≡◌, ◌↔◌, IsTrue};
 ghost use Rattle.pte.specs.Address.{pages_of};
 ghost use Rattle.watch.specs.Staleness.{Permit};
-ghost use Rattle.watch_tables.specs.Paths.{is_leading};
+ghost use Rattle.watch_tables.specs.Paths.{is_leading, lacks_g};
 
 use pte::{Kind, Page, PageSize, PteFlags};
 use tlb::Entry;
+
+/// G in the word of an entry.
+const GLOBAL: u64 = 0x20;
 
 /// What the leaf of a page has.
 #[derive(Clone, Copy, PartialEq, Eq, Debug)]
@@ -48,6 +51,14 @@ pub(crate) fn leads_on(kind: Kind) -> bool
         Kind::Invalid | Kind::Reserved => false,
         Kind::Table { .. } | Kind::Leaf { .. } => true,
     }
+}
+
+/// Whether the word of an entry may be a leaf or a pointer without G: V is set in it, and G is not.
+#[inline(always)]
+pub(crate) fn lacks_g(word: u64) -> bool
+    ensures { result ≡ lacks_g word }
+{
+    word % 2 == 1 && word / GLOBAL % 2 == 0
 }
 
 impl Leaf {

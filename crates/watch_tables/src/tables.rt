@@ -119,7 +119,8 @@ impl PageTables {
     ghost use Rattle.walk.specs.Leads.{PointsTo};
     ghost use Rattle.watch_tables.specs.Words.{AreFilled, since, word_number, words};
     ghost use Rattle.watch_tables.specs.Climbs.{IsPointer};
-    ghost use Rattle.watch_tables.specs.Stored.{lacks_g, since_of, value_of};
+    ghost use Rattle.watch_tables.specs.Stored.{since_of, value_of};
+    ghost use Rattle.watch_tables.specs.Paths.{lacks_g};
 
     /// Memory of which nothing is stored.
     pub fn new(alloc: Global) -> PageTables

@@ -1,7 +1,8 @@
 use Rattle.std.proofs.Common.{ℕ, ◌≡◌, ◌<◌, ◌≤◌, false}
 use Rattle.std.specs.Option.{unwrap_or}
 use Rattle.watch_tables.specs.InFrame.{word_in}
-use Rattle.watch_tables.specs.Stored.{lacks_g, value_of}
+use Rattle.watch_tables.specs.Paths.{lacks_g}
+use Rattle.watch_tables.specs.Stored.{value_of}
 use Rattle.watch_tables.proofs.frame.Frame.next_lacking_g.Given as goal
 
 -- no word before this one lacks G
