@@ -117,6 +117,7 @@ impl Frame {
         ensures from { IfSome result (λ next. from ≤ next.0) }
         ensures below { IfSome result (λ next. next.0 < TABLE_LENGTH) }
         ensures present { IfSome result (λ next. word_in self.now next.0 ≡ Some next.1) }
+        ensures lacks { IfSome result (λ next. IsTrue (lacks_g next.1.word)) }
         ensures skipped { IfSome result (λ next. (n : ℕ) → from ≤ n → n < next.0
             → lacks_g (unwrap_or (value_of (word_in self.now n)) 0) ≡ false) }
         ensures none { result ≡ None → (n : ℕ) → from ≤ n → n < TABLE_LENGTH

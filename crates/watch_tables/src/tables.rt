@@ -242,6 +242,7 @@ impl PageTables {
         requires { from ≤ TABLE_LENGTH }
         ensures from { IfSome result (λ next. from ≤ next.0) }
         ensures below { IfSome result (λ next. next.0 < TABLE_LENGTH) }
+        ensures lacks { IfSome result (λ next. IsTrue (lacks_g next.1.word)) }
         ensures skipped { IfSome result (λ next. (n word : ℕ) → from ≤ n → n < next.0
             → words self.now table n ≡ Some word → lacks_g word ≡ false) }
         ensures word { IfSome result (λ next. words self.now table next.0 ≡ Some next.1.word) }
