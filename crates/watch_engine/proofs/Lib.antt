@@ -39,3 +39,4 @@ pub mod Dropping
 pub mod Emptying
 pub mod Staying
 pub mod Untouched
+pub mod NothingAdded

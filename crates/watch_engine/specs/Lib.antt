@@ -19,3 +19,4 @@ pub mod Concerns
 pub mod Filling
 pub mod Slots
 pub mod Shared
+pub mod Unseen

@@ -28,6 +28,7 @@ mod slot;
 mod slots;
 mod tables;
 mod touched;
+mod unseen;
 mod warning;
 mod worked_warnings;
 

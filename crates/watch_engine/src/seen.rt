@@ -23,6 +23,7 @@ use crate::past_fences::PastFences;
 use crate::satps::{Harts, harts_of_root, satp_in};
 use crate::shared::{HARTS, answers_below, are_alike, are_all_live, are_beside, begins_beside};
 use crate::tables::Tables;
+use crate::unseen::adds_nothing;
 use pte::Scheme;
 use std::alloc::{AllocError, Global};
 use watch::Space;
@@ -455,6 +456,9 @@ pub(crate) fn add_seen<T: Tables>(
         (index_of address) e.page) seen.old.items seen.new.items) }
 {
     let ways = tables.ways(alloc, scheme, address)?;
+    if adds_nothing(tables, scheme, satps, left, address, ways.as_slice()) {
+        return Ok(ways);
+    }
     let leaves = tables.leaves_through(alloc, scheme, address, ways.as_slice())?;
     add_leaves(
         seen,

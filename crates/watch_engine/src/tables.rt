@@ -1,7 +1,8 @@
 //! The page tables of a trace.
 
-ghost use Rattle.std.specs.Prelude.{ℕ, ◌≡◌, ◌≤◌, ◌↔◌, Option, Some, OnOk, OnErr, IfOk, Contains, IsTrue, false};
+ghost use Rattle.std.specs.Prelude.{ℕ, ◌≡◌, ◌≤◌, ◌↔◌, Option, Some, OnOk, OnErr, IfOk, Contains, IsTrue, false, true};
 ghost use Rattle.std.specs.List.{list_any};
+ghost use Rattle.pte.specs.Address.{top_level, vpn_of};
 ghost use Rattle.pte.specs.declared.scheme.Scheme.{Scheme as SchemeOf};
 ghost use Rattle.tlb.specs.declared.store.Entry.{Entry as EntryOf};
 ghost use Rattle.walk.specs.Maps.{page_number};
@@ -92,7 +93,17 @@ pub trait Tables {
         false
     }
 
-    /// The same of the tables under one of these roots.
+    /// Whether each leaf whose path passes through the word at an index of a root is known to be
+    /// global.
+    fn are_leaves_global(&self, scheme: Scheme, root: u64, index: u16) -> bool
+        ensures { IsTrue result → (e : EntryOf) → HasLeaf scheme (words self.now) root e
+            → vpn_of e.page.base (top_level scheme) ≡ index → e.global ≡ true }
+    {
+        let _ = (scheme, root, index);
+        false
+    }
+
+    /// Whether the tables under one of these roots map what the entry says, with at least its rights.
     fn is_mapped_in_any(&self, scheme: Scheme, roots: &[u64], entry: &Entry) -> bool
         ensures { result ≡ list_any (λ root. is_mapped scheme (words self.now)
             (record { root = root; entry = entry.now })) roots.now }

@@ -1,0 +1,9 @@
+use Rattle.std.proofs.Common.{None, drop, get_or}
+use Rattle.watch_engine.specs.Left.{EachLeft}
+use Rattle.watch_engine.specs.Unseen.{HasWordOf}
+use Rattle.watch_engine.proofs.unseen.have_word_of.Given as goal
+
+abbrev pub invariant-loop-space : goal.invariant-loop-space
+invariant-loop-space g l =
+    EachLeft (λ left. HasWordOf (g.T.Tables.words l.tables) l.root l.index (get_or l.satps left.hart None)) (drop l.space-index l.left)
+    → EachLeft (λ left. HasWordOf (g.T.Tables.words l.tables) l.root l.index (get_or l.satps left.hart None)) l.left

@@ -1,0 +1,116 @@
+//! Words of a root of whose leaves nothing is to be remembered.
+
+ghost use Rattle.std.specs.Prelude.{ℕ, ◌≡◌, IsTrue, List, None, false, get_or};
+ghost use Rattle.tlb.specs.declared.store.Entry.{Entry as EntryOf};
+ghost use Rattle.walk.specs.Maps.{page_number};
+ghost use Rattle.watch.specs.Trace.{has_root, index_of};
+ghost use Rattle.watch_engine.specs.declared.held.LastLive.{LastLive as LastLiveOf};
+ghost use Rattle.watch_engine.specs.declared.left.PastFence.{PastFence as PastFenceOf};
+ghost use Rattle.watch_engine.specs.Left.{EachLeft};
+ghost use Rattle.watch_engine.specs.Seen.{AreAdded};
+ghost use Rattle.watch_engine.specs.Unseen.{FillsBelow, HasWordOf};
+ghost use Rattle.watch_tables.specs.Through.{Passes};
+ghost use Rattle.watch_tables.specs.Ways.{AreWays};
+
+use crate::left::Left;
+use crate::left_spaces::LeftSpaces;
+use crate::satps::{harts_of_root, satp_in};
+use crate::shared::HARTS;
+use crate::tables::Tables;
+use crate::touched::WORD_BYTES;
+use pte::{PAGE_BYTES, Scheme};
+use watch::Space;
+use watch_tables::Way;
+
+// The index of the word at an address in the table that its frame is.
+fn index_of(address: u64) -> u16
+    ensures { result ≡ index_of address }
+{
+    (address % PAGE_BYTES / WORD_BYTES) as u16
+}
+
+// No hart has the root in its satp.
+fn is_in_no_satp(satps: &[Option<Space>], root: u64) -> bool
+    ensures { IsTrue result → (hart : ℕ) → has_root (get_or satps.now hart None) root ≡ false }
+{
+    let harts = harts_of_root(satps, root);
+    harts.first == harts.end
+}
+
+// There is a space, and its root has the word of this root at the index.
+fn has_word_of<T: Tables>(tables: &T, space: Option<Space>, root: u64, index: u16) -> bool
+    ensures { IsTrue result → HasWordOf (T.words tables.now) root index space }
+{
+    match space {
+        None => false,
+        Some(space) => tables.has_same_word(root, space.root, index),
+    }
+}
+
+// Each hart that left one of these spaces is in a space with the word of the root.
+fn have_word_of<T: Tables>(
+    tables: &T,
+    satps: &[Option<Space>],
+    left: &[Left],
+    root: u64,
+    index: u16,
+) -> bool
+    ensures { IsTrue result → EachLeft (λ l. HasWordOf (T.words tables.now) root index
+        (get_or satps.now l.hart None)) left.now }
+{
+    for space in left {
+        if !has_word_of(tables, satp_in(satps, space.hart), root, index) {
+            return false;
+        }
+    }
+    true
+}
+
+// Each hart that left one of these spaces can fill each leaf below the word of the root. Of more
+// spaces than there are harts it is not asked.
+fn fill_below<T: Tables>(
+    tables: &T,
+    scheme: Scheme,
+    satps: &[Option<Space>],
+    left: &[Left],
+    root: u64,
+    index: u16,
+) -> bool
+    ensures { IsTrue result → EachLeft (FillsBelow scheme (T.words tables.now) satps.now root index)
+        left.now }
+{
+    if left.is_empty() {
+        return true;
+    }
+    if left.len() > HARTS || !have_word_of(tables, satps, left, root, index) {
+        return false;
+    }
+    tables.are_leaves_global(scheme, root, index)
+}
+
+/// Nothing is to be remembered of the leaves whose paths pass through the word at an address, to
+/// whose table these are the ways: it is a root to which no pointer leads, no hart has it in its
+/// satp, and those that left it can fill the leaves. Where it is not known, the answer is false.
+pub(crate) fn adds_nothing<T: Tables>(
+    tables: &T,
+    scheme: Scheme,
+    satps: &[Option<Space>],
+    left: &LeftSpaces,
+    address: u64,
+    ways: &[Way],
+) -> bool
+    requires { AreWays scheme (T.words tables.now) (T.since tables.now) (page_number address) ways.now }
+    ensures { IsTrue result → (drops : List PastFenceOf) (count : ℕ) (seen : List LastLiveOf)
+        → AreAdded scheme (T.words tables.now) (T.since tables.now) satps.now left.now drops count
+        (λ (root : ℕ) (e : EntryOf). Passes scheme (T.words tables.now) root (page_number address)
+        (index_of address) e.page) seen seen }
+{
+    let [way] = ways else {
+        return false;
+    };
+    if !is_in_no_satp(satps, way.root) {
+        return false;
+    }
+    let spaces = left.of_root(way.root);
+    fill_below(tables, scheme, satps, spaces, way.root, index_of(address))
+}
