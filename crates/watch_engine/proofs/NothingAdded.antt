@@ -21,7 +21,8 @@ use Rattle.watch_engine.specs.declared.left.Left.{Left}
 use Rattle.watch_engine.specs.declared.left.PastFence.{PastFence}
 use Rattle.watch_engine.specs.Held.{is_listed, translation_in}
 use Rattle.watch_engine.specs.Left.{EachLeft, IsLeftHeld}
-use Rattle.watch_engine.specs.Unseen.{FillsBelow, HasWordOf}
+use Rattle.watch_engine.specs.Shared.{HasWordOf}
+use Rattle.watch_engine.specs.Unseen.{FillsBelow}
 use Rattle.watch_engine.proofs.Gathering.{AddedBy, translation_is, with_asid}
 use Rattle.watch_engine.proofs.Leaving.{any_out, any_weaker, any_with, each_weaker, filter_in}
 use Rattle.watch_engine.proofs.Sharing.{live-below}

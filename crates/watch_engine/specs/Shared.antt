@@ -1,5 +1,5 @@
 -- Leaves below the same word of a root.
-use Rattle.std.specs.Prelude.{Bool, ◌≡◌, List, Option, get_or, true}
+use Rattle.std.specs.Prelude.{ℕ, Bool, ◌≡◌, List, Option, Some, get_or, true}
 use Rattle.std.specs.List.{list_all}
 use Rattle.pte.specs.declared.scheme.Scheme.{Scheme}
 use Rattle.pte.specs.Address.{top_level, vpn_of}
@@ -22,6 +22,12 @@ pub record IsBelow (scheme : Scheme) (leaf : RootLeaf) (e : Entry) : Type 0 wher
 pub record IsBeside (scheme : Scheme) (leaf other : RootLeaf) : Type 0 where
   pub root : leaf.root ≡ other.root
   pub below : IsBelow scheme leaf other.entry
+
+-- there is a space, and its root has the word of this root at the index
+pub record HasWordOf (words : Tables) (root index : ℕ) (space : Option Space) : Type 0 where
+  pub of : Space
+  pub is : space ≡ Some of
+  pub same : words root index ≡ words of.root index
 
 -- what harts answer of each such leaf that the tables of the root have
 abbrev pub AreAnswersBelow : Scheme → Tables → List (Option Space) → RootLeaf → List Answer → Type 0

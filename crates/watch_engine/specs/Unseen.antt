@@ -1,5 +1,5 @@
 -- Leaves below a word of a root that harts have left, of which nothing is to be remembered.
-use Rattle.std.specs.Prelude.{ℕ, ◌≡◌, List, Option, Some, None, get_or, true}
+use Rattle.std.specs.Prelude.{ℕ, ◌≡◌, List, Option, None, get_or, true}
 use Rattle.pte.specs.declared.scheme.Scheme.{Scheme}
 use Rattle.pte.specs.Address.{top_level, vpn_of}
 use Rattle.walk.specs.Leads.{Tables}
@@ -9,12 +9,6 @@ use Rattle.watch.specs.ComputedTraces.{is_live_in}
 use Rattle.watch.specs.Holding.{HasLeaf}
 use Rattle.watch_engine.specs.declared.left.Left.{Left}
 use Rattle.watch_engine.specs.Held.{translation_in}
-
--- there is a space, and its root has the word of this root at the index
-pub record HasWordOf (words : Tables) (root index : ℕ) (space : Option Space) : Type 0 where
-  pub of : Space
-  pub is : space ≡ Some of
-  pub same : words root index ≡ words of.root index
 
 -- the hart that left the space can fill each leaf below the word
 abbrev pub FillsBelow : Scheme → Tables → List (Option Space) → ℕ → ℕ → Left → Type 0

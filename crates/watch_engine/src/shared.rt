@@ -9,7 +9,7 @@ ghost use Rattle.watch.specs.Holding.{HasLeaf};
 ghost use Rattle.watch_tables.specs.declared.leaf.RootLeaf.{RootLeaf as RootLeafOf};
 ghost use Rattle.watch_engine.specs.Filling.{are_alike};
 ghost use Rattle.watch_engine.specs.Held.{translation_in};
-ghost use Rattle.watch_engine.specs.Shared.{AreAnswersBelow, are_all_live, IsBelow, IsBeside};
+ghost use Rattle.watch_engine.specs.Shared.{AreAnswersBelow, are_all_live, HasWordOf, IsBelow, IsBeside};
 
 use crate::held::is_same_entry;
 use crate::left::Left;
@@ -56,16 +56,28 @@ pub(crate) fn begins_beside(scheme: Scheme, leaves: &[RootLeaf], at: usize) -> b
     at + 1 < leaves.len() && are_beside(scheme, &leaves[at], &leaves[at + 1])
 }
 
+/// There is a space, and its root has the word of this root at the index.
+pub(crate) fn has_word_of<T: Tables>(
+    tables: &T,
+    space: Option<Space>,
+    root: u64,
+    index: u16,
+) -> bool
+    ensures { IsTrue result → HasWordOf (T.words tables.now) root index space }
+{
+    match space {
+        None => false,
+        Some(space) => tables.has_same_word(root, space.root, index),
+    }
+}
+
 // The root of the space has the word above the leaf: then who has the space can fill what is below it.
 fn has_word<T: Tables>(tables: &T, scheme: Scheme, space: Option<Space>, leaf: &RootLeaf) -> bool
     ensures { IsTrue result → (e : EntryOf) (s : SpaceOf) → IsBelow scheme leaf.now e
         → HasLeaf scheme (T.words tables.now) leaf.now.root e
         → is_live_in scheme (T.words tables.now) space (translation_in s e) ≡ true }
 {
-    match space {
-        None => false,
-        Some(space) => tables.has_same_word(leaf.root, space.root, index_in_root(scheme, leaf)),
-    }
+    has_word_of(tables, space, leaf.root, index_in_root(scheme, leaf))
 }
 
 // The hart answers, if its root has the word above the leaf.

@@ -8,14 +8,15 @@ ghost use Rattle.watch_engine.specs.declared.held.LastLive.{LastLive as LastLive
 ghost use Rattle.watch_engine.specs.declared.left.PastFence.{PastFence as PastFenceOf};
 ghost use Rattle.watch_engine.specs.Left.{EachLeft};
 ghost use Rattle.watch_engine.specs.Seen.{AreAdded};
-ghost use Rattle.watch_engine.specs.Unseen.{FillsBelow, HasWordOf};
+ghost use Rattle.watch_engine.specs.Shared.{HasWordOf};
+ghost use Rattle.watch_engine.specs.Unseen.{FillsBelow};
 ghost use Rattle.watch_tables.specs.Through.{Passes};
 ghost use Rattle.watch_tables.specs.Ways.{AreWays};
 
 use crate::left::Left;
 use crate::left_spaces::LeftSpaces;
 use crate::satps::{harts_of_root, satp_in};
-use crate::shared::HARTS;
+use crate::shared::{HARTS, has_word_of};
 use crate::tables::Tables;
 use crate::touched::WORD_BYTES;
 use pte::{PAGE_BYTES, Scheme};
@@ -35,16 +36,6 @@ fn is_in_no_satp(satps: &[Option<Space>], root: u64) -> bool
 {
     let harts = harts_of_root(satps, root);
     harts.first == harts.end
-}
-
-// There is a space, and its root has the word of this root at the index.
-fn has_word_of<T: Tables>(tables: &T, space: Option<Space>, root: u64, index: u16) -> bool
-    ensures { IsTrue result → HasWordOf (T.words tables.now) root index space }
-{
-    match space {
-        None => false,
-        Some(space) => tables.has_same_word(root, space.root, index),
-    }
 }
 
 // Each hart that left one of these spaces is in a space with the word of the root.
@@ -67,7 +58,7 @@ fn have_word_of<T: Tables>(
 }
 
 // Each hart that left one of these spaces can fill each leaf below the word of the root. Of more
-// spaces than there are harts it is not asked.
+// spaces than there are harts it is not asked, so that few are gone along for each word.
 fn fill_below<T: Tables>(
     tables: &T,
     scheme: Scheme,

@@ -1,6 +1,6 @@
 use Rattle.std.proofs.Common.{None, drop, get_or}
 use Rattle.watch_engine.specs.Left.{EachLeft}
-use Rattle.watch_engine.specs.Unseen.{HasWordOf}
+use Rattle.watch_engine.specs.Shared.{HasWordOf}
 use Rattle.watch_engine.proofs.unseen.have_word_of.Given as goal
 
 abbrev pub invariant-loop-space : goal.invariant-loop-space
