@@ -1,20 +1,21 @@
 //! What a record can concern of what harts may hold.
 
-ghost use Rattle.std.specs.Prelude.{◌≡◌, ◌+◌, ◌<◌, ◌^◌, Option, Some, ℕ, true};
+ghost use Rattle.std.specs.Prelude.{◌≡◌, ◌+◌, ◌%◌, ◌<◌, ◌^◌, Option, Some, ℕ, true};
 ghost use Rattle.watch_engine.specs.Concerns.{concerns};
 ghost use Rattle.watch_engine.specs.declared.held.Held.{Held as HeldOf};
 ghost use Rattle.watch_engine.specs.declared.keys.Keys.{Keys as KeysOf};
 ghost use Rattle.pte.specs.declared.scheme.Scheme.{Scheme as SchemeOf};
 ghost use Rattle.tlb.specs.Fence.{is_fenced};
 ghost use Rattle.watch.specs.Holding.{reaches};
+ghost use Rattle.watch.specs.Verdicts.{is_of_root};
 ghost use Rattle.watch_engine.specs.Causes.{applies};
-ghost use Rattle.watch_engine.specs.Held.{shares};
+ghost use Rattle.watch_engine.specs.Held.{is_claimed_by, shares, translation_of};
 ghost use Rattle.watch_engine.specs.Keys.{AreSmall, IsAmong, key_of};
 
 use crate::cause::Cause;
 use crate::held::Held;
 use crate::keys::{By, FRAME_LIMIT, Keys, PAGE_LIMIT};
-use crate::open::OpenFence;
+use crate::open::{OpenClaim, OpenFence};
 use crate::touched::{WORD_BYTES, is_below};
 use pte::{PAGE_BYTES, Scheme, TABLE_LENGTH};
 use watch::{AddressRange, Frames};
@@ -108,7 +109,46 @@ fn keys_of_frames(frames: &Frames) -> Option<Keys>
     })
 }
 
-// The keys of what a cause is of that is of few frames.
+// The key of what came from a root.
+fn of_root(root: u64) -> Keys
+    ensures { result ≡ record { by = By.Root; first = root % 2 ^ 52; count = 1; limit = 2 ^ 52 + 1 } }
+{
+    Keys {
+        by: By::Root,
+        first: root % FRAME_LIMIT,
+        count: 1,
+        limit: FRAME_LIMIT + 1,
+    }
+}
+
+// The key of what is of a root, if one is named.
+fn keys_of_root(root: Option<u64>) -> Option<Keys>
+    ensures all { (keys : KeysOf) → result ≡ Some keys → (i : HeldOf)
+        → is_of_root root (translation_of i) ≡ true → IsAmong keys (key_of keys.by i) }
+    ensures small { (keys : KeysOf) → result ≡ Some keys → AreSmall keys }
+{
+    match root {
+        None => None,
+        Some(root) => Some(of_root(root)),
+    }
+}
+
+// The keys of what a claim is of: those of few pages, or that of one root.
+fn keys_of_claim(claim: &Option<OpenClaim>) -> Option<Keys>
+    ensures all { (keys : KeysOf) → result ≡ Some keys → (i : HeldOf)
+        → is_claimed_by claim.now i ≡ true → IsAmong keys (key_of keys.by i) }
+    ensures small { (keys : KeysOf) → result ≡ Some keys → AreSmall keys }
+{
+    let Some(begun) = claim else {
+        return None;
+    };
+    match keys_of_range(&begun.claim.range) {
+        Some(keys) => Some(keys),
+        None => keys_of_root(begun.claim.root),
+    }
+}
+
+// The keys of what a cause is of: an access asks for all.
 fn keys_of_cause(cause: &Cause) -> Option<Keys>
     ensures all { (keys : KeysOf) → result ≡ Some keys → (i : HeldOf)
         → applies cause.now i ≡ true → IsAmong keys (key_of keys.by i) }
@@ -117,7 +157,7 @@ fn keys_of_cause(cause: &Cause) -> Option<Keys>
     match cause {
         Cause::Back(frames) => keys_of_frames(frames),
         Cause::Out(frames) => keys_of_frames(frames),
-        Cause::Claim(_) => None,
+        Cause::Claim(claim) => keys_of_claim(claim),
         Cause::Access { .. } => None,
     }
 }
@@ -139,12 +179,7 @@ fn keys_of_store(address: u64, way: &Way, is_root: bool) -> Option<Keys>
     if is_root {
         return None;
     }
-    Some(Keys {
-        by: By::Root,
-        first: way.root % FRAME_LIMIT,
-        count: 1,
-        limit: FRAME_LIMIT + 1,
-    })
+    Some(of_root(way.root))
 }
 
 impl Concern {
