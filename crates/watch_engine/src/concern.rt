@@ -148,7 +148,7 @@ fn keys_of_claim(claim: &Option<OpenClaim>) -> Option<Keys>
     }
 }
 
-// The keys of what a cause is of: an access asks for all.
+// The keys of what a cause is of.
 fn keys_of_cause(cause: &Cause) -> Option<Keys>
     ensures all { (keys : KeysOf) → result ≡ Some keys → (i : HeldOf)
         → applies cause.now i ≡ true → IsAmong keys (key_of keys.by i) }
@@ -158,7 +158,7 @@ fn keys_of_cause(cause: &Cause) -> Option<Keys>
         Cause::Back(frames) => keys_of_frames(frames),
         Cause::Out(frames) => keys_of_frames(frames),
         Cause::Claim(claim) => keys_of_claim(claim),
-        Cause::Access { .. } => None,
+        Cause::Access { address, .. } => Some(of_pages(*address / PAGE_BYTES, 1)),
     }
 }
 
