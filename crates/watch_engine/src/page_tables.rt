@@ -52,6 +52,10 @@ impl Tables for PageTables {
         PageTables::has_same_word(self, table, other, index)
     }
 
+    fn are_leaves_global(&self, scheme: Scheme, root: u64, index: u16) -> bool {
+        PageTables::are_leaves_global(self, scheme, root, index)
+    }
+
     fn is_mapped_in_any(&self, scheme: Scheme, roots: &[u64], entry: &Entry) -> bool {
         PageTables::is_mapped_in_any(self, scheme, roots, entry)
     }
