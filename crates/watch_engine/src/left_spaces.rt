@@ -1,6 +1,6 @@
 //! The spaces that harts have left.
 
-ghost use Rattle.std.specs.Prelude.{◌≡◌, ◌==◌, ◌≤◌, [], OnErr, OnOk, Some, filter, if◌then◌else◌, length};
+ghost use Rattle.std.specs.Prelude.{◌≡◌, ◌==◌, ◌≤◌, [], IsTrue, OnErr, OnOk, Some, filter, if◌then◌else◌, length, take};
 ghost use Rattle.watch_engine.specs.LeftOrder.{AreByRoot, Begins, Ends};
 ghost use Rattle.watch_engine.specs.Left.{has_its_root, is_of_other, is_other, with_left};
 
@@ -58,6 +58,26 @@ fn drop_back(left: &mut Vec<Left>, hart: u8, space: Space)
             left.remove(end);
         }
     }
+}
+
+// Moves those with one of the roots to the front, and answers how many they are.
+fn keep_rooted(left: &mut [Left], roots: &Roots) -> usize
+    ensures { take result left.new ≡ filter (has_its_root roots.now) left.old }
+{
+    let mut kept = 0;
+    let mut place = 0;
+    let mut at = 0;
+    while at < left.len() {
+        let space = left[at];
+        let (stays, near) = roots.has_near(place, space.space.root);
+        place = near;
+        if stays {
+            left[kept] = space;
+            kept += 1;
+        }
+        at += 1;
+    }
+    kept
 }
 
 /// The spaces that harts have left, in the order of their roots, and those of one root in the order
@@ -143,7 +163,8 @@ impl LeftSpaces {
     fn retain_rooted(&mut self, roots: &Roots)
         ensures { self.new ≡ filter (has_its_root roots.now) self.old }
     {
-        self.spaces.retain(|l| roots.has(l.space.root));
+        let kept = keep_rooted(self.spaces.as_mut_slice(), roots);
+        self.spaces.truncate(kept);
     }
 
     /// Without spaces whose root is none of these, if a root is none any more.

@@ -1,6 +1,6 @@
 //! The roots of address spaces, and what their tables have now.
 
-ghost use Rattle.std.specs.Prelude.{ℕ, ◌≡◌, ◌==◌, ◌<◌, ◌≤◌, [], IfOk, None, OnErr, OnOk, Some, length};
+ghost use Rattle.std.specs.Prelude.{ℕ, ◌≡◌, ◌==◌, ◌<◌, ◌≤◌, [], IfOk, IsTrue, None, OnErr, OnOk, Some, length};
 ghost use Rattle.std.specs.List.{list_all, list_any};
 ghost use Rattle.std.specs.List.Sorted.{IsNonDecreasing, IsPartitionPoint};
 ghost use Rattle.watch.specs.Trace.{has_root as space_has_root, is_among};
@@ -56,6 +56,30 @@ fn count_below(ppns: &[u64], ppn: u64) -> usize
     ensures place { IsPartitionPoint (λ r. r < ppn) (λ r. ppn ≤ r) ppns.now result }
 {
     ppns.partition_point(|other| *other < ppn)
+}
+
+// The place is where the PPN is or would be.
+fn is_place(ppns: &[u64], place: usize, ppn: u64) -> bool
+    requires { IsNonDecreasing ppns.now }
+    ensures { IsTrue result → IsPartitionPoint (λ r. r < ppn) (λ r. ppn ≤ r) ppns.now place }
+{
+    place <= ppns.len()
+        && (place == 0 || ppns[place - 1] < ppn)
+        && (place == ppns.len() || ppn <= ppns[place])
+}
+
+// How many of them are below a PPN: quicker, if as many as the place or one more.
+fn count_below_near(ppns: &[u64], place: usize, ppn: u64) -> usize
+    requires { IsNonDecreasing ppns.now }
+    ensures { IsPartitionPoint (λ r. r < ppn) (λ r. ppn ≤ r) ppns.now result }
+{
+    if is_place(ppns, place, ppn) {
+        return place;
+    }
+    if place < ppns.len() && is_place(ppns, place + 1, ppn) {
+        return place + 1;
+    }
+    count_below(ppns, ppn)
 }
 
 // The PPN is at the place where it would be.
@@ -127,6 +151,14 @@ impl Roots {
     {
         let place = count_below(self.ppns.as_slice(), frame);
         is_at(self.ppns.as_slice(), place, frame)
+    }
+
+    /// The frame is one of them, and its place among them: quicker, if that is this or the next one.
+    pub(crate) fn has_near(&self, place: usize, frame: u64) -> (bool, usize)
+        ensures { result.0 ≡ list_any (λ r. r == frame) self.now }
+    {
+        let place = count_below_near(self.ppns.as_slice(), place, frame);
+        (is_at(self.ppns.as_slice(), place, frame), place)
     }
 
     /// With the root of a space that a hart goes to; the root, if it is new. At `Err` nothing

@@ -1,6 +1,6 @@
-use Rattle.std.proofs.Common.{◌≡◌, ◌∙◌, sym, subst, ap, filter, rules}
+use Rattle.std.proofs.Common.{◌≡◌, sym, subst, filter, arith}
+use Rattle.std.proofs.lemmas.Grind.{common_steps}
 use Rattle.std.specs.List.Sorted.{IsNonDecreasingBy}
-use Rattle.std.proofs.lemmas.Fn.{filter_same}
 use Rattle.std.proofs.lemmas.List.Kept.{IsNonDecreasingBy-filter}
 use Rattle.watch_engine.specs.declared.left.Left.{Left}
 use Rattle.watch_engine.specs.Left.{has_its_root}
@@ -8,10 +8,5 @@ use Rattle.watch_engine.proofs.left_spaces.LeftSpaces.retain_rooted.Goals as goa
 
 pub invariant_of-self : goal.invariant_of-self
 invariant_of-self c =
-    let kept : c.retain.new.self.items ≡ filter (has_its_root c.args.roots.now) c.self.inside.spaces.items = filter_same _ _ _ (λ x b g called. search rules) _ _ c.retain.ensures.filtered in
+    let kept : c.truncate.new.self.items ≡ filter (has_its_root c.args.roots.now) c.self.inside.spaces.items = grind (arith, common_steps) in
     subst (IsNonDecreasingBy (λ (l : Left). l.space.root)) (sym kept) (IsNonDecreasingBy-filter (λ (l : Left). l.space.root) (has_its_root c.args.roots.now) c.self.inside.spaces.items c.self.invariant)
-
-pub returns : goal.returns
-returns c =
-    let kept : c.retain.new.self.items ≡ filter (has_its_root c.args.roots.now) c.self.inside.spaces.items = filter_same _ _ _ (λ x b g called. search rules) _ _ c.retain.ensures.filtered in
-    kept ∙ ap (filter (has_its_root c.args.roots.now)) c.self.view_is
