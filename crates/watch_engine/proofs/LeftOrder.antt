@@ -2,7 +2,7 @@
 use Rattle.std.proofs.Common.{◌≡◌, ℕ, zero, suc, Bool, true, false, ◌+◌, ◌-◌, ◌<◌, ◌≤◌, List, Option, Some, None, [], ◌∷◌, ◌++◌, length, get_or, take, drop, filter, ap, sym, ◌∙◌, refl, inl, inr, arith}
 use Rattle.std.specs.Prelude.{◌==◌, ◌&&◌, cond, not}
 use Rattle.std.specs.List.{insert, remove, slice_range}
-use Rattle.std.proofs.lemmas.List.{drop_more}
+use Rattle.std.proofs.lemmas.List.{drop_more, get_or_default}
 use Rattle.std.proofs.lemmas.Bool.{and_parts, cases_lt, eq-eqb, eqb-true, lt-leb, ne_eqb, not_from_false, false_from_ne_true}
 use Rattle.walk.specs.Leads.{Tables}
 use Rattle.pte.specs.declared.scheme.Scheme.{Scheme}
@@ -12,21 +12,41 @@ use Rattle.watch_engine.specs.declared.left.Left.{Left}
 use Rattle.watch_engine.specs.declared.left.PastFence.{PastFence}
 use Rattle.watch_tables.specs.declared.leaf.RootLeaf.{RootLeaf}
 use Rattle.watch_engine.specs.Left.{added, is_other, is_space}
-use Rattle.watch_engine.specs.LeftOrder.{Begins, Ends}
+use Rattle.watch_engine.specs.LeftOrder.{AreByRoot, Begins, Ends}
 use Rattle.watch_engine.specs.Seen.{is_kept, kept_for, last_of, with_kept, with_leaves, with_live}
 use Rattle.watch_engine.proofs.Lists.{from_at_most}
 
--- a run ends no earlier than it begins
-pub ends_late : (left : List Left) (start end root : ℕ) → start ≤ length left → Begins left start root → Ends left end root → start ≤ end
-ends_late [] start end root long begins ends = omega arith
-ends_late (l ∷ left) start end root long begins ends =
-    elim (cases_lt end start) [
-      | inl early ↦
-          let low = begins.0 end l (omega arith) early in
-          let high = ends.1 end l (omega arith) (omega arith) in
-          absurd (omega arith)
-      | inr late ↦ late
-    ]
+-- a run begins where the one before is below and the one there is not, and ends where the one there is of another root
+pub begins_there : (left : List Left) (place root : ℕ) (e : Left) → AreByRoot left → (0 < place → (get_or left (place - 1) e).space.root < root)
+    → (place < length left → root ≤ (get_or left place e).space.root) → place ≤ length left → Begins left place root
+begins_there left place root e order below from_here within =
+    let before : (k : ℕ) (d : Left) → 0 ≤ k → k < place → (get_or left k d).space.root < root =
+    λ k d from early.
+    let low = below (omega arith) in
+    let up = order k (place - 1) d (omega arith) (omega arith) in
+    let read = ap (λ (l : Left). l.space.root) (get_or_default left (place - 1) d e (omega arith)) in
+    omega arith in
+    let behind : (k : ℕ) (d : Left) → place ≤ k → k < length left → root ≤ (get_or left k d).space.root =
+    λ k d from among.
+    let least = from_here (omega arith) in
+    let up = order place k d from among in
+    let read = ap (λ (l : Left). l.space.root) (get_or_default left place d e (omega arith)) in
+    omega arith in
+    (before, behind)
+
+pub ends_there : (left : List Left) (start end root : ℕ) (e : Left) → AreByRoot left → Begins left start root → start ≤ end → ((k : ℕ) (d : Left) → k < end → k < length left → (get_or left k d).space.root ≤ root)
+    → (end < length left → (get_or left end e).space.root ≡ root → ⊥) → end ≤ length left → Ends left end root
+ends_there left start end root e order begins late low other within =
+    let before : (k : ℕ) (d : Left) → 0 ≤ k → k < end → (get_or left k d).space.root ≤ root =
+    λ k d from early. low k d early (omega arith) in
+    let behind : (k : ℕ) (d : Left) → end ≤ k → k < length left → root < (get_or left k d).space.root =
+    λ k d from among.
+    let least = begins.1 end d late (omega arith) in
+    let differs = other (omega arith) in
+    let up = order end k d from among in
+    let read = ap (λ (l : Left). l.space.root) (get_or_default left end d e (omega arith)) in
+    omega arith in
+    (before, behind)
 
 -- one more stands where the run of its root ends
 pub insert_is_added : (one : Left) (left : List Left) (place : ℕ) → Ends left place one.space.root → insert left place one ≡ added one left

@@ -28,13 +28,63 @@ fn count_up_to(left: &[Left], root: u64) -> usize
     left.partition_point(|l| l.space.root <= root)
 }
 
+// The run of the root begins at the place, if there is one.
+fn begins_at(left: &[Left], place: usize, root: u64) -> bool
+    requires { AreByRoot left.now }
+    ensures within { IsTrue result → place ≤ length left.now }
+    ensures place { IsTrue result → Begins left.now place root }
+{
+    place <= left.len()
+        && (place == 0 || left[place - 1].space.root < root)
+        && (place == left.len() || root <= left[place].space.root)
+}
+
+// How many of them have a root below this one: quicker, if as many as the place.
+fn count_below_near(left: &[Left], place: usize, root: u64) -> usize
+    requires { AreByRoot left.now }
+    ensures within { result ≤ length left.now }
+    ensures place { Begins left.now result root }
+{
+    if begins_at(left, place, root) {
+        place
+    } else {
+        count_below(left, root)
+    }
+}
+
+// Where the run of the root ends that begins at the place.
+fn end_of_run(left: &[Left], start: usize, root: u64) -> usize
+    requires order { AreByRoot left.now }
+    requires within { start ≤ length left.now }
+    requires place { Begins left.now start root }
+    ensures from { start ≤ result }
+    ensures within { result ≤ length left.now }
+    ensures place { Ends left.now result root }
+{
+    let mut end = start;
+    while end < left.len() && left[end].space.root == root {
+        end += 1;
+    }
+    end
+}
+
+// Those with the root, and the place behind them: quicker, if they begin at the place.
+fn of_root_near(left: &[Left], place: usize, root: u64) -> (&[Left], usize)
+    requires { AreByRoot left.now }
+    ensures { result.0.now ≡ filter (λ l. l.space.root == root) left.now }
+{
+    let start = count_below_near(left, place, root);
+    let end = end_of_run(left, start, root);
+    (&left[start..end], end)
+}
+
 // Those with the root.
 fn of_root(left: &[Left], root: u64) -> &[Left]
     requires { AreByRoot left.now }
     ensures { result.now ≡ filter (λ l. l.space.root == root) left.now }
 {
     let start = count_below(left, root);
-    let end = count_up_to(left, root);
+    let end = end_of_run(left, start, root);
     &left[start..end]
 }
 
@@ -114,6 +164,13 @@ impl LeftSpaces {
         ensures { result.now ≡ filter (λ l. l.space.root == root) self.now }
     {
         of_root(self.spaces.as_slice(), root)
+    }
+
+    /// Those with the root, and the place behind them: quicker, if they begin at the place.
+    pub(crate) fn of_root_near(&self, place: usize, root: u64) -> (&[Left], usize)
+        ensures { result.0.now ≡ filter (λ l. l.space.root == root) self.now }
+    {
+        of_root_near(self.spaces.as_slice(), place, root)
     }
 
     /// With the space that a hart leaves. At `Err` nothing changed.

@@ -231,7 +231,8 @@ fn add_known<T: Tables>(
     )
 }
 
-// The same of any leaf, with all spaces that harts have left.
+// The same of any leaf, with all spaces that harts have left. Those with its root may be at the
+// place; the answer is the place behind them.
 fn add_one<T: Tables>(
     seen: &mut Vec<LastLive>,
     answers: &mut [Answer],
@@ -239,10 +240,11 @@ fn add_one<T: Tables>(
     scheme: Scheme,
     satps: &[Option<Space>],
     left: &LeftSpaces,
+    place: usize,
     drops: &PastFences,
     leaf: &RootLeaf,
     count: u64,
-) -> Result<(), AllocError>
+) -> Result<usize, AllocError>
     requires limit { length satps.now ≤ 256 }
     requires answers { AreAnswers scheme (T.words tables.now) satps.now leaf.now.entry answers.old }
     ensures seen { OnOk result (seen.new.items ≡ with_kept scheme (T.words tables.now) satps.now
@@ -250,10 +252,11 @@ fn add_one<T: Tables>(
     ensures answers { AreAnswers scheme (T.words tables.now) satps.now leaf.now.entry answers.new }
 {
     let harts = harts_of_root(satps, leaf.root);
-    let left = left.of_root(leaf.root);
+    let (spaces, behind) = left.of_root_near(place, leaf.root);
     add_leaf(
-        seen, answers, tables, scheme, satps, harts, left, drops, leaf, count,
-    )
+        seen, answers, tables, scheme, satps, harts, spaces, drops, leaf, count,
+    )?;
+    Ok(behind)
 }
 
 // Adds global leaves with the same entry, such as those of a page of the kernel in the tables of each
@@ -280,16 +283,18 @@ fn add_alike<T: Tables>(
 {
     let first = leaves[start];
     let mut answers = [Answer::Unasked; HARTS];
+    let mut place = 0;
     let mut at = start;
     loop {
         let leaf = &leaves[at];
-        add_one(
+        place = add_one(
             seen,
             &mut answers,
             tables,
             scheme,
             satps,
             left,
+            place,
             drops,
             leaf,
             count,

@@ -8,8 +8,8 @@ use Rattle.watch_engine.specs.Seen.{with_leaves}
 use Rattle.watch_engine.proofs.Filling.{alike_entry, none_asked, same_default}
 use Rattle.watch_engine.proofs.seen.add_alike.Goals as goal
 
-pub loop-at-init : goal.loop-at-init
-loop-at-init g c =
+pub loop-place-init : goal.loop-place-init
+loop-place-init g c =
     let first : RootLeaf = c.index-leaves-start.result in
     let is : (d : RootLeaf) → get_or c.args.leaves.now c.args.start d ≡ first =
     λ d. same_default c.args.leaves.now c.args.start d first c.requires.start ∙ sym c.index-leaves-start.is in
@@ -21,15 +21,15 @@ loop-at-init g c =
       refl,
     )
 
-pub loop-at-preserved : goal.loop-at-preserved
-loop-at-preserved g c =
+pub loop-place-preserved : goal.loop-place-preserved
+loop-place-preserved g c =
     let leaves : List RootLeaf = c.args.leaves.now in
-    let at : ℕ = c.loop-at.at in
+    let at : ℕ = c.loop-place.at in
     let first : RootLeaf = c.index-leaves-start.result in
     let leaf : RootLeaf = c.index-leaves-at.result in
     let next : RootLeaf = c.index-leaves-at-else-at-leaves.result in
     let within : at + 1 < length leaves = omega arith in
-    let same : leaf.entry ≡ first.entry = ap (λ (l : RootLeaf). l.entry) c.index-leaves-at.is ∙ c.loop-at.invariant.2 leaf in
+    let same : leaf.entry ≡ first.entry = ap (λ (l : RootLeaf). l.entry) c.index-leaves-at.is ∙ c.loop-place.invariant.2 leaf in
     let alike : first.entry ≡ next.entry = alike_entry first next (sym c.are_alike.ensures ∙ c.if-not-are_alike.false) in
     let with : List RootLeaf → List LastLive → List LastLive =
     with_leaves c.args.scheme (g.T.Tables.words c.args.tables.now) c.args.count c.args.satps.now c.args.left.now c.args.drops.now.fences.items in
@@ -38,7 +38,7 @@ loop-at-preserved g c =
       omega arith,
       within,
       λ d. ap (λ (l : RootLeaf). l.entry) (same_default leaves (at + 1) d next within ∙ sym c.index-leaves-at-else-at-leaves.is) ∙ sym alike,
-      subst (λ (e : Entry). AreAnswers c.args.scheme (g.T.Tables.words c.args.tables.now) c.args.satps.now e c.add_one.new.answers) same c.in_ok-add_one.ensures.answers,
-      ap (with (drop (at + 1) leaves)) c.in_ok-add_one.ensures.seen
-          ∙ (ap (λ (ls : List RootLeaf). with ls c.loop-at.seen.items) (sym rest) ∙ c.loop-at.invariant.4),
+      subst (λ (e : Entry). AreAnswers c.args.scheme (g.T.Tables.words c.args.tables.now) c.args.satps.now e c.add_one.new.answers) same c.in_ok-place.ensures.answers,
+      ap (with (drop (at + 1) leaves)) c.in_ok-place.ensures.seen
+          ∙ (ap (λ (ls : List RootLeaf). with ls c.loop-place.seen.items) (sym rest) ∙ c.loop-place.invariant.4),
     )

@@ -9,7 +9,6 @@ pub returns-clause-seen : goal.returns-clause-seen
 returns-clause-seen g c =
     let live : List LastLive = with_live c.args.count c.args.leaf.now 0 c.args.satps.now c.args.seen.now.items in
     let kept : List Left → List LastLive = λ ls. with_kept c.args.scheme (g.T.Tables.words c.args.tables.now) c.args.satps.now c.args.drops.now.fences.items c.args.leaf.now ls live in
-    let same : kept c.of_root-left.result.now ≡ kept c.args.left.now =
-    ap kept c.of_root-left.ensures
-    ∙ kept_of_root c.args.scheme (g.T.Tables.words c.args.tables.now) c.args.satps.now c.args.drops.now.fences.items c.args.leaf.now c.args.left.now live in
-    subst (λ (ls : List LastLive). OnOk c.add_leaf.result (c.add_leaf.new.seen.items ≡ ls)) same c.add_leaf.ensures.seen
+    c.in_ok-add_leaf.ensures.seen
+    ∙ (ap kept c.of_root_near-behind.ensures
+    ∙ kept_of_root c.args.scheme (g.T.Tables.words c.args.tables.now) c.args.satps.now c.args.drops.now.fences.items c.args.leaf.now c.args.left.now live)
