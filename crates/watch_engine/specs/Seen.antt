@@ -1,7 +1,7 @@
 -- What is remembered of leaves before a word on their paths changes: whom they are live for, and who
 -- may hold them since it left their space.
 use Rattle.std.specs.Prelude.{ℕ, Bool, not, ◌≡◌, ◌+◌, ◌⊎◌, ◌==◌, ◌&&◌, nat_le, if◌then◌else◌}
-use Rattle.std.specs.Prelude.{List, [], ◌∷◌, ◌++◌, Option, None, Some, false, get_or, true}
+use Rattle.std.specs.Prelude.{List, [], ◌∷◌, ◌++◌, Option, None, Some, drop, false, get_or, true}
 use Rattle.pte.specs.declared.scheme.Scheme.{Scheme}
 use Rattle.walk.specs.Leads.{Tables}
 use Rattle.tlb.specs.declared.store.Entry.{Entry}
@@ -55,6 +55,14 @@ with_leaves scheme words now satps left drops [] seen = seen
 with_leaves scheme words now satps left drops (leaf ∷ leaves) seen =
     with_leaves scheme words now satps left drops leaves
     (with_kept scheme words satps drops leaf left (with_live now leaf 0 satps seen))
+
+-- the leaves between two places of a list have been added: those from the first on add to what was before
+-- what those from the second on add to what is now
+abbrev pub AreAddedUpTo : Scheme → Tables → ℕ → List (Option Space) → List Left → List PastFence
+    → List RootLeaf → ℕ → ℕ → List LastLive → List LastLive → Type 0
+AreAddedUpTo scheme words now satps left drops leaves start end old new =
+    with_leaves scheme words now satps left drops (drop end leaves) new
+    ≡ with_leaves scheme words now satps left drops (drop start leaves) old
 
 abbrev pub EachSeen : (LastLive → Type 0) → List LastLive → Type 0
 EachSeen P [] = Unit {0}

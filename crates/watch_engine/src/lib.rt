@@ -23,6 +23,7 @@ mod relinked;
 mod roots;
 mod satps;
 mod seen;
+mod seen_leaf;
 mod shared;
 mod slot;
 mod slots;

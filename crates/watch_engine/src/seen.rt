@@ -1,26 +1,22 @@
 //! What is remembered of leaves before a word on their paths changes.
 
-ghost use Rattle.std.specs.Prelude.{ℕ, ◌≡◌, ◌≤◌, ◌<◌, ◌++◌, [], Contains, IfOk, IsTrue, None, OnOk, List, drop, get_or, length, true};
+ghost use Rattle.std.specs.Prelude.{ℕ, ◌≡◌, ◌≤◌, ◌<◌, [], Contains, IfOk, IsTrue, OnOk, get_or, length, true};
 ghost use Rattle.walk.specs.Maps.{page_number};
 ghost use Rattle.watch.specs.Trace.{index_of};
 ghost use Rattle.tlb.specs.declared.store.Entry.{Entry as EntryOf};
-ghost use Rattle.watch.specs.ComputedTraces.{is_live_in};
 ghost use Rattle.watch.specs.Holding.{HasLeaf};
-ghost use Rattle.watch_engine.specs.Filling.{AreAnswers, are_alike};
-ghost use Rattle.watch_engine.specs.Held.{last_translation};
-ghost use Rattle.watch_engine.specs.Satps.{AreAllOf};
-ghost use Rattle.watch_engine.specs.Seen.{AreAdded, AreSeen, PassesAny, is_kept, kept_for, last_of, live_for, with_kept, with_leaves, with_live};
-ghost use Rattle.watch_engine.specs.Shared.{are_all_live};
+ghost use Rattle.watch_engine.specs.Filling.{AreAnswers};
+ghost use Rattle.watch_engine.specs.Seen.{AreAdded, AreAddedUpTo, AreSeen, PassesAny, with_kept, with_leaves, with_live};
 ghost use Rattle.watch_tables.specs.declared.leaf.RootLeaf.{RootLeaf as RootLeafOf};
 ghost use Rattle.watch_tables.specs.Through.{Passes};
 ghost use Rattle.watch_tables.specs.Ways.{AreWays};
 
 use crate::held::LastLive;
-use crate::left::Left;
 use crate::left_spaces::LeftSpaces;
-use crate::live::{Answer, answer_of, is_live_in, keep_answer};
+use crate::live::Answer;
 use crate::past_fences::PastFences;
-use crate::satps::{Harts, harts_of_root, satp_in};
+use crate::satps::harts_of_root;
+use crate::seen_leaf::{add_known, add_leaf};
 use crate::shared::{HARTS, answers_below, are_alike, are_all_live, are_beside, begins_beside};
 use crate::tables::Tables;
 use crate::unseen::adds_nothing;
@@ -29,210 +25,8 @@ use std::alloc::{AllocError, Global};
 use watch::Space;
 use watch_tables::{RootLeaf, Way};
 
-// Adds the leaf, if the hart can fill it now.
-fn add_live(
-    seen: &mut Vec<LastLive>,
-    leaf: &RootLeaf,
-    hart: u8,
-    space: Option<Space>,
-    count: u64,
-) -> Result<(), AllocError>
-    ensures { OnOk result (seen.new.items ≡ seen.old.items ++ live_for count leaf.now hart space) }
-{
-    let Some(space) = space else {
-        return Ok(());
-    };
-    if space.root == leaf.root {
-        seen.push(LastLive::of_leaf(hart, space, &leaf.entry, count))?;
-    }
-    Ok(())
-}
-
-// Adds the leaf for each hart that can fill it now: these are among those with its root.
-fn add_live_for_each(
-    seen: &mut Vec<LastLive>,
-    leaf: &RootLeaf,
-    satps: &[Option<Space>],
-    harts: Harts,
-    count: u64,
-) -> Result<(), AllocError>
-    requires limit { length satps.now ≤ 256 }
-    requires harts { AreAllOf satps.now leaf.now.root harts }
-    ensures { OnOk result (seen.new.items ≡ with_live count leaf.now 0 satps.now seen.old.items) }
-{
-    for hart in harts.first..harts.end {
-        add_live(seen, leaf, hart as u8, satps[hart], count)?;
-    }
-    Ok(())
-}
-
-// The leaf, as the hart had it last in the space that it left.
-fn last_of(leaf: &RootLeaf, left: &Left) -> LastLive
-    ensures { result ≡ last_of leaf.now left.now }
-{
-    LastLive::of_leaf(left.hart, left.space, &leaf.entry, left.left)
-}
-
-// Whether the hart can fill the leaf now. It is asked once, if there is a place for its answer.
-fn is_live_once<T: Tables>(
-    answers: &mut [Answer],
-    tables: &T,
-    scheme: Scheme,
-    satps: &[Option<Space>],
-    leaf: &RootLeaf,
-    left: &Left,
-) -> bool
-    requires { AreAnswers scheme (T.words tables.now) satps.now leaf.now.entry answers.old }
-    ensures is { result ≡ is_live_in scheme (T.words tables.now) (get_or satps.now left.now.hart None)
-        (last_translation (last_of leaf.now left.now)) }
-    ensures answers { AreAnswers scheme (T.words tables.now) satps.now leaf.now.entry answers.new }
-{
-    match answer_of(answers, left.hart) {
-        Answer::Live => return true,
-        Answer::NotLive => return false,
-        Answer::Unasked => {}
-    }
-    let last = last_of(leaf, left);
-    let space = satp_in(satps, left.hart);
-    let live = is_live_in(tables, scheme, space, last.root, &last.entry);
-    keep_answer(answers, left.hart, live);
-    live
-}
-
-// The hart may hold the leaf since it left the space, and cannot fill it now.
-fn is_kept<T: Tables>(
-    answers: &mut [Answer],
-    tables: &T,
-    scheme: Scheme,
-    satps: &[Option<Space>],
-    drops: &PastFences,
-    leaf: &RootLeaf,
-    left: &Left,
-) -> bool
-    requires { AreAnswers scheme (T.words tables.now) satps.now leaf.now.entry answers.old }
-    ensures is { result ≡ is_kept scheme (T.words tables.now) satps.now drops.now.fences.items leaf.now left.now }
-    ensures answers { AreAnswers scheme (T.words tables.now) satps.now leaf.now.entry answers.new }
-{
-    if left.space.root != leaf.root || leaf.since > left.left {
-        return false;
-    }
-    if is_live_once(answers, tables, scheme, satps, leaf, left) {
-        return false;
-    }
-    let last = last_of(leaf, left);
-    !drops.is_taken_since(scheme, left, &last.entry)
-}
-
-// Adds the leaf, if the hart may hold it since it left the space.
-fn add_kept<T: Tables>(
-    seen: &mut Vec<LastLive>,
-    answers: &mut [Answer],
-    tables: &T,
-    scheme: Scheme,
-    satps: &[Option<Space>],
-    drops: &PastFences,
-    leaf: &RootLeaf,
-    left: &Left,
-) -> Result<(), AllocError>
-    requires { AreAnswers scheme (T.words tables.now) satps.now leaf.now.entry answers.old }
-    ensures seen { OnOk result (seen.new.items ≡ seen.old.items
-        ++ kept_for scheme (T.words tables.now) satps.now drops.now.fences.items leaf.now left.now) }
-    ensures answers { AreAnswers scheme (T.words tables.now) satps.now leaf.now.entry answers.new }
-{
-    if is_kept(answers, tables, scheme, satps, drops, leaf, left) {
-        seen.push(last_of(leaf, left))?;
-    }
-    Ok(())
-}
-
-// Adds the leaf for each hart that may hold it since it left one of the spaces.
-fn add_kept_for_each<T: Tables>(
-    seen: &mut Vec<LastLive>,
-    answers: &mut [Answer],
-    tables: &T,
-    scheme: Scheme,
-    satps: &[Option<Space>],
-    drops: &PastFences,
-    leaf: &RootLeaf,
-    left: &[Left],
-) -> Result<(), AllocError>
-    requires { AreAnswers scheme (T.words tables.now) satps.now leaf.now.entry answers.old }
-    ensures seen { OnOk result (seen.new.items ≡ with_kept scheme (T.words tables.now) satps.now
-        drops.now.fences.items leaf.now left.now seen.old.items) }
-    ensures answers { AreAnswers scheme (T.words tables.now) satps.now leaf.now.entry answers.new }
-{
-    for space in left {
-        add_kept(seen, answers, tables, scheme, satps, drops, leaf, space)?;
-    }
-    Ok(())
-}
-
-// Adds the leaf for each hart that it is live for, or that may hold it since it left one of the
-// spaces. The harts with its root are among these.
-fn add_leaf<T: Tables>(
-    seen: &mut Vec<LastLive>,
-    answers: &mut [Answer],
-    tables: &T,
-    scheme: Scheme,
-    satps: &[Option<Space>],
-    harts: Harts,
-    left: &[Left],
-    drops: &PastFences,
-    leaf: &RootLeaf,
-    count: u64,
-) -> Result<(), AllocError>
-    requires limit { length satps.now ≤ 256 }
-    requires harts { AreAllOf satps.now leaf.now.root harts }
-    requires answers { AreAnswers scheme (T.words tables.now) satps.now leaf.now.entry answers.old }
-    ensures seen { OnOk result (seen.new.items ≡ with_kept scheme (T.words tables.now) satps.now
-        drops.now.fences.items leaf.now left.now (with_live count leaf.now 0 satps.now seen.old.items)) }
-    ensures answers { AreAnswers scheme (T.words tables.now) satps.now leaf.now.entry answers.new }
-{
-    add_live_for_each(seen, leaf, satps, harts, count)?;
-    add_kept_for_each(seen, answers, tables, scheme, satps, drops, leaf, left)
-}
-
-// The same where some answers are known, or it is known that each hart that left can fill the leaf.
-fn add_known<T: Tables>(
-    seen: &mut Vec<LastLive>,
-    known: &[Answer; HARTS],
-    all: bool,
-    tables: &T,
-    scheme: Scheme,
-    satps: &[Option<Space>],
-    harts: Harts,
-    left: &[Left],
-    drops: &PastFences,
-    leaf: &RootLeaf,
-    count: u64,
-) -> Result<(), AllocError>
-    requires limit { length satps.now ≤ 256 }
-    requires harts { AreAllOf satps.now leaf.now.root harts }
-    requires answers { AreAnswers scheme (T.words tables.now) satps.now leaf.now.entry known.now }
-    requires all { IsTrue all → IsTrue (are_all_live known.now left.now) }
-    ensures { OnOk result (seen.new.items ≡ with_kept scheme (T.words tables.now) satps.now
-        drops.now.fences.items leaf.now left.now (with_live count leaf.now 0 satps.now seen.old.items)) }
-{
-    if all {
-        return add_live_for_each(seen, leaf, satps, harts, count);
-    }
-    let mut answers = *known;
-    add_leaf(
-        seen,
-        &mut answers,
-        tables,
-        scheme,
-        satps,
-        harts,
-        left,
-        drops,
-        leaf,
-        count,
-    )
-}
-
-// The same of any leaf, with all spaces that harts have left. Those with its root may be at the
-// place; the answer is the place behind them.
+// Adds the leaf for each hart, where the spaces are all that harts have left. Those with its root may
+// be at the place; the answer is the place behind them.
 fn add_one<T: Tables>(
     seen: &mut Vec<LastLive>,
     answers: &mut [Answer],
@@ -276,28 +70,17 @@ fn add_alike<T: Tables>(
     requires start { start < length leaves.now }
     requires global { (d : RootLeafOf) → (get_or leaves.now start d).entry.global ≡ true }
     ensures end { IfOk result (λ end. start < end) }
-    ensures seen { IfOk result (λ end. with_leaves scheme (T.words tables.now) count satps.now
-        left.now drops.now.fences.items (drop end leaves.now) seen.new.items
-        ≡ with_leaves scheme (T.words tables.now) count satps.now
-        left.now drops.now.fences.items (drop start leaves.now) seen.old.items) }
+    ensures seen { IfOk result (λ end. AreAddedUpTo scheme (T.words tables.now) count satps.now
+        left.now drops.now.fences.items leaves.now start end seen.old.items seen.new.items) }
 {
     let first = leaves[start];
-    let mut answers = [Answer::Unasked; HARTS];
+    let mut known = [Answer::Unasked; HARTS];
     let mut place = 0;
     let mut at = start;
     loop {
         let leaf = &leaves[at];
         place = add_one(
-            seen,
-            &mut answers,
-            tables,
-            scheme,
-            satps,
-            left,
-            place,
-            drops,
-            leaf,
-            count,
+            seen, &mut known, tables, scheme, satps, left, place, drops, leaf, count,
         )?;
         at += 1;
         if at >= leaves.len() || !are_alike(&first, &leaves[at]) {
@@ -333,10 +116,8 @@ fn add_beside<T: Tables>(
     requires leaves { (x : RootLeafOf) → Contains leaves.now x
         → HasLeaf scheme (T.words tables.now) x.root x.entry }
     ensures end { IfOk result (λ end. start < end) }
-    ensures seen { IfOk result (λ end. with_leaves scheme (T.words tables.now) count satps.now
-        left.now drops.now.fences.items (drop end leaves.now) seen.new.items
-        ≡ with_leaves scheme (T.words tables.now) count satps.now
-        left.now drops.now.fences.items (drop start leaves.now) seen.old.items) }
+    ensures seen { IfOk result (λ end. AreAddedUpTo scheme (T.words tables.now) count satps.now
+        left.now drops.now.fences.items leaves.now start end seen.old.items seen.new.items) }
 {
     let first = leaves[start];
     let harts = harts_of_root(satps, first.root);
@@ -375,11 +156,10 @@ fn add_of_root<T: Tables>(
     requires limit { length satps.now ≤ 256 }
     requires start { start < length leaves.now }
     ensures end { IfOk result (λ end. start < end) }
-    ensures seen { IfOk result (λ end. with_leaves scheme (T.words tables.now) count satps.now
-        left.now drops.now.fences.items (drop end leaves.now) seen.new.items
-        ≡ with_leaves scheme (T.words tables.now) count satps.now
-        left.now drops.now.fences.items (drop start leaves.now) seen.old.items) }
+    ensures seen { IfOk result (λ end. AreAddedUpTo scheme (T.words tables.now) count satps.now
+        left.now drops.now.fences.items leaves.now start end seen.old.items seen.new.items) }
 {
+    let mut none: [Answer; 0] = [];
     let root = leaves[start].root;
     let harts = harts_of_root(satps, root);
     let spaces = left.of_root(root);
@@ -387,16 +167,7 @@ fn add_of_root<T: Tables>(
     loop {
         let leaf = &leaves[at];
         add_leaf(
-            seen,
-            &mut [],
-            tables,
-            scheme,
-            satps,
-            harts,
-            spaces,
-            drops,
-            leaf,
-            count,
+            seen, &mut none, tables, scheme, satps, harts, spaces, drops, leaf, count,
         )?;
         at += 1;
         if at >= leaves.len()

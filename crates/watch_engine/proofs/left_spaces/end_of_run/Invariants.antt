@@ -1,4 +1,4 @@
-use Rattle.std.proofs.Common.{◌≡◌, ◌≤◌, ◌<◌, ◌-◌, ℕ, get_or, length}
+use Rattle.std.proofs.Common.{◌≤◌, ◌<◌, ◌-◌, ℕ, get_or, length}
 use Rattle.watch_engine.specs.declared.left.Left.{Left}
 use Rattle.watch_engine.proofs.left_spaces.end_of_run.Given as goal
 

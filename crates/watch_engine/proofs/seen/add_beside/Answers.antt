@@ -1,4 +1,4 @@
-use Rattle.std.proofs.Common.{◌≡◌, ◌∙◌, sym, subst, List, ℕ, ◌+◌, ◌<◌, Contains, length, arith}
+use Rattle.std.proofs.Common.{◌∙◌, sym, subst, List, ℕ, ◌+◌, ◌<◌, Contains, length, arith}
 use Rattle.std.proofs.lemmas.List.Elements.{Contains-get_or}
 use Rattle.watch.specs.Holding.{HasLeaf}
 use Rattle.watch_tables.specs.declared.leaf.RootLeaf.{RootLeaf}

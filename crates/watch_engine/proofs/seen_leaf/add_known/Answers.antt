@@ -2,7 +2,7 @@ use Rattle.std.proofs.Common.{◌≡◌, List, OnOk, subst, sym}
 use Rattle.watch_engine.specs.declared.held.LastLive.{LastLive}
 use Rattle.watch_engine.specs.Seen.{with_live}
 use Rattle.watch_engine.proofs.Sharing.{none-kept}
-use Rattle.watch_engine.proofs.seen.add_known.Goals as goal
+use Rattle.watch_engine.proofs.seen_leaf.add_known.Goals as goal
 
 pub returns-then-all : goal.returns-then-all
 returns-then-all g c =

@@ -1,7 +1,7 @@
 use Rattle.std.proofs.Common.{◌≡◌, drop}
 use Rattle.watch_engine.specs.Filling.{AreAnswers}
 use Rattle.watch_engine.specs.Seen.{with_kept}
-use Rattle.watch_engine.proofs.seen.add_kept_for_each.Given as goal
+use Rattle.watch_engine.proofs.seen_leaf.add_kept_for_each.Given as goal
 
 abbrev pub invariant-loop-space : goal.invariant-loop-space
 invariant-loop-space g l =

@@ -3,7 +3,7 @@ use Rattle.watch.specs.ComputedTraces.{is_live_in}
 use Rattle.watch_engine.specs.Filling.{AreAnswers}
 use Rattle.watch_engine.specs.Held.{translation_in}
 use Rattle.watch_engine.proofs.Filling.{one_kept}
-use Rattle.watch_engine.proofs.seen.is_live_once.Goals as goal
+use Rattle.watch_engine.proofs.seen_leaf.is_live_once.Goals as goal
 
 pub returns-clause-answers : goal.returns-clause-answers
 returns-clause-answers g c =
