@@ -1,9 +1,9 @@
 -- Spaces that were left, in the order of their roots.
-use Rattle.std.proofs.Common.{◌≡◌, ℕ, zero, suc, Bool, true, false, ◌+◌, ◌-◌, ◌<◌, ◌≤◌, List, Option, Some, None, [], ◌∷◌, ◌++◌, length, get_or, take, drop, filter, ap, sym, ◌∙◌, refl, arith}
+use Rattle.std.proofs.Common.{◌≡◌, ℕ, zero, suc, Bool, true, false, ◌+◌, ◌-◌, ◌<◌, ◌≤◌, List, Option, Some, None, [], ◌∷◌, ◌++◌, length, get_or, take, drop, filter, ap, sym, ◌∙◌, refl, inl, inr, arith}
 use Rattle.std.specs.Prelude.{◌==◌, ◌&&◌, cond, not}
 use Rattle.std.specs.List.{insert, remove, slice_range}
 use Rattle.std.proofs.lemmas.List.{drop_more, get_or_default}
-use Rattle.std.proofs.lemmas.Bool.{and_parts, eq-eqb, eqb-true, lt-leb, ne_eqb, not_from_false, false_from_ne_true}
+use Rattle.std.proofs.lemmas.Bool.{and_parts, cases_lt, eq-eqb, eqb-true, lt-leb, ne_eqb, not_from_false, false_from_ne_true}
 use Rattle.walk.specs.Leads.{Tables}
 use Rattle.pte.specs.declared.scheme.Scheme.{Scheme}
 use Rattle.watch.specs.declared.trace.Space.{Space}
@@ -15,6 +15,18 @@ use Rattle.watch_engine.specs.Left.{added, is_other, is_space}
 use Rattle.watch_engine.specs.LeftOrder.{AreByRoot, Begins, Ends}
 use Rattle.watch_engine.specs.Seen.{is_kept, kept_for, last_of, with_kept, with_leaves, with_live}
 use Rattle.watch_engine.proofs.Lists.{from_at_most}
+
+-- a run ends no earlier than it begins
+pub ends_late : (left : List Left) (start end root : ℕ) → start ≤ length left → Begins left start root → Ends left end root → start ≤ end
+ends_late [] start end root long begins ends = omega arith
+ends_late (l ∷ left) start end root long begins ends =
+    elim (cases_lt end start) [
+      | inl early ↦
+          let low = begins.0 end l (omega arith) early in
+          let high = ends.1 end l (omega arith) (omega arith) in
+          absurd (omega arith)
+      | inr late ↦ late
+    ]
 
 -- a run begins where the one before is below and the one there is not, and ends where the one there is of another root
 pub begins_there : (left : List Left) (place root : ℕ) (e : Left) → AreByRoot left → (0 < place → (get_or left (place - 1) e).space.root < root)

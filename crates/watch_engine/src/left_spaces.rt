@@ -84,7 +84,7 @@ fn of_root(left: &[Left], root: u64) -> &[Left]
     ensures { result.now ≡ filter (λ l. l.space.root == root) left.now }
 {
     let start = count_below(left, root);
-    let end = end_of_run(left, start, root);
+    let end = count_up_to(left, root);
     &left[start..end]
 }
 
