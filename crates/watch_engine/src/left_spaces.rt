@@ -110,17 +110,21 @@ fn drop_back(left: &mut Vec<Left>, hart: u8, space: Space)
     }
 }
 
-// Moves those with one of the roots to the front, and answers how many they are.
+// Moves those with one of the roots to the front, and answers how many they are. The roots are asked
+// once for those in a row with the same.
 fn keep_rooted(left: &mut [Left], roots: &Roots) -> usize
     ensures { take result left.new ≡ filter (has_its_root roots.now) left.old }
 {
     let mut kept = 0;
-    let mut place = 0;
     let mut at = 0;
+    let mut asked = 0;
+    let (mut stays, mut place) = roots.has_near(0, asked);
     while at < left.len() {
         let space = left[at];
-        let (stays, near) = roots.has_near(place, space.space.root);
-        place = near;
+        if space.space.root != asked {
+            asked = space.space.root;
+            (stays, place) = roots.has_near(place, asked);
+        }
         if stays {
             left[kept] = space;
             kept += 1;
