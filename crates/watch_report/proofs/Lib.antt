@@ -21,4 +21,4 @@ mod ReadLemmas
 mod EndingLemmas
 pub mod TriggerLaws
 pub mod WorkedReports
-mod NoteLemmas
+mod TextLemmas

@@ -9,6 +9,7 @@ pub mod WorkedLines
 pub mod ReadBack
 pub mod WorkedWarnings
 pub mod TraceText
+pub mod TextEnds
 pub mod NoteTexts
 pub mod VerdictLines
 pub mod Output

@@ -21,6 +21,7 @@ mod push;
 mod reading;
 mod record;
 mod report;
+mod texts;
 mod trigger;
 mod verdicts;
 mod warning;

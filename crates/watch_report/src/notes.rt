@@ -1,8 +1,9 @@
 //! The notes of records, for the lines of later verdicts.
 ghost use Rattle.std.specs.Prelude.{◌≡◌, ◌≤◌, ◌∷◌, ℕ, List, [], IfOk, IfSome, OnOk, length};
-ghost use Rattle.watch_report.specs.NoteTexts.{AreNotes, text_in};
+ghost use Rattle.watch_report.specs.NoteTexts.{AreNotes, text_of};
 ghost use Rattle.watch_report.specs.TraceText.{Noted, note_at};
 
+use crate::texts::Texts;
 use std::alloc::{AllocError, Global};
 
 /// Among how many of the last texts a new note is looked for.
@@ -14,8 +15,7 @@ const ROWS: usize = 256;
 /// The notes of the records that were read. A text that comes again soon is kept once.
 #[derive(Drop)]
 pub struct Notes {
-    alloc: Global,
-    texts: Vec<Vec<u8>>,
+    texts: Texts,
     // for each text the place of the one before it in its row, or 0 for none
     before: Vec<u32>,
     // for each row the place of its newest text, or 0 for none
@@ -46,24 +46,10 @@ impl Notes {
         ensures { AreNotes [] result }
     {
         Notes {
-            alloc,
-            texts: Vec::new(alloc),
+            texts: Texts::new(alloc),
             before: Vec::new(alloc),
             newest: [0; ROWS],
             places: Vec::new(alloc),
-        }
-    }
-
-    // The text at a place, from 1 on.
-    fn text(&self, place: usize) -> &[u8]
-        ensures { result.now ≡ text_in self.now.texts.items place }
-    {
-        if place == 0 {
-            return b"";
-        }
-        match self.texts.get(place - 1) {
-            Some(text) => text.as_slice(),
-            None => b"",
         }
     }
 
@@ -81,16 +67,16 @@ impl Notes {
     // The place of a recent text, from the newest of its row back: few others are compared, and no
     // more than there are recent texts.
     fn recent(&self, note: &[u8], row: u8) -> Option<usize>
-        ensures text { IfSome result (λ place. text_in self.now.texts.items place ≡ note.now) }
-        ensures within { IfSome result (λ place. place ≤ length self.now.texts.items) }
+        ensures text { IfSome result (λ place. text_of self.now.texts place ≡ note.now) }
+        ensures within { IfSome result (λ place. place ≤ length self.now.texts.ends.items) }
     {
-        let count = self.texts.len();
+        let count = self.texts.count();
         let mut place = self.newest[usize::from(row)] as usize;
         for _ in 0..RECENT {
             if place <= count.saturating_sub(RECENT) || place > count {
                 return None;
             }
-            if self.text(place) == note {
+            if self.texts.text(place) == note {
                 return Some(place);
             }
             place = self.before(place);
@@ -101,11 +87,12 @@ impl Notes {
     // The place of a text, which is kept if it is not recent.
     fn keep(&mut self, note: &[u8]) -> Result<usize, AllocError>
         ensures places { OnOk result (self.new.places.items ≡ self.old.places.items) }
-        ensures text { IfOk result (λ place. text_in self.new.texts.items place ≡ note.now) }
-        ensures within { IfOk result (λ place. place ≤ length self.new.texts.items) }
-        ensures grows { OnOk result (length self.old.texts.items ≤ length self.new.texts.items) }
-        ensures others { OnOk result ((p : ℕ) → p ≤ length self.old.texts.items
-            → text_in self.new.texts.items p ≡ text_in self.old.texts.items p) }
+        ensures text { IfOk result (λ place. text_of self.new.texts place ≡ note.now) }
+        ensures within { IfOk result (λ place. place ≤ length self.new.texts.ends.items) }
+        ensures grows { OnOk result (length self.old.texts.ends.items
+            ≤ length self.new.texts.ends.items) }
+        ensures others { OnOk result ((p : ℕ) → p ≤ length self.old.texts.ends.items
+            → text_of self.new.texts p ≡ text_of self.old.texts p) }
     {
         if note.is_empty() {
             return Ok(0);
@@ -114,12 +101,10 @@ impl Notes {
         if let Some(place) = self.recent(note, row) {
             return Ok(place);
         }
-        let mut text = Vec::new(self.alloc);
-        text.extend_from_slice(note)?;
         self.before.reserve(1)?;
-        self.texts.push(text)?;
-        self.before.push(self.newest[usize::from(row)])?;
-        let place = self.texts.len();
+        self.texts.add(note)?;
+        self.before.push_reserved(self.newest[usize::from(row)]);
+        let place = self.texts.count();
         let Ok(newest) = u32::try_from(place) else {
             return Err(AllocError);
         };
@@ -149,7 +134,7 @@ impl Notes {
             return b"";
         }
         match self.places.get((number - 1) as usize) {
-            Some(place) => self.text(*place as usize),
+            Some(place) => self.texts.text(*place as usize),
             None => b"",
         }
     }
