@@ -22,3 +22,4 @@ mod EndingLemmas
 pub mod TriggerLaws
 pub mod WorkedReports
 mod TextLemmas
+mod NoteLemmas
