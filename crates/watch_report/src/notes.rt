@@ -54,29 +54,30 @@ impl Notes {
     }
 
     // The place of the text before another in its row, or 0 for none.
-    fn before(&self, place: usize) -> usize {
+    fn before(&self, place: u32) -> u32 {
         if place == 0 {
             return 0;
         }
-        match self.before.get(place - 1) {
-            Some(before) => *before as usize,
+        match self.before.get(place as usize - 1) {
+            Some(before) => *before,
             None => 0,
         }
     }
 
     // The place of a recent text, from the newest of its row back: few others are compared, and no
     // more than there are recent texts.
-    fn recent(&self, note: &[u8], row: u8) -> Option<usize>
+    fn recent(&self, note: &[u8], row: u8) -> Option<u32>
         ensures text { IfSome result (λ place. text_of self.now.texts place ≡ note.now) }
         ensures within { IfSome result (λ place. place ≤ length self.now.texts.ends.items) }
     {
         let count = self.texts.count();
-        let mut place = self.newest[usize::from(row)] as usize;
+        let mut place = self.newest[usize::from(row)];
         for _ in 0..RECENT {
-            if place <= count.saturating_sub(RECENT) || place > count {
+            let at = place as usize;
+            if at <= count.saturating_sub(RECENT) || at > count {
                 return None;
             }
-            if self.texts.text(place) == note {
+            if self.texts.text(at) == note {
                 return Some(place);
             }
             place = self.before(place);
@@ -85,8 +86,8 @@ impl Notes {
     }
 
     // The place of a text, which is kept if it is not recent.
-    fn keep(&mut self, note: &[u8]) -> Result<usize, AllocError>
-        ensures places { OnOk result (self.new.places.items ≡ self.old.places.items) }
+    fn keep(&mut self, note: &[u8]) -> Result<u32, AllocError>
+        ensures places { OnOk result (self.new.places ≡ self.old.places) }
         ensures text { IfOk result (λ place. text_of self.new.texts place ≡ note.now) }
         ensures within { IfOk result (λ place. place ≤ length self.new.texts.ends.items) }
         ensures grows { OnOk result (length self.old.texts.ends.items
@@ -104,11 +105,10 @@ impl Notes {
         self.before.reserve(1)?;
         self.texts.add(note)?;
         self.before.push_reserved(self.newest[usize::from(row)]);
-        let place = self.texts.count();
-        let Ok(newest) = u32::try_from(place) else {
+        let Ok(place) = u32::try_from(self.texts.count()) else {
             return Err(AllocError);
         };
-        self.newest[usize::from(row)] = newest;
+        self.newest[usize::from(row)] = place;
         Ok(place)
     }
 
@@ -117,11 +117,9 @@ impl Notes {
         ensures ok { (records : List Noted) (newest : Noted) → AreNotes records self.old
             → newest.by ≡ note.now → OnOk result (AreNotes (newest ∷ records) self.new) }
     {
+        self.places.reserve(1)?;
         let place = self.keep(note)?;
-        let Ok(place) = u32::try_from(place) else {
-            return Err(AllocError);
-        };
-        self.places.push(place)?;
+        self.places.push_reserved(place);
         Ok(())
     }
 
