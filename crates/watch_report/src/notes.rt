@@ -102,12 +102,12 @@ impl Notes {
         if let Some(place) = self.recent(note, row) {
             return Ok(place);
         }
+        let Ok(place) = u32::try_from(self.texts.count() + 1) else {
+            return Err(AllocError);
+        };
         self.before.reserve(1)?;
         self.texts.add(note)?;
         self.before.push_reserved(self.newest[usize::from(row)]);
-        let Ok(place) = u32::try_from(self.texts.count()) else {
-            return Err(AllocError);
-        };
         self.newest[usize::from(row)] = place;
         Ok(place)
     }

@@ -10,7 +10,7 @@ pub(crate) struct Texts {
     bytes: Vec<u8>,
     // for each text where it ends
     ends: Vec<usize>,
-    ghost stand: { AreEnds ends.items (length bytes.items) },
+    ghost in_order: { AreEnds ends.items (length bytes.items) },
 }
 
 #[tactic(auto, unfolding(crate::specs::TextEnds::text_at))]

@@ -7,5 +7,5 @@ pub slice_bounds-result-end-2 : goal.slice_bounds-result-end-2
 slice_bounds-result-end-2 c =
     let texts = c.args.self.now in
     let within : c.args.place ≤ length texts.ends.items = search rules in
-    let end : end_at texts.ends.items c.args.place ≤ length texts.bytes.items = end_within texts.ends.items (length texts.bytes.items) c.args.place texts.stand within in
+    let end : end_at texts.ends.items c.args.place ≤ length texts.bytes.items = end_within texts.ends.items (length texts.bytes.items) c.args.place texts.in_order within in
     search (rules, end)
