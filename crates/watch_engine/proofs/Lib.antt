@@ -40,3 +40,4 @@ pub mod Emptying
 pub mod Staying
 pub mod Untouched
 pub mod NothingAdded
+pub mod PageHarts

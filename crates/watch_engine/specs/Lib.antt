@@ -20,3 +20,4 @@ pub mod Filling
 pub mod Slots
 pub mod Shared
 pub mod Unseen
+pub mod PageRuns

@@ -34,7 +34,8 @@ pub(crate) struct Keys {
     pub(crate) limit: u64,
 }
 
-fn page_key(page: &Page) -> u64
+/// The key of a page.
+pub(crate) fn page_key(page: &Page) -> u64
     ensures { result ≡ page_key page.now }
 {
     let base = page.base().get();

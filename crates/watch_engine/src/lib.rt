@@ -17,6 +17,7 @@ mod left_spaces;
 mod list;
 mod live;
 mod open;
+mod page_runs;
 mod page_tables;
 mod past_fences;
 mod relinked;

@@ -1,9 +1,9 @@
 //! The list of what harts may hold.
 
-ghost use Rattle.std.specs.Prelude.{ℕ, Bool, false, ◌≡◌, ◌↔◌, ◌++◌, ◌∷◌, [], map, filter, Option, OnOk, OnErr, IfOk, IsTrue, take, if◌then◌else◌};
+ghost use Rattle.std.specs.Prelude.{ℕ, Bool, false, ◌≡◌, ◌↔◌, ◌++◌, ◌∷◌, [], map, filter, Option, OnOk, OnErr, IfOk, IsTrue, if◌then◌else◌};
 ghost use Rattle.watch.specs.Computed.{is_mapped};
 ghost use Rattle.watch_engine.specs.declared.held.Held.{Held as HeldOf};
-ghost use Rattle.watch_engine.specs.Held.{all_found_again, found_again, is_current_by, is_of, last_translation, marked_if, outlives_fence, outlives_remote, remembered, remembered_all, settled_unless_stale, translation_of};
+ghost use Rattle.watch_engine.specs.Held.{all_found_again, found_again, is_current_by, is_of, last_translation, marked_if, outlives_fence, outlives_remote, remembered, settled_unless_stale, translation_of};
 ghost use Rattle.watch_engine.specs.Causes.{applies, verdict_of};
 ghost use Rattle.watch_engine.specs.Slots.{has, items_of, place_in, turned};
 
@@ -48,20 +48,6 @@ pub(crate) fn remember(held: &mut HeldList, live: &LastLive) -> Result<(), Alloc
         return held.push(Held::from_live(live));
     };
     held.slots[place].item.touch(live.last_live);
-    Ok(())
-}
-
-// With translations that were live. At `Err` some of them are there.
-pub(crate) fn remember_all(held: &mut HeldList, live: &[LastLive]) -> Result<(), AllocError>
-    ensures ok { OnOk result (items_of held.new.slots.items
-        ≡ remembered_all live.now (items_of held.old.slots.items)) }
-    ensures err { OnErr result ((n : ℕ)
-        × (items_of held.new.slots.items
-        ≡ remembered_all (take n live.now) (items_of held.old.slots.items))) }
-{
-    for item in live {
-        remember(held, item)?;
-    }
     Ok(())
 }
 

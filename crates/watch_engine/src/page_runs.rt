@@ -1,0 +1,124 @@
+//! Translations of one page that are remembered one after another, such as those of a page of the
+//! kernel for each hart: where they are many, the items of the page are looked through once for all.
+
+ghost use Rattle.std.specs.Prelude.{ℕ, ◌≡◌, ◌+◌, ◌<◌, ◌==◌, ◌||◌, IfOk, IsTrue, OnErr, OnOk, false, get_or, length, take};
+ghost use Rattle.watch_engine.specs.Held.{remembered, remembered_all};
+ghost use Rattle.watch_engine.specs.Keys.{page_key};
+ghost use Rattle.watch_engine.specs.PageRuns.{AreHartsOf, AreRememberedUpTo};
+ghost use Rattle.watch_engine.specs.Slots.{has, items_of};
+
+use crate::held::{Held, LastLive};
+use crate::held_list::HeldList;
+use crate::keys::page_key;
+use crate::list::remember;
+use crate::shared::HARTS;
+use crate::slot::Slot;
+use std::alloc::AllocError;
+
+/// How many translations of one page are worth a look at the harts of its items.
+const MANY: usize = 8;
+
+// With the hart of the item that is there.
+fn add_hart_of(harts: &mut [bool; HARTS], slot: &Slot)
+    ensures { (hart : ℕ) → get_or harts.new hart false
+        ≡ (has (λ i. i.hart == hart) slot.now || get_or harts.old hart false) }
+{
+    if !slot.is_gone {
+        harts[slot.item.hart as usize] = true;
+    }
+}
+
+// The harts of the items whose page has the key.
+fn harts_of(held: &HeldList, key: u64) -> [bool; HARTS]
+    ensures { AreHartsOf key (items_of held.now.slots.items) result }
+{
+    let slots = held.as_slice();
+    let mut harts = [false; HARTS];
+    let mut at = held.pages.newest(key);
+    while at > 0 {
+        add_hart_of(&mut harts, &slots[at - 1]);
+        at = held.pages.before(at);
+    }
+    harts
+}
+
+// With a translation that was live, where the harts of the items of its page are known: it is not
+// there if its hart is none of them. At `Err` nothing changed.
+fn remember_by_hart(
+    held: &mut HeldList,
+    harts: &mut [bool; HARTS],
+    live: &LastLive,
+) -> Result<(), AllocError>
+    requires { AreHartsOf (page_key live.now.entry.page) (items_of held.old.slots.items) harts.old }
+    ensures ok { OnOk result (items_of held.new.slots.items
+        ≡ remembered live.now (items_of held.old.slots.items)) }
+    ensures err { OnErr result (items_of held.new.slots.items ≡ items_of held.old.slots.items) }
+    ensures harts { OnOk result (AreHartsOf (page_key live.now.entry.page)
+        (items_of held.new.slots.items) harts.new) }
+{
+    if harts[live.hart as usize] {
+        return remember(held, live);
+    }
+    held.push(Held::from_live(live))?;
+    harts[live.hart as usize] = true;
+    Ok(())
+}
+
+// The pages of both have the same key.
+fn is_beside(live: &LastLive, other: &LastLive) -> bool
+    ensures { result ≡ (page_key live.now.entry.page == page_key other.now.entry.page) }
+{
+    page_key(&live.entry.page) == page_key(&other.entry.page)
+}
+
+// Many translations from a place on seem to be of one page: some further on are.
+fn begins_run(live: &[LastLive], at: usize) -> bool
+    requires { at < length live.now }
+    ensures { IsTrue result → at + MANY < length live.now + 1 }
+{
+    live.len() - at >= MANY
+        && is_beside(&live[at], &live[at + 1])
+        && is_beside(&live[at], &live[at + MANY - 1])
+}
+
+// With translations from a place on up to one of another page. The answer is the place of that one.
+// At `Err` some of them are there.
+fn remember_run(held: &mut HeldList, live: &[LastLive], start: usize) -> Result<usize, AllocError>
+    requires { start < length live.now }
+    ensures end { IfOk result (λ end. start < end) }
+    ensures ok { IfOk result (λ end. AreRememberedUpTo live.now start end
+        (items_of held.old.slots.items) (items_of held.new.slots.items)) }
+    ensures err { OnErr result ((n : ℕ) × AreRememberedUpTo live.now start n
+        (items_of held.old.slots.items) (items_of held.new.slots.items)) }
+{
+    let first = live[start];
+    let mut harts = harts_of(held, page_key(&first.entry.page));
+    let mut at = start;
+    loop {
+        remember_by_hart(held, &mut harts, &live[at])?;
+        at += 1;
+        if at >= live.len() || !is_beside(&first, &live[at]) {
+            return Ok(at);
+        }
+    }
+}
+
+/// With translations that were live. At `Err` some of them are there.
+pub(crate) fn remember_all(held: &mut HeldList, live: &[LastLive]) -> Result<(), AllocError>
+    ensures ok { OnOk result (items_of held.new.slots.items
+        ≡ remembered_all live.now (items_of held.old.slots.items)) }
+    ensures err { OnErr result ((n : ℕ)
+        × (items_of held.new.slots.items
+        ≡ remembered_all (take n live.now) (items_of held.old.slots.items))) }
+{
+    let mut at = 0;
+    while at < live.len() {
+        if begins_run(live, at) {
+            at = remember_run(held, live, at)?;
+        } else {
+            remember(held, &live[at])?;
+            at += 1;
+        }
+    }
+    Ok(())
+}
