@@ -1,7 +1,7 @@
 //! Translations of one page that are remembered one after another, such as those of a page of the
 //! kernel for each hart: where they are many, the items of the page are looked through once for all.
 
-ghost use Rattle.std.specs.Prelude.{ℕ, ◌≡◌, ◌+◌, ◌<◌, ◌==◌, ◌||◌, IfOk, IsTrue, OnErr, OnOk, false, get_or, length, take};
+ghost use Rattle.std.specs.Prelude.{ℕ, ◌≡◌, ◌+◌, ◌<◌, ◌≤◌, ◌==◌, ◌||◌, IfOk, IsTrue, OnErr, OnOk, false, get_or, length, take};
 ghost use Rattle.watch_engine.specs.Held.{remembered, remembered_all};
 ghost use Rattle.watch_engine.specs.Keys.{page_key};
 ghost use Rattle.watch_engine.specs.PageRuns.{AreHartsOf, AreRememberedUpTo};
@@ -65,7 +65,7 @@ fn remember_by_hart(
 }
 
 // The pages of both have the same key.
-fn is_beside(live: &LastLive, other: &LastLive) -> bool
+fn has_same_key(live: &LastLive, other: &LastLive) -> bool
     ensures { result ≡ (page_key live.now.entry.page == page_key other.now.entry.page) }
 {
     page_key(&live.entry.page) == page_key(&other.entry.page)
@@ -74,11 +74,11 @@ fn is_beside(live: &LastLive, other: &LastLive) -> bool
 // Many translations from a place on seem to be of one page: some further on are.
 fn begins_run(live: &[LastLive], at: usize) -> bool
     requires { at < length live.now }
-    ensures { IsTrue result → at + MANY < length live.now + 1 }
+    ensures { IsTrue result → at + MANY ≤ length live.now }
 {
     live.len() - at >= MANY
-        && is_beside(&live[at], &live[at + 1])
-        && is_beside(&live[at], &live[at + MANY - 1])
+        && has_same_key(&live[at], &live[at + 1])
+        && has_same_key(&live[at], &live[at + MANY - 1])
 }
 
 // With translations from a place on up to one of another page. The answer is the place of that one.
@@ -97,7 +97,7 @@ fn remember_run(held: &mut HeldList, live: &[LastLive], start: usize) -> Result<
     loop {
         remember_by_hart(held, &mut harts, &live[at])?;
         at += 1;
-        if at >= live.len() || !is_beside(&first, &live[at]) {
+        if at >= live.len() || !has_same_key(&first, &live[at]) {
             return Ok(at);
         }
     }

@@ -22,7 +22,7 @@ loop-at-preserved c =
     let within : at + 1 < length live = omega arith in (
       omega arith,
       within,
-      λ d. ap (λ (l : LastLive). page_key l.entry.page) (get_or_default live (at + 1) d next within ∙ sym c.index-live-at-else-at-live.is) ∙ sym (eqb-true _ _ (sym c.is_beside.ensures ∙ c.if-not-is_beside.false)),
+      λ d. ap (λ (l : LastLive). page_key l.entry.page) (get_or_default live (at + 1) d next within ∙ sym c.index-live-at-else-at-live.is) ∙ sym (eqb-true _ _ (sym c.has_same_key.ensures ∙ c.if-not-has_same_key.false)),
       subst (λ (key : ℕ). AreHartsOf key (items_of c.remember_by_hart.new.held.slots.items) c.remember_by_hart.new.harts)
           (ap (λ (l : LastLive). page_key l.entry.page) c.index-live-at.is ∙ c.loop-at.invariant.2 c.index-live-at.result) c.in_ok-remember_by_hart.ensures.harts,
       one_more live c.args.start at c.index-live-at.result (items_of c.args.held.now.slots.items) (items_of c.loop-at.held.slots.items) _
