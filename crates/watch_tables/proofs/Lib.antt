@@ -12,6 +12,7 @@ pub mod Paths
 pub mod PathWords
 pub mod RootWords
 pub mod PathSince
+pub mod SameWays
 pub mod Climbing
 pub mod WaysBelow
 pub mod LeavesBelow

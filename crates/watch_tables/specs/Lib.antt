@@ -10,3 +10,4 @@ pub mod Ways
 pub mod Climbs
 pub mod Leaves
 pub mod Through
+pub mod Steady

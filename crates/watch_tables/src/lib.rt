@@ -12,6 +12,7 @@ mod leaf;
 mod leaves;
 mod path;
 mod pointers;
+mod steady;
 mod tables;
 mod way;
 mod ways;
