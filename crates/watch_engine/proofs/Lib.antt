@@ -41,3 +41,4 @@ pub mod Staying
 pub mod Untouched
 pub mod NothingAdded
 pub mod PageHarts
+pub mod SureWays

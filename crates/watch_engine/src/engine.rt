@@ -3,12 +3,13 @@
 ghost use Rattle.std.specs.Prelude.{ℕ, ◌≡◌, ◌<◌, ◌^◌, ◌-◌, ◌∷◌, ◌↔◌, [], false, get_or, length, true, Err, IfOk, None, OnErr, OnOk, option_map};
 ghost use Rattle.watch.specs.Trace.{Trace, claim_of, words_of};
 ghost use Rattle.watch.specs.declared.trace.Record.TheVariants as records;
-ghost use Rattle.watch_engine.specs.Watching.{Follows};
+ghost use Rattle.watch_engine.specs.LastWays.{AreKept};
 ghost use Rattle.watch_engine.specs.Open.{claim_begun};
 ghost use Rattle.watch_engine.specs.Warnings.{AreWarnings};
 
 use crate::cause::Cause;
 use crate::held_list::HeldList;
+use crate::last_ways::LastWays;
 use crate::left::{add_ended, add_fence};
 use crate::left_spaces::LeftSpaces;
 use crate::list::{drop_fenced, drop_remote, find_again, mark_given, settle_taken};
@@ -61,7 +62,9 @@ pub struct Watch<T: Tables> {
     drops: PastFences,
     fences: Vec<OpenFence>,
     claims: Vec<OpenClaim>,
+    last_ways: LastWays,
     count: u64,
+    ghost kept: { AreKept scheme (T.words tables) (T.since tables) last_ways },
 }
 
 // Words of frames that are given out were not 0, or a root among them is none any more.
@@ -73,6 +76,8 @@ fn may_differ(addresses: &[u64], keeps: bool) -> bool
 }
 
 impl<T: Tables> Watch<T> {
+    ghost use Rattle.watch_engine.specs.Watching.{Follows};
+
     /// A watch of a scheme that has seen no record, over tables of which nothing is stored.
     pub fn new(alloc: Global, scheme: Scheme, tables: T) -> Watch<T>
         requires { T.words tables ≡ words_of [] }
@@ -90,6 +95,7 @@ impl<T: Tables> Watch<T> {
             drops: PastFences::new(alloc),
             fences: Vec::new(alloc),
             claims: Vec::new(alloc),
+            last_ways: LastWays::new(),
             count: 0,
         }
     }
@@ -110,8 +116,11 @@ impl<T: Tables> Watch<T> {
         ensures err { (trace : Trace) → Follows T.words T.since trace self.old
             → OnErr result (Follows T.words T.since trace self.new) }
     {
+        let ways = self
+            .last_ways
+            .take(self.alloc, &self.tables, self.scheme, address)?;
         let mut seen = Vec::new(self.alloc);
-        let ways = add_seen(
+        add_seen(
             self.alloc,
             &self.tables,
             self.scheme,
@@ -119,10 +128,12 @@ impl<T: Tables> Watch<T> {
             &self.left,
             &self.drops,
             address,
+            ways.as_slice(),
             self.count,
             &mut seen,
         )?;
         remember_all(&mut self.held, seen.as_slice())?;
+        let stay = self.tables.keeps_ways(address, word);
         self.tables.store(address, word, self.count + 1)?;
         self.count += 1;
         settle_touched(
@@ -135,6 +146,7 @@ impl<T: Tables> Watch<T> {
             ways.as_slice(),
             self.count,
         );
+        self.last_ways.keep(address, ways, stay);
         Ok(())
     }
 
@@ -260,6 +272,7 @@ impl<T: Tables> Watch<T> {
         )?;
         remember_all(&mut self.held, seen.as_slice())?;
         mark_given(&mut self.held, &cause, given.as_slice());
+        self.last_ways.forget();
         self.tables.clear(frames);
         let keeps = self.roots.drop_given(frames, self.satps.spaces());
         self.left.drop_rootless(keeps, &self.roots);

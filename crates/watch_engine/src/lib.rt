@@ -11,6 +11,7 @@ mod held;
 mod held_list;
 mod keys;
 mod last_answer;
+mod last_ways;
 mod laws;
 mod left;
 mod left_spaces;

@@ -56,6 +56,10 @@ impl Tables for PageTables {
         PageTables::are_leaves_global(self, scheme, root, index)
     }
 
+    fn keeps_ways(&self, address: u64, word: u64) -> bool {
+        PageTables::keeps_ways(self, address, word)
+    }
+
     fn is_mapped_in_any(&self, scheme: Scheme, roots: &[u64], entry: &Entry) -> bool {
         PageTables::is_mapped_in_any(self, scheme, roots, entry)
     }

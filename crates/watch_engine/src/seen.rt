@@ -210,8 +210,8 @@ fn add_leaves<T: Tables>(
     Ok(())
 }
 
-/// Adds what harts may hold of the leaves whose paths pass through the word at an address, and
-/// answers the ways to it.
+/// Adds what harts may hold of the leaves whose paths pass through the word at an address, to whose
+/// table these are the ways.
 pub(crate) fn add_seen<T: Tables>(
     alloc: Global,
     tables: &T,
@@ -220,22 +220,22 @@ pub(crate) fn add_seen<T: Tables>(
     left: &LeftSpaces,
     drops: &PastFences,
     address: u64,
+    ways: &[Way],
     count: u64,
     seen: &mut Vec<LastLive>,
-) -> Result<Vec<Way>, AllocError>
-    requires { length satps.now ≤ 256 }
-    ensures ways { IfOk result (λ ways. AreWays scheme (T.words tables.now) (T.since tables.now)
-        (page_number address) ways.items) }
-    ensures seen { OnOk result (AreAdded scheme (T.words tables.now) (T.since tables.now)
+) -> Result<(), AllocError>
+    requires harts { length satps.now ≤ 256 }
+    requires ways { AreWays scheme (T.words tables.now) (T.since tables.now) (page_number address)
+        ways.now }
+    ensures { OnOk result (AreAdded scheme (T.words tables.now) (T.since tables.now)
         satps.now left.now drops.now.fences.items count
         (λ (root : ℕ) (e : EntryOf). Passes scheme (T.words tables.now) root (page_number address)
         (index_of address) e.page) seen.old.items seen.new.items) }
 {
-    let ways = tables.ways(alloc, scheme, address)?;
-    if adds_nothing(tables, scheme, satps, left, address, ways.as_slice()) {
-        return Ok(ways);
+    if adds_nothing(tables, scheme, satps, left, address, ways) {
+        return Ok(());
     }
-    let leaves = tables.leaves_through(alloc, scheme, address, ways.as_slice())?;
+    let leaves = tables.leaves_through(alloc, scheme, address, ways)?;
     add_leaves(
         seen,
         tables,
@@ -246,7 +246,7 @@ pub(crate) fn add_seen<T: Tables>(
         leaves.as_slice(),
         count,
     )?;
-    Ok(ways)
+    Ok(())
 }
 
 /// The same of the words at each of the addresses.
@@ -268,8 +268,18 @@ pub(crate) fn add_seen_in<T: Tables>(
         root addresses.now e) seen.new.items) }
 {
     for address in addresses {
-        let _ways = add_seen(
-            alloc, tables, scheme, satps, left, drops, *address, count, seen,
+        let ways = tables.ways(alloc, scheme, *address)?;
+        add_seen(
+            alloc,
+            tables,
+            scheme,
+            satps,
+            left,
+            drops,
+            *address,
+            ways.as_slice(),
+            count,
+            seen,
         )?;
     }
     Ok(())

@@ -13,6 +13,7 @@ ghost use Rattle.watch.specs.Holding.{HasLeaf};
 ghost use Rattle.watch.specs.Staleness.{IsMapped};
 ghost use Rattle.watch_tables.specs.declared.leaf.RootLeaf.{RootLeaf as RootLeafOf};
 ghost use Rattle.watch_tables.specs.Paths.{IsUnchangedSince};
+ghost use Rattle.watch_tables.specs.Steady.{KeepsWays};
 ghost use Rattle.watch_tables.specs.Through.{HasRootLeaf, IsLeafThrough};
 ghost use Rattle.watch_tables.specs.Ways.{AreWays};
 ghost use Rattle.watch_tables.specs.Words.{AreFilled};
@@ -100,6 +101,15 @@ pub trait Tables {
             → vpn_of e.page.base (top_level scheme) ≡ index → e.global ≡ true }
     {
         let _ = (scheme, root, index);
+        false
+    }
+
+    /// Whether it is known that a store of a word at a physical address leaves the ways to each table
+    /// as they are.
+    fn keeps_ways(&self, address: u64, word: u64) -> bool
+        ensures { IsTrue result → KeepsWays (words self.now) (since self.now) address word }
+    {
+        let _ = (address, word);
         false
     }
 

@@ -14,7 +14,7 @@ loop-address-preserved g c =
     let addresses : List ℕ = c.args.addresses.now in
     let is = take_more addresses at 0 c.loop-address-test.true in
     subst (λ many. SeenIn c.args.scheme (g.T.Tables.words c.args.tables.now) (g.T.Tables.since c.args.tables.now) c.args.satps.now c.args.left.now c.args.drops.now.fences.items c.args.count many c.add_seen.new.seen.items) (sym is)
-    (one_more c.args.scheme (g.T.Tables.words c.args.tables.now) (g.T.Tables.since c.args.tables.now) c.args.satps.now c.args.left.now c.args.drops.now.fences.items c.args.count (take at addresses) _ c.loop-address.seen.items c.add_seen.new.seen.items c.loop-address.invariant c.in_ok-_ways.ensures.seen)
+    (one_more c.args.scheme (g.T.Tables.words c.args.tables.now) (g.T.Tables.since c.args.tables.now) c.args.satps.now c.args.left.now c.args.drops.now.fences.items c.args.count (take at addresses) _ c.loop-address.seen.items c.add_seen.new.seen.items c.loop-address.invariant c.in_ok-add_seen.ensures)
 
 pub returns : goal.returns
 returns g c =

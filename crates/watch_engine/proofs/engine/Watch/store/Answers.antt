@@ -3,6 +3,8 @@ use Rattle.std.proofs.Common.{◌∙◌, sym, subst, List, Option, map, filter, 
 use Rattle.walk.specs.Leads.{Tables}
 use Rattle.watch.specs.declared.trace.Space.{Space}
 use Rattle.watch.specs.Trace.{index_of}
+use Rattle.walk.specs.Maps.{page_number}
+use Rattle.watch_tables.specs.Ways.{AreWays}
 use Rattle.watch.specs.Computed.{is_mapped}
 use Rattle.watch_engine.specs.declared.held.Held.{Held}
 use Rattle.watch_engine.specs.declared.held.LastLive.{LastLive}
@@ -23,11 +25,11 @@ returns-in_err-remember_all-clause-err g c = λ trace at.
     let scheme = watch.scheme in
     let words = g.T.Tables.words watch.tables in
     let since = g.T.Tables.since watch.tables in
-    let seen : List LastLive = c.as_slice.result.now in
+    let seen : List LastLive = c.as_slice-2.result.now in
     let left : List Left = watch.left in
     let drops : List PastFence = watch.drops.fences.items in
-    let added = subst (AddedBy scheme words since watch.satps.spaces.items left drops watch.count c.args.address c.new-seen.result.items) (sym c.as_slice.ensures.value)
-    (subst (λ (ss : List (Option Space)). AddedBy scheme words since ss left drops watch.count c.args.address c.new-seen.result.items c.add_seen.new.seen.items) c.spaces.ensures.value c.in_ok-ways.ensures.seen) in
+    let added = subst (AddedBy scheme words since watch.satps.spaces.items left drops watch.count c.args.address c.new-seen.result.items) (sym c.as_slice-2.ensures.value)
+    (subst (λ (ss : List (Option Space)). AddedBy scheme words since ss left drops watch.count c.args.address c.new-seen.result.items c.add_seen.new.seen.items) c.spaces.ensures.value c.in_ok-add_seen.ensures) in
     let all = seen_of scheme words since watch.satps.spaces.items left drops watch.count c.args.address c.new-seen.result.items seen c.new-seen.ensures.items added in
     let e = c.in_err-remember_all.ensures.err in
     on_err _ _ (some_remembered at seen all.each e.0 _ e.1)
@@ -38,11 +40,11 @@ returns-in_err-store-clause-err g c = λ trace at.
     let scheme = watch.scheme in
     let words : Tables = g.T.Tables.words watch.tables in
     let since = g.T.Tables.since watch.tables in
-    let seen : List LastLive = c.as_slice.result.now in
+    let seen : List LastLive = c.as_slice-2.result.now in
     let left : List Left = watch.left in
     let drops : List PastFence = watch.drops.fences.items in
-    let added = subst (AddedBy scheme words since watch.satps.spaces.items left drops watch.count c.args.address c.new-seen.result.items) (sym c.as_slice.ensures.value)
-    (subst (λ (ss : List (Option Space)). AddedBy scheme words since ss left drops watch.count c.args.address c.new-seen.result.items c.add_seen.new.seen.items) c.spaces.ensures.value c.in_ok-ways.ensures.seen) in
+    let added = subst (AddedBy scheme words since watch.satps.spaces.items left drops watch.count c.args.address c.new-seen.result.items) (sym c.as_slice-2.ensures.value)
+    (subst (λ (ss : List (Option Space)). AddedBy scheme words since ss left drops watch.count c.args.address c.new-seen.result.items c.add_seen.new.seen.items) c.spaces.ensures.value c.in_ok-add_seen.ensures) in
     let all = seen_of scheme words since watch.satps.spaces.items left drops watch.count c.args.address c.new-seen.result.items seen c.new-seen.ensures.items added in
     let stands = all_remembered at seen all.each _ c.in_ok-remember_all.ensures.ok in
     on_err _ _
@@ -55,12 +57,12 @@ returns-clause-ok g c = λ hart trace at.
     let scheme = watch.scheme in
     let words : Tables = g.T.Tables.words watch.tables in
     let since = g.T.Tables.since watch.tables in
-    let seen : List LastLive = c.as_slice.result.now in
+    let seen : List LastLive = c.as_slice-2.result.now in
     let left : List Left = watch.left in
     let drops : List PastFence = watch.drops.fences.items in
     let held : List Held = (items_of watch.held.slots.items) in
-    let added = subst (AddedBy scheme words since watch.satps.spaces.items left drops watch.count c.args.address c.new-seen.result.items) (sym c.as_slice.ensures.value)
-    (subst (λ (ss : List (Option Space)). AddedBy scheme words since ss left drops watch.count c.args.address c.new-seen.result.items c.add_seen.new.seen.items) c.spaces.ensures.value c.in_ok-ways.ensures.seen) in
+    let added = subst (AddedBy scheme words since watch.satps.spaces.items left drops watch.count c.args.address c.new-seen.result.items) (sym c.as_slice-2.ensures.value)
+    (subst (λ (ss : List (Option Space)). AddedBy scheme words since ss left drops watch.count c.args.address c.new-seen.result.items c.add_seen.new.seen.items) c.spaces.ensures.value c.in_ok-add_seen.ensures) in
     let all = seen_of scheme words since watch.satps.spaces.items left drops watch.count c.args.address c.new-seen.result.items seen c.new-seen.ensures.items added in
     let ways : List Way = c.in_ok-ways.ways.items in
     let new : Tables = g.T.Tables.words c.store.new.self in
@@ -69,5 +71,17 @@ returns-clause-ok g c = λ hart trace at.
     let change : List Way → Held → Held = λ ws i. settled_if (is_touched scheme roots index ws (translation_of i)) (is_current_by (is_mapped scheme new) roots (translation_of i)) (watch.count + 1) i in
     store_stands at hart c.args.address c.args.word new (g.T.Tables.since c.store.new.self) (c.in_ok-store.ensures.ok hart) c.in_ok-store.ensures.others c.in_ok-store.ensures.count ways c.in_ok-ways.ensures.ways seen all _
     (c.settle_touched.ensures
-    ∙ (λ j. map (change (c.as_slice-2.ensures.value j))
-    (filter (is_kept_after scheme new (c.spaces-2.ensures.value j) roots index (c.as_slice-2.ensures.value j)) (c.in_ok-remember_all.ensures.ok j))))
+    ∙ (λ j. map (change (c.as_slice-3.ensures.value j))
+    (filter (is_kept_after scheme new (c.spaces-2.ensures.value j) roots index (c.as_slice-3.ensures.value j)) (c.in_ok-remember_all.ensures.ok j))))
+
+pub invariant_of-self-2 : goal.invariant_of-self-2
+invariant_of-self-2 g c =
+    let scheme = c.args.self.now.scheme in
+    let table : ℕ = page_number c.args.address in
+    let since = g.T.Tables.since c.store.new.self in
+    let ways : List Way = c.in_ok-ways.ways.items in
+    record {
+      kept = c.keep.ensures scheme (g.T.Tables.words c.store.new.self) since (λ stays.
+          subst (λ (w : Tables). AreWays scheme w since table ways) (sym (c.in_ok-store.ensures.ok 0))
+          (c.keeps_ways-stay.ensures stays scheme since 0 table ways c.in_ok-store.ensures.others c.in_ok-ways.ensures.ways));
+    }
