@@ -42,3 +42,4 @@ pub mod Untouched
 pub mod NothingAdded
 pub mod PageHarts
 pub mod SureWays
+pub mod Keeping

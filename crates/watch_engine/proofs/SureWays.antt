@@ -1,6 +1,6 @@
 -- What is so of some ways to a table is found again from the ways.
-use Rattle.std.proofs.Common.{◌≡◌, ℕ, suc, ◌+◌, ◌-◌, ◌<◌, ◌≤◌, Bool, true, false, Option, Some, List, [], ◌∷◌, IsTrue, ap, sym, ◌∙◌, subst, refl, inl, inr, arith, length}
-use Rattle.std.specs.Prelude.{◌↔◌, ◌==◌, ◌&&◌, ◌||◌, get_or}
+use Rattle.std.proofs.Common.{◌≡◌, ℕ, suc, ◌+◌, ◌-◌, Bool, true, false, Option, Some, List, [], ◌∷◌, IsTrue, ap, sym, ◌∙◌, subst, refl, inl, inr, arith}
+use Rattle.std.specs.Prelude.{◌↔◌, ◌==◌, ◌&&◌, ◌||◌}
 use Rattle.std.specs.List.{Contains, list_any}
 use Rattle.std.proofs.Props.{props}
 use Rattle.std.proofs.Math.Logic.{∥∥₁_elim}
@@ -8,13 +8,13 @@ use Rattle.std.proofs.Math.Bridge.{le_prop}
 use Rattle.std.proofs.lemmas.Bool.{and_from, and_parts, cases_lt, eq-eqb, eqb-true}
 use Rattle.std.proofs.lemmas.List.Folds.{list_any_at}
 use Rattle.pte.specs.declared.scheme.Scheme.{Scheme}
-use Rattle.pte.specs.Address.{top_level, vpn_of}
+use Rattle.pte.specs.Address.{top_level}
 use Rattle.walk.specs.Leads.{Tables, word_at, Leads, IsGlobalAt}
 use Rattle.walk.specs.Pointers.{table_after}
 use Rattle.walk.proofs.Downward.{leads_by_pointers}
 use Rattle.walk.proofs.Paths.{global_known, leads-above}
 use Rattle.watch_tables.specs.declared.way.Way.{Way}
-use Rattle.watch_tables.specs.Paths.{IsPathSince, IsReached}
+use Rattle.watch_tables.specs.Paths.{IsPathSince}
 use Rattle.watch_tables.specs.Ways.{AreWays, HasWay, IsInLevels, IsWay, vpn_from}
 
 -- the way has this root, this level and these VPNs above it

@@ -1,6 +1,6 @@
 pub mod Held
 pub mod LastAnswer
-pub mod LastWays
+pub mod KeptWays
 pub mod Left
 pub mod LeftOrder
 pub mod Satps

@@ -3,13 +3,13 @@
 ghost use Rattle.std.specs.Prelude.{ℕ, ◌≡◌, ◌<◌, ◌^◌, ◌-◌, ◌∷◌, ◌↔◌, [], false, get_or, length, true, Err, IfOk, None, OnErr, OnOk, option_map};
 ghost use Rattle.watch.specs.Trace.{Trace, claim_of, words_of};
 ghost use Rattle.watch.specs.declared.trace.Record.TheVariants as records;
-ghost use Rattle.watch_engine.specs.LastWays.{AreKept};
+ghost use Rattle.watch_engine.specs.KeptWays.{AreKept};
 ghost use Rattle.watch_engine.specs.Open.{claim_begun};
 ghost use Rattle.watch_engine.specs.Warnings.{AreWarnings};
 
 use crate::cause::Cause;
 use crate::held_list::HeldList;
-use crate::last_ways::LastWays;
+use crate::kept_ways::KeptWays;
 use crate::left::{add_ended, add_fence};
 use crate::left_spaces::LeftSpaces;
 use crate::list::{drop_fenced, drop_remote, find_again, mark_given, settle_taken};
@@ -62,9 +62,9 @@ pub struct Watch<T: Tables> {
     drops: PastFences,
     fences: Vec<OpenFence>,
     claims: Vec<OpenClaim>,
-    last_ways: LastWays,
+    kept_ways: KeptWays,
     count: u64,
-    ghost kept: { AreKept scheme (T.words tables) (T.since tables) last_ways },
+    ghost kept: { AreKept scheme (T.words tables) (T.since tables) kept_ways },
 }
 
 // Words of frames that are given out were not 0, or a root among them is none any more.
@@ -95,7 +95,7 @@ impl<T: Tables> Watch<T> {
             drops: PastFences::new(alloc),
             fences: Vec::new(alloc),
             claims: Vec::new(alloc),
-            last_ways: LastWays::new(),
+            kept_ways: KeptWays::new(alloc),
             count: 0,
         }
     }
@@ -117,7 +117,7 @@ impl<T: Tables> Watch<T> {
             → OnErr result (Follows T.words T.since trace self.new) }
     {
         let ways = self
-            .last_ways
+            .kept_ways
             .take(self.alloc, &self.tables, self.scheme, address)?;
         let mut seen = Vec::new(self.alloc);
         add_seen(
@@ -146,7 +146,7 @@ impl<T: Tables> Watch<T> {
             ways.as_slice(),
             self.count,
         );
-        self.last_ways.keep(address, ways, stay);
+        self.kept_ways.keep(address, ways, stay);
         Ok(())
     }
 
@@ -272,7 +272,7 @@ impl<T: Tables> Watch<T> {
         )?;
         remember_all(&mut self.held, seen.as_slice())?;
         mark_given(&mut self.held, &cause, given.as_slice());
-        self.last_ways.forget();
+        self.kept_ways.forget();
         self.tables.clear(frames);
         let keeps = self.roots.drop_given(frames, self.satps.spaces());
         self.left.drop_rootless(keeps, &self.roots);

@@ -3,7 +3,6 @@ use Rattle.std.proofs.Common.{◌∙◌, sym, subst, List, Option, map, filter, 
 use Rattle.walk.specs.Leads.{Tables}
 use Rattle.watch.specs.declared.trace.Space.{Space}
 use Rattle.watch.specs.Trace.{index_of}
-use Rattle.walk.specs.Maps.{page_number}
 use Rattle.watch_tables.specs.Ways.{AreWays}
 use Rattle.watch.specs.Computed.{is_mapped}
 use Rattle.watch_engine.specs.declared.held.Held.{Held}
@@ -76,12 +75,13 @@ returns-clause-ok g c = λ hart trace at.
 
 pub invariant_of-self-2 : goal.invariant_of-self-2
 invariant_of-self-2 g c =
-    let scheme = c.args.self.now.scheme in
-    let table : ℕ = page_number c.args.address in
-    let since = g.T.Tables.since c.store.new.self in
-    let ways : List Way = c.in_ok-ways.ways.items in
+    let watch = c.args.self.now in
+    let scheme = watch.scheme in
+    let words : Tables = g.T.Tables.words watch.tables in
+    let old = g.T.Tables.since watch.tables in
+    let new = g.T.Tables.since c.store.new.self in
     record {
-      kept = c.keep.ensures scheme (g.T.Tables.words c.store.new.self) since (λ stays.
-          subst (λ (w : Tables). AreWays scheme w since table ways) (sym (c.in_ok-store.ensures.ok 0))
-          (c.keeps_ways-stay.ensures stays scheme since 0 table ways c.in_ok-store.ensures.others c.in_ok-ways.ensures.ways));
+      kept = c.keep.ensures scheme words (g.T.Tables.words c.store.new.self) old new c.in_ok-ways.ensures.rest c.in_ok-ways.ensures.ways (λ stays table ways are.
+          subst (λ (w : Tables). AreWays scheme w new table ways) (sym (c.in_ok-store.ensures.ok 0))
+          (c.keeps_ways-stay.ensures stays scheme new 0 table ways c.in_ok-store.ensures.others are));
     }
