@@ -43,3 +43,4 @@ pub mod NothingAdded
 pub mod PageHarts
 pub mod SureWays
 pub mod Keeping
+pub mod EmptyFrames

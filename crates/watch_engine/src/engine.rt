@@ -272,7 +272,7 @@ impl<T: Tables> Watch<T> {
         )?;
         remember_all(&mut self.held, seen.as_slice())?;
         mark_given(&mut self.held, &cause, given.as_slice());
-        self.kept_ways.forget();
+        self.kept_ways.keep_unless_any(addresses.as_slice());
         self.tables.clear(frames);
         let keeps = self.roots.drop_given(frames, self.satps.spaces());
         self.left.drop_rootless(keeps, &self.roots);

@@ -104,7 +104,7 @@ impl KeptWays {
             → AreKept scheme others new self.new }
     {
         if !stay {
-            self.forget();
+            self.known.clear();
             return;
         }
         self.drop_oldest();
@@ -113,10 +113,14 @@ impl KeptWays {
         let _ = self.known.push(KnownWays { table, ways });
     }
 
-    /// Keeps nothing.
-    pub(crate) fn forget(&mut self)
-        ensures { self.new.known.items ≡ [] }
+    /// Keeps the ways no longer if words are to be made 0 that are not: these are their addresses.
+    pub(crate) fn keep_unless_any(&mut self, addresses: &[u64])
+        ensures same { All (Contains self.old.known.items) self.new.known.items }
+        ensures none { All (λ _. addresses.now ≡ []) self.new.known.items }
     {
+        if addresses.is_empty() {
+            return;
+        }
         self.known.clear();
     }
 }

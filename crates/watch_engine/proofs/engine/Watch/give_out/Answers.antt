@@ -7,16 +7,19 @@ use Rattle.watch.specs.declared.trace.Record.TheVariants as records
 use Rattle.watch.specs.declared.trace.Verdict.TheVariants.{Reuse}
 use Rattle.watch.specs.declared.trace.Space.{Space}
 use Rattle.watch.specs.Computed.{is_mapped}
+use Rattle.watch_tables.specs.Words.{AreFilled}
 use Rattle.watch_engine.specs.declared.cause.Cause.TheVariants.{Out}
 use Rattle.watch_engine.specs.declared.held.Held.{Held}
 use Rattle.watch_engine.specs.declared.held.LastLive.{LastLive}
 use Rattle.watch_engine.specs.declared.left.Left.{Left}
 use Rattle.watch_engine.specs.declared.left.PastFence.{PastFence}
 use Rattle.watch_engine.specs.Held.{is_current_by, is_exposed_by, marked_if, remembered_all, settled_unless_stale, stays as root_stays, translation_of, without_frames}
+use Rattle.watch_engine.specs.KeptWays.{AreKept}
 use Rattle.watch_engine.specs.Warnings.{AreWarnings, joined}
 use Rattle.watch_engine.specs.Standing.{Stands}
 use Rattle.watch_engine.proofs.FrameChanges.{all_rooted, frames_stand}
 use Rattle.watch_engine.proofs.Gathering.{SeenIn}
+use Rattle.watch_engine.proofs.EmptyFrames.{kept-over}
 use Rattle.watch_engine.proofs.Judging.{are_warnings, out_causes}
 use Rattle.watch_engine.proofs.Marking.{still_same_out}
 use Rattle.watch_engine.proofs.Standings.{on_err, some_remembered}
@@ -73,8 +76,8 @@ returns-clause-ok g c = λ hart trace at.
     subst (λ (ls : List Left). Stands scheme (records.GiveOut hart frames ∷ trace) new (g.T.Tables.since c.clear.new.self) watch.satps.spaces.items these (items_of c.settle_taken.new.held.slots.items) ls drops watch.fences.items watch.claims.items (watch.count + 1))
     (sym (c.drop_rootless.ensures ∙ all_rooted at frames these these_are keeps keeps_is))
     (frames_stand at hart frames new (g.T.Tables.since c.clear.new.self) (c.clear.ensures.words hart) c.clear.ensures.others addresses c.in_ok-addresses.ensures these these_are changed
-    (λ same. (sym c.as_slice-4.ensures.value ∙ c.may_differ.ensures.words same, sym keeps_is ∙ c.may_differ.ensures.roots same)) seen all _
-    (c.settle_taken.ensures ∙ (λ j. cond changed (map (settle (c.as_slice-5.ensures j)) (marks j)) (marks j))))
+    (λ same. (sym c.as_slice-5.ensures.value ∙ c.may_differ.ensures.words same, sym keeps_is ∙ c.may_differ.ensures.roots same)) seen all _
+    (c.settle_taken.ensures ∙ (λ j. cond changed (map (settle (c.as_slice-6.ensures j)) (marks j)) (marks j))))
 
 pub mark_given-requires : goal.mark_given-requires
 mark_given-requires g c = λ none.
@@ -84,3 +87,19 @@ mark_given-requires g c = λ none.
     let f : Held → Held = marked_if Reuse (is_exposed_by frames) in
     let empty : joined (Out frames) held [] ≡ [] = sym (c.in_ok-given.ensures) ∙ (sym c.as_slice-3.ensures.value ∙ none) in
     ap (map f) c.in_ok-remember_all.ensures.ok ∙ (still_same_out frames seen held empty ∙ sym c.in_ok-remember_all.ensures.ok)
+
+pub invariant_of-self-2 : goal.invariant_of-self-2
+invariant_of-self-2 g c =
+    let watch = c.args.self.now in
+    let scheme = watch.scheme in
+    let words : Tables = g.T.Tables.words watch.tables in
+    let new = g.T.Tables.since c.clear.new.self in
+    let frames = c.args.frames in
+    let kept = c.keep_unless_any.ensures in
+    record {
+      kept = λ place known among.
+          let none : c.in_ok-addresses.addresses.items ≡ [] = sym c.as_slice-4.ensures.value ∙ kept.none place known among in
+          let filled = subst (AreFilled words frames) none c.in_ok-addresses.ensures in
+          subst (λ (w : Tables). AreKept scheme w new c.keep_unless_any.new.self) (sym (c.clear.ensures.words 0))
+          (kept-over words (g.T.Tables.since watch.tables) new frames c.clear.ensures.others filled scheme watch.kept_ways c.keep_unless_any.new.self watch.kept kept.same) place known among;
+    }
