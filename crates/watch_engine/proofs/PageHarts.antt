@@ -1,9 +1,10 @@
--- The harts of the items with the key of a page, and what is remembered by them.
-use Rattle.std.proofs.Common.{◌≡◌, ℕ, Bool, true, false, ◌+◌, ◌-◌, ◌<◌, List, [], ◌∷◌, ◌++◌, length, map, take, get_or, ap, sym, ◌∙◌, refl}
-use Rattle.std.specs.Prelude.{◌==◌, ◌&&◌, ◌||◌, cond, not}
+-- The harts of the items of a page, and what is remembered by them.
+use Rattle.std.proofs.Common.{◌≡◌, ℕ, Bool, true, false, ◌+◌, ◌-◌, ◌<◌, List, [], ◌∷◌, ◌++◌, length, map, take, get_or, ap, sym, ◌∙◌, refl, arith, inr}
+use Rattle.std.specs.Prelude.{◌==◌, ◌&&◌, ◌||◌, cond}
 use Rattle.std.specs.List.{list_any}
-use Rattle.std.proofs.lemmas.Bool.{and_from, eq-eqb, eqb-true, false_from_ne_true, true≢false}
+use Rattle.std.proofs.lemmas.Bool.{and_from, and_parts, eq-eqb, eqb-true, false_from_ne_true, true≢false}
 use Rattle.std.proofs.lemmas.List.{take_more}
+use Rattle.pte.specs.Address.{Span, level_of}
 use Rattle.watch_engine.specs.declared.held.Held.{Held}
 use Rattle.watch_engine.specs.declared.held.LastLive.{LastLive}
 use Rattle.watch_engine.specs.declared.keys.By.TheVariants.{Page}
@@ -11,83 +12,88 @@ use Rattle.watch_engine.specs.declared.slot.Slot.{Slot}
 use Rattle.watch_engine.specs.Chains.{last_place}
 use Rattle.watch_engine.specs.Held.{held_from, is_of, last_translation, remembered, remembered_all}
 use Rattle.watch_engine.specs.Keys.{page_key}
-use Rattle.watch_engine.specs.PageRuns.{AreHartsOf, AreRememberedUpTo, is_keyed_of}
+use Rattle.watch_engine.specs.PageRuns.{AreHartsOf, AreRememberedUpTo, is_on_page, is_same_page}
 use Rattle.watch_engine.specs.Slots.{has, items_of, key_in}
-use Rattle.watch_engine.proofs.Lists.{of_same}
+use Rattle.watch_engine.proofs.Emptying.{any_items}
+use Rattle.watch_engine.proofs.Lists.{of_same, same_size}
 use Rattle.watch_engine.proofs.Places.{remembered_push, touched}
-use Rattle.watch_engine.proofs.Walks.{IsAt, keyed, next, or_parts, start}
+use Rattle.watch_engine.proofs.Walks.{IsAt, keyed, next, none_among, or_parts, start}
 
-abbrev pub is_hart : ℕ → Slot → Bool
-is_hart hart s = has (λ i. i.hart == hart) s
+pub same_page : (a b : Span) → is_same_page a b ≡ true → a ≡ b
+same_page a b is =
+    let p = and_parts (a.base == b.base) _ is in
+    let base : a.base ≡ b.base = eqb-true _ _ p.0 in
+    let size : a.size ≡ b.size = same_size _ _ (eqb-true _ _ p.1) in
+    λ j. record { base = base j; size = size j }
 
--- a walk along the items with a key is at a place, and has the harts of those from there on
-pub record Gathers (key : ℕ) (items : List Slot) (at : ℕ) (harts : List Bool) : Type 0 where
-  pub walk : IsAt (key_in Page) key (λ _. false) items at
-  pub others : (hart : ℕ) → get_or harts hart false ≡ false → IsAt (key_in Page) key (is_hart hart) items at
+page_same : (a b : Span) → a ≡ b → is_same_page a b ≡ true
+page_same a b is = and_from _ _ (eq-eqb _ _ (ap (λ (p : Span). p.base) is)) (eq-eqb _ _ (ap (λ (p : Span). level_of p.size) is))
 
-pub gathers_first : (key : ℕ) (items : List Slot) (at : ℕ) (harts : List Bool) → at ≡ last_place key (map (key_in Page) items) → Gathers key items at harts
-gathers_first key items at harts is =
+abbrev pub on : Span → ℕ → Slot → Bool
+on page hart s = has (is_on_page page hart) s
+
+-- a walk along the items with the key of a page is at a place, and has the harts of those from there on
+pub record Gathers (page : Span) (items : List Slot) (at : ℕ) (harts : List Bool) : Type 0 where
+  pub walk : IsAt (key_in Page) (page_key page) (λ _. false) items at
+  pub others : (hart : ℕ) → get_or harts hart false ≡ false → IsAt (key_in Page) (page_key page) (on page hart) items at
+
+pub gathers_first : (page : Span) (items : List Slot) (at : ℕ) (harts : List Bool) → at ≡ last_place (page_key page) (map (key_in Page) items) → Gathers page items at harts
+gathers_first page items at harts is =
     record {
-      walk = start (key_in Page) key (λ _. false) items at is;
-      others = λ hart none. start (key_in Page) key (is_hart hart) items at is;
+      walk = start (key_in Page) (page_key page) (λ _. false) items at is;
+      others = λ hart none. start (key_in Page) (page_key page) (on page hart) items at is;
     }
 
-pub gathers_on : (key : ℕ) (items : List Slot) (at : ℕ) (d : Slot) (old new : List Bool) → Gathers key items at old → 0 < at
-    → ((hart : ℕ) → get_or new hart false ≡ (is_hart hart (get_or items (at - 1) d) || get_or old hart false))
-    → (older : ℕ) → older ≡ last_place (get_or (map (key_in Page) items) (at - 1) 0) (take (at - 1) (map (key_in Page) items)) → Gathers key items older new
-gathers_on key items at d old new was some with older is =
+pub gathers_on : (page : Span) (items : List Slot) (at : ℕ) (d : Slot) (old new : List Bool) → Gathers page items at old → 0 < at
+    → ((hart : ℕ) → get_or new hart false ≡ (on page hart (get_or items (at - 1) d) || get_or old hart false))
+    → (older : ℕ) → older ≡ last_place (get_or (map (key_in Page) items) (at - 1) 0) (take (at - 1) (map (key_in Page) items)) → Gathers page items older new
+gathers_on page items at d old new was some with older is =
     record {
-      walk = next (key_in Page) key (λ _. false) items at d was.walk some refl older is;
+      walk = next (key_in Page) (page_key page) (λ _. false) items at d was.walk some refl older is;
       others = λ hart none.
           let parts = or_parts _ _ (sym (with hart) ∙ none) in
-          next (key_in Page) key (is_hart hart) items at d (was.others hart parts.1) some parts.0 older is;
+          next (key_in Page) (page_key page) (on page hart) items at d (was.others hart parts.1) some parts.0 older is;
     }
 
-none_keyed : (key hart : ℕ) (i : Held) (b : Bool) (slots : List Slot) → list_any (is_keyed_of key hart) (items_of slots) ≡ false
-    → ((page_key i.entry.page == key) && (not b && (i.hart == hart))) ≡ false
-    → list_any (is_keyed_of key hart) (cond b (items_of slots) (i ∷ items_of slots)) ≡ false
-none_keyed key hart i true slots rest none = rest
-none_keyed key hart i false slots rest none = ap (λ b. b || list_any (is_keyed_of key hart) (items_of slots)) none ∙ rest
+has_key : (page : Span) (hart : ℕ) (s : Slot) → on page hart s ≡ true → key_in Page s ≡ page_key page
+has_key page hart s is =
+    let of = and_parts _ (is_on_page page hart s.item) is in
+    ap page_key (same_page s.item.entry.page page (and_parts (is_same_page s.item.entry.page page) (s.item.hart == hart) of.1).0)
 
-none_of_hart : (key hart : ℕ) (slots : List Slot) → list_any (keyed (key_in Page) key (is_hart hart)) slots ≡ false → list_any (is_keyed_of key hart) (items_of slots) ≡ false
-none_of_hart key hart [] none = refl
-none_of_hart key hart (s ∷ slots) none =
-    let parts = or_parts _ _ none in
-    none_keyed key hart s.item s.is_gone slots (none_of_hart key hart slots parts.1) parts.0
-
-pub gathered : (key : ℕ) (items : List Slot) (at : ℕ) (harts : List Bool) → Gathers key items at harts → at ≡ 0 → AreHartsOf key (items_of items) harts
-gathered key items at harts all end = λ hart none.
-    none_of_hart key hart items ((all.others hart none).any ∙ ap (λ (n : ℕ). list_any (keyed (key_in Page) key (is_hart hart)) (take n items)) end)
+pub gathered : (page : Span) (items : List Slot) (at : ℕ) (harts : List Bool) → Gathers page items at harts → at ≡ 0 → AreHartsOf page (items_of items) harts
+gathered page items at harts all end = λ hart none.
+    let keys : list_any (keyed (key_in Page) (page_key page) (on page hart)) items ≡ false =
+    (all.others hart none).any ∙ ap (λ (n : ℕ). list_any (keyed (key_in Page) (page_key page) (on page hart)) (take n items)) end in
+    sym (any_items (is_on_page page hart) items) ∙ none_among (key_in Page) (on page hart) 0 (λ n. n) (page_key page) items (λ n few. absurd (omega arith)) keys (λ s is. inr (has_key page hart s is))
 
 -- what is of no hart of its page is not there
-pub not_there : (s : LastLive) (held : List Held) → list_any (is_keyed_of (page_key s.entry.page) s.hart) held ≡ false → remembered s held ≡ held ++ held_from s ∷ []
+pub not_there : (s : LastLive) (held : List Held) → list_any (is_on_page s.entry.page s.hart) held ≡ false → remembered s held ≡ held ++ held_from s ∷ []
 not_there s [] none = refl
 not_there s (i ∷ held) none =
-    let parts = or_parts (is_keyed_of (page_key s.entry.page) s.hart i) _ none in
+    let parts = or_parts (is_on_page s.entry.page s.hart i) _ none in
     let other : is_of s.hart (last_translation s) i ≡ false =
     false_from_ne_true _ (λ is.
     let same = of_same s.hart (last_translation s) i is in
-    true≢false (sym (and_from _ _ (eq-eqb _ _ (ap (λ x. page_key x.entry.page) same.translation)) (eq-eqb _ _ same.hart)) ∙ parts.0)) in
+    true≢false (sym (and_from _ _ (page_same i.entry.page s.entry.page (ap (λ x. x.entry.page) same.translation)) (eq-eqb _ _ same.hart)) ∙ parts.0)) in
     ap (λ b. cond b (touched s i ∷ held) (i ∷ remembered s held)) other ∙ ap (λ is. i ∷ is) (not_there s held parts.1)
 
-still_none : (key hart : ℕ) (s : LastLive) (held : List Held) → (s.hart == hart) ≡ false → list_any (is_keyed_of key hart) held ≡ false → list_any (is_keyed_of key hart) (remembered s held) ≡ false
-still_none key hart s [] other none = elim (page_key s.entry.page == key) as (λ b. ((b && (s.hart == hart)) || false) ≡ false) [
+still_none : (page : Span) (hart : ℕ) (s : LastLive) (held : List Held) → (s.hart == hart) ≡ false → list_any (is_on_page page hart) held ≡ false → list_any (is_on_page page hart) (remembered s held) ≡ false
+still_none page hart s [] other none = elim (is_same_page s.entry.page page) as (λ b. ((b && (s.hart == hart)) || false) ≡ false) [
   | true ↦ ap (λ b. b || false) other
   | false ↦ refl
 ]
-still_none key hart s (i ∷ held) other none =
-    let parts = or_parts (is_keyed_of key hart i) _ none in
-    elim (is_of s.hart (last_translation s) i) as (λ b. list_any (is_keyed_of key hart) (cond b (touched s i ∷ held) (i ∷ remembered s held)) ≡ false) [
+still_none page hart s (i ∷ held) other none =
+    let parts = or_parts (is_on_page page hart i) _ none in
+    elim (is_of s.hart (last_translation s) i) as (λ b. list_any (is_on_page page hart) (cond b (touched s i ∷ held) (i ∷ remembered s held)) ≡ false) [
       | true ↦ none
-      | false ↦ ap (λ b. b || list_any (is_keyed_of key hart) (remembered s held)) parts.0 ∙ still_none key hart s held other parts.1
+      | false ↦ ap (λ b. b || list_any (is_on_page page hart) (remembered s held)) parts.0 ∙ still_none page hart s held other parts.1
     ]
 
 -- whose hart is among them once it is remembered
-pub still_harts : (key : ℕ) (s : LastLive) (held : List Held) (old new : List Bool) → AreHartsOf key held old
-    → ((hart : ℕ) → get_or new hart false ≡ false → get_or old hart false ≡ false) → get_or new s.hart false ≡ true
-    → AreHartsOf key (remembered s held) new
-still_harts key s held old new are more has = λ hart none.
-    still_none key hart s held (false_from_ne_true _ (λ same. true≢false (sym has ∙ (ap (λ (h : ℕ). get_or new h false) (eqb-true _ _ same) ∙ none)))) (are hart (more hart none))
+pub still_harts : (page : Span) (s : LastLive) (held : List Held) (harts : List Bool) → AreHartsOf page held harts → get_or harts s.hart false ≡ true
+    → AreHartsOf page (remembered s held) harts
+still_harts page s held harts are has = λ hart none.
+    still_none page hart s held (false_from_ne_true _ (λ same. true≢false (sym has ∙ (ap (λ (h : ℕ). get_or harts h false) (eqb-true _ _ same) ∙ none)))) (are hart none)
 
 -- one more is remembered
 pub one_more : (live : List LastLive) (from at : ℕ) (l : LastLive) (old held new : List Held) → at < length live → l ≡ get_or live at l

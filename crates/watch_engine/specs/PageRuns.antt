@@ -1,19 +1,22 @@
 -- Translations of one page that are remembered one after another, and the harts of the items there.
 use Rattle.std.specs.Prelude.{ℕ, Bool, false, ◌≡◌, ◌==◌, ◌&&◌, List, get_or, take}
 use Rattle.std.specs.List.{list_any}
+use Rattle.pte.specs.Address.{Span, level_of}
 use Rattle.watch_engine.specs.declared.held.Held.{Held}
 use Rattle.watch_engine.specs.declared.held.LastLive.{LastLive}
 use Rattle.watch_engine.specs.Held.{remembered_all}
-use Rattle.watch_engine.specs.Keys.{page_key}
 
--- it is of the hart, and its page has the key
-abbrev pub is_keyed_of : ℕ → ℕ → Held → Bool
-is_keyed_of key hart i = (page_key i.entry.page == key) && (i.hart == hart)
+abbrev pub is_same_page : Span → Span → Bool
+is_same_page a b = (a.base == b.base) && (level_of a.size == level_of b.size)
 
--- each item whose page has the key is of one of these harts
-abbrev pub AreHartsOf : ℕ → List Held → List Bool → Type 0
-AreHartsOf key held harts =
-    (hart : ℕ) → get_or harts hart false ≡ false → list_any (is_keyed_of key hart) held ≡ false
+-- it is of the page and the hart
+abbrev pub is_on_page : Span → ℕ → Held → Bool
+is_on_page page hart i = is_same_page i.entry.page page && (i.hart == hart)
+
+-- each item of the page is of one of these harts
+abbrev pub AreHartsOf : Span → List Held → List Bool → Type 0
+AreHartsOf page held harts =
+    (hart : ℕ) → get_or harts hart false ≡ false → list_any (is_on_page page hart) held ≡ false
 
 -- what is remembered from one place on up to another
 abbrev pub AreRememberedUpTo : List LastLive → ℕ → ℕ → List Held → List Held → Type 0

@@ -1,10 +1,9 @@
 //! Translations of one page that are remembered one after another, such as those of a page of the
 //! kernel for each hart: where they are many, the items of the page are looked through once for all.
 
-ghost use Rattle.std.specs.Prelude.{ℕ, ◌≡◌, ◌+◌, ◌<◌, ◌≤◌, ◌==◌, ◌||◌, IfOk, IsTrue, OnErr, OnOk, false, get_or, length, take};
+ghost use Rattle.std.specs.Prelude.{ℕ, ◌≡◌, ◌+◌, ◌<◌, ◌≤◌, ◌||◌, IfOk, IsTrue, OnErr, OnOk, false, get_or, length, take};
 ghost use Rattle.watch_engine.specs.Held.{remembered, remembered_all};
-ghost use Rattle.watch_engine.specs.Keys.{page_key};
-ghost use Rattle.watch_engine.specs.PageRuns.{AreHartsOf, AreRememberedUpTo};
+ghost use Rattle.watch_engine.specs.PageRuns.{AreHartsOf, AreRememberedUpTo, is_on_page, is_same_page};
 ghost use Rattle.watch_engine.specs.Slots.{has, items_of};
 
 use crate::held::{Held, LastLive};
@@ -13,30 +12,37 @@ use crate::keys::page_key;
 use crate::list::remember;
 use crate::shared::HARTS;
 use crate::slot::Slot;
+use pte::Page;
 use std::alloc::AllocError;
 
 /// How many translations of one page are worth a look at the harts of its items.
 const MANY: usize = 8;
 
-// With the hart of the item that is there.
-fn add_hart_of(harts: &mut [bool; HARTS], slot: &Slot)
-    ensures { (hart : ℕ) → get_or harts.new hart false
-        ≡ (has (λ i. i.hart == hart) slot.now || get_or harts.old hart false) }
+fn is_same_page(page: &Page, other: &Page) -> bool
+    ensures { result ≡ is_same_page page.now other.now }
 {
-    if !slot.is_gone {
+    page.base().get() == other.base().get() && page.size().level() == other.size().level()
+}
+
+// With the hart of the item, if it is there and of the page.
+fn add_hart_of(harts: &mut [bool; HARTS], page: &Page, slot: &Slot)
+    ensures { (hart : ℕ) → get_or harts.new hart false
+        ≡ (has (is_on_page page.now hart) slot.now || get_or harts.old hart false) }
+{
+    if !slot.is_gone && is_same_page(&slot.item.entry.page, page) {
         harts[slot.item.hart as usize] = true;
     }
 }
 
-// The harts of the items whose page has the key.
-fn harts_of(held: &HeldList, key: u64) -> [bool; HARTS]
-    ensures { AreHartsOf key (items_of held.now.slots.items) result }
+// The harts of the items of a page.
+fn harts_of(held: &HeldList, page: &Page) -> [bool; HARTS]
+    ensures { AreHartsOf page.now (items_of held.now.slots.items) result }
 {
     let slots = held.as_slice();
     let mut harts = [false; HARTS];
-    let mut at = held.pages.newest(key);
+    let mut at = held.pages.newest(page_key(page));
     while at > 0 {
-        add_hart_of(&mut harts, &slots[at - 1]);
+        add_hart_of(&mut harts, page, &slots[at - 1]);
         at = held.pages.before(at);
     }
     harts
@@ -49,12 +55,12 @@ fn remember_by_hart(
     harts: &mut [bool; HARTS],
     live: &LastLive,
 ) -> Result<(), AllocError>
-    requires { AreHartsOf (page_key live.now.entry.page) (items_of held.old.slots.items) harts.old }
+    requires { AreHartsOf live.now.entry.page (items_of held.old.slots.items) harts.old }
     ensures ok { OnOk result (items_of held.new.slots.items
         ≡ remembered live.now (items_of held.old.slots.items)) }
     ensures err { OnErr result (items_of held.new.slots.items ≡ items_of held.old.slots.items) }
-    ensures harts { OnOk result (AreHartsOf (page_key live.now.entry.page)
-        (items_of held.new.slots.items) harts.new) }
+    ensures harts { OnOk result (AreHartsOf live.now.entry.page (items_of held.new.slots.items)
+        harts.new) }
 {
     if harts[live.hart as usize] {
         return remember(held, live);
@@ -64,21 +70,14 @@ fn remember_by_hart(
     Ok(())
 }
 
-// The pages of both have the same key.
-fn has_same_key(live: &LastLive, other: &LastLive) -> bool
-    ensures { result ≡ (page_key live.now.entry.page == page_key other.now.entry.page) }
-{
-    page_key(&live.entry.page) == page_key(&other.entry.page)
-}
-
 // Many translations from a place on seem to be of one page: some further on are.
 fn begins_run(live: &[LastLive], at: usize) -> bool
     requires { at < length live.now }
     ensures { IsTrue result → at + MANY ≤ length live.now }
 {
     live.len() - at >= MANY
-        && has_same_key(&live[at], &live[at + 1])
-        && has_same_key(&live[at], &live[at + MANY - 1])
+        && is_same_page(&live[at].entry.page, &live[at + 1].entry.page)
+        && is_same_page(&live[at].entry.page, &live[at + MANY - 1].entry.page)
 }
 
 // With translations from a place on up to one of another page. The answer is the place of that one.
@@ -91,13 +90,13 @@ fn remember_run(held: &mut HeldList, live: &[LastLive], start: usize) -> Result<
     ensures err { OnErr result ((n : ℕ) × AreRememberedUpTo live.now start n
         (items_of held.old.slots.items) (items_of held.new.slots.items)) }
 {
-    let first = live[start];
-    let mut harts = harts_of(held, page_key(&first.entry.page));
+    let page = live[start].entry.page;
+    let mut harts = harts_of(held, &page);
     let mut at = start;
     loop {
         remember_by_hart(held, &mut harts, &live[at])?;
         at += 1;
-        if at >= live.len() || !has_same_key(&first, &live[at]) {
+        if at >= live.len() || !is_same_page(&live[at].entry.page, &page) {
             return Ok(at);
         }
     }

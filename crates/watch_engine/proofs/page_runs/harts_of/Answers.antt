@@ -4,13 +4,14 @@ use Rattle.watch_engine.specs.declared.keys.By.TheVariants.{Page}
 use Rattle.watch_engine.specs.declared.slot.Slot.{Slot}
 use Rattle.watch_engine.specs.Chains.{last_place}
 use Rattle.watch_engine.specs.Slots.{key_in}
-use Rattle.watch_engine.proofs.PageHarts.{gathered, gathers_first, gathers_on, is_hart}
+use Rattle.watch_engine.proofs.PageHarts.{gathered, gathers_first, gathers_on, on}
 use Rattle.watch_engine.proofs.Walks.{smaller}
 use Rattle.watch_engine.proofs.page_runs.harts_of.Goals as goal
 
 pub loop-at-init : goal.loop-at-init
 loop-at-init c =
-    gathers_first c.args.key c.args.held.now.slots.items c.newest-at.result _ (c.newest-at.ensures ∙ ap (last_place c.args.key) c.args.held.now.by_page)
+    gathers_first c.args.page.now c.args.held.now.slots.items c.newest-at.result _
+    (c.newest-at.ensures ∙ (λ j. last_place (c.page_key.ensures j) (c.args.held.now.by_page j)))
 
 pub loop-at-smaller : goal.loop-at-smaller
 loop-at-smaller c =
@@ -24,9 +25,9 @@ loop-at-preserved c =
     let items : List Slot = c.args.held.now.slots.items in
     let d : Slot = c.index-slots-at.result in
     let read : d ≡ get_or items (at - 1) d = c.index-slots-at.is ∙ ap (λ (l : List Slot). get_or l (at - 1) d) c.as_slice-slots.ensures.value in
-    gathers_on c.args.key items at d c.loop-at.harts c.add_hart_of.new.harts c.loop-at.invariant c.loop-at-test.true
-    (λ hart. c.add_hart_of.ensures hart ∙ ap (λ (s : Slot). is_hart hart s || get_or c.loop-at.harts hart false) read) c.before-at.result
+    gathers_on c.args.page.now items at d c.loop-at.harts c.add_hart_of.new.harts c.loop-at.invariant c.loop-at-test.true
+    (λ hart. c.add_hart_of.ensures hart ∙ ap (λ (s : Slot). on c.args.page.now hart s || get_or c.loop-at.harts hart false) read) c.before-at.result
     (c.before-at.ensures ∙ ap (λ (ks : List ℕ). last_place (get_or ks (at - 1) 0) (take (at - 1) ks)) c.args.held.now.by_page)
 
 pub returns : goal.returns
-returns c = gathered c.args.key c.args.held.now.slots.items c.loop-at.at c.loop-at.harts c.loop-at.invariant (omega (arith, c.loop-at-test.false))
+returns c = gathered c.args.page.now c.args.held.now.slots.items c.loop-at.at c.loop-at.harts c.loop-at.invariant (omega (arith, c.loop-at-test.false))

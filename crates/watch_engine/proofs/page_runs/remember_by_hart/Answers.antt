@@ -1,7 +1,6 @@
 use Rattle.std.proofs.Common.{◌∙◌, List, ◌++◌, ◌∷◌, [], subst, sym}
 use Rattle.std.proofs.lemmas.Result.{on_ok_weaker}
 use Rattle.watch_engine.specs.declared.held.Held.{Held}
-use Rattle.watch_engine.specs.Keys.{page_key}
 use Rattle.watch_engine.specs.PageRuns.{AreHartsOf}
 use Rattle.watch_engine.specs.Slots.{items_of}
 use Rattle.watch_engine.proofs.PageHarts.{not_there, still_harts}
@@ -9,8 +8,8 @@ use Rattle.watch_engine.proofs.page_runs.remember_by_hart.Goals as goal
 
 pub returns-then-harts-live-clause-harts : goal.returns-then-harts-live-clause-harts
 returns-then-harts-live-clause-harts c =
-    on_ok_weaker c.remember.result (λ is. subst (λ (held : List Held). AreHartsOf (page_key c.args.live.now.entry.page) held c.args.harts.now) (sym is)
-    (still_harts (page_key c.args.live.now.entry.page) c.args.live.now (items_of c.args.held.now.slots.items) c.args.harts.now c.args.harts.now c.requires (λ hart none. none) c.if-harts-live.true))
+    on_ok_weaker c.remember.result (λ is. subst (λ (held : List Held). AreHartsOf c.args.live.now.entry.page held c.args.harts.now) (sym is)
+    (still_harts c.args.live.now.entry.page c.args.live.now (items_of c.args.held.now.slots.items) c.args.harts.now c.requires c.if-harts-live.true))
     c.remember.ensures.ok
 
 pub returns-clause-ok : goal.returns-clause-ok

@@ -1,11 +1,10 @@
-use Rattle.std.proofs.Common.{◌∙◌, ap, List, ℕ, ◌+◌, ◌<◌, length, arith, subst, sym}
-use Rattle.std.proofs.lemmas.Bool.{eqb-true}
+use Rattle.std.proofs.Common.{◌≡◌, ◌∙◌, ap, List, ℕ, ◌+◌, ◌<◌, get_or, length, arith, rules, subst, sym, true}
 use Rattle.std.proofs.lemmas.List.{get_or_default}
+use Rattle.pte.specs.Address.{Span}
 use Rattle.watch_engine.specs.declared.held.LastLive.{LastLive}
-use Rattle.watch_engine.specs.Keys.{page_key}
-use Rattle.watch_engine.specs.PageRuns.{AreHartsOf}
+use Rattle.watch_engine.specs.PageRuns.{AreHartsOf, is_same_page}
 use Rattle.watch_engine.specs.Slots.{items_of}
-use Rattle.watch_engine.proofs.PageHarts.{one_more}
+use Rattle.watch_engine.proofs.PageHarts.{one_more, same_page}
 use Rattle.watch_engine.proofs.page_runs.remember_run.Goals as goal
 
 pub returns-then-at-live-clause-ok : goal.returns-then-at-live-clause-ok
@@ -17,14 +16,15 @@ pub loop-at-preserved : goal.loop-at-preserved
 loop-at-preserved c =
     let live : List LastLive = c.args.live.now in
     let at : ℕ = c.loop-at.at in
-    let first : LastLive = c.index-live-start.result in
     let next : LastLive = c.index-live-at-else-at-live.result in
+    let page : Span = (get_or live c.args.start c.index-live-start.result).entry.page in
+    let same : is_same_page next.entry.page page ≡ true = search rules in
     let within : at + 1 < length live = omega arith in (
       omega arith,
       within,
-      λ d. ap (λ (l : LastLive). page_key l.entry.page) (get_or_default live (at + 1) d next within ∙ sym c.index-live-at-else-at-live.is) ∙ sym (eqb-true _ _ (sym c.has_same_key.ensures ∙ c.if-not-has_same_key.false)),
-      subst (λ (key : ℕ). AreHartsOf key (items_of c.remember_by_hart.new.held.slots.items) c.remember_by_hart.new.harts)
-          (ap (λ (l : LastLive). page_key l.entry.page) c.index-live-at.is ∙ c.loop-at.invariant.2 c.index-live-at.result) c.in_ok-remember_by_hart.ensures.harts,
+      λ d. ap (λ (l : LastLive). l.entry.page) (get_or_default live (at + 1) d next within ∙ sym c.index-live-at-else-at-live.is) ∙ same_page next.entry.page page same,
+      subst (λ (page : Span). AreHartsOf page (items_of c.remember_by_hart.new.held.slots.items) c.remember_by_hart.new.harts)
+          (ap (λ (l : LastLive). l.entry.page) c.index-live-at.is ∙ c.loop-at.invariant.2 c.index-live-at.result) c.in_ok-remember_by_hart.ensures.harts,
       one_more live c.args.start at c.index-live-at.result (items_of c.args.held.now.slots.items) (items_of c.loop-at.held.slots.items) _
           c.loop-at.invariant.1 c.index-live-at.is c.loop-at.invariant.4 c.in_ok-remember_by_hart.ensures.ok,
     )
