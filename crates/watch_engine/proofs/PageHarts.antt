@@ -12,21 +12,21 @@ use Rattle.watch_engine.specs.declared.slot.Slot.{Slot}
 use Rattle.watch_engine.specs.Chains.{last_place}
 use Rattle.watch_engine.specs.Held.{held_from, is_of, last_translation, remembered, remembered_all}
 use Rattle.watch_engine.specs.Keys.{page_key}
-use Rattle.watch_engine.specs.PageRuns.{AreHartsOf, AreRememberedUpTo, is_on_page, is_same_page}
+use Rattle.watch_engine.specs.PageRuns.{AreHartsOf, AreRememberedUpTo, is_on_page, is_that_page}
 use Rattle.watch_engine.specs.Slots.{has, items_of, key_in}
 use Rattle.watch_engine.proofs.Emptying.{any_items}
 use Rattle.watch_engine.proofs.Lists.{of_same, same_size}
 use Rattle.watch_engine.proofs.Places.{remembered_push, touched}
 use Rattle.watch_engine.proofs.Walks.{IsAt, keyed, next, none_among, or_parts, start}
 
-pub same_page : (a b : Span) → is_same_page a b ≡ true → a ≡ b
+pub same_page : (a b : Span) → is_that_page a b ≡ true → a ≡ b
 same_page a b is =
     let p = and_parts (a.base == b.base) _ is in
     let base : a.base ≡ b.base = eqb-true _ _ p.0 in
     let size : a.size ≡ b.size = same_size _ _ (eqb-true _ _ p.1) in
     λ j. record { base = base j; size = size j }
 
-page_same : (a b : Span) → a ≡ b → is_same_page a b ≡ true
+page_same : (a b : Span) → a ≡ b → is_that_page a b ≡ true
 page_same a b is = and_from _ _ (eq-eqb _ _ (ap (λ (p : Span). p.base) is)) (eq-eqb _ _ (ap (λ (p : Span). level_of p.size) is))
 
 abbrev pub on : Span → ℕ → Slot → Bool
@@ -58,7 +58,7 @@ gathers_on page items at d old new was some with older is =
 has_key : (page : Span) (hart : ℕ) (s : Slot) → on page hart s ≡ true → key_in Page s ≡ page_key page
 has_key page hart s is =
     let of = and_parts _ (is_on_page page hart s.item) is in
-    ap page_key (same_page s.item.entry.page page (and_parts (is_same_page s.item.entry.page page) (s.item.hart == hart) of.1).0)
+    ap page_key (same_page s.item.entry.page page (and_parts (is_that_page s.item.entry.page page) (s.item.hart == hart) of.1).0)
 
 pub gathered : (page : Span) (items : List Slot) (at : ℕ) (harts : List Bool) → Gathers page items at harts → at ≡ 0 → AreHartsOf page (items_of items) harts
 gathered page items at harts all end = λ hart none.
@@ -78,7 +78,7 @@ not_there s (i ∷ held) none =
     ap (λ b. cond b (touched s i ∷ held) (i ∷ remembered s held)) other ∙ ap (λ is. i ∷ is) (not_there s held parts.1)
 
 still_none : (page : Span) (hart : ℕ) (s : LastLive) (held : List Held) → (s.hart == hart) ≡ false → list_any (is_on_page page hart) held ≡ false → list_any (is_on_page page hart) (remembered s held) ≡ false
-still_none page hart s [] other none = elim (is_same_page s.entry.page page) as (λ b. ((b && (s.hart == hart)) || false) ≡ false) [
+still_none page hart s [] other none = elim (is_that_page s.entry.page page) as (λ b. ((b && (s.hart == hart)) || false) ≡ false) [
   | true ↦ ap (λ b. b || false) other
   | false ↦ refl
 ]

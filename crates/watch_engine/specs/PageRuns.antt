@@ -6,12 +6,12 @@ use Rattle.watch_engine.specs.declared.held.Held.{Held}
 use Rattle.watch_engine.specs.declared.held.LastLive.{LastLive}
 use Rattle.watch_engine.specs.Held.{remembered_all}
 
-abbrev pub is_same_page : Span → Span → Bool
-is_same_page a b = (a.base == b.base) && (level_of a.size == level_of b.size)
+abbrev pub is_that_page : Span → Span → Bool
+is_that_page a b = (a.base == b.base) && (level_of a.size == level_of b.size)
 
 -- it is of the page and the hart
 abbrev pub is_on_page : Span → ℕ → Held → Bool
-is_on_page page hart i = is_same_page i.entry.page page && (i.hart == hart)
+is_on_page page hart i = is_that_page i.entry.page page && (i.hart == hart)
 
 -- each item of the page is of one of these harts
 abbrev pub AreHartsOf : Span → List Held → List Bool → Type 0

@@ -3,7 +3,7 @@
 
 ghost use Rattle.std.specs.Prelude.{ℕ, ◌≡◌, ◌+◌, ◌<◌, ◌≤◌, ◌||◌, IfOk, IsTrue, OnErr, OnOk, false, get_or, length, take};
 ghost use Rattle.watch_engine.specs.Held.{remembered, remembered_all};
-ghost use Rattle.watch_engine.specs.PageRuns.{AreHartsOf, AreRememberedUpTo, is_on_page, is_same_page};
+ghost use Rattle.watch_engine.specs.PageRuns.{AreHartsOf, AreRememberedUpTo, is_on_page, is_that_page};
 ghost use Rattle.watch_engine.specs.Slots.{has, items_of};
 
 use crate::held::{Held, LastLive};
@@ -18,8 +18,8 @@ use std::alloc::AllocError;
 /// How many translations of one page are worth a look at the harts of its items.
 const MANY: usize = 8;
 
-fn is_same_page(page: &Page, other: &Page) -> bool
-    ensures { result ≡ is_same_page page.now other.now }
+fn is_that_page(page: &Page, other: &Page) -> bool
+    ensures { result ≡ is_that_page page.now other.now }
 {
     page.base().get() == other.base().get() && page.size().level() == other.size().level()
 }
@@ -29,7 +29,7 @@ fn add_hart_of(harts: &mut [bool; HARTS], page: &Page, slot: &Slot)
     ensures { (hart : ℕ) → get_or harts.new hart false
         ≡ (has (is_on_page page.now hart) slot.now || get_or harts.old hart false) }
 {
-    if !slot.is_gone && is_same_page(&slot.item.entry.page, page) {
+    if !slot.is_gone && is_that_page(&slot.item.entry.page, page) {
         harts[slot.item.hart as usize] = true;
     }
 }
@@ -76,8 +76,8 @@ fn begins_run(live: &[LastLive], at: usize) -> bool
     ensures { IsTrue result → at + MANY ≤ length live.now }
 {
     live.len() - at >= MANY
-        && is_same_page(&live[at].entry.page, &live[at + 1].entry.page)
-        && is_same_page(&live[at].entry.page, &live[at + MANY - 1].entry.page)
+        && is_that_page(&live[at].entry.page, &live[at + 1].entry.page)
+        && is_that_page(&live[at].entry.page, &live[at + MANY - 1].entry.page)
 }
 
 // With translations from a place on up to one of another page. The answer is the place of that one.
@@ -96,7 +96,7 @@ fn remember_run(held: &mut HeldList, live: &[LastLive], start: usize) -> Result<
     loop {
         remember_by_hart(held, &mut harts, &live[at])?;
         at += 1;
-        if at >= live.len() || !is_same_page(&live[at].entry.page, &page) {
+        if at >= live.len() || !is_that_page(&live[at].entry.page, &page) {
             return Ok(at);
         }
     }

@@ -2,7 +2,7 @@ use Rattle.std.proofs.Common.{◌≡◌, ◌∙◌, ap, List, ℕ, ◌+◌, ◌<
 use Rattle.std.proofs.lemmas.List.{get_or_default}
 use Rattle.pte.specs.Address.{Span}
 use Rattle.watch_engine.specs.declared.held.LastLive.{LastLive}
-use Rattle.watch_engine.specs.PageRuns.{AreHartsOf, is_same_page}
+use Rattle.watch_engine.specs.PageRuns.{AreHartsOf, is_that_page}
 use Rattle.watch_engine.specs.Slots.{items_of}
 use Rattle.watch_engine.proofs.PageHarts.{one_more, same_page}
 use Rattle.watch_engine.proofs.page_runs.remember_run.Goals as goal
@@ -18,7 +18,7 @@ loop-at-preserved c =
     let at : ℕ = c.loop-at.at in
     let next : LastLive = c.index-live-at-else-at-live.result in
     let page : Span = (get_or live c.args.start c.index-live-start.result).entry.page in
-    let same : is_same_page next.entry.page page ≡ true = search rules in
+    let same : is_that_page next.entry.page page ≡ true = search rules in
     let within : at + 1 < length live = omega arith in (
       omega arith,
       within,
