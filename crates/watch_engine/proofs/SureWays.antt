@@ -1,4 +1,5 @@
--- What is so of some ways to a table is found again from the ways.
+-- A struct can keep only that some proof shows ways to be those to a table. From it the proof is made again: what
+-- leads, whether G stands above, and whether a way is among these can each be computed.
 use Rattle.std.proofs.Common.{◌≡◌, ℕ, suc, ◌+◌, ◌-◌, Bool, true, false, Option, Some, List, [], ◌∷◌, IsTrue, ap, sym, ◌∙◌, subst, refl, inl, inr, arith}
 use Rattle.std.specs.Prelude.{◌↔◌, ◌==◌, ◌&&◌, ◌||◌}
 use Rattle.std.specs.List.{Contains, list_any}
@@ -13,6 +14,7 @@ use Rattle.walk.specs.Leads.{Tables, word_at, Leads, IsGlobalAt}
 use Rattle.walk.specs.Pointers.{table_after}
 use Rattle.walk.proofs.Downward.{leads_by_pointers}
 use Rattle.walk.proofs.Paths.{global_known, leads-above}
+use Rattle.walk.proofs.Unique.{same_bool}
 use Rattle.watch_tables.specs.declared.way.Way.{Way}
 use Rattle.watch_tables.specs.Paths.{IsPathSince}
 use Rattle.watch_tables.specs.Ways.{AreWays, HasWay, IsInLevels, IsWay, vpn_from}
@@ -60,12 +62,6 @@ module _ (root level vpn : ℕ) where
 path-since-prop : (scheme : Scheme) (words : Tables) (since : ℕ → ℕ → ℕ) (root va level count : ℕ) → IsProp (IsPathSince scheme words since root va level count)
 path-since-prop scheme words since root va level count = λ p q. λ i. record { unchanged = λ at t from path. le_prop (p.unchanged at t from path) (q.unchanged at t from path) i }
 
-same_test : (a b : Bool) (P : Type 0) → (IsTrue a ↔ P) → (IsTrue b ↔ P) → a ≡ b
-same_test true true P f g = refl
-same_test false false P f g = refl
-same_test true false P f g = sym (g.1 (f.0 refl))
-same_test false true P f g = f.1 (g.0 refl)
-
 -- whether G stands above a table is known
 global-above : (scheme : Scheme) (words : Tables) (root va level table : ℕ) (w : Option ℕ) → Leads scheme words root va level table w → (b : Bool) × (IsTrue b ↔ IsGlobalAt scheme words root va (level + 1))
 global-above scheme words root va level table w path =
@@ -95,7 +91,7 @@ module _ (scheme : Scheme) (words : Tables) (since : ℕ → ℕ → ℕ) (table
       reached = λ va vpn.
           let path = sure-leads va vpn in
           let known = global-above scheme words way.root va way.level way.at.table _ path in
-          let same : way.at.global ≡ known.0 = ∥∥₁_elim some (Prim.hlevel props) (λ are. let is = (are.sound way among).0 in same_test way.at.global known.0 (IsGlobalAt scheme words way.root va (way.level + 1)) (is.reached va vpn).global known.1) in
+          let same : way.at.global ≡ known.0 = ∥∥₁_elim some (Prim.hlevel props) (λ are. let is = (are.sound way among).0 in let global = (is.reached va vpn).global in same_bool way.at.global known.0 ((λ h. known.1.1 (global.0 h)), (λ h. global.1 (known.1.0 h)))) in
           record {
             leads = path;
             global = subst (λ g. IsTrue g ↔ IsGlobalAt scheme words way.root va (way.level + 1)) (sym same) known.1;
