@@ -12,7 +12,7 @@ use Rattle.watch_tables.specs.Words.{AreFilled}
 use Rattle.watch_tables.proofs.SameWays.{KeepsPointers, ways-still}
 use Rattle.watch_tables.proofs.Storing.{zero-points-nowhere}
 use Rattle.watch_engine.specs.declared.kept_ways.KeptWays.{KeptWays}
-use Rattle.watch_engine.specs.KeptWays.{AreKept, IsKnown}
+use Rattle.watch_engine.specs.KeptWays.{AreKept, AreOfTable}
 use Rattle.watch_engine.proofs.Keeping.{all-among}
 
 module _ (words : Tables) (old new : ℕ → ℕ → ℕ) (frames : Frames) (since : (t i : ℕ) → is_among frames t ≡ false → new t i ≡ old t i) (filled : AreFilled words frames []) where
@@ -53,5 +53,5 @@ module _ (words : Tables) (old new : ℕ → ℕ → ℕ) (frames : Frames) (sin
 
   pub kept-over : (scheme : Scheme) (kept after : KeptWays) → AreKept scheme words old kept → All (Contains kept.known.items) after.known.items → AreKept scheme emptied new after
   kept-over scheme kept after are among =
-      All-weaker (IsKnown scheme words old) (IsKnown scheme emptied new) (λ known some. ∥∥₁_map some (ways-still scheme words emptied old new keeps back known.table known.ways.items)) after.known.items
-      (all-among (IsKnown scheme words old) kept.known.items after.known.items among are)
+      All-weaker (AreOfTable scheme words old) (AreOfTable scheme emptied new) (λ known some. ∥∥₁_map some (ways-still scheme words emptied old new keeps back known.table known.ways.items)) after.known.items
+      (all-among (AreOfTable scheme words old) kept.known.items after.known.items among are)

@@ -9,12 +9,12 @@ use Rattle.watch_engine.specs.declared.kept_ways.KeptWays.{KeptWays}
 use Rattle.watch_engine.specs.declared.kept_ways.KnownWays.{KnownWays}
 
 -- the ways are those to their table
-abbrev pub IsKnown : Scheme → Tables → (ℕ → ℕ → ℕ) → KnownWays → Type 0
-IsKnown scheme words since known = ∥ AreWays scheme words since known.table known.ways.items ∥₁
+abbrev pub AreOfTable : Scheme → Tables → (ℕ → ℕ → ℕ) → KnownWays → Type 0
+AreOfTable scheme words since known = ∥ AreWays scheme words since known.table known.ways.items ∥₁
 
 -- so are all that are kept
 abbrev pub AreKept : Scheme → Tables → (ℕ → ℕ → ℕ) → KeptWays → Type 0
-AreKept scheme words since kept = All (IsKnown scheme words since) kept.known.items
+AreKept scheme words since kept = All (AreOfTable scheme words since) kept.known.items
 
 -- the ways to each table in the one memory are those in the other too
 abbrev pub WaysStay : Scheme → Tables → (ℕ → ℕ → ℕ) → Tables → (ℕ → ℕ → ℕ) → Type 0
