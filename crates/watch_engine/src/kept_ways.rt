@@ -1,6 +1,6 @@
 //! The ways to the tables of the last stores.
 
-ghost use Rattle.std.specs.Prelude.{ℕ, ◌≡◌, ◌<◌, [], All, Contains, IfOk, IfSome, length, true};
+ghost use Rattle.std.specs.Prelude.{ℕ, ◌≡◌, ◌<◌, ◌≤◌, [], All, Contains, IfOk, IfSome, length, true};
 ghost use Rattle.std.specs.List.{HoldsAt};
 ghost use Rattle.pte.specs.declared.scheme.Scheme.{Scheme as SchemeOf};
 ghost use Rattle.walk.specs.Leads.{Tables as TablesOf};
@@ -12,9 +12,11 @@ use pte::{PAGE_BYTES, Scheme};
 use std::alloc::{AllocError, Global};
 use watch_tables::Way;
 
-// The ways to so many tables are kept at most. On traces of kernels 75 to 97 of 100 stores are to one
-// of the last 16 tables, and 8 to 78 to the last one.
+// The ways to so many tables are kept at most.
 const MOST_TABLES: usize = 16;
+
+// The ways to a table are not kept if they are more, so that all that is kept takes 1.5 MB at most.
+const MOST_WAYS: usize = 2048;
 
 /// The ways to a table.
 #[derive(Drop)]
@@ -29,6 +31,7 @@ pub(crate) struct KnownWays {
 pub(crate) struct KeptWays {
     // in the order of use, the newest last
     known: Vec<KnownWays>,
+    ghost few: { length known.items ≤ 16 },
 }
 
 // Where the ways to a table stand.
@@ -36,7 +39,7 @@ fn place_of(known: &[KnownWays], table: u64) -> Option<usize>
     ensures { IfSome result (λ place. (place < length known.now)
         × HoldsAt (λ ways. ways.table ≡ table) known.now place) }
 {
-    known.iter().rposition(|ways| ways.table == table)
+    known.iter().rposition(|known| known.table == table)
 }
 
 impl KeptWays {
@@ -87,7 +90,8 @@ impl KeptWays {
 
     // If as many ways are kept as may be, the oldest go.
     fn drop_oldest(&mut self)
-        ensures { All (Contains self.old.known.items) self.new.known.items }
+        ensures rest { All (Contains self.old.known.items) self.new.known.items }
+        ensures place { length self.new.known.items < 16 }
     {
         if self.known.len() >= MOST_TABLES {
             let _oldest = self.known.remove(0);
@@ -95,7 +99,7 @@ impl KeptWays {
     }
 
     /// Keeps the ways to the table of the word at an address, the newest, if the ways to all tables
-    /// stay. If not, nothing is kept.
+    /// stay and these are not too many. If the ways do not stay, nothing is kept.
     pub(crate) fn keep(&mut self, address: u64, ways: Vec<Way>, stay: bool)
         ensures { (scheme : SchemeOf) (words others : TablesOf) (since new : ℕ → ℕ → ℕ)
             → AreKept scheme words since self.old
@@ -105,6 +109,9 @@ impl KeptWays {
     {
         if !stay {
             self.known.clear();
+            return;
+        }
+        if ways.len() > MOST_WAYS {
             return;
         }
         self.drop_oldest();

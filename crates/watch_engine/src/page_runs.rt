@@ -70,7 +70,8 @@ fn remember_by_hart(
     Ok(())
 }
 
-// Many translations from a place on seem to be of one page: some further on are.
+// The translations next to this one and `MANY - 1` places further on are of the same page, and so most
+// often are those between.
 fn begins_run(live: &[LastLive], at: usize) -> bool
     requires { at < length live.now }
     ensures { IsTrue result → at + MANY ≤ length live.now }

@@ -232,9 +232,6 @@ pub(crate) fn add_seen<T: Tables>(
         (λ (root : ℕ) (e : EntryOf). Passes scheme (T.words tables.now) root (page_number address)
         (index_of address) e.page) seen.old.items seen.new.items) }
 {
-    if adds_nothing(tables, scheme, satps, left, address, ways) {
-        return Ok(());
-    }
     let leaves = tables.leaves_through(alloc, scheme, address, ways)?;
     add_leaves(
         seen,
@@ -249,7 +246,37 @@ pub(crate) fn add_seen<T: Tables>(
     Ok(())
 }
 
-/// The same of the words at each of the addresses.
+// The same, where often nothing is to be added: then no leaf is listed.
+fn add_seen_if_any<T: Tables>(
+    alloc: Global,
+    tables: &T,
+    scheme: Scheme,
+    satps: &[Option<Space>],
+    left: &LeftSpaces,
+    drops: &PastFences,
+    address: u64,
+    ways: &[Way],
+    count: u64,
+    seen: &mut Vec<LastLive>,
+) -> Result<(), AllocError>
+    requires harts { length satps.now ≤ 256 }
+    requires ways { AreWays scheme (T.words tables.now) (T.since tables.now) (page_number address)
+        ways.now }
+    ensures { OnOk result (AreAdded scheme (T.words tables.now) (T.since tables.now)
+        satps.now left.now drops.now.fences.items count
+        (λ (root : ℕ) (e : EntryOf). Passes scheme (T.words tables.now) root (page_number address)
+        (index_of address) e.page) seen.old.items seen.new.items) }
+{
+    if adds_nothing(tables, scheme, satps, left, address, ways) {
+        return Ok(());
+    }
+    add_seen(
+        alloc, tables, scheme, satps, left, drops, address, ways, count, seen,
+    )
+}
+
+/// Adds what harts may hold of the leaves whose paths pass through the words at the addresses. These are
+/// not 0.
 pub(crate) fn add_seen_in<T: Tables>(
     alloc: Global,
     tables: &T,
@@ -269,7 +296,7 @@ pub(crate) fn add_seen_in<T: Tables>(
 {
     for address in addresses {
         let ways = tables.ways(alloc, scheme, *address)?;
-        add_seen(
+        add_seen_if_any(
             alloc,
             tables,
             scheme,

@@ -28,6 +28,14 @@ const MOST_WAYS: usize = 64;
 /// How many bytes a word of a table has.
 pub(crate) const WORD_BYTES: u64 = 8;
 
+// The index of the word at an address in the table that its frame is.
+#[inline(always)]
+pub(crate) fn index_of(address: u64) -> u16
+    ensures { result ≡ index_of address }
+{
+    (address % PAGE_BYTES / WORD_BYTES) as u16
+}
+
 // The page lies below the word at the address, on the way to its table.
 pub(crate) fn is_below(scheme: Scheme, address: u64, page: &Page, way: &Way) -> bool
     ensures { result ≡ is_below scheme (index_of address) page.now way.now }
@@ -59,8 +67,7 @@ fn is_touched(scheme: Scheme, roots: &Roots, address: u64, ways: &[Way], item: &
     ensures { result ≡ is_touched scheme roots.now (index_of address) ways.now
         (translation_of item.now) }
 {
-    let index = (address % PAGE_BYTES / WORD_BYTES) as u16;
-    if !asks(&item.entry.page, index) {
+    if !asks(&item.entry.page, index_of(address)) {
         return false;
     }
     for way in ways {

@@ -18,17 +18,10 @@ use crate::left_spaces::LeftSpaces;
 use crate::satps::{harts_of_root, satp_in};
 use crate::shared::{HARTS, has_word_of};
 use crate::tables::Tables;
-use crate::touched::WORD_BYTES;
-use pte::{PAGE_BYTES, Scheme};
+use crate::touched::index_of;
+use pte::Scheme;
 use watch::Space;
 use watch_tables::Way;
-
-// The index of the word at an address in the table that its frame is.
-fn index_of(address: u64) -> u16
-    ensures { result ≡ index_of address }
-{
-    (address % PAGE_BYTES / WORD_BYTES) as u16
-}
 
 // No hart has the root in its satp.
 fn is_in_no_satp(satps: &[Option<Space>], root: u64) -> bool

@@ -20,7 +20,7 @@ pub struct Notes {
     before: Vec<u32>,
     // for each row the place of its newest text, or 0 for none
     newest: [u32; ROWS],
-    // for each record one more than the place of its text, or 0 for no note
+    // for each record the place of its text, or 0 for no note
     places: Vec<u32>,
 }
 

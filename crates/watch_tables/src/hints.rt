@@ -40,8 +40,8 @@ fn hash_of(count: usize, ppn: u64) -> usize
     (ppn.wrapping_mul(SPREAD) >> 32 & (count as u64 - 1)) as usize
 }
 
-/// Makes a place the first hint of a PPN, if neither of its two hints is that place yet. The hint that
-/// stood there goes to the second, if that is free. Where there are no hints, nothing is done.
+/// Makes a place the first hint of a PPN. The hint that stood there goes to the second, if that is
+/// free; where the first stands for another frame and the second is that place already, nothing is done.
 fn set(places: &mut [usize], ppn: u64, place: usize)
     ensures own { IsIn places.new ppn }
     ensures kept { (k : ℕ) → IsIn places.old k → IsIn places.new k }

@@ -13,8 +13,8 @@ loop-address-preserved g c =
     let at : ℕ = c.loop-address.address-index in
     let addresses : List ℕ = c.args.addresses.now in
     let is = take_more addresses at 0 c.loop-address-test.true in
-    subst (λ many. SeenIn c.args.scheme (g.T.Tables.words c.args.tables.now) (g.T.Tables.since c.args.tables.now) c.args.satps.now c.args.left.now c.args.drops.now.fences.items c.args.count many c.add_seen.new.seen.items) (sym is)
-    (one_more c.args.scheme (g.T.Tables.words c.args.tables.now) (g.T.Tables.since c.args.tables.now) c.args.satps.now c.args.left.now c.args.drops.now.fences.items c.args.count (take at addresses) _ c.loop-address.seen.items c.add_seen.new.seen.items c.loop-address.invariant c.in_ok-add_seen.ensures)
+    subst (λ many. SeenIn c.args.scheme (g.T.Tables.words c.args.tables.now) (g.T.Tables.since c.args.tables.now) c.args.satps.now c.args.left.now c.args.drops.now.fences.items c.args.count many c.add_seen_if_any.new.seen.items) (sym is)
+    (one_more c.args.scheme (g.T.Tables.words c.args.tables.now) (g.T.Tables.since c.args.tables.now) c.args.satps.now c.args.left.now c.args.drops.now.fences.items c.args.count (take at addresses) _ c.loop-address.seen.items c.add_seen_if_any.new.seen.items c.loop-address.invariant c.in_ok-add_seen_if_any.ensures)
 
 pub returns : goal.returns
 returns g c =
