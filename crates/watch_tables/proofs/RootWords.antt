@@ -1,9 +1,9 @@
 -- Below words that are the same two roots have the same tables.
-use Rattle.std.proofs.Common.{◌≡◌, ℕ, zero, suc, ◌+◌, ◌-◌, ◌<◌, ◌≤◌, Bool, true, false, cond, List, [], ◌∷◌, drop, get_or, length, Option, Some, None, ap, sym, ◌∙◌, subst, refl, arith}
+use Rattle.std.proofs.Common.{◌≡◌, ℕ, zero, suc, ◌+◌, ◌-◌, ◌<◌, ◌≤◌, Bool, true, false, cond, List, [], ◌∷◌, drop, get_or, length, Option, Some, ap, sym, ◌∙◌, subst, refl, arith}
 use Rattle.std.specs.Prelude.{◌||◌}
 use Rattle.std.specs.List.{list_any}
 use Rattle.pte.specs.declared.scheme.Scheme.{Scheme}
-use Rattle.pte.specs.Address.{level_of, top_level, vpn_of}
+use Rattle.pte.specs.Address.{level_of, top_level}
 use Rattle.walk.specs.Leads.{Tables, word_at, Leads, IsGlobalAt}
 use Rattle.walk.specs.Pointers.{next_table, pointed, table_after}
 use Rattle.walk.proofs.Paths.{leads-start}
