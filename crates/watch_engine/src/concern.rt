@@ -16,7 +16,7 @@ use crate::cause::Cause;
 use crate::held::Held;
 use crate::keys::{By, FRAME_LIMIT, Keys, PAGE_LIMIT};
 use crate::open::{OpenClaim, OpenFence};
-use crate::touched::{WORD_BYTES, is_below};
+use crate::touched::{index_of, is_below};
 use pte::{PAGE_BYTES, Scheme, TABLE_LENGTH};
 use watch::{AddressRange, Frames};
 use watch_tables::Way;
@@ -171,9 +171,8 @@ fn keys_of_store(address: u64, way: &Way, is_root: bool) -> Option<Keys>
     ensures small { (keys : KeysOf) → result ≡ Some keys → AreSmall keys }
 {
     if way.level == 0 {
-        let index = address % PAGE_BYTES / WORD_BYTES;
         let pages = PAGE_LIMIT / u64::from(TABLE_LENGTH);
-        let first = way.vpn % pages * u64::from(TABLE_LENGTH) + index;
+        let first = way.vpn % pages * u64::from(TABLE_LENGTH) + u64::from(index_of(address));
         return Some(of_pages(first, 1));
     }
     if is_root {

@@ -15,7 +15,7 @@ use watch_tables::Way;
 // The ways to so many tables are kept at most.
 const MOST_TABLES: usize = 16;
 
-// The ways to a table are not kept if they are more, so that all that is kept takes 1.5 MB at most.
+// The ways to a table are kept if they are no more, so that all that is kept takes 1.5 MB at most.
 const MOST_WAYS: usize = 2048;
 
 /// The ways to a table.
@@ -24,6 +24,7 @@ pub(crate) struct KnownWays {
     // the PPN of the table
     table: u64,
     ways: Vec<Way>,
+    ghost few: { length ways.items ≤ 2048 },
 }
 
 /// The ways to the tables of the last stores, as long as they stay the same.
@@ -39,7 +40,7 @@ fn place_of(known: &[KnownWays], table: u64) -> Option<usize>
     ensures { IfSome result (λ place. (place < length known.now)
         × HoldsAt (λ ways. ways.table ≡ table) known.now place) }
 {
-    known.iter().rposition(|known| known.table == table)
+    known.iter().rposition(|ways| ways.table == table)
 }
 
 impl KeptWays {
@@ -88,7 +89,7 @@ impl KeptWays {
         }
     }
 
-    // If as many ways are kept as may be, the oldest go.
+    // If the ways to as many tables are kept as may be, the oldest go.
     fn drop_oldest(&mut self)
         ensures rest { All (Contains self.old.known.items) self.new.known.items }
         ensures place { length self.new.known.items < 16 }
@@ -99,7 +100,7 @@ impl KeptWays {
     }
 
     /// Keeps the ways to the table of the word at an address, the newest, if the ways to all tables
-    /// stay and these are not too many. If the ways do not stay, nothing is kept.
+    /// stay and these are no more than 2,048. If the ways do not stay, nothing is kept.
     pub(crate) fn keep(&mut self, address: u64, ways: Vec<Way>, stay: bool)
         ensures { (scheme : SchemeOf) (words others : TablesOf) (since new : ℕ → ℕ → ℕ)
             → AreKept scheme words since self.old

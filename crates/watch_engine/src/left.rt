@@ -1,6 +1,6 @@
 //! Spaces that harts have left, and fences since.
 
-ghost use Rattle.std.specs.Prelude.{◌≡◌, ◌++◌, ◌∷◌, [], None, OnErr, OnOk, drop};
+ghost use Rattle.std.specs.Prelude.{◌≡◌, ◌++◌, ◌∷◌, [], OnErr, OnOk, drop};
 ghost use Rattle.std.specs.List.{list_any};
 ghost use Rattle.watch_engine.specs.Left.{ended, fences_after, is_taken_since, left_after_fence, takes};
 ghost use Rattle.watch_engine.specs.declared.left.PastFence.TheVariants as past;

@@ -1,6 +1,6 @@
 //! The list of what harts may hold.
 
-ghost use Rattle.std.specs.Prelude.{ℕ, Bool, false, ◌≡◌, ◌↔◌, ◌++◌, ◌∷◌, [], map, filter, Option, OnOk, OnErr, IfOk, IsTrue, if◌then◌else◌};
+ghost use Rattle.std.specs.Prelude.{Bool, false, ◌≡◌, ◌↔◌, ◌++◌, ◌∷◌, [], map, filter, Option, OnOk, OnErr, IfOk, IsTrue, if◌then◌else◌};
 ghost use Rattle.watch.specs.Computed.{is_mapped};
 ghost use Rattle.watch_engine.specs.declared.held.Held.{Held as HeldOf};
 ghost use Rattle.watch_engine.specs.Held.{all_found_again, found_again, is_current_by, is_of, last_translation, marked_if, outlives_fence, outlives_remote, remembered, settled_unless_stale, translation_of};

@@ -275,8 +275,8 @@ fn add_seen_if_any<T: Tables>(
     )
 }
 
-/// Adds what harts may hold of the leaves whose paths pass through the words at the addresses. These are
-/// not 0.
+/// Adds what harts may hold of the leaves whose paths pass through the words at the addresses. The caller
+/// leaves out words that are 0, since no path passes through these.
 pub(crate) fn add_seen_in<T: Tables>(
     alloc: Global,
     tables: &T,

@@ -23,12 +23,12 @@ use watch::Space;
 use watch_tables::Way;
 
 /// On how many ways items are looked for one way after the other. With more, all are gone along.
-const MOST_WAYS: usize = 64;
+const FEW_WAYS: usize = 64;
 
 /// How many bytes a word of a table has.
-pub(crate) const WORD_BYTES: u64 = 8;
+const WORD_BYTES: u64 = 8;
 
-// The index of the word at an address in the table that its frame is.
+/// The index of the word at an address in the table that its frame is.
 #[inline(always)]
 pub(crate) fn index_of(address: u64) -> u16
     ensures { result ≡ index_of address }
@@ -216,7 +216,7 @@ fn first_touched(
     ensures within { result ≤ length held.now.slots.items }
 {
     let mut first = held.as_slice().len();
-    if first == 0 || ways.len() > MOST_WAYS {
+    if first == 0 || ways.len() > FEW_WAYS {
         return 0;
     }
     for way in ways {

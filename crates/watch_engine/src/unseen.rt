@@ -50,8 +50,8 @@ fn have_word_of<T: Tables>(
     true
 }
 
-// Each hart that left one of these spaces can fill each leaf below the word of the root. Of more
-// spaces than there are harts it is not asked, so that few are gone along for each word.
+// Each hart that left one of these spaces can fill each leaf below the word of the root. Of more than
+// 256 spaces it is not asked, so that few are gone along for each word.
 fn fill_below<T: Tables>(
     tables: &T,
     scheme: Scheme,

@@ -1,6 +1,6 @@
 //! Whether the leaves below a word are global.
 
-ghost use Rattle.std.specs.Prelude.{ℕ, ◌≡◌, ◌<◌, ◌↔◌, IsTrue, true};
+ghost use Rattle.std.specs.Prelude.{◌≡◌, ◌<◌, ◌↔◌, IsTrue, true};
 ghost use Rattle.pte.specs.Address.{top_level, vpn_of};
 ghost use Rattle.tlb.specs.declared.store.Entry.{Entry as EntryOf};
 ghost use Rattle.watch.specs.Holding.{HasLeaf};

@@ -1,7 +1,6 @@
 //! Hints of where the frame of a PPN may stand.
 
-ghost use Rattle.std.specs.Prelude.{ℕ, ◌≡◌, ◌<◌, ◌*◌, Some, length};
-ghost use Rattle.watch_tables.specs.FrameRow.{ppn_at};
+ghost use Rattle.std.specs.Prelude.{ℕ, ◌≡◌, ◌<◌};
 ghost use Rattle.watch_tables.specs.Hints.{AreHinted, IsHinted, IsIn, hash};
 
 use crate::frame_table::PlacedFrame;
@@ -40,8 +39,9 @@ fn hash_of(count: usize, ppn: u64) -> usize
     (ppn.wrapping_mul(SPREAD) >> 32 & (count as u64 - 1)) as usize
 }
 
-/// Makes a place the first hint of a PPN. The hint that stood there goes to the second, if that is
-/// free; where the first stands for another frame and the second is that place already, nothing is done.
+/// Makes a place the first hint of a PPN, if there are hints. The hint that stood there goes to the
+/// second, if that is free. Where the first is that place already, or the second is and the first stands
+/// for another frame, nothing is done.
 fn set(places: &mut [usize], ppn: u64, place: usize)
     ensures own { IsIn places.new ppn }
     ensures kept { (k : ℕ) → IsIn places.old k → IsIn places.new k }

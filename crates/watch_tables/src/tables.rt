@@ -1,6 +1,6 @@
 //! The words of memory that a trace has stored.
 
-ghost use Rattle.std.specs.Prelude.{ℕ, ◌≡◌, ◌<◌, ◌≤◌, IfSome, IsSome, IsTrue, None, OnErr, OnOk};
+ghost use Rattle.std.specs.Prelude.{ℕ, ◌≡◌, ◌<◌, ◌≤◌, IfSome, IsTrue, None, OnErr, OnOk};
 ghost use Rattle.std.specs.Prelude.{◌+◌, ◌*◌, ◌/◌, ◌&&◌, ◌⊎◌, ◌↔◌, ◌≢◌, not};
 ghost use Rattle.std.specs.List.{Contains};
 ghost use Rattle.watch.specs.Trace.{index_of};
