@@ -21,7 +21,7 @@ use Rattle.watch_engine.specs.declared.left.PastFence.{PastFence}
 use Rattle.watch_engine.specs.declared.left.PastFence.TheVariants.{Own, Remote}
 use Rattle.watch_engine.specs.Chains.{above, last_place}
 use Rattle.watch_engine.specs.Left.{is_taken_since, takes}
-use Rattle.watch_engine.specs.PastFences.{asid_key, is_in_page, is_taken_by, is_taken_by_asid, key_of, page_key, range_key, takes_by, wide_key}
+use Rattle.watch_engine.specs.PastFences.{address_key, asid_key, fence_key, is_in_page, is_taken_by, is_taken_by_asid, range_key, takes_by, wide_key}
 use Rattle.watch_engine.proofs.LastPlaces.{above_less, above_more, last_no, last_of_all, last_passes, last_within, last_yes}
 
 -- the entry's page begins at a multiple of its size
@@ -31,8 +31,8 @@ IsAligned e = e.page.base % bytes_of e.page.size ≡ 0
 -- the key is one of the four of the entry
 abbrev pub Concerns : Entry → ℕ → Type 0
 Concerns e key =
-    (key ≡ page_key e.page.size e.page.base None)
-    ⊎ (((e.global ≡ false) × ((key ≡ page_key e.page.size e.page.base (Some e.asid)) ⊎ (key ≡ wide_key (Some e.asid))))
+    (key ≡ address_key e.page.size e.page.base None)
+    ⊎ (((e.global ≡ false) × ((key ≡ address_key e.page.size e.page.base (Some e.asid)) ⊎ (key ≡ wide_key (Some e.asid))))
     ⊎ (key ≡ wide_key None))
 
 -- an address of a page has its number
@@ -89,7 +89,7 @@ of_wide scheme asid e is =
     ]
 
 of_page : (scheme : Scheme) (address : ℕ) (asid : Option ℕ) (e : Entry) → address / bytes_of e.page.size ≡ e.page.base / bytes_of e.page.size
-    → IsTrue (is_fenced scheme None asid e) → Concerns e (page_key e.page.size address asid)
+    → IsTrue (is_fenced scheme None asid e) → Concerns e (address_key e.page.size address asid)
 of_page scheme address asid e same is =
     elim (of_asid scheme asid e is) [
       | inl all ↦ inl (λ i. same i % 2 ^ 36 * 2 ^ 17 + all i)
@@ -102,14 +102,14 @@ of_fence scheme None asid e aligned reach is = of_wide scheme asid e is
 of_fence scheme (Some range) asid e aligned reach is =
     elim (cases_Bool (is_in_page e.page.size range)) [
       | inl narrow ↦
-          subst (Concerns e) (sym (ap (λ b. if b then page_key e.page.size range.start asid else wide_key asid) narrow))
+          subst (Concerns e) (sym (ap (λ b. if b then address_key e.page.size range.start asid else wide_key asid) narrow))
           (of_page scheme range.start asid e (of_range range e aligned narrow reach) is)
       | inr wide ↦
-          subst (Concerns e) (sym (ap (λ b. if b then page_key e.page.size range.start asid else wide_key asid) wide)) (of_wide scheme asid e is)
+          subst (Concerns e) (sym (ap (λ b. if b then address_key e.page.size range.start asid else wide_key asid) wide)) (of_wide scheme asid e is)
     ]
 
 of_own : (scheme : Scheme) (rs1 rs2 : Option ℕ) (of : ℕ) (e : Entry) → IsAligned e → IsTrue (is_fenced scheme rs1 rs2 e)
-    → Concerns e (key_of e.page.size (Own of rs1 rs2))
+    → Concerns e (fence_key e.page.size (Own of rs1 rs2))
 of_own scheme None rs2 of e aligned is = of_wide scheme rs2 e is
 of_own scheme (Some rs1) None of e aligned is = of_page scheme rs1 None e (of_address scheme rs1 e aligned is) refl
 of_own scheme (Some rs1) (Some rs2) of e aligned is =
@@ -118,7 +118,7 @@ of_own scheme (Some rs1) (Some rs2) of e aligned is =
 
 -- a fence that drops an entry of a page of 4 KiB has one of its keys
 concerns : (scheme : Scheme) (l : Left) (e : Entry) (fence : PastFence) → IsAligned e
-    → takes scheme l e fence ≡ true → Concerns e (key_of e.page.size fence)
+    → takes scheme l e fence ≡ true → Concerns e (fence_key e.page.size fence)
 concerns scheme l e (Own of rs1 rs2) aligned is =
     of_own scheme rs1 rs2 of e aligned (and_parts (of == l.hart) _ is).1
 concerns scheme l e (Remote fence begun) aligned is =
@@ -128,7 +128,7 @@ concerns scheme l e (Remote fence begun) aligned is =
     of_fence scheme fence.range fence.asid e aligned covered.0 covered.1
 
 by_key : (key : ℕ) (scheme : Scheme) (l : Left) (e : Entry) (fence : PastFence)
-    → takes scheme l e fence ≡ true → key_of e.page.size fence ≡ key → takes_by key scheme l e fence ≡ true
+    → takes scheme l e fence ≡ true → fence_key e.page.size fence ≡ key → takes_by key scheme l e fence ≡ true
 by_key key scheme l e fence is of = and_from _ _ is (eq-eqb _ _ of)
 
 with_left : (a b c : Bool) → a ≡ true → ((a || b) || c) ≡ true
@@ -174,22 +174,22 @@ either_of false b t x y is = y is
 -- a fence drops an entry of a page of 4 KiB if it has one of the four keys and drops it
 one_fence : (scheme : Scheme) (l : Left) (e : Entry) (fence : PastFence) → IsAligned e
     → takes scheme l e fence
-    ≡ ((takes_by (page_key e.page.size e.page.base None) scheme l e fence
-    || (not e.global && (takes_by (page_key e.page.size e.page.base (Some e.asid)) scheme l e fence || takes_by (wide_key (Some e.asid)) scheme l e fence)))
+    ≡ ((takes_by (address_key e.page.size e.page.base None) scheme l e fence
+    || (not e.global && (takes_by (address_key e.page.size e.page.base (Some e.asid)) scheme l e fence || takes_by (wide_key (Some e.asid)) scheme l e fence)))
     || takes_by (wide_key None) scheme l e fence)
 one_fence scheme l e fence aligned =
     let t : Bool = takes scheme l e fence in
-    let page : Bool = takes_by (page_key e.page.size e.page.base None) scheme l e fence in
-    let own_page : Bool = takes_by (page_key e.page.size e.page.base (Some e.asid)) scheme l e fence in
+    let page : Bool = takes_by (address_key e.page.size e.page.base None) scheme l e fence in
+    let own_page : Bool = takes_by (address_key e.page.size e.page.base (Some e.asid)) scheme l e fence in
     let own : Bool = takes_by (wide_key (Some e.asid)) scheme l e fence in
     let all : Bool = takes_by (wide_key None) scheme l e fence in
     none_of t page (not e.global && (own_page || own)) all
-    (λ h. (and_parts t (key_of e.page.size fence == page_key e.page.size e.page.base None) h).0)
+    (λ h. (and_parts t (fence_key e.page.size fence == address_key e.page.size e.page.base None) h).0)
     (λ h. either_of own_page own t
-    (λ k. (and_parts t (key_of e.page.size fence == page_key e.page.size e.page.base (Some e.asid)) k).0)
-    (λ k. (and_parts t (key_of e.page.size fence == wide_key (Some e.asid)) k).0)
+    (λ k. (and_parts t (fence_key e.page.size fence == address_key e.page.size e.page.base (Some e.asid)) k).0)
+    (λ k. (and_parts t (fence_key e.page.size fence == wide_key (Some e.asid)) k).0)
     (and_parts (not e.global) (own_page || own) h).1)
-    (λ h. (and_parts t (key_of e.page.size fence == wide_key None) h).0)
+    (λ h. (and_parts t (fence_key e.page.size fence == wide_key None) h).0)
     (λ h. one_of page (not e.global && (own_page || own)) all (elim (concerns scheme l e fence aligned h) [
       | inl of ↦ inl (by_key _ scheme l e fence h of)
       | inr (inl (g, inl of)) ↦
@@ -228,12 +228,12 @@ any_same P Q same (f ∷ fences) = λ i. same f i || any_same P Q same fences i
 -- so do fences
 pub by_four_keys : (scheme : Scheme) (l : Left) (e : Entry) (fences : List PastFence) → IsAligned e
     → is_taken_since scheme fences l e
-    ≡ ((is_taken_by (page_key e.page.size e.page.base None) scheme fences l e || is_taken_by_asid scheme fences l e)
+    ≡ ((is_taken_by (address_key e.page.size e.page.base None) scheme fences l e || is_taken_by_asid scheme fences l e)
     || is_taken_by (wide_key None) scheme fences l e)
 by_four_keys scheme l e fences aligned =
     let since : List PastFence = drop l.fences fences in
-    let P : PastFence → Bool = takes_by (page_key e.page.size e.page.base None) scheme l e in
-    let Q : PastFence → Bool = takes_by (page_key e.page.size e.page.base (Some e.asid)) scheme l e in
+    let P : PastFence → Bool = takes_by (address_key e.page.size e.page.base None) scheme l e in
+    let Q : PastFence → Bool = takes_by (address_key e.page.size e.page.base (Some e.asid)) scheme l e in
     let S : PastFence → Bool = takes_by (wide_key (Some e.asid)) scheme l e in
     let R : PastFence → Bool = takes_by (wide_key None) scheme l e in
     any_same (takes scheme l e) (λ f. (P f || (not e.global && (Q f || S f))) || R f) (λ f. one_fence scheme l e f aligned) since
@@ -265,15 +265,15 @@ any_no P fences since n h is =
     ]
 
 -- only fences with the key count, so those after the last one with it do not
-any_last : (size : PageSize) (P : PastFence → Bool) (key : ℕ) → ((f : PastFence) → P f ≡ true → key_of size f ≡ key)
+any_last : (size : PageSize) (P : PastFence → Bool) (key : ℕ) → ((f : PastFence) → P f ≡ true → fence_key size f ≡ key)
     → (fences : List PastFence) (since n : ℕ) → n ≤ length fences
     → list_any P (drop since (take n fences))
-    ≡ list_any P (drop since (take (last_place key (take n (map (key_of size) fences))) fences))
+    ≡ list_any P (drop since (take (last_place key (take n (map (fence_key size) fences))) fences))
 any_last size P key has fences since zero h = refl
 any_last size P key has fences since (suc n) h =
-    let keys : List ℕ = map (key_of size) fences in
-    let many : length keys ≡ length fences = length-map fences (key_of size) in
-    let at : get_or keys n 0 ≡ key_of size (get_or fences n none) = get_or-map (key_of size) fences n none 0 (omega arith) in
+    let keys : List ℕ = map (fence_key size) fences in
+    let many : length keys ≡ length fences = length-map fences (fence_key size) in
+    let at : get_or keys n 0 ≡ fence_key size (get_or fences n none) = get_or-map (fence_key size) fences n none 0 (omega arith) in
     elim (cases_Bool (get_or keys n 0 == key)) [
       | inl here ↦ ap (λ (m : ℕ). list_any P (drop since (take m fences))) (sym (last_yes (λ k. k == key) keys n (omega arith) here))
       | inr other ↦
@@ -285,14 +285,14 @@ any_last size P key has fences since (suc n) h =
     ]
 
 has_key : (key : ℕ) (scheme : Scheme) (l : Left) (e : Entry) (fence : PastFence)
-    → takes_by key scheme l e fence ≡ true → key_of e.page.size fence ≡ key
+    → takes_by key scheme l e fence ≡ true → fence_key e.page.size fence ≡ key
 has_key key scheme l e fence is = eqb-true _ _ (and_parts (takes scheme l e fence) _ is).1
 
 -- the walk is at the place before this: the fence there came since and has the key, and the answer is
 -- that of the fences up to there
 pub record IsAt (key : ℕ) (scheme : Scheme) (l : Left) (e : Entry) (fences : List PastFence) (at : ℕ) : Type 0 where
   pub within : at ≤ length fences
-  pub has : 0 < at → get_or (map (key_of e.page.size) fences) (at - 1) 0 ≡ key
+  pub has : 0 < at → get_or (map (fence_key e.page.size) fences) (at - 1) 0 ≡ key
   pub since : 0 < at → l.fences < at
   pub same : is_taken_by key scheme (take at fences) l e ≡ is_taken_by key scheme fences l e
 
@@ -305,10 +305,10 @@ none_since key scheme l e fences n h old =
 
 at_last : (key : ℕ) (scheme : Scheme) (l : Left) (e : Entry) (fences : List PastFence) (n : ℕ) → n ≤ length fences
     → is_taken_by key scheme (take n fences) l e ≡ is_taken_by key scheme fences l e
-    → IsAt key scheme l e fences (above l.fences (last_place key (take n (map (key_of e.page.size) fences))))
+    → IsAt key scheme l e fences (above l.fences (last_place key (take n (map (fence_key e.page.size) fences))))
 at_last key scheme l e fences n h is =
-    let keys : List ℕ = map (key_of e.page.size) fences in
-    let size : length keys ≡ length fences = length-map fences (key_of e.page.size) in
+    let keys : List ℕ = map (fence_key e.page.size) fences in
+    let size : length keys ≡ length fences = length-map fences (fence_key e.page.size) in
     let count : n ≤ length keys = omega arith in
     let last : ℕ = last_place key (take n keys) in
     let below : last ≤ n = last_within (λ k. k == key) keys n count in
@@ -333,19 +333,19 @@ at_last key scheme l e fences n h is =
 
 -- it begins at the newest fence with the key
 pub at_first : (key : ℕ) (scheme : Scheme) (l : Left) (e : Entry) (fences : List PastFence) (keys : List ℕ) (at : ℕ)
-    → keys ≡ map (key_of e.page.size) fences → at ≡ above l.fences (last_place key keys) → IsAt key scheme l e fences at
+    → keys ≡ map (fence_key e.page.size) fences → at ≡ above l.fences (last_place key keys) → IsAt key scheme l e fences at
 at_first key scheme l e fences keys at are is =
-    let size : length (map (key_of e.page.size) fences) ≡ length fences = length-map fences (key_of e.page.size) in
-    let found : last_place key (take (length fences) (map (key_of e.page.size) fences)) ≡ last_place key keys =
-    ap (λ (n : ℕ). last_place key (take n (map (key_of e.page.size) fences))) (sym size)
-    ∙ last_of_all key (map (key_of e.page.size) fences) ∙ ap (last_place key) (sym are) in
+    let size : length (map (fence_key e.page.size) fences) ≡ length fences = length-map fences (fence_key e.page.size) in
+    let found : last_place key (take (length fences) (map (fence_key e.page.size) fences)) ≡ last_place key keys =
+    ap (λ (n : ℕ). last_place key (take n (map (fence_key e.page.size) fences))) (sym size)
+    ∙ last_of_all key (map (fence_key e.page.size) fences) ∙ ap (last_place key) (sym are) in
     subst (IsAt key scheme l e fences) (ap (above l.fences) found ∙ sym is)
     (at_last key scheme l e fences (length fences) (omega arith)
     (ap (λ (xs : List PastFence). is_taken_by key scheme xs l e) (take-length fences)))
 
 -- and goes on to the next older one
 pub at_next : (key : ℕ) (scheme : Scheme) (l : Left) (e : Entry) (fences : List PastFence) (keys : List ℕ) (at older : ℕ) (fence : PastFence)
-    → keys ≡ map (key_of e.page.size) fences → 0 < at → IsAt key scheme l e fences at
+    → keys ≡ map (fence_key e.page.size) fences → 0 < at → IsAt key scheme l e fences at
     → fence ≡ get_or fences (at - 1) fence → takes scheme l e fence ≡ false
     → older ≡ above l.fences (last_place (get_or keys (at - 1) 0) (take (at - 1) keys)) → IsAt key scheme l e fences older
 at_next key scheme l e fences keys zero older fence are some was there no_drop is = absurd (omega arith)
@@ -355,9 +355,9 @@ at_next key scheme l e fences keys (suc n) older fence are some was there no_dro
     let here : get_or fences n none ≡ fence =
     get_or_default fences n none fence room ∙ ap (λ (m : ℕ). get_or fences m fence) (sym at) ∙ sym there in
     let not_taken : takes_by key scheme l e (get_or fences n none) ≡ false =
-    ap (takes_by key scheme l e) here ∙ ap (λ t. t && (key_of e.page.size fence == key)) no_drop in
+    ap (takes_by key scheme l e) here ∙ ap (λ t. t && (fence_key e.page.size fence == key)) no_drop in
     let has : get_or keys (suc n - 1) 0 ≡ key = ap (λ (ks : List ℕ). get_or ks (suc n - 1) 0) are ∙ was.has some in
-    let found : older ≡ above l.fences (last_place key (take n (map (key_of e.page.size) fences))) =
+    let found : older ≡ above l.fences (last_place key (take n (map (fence_key e.page.size) fences))) =
     is ∙ (λ i. above l.fences (last_place (has i) (take (at i) (are i)))) in
     subst (IsAt key scheme l e fences) (sym found)
     (at_last key scheme l e fences n (omega arith)

@@ -20,8 +20,8 @@ asid_key None = 2 ^ ASID_BITS
 asid_key (Some asid) = asid % 2 ^ ASID_BITS
 
 -- the page of a size that an address lies in, of the 2 ^ 36 or fewer of canonical addresses, and the ASID
-abbrev pub page_key : PageSize → ℕ → Option ℕ → ℕ
-page_key size address asid = address / bytes_of size % 2 ^ 36 * 2 ^ 17 + asid_key asid
+abbrev pub address_key : PageSize → ℕ → Option ℕ → ℕ
+address_key size address asid = address / bytes_of size % 2 ^ 36 * 2 ^ 17 + asid_key asid
 
 abbrev pub wide_key : Option ℕ → ℕ
 wide_key asid = 2 ^ 53 + asid_key asid
@@ -33,16 +33,16 @@ is_in_page size range = nat_le range.size (bytes_of size - range.start % bytes_o
 abbrev pub range_key : PageSize → Option AddressRange → Option ℕ → ℕ
 range_key size None asid = wide_key asid
 range_key size (Some range) asid =
-    if is_in_page size range then page_key size range.start asid else wide_key asid
+    if is_in_page size range then address_key size range.start asid else wide_key asid
 
-abbrev pub key_of : PageSize → PastFence → ℕ
-key_of size (Own of None rs2) = wide_key rs2
-key_of size (Own of (Some address) rs2) = page_key size address rs2
-key_of size (Remote fence begun) = range_key size fence.range fence.asid
+abbrev pub fence_key : PageSize → PastFence → ℕ
+fence_key size (Own of None rs2) = wide_key rs2
+fence_key size (Own of (Some address) rs2) = address_key size address rs2
+fence_key size (Remote fence begun) = range_key size fence.range fence.asid
 
 -- a fence with the key since the hart left the space has dropped the entry
 abbrev pub takes_by : ℕ → Scheme → Left → Entry → PastFence → Bool
-takes_by key scheme l e fence = takes scheme l e fence && (key_of e.page.size fence == key)
+takes_by key scheme l e fence = takes scheme l e fence && (fence_key e.page.size fence == key)
 
 abbrev pub is_taken_by : ℕ → Scheme → List PastFence → Left → Entry → Bool
 is_taken_by key scheme fences l e = list_any (takes_by key scheme l e) (drop l.fences fences)
@@ -51,5 +51,5 @@ is_taken_by key scheme fences l e = list_any (takes_by key scheme l e) (drop l.f
 abbrev pub is_taken_by_asid : Scheme → List PastFence → Left → Entry → Bool
 is_taken_by_asid scheme fences l e =
     not e.global
-    && (is_taken_by (page_key e.page.size e.page.base (Some e.asid)) scheme fences l e
+    && (is_taken_by (address_key e.page.size e.page.base (Some e.asid)) scheme fences l e
     || is_taken_by (wide_key (Some e.asid)) scheme fences l e)

@@ -22,7 +22,7 @@ pub(crate) struct Chains {
 /// An odd number, 2^64 times the golden ratio: products with it spread keys that are near one another.
 const SPREAD: u64 = 0x9e37_79b9_7f4a_7c15;
 
-// The bucket of a key.
+/// The bucket of a key.
 #[inline(always)]
 #[tactic(auto, unfolding(crate::specs::Chains::bucket_of))]
 pub(crate) fn bucket_of(buckets: usize, key: u64) -> usize
@@ -33,7 +33,7 @@ pub(crate) fn bucket_of(buckets: usize, key: u64) -> usize
     (key.wrapping_mul(SPREAD) >> 32 & (buckets as u64 - 1)) as usize
 }
 
-// Puts the place of a key at the head of its bucket's chain.
+/// Puts the place of a key at the head of its bucket's chain.
 pub(crate) fn link(keys: &[u64], links: &mut [usize], heads: &mut [usize], place: usize)
     requires place { place < length keys.now }
     requires links { length links.old ≡ length keys.now }
@@ -59,6 +59,7 @@ fn link_all(keys: &[u64], links: &mut [usize], heads: &mut [usize])
 }
 
 impl Chains {
+    /// Without keys.
     pub(crate) fn new(alloc: Global) -> Chains
         ensures { result.keys.items ≡ [] }
     {

@@ -53,6 +53,7 @@ pub(crate) fn is_fenced(scheme: Scheme, rs1: Option<u64>, rs2: Option<u64>, entr
     }
 }
 
+/// The value of rs2 that names an ASID; `None` for x0.
 pub(crate) fn asid_register(asid: Option<u16>) -> Option<u64>
     ensures { result ≡ asid }
 {

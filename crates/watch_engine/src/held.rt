@@ -67,6 +67,7 @@ fn later(a: u64, b: u64) -> u64
     if a < b { b } else { a }
 }
 
+/// Whether the entries are the same in each field.
 pub(crate) fn is_same_entry(entry: &Entry, other: &Entry) -> bool
     ensures { result ≡ is_same_entry entry.now other.now }
 {

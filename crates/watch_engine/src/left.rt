@@ -42,6 +42,7 @@ pub(crate) enum PastFence {
 }
 
 impl PastFence {
+    /// Whether it has dropped the entry from the hart since the hart left the space.
     pub(crate) fn takes(&self, scheme: Scheme, left: &Left, entry: &Entry) -> bool
         ensures { result ≡ takes scheme left.now entry.now self.now }
     {

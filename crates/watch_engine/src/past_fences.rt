@@ -4,7 +4,7 @@ ghost use Rattle.std.specs.Prelude.{◌≡◌, ◌≤◌, ◌/◌, ◌^◌, ◌+
 ghost use Rattle.pte.specs.Address.{bytes_of};
 ghost use Rattle.pte.specs.declared.address.PageSize.TheVariants.{Kib4, Mib2};
 ghost use Rattle.watch_engine.specs.Left.{is_taken_since};
-ghost use Rattle.watch_engine.specs.PastFences.{asid_key, is_in_page, is_taken_by, is_taken_by_asid, key_of, page_key, range_key, wide_key};
+ghost use Rattle.watch_engine.specs.PastFences.{address_key, asid_key, fence_key, is_in_page, is_taken_by, is_taken_by_asid, range_key, wide_key};
 
 use crate::chains::Chains;
 use crate::fence::{ASIDS, asid_register};
@@ -44,8 +44,8 @@ fn page_number(size: PageSize, address: u64) -> u64
 }
 
 // The key of fences for addresses of one page of a size.
-fn page_key(size: PageSize, address: u64, asid: Option<u64>) -> u64
-    ensures { result ≡ page_key size address asid }
+fn address_key(size: PageSize, address: u64, asid: Option<u64>) -> u64
+    ensures { result ≡ address_key size address asid }
 {
     page_number(size, address) % PAGES * KEYS + asid_key(asid)
 }
@@ -72,7 +72,7 @@ fn range_key(size: PageSize, range: &Option<AddressRange>, asid: Option<u64>) ->
         return wide_key(asid);
     };
     if is_in_page(size, range) {
-        page_key(size, range.start, asid)
+        address_key(size, range.start, asid)
     } else {
         wide_key(asid)
     }
@@ -82,7 +82,7 @@ impl PastFence {
     // The key that it is found by, for entries of pages of a size. One that it drops has this key among
     // four: of its page or of many pages, with its ASID or with none.
     fn key(&self, size: PageSize) -> u64
-        ensures { result ≡ key_of size self.now }
+        ensures { result ≡ fence_key size self.now }
     {
         match self {
             PastFence::Own { rs1: None, rs2, .. } => wide_key(*rs2),
@@ -90,7 +90,7 @@ impl PastFence {
                 rs1: Some(address),
                 rs2,
                 ..
-            } => page_key(size, *address, *rs2),
+            } => address_key(size, *address, *rs2),
             PastFence::Remote { fence, .. } => {
                 range_key(size, &fence.range, asid_register(fence.asid))
             }
@@ -135,7 +135,7 @@ impl FenceKeys {
         left: &Left,
         entry: &Entry,
     ) -> bool
-        requires { self.now.keys.keys.items ≡ map (key_of entry.now.page.size) fences.now }
+        requires { self.now.keys.keys.items ≡ map (fence_key entry.now.page.size) fences.now }
         ensures { result ≡ is_taken_by key scheme fences.now left.now entry.now }
     {
         let since = left.fences as usize;
@@ -158,14 +158,14 @@ impl FenceKeys {
         left: &Left,
         entry: &Entry,
     ) -> bool
-        requires { self.now.keys.keys.items ≡ map (key_of entry.now.page.size) fences.now }
+        requires { self.now.keys.keys.items ≡ map (fence_key entry.now.page.size) fences.now }
         ensures { result ≡ is_taken_by_asid scheme fences.now left.now entry.now }
     {
         if entry.global {
             return false;
         }
         let asid = Some(u64::from(entry.asid));
-        let page = page_key(entry.page.size(), entry.page.base().get(), asid);
+        let page = address_key(entry.page.size(), entry.page.base().get(), asid);
         self.is_taken_by(fences, page, scheme, left, entry)
             || self.is_taken_by(fences, wide_key(asid), scheme, left, entry)
     }
@@ -178,10 +178,10 @@ impl FenceKeys {
         left: &Left,
         entry: &Entry,
     ) -> bool
-        requires { self.now.keys.keys.items ≡ map (key_of entry.now.page.size) fences.now }
+        requires { self.now.keys.keys.items ≡ map (fence_key entry.now.page.size) fences.now }
         ensures { result ≡ is_taken_since scheme fences.now left.now entry.now }
     {
-        let page = page_key(entry.page.size(), entry.page.base().get(), None);
+        let page = address_key(entry.page.size(), entry.page.base().get(), None);
         if self.is_taken_by(fences, page, scheme, left, entry) {
             return true;
         }
@@ -200,11 +200,12 @@ pub(crate) struct PastFences {
     small: FenceKeys,
     /// Their keys for entries of 2 MiB.
     large: FenceKeys,
-    ghost small_keyed: { small.is_keyed ≡ true → small.keys.keys.items ≡ map (key_of Kib4) fences.items },
-    ghost large_keyed: { large.is_keyed ≡ true → large.keys.keys.items ≡ map (key_of Mib2) fences.items },
+    ghost small_keyed: { small.is_keyed ≡ true → small.keys.keys.items ≡ map (fence_key Kib4) fences.items },
+    ghost large_keyed: { large.is_keyed ≡ true → large.keys.keys.items ≡ map (fence_key Mib2) fences.items },
 }
 
 impl PastFences {
+    /// None was done yet.
     pub(crate) fn new(alloc: Global) -> PastFences
         ensures { result.fences.items ≡ [] }
     {

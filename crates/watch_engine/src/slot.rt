@@ -17,6 +17,7 @@ pub(crate) struct Slot {
 }
 
 impl Slot {
+    /// With an item that is there.
     pub(crate) fn new(item: Held) -> Slot
         ensures { result ≡ record { item = item; is_gone = false } }
     {

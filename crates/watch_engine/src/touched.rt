@@ -36,7 +36,7 @@ pub(crate) fn index_of(address: u64) -> u16
     (address % PAGE_BYTES / WORD_BYTES) as u16
 }
 
-// The page lies below the word at the address, on the way to its table.
+/// The page lies below the word at the address, on the way to its table.
 pub(crate) fn is_below(scheme: Scheme, address: u64, page: &Page, way: &Way) -> bool
     ensures { result ≡ is_below scheme (index_of address) page.now way.now }
 {

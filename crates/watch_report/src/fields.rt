@@ -4,6 +4,7 @@ ghost use Rattle.std.specs.List.{position_or_len};
 ghost use Rattle.watch_report.specs.NextFields.{next_letter};
 ghost use Rattle.watch_report.specs.Fields.{fields_of, four_fields, is_separator, one_field, three_fields, two_fields};
 
+/// A blank stands between two fields.
 #[inline(always)]
 pub fn is_separator(byte: u8) -> bool
     ensures { result ≡ is_separator byte }

@@ -1,6 +1,6 @@
 use Rattle.std.proofs.Common.{◌≡◌, ◌∙◌, length, ap, sym, arith, rules}
 use Rattle.std.proofs.lemmas.List.{length-map}
-use Rattle.watch_engine.specs.PastFences.{key_of}
+use Rattle.watch_engine.specs.PastFences.{fence_key}
 use Rattle.watch_engine.proofs.ByKey.{at_first, at_next, older_is_less}
 use Rattle.watch_engine.proofs.past_fences.FenceKeys.is_taken_by.Goals as goal
 
@@ -12,7 +12,7 @@ loop-at-init c =
 pub loop-at-smaller : goal.loop-at-smaller
 loop-at-smaller c =
     let size : length c.args.self.now.keys.keys.items ≡ length c.args.fences.now =
-    ap length c.requires ∙ length-map c.args.fences.now (key_of c.args.entry.now.page.size) in
+    ap length c.requires ∙ length-map c.args.fences.now (fence_key c.args.entry.now.page.size) in
     older_is_less c.args.self.now.keys.keys.items _ c.loop-at.at c.before_above-at.result c.args.left.now.fences (omega arith) (omega (arith, c.loop-at.invariant.within)) c.before_above-at.ensures
 
 pub loop-at-preserved : goal.loop-at-preserved
