@@ -1,0 +1,232 @@
+#!/usr/bin/env python3
+"""Traces on both sides of sizes at which the engine goes another way, and what has to be printed of them by the definitions.
+
+watch_sizes.py FOLDER  writes the list `watch-sizes.txt`, and `NAME.trace`, `NAME.counts` and `NAME.status` of those with many verdicts on
+                       one record, whose order is not given
+
+The first belongs into crates/svsim_examples/data/cases/lists, the others into cases/watch beside it.
+"""
+import os
+import re
+import sys
+from collections import Counter
+
+from watch_random import last_line, wanted
+
+ROOT, OTHER_ROOT, BARE_ROOT, MIDDLE, OTHER_MIDDLE, LEAVES = 0x80000, 0x80010, 0x80020, 0x80001, 0x80003, 0x80002
+KERNEL = 256  # the index in a root of the first page above the addresses of users
+
+
+def store(table, index, word=0):
+    return f"w 0 {table << 12 | index << 3:x} {word:x}"
+
+
+def pointer(table):
+    return table << 10 | 1
+
+
+def leaf(frame):
+    """Of a user's page: read and write."""
+    return frame << 10 | 0xD7
+
+
+def kernel_leaf(frame):
+    return frame << 10 | 0xE7
+
+
+def satp(hart, root=ROOT, asid=1):
+    return f"s {hart} {8 << 60 | asid << 44 | root:x}"
+
+
+def back(frame, count=1):
+    return f"z 0 {frame:x} {count:x}"
+
+
+def claimed(token, page):
+    """A claim of one page, which names it if it is held."""
+    yield from (f"c 0 {token:x} - {page:x} 1000", f"d 0 {token:x}")
+
+
+def page(root_index, middle_index, leaf_index):
+    return root_index << 30 | middle_index << 21 | leaf_index << 12
+
+
+def tables_in_turn(n):
+    """Tables of leaves that are stored to one after the other, and again after one more pointer leads to the last."""
+    tables = range(0x90000, 0x90000 + n)
+    yield from ("watch 1 1 sv39", store(ROOT, 0, pointer(MIDDLE)))
+    yield from (store(MIDDLE, i, pointer(table)) for i, table in enumerate(tables))
+    yield satp(0)
+    yield from (store(table, 0, leaf(0x100 + i)) for i, table in enumerate(tables))
+    yield from (store(table, 1, leaf(0x200 + i)) for i, table in enumerate(tables))
+    yield from (store(table, 0) for table in tables)
+    yield from (back(0x100 + i) for i in range(n))
+    yield store(MIDDLE, n, pointer(tables[-1]))
+    yield from (store(table, 1) for table in tables)
+    yield f"f 0 {page(0, n - 1, 1):x} -"
+    yield from (back(0x200 + i) for i in range(n))
+
+
+def few_ways(n):
+    """Ways to a table of leaves: two by each of 31 pointers, whose table may be a root too, and one by each further pointer."""
+    yield from ("watch 1 1 sv39", store(ROOT, 0, pointer(MIDDLE)))
+    yield from (store(MIDDLE, i, pointer(LEAVES)) for i in range(31))
+    yield from (store(OTHER_MIDDLE, i, pointer(LEAVES)) for i in range(n - 63))
+    yield from (store(MIDDLE, 511, pointer(0x90000)), store(0x90000, 0, leaf(0x102)), satp(0), store(0x90000, 0))
+    yield from (store(LEAVES, 0, leaf(0x100)), store(LEAVES, 1, leaf(0x101)), store(LEAVES, 0))
+    yield from (f"f 0 {page(0, i, 0):x} -" for i in range(30))
+    yield from (back(0x100), store(LEAVES, 1))
+    yield from (f"f 0 {page(0, i, 1):x} 1" for i in range(1, 31))
+    yield from (back(0x101), back(0x102))
+
+
+def many_ways(n):
+    """Ways to a table of leaves: 22 times 89, 89, one of its own and, of 2,049, one more; then a pointer more leads to it."""
+    yield "watch 1 1 sv39"
+    yield from (store(ROOT, i, pointer(MIDDLE)) for i in range(22))
+    yield from (store(MIDDLE, i, pointer(LEAVES)) for i in range(89))
+    yield from (store(OTHER_MIDDLE, i, pointer(LEAVES)) for i in range(n - 2048))
+    yield from (satp(0), store(LEAVES, 0, leaf(0x100)), store(LEAVES, 1, leaf(0x101)), store(LEAVES, 0))
+    for token, held in enumerate((page(0, 0, 0), page(21, 88, 0), page(7, 40, 0), page(21, 88, 1)), 1):
+        yield from claimed(token, held)
+    yield from (store(MIDDLE, 89, pointer(LEAVES)), store(LEAVES, 1))
+    for token, held in enumerate((page(0, 0, 1), page(21, 89, 1)), 9):
+        yield from claimed(token, held)
+
+
+def unmapped(n):
+    """Pages of two harts in one space, which are unmapped, and of which hart 1 holds all."""
+    yield from ("watch 1 2 sv39", store(ROOT, 0, pointer(MIDDLE)), store(MIDDLE, 0, pointer(LEAVES)), satp(0), satp(1))
+    yield from (store(LEAVES, i, leaf(0x100 + i)) for i in range(n))
+    yield from (store(LEAVES, i) for i in range(n))
+    yield "f 0 - -"
+
+
+def pages_fenced(n):
+    """A remote fence of so many pages, and as many frames given back at once."""
+    yield from unmapped(n + 2)
+    yield from (f"r 0 1 2 1000 {n << 12:x} 1", "e 0 1", "c 0 1 - 0 1000", "d 0 1", back(0x101, n), back(0x102, n))
+
+
+def bytes_claimed(size, start=0):
+    """So many bytes that are claimed, of which the last page alone is held."""
+    pages = (start + size + 0xFFF) // 0x1000
+    yield from unmapped(pages)
+    yield from (f"f 1 {page(0, 0, i):x} -" for i in range(pages - 1))
+    yield from (f"c 0 1 {ROOT:x} {start:x} {size:x}", "d 0 1")
+
+
+def bytes_claimed_within(size):
+    """So many bytes that are claimed from the middle of a page on, of which the last page alone is held."""
+    return bytes_claimed(size, 0x800)
+
+
+def root_left(n):
+    """A root that a hart left under so many ASIDs is given out; the root after it has the same page of the kernel."""
+    yield from ("watch 1 1 sv39", store(MIDDLE, 0, pointer(LEAVES)), store(LEAVES, 0, kernel_leaf(0x100)))
+    yield from (store(ROOT, KERNEL, pointer(MIDDLE)), store(OTHER_ROOT, KERNEL, pointer(MIDDLE)))
+    yield from (satp(0, asid=1 + i) for i in range(n))
+    yield from (satp(0, OTHER_ROOT), f"a 0 {ROOT:x} 1", back(0x100), store(LEAVES, 0), back(0x100))
+
+
+def root_left_last(n):
+    """A root that was left so often is given out; the root after it has no page of the kernel where it was left last."""
+    yield from ("watch 1 2 sv39", store(MIDDLE, 0, pointer(LEAVES)), store(LEAVES, 0, kernel_leaf(0x100)))
+    yield from (store(ROOT, KERNEL, pointer(MIDDLE)), store(OTHER_ROOT, KERNEL, pointer(MIDDLE)))
+    yield from (satp(0, asid=1 + i) for i in range(n - 1))
+    yield from (satp(0, OTHER_ROOT), satp(1), satp(1, BARE_ROOT), f"a 0 {ROOT:x} 1", store(LEAVES, 0), "f 0 - -", back(0x100))
+
+
+def tables_emptied(n):
+    """Tables of leaves that lose their last words one after the other; as many others get their first."""
+    old, new, others = (range(first, first + n) for first in (0x90000, 0xA0000, 0xB0000))
+    yield from ("watch 1 1 sv39", store(ROOT, 0, pointer(MIDDLE)))
+    yield from (store(MIDDLE, i, pointer(table)) for i, table in enumerate(old))
+    yield from (store(table, 0, leaf(0x300)) for table in others)
+    yield satp(0)
+    yield from (store(table, index, leaf(0x100 + i)) for i, table in enumerate(old) for index in (0, 2))
+    yield from (store(table, index) for table in old for index in (2, 0))
+    yield from (store(MIDDLE, i, pointer(table)) for i, table in enumerate(new))
+    yield from (store(table, 1, leaf(0x200 + i)) for i, table in enumerate(new))
+    yield from (f"f 0 {page(0, i, 2):x} -" for i in range(n))
+    yield from (back(0x100 + i) for i in range(n))
+    yield from (store(table, 1) for table in new)
+    yield from (back(0x200 + i) for i in range(n))
+
+
+def harts(n):
+    """Harts that hold pages of the kernel: half of them fence, and a page comes back and goes again."""
+    yield from (f"watch 1 {n} sv39", store(ROOT, KERNEL, pointer(MIDDLE)), store(MIDDLE, 0, pointer(LEAVES)), store(MIDDLE, 1, pointer(0x90000)))
+    yield from (store(LEAVES, 0, kernel_leaf(0x100)), store(LEAVES, 1, kernel_leaf(0x101)), store(0x90000, 0, kernel_leaf(0x102)))
+    yield from (satp(hart, asid=hart + 1) for hart in range(n))
+    yield store(LEAVES, 0)
+    yield from (f"f {hart} - -" for hart in range(0, n, 2))
+    yield from (store(LEAVES, 0, kernel_leaf(0x103)), store(LEAVES, 0), store(MIDDLE, 0), "f 1 - -", store(MIDDLE, 1))
+    yield from (back(frame) for frame in range(0x100, 0x104))
+
+
+def harts_back(n):
+    """Harts that come back to a space and fill a page again that they held: a remote fence from before does not drop it."""
+    yield from (f"watch 1 {n} sv39", store(ROOT, KERNEL, pointer(MIDDLE)), store(MIDDLE, 0, pointer(LEAVES)), store(LEAVES, 0, kernel_leaf(0x100)))
+    yield from (satp(hart, asid=hart + 1) for hart in range(n))
+    yield from (satp(hart, OTHER_ROOT) for hart in range(n))
+    yield store(MIDDLE, 0, pointer(LEAVES))
+    yield from (satp(hart, asid=hart + 1) for hart in range(n))
+    yield from (f"r 0 1 {(1 << n) - 1:x} 0 0 -", store(LEAVES, 0), "e 0 1", back(0x100))
+
+
+LISTED = [
+    (tables_in_turn, 16, 17),
+    (few_ways, 64, 65),
+    (many_ways, 2048, 2049),
+    (pages_fenced, 7, 8, 9),
+    (bytes_claimed, 0x7000, 0x7001),
+    (bytes_claimed_within, 0x7000, 0x7001),
+    (root_left, 256, 257),
+    (root_left_last, 256, 257),
+    (tables_emptied, 16, 17),
+]
+
+
+def printed(due):
+    """The lines, in the order of their records."""
+    for text, rest in sorted(due.items(), key=lambda item: int(item[0].split()[0])):
+        assert len(rest) == 1
+        head, page = re.fullmatch(r"(\d+ \S+ hart \d+) (.*)", text).groups()
+        yield f"{head} may hold page {page}{' root any' if page.endswith(' any') else ''}, {rest.pop()}"
+
+
+def listed():
+    """Traces with one verdict on a record at most, as a list of cases."""
+    for of, *sizes in LISTED:
+        for n in sizes:
+            lines = list(of(n))
+            due = wanted(lines, {})
+            assert len(due) == len({text.split()[0] for text in due})
+            yield from (f"=== {n}: {of.__doc__}", *lines, f"--- svsim watch FILE: {int(bool(due))}", *printed(due))
+            yield last_line(len(lines) - 1, due)
+
+
+def counted(lines):
+    """Each line, which is printed once, and the last."""
+    due = wanted(lines, {})
+    return [*(f"1 {text}" for text in printed(due)), f"1 {last_line(len(lines) - 1, due)}"]
+
+
+def main():
+    def write(name, lines):
+        with open(os.path.join(sys.argv[1], name), "w") as file:
+            file.write("\n".join(lines) + "\n")
+
+    head = "Traces on both sides of sizes at which the engine goes another way, with the verdicts that the definitions give:"
+    write("watch-sizes.txt", [f"{head} `scripts/watch_sizes.py`", "computed them, over sets.\n", *listed()])
+    for of in (harts, harts_back):
+        for n in (7, 8):
+            lines = list(of(n))
+            write(f"{of.__name__.replace('_', '-')}-{n}.trace", [lines[0], f"# {of.__doc__}", *lines[1:]])
+            write(f"{of.__name__.replace('_', '-')}-{n}.counts", counted(lines))
+            write(f"{of.__name__.replace('_', '-')}-{n}.status", ["1"])
+
+
+if __name__ == "__main__":
+    main()
