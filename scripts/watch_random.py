@@ -71,6 +71,14 @@ def last_line(records, due):
     return f"{records} records, {len(due)} verdicts: " + ", ".join(f"{v} {counts[v]}" for v in VERDICTS if counts[v])
 
 
+def printed(due):
+    """The lines that a program prints, in the order of their records; of each verdict one text is known."""
+    for text, rest in sorted(due.items(), key=lambda item: int(item[0].split()[0])):
+        (since,) = rest
+        head, page = re.fullmatch(r"(\d+ \S+ hart \d+) (.*)", text).groups()
+        yield f"{head} may hold page {page}{' root any' if page.endswith(' any') else ''}, {since}"
+
+
 def as_shown(line):
     """A program's line as the definitions show it, and what stands after its page."""
     parts = LINE.fullmatch(line)
@@ -110,9 +118,7 @@ def listed(count):
             continue
         count, quiet = count - 1, quiet + (not due)
         yield from (f"=== {seed}", *lines, f"--- svsim watch FILE: {int(bool(due))}")
-        for text, rest in sorted(due.items(), key=lambda item: int(item[0].split()[0])):
-            head, page = re.fullmatch(r"(\d+ \S+ hart \d+) (.*)", text).groups()
-            yield f"{head} may hold page {page}{' root any' if page.endswith(' any') else ''}, {rest.pop()}"
+        yield from printed(due)
         yield last_line(len(lines) - 1, due)
 
 

@@ -7,11 +7,9 @@ watch_sizes.py FOLDER  writes the list `watch-sizes.txt`, and `NAME.trace`, `NAM
 The first belongs into crates/svsim_examples/data/cases/lists, the others into cases/watch beside it.
 """
 import os
-import re
 import sys
-from collections import Counter
 
-from watch_random import last_line, wanted
+from watch_random import last_line, printed, wanted
 
 ROOT, OTHER_ROOT, BARE_ROOT, MIDDLE, OTHER_MIDDLE, LEAVES = 0x80000, 0x80010, 0x80020, 0x80001, 0x80003, 0x80002
 KERNEL = 256  # the index in a root of the first page above the addresses of users
@@ -186,14 +184,6 @@ LISTED = [
     (root_left_last, 256, 257),
     (tables_emptied, 16, 17),
 ]
-
-
-def printed(due):
-    """The lines, in the order of their records."""
-    for text, rest in sorted(due.items(), key=lambda item: int(item[0].split()[0])):
-        assert len(rest) == 1
-        head, page = re.fullmatch(r"(\d+ \S+ hart \d+) (.*)", text).groups()
-        yield f"{head} may hold page {page}{' root any' if page.endswith(' any') else ''}, {rest.pop()}"
 
 
 def listed():
