@@ -1,9 +1,14 @@
 #!/usr/bin/env python3
-"""Makes the trace that the program `workloads` makes of a seed: workloads.py NAME SEED RECORDS [digest]
+"""Makes a trace of the program `workloads`: workloads.py NAME SEED RECORDS [digest]
 
-NAME is processes, harts or lazy. With `digest` it prints, in place of the trace, what `workloads NAME SEED
-RECORDS` has to print, if the kernel is right: watch_definitions.py has to find no verdict by the definitions,
-so that all there is to print is the line with the counts. It takes a minute for a thousand records.
+NAME is processes, harts or lazy; the trace of `ranges` is not made here. `workloads NAME SEED RECORDS` makes
+this trace up to the 120,000 records of processes, 100,000 of harts or 400,000 of lazy. Of more records it makes
+several traces, one after another: the next is the one of SEED + 2^32 here, then that of SEED + 2 * 2^32.
+
+With `digest` it prints, in place of the trace, what `workloads NAME SEED RECORDS` has to print of one trace
+without a verdict, which is the line with the counts. watch_definitions.py has to find no verdict by the
+definitions: where it finds some, as in a long trace of lazy, there is no digest. It takes a minute for a
+thousand records.
 """
 import os, subprocess, sys, tempfile
 
