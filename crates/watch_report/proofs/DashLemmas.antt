@@ -11,8 +11,8 @@ use Rattle.watch_report.proofs.FieldLemmas.{only_number}
 use Rattle.watch_report.proofs.Positions.{first_field, last_field, not_one_field}
 
 -- what was read, and the fields after it
-abbrev with_rest : {A : Type 0} → List (List ℕ) → Option A → Option (A × List (List ℕ))
-with_rest fields read = read >>= λ n. Some (n, fields)
+abbrev pub with_rest : {A : Type 0} → Option A → List (List ℕ) → Option (A × List (List ℕ))
+with_rest read fields = read >>= λ a. Some (a, fields)
 
 abbrev is_dash : List ℕ → Bool
 is_dash field = bytes_eq field (codes "-")
@@ -46,11 +46,11 @@ only_optional text =
 
 -- ---- the next field
 
-optional_from : (a : List ℕ) (fields : List (List ℕ)) (n : ℕ) → length fields ≡ n + 1 → next_optional (a ∷ fields) ≡ with_rest fields (optional_field a)
+optional_from : (a : List ℕ) (fields : List (List ℕ)) (n : ℕ) → length fields ≡ n + 1 → next_optional (a ∷ fields) ≡ with_rest (optional_field a) fields
 optional_from a [] n e = absurd (omega arith)
 optional_from a (b ∷ fields) n e = refl
 
-optional_of : (a text : List ℕ) → next_optional (a ∷ fields_of text) ≡ with_rest (fields_of text) (optional_field a)
+optional_of : (a text : List ℕ) → next_optional (a ∷ fields_of text) ≡ with_rest (optional_field a) (fields_of text)
 optional_of a text = optional_from a (fields_of text) _ (length-slice_split is_separator text)
 
 abbrev begins_with_dash : List ℕ → Bool

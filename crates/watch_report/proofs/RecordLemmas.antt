@@ -11,10 +11,7 @@ use Rattle.watch_report.specs.NextFields.{last_number, next_hart, only_byte}
 use Rattle.watch_report.specs.ReadRecords.{read_claim_begin, read_fence, read_fields, read_give_back, read_give_out, read_record, read_remote_begin, read_satp_write, read_store}
 use Rattle.watch_report.specs.Records.{claim_begin_in, fence_in, give_back_in, give_out_in, record_by, remote_begin_in, satp_write_in, store_in}
 use Rattle.watch_report.specs.TraceLines.{record_in}
-
--- what was read, and the fields after it
-abbrev with_rest : {A : Type 0} → Option A → List (List ℕ) → Option (A × List (List ℕ))
-with_rest read rest = read >>= λ a. Some (a, rest)
+use Rattle.watch_report.proofs.DashLemmas.{with_rest}
 
 then_same : {A X : Type 0} (read : Option A) (rest : List (List ℕ)) (f : A × List (List ℕ) → Option X) (g : A → Option X) → ((a : A) → f (a, rest) ≡ g a) → (with_rest read rest >>= f) ≡ (read >>= g)
 then_same None rest f g h = refl

@@ -2,7 +2,7 @@
 //! reader to any writer.
 //!
 //! `report_trace` reads the lines of a trace, and writes a line for each verdict as soon as its record
-//! is read, and a last one with counts. Of what was read it keeps only what the watch keeps.
+//! is read, and a last one with counts. Of what was read it keeps what the watch keeps, and the notes.
 #![tactic(auto)]
 
 mod counting;

@@ -8,7 +8,7 @@ ghost use Rattle.watch_report.specs.TraceLines.{before_note, begins_note, line_i
 use crate::fields::next_letter;
 use crate::header::Header;
 use crate::numbers::next_hart;
-use crate::record::record_by;
+use crate::record::read_record;
 use memchr::memchr2;
 use watch::Record as TraceRecord;
 
@@ -109,7 +109,7 @@ fn read_fields(header: Header, text: &[u8]) -> Option<TraceRecord>
 {
     let (letter, rest) = next_letter(text)?;
     let (hart, rest) = next_hart(header.harts, rest)?;
-    record_by(header.scheme, letter, hart, rest)
+    read_record(header.scheme, letter, hart, rest)
 }
 
 /// The record that a text writes, without a note.

@@ -1,6 +1,6 @@
 //! The notes of records, for the lines of later verdicts.
-ghost use Rattle.std.specs.Prelude.{◌≡◌, ◌≤◌, ◌∷◌, ℕ, List, [], IfOk, IfSome, OnOk, length};
-ghost use Rattle.watch_report.specs.NoteTexts.{AreNotes, text_of};
+ghost use Rattle.std.specs.Prelude.{◌≡◌, ◌≤◌, ◌∷◌, ℕ, List, [], IfNone, IfOk, IfSome, OnErr, OnOk, length};
+ghost use Rattle.watch_report.specs.NoteTexts.{AreNotes, before_in, is_recent, IsNoneInRow, SameNotes, text_of};
 ghost use Rattle.watch_report.specs.TraceText.{Noted, note_at};
 
 use crate::texts::Texts;
@@ -40,6 +40,13 @@ fn row_of(text: &[u8]) -> u8 {
     (mixed.wrapping_mul(SPREAD) >> 56) as u8
 }
 
+/// Whether a place is one of the last, of so many.
+fn is_recent(count: usize, place: usize) -> bool
+    ensures { result ≡ is_recent count place }
+{
+    place > count.saturating_sub(RECENT) && place <= count
+}
+
 impl Notes {
     /// No record was read.
     pub fn new(alloc: Global) -> Notes
@@ -54,7 +61,9 @@ impl Notes {
     }
 
     // The place of the text before another in its row, or 0 for none.
-    fn before(&self, place: u32) -> u32 {
+    fn before(&self, place: u32) -> u32
+        ensures { result ≡ before_in self.now place }
+    {
         if place == 0 {
             return 0;
         }
@@ -69,12 +78,13 @@ impl Notes {
     fn recent(&self, note: &[u8], row: u8) -> Option<u32>
         ensures text { IfSome result (λ place. text_of self.now.texts place ≡ note.now) }
         ensures within { IfSome result (λ place. place ≤ length self.now.texts.ends.items) }
+        ensures none { IfNone result (IsNoneInRow self.now row note.now) }
     {
         let count = self.texts.count();
         let mut place = self.newest[usize::from(row)];
-        for _ in 0..RECENT {
+        for step in 0..RECENT {
             let at = place as usize;
-            if at <= count.saturating_sub(RECENT) || at > count {
+            if !is_recent(count, at) {
                 return None;
             }
             if self.texts.text(at) == note {
@@ -94,6 +104,7 @@ impl Notes {
             ≤ length self.new.texts.ends.items) }
         ensures others { OnOk result ((p : ℕ) → p ≤ length self.old.texts.ends.items
             → text_of self.new.texts p ≡ text_of self.old.texts p) }
+        ensures err { OnErr result (SameNotes self.old self.new) }
     {
         if note.is_empty() {
             return Ok(0);
@@ -116,6 +127,7 @@ impl Notes {
     pub fn add(&mut self, note: &[u8]) -> Result<(), AllocError>
         ensures ok { (records : List Noted) (newest : Noted) → AreNotes records self.old
             → newest.by ≡ note.now → OnOk result (AreNotes (newest ∷ records) self.new) }
+        ensures err { OnErr result (SameNotes self.old self.new) }
     {
         self.places.reserve(1)?;
         let place = self.keep(note)?;

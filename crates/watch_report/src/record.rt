@@ -197,7 +197,7 @@ fn usage(hart: u8, text: &[u8]) -> Option<Record>
 }
 
 /// The record of a letter and a hart, with the text after them.
-pub fn record_by(scheme: Scheme, letter: u8, hart: u8, text: &[u8]) -> Option<Record>
+pub fn read_record(scheme: Scheme, letter: u8, hart: u8, text: &[u8]) -> Option<Record>
     ensures { result ≡ read_record scheme letter hart (fields_of text.now) }
 {
     if letter == b'w' {

@@ -1,5 +1,6 @@
 //! Texts that stand one after another in one piece of memory.
-ghost use Rattle.std.specs.Prelude.{◌≡◌, ◌≤◌, ◌+◌, ℕ, [], OnOk, length};
+ghost use Rattle.std.specs.Prelude.{◌≡◌, ◌≤◌, ◌+◌, ℕ, [], OnErr, OnOk, length};
+ghost use Rattle.std.specs.Vec.{vec_capacity, vec_len};
 ghost use Rattle.watch_report.specs.TextEnds.{AreEnds, end_at, text_in};
 
 use std::alloc::{AllocError, Global};
@@ -11,6 +12,18 @@ pub(crate) struct Texts {
     // for each text where it ends
     ends: Vec<usize>,
     ghost in_order: { AreEnds ends.items (length bytes.items) },
+}
+
+/// Makes room for so many bytes more: for some to spare too, or for these alone where that many are
+/// refused.
+fn make_room(bytes: &mut Vec<u8>, more: usize) -> Result<(), AllocError>
+    ensures items { bytes.new.items ≡ bytes.old.items }
+    ensures ok { OnOk result (vec_len bytes.new + more ≤ vec_capacity bytes.new) }
+{
+    match bytes.reserve(more) {
+        Ok(()) => Ok(()),
+        Err(_) => bytes.reserve_exact(more),
+    }
 }
 
 #[tactic(auto, unfolding(crate::specs::TextEnds::text_at))]
@@ -64,8 +77,11 @@ impl Texts {
         ensures others { OnOk result ((p : ℕ) → p ≤ length self.old.ends.items
             → text_in self.new.bytes.items self.new.ends.items p
             ≡ text_in self.old.bytes.items self.old.ends.items p) }
+        ensures err { OnErr result (self.new.bytes.items ≡ self.old.bytes.items) }
+        ensures err_ends { OnErr result (self.new.ends.items ≡ self.old.ends.items) }
     {
         self.ends.reserve(1)?;
+        make_room(&mut self.bytes, text.len())?;
         self.bytes.extend_from_slice(text)?;
         self.ends.push_reserved(self.bytes.len());
         Ok(())
