@@ -1,4 +1,5 @@
 pub mod Stored
+pub mod IndexedWords
 pub mod InFrame
 pub mod FrameRow
 pub mod Hints

@@ -11,10 +11,6 @@ use Rattle.watch_tables.specs.declared.frame.StoredWord.{StoredWord}
 abbrev pub word_to_store : ℕ → ℕ → Option StoredWord
 word_to_store word count = if word == 0 then None else Some (record { word = word; since = count })
 
--- a word counts if it is not 0
-abbrev pub filled_by : StoredWord → ℕ
-filled_by s = if s.word == 0 then 0 else 1
-
 -- the word, and since when it is so
 abbrev pub value_of : Option StoredWord → Option ℕ
 value_of None = None

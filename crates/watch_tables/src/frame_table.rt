@@ -1,12 +1,12 @@
 //! The frames that have a word that is not 0.
 
-ghost use Rattle.std.specs.Prelude.{ℕ, ◌≡◌, ◌<◌, ◌≤◌, ◌+◌, ◌==◌, ◌≢◌, ◌/◌, if◌then◌else◌};
+ghost use Rattle.std.specs.Prelude.{ℕ, ◌≡◌, ◌<◌, ◌≤◌, ◌+◌, ◌==◌, ◌≢◌, ◌/◌, ◌↔◌, if◌then◌else◌};
 ghost use Rattle.std.specs.Prelude.{IfOk, IfSome, IsSome, IsTrue, None, OnErr, OnOk, Some, length};
 ghost use Rattle.std.specs.Ordering.{nat_cmp};
 ghost use Rattle.std.specs.BTreeMap.{get};
 ghost use Rattle.std.specs.Option.{unwrap_or};
 ghost use Rattle.watch_tables.specs.Stored.{value_of, word_to_store};
-ghost use Rattle.watch_tables.specs.InFrame.{AreEmpty, word_in, word_of};
+ghost use Rattle.watch_tables.specs.InFrame.{word_of};
 ghost use Rattle.watch_tables.specs.FrameRow.{IsInStep, frame_at, ppn_at};
 ghost use Rattle.watch_tables.specs.Hints.{AreHinted};
 
@@ -15,10 +15,6 @@ use crate::hints::{Hints, NO_PLACE};
 use pte::TABLE_LENGTH;
 use std::alloc::{AllocError, Global};
 use std::collections::BTreeMap;
-
-/// How many frames are kept at most for PPNs to come, so that tables that come and go need not be made
-/// anew each time.
-const SPARE_FRAMES: usize = 16;
 
 /// A frame that has a PPN.
 #[derive(Drop)]
@@ -38,30 +34,35 @@ pub(crate) struct FrameTable {
     row: Vec<PlacedFrame>,
     // where a frame may stand; where it does not, the map tells
     hints: Hints,
-    // frames that lost their last word, for PPNs to come
-    spare: Vec<Frame>,
-    ghost empty: { AreEmpty spare.items },
     ghost in_step: { IsInStep (get nat_cmp places) row.items },
     ghost hinted: { AreHinted hints row.items },
 }
 
 /// Puts a word down at an index of the frame at a place of a row, with the number of records so far;
-/// 0 is not kept. Whether each word of the frame is 0 then.
-fn put_in(row: &mut Vec<PlacedFrame>, place: usize, index: u16, word: u64, count: u64) -> bool
+/// 0 is not kept. Whether each word of the frame is 0 then. At `Err` the words are as before.
+fn put_in(
+    row: &mut Vec<PlacedFrame>,
+    place: usize,
+    index: u16,
+    word: u64,
+    count: u64,
+) -> Result<bool, AllocError>
     requires place { place < length row.old.items }
     requires index { index < TABLE_LENGTH }
     ensures ppns { (p : ℕ) → ppn_at row.new.items p ≡ ppn_at row.old.items p }
     ensures others { (p : ℕ) → p ≢ place
         → frame_at row.new.items (Some p) ≡ frame_at row.old.items (Some p) }
-    ensures words { (i : ℕ) → word_of (frame_at row.new.items (Some place)) i
+    ensures words { OnOk result ((i : ℕ) → word_of (frame_at row.new.items (Some place)) i
         ≡ (if i == index then word_to_store word count
-        else word_of (frame_at row.old.items (Some place)) i) }
-    ensures empty { IsTrue result
-        → (i : ℕ) → word_of (frame_at row.new.items (Some place)) i ≡ None }
+        else word_of (frame_at row.old.items (Some place)) i)) }
+    ensures empty { IfOk result (λ empty. IsTrue empty
+        ↔ ((i : ℕ) → word_of (frame_at row.new.items (Some place)) i ≡ None)) }
+    ensures err { OnErr result ((i : ℕ) → word_of (frame_at row.new.items (Some place)) i
+        ≡ word_of (frame_at row.old.items (Some place)) i) }
 {
     let frame = &mut row[place].frame;
-    frame.put(index, word, count);
-    frame.is_empty()
+    frame.put(index, word, count)?;
+    Ok(frame.is_empty())
 }
 
 /// The least PPN from `start` on and below `end`, and its place.
@@ -103,29 +104,6 @@ impl FrameTable {
             places: BTreeMap::new(alloc),
             row: Vec::new(alloc),
             hints: Hints::new(alloc),
-            spare: Vec::new(alloc),
-        }
-    }
-
-    /// A frame of which each word is 0: a spare one, or else a new one.
-    fn empty_frame(&mut self, alloc: Global) -> Result<Frame, AllocError>
-        ensures empty { IfOk result (λ frame. (i : ℕ) → word_in frame i ≡ None) }
-        ensures frames { (k : ℕ) → frame_of self.new k ≡ frame_of self.old k }
-    {
-        match self.spare.pop() {
-            Some(frame) => Ok(frame),
-            None => Frame::new(alloc),
-        }
-    }
-
-    /// Keeps a frame of which each word is 0 as a spare one, if that is not one too many: there are no
-    /// more than frames with words.
-    fn keep(&mut self, frame: Frame)
-        requires { (i : ℕ) → word_in frame i ≡ None }
-        ensures { (k : ℕ) → frame_of self.new k ≡ frame_of self.old k }
-    {
-        if self.spare.len() < SPARE_FRAMES.min(self.row.len()) {
-            let _ = self.spare.push(frame);
         }
     }
 
@@ -289,22 +267,11 @@ impl FrameTable {
         Some(gone.frame)
     }
 
-    /// Drops a spare frame where there are more of them than frames with words.
-    fn drop_spare(&mut self)
-        ensures frames { (k : ℕ) → frame_of self.new k ≡ frame_of self.old k }
-        ensures count { frame_count self.new ≡ frame_count self.old }
-    {
-        if self.spare.len() > self.row.len() {
-            let _spare = self.spare.pop();
-        }
-    }
-
     /// Counts a frame that has gone, and gives room back where three quarters of it are free.
     fn shrink(&mut self)
         ensures frames { (k : ℕ) → frame_of self.new k ≡ frame_of self.old k }
         ensures count { frame_count self.new ≡ frame_count self.old }
     {
-        self.drop_spare();
         self.hints.count_gone(self.row.as_slice());
         let (count, room) = (self.row.len(), self.row.capacity());
         if count >= room / 4 {
@@ -329,21 +296,22 @@ impl FrameTable {
         gone
     }
 
-    /// Puts a word down under its number, in the frame at a place. The frame goes with its last word.
-    fn put_at(&mut self, place: usize, number: u64, word: u64, count: u64)
+    /// Puts a word down under its number, in the frame at a place. The frame goes with its last word. At
+    /// `Err` nothing changed.
+    fn put_at(&mut self, place: usize, number: u64, word: u64, count: u64) -> Result<(), AllocError>
         requires { get nat_cmp self.old.places (number / TABLE_LENGTH) ≡ Some place }
-        ensures { (n : ℕ) → in_frames self.new n
-            ≡ (if n == number then word_to_store word count else in_frames self.old n) }
+        ensures ok { OnOk result ((n : ℕ) → in_frames self.new n
+            ≡ (if n == number then word_to_store word count else in_frames self.old n)) }
+        ensures err { OnErr result ((n : ℕ) → in_frames self.new n ≡ in_frames self.old n) }
     {
         let length = u64::from(TABLE_LENGTH);
         let ppn = number / length;
-        if put_in(&mut self.row, place, (number % length) as u16, word, count) {
-            if let Some(frame) = self.remove(ppn) {
-                self.keep(frame);
-            }
-            return;
+        if put_in(&mut self.row, place, (number % length) as u16, word, count)? {
+            let _frame = self.remove(ppn);
+            return Ok(());
         }
         self.hints.set(ppn, place);
+        Ok(())
     }
 
     /// Puts a word down under its number, with the number of records so far; 0 is not kept, and a frame
@@ -362,14 +330,13 @@ impl FrameTable {
         let length = u64::from(TABLE_LENGTH);
         let ppn = number / length;
         if let Some(place) = self.place_of(ppn) {
-            self.put_at(place, number, word, count);
-            return Ok(());
+            return self.put_at(place, number, word, count);
         }
         if word == 0 {
             return Ok(());
         }
-        let mut frame = self.empty_frame(alloc)?;
-        frame.put((number % length) as u16, word, count);
+        let mut frame = Frame::new(alloc)?;
+        frame.put((number % length) as u16, word, count)?;
         self.add(ppn, frame)
     }
 }

@@ -52,8 +52,9 @@ impl PageTables {
         true
     }
 
-    /// Whether each leaf of a root whose path asks for the word at this index of the root is global:
-    /// G is set in the leaf or in a pointer above it. No leaf is listed: the first that is not global
+    /// Whether each leaf of a root whose path begins with the word at this index of the root is global:
+    /// G is set in the leaf or in a pointer above it. A path that comes to that word only below, where
+    /// a pointer leads back to the root, is not meant. No leaf is listed: the first that is not global
     /// ends the search.
     pub fn are_leaves_global(&self, scheme: Scheme, root: u64, index: u16) -> bool
         ensures { IsTrue result ↔ ((e : EntryOf) → HasLeaf scheme (words self.now) root e
