@@ -94,8 +94,8 @@ pub trait Tables {
         false
     }
 
-    /// Whether each leaf whose path passes through the word at an index of a root is known to be
-    /// global.
+    /// Whether each leaf of a root whose path begins with the word at an index of the root is known to
+    /// be global.
     fn are_leaves_global(&self, scheme: Scheme, root: u64, index: u16) -> bool
         ensures { IsTrue result → (e : EntryOf) → HasLeaf scheme (words self.now) root e
             → vpn_of e.page.base (top_level scheme) ≡ index → e.global ≡ true }
