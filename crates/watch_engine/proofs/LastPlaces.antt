@@ -6,7 +6,7 @@ use Rattle.std.proofs.lemmas.Bool.{cases_Bool, eq-eqb, eqb-true, eqb-false, fals
 use Rattle.std.proofs.lemmas.List.{take_more, length-take-le, get_or-replicate, get_or-set_same, get_or-set_other, take-append-le}
 use Rattle.std.proofs.Math.Seq.{get_or-append_seam, take-append_seam, take-length, take-suc}
 use Rattle.std.proofs.Math.ListN.{get_or-append}
-use Rattle.watch_engine.specs.Chains.{AreChained, AreChains, above, bucket_of, is_in, last_from, last_place, last_where}
+use Rattle.watch_engine.specs.Chains.{AreChained, AreChains, IsFirst, IsNext, above, bucket_of, is_in, last_from, last_place, last_where}
 
 from_snoc : (test : ℕ → Bool) (found place : ℕ) (keys : List ℕ) (k : ℕ)
     → last_from test found place (keys ++ k ∷ [])
@@ -176,13 +176,7 @@ none_chained n links =
       newest = λ bucket h. get_or-replicate n bucket 0 0 h;
     }
 
--- where the walk down a chain goes on: before the place, in the same bucket, with no other key of it between
-pub record IsNext (n : ℕ) (keys : List ℕ) (at older : ℕ) : Type 0 where
-  pub smaller : older < at
-  pub within : older ≤ length keys
-  pub bucket : 0 < older → bucket_of n (get_or keys (older - 1) 0) ≡ bucket_of n (get_or keys (at - 1) 0)
-  pub same : (key : ℕ) → bucket_of n key ≡ bucket_of n (get_or keys (at - 1) 0) → last_place key (take (at - 1) keys) ≡ last_place key (take older keys)
-
+-- the walk down a chain goes on by its links
 pub next : (keys links heads : List ℕ) → AreChains keys links heads → (at older : ℕ) → 0 < at → at ≤ length keys
     → older ≡ get_or links (at - 1) 0 → IsNext (length heads) keys at older
 next keys links heads are at older some within is =
@@ -199,12 +193,7 @@ next keys links heads are at older some within is =
       same = λ key e. last_by_bucket n key b e keys (at - 1) count ∙ ap (λ (m : ℕ). last_place key (take m keys)) found;
     }
 
--- where the walk for a key begins
-pub record IsFirst (n : ℕ) (keys : List ℕ) (key newest : ℕ) : Type 0 where
-  pub within : newest ≤ length keys
-  pub bucket : 0 < newest → bucket_of n (get_or keys (newest - 1) 0) ≡ bucket_of n key
-  pub same : last_place key (take newest keys) ≡ last_place key keys
-
+-- and begins at a head
 pub first : (keys links heads : List ℕ) → AreChains keys links heads → (key newest b : ℕ) → b < length heads → b ≡ bucket_of (length heads) key
     → newest ≡ get_or heads b 0 → IsFirst (length heads) keys key newest
 first keys links heads are key newest b room e is =

@@ -1,6 +1,6 @@
 -- Keys in a list, and chains of places that find the newest place of a key: a bucket has a chain of the
 -- places of its keys.
-use Rattle.std.specs.Prelude.{ℕ, Bool, ◌+◌, ◌-◌, ◌*◌, ◌%◌, ◌/◌, ◌^◌, ◌≡◌, ◌==◌, ◌<◌, bit_and, nat_lt, if◌then◌else◌}
+use Rattle.std.specs.Prelude.{ℕ, Bool, ◌+◌, ◌-◌, ◌*◌, ◌%◌, ◌/◌, ◌^◌, ◌≡◌, ◌==◌, ◌<◌, ◌≤◌, bit_and, nat_lt, if◌then◌else◌}
 use Rattle.std.specs.Prelude.{List, [], ◌∷◌, length, slice_index, take}
 
 -- one more than the last place at which a list has a key that passes a test, or what was found before it
@@ -44,3 +44,21 @@ pub record AreChains (keys links heads : List ℕ) : Type 0 where
   pub chained : AreChained (length heads) keys links heads
   pub linked : length links ≡ length keys
   pub open_first : 0 < length keys → 0 < length heads
+
+-- where a walk for a key begins, one more than a place or 0: in the key's bucket, and no key behind it is
+-- the same
+pub record IsFirst (n : ℕ) (keys : List ℕ) (key newest : ℕ) : Type 0 where
+  pub within : newest ≤ length keys
+  pub bucket : 0 < newest → bucket_of n (slice_index keys (newest - 1)) ≡ bucket_of n key
+  pub same : last_place key (take newest keys) ≡ last_place key keys
+
+-- where it goes on: at an older place of the same bucket, and no key between has this bucket
+pub record IsNext (n : ℕ) (keys : List ℕ) (at older : ℕ) : Type 0 where
+  pub smaller : older < at
+  pub within : older ≤ length keys
+  pub bucket :
+      0 < older
+      → bucket_of n (slice_index keys (older - 1)) ≡ bucket_of n (slice_index keys (at - 1))
+  pub same :
+      (key : ℕ) → bucket_of n key ≡ bucket_of n (slice_index keys (at - 1))
+      → last_place key (take (at - 1) keys) ≡ last_place key (take older keys)

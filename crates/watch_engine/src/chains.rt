@@ -1,7 +1,7 @@
 //! Keys that are found by their newest places.
 
 ghost use Rattle.std.specs.Prelude.{◌≡◌, ◌+◌, ◌<◌, ◌≤◌, ◌-◌, ◌++◌, ◌∷◌, [], OnErr, OnOk, length, slice_index, take};
-ghost use Rattle.watch_engine.specs.Chains.{AreChained, AreChains, above, bucket_of, last_place};
+ghost use Rattle.watch_engine.specs.Chains.{AreChained, AreChains, IsFirst, IsNext, above, bucket_of, last_place};
 
 use std::alloc::{AllocError, Global};
 
@@ -116,6 +116,28 @@ impl Chains {
         );
         self.grow();
         Ok(())
+    }
+
+    /// One more than the newest place of the keys in a key's bucket, or 0 if it has none.
+    #[inline(always)]
+    pub(crate) fn head(&self, key: u64) -> usize
+        ensures { IsFirst (length self.now.heads.items) self.now.keys.items key result }
+    {
+        if self.heads.is_empty() {
+            return 0;
+        }
+        self.heads[bucket_of(self.heads.len(), key)]
+    }
+
+    /// One more than the next older place of the same bucket, from the one of which `at` is one more, or
+    /// 0 if there is none.
+    #[inline(always)]
+    pub(crate) fn older(&self, at: usize) -> usize
+        requires some { 0 < at }
+        requires within { at ≤ length self.now.keys.items }
+        ensures { IsNext (length self.now.heads.items) self.now.keys.items at result }
+    {
+        self.links[at - 1]
     }
 
     // Goes down a chain of the key's bucket, from `newest` - 1, to a place of the key. One more than
