@@ -1,10 +1,10 @@
 -- Fences that may drop an entry are found by four keys.
-use Rattle.std.proofs.Common.{◌*◌, ◌/◌, ◌^◌, ◌≡◌, ℕ, ◌<◌, ◌≤◌, ◌+◌, ◌-◌, ◌%◌, Bool, true, false, not, List, [], ◌∷◌, length, take, drop, map, get_or, Option, Some, None, IsTrue, ap, sym, subst, ◌∙◌, refl, arith, zero, suc, inl, inr}
+use Rattle.std.proofs.Common.{◌*◌, ◌/◌, ◌^◌, ◌≡◌, ℕ, ◌<◌, ◌≤◌, ◌+◌, ◌-◌, ◌%◌, Bool, true, false, not, List, [], ◌∷◌, length, take, drop, map, get_or, Option, Some, None, IsTrue, ap, sym, subst, ◌∙◌, refl, arith, zero, suc, inl, inr, add-one}
 use Rattle.std.specs.Prelude.{◌==◌, ◌⊎◌, ◌&&◌, ◌||◌, nat_le, nat_lt, if◌then◌else◌}
 use Rattle.std.specs.List.{list_any}
 use Rattle.std.proofs.lemmas.Bool.{and_parts, and_from, cases_Bool, cases_lt, eq-eqb, eqb-true, eqb-false, false_from_ne_true, not-true, true≢false}
 use Rattle.std.proofs.lemmas.Bool.Decides.{nat_tests}
-use Rattle.std.proofs.lemmas.List.{length-take-le, length-map, get_or_default, drop_all, drop-append-le, get_or-map}
+use Rattle.std.proofs.lemmas.List.{length-take, length-take-le, length-map, get_or_default, drop_all, drop-append-le, get_or-map}
 use Rattle.std.proofs.lemmas.List.Folds.{list_any-append}
 use Rattle.std.proofs.Math.Bool.{or-false}
 use Rattle.std.proofs.Math.Seq.{take-length, take-suc}
@@ -19,10 +19,10 @@ use Rattle.watch.specs.Holding.{is_covered, names, reaches}
 use Rattle.watch_engine.specs.declared.left.Left.{Left}
 use Rattle.watch_engine.specs.declared.left.PastFence.{PastFence}
 use Rattle.watch_engine.specs.declared.left.PastFence.TheVariants.{Own, Remote}
-use Rattle.watch_engine.specs.Chains.{above, last_place}
+use Rattle.watch_engine.specs.Chains.{IsFirst, IsNext, bucket_of, last_place}
 use Rattle.watch_engine.specs.Left.{is_taken_since, takes}
-use Rattle.watch_engine.specs.PastFences.{address_key, asid_key, fence_key, is_in_page, is_taken_by, is_taken_by_asid, range_key, takes_by, wide_key}
-use Rattle.watch_engine.proofs.LastPlaces.{above_less, above_more, last_no, last_of_all, last_passes, last_within, last_yes}
+use Rattle.watch_engine.specs.PastFences.{NoneBefore, address_key, asid_key, fence_key, is_in_page, is_taken_by, is_taken_by_asid, range_key, takes_by, wide_key}
+use Rattle.watch_engine.proofs.LastPlaces.{last_no, last_of_all, last_yes}
 
 -- the entry's page begins at a multiple of its size
 abbrev pub IsAligned : Entry → Type 0
@@ -288,88 +288,121 @@ has_key : (key : ℕ) (scheme : Scheme) (l : Left) (e : Entry) (fence : PastFenc
     → takes_by key scheme l e fence ≡ true → fence_key e.page.size fence ≡ key
 has_key key scheme l e fence is = eqb-true _ _ (and_parts (takes scheme l e fence) _ is).1
 
--- the walk is at the place before this: the fence there came since and has the key, and the answer is
--- that of the fences up to there
-pub record IsAt (key : ℕ) (scheme : Scheme) (l : Left) (e : Entry) (fences : List PastFence) (at : ℕ) : Type 0 where
+-- up to here there are as many fences with the key that drop the entry as up to there, if its last place is the same
+same_last : (key : ℕ) (scheme : Scheme) (l : Left) (e : Entry) (fences : List PastFence) (n m : ℕ) → n ≤ length fences → m ≤ length fences
+    → last_place key (take n (map (fence_key e.page.size) fences)) ≡ last_place key (take m (map (fence_key e.page.size) fences))
+    → is_taken_by key scheme (take n fences) l e ≡ is_taken_by key scheme (take m fences) l e
+same_last key scheme l e fences n m h k same =
+    any_last e.page.size (takes_by key scheme l e) key (has_key key scheme l e) fences l.fences n h
+    ∙ ap (λ (last : ℕ). is_taken_by key scheme (take last fences) l e) same
+    ∙ sym (any_last e.page.size (takes_by key scheme l e) key (has_key key scheme l e) fences l.fences m k)
+
+-- a fence at a place since then has dropped the entry
+taken_at : (P : PastFence → Bool) (fences : List PastFence) (since n : ℕ) → since ≤ n → n < length fences
+    → P (get_or fences n none) ≡ true → list_any P (drop since fences) ≡ true
+taken_at P [] since n old h is = absurd (omega arith)
+taken_at P (f ∷ fences) zero zero old h is = or_left (P f) (list_any P fences) is
+taken_at P (f ∷ fences) zero (suc n) old h is = or_right (P f) (list_any P fences) (taken_at P fences zero n (omega arith) (omega arith) is)
+taken_at P (f ∷ fences) (suc since) zero old h is = absurd (omega arith)
+taken_at P (f ∷ fences) (suc since) (suc n) old h is = taken_at P fences since n (omega arith) (omega arith) is
+
+pub taken : (scheme : Scheme) (l : Left) (e : Entry) (fences : List PastFence) (n : ℕ) (fence : PastFence) → l.fences ≤ n → n < length fences
+    → fence ≡ get_or fences n fence → takes scheme l e fence ≡ true → is_taken_since scheme fences l e ≡ true
+taken scheme l e fences n fence since h there is =
+    taken_at (takes scheme l e) fences l.fences n since h
+    (ap (takes scheme l e) (get_or_default fences n none fence h ∙ sym there) ∙ is)
+
+any_of_none : (P : PastFence → Bool) (since : ℕ) → list_any P (drop since []) ≡ false
+any_of_none P since = ap (list_any P) (drop_all since [] (omega arith))
+
+or_false : (a b : Bool) → (a || b) ≡ false → (a ≡ false) × (b ≡ false)
+or_false true b is = absurd (true≢false is)
+or_false false b is = (refl, is)
+
+-- nor is there a narrower one among fewer fences
+fewer_narrower : (P Q : PastFence → Bool) → ((f : PastFence) → Q f ≡ true → P f ≡ true) → (fences : List PastFence) (since n m : ℕ) → n ≤ m
+    → list_any P (drop since (take m fences)) ≡ false → list_any Q (drop since (take n fences)) ≡ false
+fewer_narrower P Q goes fences since zero m h is = any_of_none Q since
+fewer_narrower P Q goes [] since (suc n) m h is = any_of_none Q since
+fewer_narrower P Q goes (f ∷ fences) since (suc n) zero h is = absurd (omega arith)
+fewer_narrower P Q goes (f ∷ fences) zero (suc n) (suc m) h is =
+    let parts = or_false (P f) _ is in
+    let no : Q f ≡ false = false_from_ne_true (Q f) (λ q. true≢false (sym (goes f q) ∙ parts.0)) in
+    ap (λ t. t || list_any Q (take n fences)) no ∙ fewer_narrower P Q goes fences zero n m (omega arith) parts.1
+fewer_narrower P Q goes (f ∷ fences) (suc since) (suc n) (suc m) h is = fewer_narrower P Q goes fences since n m (omega arith) is
+
+-- of none none has
+pub none_before : (scheme : Scheme) (fences : List PastFence) (l : Left) (e : Entry) (n : ℕ) → n ≡ l.fences → NoneBefore scheme fences l e n
+none_before scheme fences l e n is =
+    record {
+      since = omega arith;
+      none = ap (list_any (takes scheme l e)) (drop_all l.fences (take n fences) (omega (arith, length-take n fences)));
+    }
+
+-- one more that has not
+pub none_more : (scheme : Scheme) (fences : List PastFence) (l : Left) (e : Entry) (n : ℕ) (fence : PastFence) → NoneBefore scheme fences l e n
+    → n < length fences → fence ≡ get_or fences n fence → takes scheme l e fence ≡ false → NoneBefore scheme fences l e (n + 1)
+none_more scheme fences l e n fence before h there is =
+    record {
+      since = omega (arith, before.since);
+      none =
+          ap (λ (m : ℕ). list_any (takes scheme l e) (drop l.fences (take m fences))) (add-one n)
+          ∙ any_no (takes scheme l e) fences l.fences n h (ap (takes scheme l e) (get_or_default fences n none fence h ∙ sym there) ∙ is)
+          ∙ before.none;
+    }
+
+-- the walk along a chain of the key's bucket is at the place before this: the fences up to there that have the
+-- key tell what all of them do
+pub record IsAt (buckets key : ℕ) (scheme : Scheme) (l : Left) (e : Entry) (fences : List PastFence) (at : ℕ) : Type 0 where
   pub within : at ≤ length fences
-  pub has : 0 < at → get_or (map (fence_key e.page.size) fences) (at - 1) 0 ≡ key
-  pub since : 0 < at → l.fences < at
+  pub bucket : 0 < at → bucket_of buckets (get_or (map (fence_key e.page.size) fences) (at - 1) 0) ≡ bucket_of buckets key
   pub same : is_taken_by key scheme (take at fences) l e ≡ is_taken_by key scheme fences l e
 
--- fences before the hart left do not count
-none_since : (key : ℕ) (scheme : Scheme) (l : Left) (e : Entry) (fences : List PastFence) (n : ℕ)
-    → n ≤ length fences → n ≤ l.fences → is_taken_by key scheme (take n fences) l e ≡ false
-none_since key scheme l e fences n h old =
-    let size : length (take n fences) ≡ n = length-take-le n fences h in
-    ap (list_any (takes_by key scheme l e)) (drop_all l.fences (take n fences) (omega arith))
+pub at_first : (buckets key : ℕ) (scheme : Scheme) (l : Left) (e : Entry) (fences : List PastFence) (keys : List ℕ) (at : ℕ)
+    → keys ≡ map (fence_key e.page.size) fences → IsFirst buckets keys key at → IsAt buckets key scheme l e fences at
+at_first buckets key scheme l e fences keys at are first =
+    let all : List ℕ = map (fence_key e.page.size) fences in
+    let size : length all ≡ length fences = length-map fences (fence_key e.page.size) in
+    let of : IsFirst buckets all key at = subst (λ (ks : List ℕ). IsFirst buckets ks key at) are first in
+    let last : last_place key (take (length fences) all) ≡ last_place key all =
+    ap (λ (n : ℕ). last_place key (take n all)) (sym size) ∙ last_of_all key all in
+    record {
+      within = omega (arith, of.within);
+      bucket = of.bucket;
+      same =
+          same_last key scheme l e fences at (length fences) (omega (arith, of.within)) (omega arith) (of.same ∙ sym last)
+          ∙ ap (λ (xs : List PastFence). is_taken_by key scheme xs l e) (take-length fences);
+    }
 
-at_last : (key : ℕ) (scheme : Scheme) (l : Left) (e : Entry) (fences : List PastFence) (n : ℕ) → n ≤ length fences
-    → is_taken_by key scheme (take n fences) l e ≡ is_taken_by key scheme fences l e
-    → IsAt key scheme l e fences (above l.fences (last_place key (take n (map (fence_key e.page.size) fences))))
-at_last key scheme l e fences n h is =
-    let keys : List ℕ = map (fence_key e.page.size) fences in
-    let size : length keys ≡ length fences = length-map fences (fence_key e.page.size) in
-    let count : n ≤ length keys = omega arith in
-    let last : ℕ = last_place key (take n keys) in
-    let below : last ≤ n = last_within (λ k. k == key) keys n count in
-    let same : is_taken_by key scheme (take last fences) l e ≡ is_taken_by key scheme fences l e =
-    sym (any_last e.page.size (takes_by key scheme l e) key (has_key key scheme l e) fences l.fences n h) ∙ is in
-    elim (cases_lt l.fences last) [
-      | inl since ↦ subst (IsAt key scheme l e fences) (sym (above_more l.fences last since)) (record {
-        within = omega arith;
-        has = λ some. eqb-true _ _ (last_passes (λ k. k == key) keys n count some);
-        since = λ some. since;
-        same = same;
-      })
-      | inr old ↦ subst (IsAt key scheme l e fences) (sym (above_less l.fences last old)) (record {
-        within = omega arith;
-        has = λ some. absurd (omega arith);
-        since = λ some. absurd (omega arith);
-        same =
-            none_since key scheme l e fences 0 (omega arith) (omega arith)
-            ∙ sym (none_since key scheme l e fences last (omega arith) old) ∙ same;
-      })
-    ]
-
--- it begins at the newest fence with the key
-pub at_first : (key : ℕ) (scheme : Scheme) (l : Left) (e : Entry) (fences : List PastFence) (keys : List ℕ) (at : ℕ)
-    → keys ≡ map (fence_key e.page.size) fences → at ≡ above l.fences (last_place key keys) → IsAt key scheme l e fences at
-at_first key scheme l e fences keys at are is =
-    let size : length (map (fence_key e.page.size) fences) ≡ length fences = length-map fences (fence_key e.page.size) in
-    let found : last_place key (take (length fences) (map (fence_key e.page.size) fences)) ≡ last_place key keys =
-    ap (λ (n : ℕ). last_place key (take n (map (fence_key e.page.size) fences))) (sym size)
-    ∙ last_of_all key (map (fence_key e.page.size) fences) ∙ ap (last_place key) (sym are) in
-    subst (IsAt key scheme l e fences) (ap (above l.fences) found ∙ sym is)
-    (at_last key scheme l e fences (length fences) (omega arith)
-    (ap (λ (xs : List PastFence). is_taken_by key scheme xs l e) (take-length fences)))
-
--- and goes on to the next older one
-pub at_next : (key : ℕ) (scheme : Scheme) (l : Left) (e : Entry) (fences : List PastFence) (keys : List ℕ) (at older : ℕ) (fence : PastFence)
-    → keys ≡ map (fence_key e.page.size) fences → 0 < at → IsAt key scheme l e fences at
+pub at_next : (buckets key : ℕ) (scheme : Scheme) (l : Left) (e : Entry) (fences : List PastFence) (keys : List ℕ) (at older : ℕ) (fence : PastFence)
+    → keys ≡ map (fence_key e.page.size) fences → 0 < at → IsAt buckets key scheme l e fences at
     → fence ≡ get_or fences (at - 1) fence → takes scheme l e fence ≡ false
-    → older ≡ above l.fences (last_place (get_or keys (at - 1) 0) (take (at - 1) keys)) → IsAt key scheme l e fences older
-at_next key scheme l e fences keys zero older fence are some was there no_drop is = absurd (omega arith)
-at_next key scheme l e fences keys (suc n) older fence are some was there no_drop is =
+    → IsNext buckets keys at older → IsAt buckets key scheme l e fences older
+at_next buckets key scheme l e fences keys zero older fence are some was there no_drop next = absurd (omega arith)
+at_next buckets key scheme l e fences keys (suc n) older fence are some was there no_drop next =
+    let all : List ℕ = map (fence_key e.page.size) fences in
+    let size : length all ≡ length fences = length-map fences (fence_key e.page.size) in
     let at : suc n - 1 ≡ n = omega arith in
     let room : n < length fences = omega (arith, was.within) in
+    let on : IsNext buckets all (suc n) older = subst (λ (ks : List ℕ). IsNext buckets ks (suc n) older) are next in
     let here : get_or fences n none ≡ fence =
     get_or_default fences n none fence room ∙ ap (λ (m : ℕ). get_or fences m fence) (sym at) ∙ sym there in
     let not_taken : takes_by key scheme l e (get_or fences n none) ≡ false =
     ap (takes_by key scheme l e) here ∙ ap (λ t. t && (fence_key e.page.size fence == key)) no_drop in
-    let has : get_or keys (suc n - 1) 0 ≡ key = ap (λ (ks : List ℕ). get_or ks (suc n - 1) 0) are ∙ was.has some in
-    let found : older ≡ above l.fences (last_place key (take n (map (fence_key e.page.size) fences))) =
-    is ∙ (λ i. above l.fences (last_place (has i) (take (at i) (are i)))) in
-    subst (IsAt key scheme l e fences) (sym found)
-    (at_last key scheme l e fences n (omega arith)
-    (sym (any_no (takes_by key scheme l e) fences l.fences n room not_taken) ∙ was.same))
+    let last : last_place key (take n all) ≡ last_place key (take older all) =
+    ap (λ (m : ℕ). last_place key (take m all)) (sym at) ∙ on.same key (sym (was.bucket some)) in
+    record {
+      within = omega (arith, on.within);
+      bucket = λ more. on.bucket more ∙ was.bucket some;
+      same =
+          sym (same_last key scheme l e fences n older (omega arith) (omega (arith, on.within)) last)
+          ∙ sym (any_no (takes_by key scheme l e) fences l.fences n room not_taken) ∙ was.same;
+    }
 
--- which lies before it
-pub older_is_less : (keys : List ℕ) (key at older floor : ℕ) → 0 < at → at ≤ length keys
-    → older ≡ above floor (last_place key (take (at - 1) keys)) → older < at
-older_is_less keys key at older floor some within is =
-    let last : ℕ = last_place key (take (at - 1) keys) in
-    let below : last ≤ at - 1 = last_within (λ k. k == key) keys (at - 1) (omega arith) in
-    elim (cases_lt floor last) [
-      | inl more ↦ (let e : older ≡ last = is ∙ above_more floor last more in omega arith)
-      | inr less ↦ (let e : older ≡ 0 = is ∙ above_less floor last less in omega arith)
-    ]
+-- where the walk meets the fences that were looked at, none has the key and has dropped the entry
+pub at_none : (buckets key : ℕ) (scheme : Scheme) (l : Left) (e : Entry) (fences : List PastFence) (at n : ℕ) → at ≤ n
+    → IsAt buckets key scheme l e fences at → NoneBefore scheme fences l e n → is_taken_by key scheme fences l e ≡ false
+at_none buckets key scheme l e fences at n h was before =
+    sym was.same
+    ∙ fewer_narrower (takes scheme l e) (takes_by key scheme l e)
+    (λ f is. (and_parts (takes scheme l e f) (fence_key e.page.size f == key) is).0) fences l.fences at n h before.none

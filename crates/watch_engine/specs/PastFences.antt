@@ -1,7 +1,7 @@
 -- By which key a fence that has been executed is found, for entries of pages of a size: by its ASID if it
 -- has one, and by the page if all its addresses lie in one of that size.
-use Rattle.std.specs.Prelude.{ℕ, Bool, ◌+◌, ◌-◌, ◌*◌, ◌/◌, ◌%◌, ◌^◌, ◌==◌, ◌&&◌, ◌||◌, nat_le, not, if◌then◌else◌}
-use Rattle.std.specs.Prelude.{List, drop, Option, None, Some}
+use Rattle.std.specs.Prelude.{ℕ, Bool, false, ◌+◌, ◌-◌, ◌*◌, ◌/◌, ◌%◌, ◌^◌, ◌≡◌, ◌≤◌, ◌==◌, ◌&&◌, ◌||◌, nat_le, not, if◌then◌else◌}
+use Rattle.std.specs.Prelude.{List, drop, take, Option, None, Some}
 use Rattle.std.specs.List.{list_any}
 use Rattle.pte.specs.Address.{bytes_of}
 use Rattle.pte.specs.declared.address.PageSize.{PageSize}
@@ -9,7 +9,7 @@ use Rattle.pte.specs.declared.scheme.Scheme.{Scheme}
 use Rattle.pte.specs.declared.TheConstants.{ASID_BITS}
 use Rattle.tlb.specs.declared.store.Entry.{Entry}
 use Rattle.watch.specs.declared.trace.AddressRange.{AddressRange}
-use Rattle.watch_engine.specs.Left.{takes}
+use Rattle.watch_engine.specs.Left.{is_taken_since, takes}
 use Rattle.watch_engine.specs.declared.left.Left.{Left}
 use Rattle.watch_engine.specs.declared.left.PastFence.{PastFence}
 use Rattle.watch_engine.specs.declared.left.PastFence.TheVariants.{Own, Remote}
@@ -53,3 +53,8 @@ is_taken_by_asid scheme fences l e =
     not e.global
     && (is_taken_by (address_key e.page.size e.page.base (Some e.asid)) scheme fences l e
     || is_taken_by (wide_key (Some e.asid)) scheme fences l e)
+
+-- of so many fences none has dropped the entry since the hart left the space, which was no later
+pub record NoneBefore (scheme : Scheme) (fences : List PastFence) (l : Left) (e : Entry) (n : ℕ) : Type 0 where
+  pub since : l.fences ≤ n
+  pub none : is_taken_since scheme (take n fences) l e ≡ false

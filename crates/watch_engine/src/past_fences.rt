@@ -1,10 +1,10 @@
 //! Fences that have been executed, each found by keys of what it can drop.
 
-ghost use Rattle.std.specs.Prelude.{◌≡◌, ◌≤◌, ◌/◌, ◌^◌, ◌++◌, ◌∷◌, [], None, OnErr, OnOk, map, true};
+ghost use Rattle.std.specs.Prelude.{◌≡◌, ◌≤◌, ◌/◌, ◌^◌, ◌++◌, ◌∷◌, [], IsTrue, None, OnErr, OnOk, false, map, true};
 ghost use Rattle.pte.specs.Address.{bytes_of};
 ghost use Rattle.pte.specs.declared.address.PageSize.TheVariants.{Kib4, Mib2};
 ghost use Rattle.watch_engine.specs.Left.{is_taken_since};
-ghost use Rattle.watch_engine.specs.PastFences.{address_key, asid_key, fence_key, is_in_page, is_taken_by, is_taken_by_asid, range_key, wide_key};
+ghost use Rattle.watch_engine.specs.PastFences.{NoneBefore, address_key, asid_key, fence_key, is_in_page, is_taken_by, is_taken_by_asid, range_key, wide_key};
 
 use crate::chains::Chains;
 use crate::fence::{ASIDS, asid_register};
@@ -126,7 +126,8 @@ impl FenceKeys {
         }
     }
 
-    // Whether a fence with the key since the hart left the space has dropped the entry.
+    // Whether a fence since the hart left the space has dropped the entry, if one with the key has. By
+    // turns from the oldest fence that has not been looked at and along the chain of the key's bucket.
     fn is_taken_by(
         &self,
         fences: &[PastFence],
@@ -134,18 +135,24 @@ impl FenceKeys {
         scheme: Scheme,
         left: &Left,
         entry: &Entry,
+        oldest: &mut usize,
     ) -> bool
-        requires { self.now.keys.keys.items ≡ map (fence_key entry.now.page.size) fences.now }
-        ensures { result ≡ is_taken_by key scheme fences.now left.now entry.now }
+        requires keys { self.now.keys.keys.items ≡ map (fence_key entry.now.page.size) fences.now }
+        requires before { NoneBefore scheme fences.now left.now entry.now oldest.old }
+        ensures taken { IsTrue result → is_taken_since scheme fences.now left.now entry.now ≡ true }
+        ensures none { result ≡ false → is_taken_by key scheme fences.now left.now entry.now ≡ false }
+        ensures before { NoneBefore scheme fences.now left.now entry.now oldest.new }
     {
-        let since = left.fences as usize;
-        let mut at = self.keys.newest_above(key, since);
-        while at > 0 {
-            let fence = fences[at - 1];
-            if fence.takes(scheme, left, entry) {
+        let mut at = self.keys.head(key);
+        while at > *oldest {
+            if fences[*oldest].takes(scheme, left, entry) {
                 return true;
             }
-            at = self.keys.before_above(at, since);
+            *oldest += 1;
+            if fences[at - 1].takes(scheme, left, entry) {
+                return true;
+            }
+            at = self.keys.older(at);
         }
         false
     }
@@ -157,17 +164,23 @@ impl FenceKeys {
         scheme: Scheme,
         left: &Left,
         entry: &Entry,
+        oldest: &mut usize,
     ) -> bool
-        requires { self.now.keys.keys.items ≡ map (fence_key entry.now.page.size) fences.now }
-        ensures { result ≡ is_taken_by_asid scheme fences.now left.now entry.now }
+        requires keys { self.now.keys.keys.items ≡ map (fence_key entry.now.page.size) fences.now }
+        requires before { NoneBefore scheme fences.now left.now entry.now oldest.old }
+        ensures taken { IsTrue result → is_taken_since scheme fences.now left.now entry.now ≡ true }
+        ensures none { result ≡ false → is_taken_by_asid scheme fences.now left.now entry.now ≡ false }
+        ensures before { NoneBefore scheme fences.now left.now entry.now oldest.new }
     {
         if entry.global {
             return false;
         }
         let asid = Some(u64::from(entry.asid));
         let page = address_key(entry.page.size(), entry.page.base().get(), asid);
-        self.is_taken_by(fences, page, scheme, left, entry)
-            || self.is_taken_by(fences, wide_key(asid), scheme, left, entry)
+        if self.is_taken_by(fences, page, scheme, left, entry, oldest) {
+            return true;
+        }
+        self.is_taken_by(fences, wide_key(asid), scheme, left, entry, oldest)
     }
 
     // Whether a fence since the hart left the space has dropped the entry, found by the entry's keys.
@@ -181,14 +194,15 @@ impl FenceKeys {
         requires { self.now.keys.keys.items ≡ map (fence_key entry.now.page.size) fences.now }
         ensures { result ≡ is_taken_since scheme fences.now left.now entry.now }
     {
+        let mut oldest = left.fences as usize;
         let page = address_key(entry.page.size(), entry.page.base().get(), None);
-        if self.is_taken_by(fences, page, scheme, left, entry) {
+        if self.is_taken_by(fences, page, scheme, left, entry, &mut oldest) {
             return true;
         }
-        if self.is_taken_by_asid(fences, scheme, left, entry) {
+        if self.is_taken_by_asid(fences, scheme, left, entry, &mut oldest) {
             return true;
         }
-        self.is_taken_by(fences, wide_key(None), scheme, left, entry)
+        self.is_taken_by(fences, wide_key(None), scheme, left, entry, &mut oldest)
     }
 }
 
