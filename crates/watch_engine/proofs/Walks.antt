@@ -7,7 +7,7 @@ use Rattle.std.proofs.lemmas.List.{get_or-map, length-map, length-take-le, take_
 use Rattle.std.proofs.lemmas.List.Folds.{list_any_more}
 use Rattle.watch_engine.specs.declared.slot.Slot.{Slot}
 use Rattle.std.proofs.Math.Seq.{take-suc}
-use Rattle.watch_engine.specs.Chains.{last_place}
+use Rattle.watch_engine.specs.Chains.{IsFirst, IsNext, bucket_of, last_place}
 use Rattle.watch_engine.specs.Slots.{place_in}
 use Rattle.watch_engine.proofs.LastPlaces.{last_below, last_here, last_passes, last_within}
 
@@ -173,46 +173,102 @@ place_from f k t goes items d (suc n) h =
           ∙ ap (λ (m : ℕ). place_in t 0 (take m items)) (sym (below f k items n d (omega arith) differs)))))))
     ]
 
--- a walk for the first item that a test passes is at a place, and has found what is from there on
-pub record Looks (f : Slot → ℕ) (k : ℕ) (t : Slot → Bool) (items : List Slot) (at : ℕ) (after : Option ℕ) : Type 0 where
-  pub walk : IsAt f k (λ _. false) items at
+-- up to here and up to there are the same first ones, if the last place of the key is the same
+place_same : (f : Slot → ℕ) (k : ℕ) (t : Slot → Bool) → ((i : Slot) → t i ≡ true → f i ≡ k) → (items : List Slot) (n m : ℕ) → n ≤ length items → m ≤ length items
+    → last_place k (take n (map f items)) ≡ last_place k (take m (map f items)) → place_in t 0 (take n items) ≡ place_in t 0 (take m items)
+place_same f k t goes [] n m h low same = (λ j. place_in t 0 (take_all n [] (omega arith) j)) ∙ sym (λ j. place_in t 0 (take_all m [] (omega arith) j))
+place_same f k t goes (i ∷ items) n m h low same =
+    place_from f k t goes (i ∷ items) i n h
+    ∙ (ap (λ (last : ℕ). place_in t 0 (take last (i ∷ items))) same
+    ∙ sym (place_from f k t goes (i ∷ items) i m low))
+
+no_some : (n : ℕ) → Some n ≡ None → ⊥
+no_some n e = cc
+
+-- where a test misses and one place is not it, the rest tells
+cond_none : (b : Bool) (n : ℕ) (o : Option ℕ) → cond b (Some n) o ≡ None → (b ≡ false) × (o ≡ None)
+cond_none true n o e = absurd (no_some n e)
+cond_none false n o e = (refl, e)
+
+-- the first is here, if none is before
+place_at : (t : Slot → Bool) (from : ℕ) (items : List Slot) (n : ℕ) (d : Slot) → n < length items → place_in t from (take n items) ≡ None
+    → t (get_or items n d) ≡ true → place_in t from items ≡ Some (from + n)
+place_at t from [] n d h none is = absurd (omega arith)
+place_at t from (i ∷ items) zero d h none is = ap (λ (b : Bool). cond b (Some from) (place_in t (from + 1) items)) is ∙ ap (λ (n : ℕ). Some n) (omega arith)
+place_at t from (i ∷ items) (suc n) d h none is =
+    let parts = cond_none (t i) from _ none in
+    ap (λ (b : Bool). cond b (Some from) (place_in t (from + 1) items)) parts.0
+    ∙ (place_at t (from + 1) items n d (omega arith) parts.1 is
+    ∙ ap (λ (n : ℕ). Some n) (omega arith))
+
+-- of fewer items none is either
+place_fewer : (t : Slot → Bool) (from : ℕ) (items : List Slot) (n m : ℕ) → n ≤ m → place_in t from (take m items) ≡ None → place_in t from (take n items) ≡ None
+place_fewer t from items zero m h none = refl
+place_fewer t from [] (suc n) m h none = refl
+place_fewer t from (i ∷ items) (suc n) zero h none = absurd (omega arith)
+place_fewer t from (i ∷ items) (suc n) (suc m) h none =
+    let parts = cond_none (t i) from _ none in
+    ap (λ (b : Bool). cond b (Some from) (place_in t (from + 1) (take n items))) parts.0 ∙ place_fewer t (from + 1) items n m (omega arith) parts.1
+
+-- a walk for the first item that a test passes, by turns from the front and along a chain of the key's bucket: none
+-- is before `front`, and from `at` on the first is `after`
+pub record Looks (buckets : ℕ) (f : Slot → ℕ) (k : ℕ) (t : Slot → Bool) (items : List Slot) (at front : ℕ) (after : Option ℕ) : Type 0 where
+  pub within : at ≤ length items
+  pub bucket : 0 < at → bucket_of buckets (get_or (map f items) (at - 1) 0) ≡ bucket_of buckets k
   pub is : place_in t 0 items ≡ first_or (place_in t 0 (take at items)) after
+  pub none : place_in t 0 (take front items) ≡ None
 
-pub looks_first : (f : Slot → ℕ) (k : ℕ) (t : Slot → Bool) → ((i : Slot) → t i ≡ true → f i ≡ k) → (items : List Slot) (at : ℕ) → at ≡ last_place k (map f items) → Looks f k t items at None
-looks_first f k t goes [] at is =
+pub looks_first : (buckets : ℕ) (f : Slot → ℕ) (k : ℕ) (t : Slot → Bool) → ((i : Slot) → t i ≡ true → f i ≡ k) → (items : List Slot) (at : ℕ)
+    → IsFirst buckets (map f items) k at → Looks buckets f k t items at 0 None
+looks_first buckets f k t goes items at first =
+    let long : length (map f items) ≡ length items = length-map items f in
     record {
-      walk = start f k (λ _. false) [] at is;
-      is = ap (λ (m : ℕ). place_in t 0 (take m [])) (sym is) ∙ sym (or_none_first (place_in t 0 (take at [])));
-    }
-looks_first f k t goes (i ∷ items) at is =
-    let all : List Slot = i ∷ items in
-    let long : length (map f (i ∷ items)) ≡ length (i ∷ items) = length-map (i ∷ items) f in
-    record {
-      walk = start f k (λ _. false) (i ∷ items) at is;
+      within = omega (arith, first.within);
+      bucket = first.bucket;
       is =
-          ap (place_in t 0) (sym (take_all (length (i ∷ items)) (i ∷ items) (omega arith)))
-          ∙ (place_from f k t goes (i ∷ items) i (length (i ∷ items)) (omega arith)
-          ∙ (ap (λ (m : ℕ). place_in t 0 (take m (i ∷ items))) (sym (is ∙ ap (last_place k) (sym (take_all (length (i ∷ items)) (map f (i ∷ items)) (omega arith)))))
-          ∙ sym (or_none_first (place_in t 0 (take at (i ∷ items))))));
+          (λ j. place_in t 0 (sym (take_all (length items) items (omega arith)) j))
+          ∙ (place_same f k t goes items (length items) at (omega arith) (omega (arith, first.within))
+          (ap (last_place k) (take_all (length items) (map f items) (omega arith)) ∙ sym first.same)
+          ∙ sym (or_none_first (place_in t 0 (take at items))));
+      none = refl;
     }
 
-pub looks_on : (f : Slot → ℕ) (k : ℕ) (t : Slot → Bool) → ((i : Slot) → t i ≡ true → f i ≡ k) → (items : List Slot) (at : ℕ) (d : Slot) (after : Option ℕ) → Looks f k t items at after → 0 < at
-    → (older : ℕ) → older ≡ last_place (get_or (map f items) (at - 1) 0) (take (at - 1) (map f items))
-    → Looks f k t items older (if t (get_or items (at - 1) d) then Some (at - 1) else after)
-looks_on f k t goes items zero d after w some older is = absurd (omega arith)
-looks_on f k t goes items (suc n) d after w some older is =
+pub looks_on : (buckets : ℕ) (f : Slot → ℕ) (k : ℕ) (t : Slot → Bool) → ((i : Slot) → t i ≡ true → f i ≡ k) → (items : List Slot) (at front : ℕ) (d e : Slot) (after : Option ℕ)
+    → Looks buckets f k t items at front after → front < at → t (get_or items front e) ≡ false
+    → (older : ℕ) → IsNext buckets (map f items) at older
+    → Looks buckets f k t items older (front + 1) (if t (get_or items (at - 1) d) then Some (at - 1) else after)
+looks_on buckets f k t goes items zero front d e after w some misses older next = absurd (omega arith)
+looks_on buckets f k t goes items (suc n) front d e after w some misses older next =
+    let long : length (map f items) ≡ length items = length-map items f in
     let back : suc n - 1 ≡ n = omega arith in
-    let h : n < length items = omega (arith, w.walk.within) in
-    let key : last_place k (take n (map f items)) ≡ older =
-    sym (is ∙ ((λ j. last_place (w.walk.key some j) (take (suc n - 1) (map f items))) ∙ ap (λ (m : ℕ). last_place k (take m (map f items))) back)) in
+    let h : n < length items = omega (arith, w.within) in
+    let last : last_place k (take n (map f items)) ≡ last_place k (take older (map f items)) =
+    ap (λ (m : ℕ). last_place k (take m (map f items))) (sym back) ∙ next.same k (sym (w.bucket (omega arith))) in
     record {
-      walk = next f k (λ _. false) items (suc n) d w.walk some refl older is;
+      within = omega (arith, next.within);
+      bucket = λ more. next.bucket more ∙ w.bucket (omega arith);
       is =
           w.is
           ∙ (place_more t items n d after h
           ∙ (ap (λ (m : ℕ). first_or (place_in t 0 (take n items)) (if t (get_or items m d) then Some m else after)) (sym back)
-          ∙ ap (λ (o : Option ℕ). first_or o (if t (get_or items (suc n - 1) d) then Some (suc n - 1) else after)) (place_from f k t goes items d n (omega arith) ∙ ap (λ (m : ℕ). place_in t 0 (take m items)) key)));
+          ∙ ap (λ (o : Option ℕ). first_or o (if t (get_or items (suc n - 1) d) then Some (suc n - 1) else after)) (place_same f k t goes items n older (omega arith) (omega (arith, next.within)) last)));
+      none =
+          ap (λ (m : ℕ). place_in t 0 (take m items)) (add-one front)
+          ∙ (sym (or_none_first (place_in t 0 (take (suc front) items)))
+          ∙ (place_more t items front e None (omega arith)
+          ∙ (ap (λ (b : Bool). first_or (place_in t 0 (take front items)) (if b then Some front else None)) misses
+          ∙ (or_none_first (place_in t 0 (take front items)) ∙ w.none))));
     }
+
+-- what is found at the front is the first
+pub looks_here : (buckets : ℕ) (f : Slot → ℕ) (k : ℕ) (t : Slot → Bool) (items : List Slot) (at front : ℕ) (d : Slot) (after : Option ℕ)
+    → Looks buckets f k t items at front after → front < at → t (get_or items front d) ≡ true → place_in t 0 items ≡ Some front
+looks_here buckets f k t items at front d after w some is = place_at t 0 items front d (omega (arith, w.within)) w.none is ∙ ap (λ (n : ℕ). Some n) (omega arith)
+
+-- where both ways meet, what was found along the chain is the first
+pub looks_done : (buckets : ℕ) (f : Slot → ℕ) (k : ℕ) (t : Slot → Bool) (items : List Slot) (at front : ℕ) (after : Option ℕ)
+    → Looks buckets f k t items at front after → at ≤ front → place_in t 0 items ≡ after
+looks_done buckets f k t items at front after w met = w.is ∙ ap (λ (o : Option ℕ). first_or o after) (place_fewer t 0 items at front met w.none)
 
 -- of fewer items none passes either
 pub any_fewer : (t : Slot → Bool) (items : List Slot) (n m : ℕ) → n ≤ m → list_any t (take m items) ≡ false → list_any t (take n items) ≡ false

@@ -20,20 +20,25 @@ use crate::warning::Warning;
 use pte::Scheme;
 use std::alloc::AllocError;
 
-// The place of a translation.
+// The place of a translation. By turns from the front of the list and along the chain of its page.
 fn place_of(held: &HeldList, live: &LastLive) -> Option<usize>
     ensures { result ≡ place_in (has (is_of live.now.hart (last_translation live.now))) 0
         held.now.slots.items }
 {
     let slots = held.as_slice();
     let key = By::Page.key_of(&Held::from_live(live));
+    let mut at = held.pages.head(key);
+    let mut front = 0;
     let mut found = None;
-    let mut at = held.pages.newest(key);
-    while at > 0 {
+    while at > front {
+        if slots[front].is_of_live(live) {
+            return Some(front);
+        }
+        front += 1;
         if slots[at - 1].is_of_live(live) {
             found = Some(at - 1);
         }
-        at = held.pages.before(at);
+        at = held.pages.older(at);
     }
     found
 }
