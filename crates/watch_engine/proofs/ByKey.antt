@@ -4,7 +4,7 @@ use Rattle.std.specs.Prelude.{◌==◌, ◌⊎◌, ◌&&◌, ◌||◌, nat_le, n
 use Rattle.std.specs.List.{list_any}
 use Rattle.std.proofs.lemmas.Bool.{and_parts, and_from, cases_Bool, cases_lt, eq-eqb, eqb-true, eqb-false, false_from_ne_true, not-true, true≢false}
 use Rattle.std.proofs.lemmas.Bool.Decides.{nat_tests}
-use Rattle.std.proofs.lemmas.List.{length-take, length-take-le, length-map, get_or_default, drop_all, drop-append-le, get_or-map}
+use Rattle.std.proofs.lemmas.List.{length-take-le, length-map, get_or_default, drop_all, drop-append-le, get_or-map}
 use Rattle.std.proofs.lemmas.List.Folds.{list_any-append}
 use Rattle.std.proofs.Math.Bool.{or-false}
 use Rattle.std.proofs.Math.Seq.{take-length, take-suc}
@@ -331,15 +331,7 @@ fewer_narrower P Q goes (f ∷ fences) zero (suc n) (suc m) h is =
     ap (λ t. t || list_any Q (take n fences)) no ∙ fewer_narrower P Q goes fences zero n m (omega arith) parts.1
 fewer_narrower P Q goes (f ∷ fences) (suc since) (suc n) (suc m) h is = fewer_narrower P Q goes fences since n m (omega arith) is
 
--- of none none has
-pub none_before : (scheme : Scheme) (fences : List PastFence) (l : Left) (e : Entry) (n : ℕ) → n ≡ l.fences → NoneBefore scheme fences l e n
-none_before scheme fences l e n is =
-    record {
-      since = omega arith;
-      none = ap (list_any (takes scheme l e)) (drop_all l.fences (take n fences) (omega (arith, length-take n fences)));
-    }
-
--- one more that has not
+-- none has, with one more that has not
 pub none_more : (scheme : Scheme) (fences : List PastFence) (l : Left) (e : Entry) (n : ℕ) (fence : PastFence) → NoneBefore scheme fences l e n
     → n < length fences → fence ≡ get_or fences n fence → takes scheme l e fence ≡ false → NoneBefore scheme fences l e (n + 1)
 none_more scheme fences l e n fence before h there is =
