@@ -1,7 +1,7 @@
 -- Spaces that were left, in the order of their roots.
-use Rattle.std.proofs.Common.{◌≡◌, ℕ, zero, suc, Bool, true, false, ◌+◌, ◌-◌, ◌<◌, ◌≤◌, List, Option, Some, None, [], ◌∷◌, ◌++◌, length, get_or, take, drop, filter, ap, sym, ◌∙◌, refl, inl, inr, arith}
+use Rattle.std.proofs.Common.{◌≡◌, ℕ, zero, suc, Bool, true, false, ◌+◌, ◌-◌, ◌<◌, ◌≤◌, List, Option, Some, None, [], ◌∷◌, ◌++◌, length, get_or, take, drop, filter, ap, sym, ◌∙◌, subst, refl, inl, inr, arith}
 use Rattle.std.specs.Prelude.{◌==◌, ◌&&◌, cond, not}
-use Rattle.std.specs.List.{insert, remove, slice_range}
+use Rattle.std.specs.List.{insert, slice_range}
 use Rattle.std.proofs.lemmas.List.{drop_more, get_or_default}
 use Rattle.std.proofs.lemmas.Bool.{and_parts, cases_lt, eq-eqb, eqb-true, lt-leb, ne_eqb, not_from_false, false_from_ne_true}
 use Rattle.walk.specs.Leads.{Tables}
@@ -11,7 +11,7 @@ use Rattle.watch_engine.specs.declared.held.LastLive.{LastLive}
 use Rattle.watch_engine.specs.declared.left.Left.{Left}
 use Rattle.watch_engine.specs.declared.left.PastFence.{PastFence}
 use Rattle.watch_tables.specs.declared.leaf.RootLeaf.{RootLeaf}
-use Rattle.watch_engine.specs.Left.{added, is_other, is_space}
+use Rattle.watch_engine.specs.Left.{added, is_of, is_other, is_space}
 use Rattle.watch_engine.specs.LeftOrder.{AreByRoot, Begins, Ends}
 use Rattle.watch_engine.specs.Seen.{is_kept, kept_for, last_of, with_kept, with_leaves, with_live}
 use Rattle.watch_engine.proofs.Lists.{from_at_most}
@@ -150,14 +150,6 @@ leaf_added scheme words now satps left run drops leaves at root leaf seen new wi
 abbrev pub dropped_from : (Left → Bool) → ℕ → List Left → List Left
 dropped_from p place left = take place left ++ filter p (drop place left)
 
-pub behind_stays : (p : Left → Bool) (left : List Left) (place : ℕ) → ((k : ℕ) (d : Left) → place ≤ k → k < length left → p (get_or left k d) ≡ true) → left ≡ dropped_from p place left
-behind_stays p [] zero stays = refl
-behind_stays p [] (suc place) stays = refl
-behind_stays p (l ∷ left) zero stays =
-    ap (λ (ls : List Left). l ∷ ls) (behind_stays p left zero (λ k d from among. stays (suc k) d (omega arith) (omega arith)))
-    ∙ sym (ap (λ b. cond b (l ∷ filter p left) (filter p left)) (stays 0 l (omega arith) (omega arith)))
-behind_stays p (l ∷ left) (suc place) stays = ap (λ (ls : List Left). l ∷ ls) (behind_stays p left place (λ k d from among. stays (suc k) d (omega arith) (omega arith)))
-
 pub before_stays : (p : Left → Bool) (left : List Left) (place : ℕ) → ((k : ℕ) (d : Left) → k < place → k < length left → p (get_or left k d) ≡ true) → dropped_from p place left ≡ filter p left
 before_stays p [] zero stays = refl
 before_stays p [] (suc place) stays = refl
@@ -166,25 +158,57 @@ before_stays p (l ∷ left) (suc place) stays =
     ap (λ (ls : List Left). l ∷ ls) (before_stays p left place (λ k d early among. stays (suc k) d (omega arith) (omega arith)))
     ∙ sym (ap (λ b. cond b (l ∷ filter p left) (filter p left)) (stays 0 l (omega arith) (omega arith)))
 
-pub one_stays : (p : Left → Bool) (left : List Left) (place : ℕ) (d : Left) → place < length left → p (get_or left place d) ≡ true → dropped_from p (suc place) left ≡ dropped_from p place left
-one_stays p [] place d among stays = absurd (omega arith)
-one_stays p (l ∷ left) zero d among stays = sym (ap (λ b. cond b (l ∷ filter p left) (filter p left)) stays)
-one_stays p (l ∷ left) (suc place) d among stays = ap (λ (ls : List Left). l ∷ ls) (one_stays p left place d (omega arith) stays)
+pub rest_stays : (p : Left → Bool) (left : List Left) (place : ℕ) → ((k : ℕ) (d : Left) → place ≤ k → k < length left → p (get_or left k d) ≡ true) → filter p (drop place left) ≡ drop place left
+rest_stays p [] zero stays = refl
+rest_stays p [] (suc place) stays = refl
+rest_stays p (l ∷ left) zero stays =
+    ap (λ b. cond b (l ∷ filter p left) (filter p left)) (stays 0 l (omega arith) (omega arith))
+    ∙ ap (λ (ls : List Left). l ∷ ls) (rest_stays p left zero (λ k d from among. stays (suc k) d (omega arith) (omega arith)))
+rest_stays p (l ∷ left) (suc place) stays = rest_stays p left place (λ k d from among. stays (suc k) d (omega arith) (omega arith))
 
-pub one_goes : (p : Left → Bool) (left : List Left) (place : ℕ) (d : Left) → place < length left → p (get_or left place d) ≡ false → remove (dropped_from p (suc place) left) place ≡ dropped_from p place left
-one_goes p [] place d among goes = absurd (omega arith)
-one_goes p (l ∷ left) zero d among goes = sym (ap (λ b. cond b (l ∷ filter p left) (filter p left)) goes)
-one_goes p (l ∷ left) (suc place) d among goes = ap (λ (ls : List Left). l ∷ ls) (one_goes p left place d (omega arith) goes)
+-- where two lists are the same from a place on, they are there, and from the next place on
+first_there : (left : List Left) (place : ℕ) (d : Left) → get_or (drop place left) 0 d ≡ get_or left place d
+first_there [] zero d = refl
+first_there [] (suc place) d = refl
+first_there (l ∷ left) zero d = refl
+first_there (l ∷ left) (suc place) d = first_there left place d
 
-pub read_dropped : (p : Left → Bool) (left : List Left) (place : ℕ) (d : Left) → place < length left → get_or (dropped_from p (suc place) left) place d ≡ get_or left place d
-read_dropped p [] place d among = absurd (omega arith)
-read_dropped p (l ∷ left) zero d among = refl
-read_dropped p (l ∷ left) (suc place) d among = read_dropped p left place d (omega arith)
+rest_there : (left : List Left) (place : ℕ) → drop 1 (drop place left) ≡ drop (suc place) left
+rest_there [] zero = refl
+rest_there [] (suc place) = refl
+rest_there (l ∷ left) zero = refl
+rest_there (l ∷ left) (suc place) = rest_there left place
+
+pub one_behind : (left old : List Left) (place : ℕ) (d : Left) → drop place left ≡ drop place old → get_or left place d ≡ get_or old place d
+one_behind left old place d same = sym (first_there left place d) ∙ (ap (λ (ls : List Left). get_or ls 0 d) same ∙ first_there old place d)
+
+pub one_less : (left old : List Left) (place : ℕ) → drop place left ≡ drop place old → drop (place + 1) left ≡ drop (place + 1) old
+one_less left old place same =
+    let next : suc place ≡ place + 1 = omega arith in
+    subst (λ n. drop n left ≡ drop n old) next (sym (rest_there left place) ∙ (ap (λ (ls : List Left). drop 1 ls) same ∙ rest_there old place))
 
 -- what is of another root is of another space
 pub other_root : (hart : ℕ) (space : Space) (l : Left) → (space.root ≡ l.space.root → ⊥) → is_other hart (Some space) l ≡ true
 other_root hart space l other =
     not_from_false _ (false_from_ne_true _ (λ t. other (eqb-true _ _ (and_parts (space.root == l.space.root) (space.asid == l.space.asid) (and_parts (l.hart == hart) (is_space (Some space) l.space) t).1).0)))
+
+-- of the same root it is of another space, if it is not of the hart with the ASID
+pub other_of_root : (hart : ℕ) (space : Space) (l : Left) → l.space.root ≡ space.root → is_other hart (Some space) l ≡ not (is_of hart space.asid l)
+other_of_root hart space l same = ap (λ b. not ((l.hart == hart) && (b && (space.asid == l.space.asid)))) (eq-eqb space.root l.space.root (sym same))
+
+pub others_before : (hart : ℕ) (space : Space) (left : List Left) (start first end : ℕ) → Begins left start space.root → Ends left end space.root → first ≤ end
+    → ((k : ℕ) (d : Left) → start ≤ k → k < first → is_of hart space.asid (get_or left k d) ≡ false) → (k : ℕ) (d : Left) → k < first → k < length left → is_other hart (Some space) (get_or left k d) ≡ true
+others_before hart space left start first end begins ends order none k d early among =
+    elim (cases_lt k start) [
+      | inl below ↦ other_root hart space (get_or left k d) (λ same. let low = begins.0 k d (omega arith) below in absurd (omega arith))
+      | inr from ↦
+          let low = begins.1 k d from among in
+          let high = ends.0 k d (omega arith) (omega arith) in
+          other_of_root hart space (get_or left k d) (omega arith) ∙ ap not (none k d from early)
+    ]
+
+pub others_behind : (hart : ℕ) (space : Space) (left : List Left) (end : ℕ) → Ends left end space.root → (k : ℕ) (d : Left) → end ≤ k → k < length left → is_other hart (Some space) (get_or left k d) ≡ true
+others_behind hart space left end ends k d late among = other_root hart space (get_or left k d) (λ same. let high = ends.1 k d late among in absurd (omega arith))
 
 -- no space is one to which a hart comes back
 none-and : (b : Bool) → not (b && false) ≡ true

@@ -68,6 +68,10 @@ is_space (Some s) space = (s.root == space.root) && (s.asid == space.asid)
 abbrev pub is_other : ℕ → Option Space → Left → Bool
 is_other hart space l = not ((l.hart == hart) && is_space space l.space)
 
+-- it is of the hart, and its space has the ASID
+abbrev pub is_of : ℕ → ℕ → Left → Bool
+is_of hart asid l = (l.hart == hart) && (asid == l.space.asid)
+
 -- after a fence of a hart, and after the end of a remote fence
 abbrev pub is_of_other : ℕ → Left → Bool
 is_of_other hart l = not (l.hart == hart)

@@ -1,8 +1,9 @@
 //! The spaces that harts have left.
 
-ghost use Rattle.std.specs.Prelude.{◌≡◌, ◌==◌, ◌≤◌, [], IsTrue, OnErr, OnOk, Some, filter, if◌then◌else◌, length, take};
+ghost use Rattle.std.specs.Prelude.{ℕ, ◌≡◌, ◌==◌, ◌≤◌, ◌<◌, ◌++◌, [], IsTrue, OnErr, OnOk, Some, drop, false, filter, get_or, if◌then◌else◌, length, take};
+ghost use Rattle.watch_engine.specs.declared.left.Left.{Left as LeftOf};
 ghost use Rattle.watch_engine.specs.LeftOrder.{AreByRoot, Begins, Ends};
-ghost use Rattle.watch_engine.specs.Left.{has_its_root, is_of_other, is_other, with_left};
+ghost use Rattle.watch_engine.specs.Left.{has_its_root, is_of, is_of_other, is_other, with_left};
 
 use crate::left::Left;
 use crate::roots::Roots;
@@ -88,11 +89,70 @@ fn of_root(left: &[Left], root: u64) -> &[Left]
     &left[start..end]
 }
 
-// It is of another hart or of another space.
-fn is_other(hart: u8, space: Space, left: &Left) -> bool
-    ensures { result ≡ is_other hart (Some space) left.now }
+// It is of the hart, and its space has the ASID.
+fn is_of(hart: u8, asid: u16, left: &Left) -> bool
+    ensures { result ≡ is_of hart asid left.now }
 {
-    !(left.hart == hart && space.root == left.space.root && space.asid == left.space.asid)
+    left.hart == hart && asid == left.space.asid
+}
+
+// Where the first of the hart with the ASID stands from one place to another, or the other place.
+fn first_of(left: &[Left], start: usize, end: usize, hart: u8, asid: u16) -> usize
+    requires order { start ≤ end }
+    requires within { end ≤ length left.now }
+    ensures from { start ≤ result }
+    ensures within { result ≤ end }
+    ensures before { (k : ℕ) (d : LeftOf) → start ≤ k → k < result
+        → is_of hart asid (get_or left.now k d) ≡ false }
+{
+    let mut at = start;
+    while at < end && !is_of(hart, asid, &left[at]) {
+        at += 1;
+    }
+    at
+}
+
+// Moves those from one place to another that are not of the hart's space, where all have its root, to
+// the front of these, and answers where they end.
+fn keep_others(left: &mut [Left], first: usize, end: usize, hart: u8, space: Space) -> usize
+    requires order { first ≤ end }
+    requires within { end ≤ length left.old }
+    requires root { (k : ℕ) (d : LeftOf) → first ≤ k → k < end
+        → (get_or left.old k d).space.root ≡ space.root }
+    requires others { take first left.old ++ filter (is_other hart (Some space)) (drop first left.old)
+        ≡ filter (is_other hart (Some space)) left.old }
+    ensures order { result ≤ end }
+    ensures len { length left.new ≡ length left.old }
+    ensures behind { drop end left.new ≡ drop end left.old }
+    ensures kept { take result left.new ++ filter (is_other hart (Some space)) (drop end left.new)
+        ≡ filter (is_other hart (Some space)) left.old }
+{
+    let mut kept = first;
+    let mut at = first;
+    while at < end {
+        let one = left[at];
+        if !is_of(hart, space.asid, &one) {
+            left[kept] = one;
+            kept += 1;
+        }
+        at += 1;
+    }
+    kept
+}
+
+// Without what stands between two places: what is behind moves once.
+fn close_gap(left: &mut Vec<Left>, start: usize, end: usize)
+    requires order { start ≤ end }
+    requires within { end ≤ length left.old.items }
+    ensures { left.new.items ≡ take start left.old.items ++ drop end left.old.items }
+{
+    if start + 1 == end {
+        left.remove(start);
+        return;
+    }
+    let behind = left.len() - end;
+    left.copy_within(end.., start);
+    left.truncate(start + behind);
 }
 
 // Without the space to which the hart comes back: only those with its root can be that.
@@ -101,13 +161,13 @@ fn drop_back(left: &mut Vec<Left>, hart: u8, space: Space)
     ensures { left.new.items ≡ filter (is_other hart (Some space)) left.old.items }
 {
     let start = count_below(left.as_slice(), space.root);
-    let mut end = count_up_to(left.as_slice(), space.root);
-    while end > start {
-        end -= 1;
-        if !is_other(hart, space, &left[end]) {
-            left.remove(end);
-        }
+    let end = count_up_to(left.as_slice(), space.root);
+    let first = first_of(left.as_slice(), start, end, hart, space.asid);
+    if first == end {
+        return;
     }
+    let kept = keep_others(left.as_mut_slice(), first, end, hart, space);
+    close_gap(left, kept, end);
 }
 
 // Moves those with one of the roots to the front, and answers how many they are. The roots are asked
