@@ -19,11 +19,14 @@ use crate::satps::harts_of_root;
 use crate::seen_leaf::{add_known, add_leaf};
 use crate::shared::{HARTS, answers_below, are_alike, are_all_live, are_beside, begins_beside};
 use crate::tables::Tables;
-use crate::unseen::adds_nothing;
+use crate::unseen::{FEW_SPACES, MOST_SPACES, adds_nothing};
 use pte::Scheme;
 use std::alloc::{AllocError, Global};
 use watch::Space;
 use watch_tables::{RootLeaf, Way};
+
+// For so few leaves no more than a few spaces are asked.
+const FEW_LEAVES: usize = 32;
 
 // Adds the leaf for each hart, where the spaces are all that harts have left. Those with its root may
 // be at the place; the answer is the place behind them.
@@ -246,7 +249,8 @@ pub(crate) fn add_seen<T: Tables>(
     Ok(())
 }
 
-// The same, where often nothing is to be added: then no leaf is listed.
+// The same, where often nothing is to be added. Few spaces are asked for that before any leaf is
+// listed, and many only where there are many leaves.
 fn add_seen_if_any<T: Tables>(
     alloc: Global,
     tables: &T,
@@ -267,12 +271,35 @@ fn add_seen_if_any<T: Tables>(
         (λ (root : ℕ) (e : EntryOf). Passes scheme (T.words tables.now) root (page_number address)
         (index_of address) e.page) seen.old.items seen.new.items) }
 {
-    if adds_nothing(tables, scheme, satps, left, address, ways) {
+    if adds_nothing(tables, scheme, satps, left, 0, FEW_SPACES, address, ways) {
         return Ok(());
     }
-    add_seen(
-        alloc, tables, scheme, satps, left, drops, address, ways, count, seen,
-    )
+    let leaves = tables.leaves_through(alloc, scheme, address, ways)?;
+    if leaves.len() > FEW_LEAVES
+        && adds_nothing(
+            tables,
+            scheme,
+            satps,
+            left,
+            FEW_SPACES + 1,
+            MOST_SPACES,
+            address,
+            ways,
+        )
+    {
+        return Ok(());
+    }
+    add_leaves(
+        seen,
+        tables,
+        scheme,
+        satps,
+        left,
+        drops,
+        leaves.as_slice(),
+        count,
+    )?;
+    Ok(())
 }
 
 /// Adds what harts may hold of the leaves whose paths pass through the words at the addresses. The caller

@@ -16,12 +16,18 @@ ghost use Rattle.watch_tables.specs.Ways.{AreWays};
 use crate::left::Left;
 use crate::left_spaces::LeftSpaces;
 use crate::satps::{harts_of_root, satp_in};
-use crate::shared::{HARTS, has_word_of};
+use crate::shared::has_word_of;
 use crate::tables::Tables;
 use crate::touched::index_of;
 use pte::Scheme;
 use watch::Space;
 use watch_tables::Way;
+
+/// So many spaces that were left are few: these are asked before any leaf is listed.
+pub(crate) const FEW_SPACES: usize = 16;
+
+/// Of more spaces that were left it is not asked whether who left them can fill a leaf.
+pub(crate) const MOST_SPACES: usize = 256;
 
 // No hart has the root in its satp.
 fn is_in_no_satp(satps: &[Option<Space>], root: u64) -> bool
@@ -50,8 +56,7 @@ fn have_word_of<T: Tables>(
     true
 }
 
-// Each hart that left one of these spaces can fill each leaf below the word of the root. Of more than
-// 256 spaces it is not asked, so that few are gone along for each word.
+// Each hart that left one of these spaces can fill each leaf below the word of the root.
 fn fill_below<T: Tables>(
     tables: &T,
     scheme: Scheme,
@@ -66,7 +71,7 @@ fn fill_below<T: Tables>(
     if left.is_empty() {
         return true;
     }
-    if left.len() > HARTS || !have_word_of(tables, satps, left, root, index) {
+    if !have_word_of(tables, satps, left, root, index) {
         return false;
     }
     tables.are_leaves_global(scheme, root, index)
@@ -74,12 +79,15 @@ fn fill_below<T: Tables>(
 
 /// Nothing is to be remembered of the leaves whose paths pass through the word at an address, to
 /// whose table these are the ways: it is a root to which no pointer leads, no hart has it in its
-/// satp, and those that left it can fill the leaves. Where it is not known, the answer is false.
+/// satp, and those that left it can fill the leaves. Where it is not known, and where it was left
+/// fewer or more times than these, the answer is false.
 pub(crate) fn adds_nothing<T: Tables>(
     tables: &T,
     scheme: Scheme,
     satps: &[Option<Space>],
     left: &LeftSpaces,
+    least: usize,
+    most: usize,
     address: u64,
     ways: &[Way],
 ) -> bool
@@ -96,5 +104,8 @@ pub(crate) fn adds_nothing<T: Tables>(
         return false;
     }
     let spaces = left.of_root(way.root);
+    if spaces.len() < least || spaces.len() > most {
+        return false;
+    }
     fill_below(tables, scheme, satps, spaces, way.root, index_of(address))
 }
