@@ -152,6 +152,32 @@ def tables_emptied(n):
     yield from (back(0x200 + i) for i in range(n))
 
 
+def words_of_a_table(n):
+    """A table of leaves with so many words, in no order: each third is overwritten, then they go from the first on."""
+    indexes = [i * 37 % 512 for i in range(n)]
+    yield from ("watch 1 1 sv39", store(ROOT, 0, pointer(MIDDLE)), store(MIDDLE, 0, pointer(LEAVES)), satp(0))
+    yield from (store(LEAVES, index, leaf(0x100 + i)) for i, index in enumerate(indexes))
+    yield from (store(LEAVES, index, leaf(0x200 + i)) for i, index in enumerate(indexes) if i % 3 == 0)
+    yield from (back(0x100 + i) for i in range(0, n, 3))
+    for i, index in enumerate(indexes):
+        yield from (store(LEAVES, index), back(0x100 + i if i % 3 else 0x200 + i))
+
+
+def words_left(n):
+    """A table of 20 leaves that loses all but so many words; these are overwritten, and as many come again."""
+    indexes = [i * 37 % 512 for i in range(20)]
+    yield from ("watch 1 1 sv39", store(ROOT, 0, pointer(MIDDLE)), store(MIDDLE, 0, pointer(LEAVES)), satp(0))
+    yield from (store(LEAVES, index, leaf(0x100 + i)) for i, index in enumerate(indexes))
+    yield from (store(LEAVES, index) for index in indexes[:20 - n])
+    yield "f 0 - -"
+    yield from (store(LEAVES, index, leaf(0x200 + i)) for i, index in enumerate(indexes[20 - n:]))
+    yield from (back(0x100 + i) for i in range(20))
+    yield from (store(LEAVES, index, leaf(0x300 + i)) for i, index in enumerate(indexes[:n]))
+    yield from (store(LEAVES, index) for index in indexes)
+    yield from (back(0x200 + i) for i in range(n))
+    yield from (back(0x300 + i) for i in range(n))
+
+
 def harts(n):
     """Harts that hold pages of the kernel: half of them fence, and a page comes back and goes again."""
     yield from (f"watch 1 {n} sv39", store(ROOT, KERNEL, pointer(MIDDLE)), store(MIDDLE, 0, pointer(LEAVES)), store(MIDDLE, 1, pointer(0x90000)))
@@ -183,6 +209,8 @@ LISTED = [
     (root_left, 256, 257),
     (root_left_last, 256, 257),
     (tables_emptied, 16, 17),
+    (words_of_a_table, 12, 13),
+    (words_left, 6, 7),
 ]
 
 
