@@ -5,7 +5,7 @@ pub mod FieldLemmas
 pub mod DashLemmas
 pub mod LetterLemmas
 pub mod RecordLemmas
-pub mod NoteStart
+pub mod FirstBytes
 pub mod Hexadecimal
 pub mod CountLemmas
 pub mod Spaced

@@ -1,11 +1,13 @@
 -- A line in front of a text.
 use Rattle.std.proofs.Common.{◌≡◌, ◌≢◌, ℕ, ◌+◌, ◌<◌, Bool, true, false, List, [], ◌∷◌, ◌++◌, All, Option, None, Some, IfSome, cond, eqb, length, take, get_or, refl, sym, ap, subst, ◌∙◌, append_assoc, ne_eqb, eq-eqb, eqb-true, arith, zero-le, get_or-take, length-take-le}
+use Rattle.std.specs.List.{position_or_len}
 use Rattle.std.specs.Io.KnownBytes.{Consumes, IsAtEnd, Keeps}
 use Rattle.std.specs.Io.BufRead.{take_through, drop_through, DropsThrough}
 use Rattle.std.proofs.lemmas.List.{take_more}
 use Rattle.std.proofs.lemmas.List.Elements.{All-from_get_or, All-head, All-tail}
+use Rattle.std.proofs.lemmas.Bool.{both_ways}
+use Rattle.std.proofs.lemmas.List.Sums.{fails_before_first, passes_at_first}
 use Rattle.std.proofs.lemmas.List.Splits.{slice_split_at, slice_split_none}
-use Rattle.memchr.specs.Find.{IsFirstByte, is_byte}
 use Rattle.watch_report.specs.Reading.{CutsLine, IsLastUnless, ReadsLine}
 use Rattle.watch_report.specs.TraceText.{is_feed, lines_of}
 
@@ -60,16 +62,18 @@ kept_line (Some all) None rest line more kept read = absurd kept
 kept_line (Some all) (Some same) rest line more kept read = subst (λ (l : List ℕ). ReadsLine (Some l) rest line more) kept read
 
 -- the line before the first line feed that a reader shows
-pub shown_line : (left rest : Option (List ℕ)) (shown line : List ℕ) (end : ℕ) → IsFirstByte (is_byte 10) shown (Some end) → line ≡ take end shown → Consumes left rest (take (end + 1) shown)
+pub shown_line : (left rest : Option (List ℕ)) (shown line : List ℕ) (end : ℕ) → end ≡ position_or_len is_feed shown → end < length shown → line ≡ take end shown → Consumes left rest (take (end + 1) shown)
     → ReadsLine left rest line true
-shown_line left rest shown line end first is consumed =
-    let long : length (take end shown) ≡ end = length-take-le end shown (omega (arith, first.0.high)) in
+shown_line left rest shown line end first less is consumed =
+    let long : length (take end shown) ≡ end = length-take-le end shown (omega (arith, less)) in
     let none : All (λ byte. byte ≢ 10) (take end shown) =
-    All-from_get_or (λ byte. byte ≢ 10) (take end shown) 0 (λ i less feed.
-    let before : i < end = omega (arith, less, long) in
-    first.0.before i zero-le before (eq-eqb _ 10 (sym (get_or-take end shown i 0 before) ∙ feed))) in
+    All-from_get_or (λ byte. byte ≢ 10) (take end shown) 0 (λ i within feed.
+    let before : i < end = omega (arith, within, long) in
+    let none : is_feed (get_or shown i 0) ≡ false = fails_before_first is_feed shown i 0 (omega (arith, before, first)) in
+    both_ways _ none (eq-eqb _ 10 (sym (get_or-take end shown i 0 before) ∙ feed))) in
+    let feed : is_feed (get_or shown end 0) ≡ true = subst (λ n. is_feed (get_or shown n 0) ≡ true) (sym first) (passes_at_first is_feed shown 0 (omega (arith, less, first))) in
     let ends : take (end + 1) shown ≡ line ++ 10 ∷ [] =
-    take_more shown end 0 first.0.high ∙ ap (λ byte. take end shown ++ byte ∷ []) (eqb-true (get_or shown end 0) 10 first.1) ∙ ap (λ (l : List ℕ). l ++ 10 ∷ []) (sym is) in
+    take_more shown end 0 less ∙ ap (λ byte. take end shown ++ byte ∷ []) (eqb-true (get_or shown end 0) 10 feed) ∙ ap (λ (l : List ℕ). l ++ 10 ∷ []) (sym is) in
     record {
       bytes = take (end + 1) shown;
       consumed = consumed;

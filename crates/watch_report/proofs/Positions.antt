@@ -6,22 +6,10 @@ use Rattle.std.proofs.lemmas.Bool.Decides.{nat_tests}
 use Rattle.std.proofs.lemmas.List.{take_all}
 use Rattle.std.proofs.lemmas.List.Splits.{length-slice_split, slice_split_first, slice_split_none}
 use Rattle.std.proofs.lemmas.List.Sums.{fails_before_first, position_or_len_is}
-use Rattle.memchr.specs.Find.{IsFirstByte}
 use Rattle.watch_report.specs.Fields.{fields_of, is_separator, one_field}
-
-not_true : (b : Bool) → ¬ (b ≡ true) → b ≡ false
-not_true true h = absurd (h refl)
-not_true false h = refl
 
 pub unwrap_position : (n m : ℕ) → n ≤ m → unwrap_or (if nat_lt n m then Some n else None) m ≡ n
 unwrap_position n m h = grind (arith, nat_tests)
-
--- a search answers the first place that passes
-pub first_byte_position : (test : ℕ → Bool) (text : List ℕ) (found : Option ℕ) → IsFirstByte test text found → unwrap_or found (length text) ≡ position_or_len test text
-first_byte_position test text None nowhere =
-    sym (position_or_len_is test text (length text) 0 (le_refl _) (λ k less. not_true _ (nowhere k zero-le less)) (λ less. absurd (omega (arith, less))))
-first_byte_position test text (Some k) first =
-    sym (position_or_len_is test text k 0 (omega (arith, first.0.high)) (λ j less. not_true _ (first.0.before j zero-le less)) (λ _. first.1))
 
 -- a slice from a place to the end
 pub slice_to_end : (n : ℕ) (text : List ℕ) → take (length text - n) (drop n text) ≡ drop n text

@@ -4,8 +4,8 @@ ghost use Rattle.std.specs.Io.{StopsAt};
 ghost use Rattle.std.specs.Io.KnownBytes.{Consumes, Keeps};
 ghost use Rattle.watch_report.specs.Reading.{IsReadFault, ReadsLine};
 
+use crate::bytes::first_of;
 use crate::fault::ReportFault;
-use memchr::memchr;
 use std::io;
 use std::io::BufRead;
 
@@ -60,9 +60,10 @@ fn read_shown<R: BufRead>(input: &mut R, line: &mut Vec<u8>) -> Result<Option<bo
     if shown.is_empty() {
         return Ok(Some(false));
     }
-    let Some(end) = memchr(b'\n', shown) else {
+    let end = first_of(b'\n', shown);
+    if end >= shown.len() {
         return Ok(None);
-    };
+    }
     line.extend_from_slice(&shown[..end])?;
     input.consume(end + 1);
     Ok(Some(true))

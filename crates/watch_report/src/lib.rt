@@ -5,6 +5,7 @@
 //! is read, and a last one with counts. Of what was read it keeps what the watch keeps, and the notes.
 #![tactic(auto)]
 
+mod bytes;
 mod counting;
 mod counts;
 mod emit;

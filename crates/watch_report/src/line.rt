@@ -1,15 +1,15 @@
 //! The lines of a trace after the first.
-ghost use Rattle.std.specs.Prelude.{◌≡◌, ◌≤◌, ◌<◌, ◌+◌, ℕ, length, slice_index, true, false, MatchOption, None, Some, option_map};
+ghost use Rattle.std.specs.Prelude.{◌≡◌, MatchOption, None, Some, option_map};
 ghost use Rattle.std.specs.List.{position_or_len};
 ghost use Rattle.watch_report.specs.Fields.{fields_of};
 ghost use Rattle.watch_report.specs.ReadRecords.{read_fields};
 ghost use Rattle.watch_report.specs.TraceLines.{before_note, begins_note, line_in, said_by, note_of, record_in, record_line_in, without_space};
 
+use crate::bytes::first_of_two;
 use crate::fields::next_letter;
 use crate::header::Header;
 use crate::numbers::next_hart;
 use crate::record::read_record;
-use memchr::memchr2;
 use watch::Record as TraceRecord;
 
 /// What a line of a trace says.
@@ -25,59 +25,11 @@ pub enum Line<'a> {
     Empty,
 }
 
-#[inline(always)]
-fn begins_note(byte: u8) -> bool
-    ensures { result ≡ begins_note byte }
-{
-    byte == b'@' || byte == b'#'
-}
-
-/// How many bytes `memchr2` looks at together.
-const VECTOR: usize = 32;
-
-/// How many bytes of a shorter text are looked at together.
-const TOGETHER: usize = 8;
-
-/// Whether none of the next eight bytes begins a note.
-#[inline(always)]
-fn none_begins(text: &[u8], at: usize) -> bool
-    requires { at + 8 ≤ length text.now }
-    ensures { result ≡ true → (k : ℕ) → at ≤ k → k < at + 8
-        → begins_note (slice_index text.now k) ≡ false }
-{
-    let some = begins_note(text[at])
-        | begins_note(text[at + 1])
-        | begins_note(text[at + 2])
-        | begins_note(text[at + 3])
-        | begins_note(text[at + 4])
-        | begins_note(text[at + 5])
-        | begins_note(text[at + 6])
-        | begins_note(text[at + 7]);
-    !some
-}
-
-/// The note's start in a text that is too short for the vectors of `memchr2`.
-fn short_note_start(text: &[u8]) -> usize
-    ensures { result ≡ position_or_len begins_note text.now }
-{
-    let mut at = 0;
-    'together: while TOGETHER <= text.len() - at && none_begins(text, at) {
-        at += TOGETHER;
-    }
-    'single: while at < text.len() && !begins_note(text[at]) {
-        at += 1;
-    }
-    at
-}
-
 /// How many bytes stand before the first `@` or `#`, or at all.
 fn note_start(text: &[u8]) -> usize
     ensures { result ≡ position_or_len begins_note text.now }
 {
-    if text.len() < VECTOR {
-        return short_note_start(text);
-    }
-    memchr2(b'@', b'#', text).unwrap_or(text.len())
+    first_of_two(b'@', b'#', text)
 }
 
 /// The text without the space at its end. `None`: no space stands there.
