@@ -16,6 +16,8 @@ pub(crate) struct Chains {
     pub(crate) links: Vec<usize>,
     /// For each bucket one more than the place of its newest key, or 0.
     pub(crate) heads: Vec<usize>,
+    /// How many keys a bucket has on average before the buckets double.
+    load: usize,
     ghost chains: { AreChains keys.items links.items heads.items },
 }
 
@@ -59,14 +61,22 @@ fn link_all(keys: &[u64], links: &mut [usize], heads: &mut [usize])
 }
 
 impl Chains {
-    /// Without keys.
+    /// Without keys. The buckets double as soon as there are more keys than buckets.
     pub(crate) fn new(alloc: Global) -> Chains
+        ensures { result.keys.items ≡ [] }
+    {
+        Chains::with_load(alloc, 1)
+    }
+
+    /// The same with a load: a greater one saves time and memory for each key, and makes walks longer.
+    pub(crate) fn with_load(alloc: Global, load: usize) -> Chains
         ensures { result.keys.items ≡ [] }
     {
         Chains {
             keys: Vec::new(alloc),
             links: Vec::new(alloc),
             heads: Vec::new(alloc),
+            load,
         }
     }
 
@@ -81,12 +91,14 @@ impl Chains {
         Ok(())
     }
 
-    // Doubles the buckets once there are more keys, if there is memory for that.
+    // Doubles the buckets once they have more keys than their load, if there is memory for that.
     fn grow(&mut self)
         ensures { self.new.keys.items ≡ self.old.keys.items }
     {
         let buckets = self.heads.len();
-        if self.keys.len() <= buckets || self.heads.resize(buckets.saturating_mul(2), 0).is_err() {
+        if self.keys.len() <= buckets.saturating_mul(self.load)
+            || self.heads.resize(buckets.saturating_mul(2), 0).is_err()
+        {
             return;
         }
         link_all(

@@ -98,6 +98,10 @@ impl PastFence {
     }
 }
 
+/// How many keys a bucket has on average before the buckets double: with two, a fence takes less time and
+/// memory, and a look at fences a few steps more.
+const LOAD: usize = 2;
+
 /// The keys of fences, for entries of pages of one size.
 #[derive(Drop)]
 struct FenceKeys {
@@ -111,7 +115,7 @@ impl FenceKeys {
         ensures { result.keys.keys.items ≡ [] }
     {
         FenceKeys {
-            keys: Chains::new(alloc),
+            keys: Chains::with_load(alloc, LOAD),
             is_keyed: true,
         }
     }
