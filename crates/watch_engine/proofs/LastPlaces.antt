@@ -112,10 +112,6 @@ last_here key keys (suc n) some h fits =
     let is : suc n - 1 ≡ n = omega arith in
     last_yes (λ k. k == key) keys n (omega arith) (eq-eqb _ _ (ap (λ m. get_or keys m 0) (sym is) ∙ fits))
 
-Older : ℕ → List ℕ → List ℕ → ℕ → Type 0
-Older n keys links place =
-    get_or links place 0 ≡ last_where (is_in n (bucket_of n (get_or keys place 0))) (take place keys)
-
 -- with one more key at the head of its bucket's chain
 more_chained : (n : ℕ) (keys links heads : List ℕ) (k b : ℕ) → length keys < length links
     → length heads ≡ n → b < n → b ≡ bucket_of n k → AreChained n keys links heads
