@@ -6,7 +6,7 @@ use Rattle.std.proofs.lemmas.Bool.{cases_Bool, eq-eqb, eqb-true, eqb-false, fals
 use Rattle.std.proofs.lemmas.List.{take_more, length-take-le, get_or-replicate, get_or-set_same, get_or-set_other, take-append-le}
 use Rattle.std.proofs.Math.Seq.{get_or-append_seam, take-append_seam, take-length, take-suc}
 use Rattle.std.proofs.Math.ListN.{get_or-append}
-use Rattle.watch_engine.specs.Chains.{AreChained, AreChains, IsFirst, IsNext, above, bucket_of, is_in, last_from, last_place, last_where}
+use Rattle.watch_engine.specs.Chains.{AreChained, AreChains, IsFirst, IsNext, bucket_of, is_in, last_from, last_place, last_where}
 
 from_snoc : (test : ℕ → Bool) (found place : ℕ) (keys : List ℕ) (k : ℕ)
     → last_from test found place (keys ++ k ∷ [])
@@ -208,9 +208,3 @@ first keys links heads are key newest b room e is =
 -- the same of the whole list
 pub last_of_all : (key : ℕ) (keys : List ℕ) → last_place key (take (length keys) keys) ≡ last_place key keys
 last_of_all key keys = ap (last_place key) (take-length keys)
-
-pub above_more : (floor n : ℕ) → floor < n → above floor n ≡ n
-above_more floor n h = let test : nat_lt floor n ≡ true = grind (arith, nat_tests) in ap (λ t. if t then n else 0) test
-
-pub above_less : (floor n : ℕ) → n ≤ floor → above floor n ≡ 0
-above_less floor n h = let test : nat_lt floor n ≡ false = grind (arith, nat_tests) in ap (λ t. if t then n else 0) test

@@ -1,5 +1,5 @@
 -- The harts of the items of a page, and what is remembered by them.
-use Rattle.std.proofs.Common.{◌≡◌, ℕ, Bool, true, false, ◌+◌, ◌-◌, ◌<◌, List, [], ◌∷◌, ◌++◌, length, map, take, get_or, ap, sym, ◌∙◌, refl, arith, inr}
+use Rattle.std.proofs.Common.{◌≡◌, ℕ, Bool, true, false, ◌+◌, ◌-◌, ◌<◌, List, [], ◌∷◌, ◌++◌, length, map, replicate, take, get_or, ap, sym, ◌∙◌, refl, arith, zero, suc, inr}
 use Rattle.std.specs.Prelude.{◌==◌, ◌&&◌, ◌||◌, cond}
 use Rattle.std.specs.List.{list_any}
 use Rattle.std.proofs.lemmas.Bool.{and_from, and_parts, eq-eqb, eqb-true, false_from_ne_true, true≢false}
@@ -35,7 +35,12 @@ on page hart s = has (is_on_page page hart) s
 -- a walk along the items with the key of a page is at a place, and has the harts of those from there on
 pub record Gathers (page : Span) (items : List Slot) (at : ℕ) (harts : List Bool) : Type 0 where
   pub walk : IsAt (key_in Page) (page_key page) (λ _. false) items at
-  pub others : (hart : ℕ) → get_or harts hart false ≡ false → IsAt (key_in Page) (page_key page) (on page hart) items at
+  pub others : (hart : ℕ) → get_or harts hart true ≡ false → IsAt (key_in Page) (page_key page) (on page hart) items at
+
+replicated : (count hart : ℕ) → get_or (replicate count true) hart true ≡ true
+replicated zero hart = refl
+replicated (suc count) zero = refl
+replicated (suc count) (suc hart) = replicated count hart
 
 pub gathers_first : (page : Span) (items : List Slot) (at : ℕ) (harts : List Bool) → at ≡ last_place (page_key page) (map (key_in Page) items) → Gathers page items at harts
 gathers_first page items at harts is =
@@ -45,7 +50,7 @@ gathers_first page items at harts is =
     }
 
 pub gathers_on : (page : Span) (items : List Slot) (at : ℕ) (d : Slot) (old new : List Bool) → Gathers page items at old → 0 < at
-    → ((hart : ℕ) → get_or new hart false ≡ (on page hart (get_or items (at - 1) d) || get_or old hart false))
+    → ((hart : ℕ) → get_or new hart true ≡ (on page hart (get_or items (at - 1) d) || get_or old hart true))
     → (older : ℕ) → older ≡ last_place (get_or (map (key_in Page) items) (at - 1) 0) (take (at - 1) (map (key_in Page) items)) → Gathers page items older new
 gathers_on page items at d old new was some with older is =
     record {
@@ -65,6 +70,10 @@ gathered page items at harts all end = λ hart none.
     let keys : list_any (keyed (key_in Page) (page_key page) (on page hart)) items ≡ false =
     (all.others hart none).any ∙ ap (λ (n : ℕ). list_any (keyed (key_in Page) (page_key page) (on page hart)) (take n items)) end in
     sym (any_items (is_on_page page hart) items) ∙ none_among (key_in Page) (on page hart) 0 (λ n. n) (page_key page) items (λ n few. absurd (omega arith)) keys (λ s is. inr (has_key page hart s is))
+
+-- where no hart is left out, each item is of one of them
+pub all_harts : (page : Span) (held : List Held) (count : ℕ) → AreHartsOf page held (replicate count true)
+all_harts page held count = λ hart none. absurd (true≢false (sym (replicated count hart) ∙ none))
 
 -- what is of no hart of its page is not there
 pub not_there : (s : LastLive) (held : List Held) → list_any (is_on_page s.entry.page s.hart) held ≡ false → remembered s held ≡ held ++ held_from s ∷ []
@@ -90,10 +99,10 @@ still_none page hart s (i ∷ held) other none =
     ]
 
 -- whose hart is among them once it is remembered
-pub still_harts : (page : Span) (s : LastLive) (held : List Held) (harts : List Bool) → AreHartsOf page held harts → get_or harts s.hart false ≡ true
+pub still_harts : (page : Span) (s : LastLive) (held : List Held) (harts : List Bool) → AreHartsOf page held harts → get_or harts s.hart true ≡ true
     → AreHartsOf page (remembered s held) harts
-still_harts page s held harts are has = λ hart none.
-    still_none page hart s held (false_from_ne_true _ (λ same. true≢false (sym has ∙ (ap (λ (h : ℕ). get_or harts h false) (eqb-true _ _ same) ∙ none)))) (are hart none)
+still_harts page s held harts are there = λ hart none.
+    still_none page hart s held (false_from_ne_true _ (λ same. true≢false (sym there ∙ (ap (λ (h : ℕ). get_or harts h true) (eqb-true _ _ same) ∙ none)))) (are hart none)
 
 -- one more is remembered
 pub one_more : (live : List LastLive) (from at : ℕ) (l : LastLive) (old held new : List Held) → at < length live → l ≡ get_or live at l

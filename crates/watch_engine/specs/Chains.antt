@@ -1,6 +1,6 @@
 -- Keys in a list, and chains of places that find the newest place of a key: a bucket has a chain of the
 -- places of its keys.
-use Rattle.std.specs.Prelude.{ℕ, Bool, ◌+◌, ◌-◌, ◌*◌, ◌%◌, ◌/◌, ◌^◌, ◌≡◌, ◌==◌, ◌<◌, ◌≤◌, bit_and, nat_lt, if◌then◌else◌}
+use Rattle.std.specs.Prelude.{ℕ, Bool, ◌+◌, ◌-◌, ◌*◌, ◌%◌, ◌/◌, ◌^◌, ◌≡◌, ◌==◌, ◌<◌, ◌≤◌, bit_and, if◌then◌else◌}
 use Rattle.std.specs.Prelude.{List, [], ◌∷◌, length, slice_index, take}
 
 -- one more than the last place at which a list has a key that passes a test, or what was found before it
@@ -16,10 +16,6 @@ last_where test keys = last_from test 0 0 keys
 -- one more than the last place of a key, or 0 if it has none
 abbrev pub last_place : ℕ → List ℕ → ℕ
 last_place key keys = last_where (λ k. k == key) keys
-
--- what is more than a floor, and 0 for what is not
-abbrev pub above : ℕ → ℕ → ℕ
-above floor n = if nat_lt floor n then n else 0
 
 -- the bucket of a key, of so many: by a product that spreads keys that are near one another
 unfoldable pub bucket_of : ℕ → ℕ → ℕ

@@ -1,7 +1,8 @@
 //! Keys that are found by their newest places.
 
 ghost use Rattle.std.specs.Prelude.{◌≡◌, ◌+◌, ◌<◌, ◌≤◌, ◌-◌, ◌++◌, ◌∷◌, [], OnErr, OnOk, length, slice_index, take};
-ghost use Rattle.watch_engine.specs.Chains.{AreChained, AreChains, IsFirst, IsNext, above, bucket_of, last_place};
+ghost use Rattle.std.specs.Option.{ForNone, ForSome};
+ghost use Rattle.watch_engine.specs.Chains.{AreChained, AreChains, IsFirst, IsNext, bucket_of, last_place};
 
 use std::alloc::{AllocError, Global};
 
@@ -152,63 +153,55 @@ impl Chains {
         self.links[at - 1]
     }
 
-    // Goes down a chain of the key's bucket, from `newest` - 1, to a place of the key. One more than
-    // that, or 0 if the chain has none above the floor.
-    fn follow(&self, key: u64, newest: usize, floor: usize) -> usize
+    // Goes down a chain of the key's bucket, from `newest` - 1, to a place of the key: one more than
+    // that, or 0 if the chain has none. `None` once the steps are used up, one for each place on the way.
+    fn follow(&self, key: u64, newest: usize, steps: &mut usize) -> Option<usize>
         requires within { newest ≤ length self.now.keys.items }
         requires bucket { 0 < newest → bucket_of (length self.now.heads.items)
             (slice_index self.now.keys.items (newest - 1))
             ≡ bucket_of (length self.now.heads.items) key }
-        ensures { result ≡ above floor (last_place key (take newest self.now.keys.items)) }
+        ensures found { ForSome result (λ at.
+            at ≡ last_place key (take newest self.now.keys.items)) }
+        ensures given_up { ForNone result (steps.new ≡ 0) }
+        ensures paid { steps.new ≤ steps.old }
     {
         let mut at = newest;
-        while at > floor {
+        while at > 0 {
+            if *steps == 0 {
+                return None;
+            }
+            *steps -= 1;
             if self.keys[at - 1] == key {
-                return at;
+                return Some(at);
             }
             at = self.links[at - 1];
         }
-        0
+        Some(0)
     }
 
-    /// One more than the newest place of a key, or 0 if that is no more than the floor. No place below
-    /// the floor is looked at.
-    pub(crate) fn newest_above(&self, key: u64, floor: usize) -> usize
-        ensures { result ≡ above floor (last_place key self.now.keys.items) }
+    /// One more than the newest place of a key, or 0 if it has none. `None` once the steps are used up.
+    pub(crate) fn newest(&self, key: u64, steps: &mut usize) -> Option<usize>
+        ensures found { ForSome result (λ at. at ≡ last_place key self.now.keys.items) }
+        ensures given_up { ForNone result (steps.new ≡ 0) }
+        ensures paid { steps.new ≤ steps.old }
     {
         if self.heads.is_empty() {
-            return 0;
+            return Some(0);
         }
         let bucket = bucket_of(self.heads.len(), key);
-        self.follow(key, self.heads[bucket], floor)
-    }
-
-    /// One more than the newest place of a key, or 0 if it has none.
-    pub(crate) fn newest(&self, key: u64) -> usize
-        ensures { result ≡ last_place key self.now.keys.items }
-    {
-        self.newest_above(key, 0)
+        self.follow(key, self.heads[bucket], steps)
     }
 
     /// One more than the newest place of the same key before the one of which `place` is one more,
-    /// or 0 if that is no more than the floor. No place below the floor is looked at.
-    pub(crate) fn before_above(&self, place: usize, floor: usize) -> usize
+    /// or 0 if there is none. `None` once the steps are used up.
+    pub(crate) fn before(&self, place: usize, steps: &mut usize) -> Option<usize>
         requires some { 0 < place }
         requires within { place ≤ length self.now.keys.items }
-        ensures { result ≡ above floor (last_place
+        ensures found { ForSome result (λ at. at ≡ last_place
             (slice_index self.now.keys.items (place - 1)) (take (place - 1) self.now.keys.items)) }
+        ensures given_up { ForNone result (steps.new ≡ 0) }
+        ensures paid { steps.new ≤ steps.old }
     {
-        self.follow(self.keys[place - 1], self.links[place - 1], floor)
-    }
-
-    /// One more than the newest place of the same key before the one of which `place` is one more,
-    /// or 0 if there is none.
-    pub(crate) fn before(&self, place: usize) -> usize
-        requires some { 0 < place }
-        requires within { place ≤ length self.now.keys.items }
-        ensures { result ≡ last_place (slice_index self.now.keys.items (place - 1))
-            (take (place - 1) self.now.keys.items) }
-    {
-        self.before_above(place, 0)
+        self.follow(self.keys[place - 1], self.links[place - 1], steps)
     }
 }

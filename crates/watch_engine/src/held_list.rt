@@ -1,13 +1,14 @@
 //! The list of what harts may hold, and where its items stand by page, by frame and by root.
 
 ghost use Rattle.std.specs.Prelude.{◌≡◌, ◌≤◌, ◌&&◌, ◌==◌, ◌++◌, ◌∷◌, [], OnErr, OnOk, false, filter, length, map, not, take, true};
+ghost use Rattle.std.specs.Option.{ForSome};
 ghost use Rattle.std.specs.List.{list_any};
 ghost use Rattle.watch_engine.specs.Concerns.{concerns};
 ghost use Rattle.watch_engine.specs.declared.held.Held.{Held as HeldOf};
 ghost use Rattle.watch_engine.specs.declared.keys.By.{By as ByOf};
 ghost use Rattle.watch_engine.specs.declared.keys.By.TheVariants.{Frame, Page, Root};
 ghost use Rattle.watch_engine.specs.Keys.{AreSmall, BeginsWith, IsAmong, key_of};
-ghost use Rattle.watch_engine.specs.Slots.{has, items_of, key_in};
+ghost use Rattle.watch_engine.specs.Slots.{IsWithout, has, items_of, key_in};
 
 use crate::chains::Chains;
 use crate::concern::Concern;
@@ -19,6 +20,12 @@ use std::alloc::{AllocError, Global};
 
 /// How many empty places are let be, however few items there are.
 const FEW_EMPTY: usize = 16;
+
+/// How many steps along chains a look for items may take, however few places there are.
+const FEW_STEPS: usize = 16;
+
+/// Of how many places one pays a step along a chain.
+const CHAIN_SHARE: usize = 8;
 
 /// What harts may hold and the tables do not tell, with chains that find items by page, by frame and
 /// by root. An item that goes leaves its place empty, so that nothing moves and no chain changes; all
@@ -85,7 +92,7 @@ fn relink_all(
 }
 
 // Drops the items with one of the keys that the record concerns. How many places are empty then of those
-// that were looked at.
+// that were looked at. `None` once the steps are used up, and then some may still be there.
 fn drop_by(
     slots: &mut [Slot],
     pages: &Chains,
@@ -93,21 +100,50 @@ fn drop_by(
     roots: &Chains,
     keys: &Keys,
     concern: &Concern,
+    steps: &mut usize,
+) -> Option<usize>
+    requires small { AreSmall keys.now }
+    requires pages { pages.now.keys.items ≡ map (key_in Page) slots.old }
+    requires frames { frames.now.keys.items ≡ map (key_in Frame) slots.old }
+    requires roots { roots.now.keys.items ≡ map (key_in Root) slots.old }
+    ensures without { IsWithout (concerns concern.now) slots.old slots.new }
+    ensures left { ForSome result (λ _. ((i : HeldOf) → concerns concern.now i ≡ true
+        → IsAmong keys.now (key_of keys.now.by i)) → items_of slots.new
+        ≡ filter (λ i. not (concerns concern.now i)) (items_of slots.old)) }
+{
+    match keys.by {
+        By::Page => drop_with_keys(slots, pages, keys, concern, steps),
+        By::Frame => drop_with_keys(slots, frames, keys, concern, steps),
+        By::Root => drop_with_keys(slots, roots, keys, concern, steps),
+    }
+}
+
+// Drops the items with one of the keys that the record concerns, where no others are: along their chains,
+// or over the whole list once the steps are used up. How many places are empty then of those that were
+// looked at.
+fn drop_by_or_each(
+    slots: &mut [Slot],
+    pages: &Chains,
+    frames: &Chains,
+    roots: &Chains,
+    keys: &Keys,
+    concern: &Concern,
+    steps: &mut usize,
 ) -> usize
     requires small { AreSmall keys.now }
     requires pages { pages.now.keys.items ≡ map (key_in Page) slots.old }
     requires frames { frames.now.keys.items ≡ map (key_in Frame) slots.old }
     requires roots { roots.now.keys.items ≡ map (key_in Root) slots.old }
-    ensures left { ((i : HeldOf) → concerns concern.now i ≡ true
-        → IsAmong keys.now (key_of keys.now.by i)) → items_of slots.new
+    requires all { (i : HeldOf) → concerns concern.now i ≡ true
+        → IsAmong keys.now (key_of keys.now.by i) }
+    ensures left { items_of slots.new
         ≡ filter (λ i. not (concerns concern.now i)) (items_of slots.old) }
     ensures keys { (by : ByOf) → map (key_in by) slots.new ≡ map (key_in by) slots.old }
 {
-    match keys.by {
-        By::Page => drop_with_keys(slots, pages, keys, concern),
-        By::Frame => drop_with_keys(slots, frames, keys, concern),
-        By::Root => drop_with_keys(slots, roots, keys, concern),
-    }
+    let Some(empty) = drop_by(slots, pages, frames, roots, keys, concern, steps) else {
+        return drop_each(slots, concern);
+    };
+    empty
 }
 
 impl HeldList {
@@ -141,8 +177,16 @@ impl HeldList {
         }
     }
 
-    // How many places stand before the oldest item that has the key and that the record concerns.
-    fn first_with(&self, by: By, key: u64, concern: &Concern) -> usize
+    /// How many steps a look for items may take along chains. A step along a chain is dearer than one
+    /// along the list: with so few, a look that gives up adds about half to the scan of the list that
+    /// takes its place.
+    pub(crate) fn chain_steps(&self) -> usize {
+        FEW_STEPS + self.slots.len() / CHAIN_SHARE
+    }
+
+    // How many places stand before the oldest item that has the key and that the record concerns: none
+    // once the steps are used up.
+    fn first_with(&self, by: By, key: u64, concern: &Concern, steps: &mut usize) -> usize
         ensures none { list_any (λ s. (key_in by s == key) && has (concerns concern.now) s)
             (take result self.now.slots.items) ≡ false }
         ensures within { result ≤ length self.now.slots.items }
@@ -150,28 +194,33 @@ impl HeldList {
         let chains = self.chains(by);
         let slots = self.slots.as_slice();
         let mut first = slots.len();
-        let mut at = chains.newest(key);
+        let Some(mut at) = chains.newest(key, steps) else {
+            return 0;
+        };
         while at > 0 {
             if slots[at - 1].is_of(concern) {
                 first = at - 1;
             }
-            at = chains.before(at);
+            let Some(older) = chains.before(at, steps) else {
+                return 0;
+            };
+            at = older;
         }
         first
     }
 
     // The same of items that have one of the keys.
-    fn first_among(&self, keys: &Keys, concern: &Concern) -> usize
+    fn first_among(&self, keys: &Keys, concern: &Concern, steps: &mut usize) -> usize
         requires { AreSmall keys.now }
         ensures none { ((i : HeldOf) → concerns concern.now i ≡ true
             → IsAmong keys.now (key_of keys.now.by i))
             → list_any (has (concerns concern.now)) (take result self.now.slots.items) ≡ false }
         ensures within { result ≤ length self.now.slots.items }
     {
-        let mut first = self.first_with(keys.by, keys.limit, concern);
+        let mut first = self.first_with(keys.by, keys.limit, concern, steps);
         for offset in 0..keys.count {
             let key = (keys.first + offset) % keys.limit;
-            let place = self.first_with(keys.by, key, concern);
+            let place = self.first_with(keys.by, key, concern, steps);
             if place < first {
                 first = place;
             }
@@ -180,15 +229,15 @@ impl HeldList {
     }
 
     /// A number of places, where no item is that the record concerns: all of them if it concerns none
-    /// and few keys tell so.
-    pub(crate) fn first_of(&self, concern: &Concern) -> usize
+    /// and few keys tell so in these steps.
+    pub(crate) fn first_of(&self, concern: &Concern, steps: &mut usize) -> usize
         ensures none { list_any (has (concerns concern.now)) (take result self.now.slots.items)
             ≡ false }
         ensures within { result ≤ length self.now.slots.items }
     {
         match concern.keys() {
             None => 0,
-            Some(keys) => self.first_among(&keys, concern),
+            Some(keys) => self.first_among(&keys, concern, steps),
         }
     }
 
@@ -197,7 +246,8 @@ impl HeldList {
         ensures { result ≡ false
             → list_any (concerns concern.now) (items_of self.now.slots.items) ≡ false }
     {
-        self.first_of(concern) < self.slots.len()
+        let mut steps = self.chain_steps();
+        self.first_of(concern, &mut steps) < self.slots.len()
     }
 
     // With one more item. At `Err` nothing changed.
@@ -295,13 +345,15 @@ impl HeldList {
         ensures { items_of self.new.slots.items
             ≡ filter (λ i. not (concerns concern.now i)) (items_of self.old.slots.items) }
     {
-        let empty = drop_by(
+        let mut steps = self.chain_steps();
+        let empty = drop_by_or_each(
             self.slots.as_mut_slice(),
             &self.pages,
             &self.frames,
             &self.roots,
             keys,
             concern,
+            &mut steps,
         );
         self.tidy(empty);
     }

@@ -1,7 +1,7 @@
 //! Translations of one page that are remembered one after another, such as those of a page of the
 //! kernel for each hart: where they are many, the items of the page are looked through once for all.
 
-ghost use Rattle.std.specs.Prelude.{ℕ, ◌≡◌, ◌+◌, ◌<◌, ◌≤◌, ◌||◌, IfOk, IsTrue, OnErr, OnOk, false, get_or, length, take};
+ghost use Rattle.std.specs.Prelude.{ℕ, ◌≡◌, ◌+◌, ◌<◌, ◌≤◌, ◌||◌, IfOk, IsTrue, OnErr, OnOk, get_or, length, take, true};
 ghost use Rattle.watch_engine.specs.Held.{remembered, remembered_all};
 ghost use Rattle.watch_engine.specs.PageRuns.{AreHartsOf, AreRememberedUpTo, is_on_page, is_that_page};
 ghost use Rattle.watch_engine.specs.Slots.{has, items_of};
@@ -18,6 +18,10 @@ use std::alloc::AllocError;
 /// How many translations of one page are worth a look at the harts of its items.
 const MANY: usize = 8;
 
+/// How many steps along a chain the look for the harts of a page may take. Each of its items is of
+/// another hart, or stands for another translation of one hart; a longer chain is one of many pages.
+const HARTS_STEPS: usize = 256;
+
 fn is_that_page(page: &Page, other: &Page) -> bool
     ensures { result ≡ is_that_page page.now other.now }
 {
@@ -26,24 +30,30 @@ fn is_that_page(page: &Page, other: &Page) -> bool
 
 // With the hart of the item, if it is there and of the page.
 fn add_hart_of(harts: &mut [bool; HARTS], page: &Page, slot: &Slot)
-    ensures { (hart : ℕ) → get_or harts.new hart false
-        ≡ (has (is_on_page page.now hart) slot.now || get_or harts.old hart false) }
+    ensures { (hart : ℕ) → get_or harts.new hart true
+        ≡ (has (is_on_page page.now hart) slot.now || get_or harts.old hart true) }
 {
     if !slot.is_gone && is_that_page(&slot.item.entry.page, page) {
         harts[slot.item.hart as usize] = true;
     }
 }
 
-// The harts of the items of a page.
+// The harts of the items of a page: all count as such where they are not found in few steps.
 fn harts_of(held: &HeldList, page: &Page) -> [bool; HARTS]
     ensures { AreHartsOf page.now (items_of held.now.slots.items) result }
 {
     let slots = held.as_slice();
     let mut harts = [false; HARTS];
-    let mut at = held.pages.newest(page_key(page));
+    let mut steps = HARTS_STEPS;
+    let Some(mut at) = held.pages.newest(page_key(page), &mut steps) else {
+        return [true; HARTS];
+    };
     while at > 0 {
         add_hart_of(&mut harts, page, &slots[at - 1]);
-        at = held.pages.before(at);
+        let Some(older) = held.pages.before(at, &mut steps) else {
+            return [true; HARTS];
+        };
+        at = older;
     }
     harts
 }

@@ -22,7 +22,8 @@ use pte::{PAGE_BYTES, Page, Scheme};
 use watch::Space;
 use watch_tables::Way;
 
-/// On how many ways items are looked for one way after the other. With more, all are gone along.
+/// On how many ways items are looked for one way after the other, and on no more than steps along chains
+/// are left. With more, all items are gone along.
 const FEW_WAYS: usize = 64;
 
 /// How many bytes a word of a table has.
@@ -182,28 +183,31 @@ fn settle_each_touched<T: Tables>(
     empty
 }
 
-// A number of places, none of which has an item that the store concerns on the way.
+// A number of places, none of which has an item that the store concerns on the way: none once the steps
+// are used up.
 fn first_touched_on(
     held: &HeldList,
     scheme: Scheme,
     roots: &Roots,
     address: u64,
     way: &Way,
+    steps: &mut usize,
 ) -> usize
     ensures none { list_any (has (λ i. is_touched_on scheme roots.now (index_of address)
         (translation_of i) way.now)) (take result held.now.slots.items) ≡ false }
     ensures within { result ≤ length held.now.slots.items }
 {
-    held.first_of(&Concern::Store {
+    let store = Concern::Store {
         scheme,
         address,
         way: *way,
         is_root: roots.has(way.root),
-    })
+    };
+    held.first_of(&store, steps)
 }
 
 // A number of places, none of which has an item that the store concerns: all of them if it concerns
-// none and few keys tell so.
+// none and few keys tell so in few steps, for all ways together.
 fn first_touched(
     held: &HeldList,
     scheme: Scheme,
@@ -216,11 +220,12 @@ fn first_touched(
     ensures within { result ≤ length held.now.slots.items }
 {
     let mut first = held.as_slice().len();
-    if first == 0 || ways.len() > FEW_WAYS {
+    let mut steps = held.chain_steps();
+    if first == 0 || ways.len() > steps.min(FEW_WAYS) {
         return 0;
     }
     for way in ways {
-        let place = first_touched_on(held, scheme, roots, address, way);
+        let place = first_touched_on(held, scheme, roots, address, way, &mut steps);
         if place == 0 {
             return 0;
         }

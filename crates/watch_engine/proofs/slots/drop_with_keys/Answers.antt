@@ -17,20 +17,20 @@ loop-offset-preserved c =
     let keys : Keys = c.args.keys.now in
     let goes : Held → Bool = concerns c.args.concern.now in
     let was = c.loop-offset.invariant in
-    let one = c.drop_with_key-more.ensures in
-    let now : List Slot = c.drop_with_key-more.new.slots in
+    let one = c.drop_with_key-in-loop-offset.ensures in
+    let now : List Slot = c.drop_with_key-in-loop-offset.new.slots in
     let key : ℕ → ℕ = λ n. (keys.first + n) % keys.limit in
     record {
       without = without_both goes c.args.slots.now c.loop-offset.slots now was.without one.without;
       large = one.without.none keys.by keys.limit was.large;
       each = λ n h. elim (below_or_is n c.loop-offset.offset (omega arith)) [
         | inl low ↦ one.without.none keys.by (key n) (was.each n low)
-        | inr is ↦ subst (λ (m : ℕ). list_any (keyed (key_in keys.by) (key m) (has goes)) now ≡ false) (sym is) one.none
+        | inr is ↦ subst (λ (m : ℕ). list_any (keyed (key_in keys.by) (key m) (has goes)) now ≡ false) (sym is) (one.none c.in-Some-drop_with_key.more c.in-Some-drop_with_key.is)
       ];
     }
 
 pub returns-clause-left : goal.returns-clause-left
-returns-clause-left c = λ are.
+returns-clause-left c = λ count is_count are.
     let keys : Keys = c.args.keys.now in
     let goes : Held → Bool = concerns c.args.concern.now in
     let slots : List Slot = c.loop-offset.slots in

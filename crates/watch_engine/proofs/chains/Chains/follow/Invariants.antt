@@ -8,6 +8,7 @@ invariant-loop-at l = record {
   within : l.at ≤ length l.self.keys.items;
   bucket : 0 < l.at → bucket_of (length l.self.heads.items) (get_or l.self.keys.items (l.at - 1) 0) ≡ bucket_of (length l.self.heads.items) l.key;
   same : last_place l.key (take l.at l.self.keys.items) ≡ last_place l.key (take l.newest l.self.keys.items);
+  paid : l.steps ≤ l.fn.steps;
 }
 
 abbrev pub decreases-loop-at : goal.decreases-loop-at

@@ -12,13 +12,13 @@ pub loop-at-init : goal.loop-at-init
 loop-at-init c =
     let items : List Slot = c.args.self.now.slots.items in
     let long : length c.as_slice-slots.result.now ≡ length items = ap (λ (l : List Slot). length l) c.as_slice-slots.ensures.value in
-    seeks_first (key_in c.args.by) c.args.key (has (concerns c.args.concern.now)) items c.newest-at.result (length c.as_slice-slots.result.now) long (c.newest-at.ensures ∙ ap (last_place c.args.key) c.chains-chains.ensures)
+    seeks_first (key_in c.args.by) c.args.key (has (concerns c.args.concern.now)) items c.in-Some.at (length c.as_slice-slots.result.now) long (c.newest.ensures.found c.in-Some.at c.in-Some.is ∙ ap (last_place c.args.key) c.chains-chains.ensures)
 
 pub loop-at-smaller : goal.loop-at-smaller
 loop-at-smaller c =
     let at : ℕ = c.loop-at.at in
-    smaller c.args.self.now.slots.items (key_in c.args.by) at c.before-at.result c.loop-at-test.true c.loop-at.invariant.walk.within
-    (c.before-at.ensures ∙ ap (λ (ks : List ℕ). last_place (get_or ks (at - 1) 0) (take (at - 1) ks)) c.chains-chains.ensures)
+    smaller c.args.self.now.slots.items (key_in c.args.by) at c.in-Some-before.older c.loop-at-test.true c.loop-at.invariant.walk.within
+    (c.before-in-loop-at.ensures.found c.in-Some-before.older c.in-Some-before.is ∙ ap (λ (ks : List ℕ). last_place (get_or ks (at - 1) 0) (take (at - 1) ks)) c.chains-chains.ensures)
 
 pub loop-at-preserved : goal.loop-at-preserved
 loop-at-preserved c =
@@ -28,10 +28,10 @@ loop-at-preserved c =
     let d : Slot = c.index-slots-at.result in
     let read : d ≡ get_or items (at - 1) d = c.index-slots-at.is ∙ ap (λ (l : List Slot). get_or l (at - 1) d) c.as_slice-slots.ensures.value in
     let tested : test (get_or items (at - 1) d) ≡ c.is_of.result = ap test (sym read) ∙ sym c.is_of.ensures in
-    let on = seeks_on (key_in c.args.by) c.args.key test items at d c.loop-at.first c.loop-at.invariant c.loop-at-test.true c.before-at.result
-    (c.before-at.ensures ∙ ap (λ (ks : List ℕ). last_place (get_or ks (at - 1) 0) (take (at - 1) ks)) c.chains-chains.ensures) in
+    let on = seeks_on (key_in c.args.by) c.args.key test items at d c.loop-at.first c.loop-at.invariant c.loop-at-test.true c.in-Some-before.older
+    (c.before-in-loop-at.ensures.found c.in-Some-before.older c.in-Some-before.is ∙ ap (λ (ks : List ℕ). last_place (get_or ks (at - 1) 0) (take (at - 1) ks)) c.chains-chains.ensures) in
     let now : (if test (get_or items (at - 1) d) then at - 1 else c.loop-at.first) ≡ c.if-is_of.first = elim c.if-is_of.branch [
       | then-is_of w ↦ ap (λ (b : Bool). if b then at - 1 else c.loop-at.first) (tested ∙ w.if-is_of.true) ∙ sym w.first-is
       | else-is_of w ↦ ap (λ (b : Bool). if b then at - 1 else c.loop-at.first) (tested ∙ w.if-is_of.false) ∙ sym w.first-is
     ] in
-    subst (λ (n : ℕ). Seeks (key_in c.args.by) c.args.key test items c.before-at.result n) now on
+    subst (λ (n : ℕ). Seeks (key_in c.args.by) c.args.key test items c.in-Some-before.older n) now on
