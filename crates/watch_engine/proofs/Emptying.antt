@@ -4,11 +4,12 @@ use Rattle.std.specs.Prelude.{◌==◌, ◌&&◌, ◌||◌, cond, filter, not}
 use Rattle.std.specs.List.{list_any}
 use Rattle.std.proofs.Math.Seq.{map-set_same, take-suc}
 use Rattle.std.proofs.lemmas.Bool.{cases_Bool, eqb-true}
-use Rattle.std.proofs.lemmas.List.{append-nil, drop-set, drop_all, drop_more, length-map, length-set, take-map, take-take, take_all}
+use Rattle.std.proofs.lemmas.List.{append-nil, drop-set, drop_all, drop_more, length-map, length-set, map-append, take-map, take-take, take_all}
 use Rattle.watch_engine.specs.declared.held.Held.{Held}
 use Rattle.watch_engine.specs.declared.keys.By.{By}
 use Rattle.watch_engine.specs.declared.slot.Slot.{Slot}
 use Rattle.watch_engine.specs.Chains.{last_place}
+use Rattle.watch_engine.specs.Keys.{key_of}
 use Rattle.watch_engine.specs.Slots.{IsWithout, has, items_of, key_in, turned}
 use Rattle.watch_engine.proofs.LastPlaces.{last_passes, last_within}
 use Rattle.watch_engine.proofs.Lists.{KeepsKey, filter_same, map_same}
@@ -221,3 +222,9 @@ clears_on f k c slots at s w some misses same older is =
 -- the keys up to a place, where the rest is cut off
 pub front_keys : (f : Slot → ℕ) (n : ℕ) (keys : List ℕ) (slots now : List Slot) → keys ≡ map f slots → now ≡ take n slots → take n keys ≡ map f (take n now)
 front_keys f n keys slots now is left = ap (take n) is ∙ (take-map f n slots ∙ ap (map f) (sym (ap (take n) left ∙ take-take n n slots (omega arith))))
+
+-- the keys with one more place at the end
+pub keys_append : (by : By) (keys old : List ℕ) (slots new : List Slot) (s : Slot) (i : Held) → keys ≡ old ++ key_of by i ∷ [] → old ≡ map (key_in by) slots
+    → new ≡ slots ++ s ∷ [] → s ≡ record { item = i; is_gone = false } → keys ≡ map (key_in by) new
+keys_append by keys old slots new s i is was more one =
+    is ∙ ((λ j. was j ++ key_in by (sym one j) ∷ []) ∙ (sym (map-append (key_in by) slots (s ∷ [])) ∙ ap (map (key_in by)) (sym more)))

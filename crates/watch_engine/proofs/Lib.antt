@@ -37,6 +37,7 @@ pub mod Walks
 pub mod Unlinking
 pub mod Dropping
 pub mod Emptying
+pub mod EmptyPlaces
 pub mod Staying
 pub mod Untouched
 pub mod NothingAdded

@@ -1,5 +1,5 @@
 -- A list of items in places, of which some may be empty: their items have gone.
-use Rattle.std.specs.Prelude.{ℕ, Bool, false, not, ◌+◌, ◌≡◌, ◌==◌, ◌&&◌, filter, if◌then◌else◌, map}
+use Rattle.std.specs.Prelude.{ℕ, Bool, false, not, ◌+◌, ◌-◌, ◌*◌, ◌≤◌, ◌≡◌, ◌==◌, ◌&&◌, ◌⊎◌, filter, if◌then◌else◌, length, map}
 use Rattle.std.specs.Prelude.{List, [], ◌∷◌, Option, Some, None}
 use Rattle.std.specs.List.{list_any}
 use Rattle.watch_engine.specs.declared.held.Held.{Held}
@@ -28,6 +28,14 @@ turned f goes s = if s.is_gone then s else record { item = f s.item; is_gone = g
 abbrev pub place_in : (Slot → Bool) → ℕ → List Slot → Option ℕ
 place_in test n [] = None
 place_in test n (s ∷ slots) = if test s then Some n else place_in test (n + 1) slots
+
+-- how many places are empty: those that the items leave
+abbrev pub count_gone : List Slot → ℕ
+count_gone slots = length slots - length (items_of slots)
+
+-- few places are empty, or no more than half
+abbrev pub AreFewGone : List Slot → Type 0
+AreFewGone slots = (count_gone slots ≤ 16) ⊎ (2 * count_gone slots ≤ length slots)
 
 -- some that the test passes have gone, and all others are where they were
 pub record IsWithout (goes : Held → Bool) (old new : List Slot) : Type 0 where

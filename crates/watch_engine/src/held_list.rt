@@ -1,6 +1,6 @@
 //! The list of what harts may hold, and where its items stand by page, by frame and by root.
 
-ghost use Rattle.std.specs.Prelude.{◌≡◌, ◌≤◌, ◌&&◌, ◌==◌, ◌++◌, ◌∷◌, [], OnErr, OnOk, false, filter, length, map, not, take, true};
+ghost use Rattle.std.specs.Prelude.{◌≡◌, ◌+◌, ◌≤◌, ◌&&◌, ◌==◌, ◌++◌, ◌∷◌, [], OnErr, OnOk, false, filter, length, map, not, take, true};
 ghost use Rattle.std.specs.Option.{ForSome};
 ghost use Rattle.std.specs.List.{list_any};
 ghost use Rattle.watch_engine.specs.Concerns.{concerns};
@@ -8,14 +8,14 @@ ghost use Rattle.watch_engine.specs.declared.held.Held.{Held as HeldOf};
 ghost use Rattle.watch_engine.specs.declared.keys.By.{By as ByOf};
 ghost use Rattle.watch_engine.specs.declared.keys.By.TheVariants.{Frame, Page, Root};
 ghost use Rattle.watch_engine.specs.Keys.{AreSmall, BeginsWith, IsAmong, key_of};
-ghost use Rattle.watch_engine.specs.Slots.{IsWithout, has, items_of, key_in};
+ghost use Rattle.watch_engine.specs.Slots.{AreFewGone, IsWithout, count_gone, has, items_of, key_in};
 
 use crate::chains::Chains;
 use crate::concern::Concern;
 use crate::held::Held;
 use crate::keys::{By, Keys};
 use crate::slot::Slot;
-use crate::slots::{drop_each, drop_with_keys, end_of};
+use crate::slots::{add_empty, drop_each, drop_with_keys, end_of};
 use std::alloc::{AllocError, Global};
 
 /// How many empty places are let be, however few items there are.
@@ -42,6 +42,7 @@ pub(crate) struct HeldList {
     ghost by_page: { pages.keys.items ≡ map (key_in Page) slots.items },
     ghost by_frame: { frames.keys.items ≡ map (key_in Frame) slots.items },
     ghost by_root: { roots.keys.items ≡ map (key_in Root) slots.items },
+    ghost counted: { count_gone slots.items ≤ empty },
 }
 
 // Adds the keys of an item. At `Err` some of them are there.
@@ -110,6 +111,8 @@ fn drop_by(
     ensures left { ForSome result (λ _. ((i : HeldOf) → concerns concern.now i ≡ true
         → IsAmong keys.now (key_of keys.now.by i)) → items_of slots.new
         ≡ filter (λ i. not (concerns concern.now i)) (items_of slots.old)) }
+    ensures gone { ForSome result (λ empty.
+        count_gone slots.new ≤ count_gone slots.old + empty) }
 {
     match keys.by {
         By::Page => drop_with_keys(slots, pages, keys, concern, steps),
@@ -139,6 +142,7 @@ fn drop_by_or_each(
     ensures left { items_of slots.new
         ≡ filter (λ i. not (concerns concern.now i)) (items_of slots.old) }
     ensures keys { (by : ByOf) → map (key_in by) slots.new ≡ map (key_in by) slots.old }
+    ensures gone { count_gone slots.new ≤ count_gone slots.old + result }
 {
     let Some(empty) = drop_by(slots, pages, frames, roots, keys, concern, steps) else {
         return drop_each(slots, concern);
@@ -278,6 +282,9 @@ impl HeldList {
     {
         let count = self.slots.len();
         let end = end_of(self.slots.as_slice());
+        if end == count {
+            return;
+        }
         self.slots.truncate(end);
         relink_all(
             &mut self.pages,
@@ -291,7 +298,8 @@ impl HeldList {
 
     // Without the empty places.
     fn close_up(&mut self)
-        ensures { items_of self.new.slots.items ≡ items_of self.old.slots.items }
+        ensures same { items_of self.new.slots.items ≡ items_of self.old.slots.items }
+        ensures none { count_gone self.new.slots.items ≡ 0 }
     {
         self.slots.retain(|slot| !slot.is_gone);
         relink_all(
@@ -322,15 +330,12 @@ impl HeldList {
         self.try_push(&item)
     }
 
-    /// Closes up where that is worth its cost, after so many places were emptied or found empty. It needs
-    /// no memory.
-    pub(crate) fn tidy(&mut self, empty: usize)
-        ensures { items_of self.new.slots.items ≡ items_of self.old.slots.items }
+    /// Closes up where that is worth its cost, by how many places were emptied or found empty. It needs no
+    /// memory.
+    pub(crate) fn tidy(&mut self)
+        ensures same { items_of self.new.slots.items ≡ items_of self.old.slots.items }
+        ensures few { AreFewGone self.new.slots.items }
     {
-        if empty == 0 {
-            return;
-        }
-        self.empty = self.empty.saturating_add(empty);
         self.cut_end();
         if self.empty > FEW_EMPTY && self.empty > self.slots.len() / 2 {
             self.close_up();
@@ -342,8 +347,9 @@ impl HeldList {
         requires small { AreSmall keys.now }
         requires all { (i : HeldOf) → concerns concern.now i ≡ true
             → IsAmong keys.now (key_of keys.now.by i) }
-        ensures { items_of self.new.slots.items
+        ensures left { items_of self.new.slots.items
             ≡ filter (λ i. not (concerns concern.now i)) (items_of self.old.slots.items) }
+        ensures few { AreFewGone self.new.slots.items }
     {
         let mut steps = self.chain_steps();
         let empty = drop_by_or_each(
@@ -355,22 +361,26 @@ impl HeldList {
             concern,
             &mut steps,
         );
-        self.tidy(empty);
+        self.empty = add_empty(self.slots.as_slice(), self.empty, empty);
+        self.tidy();
     }
 
     // The same, where all items are looked at.
     fn drop_all(&mut self, concern: &Concern)
-        ensures { items_of self.new.slots.items
+        ensures left { items_of self.new.slots.items
             ≡ filter (λ i. not (concerns concern.now i)) (items_of self.old.slots.items) }
+        ensures few { AreFewGone self.new.slots.items }
     {
         let empty = drop_each(self.slots.as_mut_slice(), concern);
-        self.tidy(empty);
+        self.empty = add_empty(self.slots.as_slice(), self.empty, empty);
+        self.tidy();
     }
 
     /// Without the items that the record concerns.
     pub(crate) fn drop_of(&mut self, concern: &Concern)
-        ensures { items_of self.new.slots.items
+        ensures left { items_of self.new.slots.items
             ≡ filter (λ i. not (concerns concern.now i)) (items_of self.old.slots.items) }
+        ensures few { AreFewGone self.new.slots.items }
     {
         match concern.keys() {
             None => self.drop_all(concern),

@@ -43,7 +43,8 @@ impl Slot {
 
     /// Without the item, if the record concerns it. Whether the place is empty now.
     pub(crate) fn drop_if(&mut self, concern: &Concern) -> bool
-        ensures { self.new ≡ turned (λ i. i) (concerns concern.now) self.old }
+        ensures slot { self.new ≡ turned (λ i. i) (concerns concern.now) self.old }
+        ensures empty { result ≡ self.new.is_gone }
     {
         if self.is_gone {
             return true;

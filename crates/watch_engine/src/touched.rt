@@ -1,13 +1,13 @@
 //! The translations that a store to a word can concern.
 
-ghost use Rattle.std.specs.Prelude.{ℕ, ◌≡◌, ◌≤◌, false, filter, length, map, not, take};
+ghost use Rattle.std.specs.Prelude.{ℕ, ◌≡◌, ◌+◌, ◌≤◌, false, filter, length, map, not, take};
 ghost use Rattle.std.specs.List.{list_any};
 ghost use Rattle.watch.specs.Computed.{is_mapped};
 ghost use Rattle.watch.specs.Trace.{index_of};
 ghost use Rattle.watch_engine.specs.LastAnswer.{IsAnswered};
 ghost use Rattle.watch_engine.specs.Held.{is_current_by, translation_of};
 ghost use Rattle.watch_engine.specs.Touched.{asks, is_below, is_kept_after, is_touched, is_touched_on, settled_if};
-ghost use Rattle.watch_engine.specs.Slots.{has, items_of, turned};
+ghost use Rattle.watch_engine.specs.Slots.{AreFewGone, count_gone, has, items_of, turned};
 
 use crate::concern::Concern;
 use crate::held::Held;
@@ -17,6 +17,7 @@ use crate::live::is_live_in;
 use crate::roots::Roots;
 use crate::satps::satp_in;
 use crate::slot::Slot;
+use crate::slots::add_empty;
 use crate::tables::Tables;
 use pte::{PAGE_BYTES, Page, Scheme};
 use watch::Space;
@@ -133,6 +134,7 @@ impl Slot {
             last.old }
         ensures last { IsAnswered (is_current_by (is_mapped scheme (T.words tables.now)) roots.now)
             last.new }
+        ensures empty { result ≡ self.new.is_gone }
         ensures slot { self.new ≡ turned (λ i. settled_if (is_touched scheme roots.now
             (index_of address) ways.now (translation_of i)) (is_current_by (is_mapped scheme
             (T.words tables.now)) roots.now (translation_of i)) count i)
@@ -164,7 +166,8 @@ fn settle_each_touched<T: Tables>(
     requires first { first ≤ length slots.old }
     requires none { list_any (has (λ i. is_touched scheme roots.now (index_of address) ways.now
         (translation_of i))) (take first slots.old) ≡ false }
-    ensures { slots.new ≡ map (turned (λ i. settled_if (is_touched scheme roots.now
+    ensures gone { count_gone slots.new ≤ count_gone slots.old + result }
+    ensures slots { slots.new ≡ map (turned (λ i. settled_if (is_touched scheme roots.now
         (index_of address) ways.now (translation_of i)) (is_current_by (is_mapped scheme
         (T.words tables.now)) roots.now (translation_of i)) count i)
         (λ i. not (is_kept_after scheme (T.words tables.now) satps.now roots.now
@@ -177,7 +180,7 @@ fn settle_each_touched<T: Tables>(
             tables, scheme, satps, roots, address, ways, count, &mut last,
         );
         if is_empty {
-            empty = empty.saturating_add(1);
+            empty += 1;
         }
     }
     empty
@@ -251,7 +254,8 @@ fn settle_touched_from<T: Tables>(
     requires first { first ≤ length held.old.slots.items }
     requires none { list_any (has (λ i. is_touched scheme roots.now (index_of address) ways.now
         (translation_of i))) (take first held.old.slots.items) ≡ false }
-    ensures { items_of held.new.slots.items ≡ map (λ i. settled_if (is_touched scheme roots.now
+    ensures few { AreFewGone held.new.slots.items }
+    ensures left { items_of held.new.slots.items ≡ map (λ i. settled_if (is_touched scheme roots.now
         (index_of address) ways.now (translation_of i)) (is_current_by (is_mapped scheme
         (T.words tables.now)) roots.now (translation_of i)) count i) (filter (is_kept_after scheme
         (T.words tables.now) satps.now roots.now (index_of address) ways.now)
@@ -268,7 +272,8 @@ fn settle_touched_from<T: Tables>(
         count,
         first,
     );
-    held.tidy(empty);
+    held.empty = add_empty(held.slots.as_slice(), held.empty, empty);
+    held.tidy();
 }
 
 /// With what the tables have now of those that the store concerns, and without those that can be

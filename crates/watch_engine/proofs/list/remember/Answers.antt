@@ -1,5 +1,5 @@
 use Rattle.std.specs.Prelude.{OnOk}
-use Rattle.std.proofs.Common.{rules, ◌≡◌, ◌∙◌, length, sym, ap, subst, arith, ◌++◌, ◌∷◌, [], List, get_or, set, vec_len}
+use Rattle.std.proofs.Common.{rules, ◌≡◌, ◌∙◌, length, sym, ap, subst, refl, arith, ◌++◌, ◌∷◌, [], List, get_or, set, vec_len}
 use Rattle.watch_engine.specs.declared.held.Held.{Held}
 use Rattle.watch_engine.specs.declared.slot.Slot.{Slot}
 use Rattle.watch_engine.specs.Held.{later, remembered}
@@ -8,6 +8,7 @@ use Rattle.watch_engine.specs.Keys.{key_of}
 use Rattle.watch_engine.specs.Slots.{items_of, key_in}
 use Rattle.watch_engine.proofs.Places.{none_placed, not_placed, placed}
 use Rattle.watch_engine.proofs.Emptying.{one_stays}
+use Rattle.watch_engine.proofs.EmptyPlaces.{gone_same}
 use Rattle.watch_engine.proofs.list.remember.Goals as goal
 
 pub returns-in_default-clause-ok : goal.returns-in_default-clause-ok
@@ -40,4 +41,5 @@ invariant_of-held c =
       by_page = one_stays Page _ slots c.in-Some.place old new c.args.held.now.by_page (ap (key_of Page) c.touch.ensures ∙ ap (key_in Page) read);
       by_frame = one_stays Frame _ slots c.in-Some.place old new c.args.held.now.by_frame (ap (key_of Frame) c.touch.ensures ∙ ap (key_in Frame) read);
       by_root = one_stays Root _ slots c.in-Some.place old new c.args.held.now.by_root (ap (key_of Root) c.touch.ensures ∙ ap (key_in Root) read);
+      counted = omega (arith, gone_same slots c.in-Some.place old new (read) refl, c.args.held.now.counted);
     }

@@ -1,14 +1,42 @@
-use Rattle.std.proofs.Common.{◌≡◌, ◌<◌, ◌∙◌, ap, length, sym, rules}
+use Rattle.std.specs.Prelude.{if◌then◌else◌}
+use Rattle.std.proofs.Common.{◌≡◌, ◌+◌, ◌<◌, ◌≤◌, ◌++◌, ◌∙◌, Bool, List, ap, append-nil, drop, length, map, set, suc, sym, take, arith, rules}
+use Rattle.std.proofs.lemmas.List.{drop_all, take_all}
 use Rattle.std.proofs.lemmas.List.Edits.{map_over_more}
 use Rattle.watch_engine.specs.declared.slot.Slot.{Slot}
 use Rattle.watch_engine.specs.Concerns.{concerns}
-use Rattle.watch_engine.specs.Slots.{turned}
+use Rattle.watch_engine.specs.Slots.{count_gone, turned}
+use Rattle.watch_engine.proofs.EmptyPlaces.{gone_front, gone_in}
+use Rattle.watch_engine.proofs.slots.drop_each.Goals.{then-drop_if, else-drop_if}
 use Rattle.watch_engine.proofs.slots.drop_each.Goals as goal
 
-pub loop-slot-preserved : goal.loop-slot-preserved
-loop-slot-preserved c =
-    let at = c.loop-slot.slot-index in
+pub loop-place-preserved : goal.loop-place-preserved
+loop-place-preserved c =
+    let at = c.loop-place.place in
     let within : at < length c.args.slots.now = search rules in
     let f : Slot → Slot = turned (λ i. i) (concerns c.args.concern.now) in
-    let new : c.drop_if.new.self ≡ f c.slot-item.result = c.drop_if.ensures ∙ ap f (sym c.slot-item.is) in
-    rw new (map_over_more f c.args.slots.now c.loop-slot.slots at c.slot-item.result within c.loop-slot.invariant c.slot-item.is)
+    let x : Slot = c.index-slots-place.result in
+    let new : c.drop_if.new.self ≡ f x = c.drop_if.ensures.slot ∙ ap f (sym c.index-slots-place.is) in
+    let counted : gone_in c.drop_if.new.self + c.loop-place.empty ≡ c.if-drop_if.empty = elim c.if-drop_if.branch [
+      | then-drop_if w ↦ ap (λ (b : Bool). (if b then 1 else 0) + c.loop-place.empty) (sym c.drop_if.ensures.empty ∙ w.if-drop_if.true) ∙ omega (arith, w.empty-is)
+      | else-drop_if w ↦ ap (λ (b : Bool). (if b then 1 else 0) + c.loop-place.empty) (sym c.drop_if.ensures.empty ∙ w.if-drop_if.false) ∙ omega (arith, w.empty-is)
+    ] in
+    let more = gone_front c.loop-place.slots at c.drop_if.new.self (search rules) in
+    let next : at + 1 ≡ suc at = omega arith in
+    let count : count_gone (take (at + 1) (set c.loop-place.slots at c.drop_if.new.self)) ≡ count_gone (take (suc at) (set c.loop-place.slots at c.drop_if.new.self)) = ap (λ n. count_gone (take n (set c.loop-place.slots at c.drop_if.new.self))) next in
+    record {
+      slots = rw new (map_over_more f c.args.slots.now c.loop-place.slots at x within c.loop-place.invariant.slots c.index-slots-place.is);
+      gone = omega (arith, c.loop-place.invariant.gone);
+      few = omega (arith, c.loop-place.invariant.few);
+    }
+
+pub returns-clause-slots : goal.returns-clause-slots
+returns-clause-slots c =
+    let f : Slot → Slot = turned (λ i. i) (concerns c.args.concern.now) in
+    let long : length c.args.slots.now ≤ c.loop-place.place = search rules in
+    c.loop-place.invariant.slots ∙ ((λ j. map f (take_all c.loop-place.place c.args.slots.now long j) ++ drop_all c.loop-place.place c.args.slots.now long j) ∙ append-nil (map f c.args.slots.now))
+
+pub returns-clause-gone : goal.returns-clause-gone
+returns-clause-gone c =
+    let all : take c.loop-place.place c.loop-place.slots ≡ c.loop-place.slots = take_all c.loop-place.place c.loop-place.slots (search rules) in
+    let count : count_gone (take c.loop-place.place c.loop-place.slots) ≡ count_gone c.loop-place.slots = ap (λ (l : List Slot). count_gone l) all in
+    omega (arith, c.loop-place.invariant.gone)

@@ -1,4 +1,4 @@
-use Rattle.std.proofs.Common.{ℕ, ◌≡◌, ◌+◌, ◌%◌, ◌∙◌, Bool, List, false, inl, inr, subst, sym, arith}
+use Rattle.std.proofs.Common.{ℕ, ◌≡◌, ◌≤◌, ◌+◌, ◌%◌, ◌∙◌, Bool, List, false, inl, inr, subst, sym, arith}
 use Rattle.std.specs.Prelude.{not}
 use Rattle.std.specs.List.{list_any}
 use Rattle.std.proofs.lemmas.Bool.{and_parts}
@@ -6,7 +6,7 @@ use Rattle.watch_engine.specs.declared.held.Held.{Held}
 use Rattle.watch_engine.specs.declared.keys.Keys.{Keys}
 use Rattle.watch_engine.specs.declared.slot.Slot.{Slot}
 use Rattle.watch_engine.specs.Concerns.{concerns}
-use Rattle.watch_engine.specs.Slots.{has, items_of, key_in}
+use Rattle.watch_engine.specs.Slots.{count_gone, has, items_of, key_in}
 use Rattle.watch_engine.proofs.Dropping.{filter_none}
 use Rattle.watch_engine.proofs.Emptying.{any_items, without_both}
 use Rattle.watch_engine.proofs.Walks.{below_or_is, keyed, none_among}
@@ -20,7 +20,9 @@ loop-offset-preserved c =
     let one = c.drop_with_key-in-loop-offset.ensures in
     let now : List Slot = c.drop_with_key-in-loop-offset.new.slots in
     let key : ℕ → ℕ = λ n. (keys.first + n) % keys.limit in
+    let more : count_gone now ≤ count_gone c.loop-offset.slots + c.in-Some-drop_with_key.more = one.gone c.in-Some-drop_with_key.more c.in-Some-drop_with_key.is in
     record {
+      gone = c.add_empty-empty.ensures (count_gone c.args.slots.now) (omega (arith, was.gone));
       without = without_both goes c.args.slots.now c.loop-offset.slots now was.without one.without;
       large = one.without.none keys.by keys.limit was.large;
       each = λ n h. elim (below_or_is n c.loop-offset.offset (omega arith)) [
@@ -39,3 +41,8 @@ returns-clause-left c = λ count is_count are.
     none_among (key_in keys.by) (has goes) keys.count (λ n. (keys.first + n) % keys.limit) keys.limit slots
     (λ n h. was.each n (omega arith)) was.large (λ s is. are s.item (and_parts (not s.is_gone) (goes s.item) is).1) in
     sym (filter_none goes (items_of slots) (sym (any_items goes slots) ∙ none)) ∙ was.without.left
+
+pub returns-clause-gone : goal.returns-clause-gone
+returns-clause-gone c = λ count is_count.
+    let same : c.loop-offset.empty ≡ count = cc in
+    omega (arith, c.loop-offset.invariant.gone)

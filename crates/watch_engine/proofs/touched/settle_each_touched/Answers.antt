@@ -1,5 +1,5 @@
-use Rattle.std.proofs.Common.{rules, ◌<◌, ◌≤◌, ◌≡◌, ◌∙◌, length, sym, ap, map, Bool, ◌++◌, append-nil, List, None, drop, get_or, take}
-use Rattle.std.specs.Prelude.{not}
+use Rattle.std.proofs.Common.{rules, arith, ◌+◌, ◌<◌, ◌≤◌, ◌≡◌, ◌∙◌, length, sym, ap, map, Bool, ◌++◌, append-nil, List, None, drop, get_or, take}
+use Rattle.std.specs.Prelude.{not, if◌then◌else◌}
 use Rattle.std.proofs.lemmas.List.{drop_all, take-append-drop, take_all}
 use Rattle.std.proofs.lemmas.List.Edits.{map_over_more}
 use Rattle.watch.specs.Computed.{is_mapped}
@@ -11,6 +11,8 @@ use Rattle.watch_engine.specs.Touched.{is_kept_after, is_touched, settled_if}
 use Rattle.watch.specs.ComputedTraces.{is_live_in}
 use Rattle.watch_engine.specs.Slots.{turned}
 use Rattle.watch_engine.proofs.Untouched.{same_slots}
+use Rattle.watch_engine.proofs.EmptyPlaces.{gone_in, gone_set}
+use Rattle.watch_engine.proofs.touched.settle_each_touched.Goals.{then-is_empty, else-is_empty}
 use Rattle.watch_engine.proofs.touched.settle_each_touched.Goals as goal
 
 pub loop-place-init : goal.loop-place-init
@@ -19,10 +21,13 @@ loop-place-init g c =
     let touch : Held → Bool = λ i. is_touched c.args.scheme c.args.roots.now (index_of c.args.address) c.args.ways.now (translation_of i) in
     let current : Held → Bool = λ i. is_current_by (is_mapped c.args.scheme words) c.args.roots.now (translation_of i) in
     let live : Held → Bool = λ i. is_live_in c.args.scheme words (get_or c.args.satps.now i.hart None) (translation_of i) in
-    let front : List Slot = take c.args.first c.args.slots.now in (
-      sym (ap (λ (l : List Slot). l ++ drop c.args.first c.args.slots.now) (same_slots touch current live c.args.count front c.requires.none) ∙ take-append-drop c.args.first c.args.slots.now),
-      tt,
-    )
+    let front : List Slot = take c.args.first c.args.slots.now in
+    record {
+      slots = sym (ap (λ (l : List Slot). l ++ drop c.args.first c.args.slots.now) (same_slots touch current live c.args.count front c.requires.none) ∙ take-append-drop c.args.first c.args.slots.now);
+      last = tt;
+      gone = omega arith;
+      few = omega arith;
+    }
 
 pub loop-place-preserved : goal.loop-place-preserved
 loop-place-preserved g c =
@@ -37,13 +42,21 @@ loop-place-preserved g c =
     let old = c.args.slots.now in
     let within : at < length old = search rules in
     let x : Slot = c.index-slots-place.result in
-    let new : c.settle_if-is_empty.new.self ≡ turn x = c.settle_if-is_empty.ensures.slot ∙ ap turn (sym c.index-slots-place.is) in (
-      rw new (map_over_more turn old c.loop-place.slots at x within c.loop-place.invariant.0 c.index-slots-place.is),
-      c.settle_if-is_empty.ensures.last,
-    )
+    let new : c.settle_if-is_empty.new.self ≡ turn x = c.settle_if-is_empty.ensures.slot ∙ ap turn (sym c.index-slots-place.is) in
+    let counted : gone_in c.settle_if-is_empty.new.self + c.loop-place.empty ≡ c.if-is_empty.empty = elim c.if-is_empty.branch [
+      | then-is_empty w ↦ ap (λ (b : Bool). (if b then 1 else 0) + c.loop-place.empty) (sym c.settle_if-is_empty.ensures.empty ∙ w.if-is_empty.true) ∙ omega (arith, w.empty-is)
+      | else-is_empty w ↦ ap (λ (b : Bool). (if b then 1 else 0) + c.loop-place.empty) (sym c.settle_if-is_empty.ensures.empty ∙ w.if-is_empty.false) ∙ omega (arith, w.empty-is)
+    ] in
+    let more = gone_set c.loop-place.slots at c.settle_if-is_empty.new.self in
+    record {
+      slots = rw new (map_over_more turn old c.loop-place.slots at x within c.loop-place.invariant.slots c.index-slots-place.is);
+      last = c.settle_if-is_empty.ensures.last;
+      gone = omega (arith, more, counted, c.loop-place.invariant.gone);
+      few = omega (arith, counted, c.loop-place.invariant.few);
+    }
 
-pub returns : goal.returns
-returns g c =
+pub returns-clause-slots : goal.returns-clause-slots
+returns-clause-slots g c =
     let words = g.T.Tables.words c.args.tables.now in
     let touch : Held → Bool = λ i. is_touched c.args.scheme c.args.roots.now (index_of c.args.address) c.args.ways.now (translation_of i) in
     let current : Held → Bool = λ i. is_current_by (is_mapped c.args.scheme words) c.args.roots.now (translation_of i) in
@@ -52,4 +65,4 @@ returns g c =
     let goes : Held → Bool = λ i. not (kept i) in
     let turn : Slot → Slot = turned f goes in
     let long : length c.args.slots.now ≤ c.loop-place.place = search rules in
-    c.loop-place.invariant.0 ∙ ((λ j. map turn (take_all c.loop-place.place c.args.slots.now long j) ++ drop_all c.loop-place.place c.args.slots.now long j) ∙ append-nil (map turn c.args.slots.now))
+    c.loop-place.invariant.slots ∙ ((λ j. map turn (take_all c.loop-place.place c.args.slots.now long j) ++ drop_all c.loop-place.place c.args.slots.now long j) ∙ append-nil (map turn c.args.slots.now))
