@@ -1,5 +1,5 @@
 -- How many places are empty.
-use Rattle.std.proofs.Common.{◌≡◌, ℕ, Bool, true, false, zero, suc, ◌+◌, ◌-◌, ◌<◌, ◌≤◌, List, [], ◌∷◌, ◌++◌, length, map, take, get_or, set, ap, ◌∙◌, refl, arith}
+use Rattle.std.proofs.Common.{◌≡◌, ℕ, Bool, true, false, zero, suc, ◌+◌, ◌<◌, ◌≤◌, List, [], ◌∷◌, ◌++◌, length, map, take, get_or, set, ap, ◌∙◌, refl, arith}
 use Rattle.std.specs.Prelude.{cond, filter, not, if◌then◌else◌}
 use Rattle.std.proofs.lemmas.List.{length-append, length-map, length-set, length-take-le}
 use Rattle.watch_engine.specs.declared.held.Held.{Held}

@@ -24,7 +24,7 @@ const FEW_EMPTY: usize = 16;
 /// How many steps along chains a look for items may take, however few places there are.
 const FEW_STEPS: usize = 16;
 
-/// Of how many places one pays a step along a chain.
+/// For how many places of the list one step along a chain may be taken.
 const CHAIN_SHARE: usize = 8;
 
 /// What harts may hold and the tables do not tell, with chains that find items by page, by frame and
@@ -34,7 +34,8 @@ const CHAIN_SHARE: usize = 8;
 #[derive(Drop)]
 pub(crate) struct HeldList {
     pub(crate) slots: Vec<Slot>,
-    /// How often a place was emptied or found empty since all were closed up, which so many steps pay.
+    /// How often a place was emptied or found empty since all were closed up, which so many steps pay:
+    /// no more than there are places.
     pub(crate) empty: usize,
     pub(crate) pages: Chains,
     pub(crate) frames: Chains,

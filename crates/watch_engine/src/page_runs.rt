@@ -18,8 +18,8 @@ use std::alloc::AllocError;
 /// How many translations of one page are worth a look at the harts of its items.
 const MANY: usize = 8;
 
-/// How many steps along a chain the look for the harts of a page may take. Each of its items is of
-/// another hart, or stands for another translation of one hart; a longer chain is one of many pages.
+/// How many steps along its chain the look for the harts of a page may take: enough for an item of each
+/// hart. A longer chain is mostly of other pages.
 const HARTS_STEPS: usize = 256;
 
 fn is_that_page(page: &Page, other: &Page) -> bool
@@ -38,7 +38,7 @@ fn add_hart_of(harts: &mut [bool; HARTS], page: &Page, slot: &Slot)
     }
 }
 
-// The harts of the items of a page: all count as such where they are not found in few steps.
+// The harts of the items of a page: all of them where its chain is long.
 fn harts_of(held: &HeldList, page: &Page) -> [bool; HARTS]
     ensures { AreHartsOf page.now (items_of held.now.slots.items) result }
 {

@@ -23,8 +23,8 @@ use pte::{PAGE_BYTES, Page, Scheme};
 use watch::Space;
 use watch_tables::Way;
 
-/// On how many ways items are looked for one way after the other, and on no more than steps along chains
-/// are left. With more, all items are gone along.
+/// Up to how many ways, and no more than there are steps, items are looked for by the keys of each way.
+/// With more ways the whole list is scanned.
 const FEW_WAYS: usize = 64;
 
 /// How many bytes a word of a table has.

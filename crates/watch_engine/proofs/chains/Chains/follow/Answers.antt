@@ -1,6 +1,5 @@
-use Rattle.std.proofs.Common.{◌≡◌, ◌<◌, ◌-◌, ◌∙◌, ℕ, List, get_or, length, sym, take, arith}
+use Rattle.std.proofs.Common.{◌≡◌, ◌<◌, ◌-◌, ◌∙◌, ℕ, List, get_or, length, sym, arith}
 use Rattle.std.proofs.lemmas.Grind.{get_or_default_zero}
-use Rattle.watch_engine.specs.Chains.{last_place}
 use Rattle.watch_engine.proofs.LastPlaces.{last_below, last_here, next}
 use Rattle.watch_engine.proofs.chains.Chains.follow.Goals as goal
 
