@@ -23,6 +23,9 @@ use watch_tables::RootLeaf;
 /// How many harts there can be.
 pub(crate) const HARTS: usize = 256;
 
+/// How many leaves below one word of a root are worth a look at the roots of the harts that left it.
+const MANY: usize = 16;
+
 /// Global leaves with the same entry.
 pub(crate) fn are_alike(leaf: &RootLeaf, other: &RootLeaf) -> bool
     ensures { result ≡ are_alike leaf.now other.now }
@@ -48,12 +51,13 @@ pub(crate) fn are_beside(scheme: Scheme, leaf: &RootLeaf, other: &RootLeaf) -> b
         && index_in_root(scheme, leaf) == index_in_root(scheme, other)
 }
 
-/// The leaf at a place and the next one are such leaves.
+/// The leaf at a place and the one `MANY - 1` places further on are such leaves, and so most often are
+/// those between: many enough to be worth a look at the root of each hart that left.
 pub(crate) fn begins_beside(scheme: Scheme, leaves: &[RootLeaf], at: usize) -> bool
     requires { at < length leaves.now }
     ensures { IsTrue result → (d : RootLeafOf) → (get_or leaves.now at d).entry.global ≡ true }
 {
-    at + 1 < leaves.len() && are_beside(scheme, &leaves[at], &leaves[at + 1])
+    leaves.len() - at >= MANY && are_beside(scheme, &leaves[at], &leaves[at + MANY - 1])
 }
 
 /// There is a space, and its root has the word of this root at the index.
