@@ -123,7 +123,7 @@ impl FrameTable {
     fn hinted_place(&self, ppn: u64) -> Option<usize>
         ensures { IfSome result (λ place. get nat_cmp self.now.places ppn ≡ Some place) }
     {
-        self.place_if_of(ppn, self.hints.get(ppn))
+        self.place_if_of(ppn, self.hints.get(ppn) as usize)
     }
 
     /// The place of a PPN that is not hinted first: where it is hinted second, or else by the map.
@@ -135,7 +135,7 @@ impl FrameTable {
         if self.hints.get(ppn) == NO_PLACE {
             return None;
         }
-        if let Some(place) = self.place_if_of(ppn, self.hints.second(ppn)) {
+        if let Some(place) = self.place_if_of(ppn, self.hints.second(ppn) as usize) {
             return Some(place);
         }
         match self.places.get(&ppn) {

@@ -7,7 +7,7 @@ use crate::frame_table::PlacedFrame;
 use std::alloc::Global;
 
 /// What stands where no frame is hinted.
-pub(crate) const NO_PLACE: usize = usize::MAX;
+pub(crate) const NO_PLACE: u32 = u32::MAX;
 
 /// How many hints the first frame makes.
 const FIRST_HINTS: usize = 16;
@@ -20,10 +20,10 @@ const HINTS_EACH: usize = 8;
 pub(crate) const SPREAD: u64 = 0x9e37_79b9_7f4a_7c15;
 
 /// For each hash of a PPN a place where a frame of such a PPN may stand, or `NO_PLACE` where there is no
-/// such frame.
+/// such frame. Places beyond those of 32 bits are not hinted.
 #[derive(Drop)]
 pub(crate) struct Hints {
-    places: Vec<usize>,
+    places: Vec<u32>,
     // how many frames have gone since the hints were made anew
     gone: usize,
 }
@@ -42,14 +42,14 @@ fn hash_of(count: usize, ppn: u64) -> usize
 /// Makes a place the first hint of a PPN, if there are hints. The hint that stood there goes to the
 /// second, if that is free. Where the first is that place already, or the second is and the first stands
 /// for another frame, nothing is done.
-fn set(places: &mut [usize], ppn: u64, place: usize)
+fn set(places: &mut [u32], ppn: u64, place: usize)
     ensures own { IsIn places.new ppn }
     ensures kept { (k : ℕ) → IsIn places.old k → IsIn places.new k }
 {
     if places.is_empty() {
         return;
     }
-    let place = place.min(NO_PLACE - 1);
+    let place = place.min(NO_PLACE as usize - 1) as u32;
     let first = hash_of(places.len(), ppn);
     let second = first ^ 1;
     let old = places[first];
@@ -75,7 +75,7 @@ impl Hints {
 
     /// A place where the frame of a PPN may stand; `NO_PLACE` where there is none.
     #[inline(always)]
-    pub(crate) fn get(&self, ppn: u64) -> usize
+    pub(crate) fn get(&self, ppn: u64) -> u32
         ensures { result ≡ NO_PLACE → ¬ IsHinted self.now ppn }
     {
         if self.places.is_empty() {
@@ -86,7 +86,7 @@ impl Hints {
 
     /// The second hint of a PPN: another place where its frame may stand, or `NO_PLACE` where that hint
     /// is free; 0 where there is no second hint.
-    pub(crate) fn second(&self, ppn: u64) -> usize {
+    pub(crate) fn second(&self, ppn: u64) -> u32 {
         if self.places.is_empty() {
             return 0;
         }
