@@ -116,7 +116,7 @@ of_own scheme (Some rs1) (Some rs2) of e aligned is =
     let parts = and_parts (is_of_address scheme rs1 e) (is_of_space rs2 e) is in
     of_page scheme rs1 (Some rs2) e (of_address scheme rs1 e aligned parts.0) parts.1
 
--- a fence that drops an entry of a page of 4 KiB has one of its keys
+-- a fence that drops an entry has one of the keys of its page, whatever the page's size
 concerns : (scheme : Scheme) (l : Left) (e : Entry) (fence : PastFence) → IsAligned e
     → takes scheme l e fence ≡ true → Concerns e (fence_key e.page.size fence)
 concerns scheme l e (Own of rs1 rs2) aligned is =
@@ -171,7 +171,7 @@ either_of : (a b t : Bool) → (a ≡ true → t ≡ true) → (b ≡ true → t
 either_of true b t x y is = x refl
 either_of false b t x y is = y is
 
--- a fence drops an entry of a page of 4 KiB if it has one of the four keys and drops it
+-- a fence drops an entry if it has one of the four keys of its page and drops it
 one_fence : (scheme : Scheme) (l : Left) (e : Entry) (fence : PastFence) → IsAligned e
     → takes scheme l e fence
     ≡ ((takes_by (address_key e.page.size e.page.base None) scheme l e fence

@@ -21,7 +21,8 @@ use pte::{PAGE_BYTES, Scheme, TABLE_LENGTH};
 use watch::{AddressRange, Frames};
 use watch_tables::Way;
 
-/// How many pages or frames are looked for one by one. With more, the whole list is gone along.
+/// Up to so many frames are looked up by their keys, and ranges that are a page shorter, since these
+/// reach no more pages. For more, the list is scanned.
 const FEW: u64 = 8;
 
 /// What a record can concern.
