@@ -1,5 +1,5 @@
 -- Where the first of two bytes stands.
-use Rattle.std.proofs.Common.{◌≡◌, ℕ, ◌+◌, ◌-◌, ◌%◌, ◌^◌, ◌<◌, ◌≤◌, Bool, true, false, not, ◌||◌, cond, eqb, List, [], ◌∷◌, length, take, drop, map, replicate, get_or, refl, sym, ap, ◌∙◌, add_assoc, subst, inl, inr, arith}
+use Rattle.std.proofs.Common.{◌≡◌, ℕ, ◌+◌, ◌%◌, ◌^◌, ◌<◌, ◌≤◌, Bool, true, false, not, ◌||◌, cond, eqb, List, [], ◌∷◌, length, take, drop, map, replicate, get_or, refl, sym, ap, ◌∙◌, add_assoc, subst, inl, inr, arith}
 use Rattle.std.specs.Prelude.{bit_or}
 use Rattle.std.specs.List.{position_or_len}
 use Rattle.std.specs.Simd.Lanes.{mask_l, top, zip2}

@@ -1,5 +1,5 @@
 -- A line in front of a text.
-use Rattle.std.proofs.Common.{◌≡◌, ◌≢◌, ℕ, ◌+◌, ◌<◌, Bool, true, false, List, [], ◌∷◌, ◌++◌, All, Option, None, Some, IfSome, cond, eqb, length, take, get_or, refl, sym, ap, subst, ◌∙◌, append_assoc, ne_eqb, eq-eqb, eqb-true, arith, zero-le, get_or-take, length-take-le}
+use Rattle.std.proofs.Common.{◌≡◌, ◌≢◌, ℕ, ◌+◌, ◌<◌, Bool, true, false, List, [], ◌∷◌, ◌++◌, All, Option, None, Some, IfSome, cond, eqb, length, take, get_or, refl, sym, ap, subst, ◌∙◌, append_assoc, ne_eqb, eq-eqb, eqb-true, arith, get_or-take, length-take-le}
 use Rattle.std.specs.List.{position_or_len}
 use Rattle.std.specs.Io.KnownBytes.{Consumes, IsAtEnd, Keeps}
 use Rattle.std.specs.Io.BufRead.{take_through, drop_through, DropsThrough}

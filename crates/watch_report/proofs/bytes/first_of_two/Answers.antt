@@ -1,4 +1,4 @@
-use Rattle.std.proofs.Common.{◌≡◌, ◌+◌, ◌-◌, ◌≤◌, length, arith}
+use Rattle.std.proofs.Common.{◌-◌, ◌≤◌, length, arith}
 use Rattle.watch_report.specs.Bytes.{is_either}
 use Rattle.watch_report.proofs.FirstBytes.{first_in_block, none_in_block}
 use Rattle.watch_report.proofs.bytes.first_of_two.Goals as goal
