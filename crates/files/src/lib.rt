@@ -3,7 +3,8 @@
 //!
 //! `read_walk`, `read_run` and `read_live` answer what the text of a file for `walk`, `run` and
 //! `live` asks for, and `walk_scenario_in`, `run_scenario_in` and `live_scenario_in` the same of a
-//! document that was parsed already. Nothing is run: what comes of a scenario is in the crate `scenario`.
+//! document that was parsed already. Nothing is run: what comes of a scenario is in the crate
+//! `scenario`.
 #![tactic(auto)]
 
 mod documents;
