@@ -240,8 +240,8 @@ impl Recorder {
         }
     }
 
-    /// Ends the bars of mappings that are stale no more after a step: only TLBs of which the step can
-    /// end one are asked.
+    /// Ends the bars of mappings that are stale no more after a step: only TLBs of which the step
+    /// can end one are asked.
     fn note_drops(
         &mut self,
         machine: &Machine,

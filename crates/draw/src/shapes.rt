@@ -90,7 +90,6 @@ fn push_decimal(svg: &mut String, n: u64) -> Result<(), AllocError>
 }
 
 /// Adds a number after what stands before it.
-#[inline(always)]
 #[tactic(auto, unfolding(crate::specs::Shapes::after))]
 fn push_after(svg: &mut String, before: &str, n: u64) -> Result<(), AllocError>
     ensures ok { OnOk result (string_bytes svg.new ≡ string_bytes svg.old ++ after before.now n) }
@@ -100,7 +99,6 @@ fn push_after(svg: &mut String, before: &str, n: u64) -> Result<(), AllocError>
 }
 
 /// Adds an element up to its class.
-#[inline(always)]
 #[tactic(auto, unfolding(crate::specs::Shapes::opening))]
 fn push_class(svg: &mut String, element: &str, class: &str) -> Result<(), AllocError>
     ensures ok { OnOk result (string_bytes svg.new ≡ string_bytes svg.old
@@ -111,7 +109,6 @@ fn push_class(svg: &mut String, element: &str, class: &str) -> Result<(), AllocE
 }
 
 /// Adds a place, after what stands before each of its numbers.
-#[inline(always)]
 fn push_place(svg: &mut String, x: &str, y: &str, at: Point) -> Result<(), AllocError>
     ensures ok { OnOk result (string_bytes svg.new ≡ string_bytes svg.old ++ after x.now at.x
         ++ after y.now at.y) }

@@ -1,5 +1,5 @@
-//! Writes a recorded run as an SVG document, in the form that this had before rows, heads and labels
-//! were written in fewer pieces. Tests compare pictures with those of it.
+//! Writes a recorded run as an SVG document, one piece after another. Tests compare with its pictures
+//! those whose rows, heads and labels are written in fewer pieces.
 
 ghost use Rattle.std.specs.Prelude.{◌<◌, ◌^◌};
 

@@ -1,11 +1,11 @@
-//! The words of steps and replies in the form that they had before they were written in pieces. Tests
-//! compare texts with these.
+//! The words of steps, written one by one. Tests compare with these the texts that are written in
+//! fewer pieces.
 
 use bitflags::Flags;
-use history::{Refusal, Scope};
-use lines::{push_hexadecimal, size_word, why_word};
-use pte::{Access, Ctx, MAX_HARTS, Mode, Page, PteFlags, What};
-use shoot::{HartSet, Request};
+use history::Scope;
+use lines::{push_harts, push_hexadecimal, push_page, push_reply};
+use pte::{Access, Ctx, Mode, Page, PteFlags};
+use shoot::HartSet;
 use spaces::Place;
 use std::alloc::AllocError;
 use stepcore::{Event, Reply};
@@ -162,134 +162,6 @@ fn push_event(text: &mut String, event: &Event) -> Result<(), AllocError> {
         Event::Reclaim { space, .. } => write!(text, "reclaim {space}"),
         Event::Create { space, asid, .. } => write!(text, "create {space} {asid}"),
         _ => push_edit(text, event),
-    }
-}
-
-fn refusal_word(refusal: Refusal) -> &'static str {
-    match refusal {
-        Refusal::NoHart => "NoHart",
-        Refusal::NoSpace => "NoSpace",
-        Refusal::NotHome => "NotHome",
-        Refusal::WrongHalf => "WrongHalf",
-        Refusal::BadFlags => "BadFlags",
-        Refusal::PpnTooLarge => "PpnTooLarge",
-        Refusal::Misaligned => "Misaligned",
-        Refusal::AlreadyMapped => "AlreadyMapped",
-        Refusal::LeafInWay => "LeafInWay",
-        Refusal::TableInWay => "TableInWay",
-        Refusal::NoFrame => "NoFrame",
-        Refusal::NotMapped => "NotMapped",
-        Refusal::WrongSize => "WrongSize",
-        Refusal::HomeNotNamed => "HomeNotNamed",
-        Refusal::NoTicket => "NoTicket",
-        Refusal::NotOpen => "NotOpen",
-        Refusal::NotNamed => "NotNamed",
-        Refusal::AlreadyPosted => "AlreadyPosted",
-        Refusal::Closed => "Closed",
-        Refusal::Full => "Full",
-        Refusal::Empty => "Empty",
-        Refusal::Walking => "Walking",
-        Refusal::NotWalking => "NotWalking",
-        Refusal::Serving => "Serving",
-        Refusal::NotServing => "NotServing",
-        Refusal::NotFenced => "NotFenced",
-        Refusal::NotDone => "NotDone",
-        Refusal::Retiring => "Retiring",
-        Refusal::InUse => "InUse",
-        Refusal::NotAcked => "NotAcked",
-        Refusal::NotRetiring => "NotRetiring",
-        Refusal::NotFree => "NotFree",
-        Refusal::AsidInUse => "AsidInUse",
-    }
-}
-
-/// Adds a hart, after a comma where it is not the first.
-fn push_hart(text: &mut String, is_first: bool, hart: u8) -> Result<(), AllocError> {
-    if is_first {
-        write!(text, "{hart}")
-    } else {
-        write!(text, ",{hart}")
-    }
-}
-
-/// Adds the harts of a set, ascending, with commas between them.
-fn push_harts(text: &mut String, set: HartSet) -> Result<(), AllocError> {
-    let mut is_first = true;
-    for hart in 0..MAX_HARTS as u8 {
-        if set.contains(hart) {
-            push_hart(text, is_first, hart)?;
-            is_first = false;
-        }
-    }
-    Ok(())
-}
-
-/// Adds a page: its size and its base, as `2M:0x400000`.
-fn push_page(text: &mut String, page: Page) -> Result<(), AllocError> {
-    let size = size_word(page.size());
-    let base = page.base().get();
-    write!(text, "{size}:0x{base:x}")
-}
-
-/// Adds where a page is dropped.
-fn push_reach(text: &mut String, asid: Option<u16>) -> Result<(), AllocError> {
-    match asid {
-        Some(asid) => write!(text, "asid {asid}"),
-        None => text.push_str("global"),
-    }
-}
-
-/// Adds what a request asks to drop.
-fn push_what(text: &mut String, what: What) -> Result<(), AllocError> {
-    match what {
-        What::PageOf(page, asid) => {
-            text.push_str("page ")?;
-            push_page(text, page)?;
-            text.push_str(" ")?;
-            push_reach(text, asid)
-        }
-        What::SpaceOf(asid) => write!(text, "asid {asid}"),
-        What::All => text.push_str("all"),
-    }
-}
-
-fn push_request(text: &mut String, request: Request) -> Result<(), AllocError> {
-    let ticket = request.ticket;
-    write!(text, "taken {ticket} ")?;
-    push_what(text, request.what)
-}
-
-/// Adds the text of a reply.
-fn push_reply(text: &mut String, reply: Reply) -> Result<(), AllocError> {
-    match reply {
-        Reply::Hit(pa) => {
-            text.push_str("hit 0x")?;
-            push_hexadecimal(text, pa)
-        }
-        Reply::Trap(trap) => {
-            let cause = trap.cause;
-            let why = why_word(trap.why);
-            write!(text, "trap {cause} {why}")
-        }
-        Reply::More => text.push_str("more"),
-        Reply::Filled(pa) => {
-            text.push_str("fill 0x")?;
-            push_hexadecimal(text, pa)
-        }
-        Reply::Table(ppn) => write!(text, "table 0x{ppn:x}"),
-        Reply::Leaf => text.push_str("leaf"),
-        Reply::Opened(ticket) => write!(text, "opened {ticket}"),
-        Reply::Ok => text.push_str("ok"),
-        Reply::Taken(request) => push_request(text, request),
-        Reply::Done => text.push_str("done"),
-        Reply::Waiting(left) => {
-            text.push_str("waiting ")?;
-            push_harts(text, HartSet::from(left))
-        }
-        Reply::Refused(refusal) => {
-            text.push_str("refused ")?;
-            text.push_str(refusal_word(refusal))
-        }
     }
 }
 

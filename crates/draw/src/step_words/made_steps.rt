@@ -1,4 +1,4 @@
-//! The texts of made steps and replies are those that they were at the start.
+//! The texts of made steps and replies are those whose steps are written word by word.
 
 use super::{at_start, push_step};
 use crate::random::Random;
