@@ -1,5 +1,5 @@
 -- The first word of a text, and what stands after it.
-use Rattle.std.proofs.Common.{◌≡◌, ℕ, ◌+◌, ◌<◌, ◌≤◌, suc, Bool, true, false, not, List, [], ◌∷◌, length, take, drop, get_or, nat_lt, Some, None, if◌then◌else◌, refl, sym, ap, subst, ◌∙◌, arith}
+use Rattle.std.proofs.Common.{◌≡◌, ℕ, ◌+◌, ◌<◌, ◌≤◌, suc, Bool, true, false, not, List, [], ◌∷◌, length, take, drop, get_or, nat_lt, Some, None, if◌then◌else◌, refl, sym, ap, subst, ◌∙◌, arith, length-drop}
 use Rattle.std.specs.List.{AllByRecursion, position_or_len}
 use Rattle.std.specs.Option.{unwrap_or}
 use Rattle.std.proofs.lemmas.Bool.Decides.{nat_tests}
@@ -54,15 +54,24 @@ word_ends (b ∷ text) = by_test (is_blank b) refl (word_ends text)
     by_test true e h = subst (EndsAt (b ∷ text)) (sym (word_len-blank b text e)) (tt, e)
     by_test false e h = subst (EndsAt (b ∷ text)) (sym (word_len-plain b text e)) ((e, h.0), h.1)
 
--- the first word, and what stands after it, where no blank stands in front
-plain_splits : (text : List ℕ) → 0 < length text → is_blank (get_or text 0 0) ≡ false → words_of text ≡ take (word_len text) text ∷ words_of (drop (word_len text) text)
+-- the first word, and what stands after it
+pub record Splits (text word rest : List ℕ) : Type 0 where
+  pub words : words_of text ≡ word ∷ words_of rest
+  pub shorter : length rest < length text
+
+-- where no blank stands in front
+plain_splits : (text : List ℕ) → 0 < length text → is_blank (get_or text 0 0) ≡ false → Splits text (take (word_len text) text) (drop (word_len text) text)
 plain_splits [] some e = absurd (omega arith)
 plain_splits (b ∷ text) some e =
     let ends = word_ends (b ∷ text) in
     let n = word_len-plain b text e in
     let word : 0 < length (take (word_len (b ∷ text)) (b ∷ text)) = subst (λ n. 0 < length (take n (b ∷ text))) (sym n) (omega arith) in
-    ap words_of (sym (take-append-drop (word_len (b ∷ text)) (b ∷ text)))
-    ∙ words_of-word (take (word_len (b ∷ text)) (b ∷ text)) (drop (word_len (b ∷ text)) (b ∷ text)) (word, ends.0) ends.1
+    record {
+      words =
+          ap words_of (sym (take-append-drop (word_len (b ∷ text)) (b ∷ text)))
+          ∙ words_of-word (take (word_len (b ∷ text)) (b ∷ text)) (drop (word_len (b ∷ text)) (b ∷ text)) (word, ends.0) ends.1;
+      shorter = subst (λ n. length (drop n (b ∷ text)) < length (b ∷ text)) (sym n) (omega (arith, length-drop (word_len text) text));
+    }
 
 not_false : (b : Bool) → not b ≡ true → b ≡ false
 not_false b h = grind arith
@@ -76,7 +85,7 @@ pub word_before_blank : (text : List ℕ) (end : ℕ) → 0 < length text → is
     → ((k : ℕ) → k < end → is_blank (get_or text k 0) ≡ false) → is_blank (get_or text end 0) ≡ true → words_of text ≡ take end text ∷ words_of (drop end text)
 word_before_blank text end some plain less before blank =
     let is : word_len text ≡ end = position_or_len_is is_blank text end 0 (omega arith) before (λ _. blank) in
-    subst (λ n. words_of text ≡ take n text ∷ words_of (drop n text)) is plain_splits text some plain
+    subst (λ n. words_of text ≡ take n text ∷ words_of (drop n text)) is (plain_splits text some plain).words
 
 -- the one word of a text without a blank
 pub word_to_end : (text : List ℕ) → 0 < length text → is_blank (get_or text 0 0) ≡ false → ((k : ℕ) → k < length text → is_blank (get_or text k 0) ≡ false) → words_of text ≡ text ∷ []
@@ -84,7 +93,7 @@ word_to_end text some plain each =
     let is : word_len text ≡ length text = position_or_len_is is_blank text (length text) 0 (omega arith) each (λ less. absurd (omega (arith, less))) in
     let word : take (word_len text) text ≡ text = take_all (word_len text) text (omega (arith, is)) in
     let rest : drop (word_len text) text ≡ [] = drop_all (word_len text) text (omega (arith, is)) in
-    plain_splits text some plain ∙ rw (word, rest) refl
+    (plain_splits text some plain).words ∙ rw (word, rest) refl
 
 -- the byte that stands after all blanks in front is none
 pub plain_front : (text : List ℕ) → blank_len text < length text → is_blank (get_or (drop (blank_len text) text) 0 0) ≡ false
