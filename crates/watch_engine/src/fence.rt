@@ -36,10 +36,11 @@ fn is_of_space(entry: &Entry, rs2: u64) -> bool
 fn is_of_address(scheme: Scheme, rs1: u64, entry: &Entry) -> bool
     ensures { result ≡ is_of_address scheme rs1 entry.now }
 {
-    let Some(va) = VirtAddr::new_in(scheme, rs1) else {
+    let base = entry.page.base().get();
+    if rs1 < base || rs1 - base >= entry.page.size().bytes() {
         return false;
-    };
-    entry.page.contains(va)
+    }
+    VirtAddr::new_in(scheme, rs1).is_some()
 }
 
 pub(crate) fn is_fenced(scheme: Scheme, rs1: Option<u64>, rs2: Option<u64>, entry: &Entry) -> bool

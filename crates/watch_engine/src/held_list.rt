@@ -22,7 +22,7 @@ use std::alloc::{AllocError, Global};
 const FEW_EMPTY: usize = 16;
 
 /// How many steps along chains a look for items may take, however few places there are.
-const FEW_STEPS: usize = 64;
+const FEW_STEPS: usize = 16;
 
 /// For how many places of the list one step along a chain may be taken.
 const CHAIN_SHARE: usize = 8;
