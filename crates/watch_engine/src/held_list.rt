@@ -25,7 +25,7 @@ const FEW_EMPTY: usize = 16;
 const FEW_STEPS: usize = 16;
 
 /// For how many places of the list one step along a chain may be taken.
-const CHAIN_SHARE: usize = 8;
+const CHAIN_SHARE: usize = 32;
 
 /// What harts may hold and the tables do not tell, with chains that find items by page, by frame and
 /// by root. An item that goes leaves its place empty, so that nothing moves and no chain changes; all
@@ -183,7 +183,7 @@ impl HeldList {
     }
 
     /// How many steps a look for items may take along chains. A step along a chain is dearer than one
-    /// along the list: with so few, a look that gives up adds about half to the scan of the list that
+    /// along the list: with so few, a look that gives up adds about a third to the scan of the list that
     /// takes its place.
     pub(crate) fn chain_steps(&self) -> usize {
         FEW_STEPS + self.slots.len() / CHAIN_SHARE
