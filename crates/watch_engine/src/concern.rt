@@ -1,6 +1,6 @@
 //! What a record can concern of what harts may hold.
 
-ghost use Rattle.std.specs.Prelude.{◌≡◌, ◌+◌, ◌%◌, ◌<◌, ◌^◌, Option, Some, ℕ, true};
+ghost use Rattle.std.specs.Prelude.{◌≡◌, ◌+◌, ◌/◌, ◌%◌, ◌<◌, ◌≤◌, ◌^◌, Option, Some, ℕ, true};
 ghost use Rattle.watch_engine.specs.Concerns.{concerns};
 ghost use Rattle.watch_engine.specs.declared.held.Held.{Held as HeldOf};
 ghost use Rattle.watch_engine.specs.declared.keys.Keys.{Keys as KeysOf};
@@ -14,7 +14,7 @@ ghost use Rattle.watch_engine.specs.Keys.{AreSmall, IsAmong, key_of};
 
 use crate::cause::Cause;
 use crate::held::Held;
-use crate::keys::{By, FRAME_LIMIT, Keys, PAGE_LIMIT};
+use crate::keys::{By, FRAME_LIMIT, Keys, MEGAPAGE_PAGES, PAGE_LIMIT};
 use crate::open::{OpenClaim, OpenFence};
 use crate::touched::{index_of, is_below};
 use pte::{PAGE_BYTES, Scheme, TABLE_LENGTH};
@@ -52,15 +52,37 @@ pub(crate) enum Concern {
     },
 }
 
-// The keys of pages of 4 KiB from a number on.
+// The keys of pages of 4 KiB from a number on, and of the megapages that these lie in.
 fn of_pages(first: u64, count: u64) -> Keys
-    ensures { result ≡ record { by = By.Page; first = first; count = count; limit = 2 ^ 27 } }
+    requires { count ≤ 8 }
+    ensures { result ≡ record {
+      by = By.Page;
+      first = first;
+      count = count;
+      limit = 2 ^ 27;
+      megapages
+          = (first % 512 + count + 511) / 512;
+    } }
 {
     Keys {
         by: By::Page,
         first,
         count,
         limit: PAGE_LIMIT,
+        megapages: (first % MEGAPAGE_PAGES + count + (MEGAPAGE_PAGES - 1)) / MEGAPAGE_PAGES,
+    }
+}
+
+// The key of one page of 4 KiB.
+fn of_page(page: u64) -> Keys
+    ensures { result ≡ record { by = By.Page; first = page; count = 1; limit = 2 ^ 27; megapages = 0 } }
+{
+    Keys {
+        by: By::Page,
+        first: page,
+        count: 1,
+        limit: PAGE_LIMIT,
+        megapages: 0,
     }
 }
 
@@ -107,18 +129,20 @@ fn keys_of_frames(frames: &Frames) -> Option<Keys>
         first: frames.first % FRAME_LIMIT,
         count: frames.count,
         limit: FRAME_LIMIT,
+        megapages: 0,
     })
 }
 
 // The key of what came from a root.
 fn of_root(root: u64) -> Keys
-    ensures { result ≡ record { by = By.Root; first = root % 2 ^ 52; count = 1; limit = 2 ^ 52 + 1 } }
+    ensures { result ≡ record { by = By.Root; first = root % 2 ^ 52; count = 1; limit = 2 ^ 52 + 1; megapages = 0 } }
 {
     Keys {
         by: By::Root,
         first: root % FRAME_LIMIT,
         count: 1,
         limit: FRAME_LIMIT + 1,
+        megapages: 0,
     }
 }
 
@@ -163,8 +187,9 @@ fn keys_of_cause(cause: &Cause) -> Option<Keys>
     }
 }
 
-// The keys of what lies below a word on a way. On a way of a higher level from what is a root now, what
-// is global counts whatever its root, so the whole list is gone along.
+// The keys of what lies below a word on a way: on one of the lowest level a page of 4 KiB. On one of a
+// higher level from what is a root now, what is global counts whatever its root, so the whole list is gone
+// along.
 fn keys_of_store(address: u64, way: &Way, is_root: bool) -> Option<Keys>
     ensures all { (keys : KeysOf) → result ≡ Some keys → (scheme : SchemeOf) (i : HeldOf)
         → concerns (Concern.Store scheme address way.now is_root) i ≡ true
@@ -174,7 +199,7 @@ fn keys_of_store(address: u64, way: &Way, is_root: bool) -> Option<Keys>
     if way.level == 0 {
         let pages = PAGE_LIMIT / u64::from(TABLE_LENGTH);
         let first = way.vpn % pages * u64::from(TABLE_LENGTH) + u64::from(index_of(address));
-        return Some(of_pages(first, 1));
+        return Some(of_page(first));
     }
     if is_root {
         return None;

@@ -223,9 +223,8 @@ impl HeldList {
         ensures within { result ≤ length self.now.slots.items }
     {
         let mut first = self.first_with(keys.by, keys.limit, concern, steps);
-        for offset in 0..keys.count {
-            let key = (keys.first + offset) % keys.limit;
-            let place = self.first_with(keys.by, key, concern, steps);
+        for offset in 0..keys.len() {
+            let place = self.first_with(keys.by, keys.key(offset), concern, steps);
             if place < first {
                 first = place;
             }

@@ -76,8 +76,8 @@ pub(crate) fn drop_with_keys(
     let Some(mut empty) = drop_with_key(slots, chains, keys.by, keys.limit, concern, steps) else {
         return None;
     };
-    for offset in 0..keys.count {
-        let key = (keys.first + offset) % keys.limit;
+    for offset in 0..keys.len() {
+        let key = keys.key(offset);
         let Some(more) = drop_with_key(slots, chains, keys.by, key, concern, steps) else {
             return None;
         };

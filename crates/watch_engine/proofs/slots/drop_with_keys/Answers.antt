@@ -1,4 +1,4 @@
-use Rattle.std.proofs.Common.{ℕ, ◌≡◌, ◌≤◌, ◌+◌, ◌%◌, ◌∙◌, Bool, List, false, inl, inr, subst, sym, arith}
+use Rattle.std.proofs.Common.{ℕ, ◌≡◌, ◌≤◌, ◌+◌, ◌∙◌, Bool, List, false, inl, inr, subst, sym, arith}
 use Rattle.std.specs.Prelude.{not}
 use Rattle.std.specs.List.{list_any}
 use Rattle.std.proofs.lemmas.Bool.{and_parts}
@@ -6,6 +6,7 @@ use Rattle.watch_engine.specs.declared.held.Held.{Held}
 use Rattle.watch_engine.specs.declared.keys.Keys.{Keys}
 use Rattle.watch_engine.specs.declared.slot.Slot.{Slot}
 use Rattle.watch_engine.specs.Concerns.{concerns}
+use Rattle.watch_engine.specs.Keys.{key_at}
 use Rattle.watch_engine.specs.Slots.{count_gone, has, items_of, key_in}
 use Rattle.watch_engine.proofs.Dropping.{filter_none}
 use Rattle.watch_engine.proofs.Emptying.{any_items, without_both}
@@ -19,15 +20,17 @@ loop-offset-preserved c =
     let was = c.loop-offset.invariant in
     let one = c.drop_with_key-in-loop-offset.ensures in
     let now : List Slot = c.drop_with_key-in-loop-offset.new.slots in
-    let key : ℕ → ℕ = λ n. (keys.first + n) % keys.limit in
+    let key : ℕ → ℕ = key_at keys in
     let more : count_gone now ≤ count_gone c.loop-offset.slots + c.in-Some-drop_with_key.more = one.gone c.in-Some-drop_with_key.more c.in-Some-drop_with_key.is in
+    let here : list_any (keyed (key_in keys.by) (key c.loop-offset.offset) (has goes)) now ≡ false =
+    subst (λ (k : ℕ). list_any (keyed (key_in keys.by) k (has goes)) now ≡ false) c.key-key.ensures (one.none c.in-Some-drop_with_key.more c.in-Some-drop_with_key.is) in
     record {
       gone = c.add_empty-empty.ensures (count_gone c.args.slots.now) (omega (arith, was.gone));
       without = without_both goes c.args.slots.now c.loop-offset.slots now was.without one.without;
       large = one.without.none keys.by keys.limit was.large;
       each = λ n h. elim (below_or_is n c.loop-offset.offset (omega arith)) [
         | inl low ↦ one.without.none keys.by (key n) (was.each n low)
-        | inr is ↦ subst (λ (m : ℕ). list_any (keyed (key_in keys.by) (key m) (has goes)) now ≡ false) (sym is) (one.none c.in-Some-drop_with_key.more c.in-Some-drop_with_key.is)
+        | inr is ↦ subst (λ (m : ℕ). list_any (keyed (key_in keys.by) (key m) (has goes)) now ≡ false) (sym is) here
       ];
     }
 
@@ -38,7 +41,7 @@ returns-clause-left c = λ count is_count are.
     let slots : List Slot = c.loop-offset.slots in
     let was = c.loop-offset.invariant in
     let none : list_any (has goes) slots ≡ false =
-    none_among (key_in keys.by) (has goes) keys.count (λ n. (keys.first + n) % keys.limit) keys.limit slots
+    none_among (key_in keys.by) (has goes) (keys.count + keys.megapages) (key_at keys) keys.limit slots
     (λ n h. was.each n (omega arith)) was.large (λ s is. are s.item (and_parts (not s.is_gone) (goes s.item) is).1) in
     sym (filter_none goes (items_of slots) (sym (any_items goes slots) ∙ none)) ∙ was.without.left
 

@@ -1,6 +1,7 @@
-use Rattle.std.proofs.Common.{ℕ, ◌≡◌, ◌<◌, ◌≤◌, ◌+◌, ◌%◌, false, length, take}
+use Rattle.std.proofs.Common.{ℕ, ◌≡◌, ◌<◌, ◌≤◌, false, length, take}
 use Rattle.std.specs.List.{list_any}
 use Rattle.watch_engine.specs.Concerns.{concerns}
+use Rattle.watch_engine.specs.Keys.{key_at}
 use Rattle.watch_engine.specs.Slots.{has, key_in}
 use Rattle.watch_engine.proofs.Walks.{keyed}
 use Rattle.watch_engine.proofs.held_list.HeldList.first_among.Given as goal
@@ -9,6 +10,6 @@ use Rattle.watch_engine.proofs.held_list.HeldList.first_among.Given as goal
 abbrev pub invariant-loop-offset : goal.invariant-loop-offset
 invariant-loop-offset l = record {
   large : list_any (keyed (key_in l.keys.by) l.keys.limit (has (concerns l.concern))) (take l.first l.self.slots.items) ≡ false;
-  each : (n : ℕ) → n < l.offset → list_any (keyed (key_in l.keys.by) ((l.keys.first + n) % l.keys.limit) (has (concerns l.concern))) (take l.first l.self.slots.items) ≡ false;
+  each : (n : ℕ) → n < l.offset → list_any (keyed (key_in l.keys.by) (key_at l.keys n) (has (concerns l.concern))) (take l.first l.self.slots.items) ≡ false;
   within : l.first ≤ length l.self.slots.items;
 }
