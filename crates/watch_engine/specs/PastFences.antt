@@ -1,7 +1,7 @@
 -- By which key a fence that has been executed is found, for entries of pages of a size: by its ASID if it
 -- has one, and by the page if all its addresses lie in one of that size.
 use Rattle.std.specs.Prelude.{ℕ, Bool, false, ◌+◌, ◌-◌, ◌*◌, ◌/◌, ◌%◌, ◌^◌, ◌≡◌, ◌≤◌, ◌==◌, ◌&&◌, ◌||◌, nat_le, not, if◌then◌else◌}
-use Rattle.std.specs.Prelude.{List, drop, take, Option, None, Some}
+use Rattle.std.specs.Prelude.{List, drop, length, map, take, Option, None, Some}
 use Rattle.std.specs.List.{list_any}
 use Rattle.pte.specs.Address.{bytes_of}
 use Rattle.pte.specs.declared.address.PageSize.{PageSize}
@@ -39,6 +39,10 @@ abbrev pub fence_key : PageSize → PastFence → ℕ
 fence_key size (Own of None rs2) = wide_key rs2
 fence_key size (Own of (Some address) rs2) = address_key size address rs2
 fence_key size (Remote fence begun) = range_key size fence.range fence.asid
+
+-- the keys are those of the oldest fences
+abbrev pub AreOldest : PageSize → List PastFence → List ℕ → Type 0
+AreOldest size fences keys = keys ≡ map (fence_key size) (take (length keys) fences)
 
 -- a fence with the key since the hart left the space has dropped the entry
 abbrev pub takes_by : ℕ → Scheme → Left → Entry → PastFence → Bool

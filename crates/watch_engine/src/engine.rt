@@ -216,7 +216,7 @@ impl<T: Tables> Watch<T> {
             → OnErr result (Follows T.words T.since trace self.new) }
     {
         let fence = newest_fence(self.fences.as_slice(), token);
-        add_ended(&mut self.drops, &fence)?;
+        add_ended(&self.left, &mut self.drops, &fence)?;
         drop_remote(&mut self.held, self.scheme, &fence);
         end_fence(&mut self.fences, token);
         self.count += 1;

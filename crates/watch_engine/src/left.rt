@@ -94,21 +94,26 @@ pub(crate) fn add_fence(
         left.drop_of(hart);
         return Ok(());
     }
-    drops.push(PastFence::Own { hart, rs1, rs2 })?;
+    drops.push(PastFence::Own { hart, rs1, rs2 }, !left.is_empty())?;
     Ok(())
 }
 
 /// After the end of a remote fence. At `Err` nothing changed.
-pub(crate) fn add_ended(drops: &mut PastFences, fence: &Option<OpenFence>) -> Result<(), AllocError>
+pub(crate) fn add_ended(
+    left: &LeftSpaces,
+    drops: &mut PastFences,
+    fence: &Option<OpenFence>,
+) -> Result<(), AllocError>
     ensures ok { OnOk result (drops.new.fences.items ≡ ended fence.now drops.old.fences.items) }
     ensures err { OnErr result (drops.new.fences.items ≡ drops.old.fences.items) }
 {
     let Some(open) = fence else {
         return Ok(());
     };
-    drops.push(PastFence::Remote {
+    let remote = PastFence::Remote {
         fence: open.fence,
         begun: open.begun,
-    })?;
+    };
+    drops.push(remote, !left.is_empty())?;
     Ok(())
 }

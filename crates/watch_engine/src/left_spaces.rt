@@ -223,6 +223,13 @@ impl LeftSpaces {
         }
     }
 
+    /// Whether there is no space.
+    pub(crate) fn is_empty(&self) -> bool
+        ensures { result ≡ (length self.now == 0) }
+    {
+        self.spaces.is_empty()
+    }
+
     /// Those with the root.
     pub(crate) fn of_root(&self, root: u64) -> &[Left]
         ensures { result.now ≡ filter (λ l. l.space.root == root) self.now }

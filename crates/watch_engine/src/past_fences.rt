@@ -1,10 +1,11 @@
 //! Fences that have been executed, each found by keys of what it can drop.
 
-ghost use Rattle.std.specs.Prelude.{◌≡◌, ◌≤◌, ◌/◌, ◌^◌, ◌++◌, ◌∷◌, [], IsTrue, None, OnErr, OnOk, false, map, true};
+ghost use Rattle.std.specs.Prelude.{◌≡◌, ◌==◌, ◌≤◌, ◌/◌, ◌^◌, ◌++◌, ◌∷◌, [], IsTrue, None, OnErr, OnOk, false, length, map, true};
 ghost use Rattle.pte.specs.Address.{bytes_of};
+ghost use Rattle.pte.specs.declared.address.PageSize.{PageSize as PageSizeOf};
 ghost use Rattle.pte.specs.declared.address.PageSize.TheVariants.{Kib4, Mib2};
 ghost use Rattle.watch_engine.specs.Left.{is_taken_since};
-ghost use Rattle.watch_engine.specs.PastFences.{NoneBefore, address_key, asid_key, fence_key, is_in_page, is_taken_by, is_taken_by_asid, range_key, wide_key};
+ghost use Rattle.watch_engine.specs.PastFences.{AreOldest, NoneBefore, address_key, asid_key, fence_key, is_in_page, is_taken_by, is_taken_by_asid, range_key, wide_key};
 
 use crate::chains::Chains;
 use crate::fence::{ASIDS, asid_register};
@@ -102,12 +103,10 @@ impl PastFence {
 /// memory, and a look at fences a few steps more.
 const LOAD: usize = 2;
 
-/// The keys of fences, for entries of pages of one size.
+/// The keys of the oldest fences, for entries of pages of one size.
 #[derive(Drop)]
 struct FenceKeys {
     keys: Chains,
-    /// Each fence has its key. Once there was no memory for one, all fences are asked.
-    is_keyed: bool,
 }
 
 impl FenceKeys {
@@ -116,17 +115,30 @@ impl FenceKeys {
     {
         FenceKeys {
             keys: Chains::with_load(alloc, LOAD),
-            is_keyed: true,
         }
     }
 
-    // With the key of one more fence, if there is memory for it.
-    fn push(&mut self, key: u64)
-        ensures before { self.new.is_keyed ≡ true → self.old.is_keyed ≡ true }
-        ensures keys { self.new.is_keyed ≡ true → self.new.keys.keys.items ≡ self.old.keys.keys.items ++ key ∷ [] }
+    // Whether each of these fences has its key.
+    fn has_each(&self, fences: &[PastFence]) -> bool
+        ensures is { result ≡ (length self.now.keys.keys.items == length fences.now) }
+        ensures keys { (size : PageSizeOf) → result ≡ true
+            → AreOldest size fences.now self.now.keys.keys.items
+            → self.now.keys.keys.items ≡ map (fence_key size) fences.now }
     {
-        if self.is_keyed && self.keys.push(key).is_err() {
-            self.is_keyed = false;
+        self.keys.keys.len() == fences.len()
+    }
+
+    // With the keys of the fences that have none yet, as far as there is memory for them.
+    fn add_missing(&mut self, fences: &[PastFence], size: PageSize)
+        requires { AreOldest size fences.now self.old.keys.keys.items }
+        ensures { AreOldest size fences.now self.new.keys.keys.items }
+    {
+        let mut at = self.keys.keys.len();
+        while at < fences.len() {
+            if self.keys.push(fences[at].key(size)).is_err() {
+                return;
+            }
+            at += 1;
         }
     }
 
@@ -214,12 +226,13 @@ impl FenceKeys {
 #[derive(Drop)]
 pub(crate) struct PastFences {
     pub(crate) fences: Vec<PastFence>,
-    /// Their keys for entries of 4 KiB.
+    /// Keys for entries of 4 KiB: of all fences, unless nobody asked or there was no memory. Without them
+    /// all fences are asked.
     small: FenceKeys,
-    /// Their keys for entries of 2 MiB.
+    /// Those for entries of 2 MiB.
     large: FenceKeys,
-    ghost small_keyed: { small.is_keyed ≡ true → small.keys.keys.items ≡ map (fence_key Kib4) fences.items },
-    ghost large_keyed: { large.is_keyed ≡ true → large.keys.keys.items ≡ map (fence_key Mib2) fences.items },
+    ghost small_keyed: { AreOldest Kib4 fences.items small.keys.keys.items },
+    ghost large_keyed: { AreOldest Mib2 fences.items large.keys.keys.items },
 }
 
 impl PastFences {
@@ -234,14 +247,18 @@ impl PastFences {
         }
     }
 
-    /// With one more. At `Err` nothing changed.
-    pub(crate) fn push(&mut self, fence: PastFence) -> Result<(), AllocError>
+    /// With one more. At `Err` nothing changed. Unless somebody asks for fences their keys are not made:
+    /// a hart that leaves a space later asks for none of those before.
+    pub(crate) fn push(&mut self, fence: PastFence, is_asked: bool) -> Result<(), AllocError>
         ensures ok { OnOk result (self.new.fences.items ≡ self.old.fences.items ++ fence ∷ []) }
         ensures err { OnErr result (self.new.fences.items ≡ self.old.fences.items) }
     {
         self.fences.push(fence)?;
-        self.small.push(fence.key(PageSize::Kib4));
-        self.large.push(fence.key(PageSize::Mib2));
+        if is_asked {
+            let fences = self.fences.as_slice();
+            self.small.add_missing(fences, PageSize::Kib4);
+            self.large.add_missing(fences, PageSize::Mib2);
+        }
         Ok(())
     }
 
@@ -251,10 +268,10 @@ impl PastFences {
     {
         let fences = self.fences.as_slice();
         match entry.page.size() {
-            PageSize::Kib4 if self.small.is_keyed => {
+            PageSize::Kib4 if self.small.has_each(fences) => {
                 self.small.is_taken_since(fences, scheme, left, entry)
             }
-            PageSize::Mib2 if self.large.is_keyed => {
+            PageSize::Mib2 if self.large.has_each(fences) => {
                 self.large.is_taken_since(fences, scheme, left, entry)
             }
             _ => is_taken_since(scheme, fences, left, entry),
