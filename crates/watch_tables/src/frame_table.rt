@@ -303,6 +303,8 @@ impl FrameTable {
         ensures ok { OnOk result ((n : ℕ) → in_frames self.new n
             ≡ (if n == number then word_to_store word count else in_frames self.old n)) }
         ensures err { OnErr result ((n : ℕ) → in_frames self.new n ≡ in_frames self.old n) }
+        ensures goes { OnOk result (((i : ℕ) → word_of (frame_of self.new (number / TABLE_LENGTH)) i
+            ≡ None) → frame_of self.new (number / TABLE_LENGTH) ≡ None) }
     {
         let length = u64::from(TABLE_LENGTH);
         let ppn = number / length;
