@@ -1,5 +1,5 @@
 -- What a watch follows.
-use Rattle.std.specs.Prelude.{ℕ}
+use Rattle.std.specs.Prelude.{ℕ, ◌≡◌, None, get_or}
 use Rattle.walk.specs.Leads.{Tables}
 use Rattle.watch.specs.Trace.{Trace}
 use Rattle.watch_engine.specs.declared.engine.Watch.{Watch}
@@ -12,3 +12,16 @@ abbrev pub Follows : {T : Type 0} {g : Ghosts T} → (T → Tables) → (T → �
 Follows words since trace w =
     Stands w.scheme trace (words w.tables) (since w.tables) w.satps.spaces.items w.roots
     (items_of w.held.slots.items) w.left w.drops.fences.items w.fences.items w.claims.items w.count
+
+-- all that a watch keeps is as before, but for what harts may hold: of that more may be written down
+abbrev pub KeepsAll : {T : Type 0} {g : Ghosts T} → (T → Tables) → (T → ℕ → ℕ → ℕ) → Watch T g → Watch T g → Type 0
+KeepsAll words since old new =
+    (words new.tables ≡ words old.tables)
+    × (since new.tables ≡ since old.tables)
+    × ((hart : ℕ) → get_or new.satps.spaces.items hart None ≡ get_or old.satps.spaces.items hart None)
+    × (new.roots ≡ old.roots)
+    × (new.left ≡ old.left)
+    × (new.drops.fences.items ≡ old.drops.fences.items)
+    × (new.fences.items ≡ old.fences.items)
+    × (new.claims.items ≡ old.claims.items)
+    × (new.count ≡ old.count)

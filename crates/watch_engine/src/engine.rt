@@ -76,7 +76,7 @@ fn may_differ(addresses: &[u64], keeps: bool) -> bool
 }
 
 impl<T: Tables> Watch<T> {
-    ghost use Rattle.watch_engine.specs.Watching.{Follows};
+    ghost use Rattle.watch_engine.specs.Watching.{Follows, KeepsAll};
 
     /// A watch of a scheme that has seen no record, over tables of which nothing is stored.
     pub fn new(alloc: Global, scheme: Scheme, tables: T) -> Watch<T>
@@ -115,6 +115,7 @@ impl<T: Tables> Watch<T> {
             → OnOk result (Follows T.words T.since (records.Store hart address word ∷ trace) self.new) }
         ensures err { (trace : Trace) → Follows T.words T.since trace self.old
             → OnErr result (Follows T.words T.since trace self.new) }
+        ensures stays { OnErr result (KeepsAll T.words T.since self.old self.new) }
     {
         let ways = self
             .kept_ways
@@ -158,12 +159,14 @@ impl<T: Tables> Watch<T> {
             → OnOk result (Follows T.words T.since (records.Satp hart space ∷ trace) self.new) }
         ensures err { (trace : Trace) → Follows T.words T.since trace self.old
             → OnErr result (Follows T.words T.since trace self.new) }
+        ensures stays { OnErr result (KeepsAll T.words T.since self.old self.new) }
     {
         self.satps.add_hart(hart)?;
         let old = self.satp(hart);
         let fences = self.drops.fences.as_slice().len();
-        self.left.add(hart, old, self.count, fences)?;
-        let new = self.roots.add(space)?;
+        let new = self
+            .left
+            .add(&mut self.roots, hart, old, space, self.count, fences)?;
         self.left.drop_back(hart, space);
         self.satps.write(hart, space);
         self.count += 1;
@@ -179,6 +182,7 @@ impl<T: Tables> Watch<T> {
             → OnOk result (Follows T.words T.since (records.Fence hart rs1 rs2 ∷ trace) self.new) }
         ensures err { (trace : Trace) → Follows T.words T.since trace self.old
             → OnErr result (Follows T.words T.since trace self.new) }
+        ensures stays { OnErr result (KeepsAll T.words T.since self.old self.new) }
     {
         add_fence(&mut self.left, &mut self.drops, hart, rs1, rs2)?;
         drop_fenced(&mut self.held, self.scheme, hart, rs1, rs2);
@@ -195,6 +199,7 @@ impl<T: Tables> Watch<T> {
             (records.RemoteBegin hart token fence ∷ trace) self.new) }
         ensures err { (trace : Trace) → Follows T.words T.since trace self.old
             → OnErr result (Follows T.words T.since trace self.new) }
+        ensures stays { OnErr result (KeepsAll T.words T.since self.old self.new) }
     {
         let begun = self.count + 1;
         self.fences.push(OpenFence {
@@ -214,6 +219,7 @@ impl<T: Tables> Watch<T> {
             → OnOk result (Follows T.words T.since (records.RemoteEnd hart token ∷ trace) self.new) }
         ensures err { (trace : Trace) → Follows T.words T.since trace self.old
             → OnErr result (Follows T.words T.since trace self.new) }
+        ensures stays { OnErr result (KeepsAll T.words T.since self.old self.new) }
     {
         let fence = newest_fence(self.fences.as_slice(), token);
         add_ended(&self.left, &mut self.drops, &fence)?;
@@ -232,6 +238,7 @@ impl<T: Tables> Watch<T> {
             (records.ClaimBegin hart token claim ∷ trace) self.new) }
         ensures err { (trace : Trace) → Follows T.words T.since trace self.old
             → OnErr result (Follows T.words T.since trace self.new) }
+        ensures stays { OnErr result (KeepsAll T.words T.since self.old self.new) }
     {
         let begun = self.count + 1;
         self.claims.push(OpenClaim {
@@ -254,6 +261,7 @@ impl<T: Tables> Watch<T> {
             → OnOk result (Follows T.words T.since (records.GiveOut hart frames ∷ trace) self.new) }
         ensures err { (trace : Trace) → Follows T.words T.since trace self.old
             → OnErr result (Follows T.words T.since trace self.new) }
+        ensures stays { OnErr result (KeepsAll T.words T.since self.old self.new) }
     {
         let cause = Cause::Out(frames);
         let given = warnings(self.alloc, &self.held, &cause)?;
@@ -299,6 +307,7 @@ impl<T: Tables> Watch<T> {
             → OnOk result (Follows T.words T.since (records.GiveBack hart frames ∷ trace) self.new) }
         ensures err { (trace : Trace) → Follows T.words T.since trace self.old
             → OnErr result (Follows T.words T.since trace self.new) }
+        ensures stays { OnErr result (KeepsAll T.words T.since self.old self.new) }
     {
         let cause = Cause::Back(frames);
         let given = warnings(self.alloc, &self.held, &cause)?;
@@ -318,6 +327,7 @@ impl<T: Tables> Watch<T> {
             → OnOk result (Follows T.words T.since (records.ClaimEnd hart token ∷ trace) self.new) }
         ensures err { (trace : Trace) → Follows T.words T.since trace self.old
             → OnErr result (Follows T.words T.since trace self.new) }
+        ensures stays { OnErr result (KeepsAll T.words T.since self.old self.new) }
     {
         let claim = newest_claim(self.claims.as_slice(), token);
         let cause = Cause::Claim(claim);
@@ -339,6 +349,7 @@ impl<T: Tables> Watch<T> {
             → OnOk result (Follows T.words T.since (records.Use hart address ∷ trace) self.new) }
         ensures err { (trace : Trace) → Follows T.words T.since trace self.old
             → OnErr result (Follows T.words T.since trace self.new) }
+        ensures stays { OnErr result (KeepsAll T.words T.since self.old self.new) }
     {
         let space = self.satp(hart);
         let cause = Cause::Access {
@@ -366,7 +377,8 @@ impl<T: Tables> Watch<T> {
     /// Takes the next record, and answers its warnings: each verdict that is given at the record and
     /// new, each once, where translations that differ only in A and D, or if they are global only in
     /// root and ASID, share one. `TooManyRecords` exactly if 2^64 - 1 records have been taken, and
-    /// `NoMemory` only where memory runs out: then the watch still follows the trace before.
+    /// `NoMemory` only where memory runs out: then the watch still follows the trace before, and keeps
+    /// no more than before, but that more of what harts may hold may be written down.
     pub fn record(&mut self, newest: Record) -> Result<Vec<Warning>, RecordFault>
         ensures scheme { self.new.scheme ≡ self.old.scheme }
         ensures warnings { (trace : Trace) → Follows T.words T.since trace self.old
@@ -376,6 +388,7 @@ impl<T: Tables> Watch<T> {
             → OnOk result (Follows T.words T.since (newest ∷ trace) self.new) }
         ensures err { (trace : Trace) → Follows T.words T.since trace self.old
             → OnErr result (Follows T.words T.since trace self.new) }
+        ensures stays { OnErr result (KeepsAll T.words T.since self.old self.new) }
         ensures full { (trace : Trace) → Follows T.words T.since trace self.old
             → (result ≡ Err RecordFault.TooManyRecords) ↔ (length trace ≡ 2 ^ 64 - 1) }
     {

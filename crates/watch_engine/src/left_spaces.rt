@@ -1,9 +1,10 @@
 //! The spaces that harts have left.
 
-ghost use Rattle.std.specs.Prelude.{ℕ, ◌≡◌, ◌==◌, ◌≤◌, ◌<◌, ◌++◌, [], IsTrue, OnErr, OnOk, Some, drop, false, filter, get_or, if◌then◌else◌, length, take};
+ghost use Rattle.std.specs.Prelude.{ℕ, ◌≡◌, ◌==◌, ◌≤◌, ◌<◌, ◌++◌, [], IfOk, IsTrue, None, OnErr, OnOk, Some, drop, false, filter, get_or, if◌then◌else◌, length, take, vec_capacity, vec_len};
 ghost use Rattle.watch_engine.specs.declared.left.Left.{Left as LeftOf};
 ghost use Rattle.watch_engine.specs.LeftOrder.{AreByRoot, Begins, Ends};
-ghost use Rattle.watch_engine.specs.Left.{has_its_root, is_of, is_of_other, is_other, with_left};
+ghost use Rattle.watch_engine.specs.Held.{AreEntered, IsWith};
+ghost use Rattle.watch_engine.specs.Left.{added, has_its_root, is_of, is_of_other, is_other, with_left};
 
 use crate::left::Left;
 use crate::roots::Roots;
@@ -194,6 +195,17 @@ fn keep_rooted(left: &mut [Left], roots: &Roots) -> usize
     kept
 }
 
+// With one more, of which there is room, behind those of its root.
+fn add_reserved(spaces: &mut Vec<Left>, one: Left)
+    requires order { AreByRoot spaces.old.items }
+    requires room { vec_len spaces.old < vec_capacity spaces.old }
+    ensures order { AreByRoot spaces.new.items }
+    ensures added { spaces.new.items ≡ added one spaces.old.items }
+{
+    let place = count_up_to(spaces.as_slice(), one.space.root);
+    let _ = spaces.insert(place, one);
+}
+
 /// The spaces that harts have left, in the order of their roots, and those of one root in the order
 /// in which they were left.
 #[derive(Drop)]
@@ -244,31 +256,37 @@ impl LeftSpaces {
         of_root_near(self.spaces.as_slice(), place, root)
     }
 
-    /// With the space that a hart leaves. At `Err` nothing changed.
+    /// With the space that a hart leaves, and with the root of the one that it goes to; that root, if it
+    /// is new. At `Err` nothing changed.
     pub(crate) fn add(
         &mut self,
+        roots: &mut Roots,
         hart: u8,
-        space: Option<Space>,
+        old: Option<Space>,
+        new: Option<Space>,
         count: u64,
         fences: usize,
-    ) -> Result<(), AllocError>
-        ensures ok { OnOk result (self.new ≡ with_left hart space count fences self.old) }
+    ) -> Result<Option<u64>, AllocError>
+        ensures left { OnOk result (self.new ≡ with_left hart old count fences self.old) }
+        ensures roots { OnOk result (AreEntered new roots.old roots.new) }
+        ensures same { IfOk result (λ root. root ≡ None → roots.new ≡ roots.old) }
+        ensures more { IfOk result (λ root. (r : ℕ) → root ≡ Some r → IsWith r roots.old roots.new) }
         ensures err { OnErr result (self.new ≡ self.old) }
+        ensures err_roots { OnErr result (roots.new ≡ roots.old) }
     {
-        let Some(space) = space else {
-            return Ok(());
+        let Some(space) = old else {
+            return roots.add(new);
         };
-        let place = count_up_to(self.spaces.as_slice(), space.root);
-        self.spaces.insert(
-            place,
-            Left {
-                hart,
-                space,
-                left: count,
-                fences: fences as u64,
-            },
-        )?;
-        Ok(())
+        self.spaces.reserve(1)?;
+        let root = roots.add(new)?;
+        let one = Left {
+            hart,
+            space,
+            left: count,
+            fences: fences as u64,
+        };
+        add_reserved(&mut self.spaces, one);
+        Ok(root)
     }
 
     /// Without the space to which the hart comes back.
