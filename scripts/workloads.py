@@ -1,8 +1,8 @@
 #!/usr/bin/env python3
 """Makes a trace of the program `workloads`: workloads.py NAME SEED RECORDS [digest]
 
-NAME is processes, harts or lazy; the trace of `ranges` is not made here. `workloads NAME SEED RECORDS` makes
-this trace up to the 120,000 records of processes, 100,000 of harts or 400,000 of lazy. Of more records it makes
+NAME is processes, harts, lazy or verdicts; the trace of `ranges` is not made here. `workloads NAME SEED RECORDS`
+makes this trace up to the 120,000 records of processes, 100,000 of harts or verdicts, or 400,000 of lazy. Of more records it makes
 several traces, one after another: the next is the one of SEED + 2^32 here, then that of SEED + 2 * 2^32.
 
 With `digest` it prints, in place of the trace, what `workloads NAME SEED RECORDS` has to print of one trace
@@ -14,7 +14,12 @@ import os, subprocess, sys, tempfile
 
 MASK = (1 << 64) - 1
 KERNEL_BASE = 0xFFFFFFC000000000
-SHAPES = {"processes": (4, 256, 64, False), "harts": (64, 16, 64, False), "lazy": (4, 24, 64, True)}
+SHAPES = {
+    "processes": (4, 256, 64, False, False),
+    "harts": (64, 16, 64, False, False),
+    "lazy": (4, 24, 64, True, False),
+    "verdicts": (4, 24, 64, False, True),
+}
 
 
 class Random:
@@ -56,7 +61,7 @@ class Process:
 
 class Kernel:
     def __init__(self, shape, random):
-        self.count, self.of, self.pages, self.lazy = shape
+        self.count, self.of, self.pages, self.lazy, self.forgets = shape
         self.random, self.lines, self.processes, self.at = random, [], [], []
         self.free, self.next_frame, self.next_asid, self.next_token = [], 0x90000, 0, 0
 
@@ -136,7 +141,8 @@ class Kernel:
         index, frame = gone
         self.store(hart, p.tables[2], index, 0)
         self.record("f", hart, index << 12, p.asid)
-        self.fence_others(hart, p.seen & ~(1 << hart), index << 12, 4096, p.asid)
+        if not self.forgets:
+            self.fence_others(hart, p.seen & ~(1 << hart), index << 12, 4096, p.asid)
         self.give_back(hart, frame)
 
     def change_own(self, hart):

@@ -41,6 +41,8 @@ pub struct Shape {
     pub pages: usize,
     /// It gives frames of its own pages back before it fences, and writes notes.
     pub lazy: bool,
+    /// It asks no other hart for a fence of a page of a process.
+    pub forgets: bool,
     /// The most records of a trace, or a few more.
     pub records: u64,
 }

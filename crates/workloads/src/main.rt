@@ -9,6 +9,7 @@
 //! | harts | `watch` on traces of kernels with 64 harts |
 //! | lazy | `watch` on the trace of a kernel that fences late, with notes |
 //! | ranges | `watch` on the trace of a kernel that unmaps runs of pages, and superpages, in Sv48 |
+//! | verdicts | `watch` on traces of kernels that forget other harts |
 //! | files | `run`, `stale`, `show`, `check`, `draw` and `walk` on scenario files of many sizes |
 //! | machine | events on a machine, translations, and calls of a TLB |
 //!
@@ -81,6 +82,7 @@ const PROCESSES: Shape = Shape {
     processes: 256,
     pages: 64,
     lazy: false,
+    forgets: false,
     records: 120_000,
 };
 
@@ -89,6 +91,7 @@ const HARTS: Shape = Shape {
     processes: 16,
     pages: 64,
     lazy: false,
+    forgets: false,
     records: 100_000,
 };
 
@@ -97,6 +100,7 @@ const LAZY: Shape = Shape {
     processes: 24,
     pages: 64,
     lazy: true,
+    forgets: false,
     records: 400_000,
 };
 
@@ -105,7 +109,17 @@ const RANGES: Shape = Shape {
     processes: 24,
     pages: 1024,
     lazy: false,
+    forgets: false,
     records: 250_000,
+};
+
+const VERDICTS: Shape = Shape {
+    harts: 4,
+    processes: 24,
+    pages: 64,
+    lazy: false,
+    forgets: true,
+    records: 100_000,
 };
 
 /// The job of a name, and how many parts it has: records, files, batches.
@@ -115,6 +129,7 @@ fn job_of(name: &str) -> Option<(Job, u64)> {
         "harts" => Some((Job::Watch(HARTS), 500_000)),
         "lazy" => Some((Job::Watch(LAZY), 400_000)),
         "ranges" => Some((Job::Ranges(RANGES), 250_000)),
+        "verdicts" => Some((Job::Watch(VERDICTS), 600_000)),
         "files" => Some((Job::Files, 800)),
         "machine" => Some((Job::Machine, 4_000)),
         _ => None,
@@ -161,7 +176,7 @@ fn main(rt: HostRuntime) -> ExitCode {
     };
     let _ = match failure {
         Failure::Usage => {
-            eprintln!(rt; "usage: workloads processes|harts|lazy|ranges|files|machine SEED [PARTS]")
+            eprintln!(rt; "usage: workloads processes|harts|lazy|ranges|verdicts|files|machine SEED [PARTS]")
         }
         Failure::NoMemory => eprintln!(rt; "workloads: no memory"),
         Failure::Refused => eprintln!(rt; "workloads: the input is refused"),

@@ -53,7 +53,8 @@ fn fault(kernel: &mut Kernel, hart: u64, of: usize) -> Result<(), AllocError> {
     kernel.record(b'f', hart, &[Some(index << 12), asid])
 }
 
-/// A page of the process goes, on all harts that have been there, and its frame is given back.
+/// A page of the process goes, on all harts that have been there unless the kernel forgets them, and its
+/// frame is given back.
 fn unmap(kernel: &mut Kernel, hart: u64, of: usize) -> Result<(), AllocError> {
     let Some(process) = kernel.processes.get_mut(of) else {
         return Ok(());
@@ -65,7 +66,9 @@ fn unmap(kernel: &mut Kernel, hart: u64, of: usize) -> Result<(), AllocError> {
     };
     kernel.store(hart, low, index, 0)?;
     kernel.record(b'f', hart, &[Some(index << 12), Some(asid)])?;
-    kernel.fence_others(hart, others, index << 12, PAGE_BYTES, Some(asid))?;
+    if !kernel.shape.forgets {
+        kernel.fence_others(hart, others, index << 12, PAGE_BYTES, Some(asid))?;
+    }
     kernel.give_back(hart, frame)
 }
 
