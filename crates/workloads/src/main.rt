@@ -7,8 +7,8 @@
 //! |---|---|
 //! | processes | `watch` on traces of kernels with many processes |
 //! | harts | `watch` on traces of kernels with 64 harts |
-//! | lazy | `watch` on the trace of a kernel that fences late, with notes |
-//! | ranges | `watch` on the trace of a kernel that unmaps runs of pages, and superpages, in Sv48 |
+//! | lazy | `watch` on traces of kernels that fence late, with notes |
+//! | ranges | `watch` on traces of kernels that unmap runs of pages, and superpages, in Sv48 |
 //! | verdicts | `watch` on traces of kernels that forget other harts |
 //! | files | `run`, `stale`, `show`, `check`, `draw` and `walk` on scenario files of many sizes |
 //! | machine | events on a machine, translations, and calls of a TLB |
@@ -63,7 +63,7 @@ impl From<io::Error> for Failure {
 enum Job {
     /// Traces of kernels of a shape.
     Watch(Shape),
-    /// A trace of a kernel of a shape, which maps and unmaps runs of pages.
+    /// Traces of kernels of a shape, which map and unmap runs of pages.
     Ranges(Shape),
     Files,
     Machine,
@@ -125,10 +125,10 @@ const VERDICTS: Shape = Shape {
 /// The job of a name, and how many parts it has: records, files, batches.
 fn job_of(name: &str) -> Option<(Job, u64)> {
     match name {
-        "processes" => Some((Job::Watch(PROCESSES), 480_000)),
-        "harts" => Some((Job::Watch(HARTS), 500_000)),
-        "lazy" => Some((Job::Watch(LAZY), 400_000)),
-        "ranges" => Some((Job::Ranges(RANGES), 250_000)),
+        "processes" => Some((Job::Watch(PROCESSES), 960_000)),
+        "harts" => Some((Job::Watch(HARTS), 700_000)),
+        "lazy" => Some((Job::Watch(LAZY), 800_000)),
+        "ranges" => Some((Job::Ranges(RANGES), 1_250_000)),
         "verdicts" => Some((Job::Watch(VERDICTS), 600_000)),
         "files" => Some((Job::Files, 800)),
         "machine" => Some((Job::Machine, 4_000)),

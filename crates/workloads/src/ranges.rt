@@ -376,7 +376,8 @@ fn trace(alloc: Global, shape: Shape, random: Random, records: u64) -> Result<Ve
     Ok(ranges.kernel.text)
 }
 
-/// `watch` on a trace of so many records or a few more.
+/// `watch` on the traces of kernels of a shape, one after another, that have so many records in all or a
+/// few more.
 pub fn run(
     alloc: Global,
     shape: Shape,
@@ -384,6 +385,12 @@ pub fn run(
     records: u64,
     digest: &mut Digest,
 ) -> Result<(), Failure> {
-    let text = trace(alloc, shape, Random::new(seed), records)?;
-    watch(alloc, &text, digest)
+    let most = shape.records.max(1);
+    for number in 0..records.div_ceil(most) {
+        let rest = records.saturating_sub(number.saturating_mul(most));
+        let random = Random::new(number << 32 | seed);
+        let text = trace(alloc, shape, random, rest.min(most))?;
+        watch(alloc, &text, digest)?;
+    }
+    Ok(())
 }
