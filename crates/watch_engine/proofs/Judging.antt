@@ -27,7 +27,8 @@ use Rattle.watch_engine.specs.declared.cause.Cause.TheVariants.{Back, Out, Claim
 use Rattle.watch_engine.specs.declared.held.Held.{Held}
 use Rattle.watch_engine.specs.declared.open.OpenClaim.{OpenClaim}
 use Rattle.watch_engine.specs.declared.warning.Warning.{Warning}
-use Rattle.watch_engine.specs.Held.{Each, IsNormalized, is_of, is_same, is_served_in, knows, normalized, own, since_after, translation_of}
+use Rattle.watch.specs.Computed.{is_same}
+use Rattle.watch_engine.specs.Held.{Each, IsNormalized, is_of, is_served_in, knows, normalized, own, since_after, translation_of}
 use Rattle.watch_engine.specs.Causes.{is_given_by, verdict_of}
 use Rattle.watch_engine.specs.Open.{IsOpenClaim}
 use Rattle.watch_engine.specs.Follows.{AreHeld, IsKnown, last_live_of, stale_since_of}

@@ -9,7 +9,8 @@ use Rattle.pte.specs.Address.{level_of}
 use Rattle.tlb.specs.declared.store.Entry.{Entry}
 use Rattle.watch.specs.Holding.{Translation}
 use Rattle.watch_engine.specs.declared.held.Held.{Held}
-use Rattle.watch_engine.specs.Held.{Each, is_of, is_same, is_same_entry, knows, translation_of}
+use Rattle.watch.specs.Computed.{is_same}
+use Rattle.watch_engine.specs.Held.{Each, is_of, is_same_entry, knows, translation_of}
 
 -- equal by the test
 pub same_bool : (a b : Bool) → is_same a b ≡ true → a ≡ b

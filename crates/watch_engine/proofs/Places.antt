@@ -9,7 +9,8 @@ use Rattle.std.proofs.Math.Nat.{div-eq_of_lt}
 use Rattle.watch_engine.specs.declared.held.Held.{Held}
 use Rattle.watch_engine.specs.declared.held.LastLive.{LastLive}
 use Rattle.watch_engine.specs.declared.slot.Slot.{Slot}
-use Rattle.watch_engine.specs.Held.{held_from, is_of, last_translation, later, remembered, remembered_all}
+use Rattle.watch_tables.specs.Ways.{later}
+use Rattle.watch_engine.specs.Held.{held_from, is_of, last_translation, remembered, remembered_all}
 use Rattle.watch_engine.specs.Slots.{has, items_of, place_in}
 
 -- a number of 64 bits has no bit from 64 on

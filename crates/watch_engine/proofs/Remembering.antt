@@ -10,7 +10,8 @@ use Rattle.watch.specs.Holding.{Translation}
 use Rattle.watch.specs.ComputedTraces.{has_held, is_stale}
 use Rattle.watch_engine.specs.declared.held.Held.{Held}
 use Rattle.watch_engine.specs.declared.held.LastLive.{LastLive}
-use Rattle.watch_engine.specs.Held.{Each, held_from, is_listed, is_of, knows, last_translation, later, remembered, remembered_all, translation_of}
+use Rattle.watch_tables.specs.Ways.{later}
+use Rattle.watch_engine.specs.Held.{Each, held_from, is_listed, is_of, knows, last_translation, remembered, remembered_all, translation_of}
 use Rattle.watch_engine.specs.Seen.{EachSeen}
 use Rattle.watch_engine.specs.Follows.{AreHeld, IsHeldFrom, IsKnown, last_live_of, stale_since_of}
 use Rattle.watch_engine.proofs.Lists.{at_most, from_at_most, from_within, is_itself, of_same, within}

@@ -13,15 +13,13 @@ use Rattle.watch.specs.declared.trace.Verdict.{Verdict}
 use Rattle.watch.specs.declared.trace.Verdict.TheVariants.{Free, Reuse, Claimed, Used}
 use Rattle.watch.specs.Trace.{has_root, is_among}
 use Rattle.watch.specs.Holding.{Translation, is_covered, names}
+use Rattle.watch.specs.Computed.{is_same}
 use Rattle.watch.specs.Verdicts.{is_claimed}
+use Rattle.watch_tables.specs.Ways.{later}
 use Rattle.watch_engine.specs.declared.held.Held.{Held}
 use Rattle.watch_engine.specs.declared.held.LastLive.{LastLive}
 use Rattle.watch_engine.specs.declared.open.OpenClaim.{OpenClaim}
 use Rattle.watch_engine.specs.declared.open.OpenFence.{OpenFence}
-
-abbrev pub is_same : Bool → Bool → Bool
-is_same true b = b
-is_same false b = not b
 
 abbrev pub is_same_entry : Entry → Entry → Bool
 is_same_entry a b =
@@ -84,10 +82,6 @@ held_from s =
       reused = false;
       claimed = false;
     }
-
--- the later of two moments
-abbrev pub later : ℕ → ℕ → ℕ
-later a b = if nat_lt a b then b else a
 
 -- with a translation that was live
 abbrev pub remembered : LastLive → List Held → List Held

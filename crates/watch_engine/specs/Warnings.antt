@@ -16,7 +16,8 @@ use Rattle.pte.specs.declared.scheme.Scheme.{Scheme}
 use Rattle.watch_engine.specs.declared.cause.Cause.{Cause}
 use Rattle.watch_engine.specs.declared.held.Held.{Held}
 use Rattle.watch_engine.specs.declared.warning.Warning.{Warning}
-use Rattle.watch_engine.specs.Held.{is_same, translation_of}
+use Rattle.watch.specs.Computed.{is_same}
+use Rattle.watch_engine.specs.Held.{translation_of}
 use Rattle.watch_engine.specs.Causes.{is_given_by, verdict_of}
 
 -- the translation that a warning has

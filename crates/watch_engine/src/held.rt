@@ -1,7 +1,8 @@
 //! What harts may hold and the tables do not tell.
 
 ghost use Rattle.std.specs.Prelude.{ℕ, Bool, ◌≡◌, ◌↔◌, ◌++◌, ◌∷◌, [], map, Option, OnOk, OnErr, IfOk, Contains, IsTrue};
-ghost use Rattle.watch_engine.specs.Held.{held_from, is_of, is_same_entry, last_live_in, last_translation, later, marked, settled, translation_of};
+ghost use Rattle.watch_tables.specs.Ways.{later};
+ghost use Rattle.watch_engine.specs.Held.{held_from, is_of, is_same_entry, last_live_in, last_translation, marked, settled, translation_of};
 
 use tlb::Entry;
 use watch::{Space, Verdict};

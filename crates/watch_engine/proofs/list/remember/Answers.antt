@@ -2,7 +2,8 @@ use Rattle.std.specs.Prelude.{OnOk}
 use Rattle.std.proofs.Common.{rules, ◌≡◌, ◌∙◌, length, sym, ap, subst, refl, arith, ◌++◌, ◌∷◌, [], List, get_or, set, vec_len}
 use Rattle.watch_engine.specs.declared.held.Held.{Held}
 use Rattle.watch_engine.specs.declared.slot.Slot.{Slot}
-use Rattle.watch_engine.specs.Held.{later, remembered}
+use Rattle.watch_tables.specs.Ways.{later}
+use Rattle.watch_engine.specs.Held.{remembered}
 use Rattle.watch_engine.specs.declared.keys.By.TheVariants.{Frame, Page, Root}
 use Rattle.watch_engine.specs.Keys.{key_of}
 use Rattle.watch_engine.specs.Slots.{items_of, key_in}
