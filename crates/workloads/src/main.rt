@@ -176,7 +176,9 @@ fn main(rt: HostRuntime) -> ExitCode {
     };
     let _ = match failure {
         Failure::Usage => {
-            eprintln!(rt; "usage: workloads processes|harts|lazy|ranges|verdicts|files|machine SEED [PARTS]")
+            eprintln!(rt;
+                "usage: workloads processes|harts|lazy|ranges|verdicts|files|machine SEED [PARTS]"
+            )
         }
         Failure::NoMemory => eprintln!(rt; "workloads: no memory"),
         Failure::Refused => eprintln!(rt; "workloads: the input is refused"),
