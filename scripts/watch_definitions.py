@@ -8,7 +8,8 @@ import random
 import sys
 from collections import namedtuple
 
-EVERY = (1 << 64) - 1
+from trace_lines import EVERY, SV39, SV48, fence, header, line_of, space
+
 # what is global is of every address space: its root and its ASID say nothing, and are 0
 Translation = namedtuple("Translation", "root asid is_global base level ppn flags")
 
@@ -217,7 +218,8 @@ class Kernel:
         self.weights = r.choice(((4, 7, 1, 1, 6, 3, 1, 2), (3, 6, 1, 2, 5, 4, 1, 2), (3, 6, 2, 3, 3, 4, 2, 1), (5, 6, 1, 0, 4, 4, 1, 2)))
 
     def satp(self):
-        return (8 if self.levels == 3 else 9) << 60 | self.r.choice(self.asids) << 44 | self.r.choice(self.tables[-1])
+        asid, root = self.r.choice(self.asids), self.r.choice(self.tables[-1])
+        return space(root, asid, SV39 if self.levels == 3 else SV48)
 
     def address(self):
         """Of a page that a word may map; now and then not canonical."""
@@ -229,70 +231,78 @@ class Kernel:
 
     def addresses(self):
         """A start and a size."""
-        return self.r.choice(("0 " + "f" * 16, "0 0", "0 1000", "0 2000", "1000 0", f"{self.address():x} 1000", f"{self.address():x} 200000"))
+        return self.r.choice(((0, EVERY), (0, 0), (0, 0x1000), (0, 0x2000), (0x1000, 0), (self.address(), 0x1000), (self.address(), 0x200000)))
+
+    def pointer_below(self, level):
+        return self.r.choice(self.tables[level - 1]) << 10 | self.r.choice((1, 1, 1, 33))
 
     def pointer(self, level, index):
-        table = self.r.choice(self.tables[level]) << 12 | index << 3
-        return f"{table:x} {self.r.choice(self.tables[level - 1]) << 10 | self.r.choice((1, 1, 1, 33)):x}"
+        """An address and a word."""
+        return self.r.choice(self.tables[level]) << 12 | index << 3, self.pointer_below(level)
 
     def leaf(self):
+        """An address and a word."""
         level = self.r.choice(self.leaf_levels)
         table = self.r.choice(self.tables[level]) << 12 | self.r.choice(self.indices) << 3
         ppn = self.r.choice(self.frames) if level == 0 or self.r.random() < 0.2 else self.r.choice((0x200, 0x400, 0x40000))
         odd = (1 << 54 | 0xD7, 0x80005, 0xC041, self.r.choice(self.tables[0]) << 10 | 1)  # reserved; a pointer in any table
-        return f"{table:x} {self.r.choice(odd) if self.r.random() < 0.03 else self.r.choice((0, ppn << 10 | self.r.choice(self.flags))):x}"
+        return table, self.r.choice(odd) if self.r.random() < 0.03 else self.r.choice((0, ppn << 10 | self.r.choice(self.flags)))
 
-    def begin(self, letter, rest):
-        """Under a new token or, now and then, under one that is open or has ended."""
+    def begin(self, letter):
+        """A new token or, now and then, one that is open or has ended."""
         if not self.tokens[letter] or self.r.random() < 0.85:
             self.token += 1
             self.tokens[letter].append(self.token)
-        return f"{self.r.choice(self.tokens[letter][-2:]):x} {rest}"
+        return self.r.choice(self.tokens[letter][-2:])
 
     def end(self, letter):
         tokens = self.tokens[letter]
-        return f"{tokens[-1] if self.r.random() < 0.2 else tokens.pop(self.r.randrange(len(tokens))):x}"
+        return tokens[-1] if self.r.random() < 0.2 else tokens.pop(self.r.randrange(len(tokens)))
 
     def frames_of(self, letter):
         """Frames of pages or, where they are given out, of tables too."""
         every = [table for tables in self.tables for table in tables]
         first = self.r.choice(every if letter == "a" and self.r.random() < 0.4 else self.frames * 3 + (0x3FF, 0))
-        return f"{first:x} {self.r.choice((1, 2, 0, 0x200, EVERY)) if self.r.random() < 0.2 else 1:x}"
+        return first, self.r.choice((1, 2, 0, 0x200, EVERY)) if self.r.random() < 0.2 else 1
 
     def line(self):
         r, hart = self.r, self.r.randrange(self.harts)
         letter = r.choices("swpfrzau", self.weights)[0]
         if letter == "s":
-            return f"s {hart} {r.choice((0, 1, 1, 1, 1)) * self.satp():x}"
-        if letter in "wp":
-            return f"w {hart} {self.leaf() if letter == 'w' else self.pointer(r.randrange(1, self.levels), r.choice(self.indices[:2]))}"
+            return line_of("s", hart, r.choice((0, 1, 1, 1, 1)) * self.satp())
+        if letter == "w":
+            return line_of("w", hart, *self.leaf())
+        if letter == "p":
+            return line_of("w", hart, *self.pointer(r.randrange(1, self.levels), r.choice(self.indices[:2])))
         if letter == "f":
-            return f"f {hart} {r.choice(('-', f'{self.address():x}'))} {r.choice(('-', '-', '1', '2', '10001'))}"
+            return fence(hart, r.choice((None, self.address())), r.choice((None, None, 1, 2, 0x10001)))
         if letter == "r":
             letter = r.choice("rrc")
             if self.tokens[letter] and r.random() < 0.5:
-                return f"{'e' if letter == 'r' else 'd'} {hart} {self.end(letter)}"
+                return line_of("e" if letter == "r" else "d", hart, self.end(letter))
             if letter == "c":
-                return f"c {hart} {self.begin('c', r.choice(('-', '-', '10', '11')) + ' ' + self.addresses())}"
-            return f"r {hart} {self.begin('r', f'{r.randrange(1 << self.harts):x} {self.addresses()}')} {r.choice(('-', '-', '1', '2'))}"
+                root, addresses = r.choice((None, None, 0x10, 0x11)), self.addresses()
+                return line_of("c", hart, self.begin("c"), root, *addresses)
+            harts, addresses = r.randrange(1 << self.harts), self.addresses()
+            return line_of("r", hart, self.begin("r"), harts, *addresses, r.choice((None, None, 1, 2)))
         if letter in "za":
-            return f"{letter} {hart} {self.frames_of(letter)}"
-        return f"u {hart} {self.address() + r.choice((0, 0xABC)):x}"
+            return line_of(letter, hart, *self.frames_of(letter))
+        return line_of("u", hart, self.address() + r.choice((0, 0xABC)))
 
     def beginning(self):
         """The pointers from each table to some below it, and the spaces of the harts."""
         for level in range(self.levels - 1, 0, -1):
             for table in self.tables[level]:
-                yield f"w 0 {table << 12:x} {self.r.choice(self.tables[level - 1]) << 10 | self.r.choice((1, 1, 1, 33)):x}"
+                yield line_of("w", 0, table << 12, self.pointer_below(level))
         for hart in range(self.harts):
-            yield f"s {hart} {self.satp():x}"
+            yield line_of("s", hart, self.satp())
 
 
 def made(seed):
     """A random trace of a kernel that forgets fences now and then."""
     r = random.Random(seed)
     harts, levels = r.choice((1, 2, 2, 3)), r.choice((3, 3, 4))
-    yield f"watch 1 {harts} sv{12 + 9 * levels}"
+    yield header(harts, f"sv{12 + 9 * levels}")
     kernel = Kernel(r, harts, levels)
     yield from kernel.beginning()
     for _ in range(r.choice((40, 80, 120))):

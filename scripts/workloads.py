@@ -12,6 +12,8 @@ thousand records.
 """
 import os, subprocess, sys, tempfile
 
+from trace_lines import KERNEL, header, kernel_leaf, leaf, line_of, pointer, space
+
 MASK = (1 << 64) - 1
 KERNEL_BASE = 0xFFFFFFC000000000
 SHAPES = {
@@ -66,7 +68,7 @@ class Kernel:
         self.free, self.next_frame, self.next_asid, self.next_token = [], 0x90000, 0, 0
 
     def record(self, letter, hart, *fields):
-        line = f"{letter} {hart}" + "".join(" -" if f is None else f" {f:x}" for f in fields)
+        line = line_of(letter, hart, *fields)
         if self.lazy:
             line += f" @ffffffff80{ord(letter) << 20 | self.random.below(48 if letter == 'w' else 1 << 20):x}"
         self.lines.append(line)
@@ -103,17 +105,17 @@ class Kernel:
 
     def boot(self):
         self.upper, self.lower = self.give_out(0), self.give_out(0)
-        self.store(0, self.upper, 0, self.lower << 10 | 1)
+        self.store(0, self.upper, 0, pointer(self.lower))
         for n in range(64):
-            self.store(0, self.upper, 100 + n, (0x80000 + (n << 9)) << 10 | 0xE7)
+            self.store(0, self.upper, 100 + n, kernel_leaf(0x80000 + (n << 9)))
         self.own = [0] * 64
 
     def fork(self, hart):
         root, middle, low = self.give_out(hart), self.give_out(hart), self.give_out(hart)
         self.next_asid = self.next_asid % 0xFFFE + 1
-        self.store(hart, root, 256, self.upper << 10 | 0x21)
-        self.store(hart, root, 0, middle << 10 | 1)
-        self.store(hart, middle, 0, low << 10 | 1)
+        self.store(hart, root, KERNEL, pointer(self.upper, is_global=True))
+        self.store(hart, root, 0, pointer(middle))
+        self.store(hart, middle, 0, pointer(low))
         return Process((root, middle, low), self.next_asid)
 
     def switch(self, hart, to):
@@ -122,14 +124,14 @@ class Kernel:
         p = self.processes[to]
         p.harts |= 1 << hart
         p.seen |= 1 << hart
-        self.record("s", hart, 8 << 60 | p.asid << 44 | p.tables[0])
+        self.record("s", hart, space(p.tables[0], p.asid))
 
     def fault(self, hart, p):
         index = p.free_index(self.random)
         if index is None:
             return
         frame = self.give_out(hart)
-        self.store(hart, p.tables[2], index, frame << 10 | 0xD7)
+        self.store(hart, p.tables[2], index, leaf(frame))
         p.frames[index] = frame
         p.mapped.append(index)
         self.record("f", hart, index << 12, None if self.lazy else p.asid)
@@ -150,7 +152,7 @@ class Kernel:
         va, old = KERNEL_BASE + index * 4096, self.own[index]
         if old == 0:
             frame = self.give_out(hart)
-            self.store(hart, self.lower, index, frame << 10 | 0xE7)
+            self.store(hart, self.lower, index, kernel_leaf(frame))
             self.own[index] = frame
             self.record("f", hart, va, None)
             return
@@ -180,7 +182,7 @@ class Kernel:
             self.give_back(hart, old.frames[index])
         self.store(hart, middle, 0, 0)
         self.store(hart, root, 0, 0)
-        self.store(hart, root, 256, 0)
+        self.store(hart, root, KERNEL, 0)
         for table in (low, middle, root):
             self.give_back(hart, table)
 
@@ -217,7 +219,7 @@ def trace(name, seed, records):
         if kernel.lazy and len(kernel.lines) >= settled + 30000:
             settled = len(kernel.lines)
             kernel.fence_others(0, kernel.others(0) | 1, KERNEL_BASE, 64 * 4096, None)
-    return f"watch 1 {kernel.count} sv39\n" + "".join(line + "\n" for line in kernel.lines)
+    return "".join(line + "\n" for line in (header(kernel.count), *kernel.lines))
 
 
 def digest(text):
