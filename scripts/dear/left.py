@@ -1,7 +1,7 @@
 """Spaces that harts have left, and fences since."""
 import random
 
-from dear import LEAVES, MIDDLE, OTHER_ROOT, ROOT, come_and_go, enter, kind, pages_of_hash_zero, path
+from dear import LEAVES, MIDDLE, OTHER_ROOT, ROOT, SPREAD, come_and_go, enter, kind, path
 from trace_lines import EVERY, KERNEL, address, fence, given_out, header, kernel_leaf, leaf, pointer, remote_fence, satp, store
 
 OTHERS = EVERY - 1  # all 64 harts but hart 0
@@ -89,21 +89,39 @@ def left_then_fences_in_a_superpage(n):
         yield store(MIDDLE, i)
 
 
-@kind(4000)
+def bucket(key, buckets=1 << 13):
+    """Of a fence's key: a page and an ASID, or what stands for all of either."""
+    return key * SPREAD % (1 << 64) >> 32 & buckets - 1
+
+
+def fences_alike(count):
+    """An ASID and pages such that fences of one page or all, with this ASID or none, have one bucket."""
+    every_page, every_asid = 1 << 53, 1 << 16
+    wanted = bucket(every_page + every_asid)
+    asid = next(asid for asid in range(1, every_asid) if bucket(every_page + asid) == wanted)
+    pages, page = [], 0
+    while len(pages) < count:
+        page += 1
+        if bucket((page << 17) + every_asid) == wanted == bucket((page << 17) + asid):
+            pages.append(page)
+    return asid, pages
+
+
+@kind(500)
 def fences_of_one_bucket(n):
-    """63 harts leave a space and fence a page; n fences of n / 4 pages of its hash by the one that stays; the page is mapped 400 times."""
-    yield header(64)
-    pages = pages_of_hash_zero(n // 4, 1 << 9)
+    """63 harts leave a space; n fences of n / 2 pages by the one that stays, whose keys fall into one bucket; a page is mapped 400 times."""
+    asid, pages = fences_alike(1 + n // 2)
     page = pages[0]
+    yield header(64)
     yield store(ROOT, page >> 18 & 511, pointer(MIDDLE))
     yield store(MIDDLE, page >> 9 & 511, pointer(LEAVES))
     yield store(LEAVES, page & 511, leaf(0x1000))
-    yield from enter(range(64), ROOT)
+    yield from enter(range(64), ROOT, asid)
     for hart in range(1, 64):
         yield satp(hart, OTHER_ROOT, 2)
-        yield fence(hart, page << 12, 1)
+        yield fence(hart, page << 12, asid)
     for i in range(n):
-        yield fence(0, pages[i % len(pages)] << 12, (None, 1, 2, 3)[i % 4])
+        yield fence(0, pages[1 + i // 2] << 12, (None, asid)[i % 2])
     for i in range(400):
         yield store(LEAVES, page & 511, leaf(0x1000 + i % 2))
 
@@ -136,7 +154,7 @@ def left_spaces_of_one_root(n):
             yield fence(0, address(0, 0, i // 100))
 
 
-@kind(5000)
+@kind(2125)
 def left_by_failed_looks(n):
     """64 harts go n times to one of 64 roots under one of 16 ASIDs, with a fence of an ASID at each eighth, and new pages."""
     yield header(64)
