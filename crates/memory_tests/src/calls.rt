@@ -1,7 +1,7 @@
 //! The calls that take memory.
 
 use crate::verdict::Verdict;
-use crate::{inspections, live, locked, machines, texts};
+use crate::{inspections, live, locked, machines, notes, texts};
 use std::alloc::Global;
 use std::sync::Wait;
 use std::thread::Threads;
@@ -21,11 +21,12 @@ pub enum Call {
     Show,
     Draw,
     Check,
+    Watch,
 }
 
 impl Call {
     /// All of them, in the order of their lines.
-    pub const ALL: [Call; 12] = [
+    pub const ALL: [Call; 13] = [
         Call::MachineOpen,
         Call::MachineRun,
         Call::LockedCall,
@@ -38,6 +39,7 @@ impl Call {
         Call::Show,
         Call::Draw,
         Call::Check,
+        Call::Watch,
     ];
 
     /// Its name on its line.
@@ -55,6 +57,7 @@ impl Call {
             Call::Show => "inspect_command Show",
             Call::Draw => "inspect_command Draw",
             Call::Check => "inspect_command Check",
+            Call::Watch => "watch_command",
         }
     }
 
@@ -73,6 +76,7 @@ impl Call {
             Call::Show => inspections::show(alloc),
             Call::Draw => inspections::draw(alloc),
             Call::Check => inspections::check(alloc),
+            Call::Watch => notes::watch(alloc),
         }
     }
 }

@@ -1,9 +1,9 @@
-//! `memory_tests`: makes twelve calls that take memory, through which most others of the libraries
+//! `memory_tests`: makes thirteen calls that take memory, through which most others of the libraries
 //! go, and prints a line for each: whether it answered as usual, found no memory, or answered
 //! anything else. The status is 5 if one of them found no memory, else 0.
 //! `scripts/refuse_memory.sh` runs it once for each of its requests for memory, which is then
 //! refused. With the word `scarce` it repeats each call with ever more memory, from none on, until
-//! it answers as usual.
+//! it answers as usual, and one with too little for a note more than once.
 #![tactic(auto)]
 
 mod calls;
@@ -11,6 +11,7 @@ mod inspections;
 mod live;
 mod locked;
 mod machines;
+mod notes;
 mod scarce;
 mod shootdown;
 mod texts;
@@ -46,6 +47,11 @@ fn with_little<R: Print + Threads + Wait + Sync>(rt: &R, alloc: Global) {
         let told = hoard.tell(rt, alloc, call);
         let _ = println!(rt; "{}, as memory ends: {}", call.name(), told.words());
     }
+    let told = match hoard.make(rt, alloc, Call::Watch, notes::ENOUGH) {
+        None => "not tried",
+        Some(verdict) => verdict.told(),
+    };
+    let _ = println!(rt; "watch_command, with room for each note once: {told}");
 }
 
 fn main(rt: HostRuntime) -> ExitCode {

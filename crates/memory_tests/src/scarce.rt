@@ -141,7 +141,7 @@ impl Hoard {
     }
 
     /// Makes a call where no more than `bytes` bytes are free. `None` if that many can't be left.
-    fn make<R: Threads + Wait + Sync>(
+    pub fn make<R: Threads + Wait + Sync>(
         &mut self,
         rt: &R,
         alloc: Global,
