@@ -98,13 +98,13 @@ calls_keep_unmapping port after ticket to room place page named was = (
 )
 
 -- a ticket that was opened
-opened-ticket : (T : TicketTable) (what : What) (named n : ℕ) → open_answer T named ≡ Ok n → ticket_at (after_open T what named) n ≡ Some (new_ticket what named)
+pub opened-ticket : (T : TicketTable) (what : What) (named n : ℕ) → open_answer T named ≡ Ok n → ticket_at (after_open T what named) n ≡ Some (new_ticket what named)
 opened-ticket T what named n is =
     let below = position-Some is_none T.tickets n None (opened-free T named n is) in
     rw is (ap if_open (slice_get-set_same T.tickets n (Some (new_ticket what named)) below.0))
 
 -- what an accepted edit needs: a store that is due, and a free ticket
-accepted : (refusal : Option Refusal) (d : Result Store MapFault) (o : Result ℕ TicketFault) (n : ℕ) → answer_or refusal (opened_if d o) ≡ Ok n → (store : Store) × (d ≡ Ok store) × (o ≡ Ok n)
+pub accepted : (refusal : Option Refusal) (d : Result Store MapFault) (o : Result ℕ TicketFault) (n : ℕ) → answer_or refusal (opened_if d o) ≡ Ok n → (store : Store) × (d ≡ Ok store) × (o ≡ Ok n)
 accepted (Some why) d o n e = absurd (let bad : Err why ≡ Ok n = e in cc)
 accepted None (Err fault) o n e = absurd (let bad : Err (refusal_of fault) ≡ Ok n = e in cc)
 accepted None (Ok store) (Err fault) n e = absurd (let bad : Err (opening_refusal fault) ≡ Ok n = e in cc)

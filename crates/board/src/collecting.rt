@@ -125,9 +125,11 @@ impl HartPort {
         self.tickets.progress(ticket)
     }
 
-    /// Each entry of the TLB is one that the hart's view holds; and what was collected stays clean,
-    /// also when the ticket is finished and used again. Nothing is done: the clauses are the facts.
+    /// The tickets are the hart's own. Each entry of the TLB is one that the hart's view holds; and
+    /// what was collected stays clean, also when the ticket is finished and used again. Nothing is
+    /// done: the clauses are the facts.
     pub fn held(&self)
+        ensures own { self.now.tickets.hart ≡ self.now.hart }
         ensures within { IsWithin self.now.tlb.entries self.now.view.entries }
         ensures clean { StaysClean self.now }
     {
