@@ -14,7 +14,7 @@ use Rattle.views.specs.OnBoard.{IsWithin}
 use Rattle.harts.specs.Free.{IsFree}
 
 -- of two ports of one board the first is that of hart 0, and the second that of hart 1
-harts-of-two : (setup : Setup) (zero one : PortName) → ArePorts setup (zero ∷ one ∷ []) → (zero.hart ≡ 0) × (one.hart ≡ 1)
+pub harts-of-two : (setup : Setup) (zero one : PortName) → ArePorts setup (zero ∷ one ∷ []) → (zero.hart ≡ 0) × (one.hart ≡ 1)
 harts-of-two setup zero one are =
     let two : setup.harts ≡ 2 = sym (ap length are.numbered ∙ length-range_with_len 0 setup.harts) in
     let numbered : (zero.hart ∷ one.hart ∷ []) ≡ range_with_len 0 2 = are.numbered ∙ ap (range_with_len 0) two in

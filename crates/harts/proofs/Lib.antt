@@ -4,3 +4,4 @@ pub mod ScriptLemmas
 pub mod Tallied
 pub mod Woven
 pub mod Freeing
+pub mod Refusing

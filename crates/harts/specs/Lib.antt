@@ -3,3 +3,4 @@ pub mod Books
 pub mod Scripts
 pub mod Turns
 pub mod Free
+pub mod Refused
