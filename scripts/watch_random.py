@@ -64,11 +64,15 @@ def wanted(lines, notes):
     return due
 
 
+def counted(number, noun):
+    return f"{number} {noun}" + ("" if number == 1 else "s")
+
+
 def last_line(records, due):
     counts = Counter(line.split()[1] for line in due)
     if not due:
-        return f"{records} records, no verdict"
-    return f"{records} records, {len(due)} verdicts: " + ", ".join(f"{v} {counts[v]}" for v in VERDICTS if counts[v])
+        return f"{counted(records, 'record')}, no verdict"
+    return f"{counted(records, 'record')}, {counted(len(due), 'verdict')}: " + ", ".join(f"{v} {counts[v]}" for v in VERDICTS if counts[v])
 
 
 def printed(due):

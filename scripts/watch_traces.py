@@ -24,8 +24,8 @@ def given(path):
 
 
 def counts_of(text):
-    """Of the last line of a program: `N records, no verdict` or `N records, N verdicts: COUNTS`."""
-    _, _, rest = (text.splitlines() or [""])[-1].partition(" records, ")
+    """Of the last line of a program: `N records, no verdict` or `N records, N verdicts: COUNTS`, of one each in the singular."""
+    _, _, rest = (text.splitlines() or [""])[-1].partition(", ")
     return rest.split(": ", 1)[-1]
 
 

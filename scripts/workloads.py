@@ -242,7 +242,8 @@ def main(name, seed, records, *more):
         out = subprocess.run([sys.executable, f"{here}/watch_definitions.py", file.name], capture_output=True, check=True)
     if out.stdout:
         sys.exit("there are verdicts, whose lines this script does not make")
-    print(digest(f"{text.count(chr(10)) - 1} records, no verdict\n".encode()))
+    count = text.count(chr(10)) - 1
+    print(digest(f"{count} record{'' if count == 1 else 's'}, no verdict\n".encode()))
 
 
 if __name__ == "__main__":

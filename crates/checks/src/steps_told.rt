@@ -155,7 +155,7 @@ fn tell_shape(report: &mut Report, document: &Document<'_>, harts: u8) {
             Piece::Number(count as u64),
             Piece::Text(" scripts are more than "),
             Piece::Number(u64::from(harts)),
-            Piece::Text(" harts"),
+            Piece::Text(if harts == 1 { " hart" } else { " harts" }),
         ];
         document.tell(report, "scripts", &what);
     }

@@ -42,9 +42,13 @@ abbrev pub scheme_text : Scheme → List ℕ
 scheme_text Sv39 = codes "sv39"
 scheme_text Sv48 = codes "sv48"
 
+-- the word behind their number
+abbrev pub steps_text : ℕ → List ℕ
+steps_text steps = if steps == 1 then codes " step: " else codes " steps: "
+
 abbrev pub first_line : ℕ → Config → List ℕ
 first_line steps config =
-    end_line (codes "after " ++ decimal steps ++ codes " steps: " ++ scheme_text config.scheme
+    end_line (codes "after " ++ decimal steps ++ steps_text steps ++ scheme_text config.scheme
     ++ codes ", harts " ++ decimal config.harts
     ++ codes ", window " ++ decimal config.window ++ codes ", capacity " ++ decimal config.capacity)
 

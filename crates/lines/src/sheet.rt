@@ -4,7 +4,7 @@ ghost use Rattle.std.specs.Prelude.{◌≡◌, ◌<◌, ◌≤◌, IfErr, IfOk, 
 ghost use Rattle.pte.specs.declared.address.TheConstants.{TABLE_LENGTH};
 ghost use Rattle.files.specs.declared.fault.Fault.TheVariants.{NoMemory};
 ghost use Rattle.lines.specs.Sheet.{IsSheet, Shows};
-ghost use Rattle.lines.specs.Rows.{first_line, scheme_text};
+ghost use Rattle.lines.specs.Rows.{first_line, scheme_text, steps_text};
 
 use crate::hart_rows::{push_harts, push_services, push_tlbs};
 use crate::mailbox_rows::push_mailboxes;
@@ -27,6 +27,13 @@ fn scheme_word(scheme: Scheme) -> &'static str
     }
 }
 
+/// The word behind the number of steps.
+fn steps_word(steps: usize) -> &'static str
+    ensures { result.now ≡ steps_text steps }
+{
+    if steps == 1 { " step: " } else { " steps: " }
+}
+
 /// The first line: after how many steps, and what the machine was opened with.
 fn first_line(alloc: Global, steps: usize, config: &Config) -> Result<String, AllocError>
     ensures { IfOk result (λ line. string_bytes line ≡ first_line steps config.now) }
@@ -35,7 +42,7 @@ fn first_line(alloc: Global, steps: usize, config: &Config) -> Result<String, Al
     let (harts, window, capacity) = (config.harts, config.window, config.capacity);
     line.push_str("after ")?;
     write!(line, "{steps}")?;
-    line.push_str(" steps: ")?;
+    line.push_str(steps_word(steps))?;
     line.push_str(scheme_word(config.scheme))?;
     line.push_str(", harts ")?;
     write!(line, "{harts}")?;

@@ -66,6 +66,6 @@ fn verdicts_are_printed(rt: HostRuntime) {
     push_warning(&mut text, &warning, b"unmap", b"").expect(&rt, "room");
     push_summary(&mut text, 18, &user, &VerdictCounts::default()).expect(&rt, "room");
     let wanted = b"18 free hart 11 may hold page 1000+1000 -> 100 r---- asid a root 80000, \
-        stale since 6 by unmap; frames 100+1 given back\n18 records, 1 verdicts: free 1\n";
+        stale since 6 by unmap; frames 100+1 given back\n18 records, 1 verdict: free 1\n";
     assert!(rt; text.as_slice() == wanted.as_slice());
 }

@@ -33,7 +33,7 @@ gives_none : (scheme : Scheme) (of address : ℕ) → GivesVerdict scheme (Use o
 gives_none scheme of address (inl (verdict, hart, x, due)) = nothing_given scheme verdict of address hart x due.given
 gives_none scheme of address (inr nothing) = nothing
 
-whole : (scheme : Scheme) (of address : ℕ) (by : List ℕ) → WholeText scheme (record { made = Use of address; by = by } ∷ []) false (codes "1 records, no verdict\n")
+whole : (scheme : Scheme) (of address : ℕ) (by : List ℕ) → WholeText scheme (record { made = Use of address; by = by } ∷ []) false (codes "1 record, no verdict\n")
 unfolding digits
 whole scheme of address by = ([] ∷ [], (none_at_first scheme of address, tt), refl, (λ t. absurd (false≢true t), λ gives. absurd (gives_none scheme of address gives)))
 

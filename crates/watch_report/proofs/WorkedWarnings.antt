@@ -27,6 +27,14 @@ pub no_verdict : lines.no_verdict
 unfolding digits
 no_verdict = refl
 
+pub one_record : lines.one_record
+unfolding digits
+one_record = refl
+
+pub one_verdict : lines.one_verdict
+unfolding digits
+one_verdict = refl
+
 pub some_verdicts : lines.some_verdicts
 unfolding digits
 some_verdicts = refl
@@ -41,4 +49,4 @@ all_verdicts = refl
 
 pub ruleset warning_lines = (given_back, given_out, below_a_global_pointer, claimed, used)
 
-pub ruleset summary_lines = (no_verdict, some_verdicts, verdicts_of_both, all_verdicts)
+pub ruleset summary_lines = (no_verdict, one_record, one_verdict, some_verdicts, verdicts_of_both, all_verdicts)

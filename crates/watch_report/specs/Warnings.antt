@@ -124,13 +124,18 @@ all_counts user kernel =
 abbrev pub sum_of : VerdictCounts → ℕ
 sum_of c = c.free + c.reuse + c.claimed + c.used
 
+-- a count and the word behind it
+abbrev pub counted_text : ℕ → List ℕ → List ℕ → List ℕ
+counted_text n one more = decimal n ++ (if n == 1 then one else more)
+
 -- how many verdicts, and how many of each kind
 abbrev pub total_text : VerdictCounts → VerdictCounts → List ℕ
 total_text user kernel =
     if sum_of user + sum_of kernel == 0 then codes "no verdict"
-    else decimal (sum_of user + sum_of kernel) ++ codes " verdicts: "
+    else counted_text (sum_of user + sum_of kernel) (codes " verdict: ") (codes " verdicts: ")
     ++ verdict_counts_text true (all_counts user kernel)
 
 abbrev pub summary_line : ℕ → VerdictCounts → VerdictCounts → List ℕ
 summary_line records user kernel =
-    decimal records ++ codes " records, " ++ total_text user kernel ++ codes "\n"
+    counted_text records (codes " record, ") (codes " records, ") ++ total_text user kernel
+    ++ codes "\n"

@@ -25,10 +25,10 @@ abbrev pub hart_too_great : List ℕ
 hart_too_great = codes "watch 1 2 sv39\nu 0 1000\nu 2 1000\nu 0 1000\n"
 
 abbrev pub done : Type 0
-done = Prints used_once (codes "1 records, no verdict\n") (Ok false)
+done = Prints used_once (codes "1 record, no verdict\n") (Ok false)
 
 abbrev pub done_without_a_feed : Type 0
-done_without_a_feed = Prints (codes "watch 1 2 sv48\nu 1 1000") (codes "1 records, no verdict\n") (Ok false)
+done_without_a_feed = Prints (codes "watch 1 2 sv48\nu 1 1000") (codes "1 record, no verdict\n") (Ok false)
 
 abbrev pub header_alone : Type 0
 header_alone = Prints (codes "watch 1 2 sv39") (codes "0 records, no verdict\n") (Ok false)
@@ -55,10 +55,10 @@ abbrev pub other_line : Type 0
 other_line = ¬ Prints hart_too_great [] (Err (Line 4))
 
 abbrev pub done_with_a_fault : Type 0
-done_with_a_fault = ¬ Prints hart_too_great (codes "1 records, no verdict\n") (Ok false)
+done_with_a_fault = ¬ Prints hart_too_great (codes "1 record, no verdict\n") (Ok false)
 
 abbrev pub warned_without_a_verdict : Type 0
-warned_without_a_verdict = ¬ Prints used_once (codes "1 records, no verdict\n") (Ok true)
+warned_without_a_verdict = ¬ Prints used_once (codes "1 record, no verdict\n") (Ok true)
 
 abbrev pub nothing_printed : Type 0
 nothing_printed = ¬ Prints (codes "watch 1 2 sv39") [] (Ok false)

@@ -87,6 +87,15 @@ abbrev pub no_verdict : Type 0
 no_verdict =
     summary_line 17 (counts 0 0 0 0) (counts 0 0 0 0) ≡ codes "17 records, no verdict\n"
 
+abbrev pub one_record : Type 0
+one_record =
+    summary_line 1 (counts 0 0 0 0) (counts 0 0 0 0) ≡ codes "1 record, no verdict\n"
+
+abbrev pub one_verdict : Type 0
+one_verdict =
+    summary_line 11 (counts 0 0 0 0) (counts 0 1 0 0)
+    ≡ codes "11 records, 1 verdict: kernel-reuse 1\n"
+
 abbrev pub some_verdicts : Type 0
 some_verdicts =
     summary_line 17 (counts 3 1 0 0) (counts 0 0 0 0)

@@ -1,5 +1,5 @@
 //! The last line, with the counts of the verdicts.
-ghost use Rattle.std.specs.Prelude.{◌≡◌, ◌==◌, ◌++◌, ◌&&◌, OnOk, map, true};
+ghost use Rattle.std.specs.Prelude.{◌≡◌, ◌==◌, ◌++◌, ◌&&◌, OnOk, if◌then◌else◌, map, true};
 ghost use Rattle.watch_report.specs.Warnings.{all_counts, comma_text, count_text, verdict_counts_text, summary_line, printed_count, sum_of, total_text};
 
 use crate::push::{push, push_decimal, push_wide_decimal};
@@ -119,6 +119,13 @@ impl VerdictCounts {
     }
 }
 
+/// The word behind a count: `one` behind 1, else `more`.
+fn word_of(is_one: bool, one: &'static [u8], more: &'static [u8]) -> &'static [u8]
+    ensures { result.now ≡ (if is_one then one.now else more.now) }
+{
+    if is_one { one } else { more }
+}
+
 fn push_total(
     text: &mut Vec<u8>,
     user: &VerdictCounts,
@@ -132,7 +139,7 @@ fn push_total(
         push(text, b"no verdict")
     } else {
         push_wide_decimal(text, total)?;
-        push(text, b" verdicts: ")?;
+        push(text, word_of(total == 1, b" verdict: ", b" verdicts: "))?;
         push_all_counts(text, user, kernel)
     }
 }
@@ -150,7 +157,7 @@ pub fn push_summary(
         ++ summary_line records user.now kernel.now) }
 {
     push_decimal(text, records)?;
-    push(text, b" records, ")?;
+    push(text, word_of(records == 1, b" record, ", b" records, "))?;
     push_total(text, user, kernel)?;
     push(text, b"\n")
 }

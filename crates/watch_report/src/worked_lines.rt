@@ -98,6 +98,8 @@ pub fn worked_warnings()
 #[tactic(auto, using(crate::proofs::WorkedWarnings::summary_lines))]
 pub fn worked_summaries()
     ensures no_verdict { warnings.no_verdict }
+    ensures one_record { warnings.one_record }
+    ensures one_verdict { warnings.one_verdict }
     ensures some_verdicts { warnings.some_verdicts }
     ensures verdicts_of_both { warnings.verdicts_of_both }
     ensures all_verdicts { warnings.all_verdicts }
