@@ -49,13 +49,7 @@ fn read_shown<R: BufRead>(input: &mut R, line: &mut Vec<u8>) -> Result<Option<bo
 {
     let shown = match input.fill_buf() {
         Ok(shown) => shown,
-        Err(error) => {
-            return if error.kind() == io::ErrorKind::Interrupted {
-                Ok(None)
-            } else {
-                Err(read_fault(&error))
-            };
-        }
+        Err(error) => return Err(read_fault(&error)),
     };
     if shown.is_empty() {
         return Ok(Some(false));

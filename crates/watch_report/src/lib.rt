@@ -22,6 +22,7 @@ mod push;
 mod reading;
 mod record;
 mod report;
+mod retry;
 mod texts;
 mod trigger;
 mod verdicts;
@@ -36,6 +37,7 @@ pub use header::{Header, read_header};
 pub use laws::{each_warning_is_printed, printed_record_is_read};
 pub use line::{Line, read_line};
 pub use report::report_trace;
+pub use retry::{read_retrying, write_retrying};
 pub use warning::{Trigger, Warning, push_warning};
 pub use worked_lines::{
     worked_headers, worked_readings, worked_records, worked_refusals, worked_summaries,

@@ -7,6 +7,7 @@ use crate::fault::ReportFault;
 use crate::header::{Header, read_header};
 use crate::input::read_line;
 use crate::reading::Reading;
+use crate::retry::Retrying;
 use std::alloc::Global;
 use std::io::{BufRead, BufReader, Read, Write};
 
@@ -64,7 +65,7 @@ pub fn report_trace<R: Read + Drop, W: Write>(
     ensures { (text : List ℕ) × IfSome (R.remaining input) (λ left. text ≡ left)
         × Ends text result (W.contents out.old) (W.contents out.new) }
 {
-    let Ok(mut reader) = BufReader::new(alloc, input) else {
+    let Ok(mut reader) = BufReader::new(alloc, Retrying { inner: input }) else {
         return Err(ReportFault::NoMemory);
     };
     report_all(alloc, &mut reader, out)
