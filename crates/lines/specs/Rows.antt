@@ -1,6 +1,6 @@
 -- The lines of `show`. A line is made of columns: each is filled with blanks up to where the next
 -- begins.
-use Rattle.std.specs.Prelude.{ℕ, zero, suc, ◌+◌, ◌-◌, ◌*◌, Bool, List, [], ◌∷◌, ◌++◌, Option, Some, None, length, replicate, codes, if◌then◌else◌}
+use Rattle.std.specs.Prelude.{ℕ, zero, suc, ◌+◌, ◌-◌, ◌*◌, Bool, ◌==◌, List, [], ◌∷◌, ◌++◌, Option, Some, None, length, replicate, codes, if◌then◌else◌}
 use Rattle.std.specs.Fmt.{decimal}
 use Rattle.pte.specs.declared.address.PageSize.{PageSize}
 use Rattle.pte.specs.declared.address.What.{What}

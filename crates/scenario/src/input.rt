@@ -7,11 +7,12 @@ use crate::limits::MOST_BYTES;
 use crate::trouble::Trouble;
 use std::alloc::Global;
 use std::io::Read;
+use watch_report::read_retrying;
 
 /// The bytes of one read.
 const PIECE: usize = 4096;
 
-/// One read, whose bytes go to the end of `bytes`.
+/// One read, whose bytes go to the end of `bytes`. It is tried again while it is interrupted.
 fn read_piece<R: Read>(
     input: &mut R,
     buffer: &mut [u8],
@@ -22,7 +23,7 @@ fn read_piece<R: Read>(
         (length buffer.old) bytes.old.items bytes.new.items count) }
     ensures up_to { ReadsUpTo (length buffer.old) (R.remaining input.old) (R.remaining input.new) }
 {
-    let Ok(count) = input.read(buffer) else {
+    let Ok(count) = read_retrying(input, buffer) else {
         return Err(Trouble::Unreadable);
     };
     bytes.extend_from_slice(&buffer[..count])?;

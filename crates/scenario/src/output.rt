@@ -5,8 +5,10 @@ ghost use Rattle.scenario.specs.Output.{AppendsFront};
 
 use files::Fault;
 use std::io::Write;
+use watch_report::write_retrying;
 
-/// Writes all of the bytes. An error of the writer, or a write of no bytes, ends it at once.
+/// Writes all of the bytes. An error of the writer but an interruption, or a write of no bytes, ends
+/// it at once.
 pub fn write_whole<W: Write>(out: &mut W, bytes: &[u8]) -> Result<(), Fault>
     ensures ok { OnOk result (Appends (W.contents out.old) (W.contents out.new) bytes.now) }
     ensures err { OnErr result (AppendsFront (W.contents out.old) (W.contents out.new) bytes.now) }
@@ -14,7 +16,7 @@ pub fn write_whole<W: Write>(out: &mut W, bytes: &[u8]) -> Result<(), Fault>
 {
     let mut written = 0usize;
     while written < bytes.len() {
-        match out.write(&bytes[written..]) {
+        match write_retrying(out, &bytes[written..]) {
             Ok(0) | Err(_) => return Err(Fault::Output),
             Ok(count) => written += count,
         }

@@ -152,7 +152,7 @@ pub(crate) fn report<E: Write>(alloc: Global, file: &str, trouble: &Trouble, err
 /// not read, too large, or not TOML, 3 a refused scenario, 4 the output failed, 5 out of memory. At
 /// all but 0 one line goes to `err`, as far as it takes it; its own faults count for nothing.
 /// `file` is the file's name in the line. No more than 1,048,577 bytes are read, and any error of
-/// the reader is `cannot read`.
+/// the reader but an interruption is `cannot read`.
 pub fn command<R: Read, W: Write, E: Write>(
     alloc: Global,
     which: Which,
