@@ -85,6 +85,11 @@ impl Narrow {
         }
     }
 
+    /// One with room for all, that takes at most `step` bytes a write.
+    pub fn steps_of(alloc: Global, step: usize) -> Narrow {
+        Narrow::new(alloc, step, usize::MAX, AtEnd::Fails)
+    }
+
     /// One with room for all.
     pub fn ample(alloc: Global) -> Narrow {
         Narrow::new(alloc, usize::MAX, usize::MAX, AtEnd::Fails)
@@ -108,13 +113,13 @@ impl Write for Narrow {
 }
 
 /// The status of a command on a file named `a file`.
-pub fn status_of<T: Threads + Wait + Sync>(
+pub fn status_of<T: Threads + Wait + Sync, R: Read, W: Write, E: Write>(
     rt: &T,
     alloc: Global,
     job: Job,
-    input: &mut Pieces<'_>,
-    out: &mut Narrow,
-    err: &mut Narrow,
+    input: &mut R,
+    out: &mut W,
+    err: &mut E,
 ) -> u8 {
     match job {
         Job::Command(which) => command(alloc, which, "a file", input, out, err),

@@ -1,5 +1,5 @@
 //! Tests of what is read and written that are no data of `svsim_examples`: calls of the libraries, readers
-//! and writers that fail, the longest files, gates, and lines that differ from run to run.
+//! and writers that fail or are interrupted, the longest files, gates, and lines that differ from run to run.
 #![tactic(auto)]
 
 #[cfg(test)]
@@ -8,6 +8,8 @@ mod asserting;
 mod ends;
 #[cfg(test)]
 mod gates;
+#[cfg(test)]
+mod interrupted;
 #[cfg(test)]
 mod limits;
 #[cfg(test)]

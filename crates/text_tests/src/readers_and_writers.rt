@@ -30,7 +30,7 @@ const FILES: [(Job, &str); 8] = [
 ];
 
 /// Files, their commands, and the status of these.
-const ALL: [(Job, &str, u8); 12] = [
+pub(crate) const ALL: [(Job, &str, u8); 12] = [
     (WALK, FILE, 0),
     (WALK, DEEP_WALK, 0),
     (RUN, SHOOTDOWN, 0),

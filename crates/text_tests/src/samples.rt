@@ -120,3 +120,18 @@ steps = [
     "0 finish 0",
 ]
 "#;
+
+/// A page that hart 1 may still hold when its frame is given back.
+pub const TRACE: &str = "watch 1 2 sv39\n\
+    w 0 80000000 20000401\n\
+    w 0 80001000 20000801\n\
+    w 0 80002008 400d7\n\
+    s 1 8000100000080000\n\
+    w 0 80002008 0 @unmap\n\
+    e 0 7\n\
+    d 0 9\n\
+    z 0 100 1\n";
+
+/// What `watch` prints of it.
+pub const VERDICTS: &str = "8 free hart 1 may hold page 1000+1000 -> 100 rw-u- asid 1 root 80000, \
+    stale since 5 by unmap; frames 100+1 given back\n8 records, 1 verdict: free 1\n";
