@@ -53,7 +53,7 @@ module _ (C : Setup) (m : State) (H : History) (st : Stands C m H) where
   reaches_reached None s below = and_from (nat_lt s (length m.memory.layout.homes)) true (in_homes s below) refl
   reaches_reached (Some a) s has = and_from (nat_lt s (length m.memory.layout.homes)) (is_of a (answers.asid_of_space m s)) (in_homes s has.there) (asid_had a s has)
 
-  from_same : (s : ℕ) (p : Mapping) → IsMappedFrom m.memory s p ≡ IsMapped C (words_of C H) s p
+  pub from_same : (s : ℕ) (p : Mapping) → IsMappedFrom m.memory s p ≡ IsMapped C (words_of C H) s p
   from_same s p =
       ap (λ (l : Layout). Maps l.scheme (words_in m) (root_ppn l s) p.page p.ppn p.flags (is_none p.asid)) (layout_same C m H st)
       ∙ ap (λ (words : Tables). Maps C.layout.scheme words (root_ppn C.layout s) p.page p.ppn p.flags (is_none p.asid)) (words_same C m H st)

@@ -22,11 +22,12 @@ use Rattle.laws.proofs.Asids.{nobody_holds}
 use Rattle.stepcore.specs.State.{State, hart_at}
 use Rattle.stepcore.specs.Stands.{Stands}
 use Rattle.stale.specs.Lasting.{StaleIn}
-use Rattle.stale.specs.Mapped.{IsMappedIn, mapping_of}
+use Rattle.stale.specs.Mapped.{mapping_of, IsMappedIn, IsMappedSomewhere}
 use Rattle.stale.specs.Stale.{BecomesStale, UsesStale}
 use Rattle.stale.specs.Told.{is_edit}
 use Rattle.stale.proofs.NoEdit.{filled, held_or_filled, stays}
 use Rattle.stale.proofs.Bridge.{mapped_now}
+use Rattle.stale.proofs.Everywhere.{everywhere}
 use Rattle.stale.proofs.Hitting.{mapping_is}
 use Rattle.stale.proofs.Passing.{Passes, held_passes}
 
@@ -63,6 +64,9 @@ module _ (C : Setup) (m : State) (H : History) (st : Stands C m H) where
           let same : p ≡ mapping_of e p.page = mapping_is e p.page p s.is refl in
           let all = (mapped_now C m H st (mapping_of e p.page)).0 (mapped p.page s.in_page s.is.page) in
           s.stale.unmapped (subst (λ (x : Mapping). IsMappedNow C H (words_of C H) x.asid x) (sym same) all)
+
+      pub not_stale : (n : ℕ) → IsMappedSomewhere m (mapping_of e n) → StaleIn C H hart e page (mapping_of e n) → ⊥
+      not_stale n one s = s.stale.unmapped ((mapped_now C m H st (mapping_of e n)).0 (everywhere C m H st (mapping_of e n) one))
 
 -- what an entry holds stale after a turn, and did not before
 module _ (C : Setup) (setup : IsSetup C) (turn : Turn) (H : History) (l : Lawful C (turn ∷ H)) (pages : HavePages (turn ∷ H)) where

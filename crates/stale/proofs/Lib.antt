@@ -20,5 +20,6 @@ mod Once
 pub mod Passing
 pub mod Whole
 pub mod Options
+pub mod Everywhere
 pub mod Lasts
 mod Unchanged

@@ -1,5 +1,5 @@
 -- How long an entry holds stale mappings of a page.
-use Rattle.std.specs.Prelude.{ℕ, Bool, true, false, ◌==◌, ◌&&◌, if◌then◌else◌, Contains}
+use Rattle.std.specs.Prelude.{ℕ, Bool, true, false, ◌<◌, ◌≤◌, ◌⊎◌, ◌==◌, ◌&&◌, if◌then◌else◌, Contains}
 use Rattle.pte.specs.Address.{Span}
 use Rattle.pte.specs.Entry.{is_user}
 use Rattle.pte.specs.declared.flags.PteFlags.{PteFlags}
@@ -23,6 +23,11 @@ pub record StaleIn (setup : Setup) (history : History) (hart : ℕ) (e : Entry) 
   pub is : IsMappingOf e m
   pub in_page : LiesIn page m.page
   pub stale : Stale setup history hart m
+
+-- pages are looked for from a number on, and then those before it: one comes before another
+abbrev pub ComesBefore : ℕ → ℕ → ℕ → Type 0
+ComesBefore from n other =
+    ((from ≤ n) × (n < other)) ⊎ ((other < from) × ((from ≤ n) ⊎ (n < other)))
 
 -- the mode that reaches pages with these flags: U-mode those with U, S-mode the others (privileged
 -- manual 4.3.1)

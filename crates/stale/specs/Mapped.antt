@@ -48,3 +48,9 @@ IsMappedFrom memory space p =
 pub record IsMappedIn (m : State) (p : Mapping) : Type 0 where
   pub some : (space : ℕ) × (is_reached m p.asid space ≡ true)
   pub each : (space : ℕ) → is_reached m p.asid space ≡ true → IsMappedFrom m.memory space p
+
+-- there is a space through which it is reached and that maps it so
+pub record IsMappedSomewhere (m : State) (p : Mapping) : Type 0 where
+  pub space : ℕ
+  pub reached : is_reached m p.asid space ≡ true
+  pub maps : IsMappedFrom m.memory space p

@@ -10,8 +10,8 @@ ghost use Rattle.history.specs.Setup.{Setup};
 ghost use Rattle.history.specs.Turns.{History};
 ghost use Rattle.stepcore.specs.State.{hart_at};
 ghost use Rattle.stepcore.specs.Stands.{Stands};
-ghost use Rattle.stale.specs.Lasting.{own_context, StaleIn};
-ghost use Rattle.stale.specs.Mapped.{IsMappedFrom, IsMappedIn, mapping_of};
+ghost use Rattle.stale.specs.Lasting.{own_context, ComesBefore, StaleIn};
+ghost use Rattle.stale.specs.Mapped.{mapping_of, IsMappedFrom, IsMappedIn, IsMappedSomewhere};
 
 use crate::mapped::{found_in, is_reached};
 use pte::{Access, Ctx, Mode, PAGE_BYTES, Page, PteFlags};
@@ -112,6 +112,8 @@ fn unmapped_from(
     ensures range { IfSome result (λ number. (from ≤ number) × (number < to)) }
     ensures some { IfSome result (λ number.
         ¬ IsMappedFrom memory.now space (mapping_of entry.now number)) }
+    ensures before { IfSome result (λ number. (n : ℕ) → from ≤ n → n < number
+        → IsMappedFrom memory.now space (mapping_of entry.now n)) }
     ensures none { IfNone result ((n : ℕ) → from ≤ n → n < to
         → IsMappedFrom memory.now space (mapping_of entry.now n)) }
 {
@@ -126,7 +128,8 @@ fn unmapped_from(
 }
 
 /// A page of 4 KiB, from a number up to another, that the tables do not map as the entry does:
-/// there is no space through which it is reached, or one does not map it so.
+/// there is no space through which it is reached, or one does not map it so, and that maps those
+/// before it so.
 fn unmapped(
     machine: &Machine,
     entry: &Entry,
@@ -140,6 +143,8 @@ fn unmapped(
     requires bound { to ≤ 2 ^ 52 }
     ensures range { IfSome result (λ number. (from ≤ number) × (number < to)) }
     ensures some { IfSome result (λ number. ¬ IsMappedIn machine.now (mapping_of entry.now number)) }
+    ensures before { IfSome result (λ number. (n : ℕ) → from ≤ n → n < number
+        → IsMappedSomewhere machine.now (mapping_of entry.now n)) }
     ensures none { IfNone result ((n : ℕ) → from ≤ n → n < to
         → IsMappedIn machine.now (mapping_of entry.now n)) }
 {
@@ -187,6 +192,9 @@ fn unmapped_in(
     ensures range { IfSome result (λ number.
         LiesIn page.now number × LiesIn entry.now.page number) }
     ensures some { IfSome result (λ number. ¬ IsMappedIn machine.now (mapping_of entry.now number)) }
+    ensures first { IfSome result (λ number. (n : ℕ) → ComesBefore from n number
+        → LiesIn page.now n → LiesIn entry.now.page n
+        → IsMappedSomewhere machine.now (mapping_of entry.now n)) }
     ensures none { IfNone result ((n : ℕ) → LiesIn page.now n → LiesIn entry.now.page n
         → IsMappedIn machine.now (mapping_of entry.now n)) }
 {
@@ -224,13 +232,16 @@ fn holds(machine: &Machine, hart: u8, entry: &Entry) -> bool
     hart < machine.harts() && has_entry(machine.hart(hart).tlb(), entry)
 }
 
-/// A page of 4 KiB of which a hart holds a stale mapping by this entry in this page, by its number.
-/// It is looked for from a number on, and then before that. `None`: the TLB of the hart does not
+/// The first page of 4 KiB of which a hart holds a stale mapping by this entry in this page, by its
+/// number: the first from a number on, or else the first of all. `None`: the TLB of the hart does not
 /// hold the entry, or the tables map all of it in this page so.
 pub fn stale_page(machine: &Machine, hart: u8, entry: &Entry, page: &Page, from: u64) -> Option<u64>
     ensures some { IfSome result (λ number. (setup : Setup) (history : History)
         → Stands setup machine.now history
         → StaleIn setup history hart entry.now page.now (mapping_of entry.now number)) }
+    ensures first { IfSome result (λ number. (setup : Setup) (history : History) (n : ℕ)
+        → Stands setup machine.now history → ComesBefore from n number
+        → ¬ StaleIn setup history hart entry.now page.now (mapping_of entry.now n)) }
     ensures none { IfNone result ((setup : Setup) (history : History) (m : Mapping)
         → Stands setup machine.now history → ¬ StaleIn setup history hart entry.now page.now m) }
 {

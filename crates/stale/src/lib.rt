@@ -19,7 +19,8 @@ pub use lasting::stale_page;
 pub use mapped::is_mapped_now;
 pub use promises::{
     acknowledged_page_is_not_stale, changed_page_is_not_stale, entries_differ,
-    entry_holds_what_became_stale, only_edits_make_stale, unmapping_makes_stale,
+    entry_holds_what_became_stale, only_edits_make_stale, pages_are_looked_for_in_turn,
+    unmapping_makes_stale,
 };
 pub use report::{stale_report, step_stale};
 pub use runs::{UseAt, stale_uses};

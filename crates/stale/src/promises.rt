@@ -14,7 +14,7 @@ ghost use Rattle.history.specs.Orders.{Cause, Unmapped};
 ghost use Rattle.history.specs.Due.{Lawful};
 ghost use Rattle.history.specs.Staleness.{HasAnswered, is_mapped_anew, is_superseded, IsChange, IsForAsid};
 ghost use Rattle.laws.specs.Kept.{HavePages, IsSetup};
-ghost use Rattle.stale.specs.Lasting.{StaleIn};
+ghost use Rattle.stale.specs.Lasting.{ComesBefore, StaleIn};
 ghost use Rattle.stale.specs.Stale.{BecomesStale, Stale, unmapping, UsesStale};
 ghost use Rattle.stale.specs.Told.{is_edit, AreDifferent};
 
@@ -92,4 +92,11 @@ pub fn entry_holds_what_became_stale()
     ensures used { (setup : Setup) (turn : Turn) (history : History) (hart : ℕ) (page : Span)
         (m : Mapping) → UsesStale setup turn history hart m → LiesIn page m.page
         → (e : Entry) × StaleIn setup history hart e page m }
+{}
+
+/// The order in which pages are looked for: from 5 on, of the pages 3 to 6 first 5 and 6, and then 3
+/// and 4. And none comes both before and after another.
+pub fn pages_are_looked_for_in_turn()
+    ensures worked { ComesBefore 5 5 6 × ComesBefore 5 6 3 × ComesBefore 5 3 4 }
+    ensures order { (from n other : ℕ) → ComesBefore from n other → ¬ ComesBefore from other n }
 {}

@@ -3,7 +3,7 @@ use Rattle.std.specs.Prelude.{nat_lt}
 use Rattle.std.proofs.lemmas.Bool.{and_parts, ltb-true}
 use Rattle.spaces.specs.Held.{Held}
 use Rattle.stale.specs.Mapped.{has_asid, IsMappedFrom, mapping_of}
-use Rattle.stale.proofs.Options.{none_there}
+use Rattle.stale.proofs.Options.{none_there, weaker_some}
 use Rattle.stale.proofs.Seen.{Seen, seen_mapped, seen_past, seen_all}
 use Rattle.stale.proofs.lasting.unmapped.Goals.{then-is_reached+else-is_some, else-is_reached}
 use Rattle.stale.proofs.lasting.unmapped.Goals as goal
@@ -33,3 +33,13 @@ returns-then-is_some-2-clause-none c = λ n from below.
     (seen_all m p c.loop-space.space true seen
     (λ s reached. let below = ltb-true s (length m.memory.layout.homes) (and_parts (nat_lt s (length m.memory.layout.homes)) (has_asid m p.asid s) reached).0 in
     let past = c.loop-space-test.false in omega (arith, limits, below, past))).0 refl
+
+pub returns-then-is_some-clause-before : goal.returns-then-is_some-clause-before
+returns-then-is_some-clause-before c =
+    weaker_some c.unmapped_from-unmapped.result
+    (λ number all n from before. record {
+      space = c.loop-space.space;
+      reached = sym c.is_reached.ensures.value ∙ c.if-is_reached.true;
+      maps = subst (λ (h : Held). IsMappedFrom h c.loop-space.space (mapping_of c.args.entry.now n)) c.memory-memory.ensures (all n from before);
+    })
+    c.unmapped_from-unmapped.ensures.before
