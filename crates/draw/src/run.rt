@@ -1,6 +1,6 @@
 //! Records a run: opens a machine, makes the steps, and lists what stands where in its picture.
 
-ghost use Rattle.std.specs.Prelude.{◌≡◌, IfErr};
+ghost use Rattle.std.specs.Prelude.{◌≡◌, ◌+◌, IfErr, IfOk, OnOk, vec_len};
 ghost use Rattle.files.specs.declared.fault.Fault.TheVariants.{NoMemory};
 
 use crate::layout::FIRST_COLUMN;
@@ -37,7 +37,9 @@ pub fn push_mapping(text: &mut String, page: Page, ppn: u64) -> Result<(), Alloc
 }
 
 impl Recorder {
-    fn new(alloc: Global, harts: u8, steps: usize) -> Result<Recorder, AllocError> {
+    fn new(alloc: Global, harts: u8, steps: usize) -> Result<Recorder, AllocError>
+        ensures { IfOk result (λ recorder. vec_len recorder.record.rows ≡ 0) }
+    {
         let mut tracks = Vec::new(alloc);
         for _ in 0..harts {
             tracks.push(Track::new(alloc))?;
@@ -57,7 +59,9 @@ impl Recorder {
     }
 
     /// Adds a row with the text of a step, and makes room for it in the column of the hart.
-    fn add_row(&mut self, event: &Event, reply: Reply) -> Result<(), AllocError> {
+    fn add_row(&mut self, event: &Event, reply: Reply) -> Result<(), AllocError>
+        ensures { OnOk result (vec_len self.new.record.rows ≡ vec_len self.old.record.rows + 1) }
+    {
         let start = self.record.texts.len();
         push_step(&mut self.record.texts, event, reply)?;
         let length = self.record.texts.len().saturating_sub(start);
@@ -76,14 +80,18 @@ impl Recorder {
     }
 
     /// A walk or a service begins.
-    fn begin(&mut self, hart: u8, span: Span, first: u32) {
+    fn begin(&mut self, hart: u8, span: Span, first: u32)
+        ensures { self.new.record.rows ≡ self.old.record.rows }
+    {
         if let Some(track) = self.tracks.get_mut(usize::from(hart)) {
             track.doing = Some(Doing { span, first });
         }
     }
 
     /// A walk or a service ends.
-    fn end(&mut self, hart: u8, last: u32) -> Result<(), AllocError> {
+    fn end(&mut self, hart: u8, last: u32) -> Result<(), AllocError>
+        ensures { self.new.record.rows ≡ self.old.record.rows }
+    {
         match self.tracks.get_mut(usize::from(hart)) {
             Some(track) => track.end_doing(hart, last, true, &mut self.record.bars),
             None => Ok(()),
@@ -91,7 +99,9 @@ impl Recorder {
     }
 
     /// A message leaves for a hart.
-    fn send(&mut self, receiver: u8, flight: Flight) -> Result<(), AllocError> {
+    fn send(&mut self, receiver: u8, flight: Flight) -> Result<(), AllocError>
+        ensures { self.new.record.rows ≡ self.old.record.rows }
+    {
         match self.tracks.get_mut(usize::from(receiver)) {
             Some(track) => track.flights.open(flight),
             None => Ok(()),
@@ -106,7 +116,9 @@ impl Recorder {
         sender: u8,
         ticket: u32,
         row: u32,
-    ) -> Result<(), AllocError> {
+    ) -> Result<(), AllocError>
+        ensures { self.new.record.rows ≡ self.old.record.rows }
+    {
         match self.tracks.get_mut(usize::from(receiver)) {
             Some(track) => track.arrive(
                 message,
@@ -121,7 +133,9 @@ impl Recorder {
     }
 
     /// A hart takes a request.
-    fn take(&mut self, hart: u8, from: u8, ticket: u32, row: u32) -> Result<(), AllocError> {
+    fn take(&mut self, hart: u8, from: u8, ticket: u32, row: u32) -> Result<(), AllocError>
+        ensures { self.new.record.rows ≡ self.old.record.rows }
+    {
         self.receive(hart, Message::Request, from, ticket, row)?;
         if let Some(track) = self.tracks.get_mut(usize::from(hart)) {
             track.serves = Some((from, ticket));
@@ -131,7 +145,9 @@ impl Recorder {
     }
 
     /// A hart acknowledges what it serves.
-    fn acknowledge(&mut self, hart: u8, row: u32) -> Result<(), AllocError> {
+    fn acknowledge(&mut self, hart: u8, row: u32) -> Result<(), AllocError>
+        ensures { self.new.record.rows ≡ self.old.record.rows }
+    {
         let served = match self.tracks.get(usize::from(hart)) {
             Some(track) => track.serves,
             None => None,
@@ -152,7 +168,9 @@ impl Recorder {
     }
 
     /// An order opens.
-    fn open_order(&mut self, hart: u8, ticket: u32, first: u32) -> Result<(), AllocError> {
+    fn open_order(&mut self, hart: u8, ticket: u32, first: u32) -> Result<(), AllocError>
+        ensures { self.new.record.rows ≡ self.old.record.rows }
+    {
         match self.tracks.get_mut(usize::from(hart)) {
             Some(track) => track.orders.open(OpenOrder {
                 ticket,
@@ -164,7 +182,9 @@ impl Recorder {
     }
 
     /// An order is done, if the reply says so.
-    fn progress(&mut self, hart: u8, ticket: u32, reply: &Reply, row: u32) {
+    fn progress(&mut self, hart: u8, ticket: u32, reply: &Reply, row: u32)
+        ensures { self.new.record.rows ≡ self.old.record.rows }
+    {
         if matches!(reply, Reply::Done) {
             if let Some(track) = self.tracks.get_mut(usize::from(hart)) {
                 track.mark_done(ticket, row);
@@ -173,7 +193,9 @@ impl Recorder {
     }
 
     /// An order ends.
-    fn finish(&mut self, hart: u8, ticket: u32, row: u32) -> Result<(), AllocError> {
+    fn finish(&mut self, hart: u8, ticket: u32, row: u32) -> Result<(), AllocError>
+        ensures { self.new.record.rows ≡ self.old.record.rows }
+    {
         match self.tracks.get_mut(usize::from(hart)) {
             Some(track) => track.finish(hart, ticket, row, &mut self.record.bars),
             None => Ok(()),
@@ -187,7 +209,9 @@ impl Recorder {
         hart: u8,
         is_begin: bool,
         reply: &Reply,
-    ) -> Result<(), AllocError> {
+    ) -> Result<(), AllocError>
+        ensures { self.new.record.rows ≡ self.old.record.rows }
+    {
         let goes_on = matches!(reply, Reply::More);
         if is_begin && goes_on {
             self.begin(hart, Span::Walk, row);
@@ -199,7 +223,9 @@ impl Recorder {
     }
 
     /// Records a step by which a request or an order goes on, and that was not refused.
-    fn note_protocol(&mut self, row: u32, event: &Event, reply: &Reply) -> Result<(), AllocError> {
+    fn note_protocol(&mut self, row: u32, event: &Event, reply: &Reply) -> Result<(), AllocError>
+        ensures { self.new.record.rows ≡ self.old.record.rows }
+    {
         match *event {
             Event::Post { hart, ticket, to } => self.send(
                 to,
@@ -229,7 +255,9 @@ impl Recorder {
     }
 
     /// Records a step that was not refused.
-    fn note(&mut self, row: u32, event: &Event, reply: &Reply) -> Result<(), AllocError> {
+    fn note(&mut self, row: u32, event: &Event, reply: &Reply) -> Result<(), AllocError>
+        ensures { self.new.record.rows ≡ self.old.record.rows }
+    {
         if let Reply::Opened(ticket) = *reply {
             return self.open_order(hart_of(event), ticket, row);
         }
@@ -248,7 +276,9 @@ impl Recorder {
         row: u32,
         event: &Event,
         reply: &Reply,
-    ) -> Result<(), AllocError> {
+    ) -> Result<(), AllocError>
+        ensures { self.new.record.rows ≡ self.old.record.rows }
+    {
         let mut hart: u8 = 0;
         for track in self.tracks.as_mut_slice() {
             if may_end_stale_at(event, reply, hart) {
@@ -260,7 +290,9 @@ impl Recorder {
     }
 
     /// Begins a bar for a mapping that became stale, if it has none.
-    fn note_becoming(&mut self, row: u32, became: &BecameStale) -> Result<(), AllocError> {
+    fn note_becoming(&mut self, row: u32, became: &BecameStale) -> Result<(), AllocError>
+        ensures { self.new.record.rows ≡ self.old.record.rows }
+    {
         let Some(track) = self.tracks.get_mut(usize::from(became.hart)) else {
             return Ok(());
         };
@@ -278,7 +310,9 @@ impl Recorder {
     }
 
     /// Marks an access that was answered by a stale mapping.
-    fn note_hit(&mut self, row: u32, used: &StaleUse) -> Result<(), AllocError> {
+    fn note_hit(&mut self, row: u32, used: &StaleUse) -> Result<(), AllocError>
+        ensures { self.new.record.rows ≡ self.old.record.rows }
+    {
         let lane = match self.tracks.get(usize::from(used.hart)) {
             Some(track) => track.stale_lane(&used.entry, used.va),
             None => None,
@@ -293,7 +327,9 @@ impl Recorder {
     }
 
     /// Records what a step did with stale mappings.
-    fn note_items(&mut self, row: u32, items: &[StaleAt]) -> Result<(), AllocError> {
+    fn note_items(&mut self, row: u32, items: &[StaleAt]) -> Result<(), AllocError>
+        ensures { self.new.record.rows ≡ self.old.record.rows }
+    {
         for at in items {
             match &at.item {
                 StaleItem::Became(became) => self.note_becoming(row, became)?,
@@ -310,7 +346,9 @@ impl Recorder {
         row: u32,
         event: &Event,
         items: &mut Vec<StaleAt>,
-    ) -> Result<(), AllocError> {
+    ) -> Result<(), AllocError>
+        ensures { OnOk result (vec_len self.new.record.rows ≡ vec_len self.old.record.rows + 1) }
+    {
         items.clear();
         let reply = step_stale(machine, *event, row as usize, items)?;
         if !matches!(reply, Reply::Refused(_)) {
@@ -324,7 +362,9 @@ impl Recorder {
     }
 
     /// Ends all that is open, and lays out the columns.
-    fn close(mut self, last: u32) -> Result<Record, AllocError> {
+    fn close(mut self, last: u32) -> Result<Record, AllocError>
+        ensures { IfOk result (λ closed. closed.rows ≡ self.record.rows) }
+    {
         let mut hart: u8 = 0;
         let mut left = FIRST_COLUMN;
         for track in self.tracks.as_mut_slice() {
@@ -349,9 +389,10 @@ fn open(alloc: Global, scenario: &RunScenario) -> Result<Machine, Fault>
     }
 }
 
-/// Makes the steps of a scenario, and records them.
+/// Makes the steps of a scenario, and records them: a row for each.
 pub fn record(alloc: Global, scenario: &RunScenario) -> Result<Record, Fault>
-    ensures { IfErr result (λ fault. fault ≡ NoMemory) }
+    ensures rows { IfOk result (λ made. vec_len made.rows ≡ vec_len scenario.now.events) }
+    ensures error { IfErr result (λ fault. fault ≡ NoMemory) }
 {
     let mut machine = open(alloc, scenario)?;
     let mut recorder = Recorder::new(alloc, machine.harts(), scenario.events.len())?;
