@@ -1,2 +1,3 @@
 pub mod NearLemmas
 pub mod FaultLemmas
+pub mod KeyLines

@@ -1,5 +1,5 @@
 -- What is reported of a text: the command that it is for, its first fault, and the lines.
-use Rattle.std.specs.Prelude.{ℕ, ◌==◌, ◌||◌, Bool, true, false, nat_lt, List, [], ◌∷◌, ◌++◌, length, codes, Option, Some, None, if◌then◌else◌}
+use Rattle.std.specs.Prelude.{ℕ, ◌≡◌, ◌==◌, ◌||◌, Bool, true, false, nat_lt, List, [], ◌∷◌, ◌++◌, length, codes, Option, Some, None, if◌then◌else◌}
 use Rattle.std.specs.Fmt.{decimal}
 use Rattle.toml.specs.Data.{Members, get_member}
 use Rattle.toml.specs.Parse.{parse_document}
@@ -77,6 +77,10 @@ is_memory faults.TooMany = false
 is_memory (faults.Step n fault) = false
 is_memory (faults.Script hart n fault) = false
 is_memory faults.Output = false
+
+-- a report that ran out of memory goes on to say so
+abbrev pub IsStillTrue : Bool → Bool → Type 0
+IsStillTrue before after = before ≡ true → after ≡ true
 
 -- ---- the lines
 

@@ -7,7 +7,7 @@ ghost use Rattle.files.specs.declared.fault.Fault.TheVariants.{NotToml};
 ghost use Rattle.files.specs.LiveFile.{live_plan_of};
 ghost use Rattle.files.specs.RunFile.{run_plan_of};
 ghost use Rattle.files.specs.WalkFile.{walk_plan_of};
-ghost use Rattle.checks.specs.Told.{command_of, fault_for, fault_in_members, fault_of, is_memory, last_text, lines_text, most_told, name_by, name_of, whole_text};
+ghost use Rattle.checks.specs.Told.{IsStillTrue, command_of, fault_for, fault_in_members, fault_of, is_memory, last_text, lines_text, most_told, name_by, name_of, whole_text};
 
 use crate::commands::{Command, command_of};
 use crate::keys_known::tell_unknown;
@@ -105,7 +105,9 @@ fn fault_in_table(
 }
 
 /// Reports each fault of a document for a command.
-fn tell_all(report: &mut Report, document: &Document<'_>, command: Command) {
+fn tell_all(report: &mut Report, document: &Document<'_>, command: Command)
+    ensures { IsStillTrue report.old.is_out_of_memory report.new.is_out_of_memory }
+{
     tell_unknown(report, document, command);
     match command {
         Command::Walk => tell_walk(report, document),
@@ -116,8 +118,9 @@ fn tell_all(report: &mut Report, document: &Document<'_>, command: Command) {
 
 /// Reports where the reader of TOML stopped, and why.
 fn tell_error(report: &mut Report, text: &str, error: &toml::de::Error) -> Result<(), AllocError>
-    ensures { OnOk result (length report.new.lines.items
+    ensures told { OnOk result (length report.new.lines.items
         ≡ min (length report.old.lines.items + 1) most_told) }
+    ensures still_short { IsStillTrue report.old.is_out_of_memory report.new.is_out_of_memory }
 {
     let start = error.span().map_or(0, |span| span.start);
     let mut line = 1_usize;

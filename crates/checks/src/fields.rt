@@ -1,4 +1,6 @@
 //! The words of a step, and what is expected of each.
+ghost use Rattle.checks.specs.Told.{IsStillTrue};
+
 use crate::report::Report;
 use pte::Scheme;
 use spaces::MAX_HARTS;
@@ -94,7 +96,9 @@ impl Field {
     }
 
     /// Whether a word without blanks is one of these, as the reader of steps has it.
-    pub fn is_right(self, report: &mut Report, scheme: Scheme, word: &str) -> bool {
+    pub fn is_right(self, report: &mut Report, scheme: Scheme, word: &str) -> bool
+        ensures { IsStillTrue report.old.is_out_of_memory report.new.is_out_of_memory }
+    {
         let (before, after) = self.around();
         let step = report.joined(before, word, after);
         let read = run_step_among(scheme, MAX_HARTS as u8, step.as_str());

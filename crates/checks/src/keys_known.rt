@@ -1,7 +1,7 @@
 //! Keys that the command does not know.
 ghost use Rattle.std.specs.Prelude.{◌≡◌};
 ghost use Rattle.files.specs.Keys.{is_known, key_texts};
-ghost use Rattle.checks.specs.Told.{keys_of};
+ghost use Rattle.checks.specs.Told.{IsStillTrue, keys_of};
 
 use crate::commands::Command;
 use crate::near::nearest;
@@ -49,7 +49,9 @@ fn nearest_of_others(key: &str) -> Option<(&'static str, Command)> {
 }
 
 /// Reports each key that the command does not know, in the order of their bytes.
-pub fn tell_unknown(report: &mut Report, document: &Document<'_>, command: Command) {
+pub fn tell_unknown(report: &mut Report, document: &Document<'_>, command: Command)
+    ensures { IsStillTrue report.old.is_out_of_memory report.new.is_out_of_memory }
+{
     for key in document.table.keys() {
         if report.is_full() {
             break;
@@ -60,7 +62,9 @@ pub fn tell_unknown(report: &mut Report, document: &Document<'_>, command: Comma
     }
 }
 
-fn tell_unknown_key(report: &mut Report, document: &Document<'_>, command: Command, key: &str) {
+fn tell_unknown_key(report: &mut Report, document: &Document<'_>, command: Command, key: &str)
+    ensures { IsStillTrue report.old.is_out_of_memory report.new.is_out_of_memory }
+{
     let this = Piece::Text(command.name());
     if let Some(other) = other_that_knows(key) {
         let other = Piece::Text(other.name());

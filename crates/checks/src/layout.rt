@@ -1,4 +1,6 @@
 //! What is wrong with the harts, the spaces and the table memory of a file: each limit on its own.
+ghost use Rattle.checks.specs.Told.{IsStillTrue};
+
 use crate::report::{Piece, Report};
 use crate::spaces_told::tell_spaces;
 use crate::values::{Document, kind};
@@ -8,7 +10,9 @@ use toml::Value;
 
 /// Reports what is wrong with the keys of the layout, where at most `most_frames` frames are
 /// allowed. Answers the number of harts if it is right.
-pub fn tell_layout(report: &mut Report, document: &Document<'_>, most_frames: u64) -> Option<u8> {
+pub fn tell_layout(report: &mut Report, document: &Document<'_>, most_frames: u64) -> Option<u8>
+    ensures { IsStillTrue report.old.is_out_of_memory report.new.is_out_of_memory }
+{
     let default = Config::default();
     let (harts, window) = (i64::from(default.harts), i64::from(default.window));
     let harts = document.whole(report, "harts", (1, MAX_HARTS as i64), harts);
@@ -29,7 +33,9 @@ pub fn tell_layout(report: &mut Report, document: &Document<'_>, most_frames: u6
 
 /// Reports what is wrong with the spare frames. Answers how many there are together, if they are
 /// numbers.
-fn tell_spares(report: &mut Report, document: &Document<'_>, harts: Option<u8>) -> Option<u64> {
+fn tell_spares(report: &mut Report, document: &Document<'_>, harts: Option<u8>) -> Option<u64>
+    ensures { IsStillTrue report.old.is_out_of_memory report.new.is_out_of_memory }
+{
     let Some(value) = document.value("spares") else {
         return harts.map(|harts| u64::from(DEFAULT_SPARES).saturating_mul(u64::from(harts)));
     };
@@ -48,7 +54,9 @@ fn tell_spares(report: &mut Report, document: &Document<'_>, harts: Option<u8>) 
 }
 
 /// Reports whether the numbers of spare frames are not as many as the harts.
-fn tell_count(report: &mut Report, document: &Document<'_>, harts: Option<u8>, count: usize) {
+fn tell_count(report: &mut Report, document: &Document<'_>, harts: Option<u8>, count: usize)
+    ensures { IsStillTrue report.old.is_out_of_memory report.new.is_out_of_memory }
+{
     let count_piece = Piece::Number(count as u64);
     match harts {
         Some(harts) if count != usize::from(harts) => {
@@ -76,7 +84,9 @@ fn tell_count(report: &mut Report, document: &Document<'_>, harts: Option<u8>, c
 }
 
 /// Reports each element that is no number of spare frames, and adds up the others.
-fn tell_each_spare(report: &mut Report, document: &Document<'_>, values: &[Value]) -> Option<u64> {
+fn tell_each_spare(report: &mut Report, document: &Document<'_>, values: &[Value]) -> Option<u64>
+    ensures { IsStillTrue report.old.is_out_of_memory report.new.is_out_of_memory }
+{
     let mut total = Some(0_u64);
     for (hart, value) in values.iter().enumerate() {
         let spares = value.as_integer().and_then(|n| u16::try_from(n).ok());
@@ -95,7 +105,9 @@ fn tell_each_spare(report: &mut Report, document: &Document<'_>, values: &[Value
 }
 
 /// Reports that an element is no number of spare frames.
-fn tell_spare(report: &mut Report, document: &Document<'_>, hart: usize, value: &Value) {
+fn tell_spare(report: &mut Report, document: &Document<'_>, hart: usize, value: &Value)
+    ensures { IsStillTrue report.old.is_out_of_memory report.new.is_out_of_memory }
+{
     let (place, hart) = (Piece::Text("of hart "), Piece::Number(hart as u64));
     match value.as_integer() {
         Some(n) => {
@@ -113,7 +125,9 @@ fn tell_spare(report: &mut Report, document: &Document<'_>, hart: usize, value: 
 
 /// Reports whether the frames are too many, or have PPNs that are too large. The parts are those of
 /// the window, the spaces and the spare ones.
-fn tell_frames(report: &mut Report, parts: [u64; 3], base: Option<u64>, most: u64) {
+fn tell_frames(report: &mut Report, parts: [u64; 3], base: Option<u64>, most: u64)
+    ensures { IsStillTrue report.old.is_out_of_memory report.new.is_out_of_memory }
+{
     let count = parts[0].saturating_add(parts[1]).saturating_add(parts[2]);
     if count > most {
         tell_many_frames(report, parts, count, most);
@@ -133,7 +147,9 @@ fn tell_frames(report: &mut Report, parts: [u64; 3], base: Option<u64>, most: u6
     }
 }
 
-fn tell_many_frames(report: &mut Report, parts: [u64; 3], count: u64, most: u64) {
+fn tell_many_frames(report: &mut Report, parts: [u64; 3], count: u64, most: u64)
+    ensures { IsStillTrue report.old.is_out_of_memory report.new.is_out_of_memory }
+{
     let what = [
         Piece::Text("frames: "),
         Piece::Number(parts[0]),

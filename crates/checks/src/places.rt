@@ -1,6 +1,7 @@
 //! Where keys and texts stand in a document that was read: the numbers of their lines.
-ghost use Rattle.std.specs.Prelude.{◌≡◌};
-ghost use Rattle.checks.specs.Places.{after_blanks, is_blank};
+ghost use Rattle.checks.specs.Told.{IsStillTrue};
+ghost use Rattle.std.specs.Prelude.{◌≡◌, IfSome, None};
+ghost use Rattle.checks.specs.Places.{after_blanks, begins_with, is_blank, IsKeyLine};
 
 use crate::report::Report;
 use std::alloc::AllocError;
@@ -119,7 +120,9 @@ fn long_after(quote: u8, read: u8, byte: u8) -> State {
 }
 
 /// Whether a line begins with a key, blanks and `=`.
-fn begins_with(line: &[u8], key: &str) -> bool {
+fn begins_with(line: &[u8], key: &str) -> bool
+    ensures { result ≡ begins_with key.now line.now }
+{
     match trimmed(line).strip_prefix(key.as_bytes()) {
         Some(rest) => trimmed(rest).first() == Some(&b'='),
         None => false,
@@ -154,7 +157,9 @@ fn scan_line(
     line: usize,
     place: &mut Place,
     is_ours: bool,
-) -> Result<Scan, AllocError> {
+) -> Result<Scan, AllocError>
+    ensures { place.new.line ≡ place.old.line }
+{
     let mut scan = scan;
     for byte in bytes {
         let next = scan.after(*byte);
@@ -177,8 +182,11 @@ pub struct Place {
 }
 
 impl Place {
-    /// Where the key and its texts stand in a document.
-    pub fn of_key(report: &mut Report, text: &str, key: &str) -> Place {
+    /// Where the key and its texts stand in a document. The line begins with the key.
+    pub fn of_key(report: &mut Report, text: &str, key: &str) -> Place
+        ensures line { IfSome result.line (λ number. IsKeyLine text.now key.now number) }
+        ensures still_short { IsStillTrue report.old.is_out_of_memory report.new.is_out_of_memory }
+    {
         let mut place = Place {
             line: None,
             marks: Vec::new(report.alloc),
@@ -188,7 +196,10 @@ impl Place {
         place
     }
 
-    fn find(&mut self, text: &str, key: &str) -> Result<(), AllocError> {
+    fn find(&mut self, text: &str, key: &str) -> Result<(), AllocError>
+        ensures { self.old.line ≡ None
+            → IfSome self.new.line (λ number. IsKeyLine text.now key.now number) }
+    {
         let start = Scan {
             state: State::Plain,
             depth: 0,

@@ -1,7 +1,7 @@
 //! The lines that explain.
-ghost use Rattle.std.specs.Prelude.{◌≡◌, ◌≤◌, ◌+◌, [], OnOk, length, min, nat_le, vec_len};
+ghost use Rattle.std.specs.Prelude.{◌≡◌, ◌≤◌, ◌+◌, ◌||◌, [], OnOk, false, is_err, length, min, nat_le, vec_len};
 ghost use Rattle.checks.specs.Shown.{sets_direction};
-ghost use Rattle.checks.specs.Told.{most_told};
+ghost use Rattle.checks.specs.Told.{IsStillTrue, most_told};
 
 use files::Fault;
 use std::alloc::{AllocError, Global};
@@ -49,7 +49,8 @@ pub struct Report {
 impl Report {
     /// A report with no lines.
     pub fn new(alloc: Global) -> Report
-        ensures { result.lines.items ≡ [] }
+        ensures lines { result.lines.items ≡ [] }
+        ensures memory { result.is_out_of_memory ≡ false }
     {
         Report {
             alloc,
@@ -60,8 +61,9 @@ impl Report {
 
     /// Adds a line, unless no more faults are reported.
     pub fn add(&mut self, spot: Spot<'_>, what: &[Piece<'_>]) -> Result<(), AllocError>
-        ensures { OnOk result (length self.new.lines.items
+        ensures told { OnOk result (length self.new.lines.items
             ≡ min (length self.old.lines.items + 1) most_told) }
+        ensures memory { self.new.is_out_of_memory ≡ self.old.is_out_of_memory }
     {
         if self.is_full() {
             return Ok(());
@@ -72,13 +74,21 @@ impl Report {
     }
 
     /// Adds a line as `add` does, and notes whether there was enough memory.
-    pub fn tell(&mut self, spot: Spot<'_>, what: &[Piece<'_>]) {
+    pub fn tell(&mut self, spot: Spot<'_>, what: &[Piece<'_>])
+        ensures told { self.new.is_out_of_memory ≡ false → length self.new.lines.items
+            ≡ min (length self.old.lines.items + 1) most_told }
+        ensures still_short { IsStillTrue self.old.is_out_of_memory self.new.is_out_of_memory }
+    {
         let added = self.add(spot, what);
         self.note(added);
     }
 
     /// Adds a line that no line of the file is known for.
-    pub fn tell_of_file(&mut self, what: &[Piece<'_>]) {
+    pub fn tell_of_file(&mut self, what: &[Piece<'_>])
+        ensures told { self.new.is_out_of_memory ≡ false → length self.new.lines.items
+            ≡ min (length self.old.lines.items + 1) most_told }
+        ensures still_short { IsStillTrue self.old.is_out_of_memory self.new.is_out_of_memory }
+    {
         let spot = Spot {
             line: None,
             place: &[],
@@ -87,14 +97,19 @@ impl Report {
     }
 
     /// Notes whether there was enough memory.
-    pub fn note(&mut self, done: Result<(), AllocError>) {
+    pub fn note(&mut self, done: Result<(), AllocError>)
+        ensures memory { self.new.is_out_of_memory ≡ (self.old.is_out_of_memory || is_err done) }
+        ensures lines { self.new.lines ≡ self.old.lines }
+    {
         if done.is_err() {
             self.is_out_of_memory = true;
         }
     }
 
     /// A word between two texts, as one text.
-    pub fn joined(&mut self, before: &str, word: &str, after: &str) -> String {
+    pub fn joined(&mut self, before: &str, word: &str, after: &str) -> String
+        ensures { IsStillTrue self.old.is_out_of_memory self.new.is_out_of_memory }
+    {
         let mut text = String::new(self.alloc);
         let done = push_parts(&mut text, before, word, after);
         self.note(done);

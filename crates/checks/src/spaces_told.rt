@@ -1,4 +1,6 @@
 //! What is wrong with the spaces of a file.
+ghost use Rattle.checks.specs.Told.{IsStillTrue};
+
 use crate::places::Place;
 use crate::report::{Piece, Report, Spot};
 use crate::split::{text_of, word_at};
@@ -44,11 +46,9 @@ fn space_with(values: &[Value], harts: u64, asid: u64) -> Option<usize> {
 }
 
 /// Reports what is wrong with the spaces. `None`: they are no texts.
-pub fn tell_spaces(
-    report: &mut Report,
-    document: &Document<'_>,
-    harts: Option<u8>,
-) -> Option<usize> {
+pub fn tell_spaces(report: &mut Report, document: &Document<'_>, harts: Option<u8>) -> Option<usize>
+    ensures { IsStillTrue report.old.is_out_of_memory report.new.is_out_of_memory }
+{
     if document.value("spaces").is_none() {
         return Some(Config::default().spaces.len());
     }
@@ -62,7 +62,9 @@ pub fn tell_spaces(
 }
 
 /// Reports whether there is no space, or too many.
-fn tell_count(report: &mut Report, document: &Document<'_>, count: usize) {
+fn tell_count(report: &mut Report, document: &Document<'_>, count: usize)
+    ensures { IsStillTrue report.old.is_out_of_memory report.new.is_out_of_memory }
+{
     if count >= 1 && count <= MAX_SPACES {
         return;
     }
@@ -75,13 +77,17 @@ fn tell_count(report: &mut Report, document: &Document<'_>, count: usize) {
 }
 
 /// Reports each space that is wrong, or has the ASID of an earlier one.
-fn tell_each(report: &mut Report, document: &Document<'_>, harts: Option<u8>, values: &[Value]) {
+fn tell_each(report: &mut Report, document: &Document<'_>, harts: Option<u8>, values: &[Value])
+    ensures { IsStillTrue report.old.is_out_of_memory report.new.is_out_of_memory }
+{
     let harts = u64::from(harts.unwrap_or(MAX_HARTS as u8));
     let place = Place::of_key(report, document.text, "spaces");
     tell_each_at(report, &place, harts, values)
 }
 
-fn tell_each_at(report: &mut Report, place: &Place, harts: u64, values: &[Value]) {
+fn tell_each_at(report: &mut Report, place: &Place, harts: u64, values: &[Value])
+    ensures { IsStillTrue report.old.is_out_of_memory report.new.is_out_of_memory }
+{
     for (index, value) in values.iter().enumerate().take(MAX_SPACES) {
         let line = place.line_in_array(index);
         let text = text_in(value);
@@ -98,7 +104,9 @@ fn tell_each_at(report: &mut Report, place: &Place, harts: u64, values: &[Value]
 }
 
 /// Reports that two spaces have the same ASID.
-fn tell_same(report: &mut Report, line: Option<usize>, spaces: [usize; 2], asid: u64) {
+fn tell_same(report: &mut Report, line: Option<usize>, spaces: [usize; 2], asid: u64)
+    ensures { IsStillTrue report.old.is_out_of_memory report.new.is_out_of_memory }
+{
     let what = [
         Piece::Text("spaces "),
         Piece::Number(spaces[0] as u64),
@@ -111,7 +119,9 @@ fn tell_same(report: &mut Report, line: Option<usize>, spaces: [usize; 2], asid:
 }
 
 /// Reports what is wrong with the text of a space.
-fn tell_space(report: &mut Report, line: Option<usize>, index: usize, harts: u64, text: &str) {
+fn tell_space(report: &mut Report, line: Option<usize>, index: usize, harts: u64, text: &str)
+    ensures { IsStillTrue report.old.is_out_of_memory report.new.is_out_of_memory }
+{
     let place = [
         Piece::Text("space "),
         Piece::Number(index as u64),
@@ -124,7 +134,9 @@ fn tell_space(report: &mut Report, line: Option<usize>, index: usize, harts: u64
     tell_words(report, spot, harts, text);
 }
 
-fn tell_words(report: &mut Report, spot: Spot<'_>, harts: u64, text: &str) {
+fn tell_words(report: &mut Report, spot: Spot<'_>, harts: u64, text: &str)
+    ensures { IsStillTrue report.old.is_out_of_memory report.new.is_out_of_memory }
+{
     let Some((home, asid)) = words_of(text) else {
         let why = Piece::Text(" is not two numbers HOME ASID, as `0 1`");
         report.tell(spot, &[Piece::Word(text), why]);

@@ -1,4 +1,5 @@
 //! What is wrong with the text of a step.
+ghost use Rattle.checks.specs.Told.{IsStillTrue};
 ghost use Rattle.std.specs.Prelude.{◌≤◌};
 
 use crate::commands::Command;
@@ -77,7 +78,9 @@ impl Reader {
     }
 
     /// Reports what is wrong with a text that has this fault.
-    pub fn tell(&self, report: &mut Report, spot: Spot<'_>, text: &str, fault: StepFault) {
+    pub fn tell(&self, report: &mut Report, spot: Spot<'_>, text: &str, fault: StepFault)
+        ensures { IsStillTrue report.old.is_out_of_memory report.new.is_out_of_memory }
+    {
         if self.tell_name(report, spot, text) {
             return;
         }
@@ -95,7 +98,9 @@ impl Reader {
 
     /// Reports what is wrong with the hart and the name, with which a step begins. Answers whether
     /// something is.
-    fn tell_name(&self, report: &mut Report, spot: Spot<'_>, text: &str) -> bool {
+    fn tell_name(&self, report: &mut Report, spot: Spot<'_>, text: &str) -> bool
+        ensures { IsStillTrue report.old.is_out_of_memory report.new.is_out_of_memory }
+    {
         let Some(at) = self.list.name_at() else {
             return false;
         };
@@ -117,7 +122,9 @@ impl Reader {
     }
 
     /// Reports what is wrong with the name of a step, if it is none. Answers whether it is none.
-    fn tell_unknown(&self, report: &mut Report, spot: Spot<'_>, name: &str) -> bool {
+    fn tell_unknown(&self, report: &mut Report, spot: Spot<'_>, name: &str) -> bool
+        ensures { IsStillTrue report.old.is_out_of_memory report.new.is_out_of_memory }
+    {
         let command = self.list.command();
         if form_of(command, name).is_some() {
             return false;
@@ -145,13 +152,9 @@ impl Reader {
     }
 
     /// Reports the first word that is wrong, missing or too many. Answers whether one is.
-    fn tell_word(
-        &self,
-        report: &mut Report,
-        spot: Spot<'_>,
-        form: &'static str,
-        text: &str,
-    ) -> bool {
+    fn tell_word(&self, report: &mut Report, spot: Spot<'_>, form: &'static str, text: &str) -> bool
+        ensures { IsStillTrue report.old.is_out_of_memory report.new.is_out_of_memory }
+    {
         for index in 0..MOST_WORDS {
             let Some(name) = word_at(form, index) else {
                 break;
@@ -181,7 +184,9 @@ impl Reader {
         form: &'a str,
         name: &'a str,
         word: Option<&'a str>,
-    ) -> bool {
+    ) -> bool
+        ensures { IsStillTrue report.old.is_out_of_memory report.new.is_out_of_memory }
+    {
         let field = field_of(name);
         let expected = Piece::Text(field.expected());
         let (name, form) = (Piece::Text(name), Piece::Text(form));
@@ -202,7 +207,9 @@ impl Reader {
     }
 
     /// Reports the first hart that is named and does not exist. Answers whether there is one.
-    fn tell_hart(&self, report: &mut Report, spot: Spot<'_>, form: &str, text: &str) -> bool {
+    fn tell_hart(&self, report: &mut Report, spot: Spot<'_>, form: &str, text: &str) -> bool
+        ensures { IsStillTrue report.old.is_out_of_memory report.new.is_out_of_memory }
+    {
         for index in 0..MOST_WORDS {
             if let Some(hart) = self.absent_at(form, text, index) {
                 let is = Piece::Text(" is not there: the harts are 0 to ");
@@ -233,7 +240,9 @@ impl Reader {
     }
 
     /// Reports why the address of the page is none. Answers whether there is a page.
-    fn tell_page(&self, report: &mut Report, spot: Spot<'_>, form: &str, text: &str) -> bool {
+    fn tell_page(&self, report: &mut Report, spot: Spot<'_>, form: &str, text: &str) -> bool
+        ensures { IsStillTrue report.old.is_out_of_memory report.new.is_out_of_memory }
+    {
         for index in 0..MOST_WORDS {
             let name = word_at(form, index).unwrap_or(b"".as_slice());
             if matches!(field_of(text_of(name)), Field::Page) {
@@ -249,7 +258,9 @@ impl Reader {
 }
 
 /// Reports that a word is no step of a command.
-fn tell_no_step(report: &mut Report, spot: Spot<'_>, command: Command, name: &str) {
+fn tell_no_step(report: &mut Report, spot: Spot<'_>, command: Command, name: &str)
+    ensures { IsStillTrue report.old.is_out_of_memory report.new.is_out_of_memory }
+{
     let other = match command {
         Command::Live => Command::Run,
         Command::Run | Command::Walk => Command::Live,

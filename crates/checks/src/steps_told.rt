@@ -1,4 +1,6 @@
 //! What is wrong with the steps of a file.
+ghost use Rattle.checks.specs.Told.{IsStillTrue};
+
 use crate::layout::tell_layout;
 use crate::places::Place;
 use crate::report::{Piece, Report, Spot};
@@ -15,7 +17,9 @@ use toml::Value;
 const SCRIPT_TEXTS: &str = "an array of texts for each hart";
 
 /// Reports each text of a list that is no step.
-fn tell_texts(report: &mut Report, reader: &Reader, place: &Place, values: &[Value]) {
+fn tell_texts(report: &mut Report, reader: &Reader, place: &Place, values: &[Value])
+    ensures { IsStillTrue report.old.is_out_of_memory report.new.is_out_of_memory }
+{
     for (index, value) in values.iter().enumerate() {
         if report.is_full() {
             break;
@@ -36,7 +40,9 @@ fn tell_step(
     index: usize,
     text: &str,
     fault: StepFault,
-) {
+)
+    ensures { IsStillTrue report.old.is_out_of_memory report.new.is_out_of_memory }
+{
     let number = Piece::Number(index.saturating_add(1) as u64);
     let (step, end) = (Piece::Text("step "), Piece::Text(": "));
     match reader.list {
@@ -75,13 +81,17 @@ fn tell_list(
     key: &str,
     reader: &Reader,
     values: &[Value],
-) {
+)
+    ensures { IsStillTrue report.old.is_out_of_memory report.new.is_out_of_memory }
+{
     let place = Place::of_key(report, document.text, key);
     tell_texts(report, reader, &place, values)
 }
 
 /// Reports that there are too many steps.
-fn tell_many(report: &mut Report, count: usize) {
+fn tell_many(report: &mut Report, count: usize)
+    ensures { IsStillTrue report.old.is_out_of_memory report.new.is_out_of_memory }
+{
     if count <= MOST_STEPS {
         return;
     }
@@ -99,7 +109,9 @@ fn tell_steps(
     document: &Document<'_>,
     reader: &Reader,
     values: Option<&[Value]>,
-) {
+)
+    ensures { IsStillTrue report.old.is_out_of_memory report.new.is_out_of_memory }
+{
     if let Some(values) = values {
         tell_many(report, values.len());
         tell_list(report, document, "steps", reader, values);
@@ -107,7 +119,9 @@ fn tell_steps(
 }
 
 /// Reports what is wrong with a file for `walk`, but for unknown keys.
-pub fn tell_walk(report: &mut Report, document: &Document<'_>) {
+pub fn tell_walk(report: &mut Report, document: &Document<'_>)
+    ensures { IsStillTrue report.old.is_out_of_memory report.new.is_out_of_memory }
+{
     tell_tables(report, document);
     let values = document.texts(report, "steps", "an array of texts MODE ACCESS ADDRESS");
     let _mode = document.mode(report);
@@ -120,7 +134,9 @@ pub fn tell_walk(report: &mut Report, document: &Document<'_>) {
 }
 
 /// Reports what is wrong with a file for `run`, but for unknown keys.
-pub fn tell_run(report: &mut Report, document: &Document<'_>) {
+pub fn tell_run(report: &mut Report, document: &Document<'_>)
+    ensures { IsStillTrue report.old.is_out_of_memory report.new.is_out_of_memory }
+{
     let harts = tell_layout(report, document, MAX_FRAMES);
     let values = document.texts(report, "steps", "an array of texts");
     let scheme = document.mode(report).unwrap_or(Scheme::Sv48);
@@ -141,7 +157,9 @@ fn scripts<'a>(document: &Document<'a>) -> &'a [Value] {
 }
 
 /// Reports what is wrong with the scripts, but for their steps.
-fn tell_shape(report: &mut Report, document: &Document<'_>, harts: u8) {
+fn tell_shape(report: &mut Report, document: &Document<'_>, harts: u8)
+    ensures { IsStillTrue report.old.is_out_of_memory report.new.is_out_of_memory }
+{
     let Some(value) = document.value("scripts") else {
         return;
     };
@@ -168,7 +186,9 @@ fn tell_shape(report: &mut Report, document: &Document<'_>, harts: u8) {
 }
 
 /// Reports what is wrong with the steps of each script.
-fn tell_scripts(report: &mut Report, document: &Document<'_>, reader: Reader, scripts: &[Value]) {
+fn tell_scripts(report: &mut Report, document: &Document<'_>, reader: Reader, scripts: &[Value])
+    ensures { IsStillTrue report.old.is_out_of_memory report.new.is_out_of_memory }
+{
     let mut place = Place::of_key(report, document.text, "scripts");
     if scripts.iter().any(|script| texts_in(script).is_none()) {
         place.marks.clear();
@@ -176,7 +196,9 @@ fn tell_scripts(report: &mut Report, document: &Document<'_>, reader: Reader, sc
     tell_each_script(report, reader, &place, scripts)
 }
 
-fn tell_each_script(report: &mut Report, reader: Reader, place: &Place, scripts: &[Value]) {
+fn tell_each_script(report: &mut Report, reader: Reader, place: &Place, scripts: &[Value])
+    ensures { IsStillTrue report.old.is_out_of_memory report.new.is_out_of_memory }
+{
     for (hart, script) in scripts.iter().enumerate() {
         let mut reader = reader;
         reader.list = List::Script(hart);
@@ -201,7 +223,9 @@ fn count_all(setup: Option<&[Value]>, scripts: &[Value]) -> usize {
 }
 
 /// Reports what is wrong with a file for `live`, but for unknown keys.
-pub fn tell_live(report: &mut Report, document: &Document<'_>) {
+pub fn tell_live(report: &mut Report, document: &Document<'_>)
+    ensures { IsStillTrue report.old.is_out_of_memory report.new.is_out_of_memory }
+{
     let harts = tell_layout(report, document, MAX_LIVE_FRAMES);
     let harts = harts.unwrap_or(MAX_HARTS as u8);
     let setup = document.texts(report, "setup", "an array of texts");
@@ -223,7 +247,9 @@ fn tell_live_steps(
     document: &Document<'_>,
     reader: Reader,
     setup: Option<&[Value]>,
-) {
+)
+    ensures { IsStillTrue report.old.is_out_of_memory report.new.is_out_of_memory }
+{
     let scripts = scripts(document);
     tell_many(report, count_all(setup, scripts));
     if let Some(values) = setup {

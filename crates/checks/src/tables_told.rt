@@ -1,4 +1,6 @@
 //! What is wrong with the root, the frames and the words of a file for `walk`.
+ghost use Rattle.checks.specs.Told.{IsStillTrue};
+
 use crate::places::Place;
 use crate::report::{Piece, Report, Spot};
 use crate::split::{number_of, text_of, word_at};
@@ -18,7 +20,9 @@ const WRONG_PARTS: [&str; 3] = [
 ];
 
 /// Reports what is wrong with the keys `root`, `frames` and `words`.
-pub fn tell_tables(report: &mut Report, document: &Document<'_>) {
+pub fn tell_tables(report: &mut Report, document: &Document<'_>)
+    ensures { IsStillTrue report.old.is_out_of_memory report.new.is_out_of_memory }
+{
     let _root = document.ppn(report, "root", Some(PPN_LIMIT), Config::default().base);
     tell_frames(report, document);
     if let Some(values) = document.texts(report, "words", "an array of texts PPN INDEX WORD") {
@@ -27,7 +31,9 @@ pub fn tell_tables(report: &mut Report, document: &Document<'_>) {
 }
 
 /// Reports what is wrong with the frames.
-fn tell_frames(report: &mut Report, document: &Document<'_>) {
+fn tell_frames(report: &mut Report, document: &Document<'_>)
+    ensures { IsStillTrue report.old.is_out_of_memory report.new.is_out_of_memory }
+{
     let Some(values) = document.texts(report, "frames", "an array of texts PPN") else {
         return;
     };
@@ -48,7 +54,9 @@ fn ppn_in(value: &Value) -> Option<u64> {
     number_of(text_in(value)).filter(|ppn| *ppn < PPN_LIMIT)
 }
 
-fn tell_each_frame(report: &mut Report, place: &Place, values: &[Value]) {
+fn tell_each_frame(report: &mut Report, place: &Place, values: &[Value])
+    ensures { IsStillTrue report.old.is_out_of_memory report.new.is_out_of_memory }
+{
     for (index, value) in values.iter().enumerate() {
         if report.is_full() {
             break;
@@ -60,7 +68,9 @@ fn tell_each_frame(report: &mut Report, place: &Place, values: &[Value]) {
 }
 
 /// Reports that the text of a frame is no PPN.
-fn tell_frame(report: &mut Report, line: Option<usize>, index: usize, text: &str) {
+fn tell_frame(report: &mut Report, line: Option<usize>, index: usize, text: &str)
+    ensures { IsStillTrue report.old.is_out_of_memory report.new.is_out_of_memory }
+{
     let number = Piece::Number(index.saturating_add(1) as u64);
     let what = [
         Piece::Text("text "),
@@ -73,7 +83,9 @@ fn tell_frame(report: &mut Report, line: Option<usize>, index: usize, text: &str
 }
 
 /// The PPNs of the frames. `None`: they are not known, as something is wrong with them.
-fn frames_of(report: &mut Report, document: &Document<'_>) -> Option<Vec<u64>> {
+fn frames_of(report: &mut Report, document: &Document<'_>) -> Option<Vec<u64>>
+    ensures { IsStillTrue report.old.is_out_of_memory report.new.is_out_of_memory }
+{
     let mut ppns = Vec::new(report.alloc);
     let values = match document.value("frames") {
         Some(value) => texts_in(value),
@@ -100,13 +112,17 @@ fn push_ppns(ppns: &mut Vec<u64>, values: &[Value]) -> Result<(), AllocError> {
 }
 
 /// Reports what is wrong with the words.
-fn tell_words(report: &mut Report, document: &Document<'_>, values: &[Value]) {
+fn tell_words(report: &mut Report, document: &Document<'_>, values: &[Value])
+    ensures { IsStillTrue report.old.is_out_of_memory report.new.is_out_of_memory }
+{
     let place = Place::of_key(report, document.text, "words");
     let frames = frames_of(report, document);
     tell_each_word(report, &place, frames.as_ref(), values);
 }
 
-fn tell_each_word(report: &mut Report, place: &Place, frames: Option<&Vec<u64>>, values: &[Value]) {
+fn tell_each_word(report: &mut Report, place: &Place, frames: Option<&Vec<u64>>, values: &[Value])
+    ensures { IsStillTrue report.old.is_out_of_memory report.new.is_out_of_memory }
+{
     for (index, value) in values.iter().enumerate() {
         if report.is_full() {
             break;
@@ -129,7 +145,9 @@ fn tell_word(
     index: usize,
     frames: Option<&Vec<u64>>,
     text: &str,
-) {
+)
+    ensures { IsStillTrue report.old.is_out_of_memory report.new.is_out_of_memory }
+{
     let number = Piece::Number(index.saturating_add(1) as u64);
     let place = [Piece::Text("text "), number, Piece::Text(" of words: ")];
     let spot = Spot {
@@ -145,7 +163,9 @@ fn tell_word(
 }
 
 /// Reports what is wrong with the words of a text of three, if something is.
-fn tell_parts(report: &mut Report, spot: Spot<'_>, frames: Option<&Vec<u64>>, text: &str) {
+fn tell_parts(report: &mut Report, spot: Spot<'_>, frames: Option<&Vec<u64>>, text: &str)
+    ensures { IsStillTrue report.old.is_out_of_memory report.new.is_out_of_memory }
+{
     for (index, why) in WRONG_PARTS.iter().enumerate() {
         let word = word_at(text, index).unwrap_or(b"".as_slice());
         if !is_part(frames, index, word) {

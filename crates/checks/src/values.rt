@@ -1,4 +1,6 @@
 //! What is wrong with the values of keys: each on its own.
+ghost use Rattle.checks.specs.Told.{IsStillTrue};
+
 use crate::places::Place;
 use crate::report::{Piece, Report, Spot};
 use crate::split::number_of;
@@ -38,7 +40,9 @@ impl<'a> Document<'a> {
     }
 
     /// Reports what is wrong with a key.
-    pub fn tell(&self, report: &mut Report, key: &str, what: &[Piece<'_>]) {
+    pub fn tell(&self, report: &mut Report, key: &str, what: &[Piece<'_>])
+        ensures { IsStillTrue report.old.is_out_of_memory report.new.is_out_of_memory }
+    {
         let line = Place::of_key(report, self.text, key).line;
         let place = [Piece::Text("key "), Piece::Word(key), Piece::Text(": ")];
         report.tell(
@@ -51,7 +55,9 @@ impl<'a> Document<'a> {
     }
 
     /// Reports that the value of a key is of the wrong kind.
-    pub fn tell_kind(&self, report: &mut Report, key: &str, expected: &str, value: &Value) {
+    pub fn tell_kind(&self, report: &mut Report, key: &str, expected: &str, value: &Value)
+        ensures { IsStillTrue report.old.is_out_of_memory report.new.is_out_of_memory }
+    {
         let what = [
             Piece::Text(expected),
             Piece::Text(" is expected, not "),
@@ -68,7 +74,9 @@ impl<'a> Document<'a> {
         key: &str,
         range: (i64, i64),
         default: i64,
-    ) -> Option<i64> {
+    ) -> Option<i64>
+        ensures { IsStillTrue report.old.is_out_of_memory report.new.is_out_of_memory }
+    {
         let Some(value) = self.value(key) else {
             return Some(default);
         };
@@ -80,7 +88,9 @@ impl<'a> Document<'a> {
         None
     }
 
-    fn tell_outside(&self, report: &mut Report, key: &str, range: (i64, i64), n: i64) {
+    fn tell_outside(&self, report: &mut Report, key: &str, range: (i64, i64), n: i64)
+        ensures { IsStillTrue report.old.is_out_of_memory report.new.is_out_of_memory }
+    {
         let what = [
             Piece::Whole(n),
             Piece::Text(" is not from "),
@@ -91,7 +101,9 @@ impl<'a> Document<'a> {
         self.tell(report, key, &what)
     }
 
-    fn tell_no_whole(&self, report: &mut Report, key: &str, range: (i64, i64), value: &Value) {
+    fn tell_no_whole(&self, report: &mut Report, key: &str, range: (i64, i64), value: &Value)
+        ensures { IsStillTrue report.old.is_out_of_memory report.new.is_out_of_memory }
+    {
         let what = [
             Piece::Text("a whole number from "),
             Piece::Whole(range.0),
@@ -111,7 +123,9 @@ impl<'a> Document<'a> {
         key: &str,
         limit: Option<u64>,
         default: u64,
-    ) -> Option<u64> {
+    ) -> Option<u64>
+        ensures { IsStillTrue report.old.is_out_of_memory report.new.is_out_of_memory }
+    {
         let Some(value) = self.value(key) else {
             return Some(default);
         };
@@ -135,7 +149,9 @@ impl<'a> Document<'a> {
     }
 
     /// The scheme of the key `mode`.
-    pub fn mode(&self, report: &mut Report) -> Option<Scheme> {
+    pub fn mode(&self, report: &mut Report) -> Option<Scheme>
+        ensures { IsStillTrue report.old.is_out_of_memory report.new.is_out_of_memory }
+    {
         let Some(value) = self.value("mode") else {
             return Some(Config::default().scheme);
         };
@@ -156,7 +172,9 @@ impl<'a> Document<'a> {
 
     /// The values of the array at a key, each of which is a text; `of` says what the array is.
     /// `None`: the key is absent, or something is no text, and that is reported.
-    pub fn texts(&self, report: &mut Report, key: &str, of: &str) -> Option<&'a [Value]> {
+    pub fn texts(&self, report: &mut Report, key: &str, of: &str) -> Option<&'a [Value]>
+        ensures { IsStillTrue report.old.is_out_of_memory report.new.is_out_of_memory }
+    {
         match self.value(key) {
             Some(value) => {
                 self.tell_texts(report, key, of, value);
@@ -167,7 +185,9 @@ impl<'a> Document<'a> {
     }
 
     /// Reports whether a value is no array, and each element of it that is no text.
-    pub fn tell_texts(&self, report: &mut Report, key: &str, of: &str, value: &Value) {
+    pub fn tell_texts(&self, report: &mut Report, key: &str, of: &str, value: &Value)
+        ensures { IsStillTrue report.old.is_out_of_memory report.new.is_out_of_memory }
+    {
         let Some(values) = value.as_array() else {
             self.tell_kind(report, key, of, value);
             return;
@@ -183,7 +203,9 @@ impl<'a> Document<'a> {
     }
 
     /// Reports that an element of an array is no text.
-    fn tell_element(&self, report: &mut Report, key: &str, index: usize, value: &Value) {
+    fn tell_element(&self, report: &mut Report, key: &str, index: usize, value: &Value)
+        ensures { IsStillTrue report.old.is_out_of_memory report.new.is_out_of_memory }
+    {
         let what = [
             Piece::Text("element "),
             Piece::Number(index.saturating_add(1) as u64),

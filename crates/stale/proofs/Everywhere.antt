@@ -78,7 +78,7 @@ module _ (C : Setup) (m : State) (H : History) (st : Stands C m H) where
   everywhere p one = record {
     some = (one.space, one.reached);
     each = λ t reached.
-      subst (λ (T : Type 0). T) (sym (from_same C m H st t p))
-      (from_each p.asid one.space t p.page p.ppn p.flags (reached_reaches C m H st p.asid one.space one.reached) (reached_reaches C m H st p.asid t reached)
-      (subst (λ (T : Type 0). T) (from_same C m H st one.space p) one.maps));
+        subst (λ (T : Type 0). T) (sym (from_same C m H st t p))
+        (from_each p.asid one.space t p.page p.ppn p.flags (reached_reaches C m H st p.asid one.space one.reached) (reached_reaches C m H st p.asid t reached)
+        (subst (λ (T : Type 0). T) (from_same C m H st one.space p) one.maps));
   }
