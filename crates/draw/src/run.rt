@@ -38,7 +38,7 @@ pub fn push_mapping(text: &mut String, page: Page, ppn: u64) -> Result<(), Alloc
 
 impl Recorder {
     fn new(alloc: Global, harts: u8, steps: usize) -> Result<Recorder, AllocError>
-        ensures { IfOk result (λ recorder. vec_len recorder.record.rows ≡ 0) }
+        ensures { IfOk result (λ recorder. vec_len recorder.«record».rows ≡ 0) }
     {
         let mut tracks = Vec::new(alloc);
         for _ in 0..harts {
@@ -60,7 +60,7 @@ impl Recorder {
 
     /// Adds a row with the text of a step, and makes room for it in the column of the hart.
     fn add_row(&mut self, event: &Event, reply: Reply) -> Result<(), AllocError>
-        ensures { OnOk result (vec_len self.new.record.rows ≡ vec_len self.old.record.rows + 1) }
+        ensures { OnOk result (vec_len self.new.«record».rows ≡ vec_len self.old.«record».rows + 1) }
     {
         let start = self.record.texts.len();
         push_step(&mut self.record.texts, event, reply)?;
@@ -81,7 +81,7 @@ impl Recorder {
 
     /// A walk or a service begins.
     fn begin(&mut self, hart: u8, span: Span, first: u32)
-        ensures { self.new.record.rows ≡ self.old.record.rows }
+        ensures { self.new.«record».rows ≡ self.old.«record».rows }
     {
         if let Some(track) = self.tracks.get_mut(usize::from(hart)) {
             track.doing = Some(Doing { span, first });
@@ -90,7 +90,7 @@ impl Recorder {
 
     /// A walk or a service ends.
     fn end(&mut self, hart: u8, last: u32) -> Result<(), AllocError>
-        ensures { self.new.record.rows ≡ self.old.record.rows }
+        ensures { self.new.«record».rows ≡ self.old.«record».rows }
     {
         match self.tracks.get_mut(usize::from(hart)) {
             Some(track) => track.end_doing(hart, last, true, &mut self.record.bars),
@@ -100,7 +100,7 @@ impl Recorder {
 
     /// A message leaves for a hart.
     fn send(&mut self, receiver: u8, flight: Flight) -> Result<(), AllocError>
-        ensures { self.new.record.rows ≡ self.old.record.rows }
+        ensures { self.new.«record».rows ≡ self.old.«record».rows }
     {
         match self.tracks.get_mut(usize::from(receiver)) {
             Some(track) => track.flights.open(flight),
@@ -117,7 +117,7 @@ impl Recorder {
         ticket: u32,
         row: u32,
     ) -> Result<(), AllocError>
-        ensures { self.new.record.rows ≡ self.old.record.rows }
+        ensures { self.new.«record».rows ≡ self.old.«record».rows }
     {
         match self.tracks.get_mut(usize::from(receiver)) {
             Some(track) => track.arrive(
@@ -134,7 +134,7 @@ impl Recorder {
 
     /// A hart takes a request.
     fn take(&mut self, hart: u8, from: u8, ticket: u32, row: u32) -> Result<(), AllocError>
-        ensures { self.new.record.rows ≡ self.old.record.rows }
+        ensures { self.new.«record».rows ≡ self.old.«record».rows }
     {
         self.receive(hart, Message::Request, from, ticket, row)?;
         if let Some(track) = self.tracks.get_mut(usize::from(hart)) {
@@ -146,7 +146,7 @@ impl Recorder {
 
     /// A hart acknowledges what it serves.
     fn acknowledge(&mut self, hart: u8, row: u32) -> Result<(), AllocError>
-        ensures { self.new.record.rows ≡ self.old.record.rows }
+        ensures { self.new.«record».rows ≡ self.old.«record».rows }
     {
         let served = match self.tracks.get(usize::from(hart)) {
             Some(track) => track.serves,
@@ -169,7 +169,7 @@ impl Recorder {
 
     /// An order opens.
     fn open_order(&mut self, hart: u8, ticket: u32, first: u32) -> Result<(), AllocError>
-        ensures { self.new.record.rows ≡ self.old.record.rows }
+        ensures { self.new.«record».rows ≡ self.old.«record».rows }
     {
         match self.tracks.get_mut(usize::from(hart)) {
             Some(track) => track.orders.open(OpenOrder {
@@ -183,7 +183,7 @@ impl Recorder {
 
     /// An order is done, if the reply says so.
     fn progress(&mut self, hart: u8, ticket: u32, reply: &Reply, row: u32)
-        ensures { self.new.record.rows ≡ self.old.record.rows }
+        ensures { self.new.«record».rows ≡ self.old.«record».rows }
     {
         if matches!(reply, Reply::Done) {
             if let Some(track) = self.tracks.get_mut(usize::from(hart)) {
@@ -194,7 +194,7 @@ impl Recorder {
 
     /// An order ends.
     fn finish(&mut self, hart: u8, ticket: u32, row: u32) -> Result<(), AllocError>
-        ensures { self.new.record.rows ≡ self.old.record.rows }
+        ensures { self.new.«record».rows ≡ self.old.«record».rows }
     {
         match self.tracks.get_mut(usize::from(hart)) {
             Some(track) => track.finish(hart, ticket, row, &mut self.record.bars),
@@ -210,7 +210,7 @@ impl Recorder {
         is_begin: bool,
         reply: &Reply,
     ) -> Result<(), AllocError>
-        ensures { self.new.record.rows ≡ self.old.record.rows }
+        ensures { self.new.«record».rows ≡ self.old.«record».rows }
     {
         let goes_on = matches!(reply, Reply::More);
         if is_begin && goes_on {
@@ -224,7 +224,7 @@ impl Recorder {
 
     /// Records a step by which a request or an order goes on, and that was not refused.
     fn note_protocol(&mut self, row: u32, event: &Event, reply: &Reply) -> Result<(), AllocError>
-        ensures { self.new.record.rows ≡ self.old.record.rows }
+        ensures { self.new.«record».rows ≡ self.old.«record».rows }
     {
         match *event {
             Event::Post { hart, ticket, to } => self.send(
@@ -256,7 +256,7 @@ impl Recorder {
 
     /// Records a step that was not refused.
     fn note(&mut self, row: u32, event: &Event, reply: &Reply) -> Result<(), AllocError>
-        ensures { self.new.record.rows ≡ self.old.record.rows }
+        ensures { self.new.«record».rows ≡ self.old.«record».rows }
     {
         if let Reply::Opened(ticket) = *reply {
             return self.open_order(hart_of(event), ticket, row);
@@ -277,7 +277,7 @@ impl Recorder {
         event: &Event,
         reply: &Reply,
     ) -> Result<(), AllocError>
-        ensures { self.new.record.rows ≡ self.old.record.rows }
+        ensures { self.new.«record».rows ≡ self.old.«record».rows }
     {
         let mut hart: u8 = 0;
         for track in self.tracks.as_mut_slice() {
@@ -291,7 +291,7 @@ impl Recorder {
 
     /// Begins a bar for a mapping that became stale, if it has none.
     fn note_becoming(&mut self, row: u32, became: &BecameStale) -> Result<(), AllocError>
-        ensures { self.new.record.rows ≡ self.old.record.rows }
+        ensures { self.new.«record».rows ≡ self.old.«record».rows }
     {
         let Some(track) = self.tracks.get_mut(usize::from(became.hart)) else {
             return Ok(());
@@ -311,7 +311,7 @@ impl Recorder {
 
     /// Marks an access that was answered by a stale mapping.
     fn note_hit(&mut self, row: u32, used: &StaleUse) -> Result<(), AllocError>
-        ensures { self.new.record.rows ≡ self.old.record.rows }
+        ensures { self.new.«record».rows ≡ self.old.«record».rows }
     {
         let lane = match self.tracks.get(usize::from(used.hart)) {
             Some(track) => track.stale_lane(&used.entry, used.va),
@@ -328,7 +328,7 @@ impl Recorder {
 
     /// Records what a step did with stale mappings.
     fn note_items(&mut self, row: u32, items: &[StaleAt]) -> Result<(), AllocError>
-        ensures { self.new.record.rows ≡ self.old.record.rows }
+        ensures { self.new.«record».rows ≡ self.old.«record».rows }
     {
         for at in items {
             match &at.item {
@@ -347,7 +347,7 @@ impl Recorder {
         event: &Event,
         items: &mut Vec<StaleAt>,
     ) -> Result<(), AllocError>
-        ensures { OnOk result (vec_len self.new.record.rows ≡ vec_len self.old.record.rows + 1) }
+        ensures { OnOk result (vec_len self.new.«record».rows ≡ vec_len self.old.«record».rows + 1) }
     {
         items.clear();
         let reply = step_stale(machine, *event, row as usize, items)?;
@@ -363,7 +363,7 @@ impl Recorder {
 
     /// Ends all that is open, and lays out the columns.
     fn close(mut self, last: u32) -> Result<Record, AllocError>
-        ensures { IfOk result (λ closed. closed.rows ≡ self.record.rows) }
+        ensures { IfOk result (λ closed. closed.rows ≡ self.«record».rows) }
     {
         let mut hart: u8 = 0;
         let mut left = FIRST_COLUMN;
